@@ -1,0 +1,112 @@
+-- The ints that std's `parse` reads are those that fields spell.
+use Rattle.std.proofs.Common.{◌-◌, ℕ, ℤ, Bool, List, [], ◌∷◌, ◌<◌, ◌≤◌, ◌^◌, ◌≡◌, ◌≢◌, ◌∙◌, refl, sym, true, false, not, ◌==◌, ◌&&◌, length, drop, get_or, pos, neg_ℤ, Option, Some, None, Result, Ok, Err, arith, rules, inl, inr, cond, nat_le, eq-eqb, ap}
+use Rattle.std.proofs.lemmas.Bool.{cases_Bool, eqb-true}
+use Rattle.std.proofs.lemmas.Bool.Decides.{nat_tests}
+use Rattle.std.proofs.lemmas.Str.Parse.{IsDigitsTest, IsNumeralModel, numerals_by_fold, parse_signed_minus, parse_signed_plain, digit_from_value}
+use Rattle.std.specs.List.{list_all}
+use Rattle.std.specs.Int.{w64}
+use Rattle.std.specs.Prelude.{option_map}
+use Rattle.std.specs.Result.{OkIff, result_ok}
+use Rattle.std.specs.Str.{IsAscii}
+use Rattle.std.specs.Prelude.{IsUtf8}
+use Rattle.std.proofs.lemmas.Fmt.{IsAscii-from_digits}
+use Rattle.std.proofs.lemmas.Result.{Ok-from_Ok_iff}
+use Rattle.std.proofs.lemmas.Str.{IsUtf8-from_ascii}
+use Rattle.std.proofs.lemmas.Str.Ascii.{IsAscii-cons, IsAscii-nil}
+use mathlib.Core.Bool.{true≢false}
+use Rattle.std.specs.Str.Parse.{AllDigits, IsNumeral, ParsesSigned}
+use Rattle.bt_rowtype.specs.Ints.{digits_after, int_of, is_digit, is_numeral, number_up_to, number_written}
+
+-- the words of this crate for digits and their number are std's
+pub own : IsNumeralModel (λ ds. list_all is_digit ds ≡ true) number_written
+own = numerals_by_fold _ (search rules) digits_after (search rules)
+
+-- the tests of `number_up_to` are the facts that `parse` speaks of
+test_true : (ds : List ℕ) (most : ℕ) → list_all is_digit ds ≡ true → 0 < length ds → number_written ds ≤ most → (is_numeral ds && nat_le (number_written ds) most) ≡ true
+test_true ds most all some small = grind (arith, nat_tests)
+
+facts_all : (ds : List ℕ) (most : ℕ) → (is_numeral ds && nat_le (number_written ds) most) ≡ true → list_all is_digit ds ≡ true
+facts_all ds most test = grind (arith, nat_tests)
+
+facts_some : (ds : List ℕ) (most : ℕ) → (is_numeral ds && nat_le (number_written ds) most) ≡ true → 0 < length ds
+facts_some ds most test = grind (arith, nat_tests)
+
+facts_small : (ds : List ℕ) (most : ℕ) → (is_numeral ds && nat_le (number_written ds) most) ≡ true → number_written ds ≤ most
+facts_small ds most test = grind (arith, nat_tests)
+
+number_some : (ds : List ℕ) (most : ℕ) → (is_numeral ds && nat_le (number_written ds) most) ≡ true → number_up_to most ds ≡ Some (number_written ds)
+number_some ds most test = rw test refl
+
+number_none : (ds : List ℕ) (most : ℕ) → (is_numeral ds && nat_le (number_written ds) most) ≡ false → number_up_to most ds ≡ None
+number_none ds most test = rw test refl
+
+-- an answer of `parse` by those facts is that of `number_up_to`
+read : {E : Type 0} (r : Result ℤ E) (ds : List ℕ) (most : ℕ) (signed : ℕ → ℤ)
+    → OkIff r ((list_all is_digit ds ≡ true) × (0 < length ds) × (number_written ds ≤ most)) (signed (number_written ds))
+    → result_ok r ≡ option_map signed (number_up_to most ds)
+read r ds most signed parsed = elim (cases_Bool (is_numeral ds && nat_le (number_written ds) most)) [
+  | inl test ↦
+      let facts : (list_all is_digit ds ≡ true) × (0 < length ds) × (number_written ds ≤ most) = (facts_all ds most test, facts_some ds most test, facts_small ds most test) in
+      ap result_ok (Ok-from_Ok_iff r _ (signed (number_written ds)) parsed facts) ∙ sym (ap (option_map signed) (number_some ds most test))
+  | inr test ↦ read_none r ds most signed parsed test
+]
+  where
+    read_none : {E : Type 0} (r : Result ℤ E) (ds : List ℕ) (most : ℕ) (signed : ℕ → ℤ)
+        → OkIff r ((list_all is_digit ds ≡ true) × (0 < length ds) × (number_written ds ≤ most)) (signed (number_written ds))
+        → (is_numeral ds && nat_le (number_written ds) most) ≡ false → result_ok r ≡ option_map signed (number_up_to most ds)
+    read_none (Ok n) ds most signed parsed test =
+        let passes : (is_numeral ds && nat_le (number_written ds) most) ≡ true = test_true ds most parsed.0.0 parsed.0.1 parsed.0.2 in
+        absurd (true≢false (sym passes ∙ test))
+    read_none (Err e) ds most signed parsed test = sym (ap (option_map signed) (number_none ds most test))
+
+below : {E : Type 0} (r : Result ℤ E) (P Q : Type 0) (v : ℤ) → (P → Q) → (Q → P) → OkIff r P v → OkIff r Q v
+below (Ok n) P Q v to from h = (to h.0, h.1)
+below (Err e) P Q v to from h = λ q. h (from q)
+
+pub read_minus : {E : Type 0} (field : List ℕ) (r : Result ℤ E) → ParsesSigned w64 10 field r → get_or field 0 0 ≡ 45 → result_ok r ≡ int_of field
+unfolding int_of
+read_minus field r parsed minus =
+    rw (eq-eqb (get_or field 0 0) 45 minus) (read r (drop 1 field) (2 ^ 63) (λ n. neg_ℤ (pos n)) (parse_signed_minus own w64 field r parsed minus))
+
+pub read_plain : {E : Type 0} (field : List ℕ) (r : Result ℤ E) → ParsesSigned w64 10 field r → get_or field 0 0 ≢ 43 → (get_or field 0 0 == 45) ≡ false → result_ok r ≡ int_of field
+unfolding int_of
+read_plain field r parsed plus other =
+    let minus : get_or field 0 0 ≢ 45 = grind (arith, nat_tests) in
+    rw other (read r field (2 ^ 63 - 1) pos (below r _ _ (pos (number_written field)) (λ h. (h.0, h.1, omega (arith, h.2))) (λ h. (h.0, h.1, omega (arith, h.2))) (parse_signed_plain own w64 field r parsed plus minus)))
+
+-- what `parse` reads where no plus comes first
+pub read_signed : {E : Type 0} (field : List ℕ) (r : Result ℤ E) → ParsesSigned w64 10 field r → get_or field 0 0 ≢ 43 → result_ok r ≡ int_of field
+read_signed field r parsed plus = elim (cases_Bool (get_or field 0 0 == 45)) [
+  | inl minus ↦ read_minus field r parsed (eqb-true (get_or field 0 0) 45 minus)
+  | inr other ↦ read_plain field r parsed plus other
+]
+
+no_first : (b : ℕ) (bs : List ℕ) → is_digit b ≡ false → (is_numeral (b ∷ bs) && nat_le (number_written (b ∷ bs)) (2 ^ 63 - 1)) ≡ false
+no_first b bs no_digit = rw no_digit (grind (arith, nat_tests))
+
+-- a field that begins with a plus spells none
+pub plus_none : (field : List ℕ) → get_or field 0 0 ≡ 43 → int_of field ≡ None
+unfolding int_of
+plus_none [] plus = absurd (omega arith)
+plus_none (b ∷ bs) plus =
+    let other : (b == 45) ≡ false = grind (arith, nat_tests) in
+    let no_digit : is_digit b ≡ false = grind (arith, nat_tests) in
+    let no_number : (is_numeral (b ∷ bs) && nat_le (number_written (b ∷ bs)) (2 ^ 63 - 1)) ≡ false = no_first b bs no_digit in
+    rw other (ap (option_map pos) (number_none (b ∷ bs) (2 ^ 63 - 1) no_number))
+
+-- a field that spells an int is ASCII
+pub int_utf8 : (field : List ℕ) → ¬ (IsUtf8 field) → int_of field ≡ None
+unfolding int_of
+int_utf8 [] broken = refl
+int_utf8 (b ∷ bs) broken = elim (cases_Bool (b == 45)) [
+  | inl minus ↦ elim (cases_Bool (is_numeral bs && nat_le (number_written bs) (2 ^ 63))) [
+    | inl test ↦
+        let ascii : IsAscii bs = IsAscii-from_digits bs (own.to bs (facts_all bs (2 ^ 63) test)) in
+        absurd (broken (IsUtf8-from_ascii (b ∷ bs) (IsAscii-cons b bs (omega (arith, eqb-true b 45 minus)) ascii)))
+    | inr test ↦ rw minus (ap (option_map (λ n. neg_ℤ (pos n))) (number_none bs (2 ^ 63) test))
+  ]
+  | inr other ↦ elim (cases_Bool (is_numeral (b ∷ bs) && nat_le (number_written (b ∷ bs)) (2 ^ 63 - 1))) [
+    | inl test ↦ absurd (broken (IsUtf8-from_ascii (b ∷ bs) (IsAscii-from_digits (b ∷ bs) (own.to (b ∷ bs) (facts_all (b ∷ bs) (2 ^ 63 - 1) test)))))
+    | inr test ↦ rw other (ap (option_map pos) (number_none (b ∷ bs) (2 ^ 63 - 1) test))
+  ]
+]

@@ -1,0 +1,37 @@
+use Rattle.std.proofs.Common.{◌≡◌, ◌∙◌, ◌<◌, ◌==◌, ◌++◌, ◌∷◌, [], ℕ, List, Option, Some, None, sym, ap, rules, arith, length, get_or, true, false, eq-eqb, drop, ◌+◌}
+use Rattle.bt_rowtype.specs.Values.{value_of, values_of}
+use Rattle.bt_rowtype.specs.declared.refusal.Refusal.TheVariants.{BadField}
+use Rattle.bt_rowtype.specs.declared.schema.Column.{Column}
+use Rattle.bt_rowtype.specs.declared.value.Value.{Value}
+use Rattle.bt_rowtype.proofs.Columnwise.{at_place, behind, not_spelled, read_none, spelled, values-drop-none, values-drop-some}
+use Rattle.bt_rowtype.proofs.row.read_values.Goals as goal
+
+-- the value of the field at a place
+field_value : (columns : List Column) (fields : List (List ℕ)) (i : ℕ) (column : Column) (field : List ℕ) (found : Option Value) → column ≡ get_or columns i column → get_or fields i [] ≡ field
+    → value_of column.kind field ≡ found → value_of (get_or columns i column).kind (get_or fields i []) ≡ found
+field_value columns fields i column field found at_column at_field is = rw (← at_column, at_field) is
+
+pub returns-in_default-clause-refused : goal.returns-in_default-clause-refused
+returns-in_default-clause-refused c =
+    let columns = c.args.columns.now in
+    let fields = c.args.fields.now in
+    let i = c.loop-place.place in
+    let column = c.index-columns-place.result in
+    let none = not_spelled (BadField 1) c.in_default.field-0 (value_of column.kind c.get.result.now) c.in_default.ensures in
+    let here = field_value columns fields i column c.get.result.now None c.index-columns-place.is (at_place fields i c.get.result.now c.get.ensures) none in
+    let long : length fields ≡ length columns = search rules in
+    λ _. read_none columns c.args.item fields (eq-eqb (length fields) (length columns) long)
+    (c.loop-place.invariant ∙ values-drop-none columns fields i column c.loop-place.values.items c.loop-place-test.true (omega arith) here)
+
+pub loop-place-preserved : goal.loop-place-preserved
+loop-place-preserved c =
+    let columns = c.args.columns.now in
+    let fields = c.args.fields.now in
+    let i = c.loop-place.place in
+    let column = c.index-columns-place.result in
+    let some = spelled (BadField 1) (value_of column.kind c.get.result.now) c.in-Ok.value c.in-Ok.ensures in
+    let here = field_value columns fields i column c.get.result.now (Some c.in-Ok.value) c.index-columns-place.is (at_place fields i c.get.result.now c.get.ensures) some in
+    let long : length fields ≡ length columns = search rules in
+    let more : c.push.new.self.items ≡ c.loop-place.values.items ++ c.in-Ok.value ∷ [] = search rules in
+    c.loop-place.invariant ∙ values-drop-some columns fields i column c.loop-place.values.items c.in-Ok.value c.loop-place-test.true (omega arith) here
+    ∙ ap (λ (front : List Value). behind front (values_of (drop (i + 1) columns) (drop (i + 1) fields))) (sym more)

@@ -1,0 +1,5 @@
+pub mod Ints
+pub mod Records
+pub mod Refusals
+pub mod Schemas
+pub mod Values

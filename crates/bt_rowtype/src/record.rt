@@ -1,0 +1,177 @@
+//! Reading the record that stands in a line, and writing the text of one.
+ghost use Rattle.std.specs.Prelude.{◌≡◌, ◌==◌, ◌++◌, ◌<◌, IfOk, OnOk, OnErr, List, length, map, option_map, ℕ};
+ghost use Rattle.std.specs.Fmt.{signed_decimal};
+ghost use Rattle.std.specs.List.{list_any};
+ghost use Rattle.csv.specs.Reading.{strip_bom};
+ghost use Rattle.csv.specs.Records.{fields_of};
+ghost use Rattle.csv.specs.Writing.{default_writer, field_text, next_sep};
+ghost use Rattle.bt_rowtype.specs.Records.{Grows, csv_record, has_mark as is_behind_mark, is_refused, is_special, parts_of, record_of, record_text};
+ghost use Rattle.bt_rowtype.specs.Values.{text_of};
+
+use crate::fields::Fields;
+use crate::value::Value;
+use csv::{ByteRecord, ReaderBuilder};
+use itoa::Buffer;
+use std::alloc::{AllocError, Global};
+
+// The fields of a record that csv has read.
+fn fields_from(alloc: Global, record: &ByteRecord) -> Result<Fields, AllocError>
+    ensures { IfOk result (λ fields. fields ≡ fields_of record.now) }
+{
+    let mut fields = Fields::new(alloc);
+    for place in 0..record.len() {
+        if let Some(field) = record.get(place) {
+            fields.push(field)?;
+        }
+    }
+    Ok(fields)
+}
+
+// The first record of a text, as csv reads it.
+fn read_csv(alloc: Global, text: &[u8]) -> Result<Option<ByteRecord>, AllocError>
+    ensures { IfOk result (λ found. option_map fields_of found ≡ csv_record (strip_bom text.now)) }
+{
+    let mut reader = ReaderBuilder::new()
+        .has_headers(false)
+        .from_reader(alloc, text);
+    let mut record = ByteRecord::new(alloc);
+    match reader.read_byte_record(&mut record) {
+        Ok(true) => Ok(Some(record)),
+        Ok(false) => Ok(None),
+        // a slice in memory is read without a fault, so only memory can be wanting
+        Err(_) => Err(AllocError),
+    }
+}
+
+fn has_mark(text: &[u8]) -> bool
+    ensures { result ≡ is_behind_mark text.now }
+{
+    matches!(text, [0xEF, 0xBB, 0xBF, ..])
+}
+
+#[tactic(auto, using(crate::proofs::Marks::strip_by_test))]
+fn without_mark(text: &[u8]) -> &[u8]
+    ensures { result.now ≡ strip_bom text.now }
+{
+    if has_mark(text) { &text[3..] } else { text }
+}
+
+fn is_no_record(text: &[u8]) -> bool
+    ensures { result ≡ is_refused text.now }
+{
+    if text.is_empty() || has_mark(text) {
+        return true;
+    }
+    text.contains(&b'\r')
+}
+
+fn has_special(text: &[u8]) -> bool
+    ensures { result ≡ list_any is_special text.now }
+{
+    text.iter()
+        .any(|byte| *byte == b'"' || *byte == b'\r' || *byte == b'\n')
+}
+
+fn parts(alloc: Global, text: &[u8]) -> Result<Vec<&[u8]>, AllocError>
+    ensures { IfOk result (λ parts. map (λ p. p.now) parts.items ≡ parts_of text.now) }
+{
+    text.split(|byte| *byte == b',').collect(alloc)
+}
+
+// The fields of a text with no byte that csv reads in a way of its own: what stands between the commas.
+fn fields_of_plain(alloc: Global, text: &[u8]) -> Result<Fields, AllocError>
+    ensures { IfOk result (λ fields. fields ≡ parts_of text.now) }
+{
+    let parts = parts(alloc, text)?;
+    let mut fields = Fields::new(alloc);
+    for part in &parts {
+        fields.push(part)?;
+    }
+    Ok(fields)
+}
+
+/// The fields of the record that stands in a line, or `None` where none does: the line is empty, holds a CR, or begins with
+/// a byte order mark after one that is dropped.
+///
+/// A line that needs it is read by `csv`; any other one, which is cheaper by far, is cut at its commas.
+pub fn read_record(alloc: Global, line: &[u8]) -> Result<Option<Fields>, AllocError>
+    ensures { IfOk result (λ fields. fields ≡ record_of line.now) }
+{
+    let text = without_mark(line);
+    if is_no_record(text) {
+        return Ok(None);
+    }
+    if !has_special(text) {
+        return Ok(Some(fields_of_plain(alloc, text)?));
+    }
+    match read_csv(alloc, line)? {
+        Some(record) => Ok(Some(fields_from(alloc, &record)?)),
+        None => Ok(None),
+    }
+}
+
+fn write_int(out: &mut Vec<u8>, number: i64) -> Result<(), AllocError>
+    ensures ok { OnOk result (out.new.items ≡ out.old.items ++ field_text default_writer (signed_decimal number)) }
+    ensures err { OnErr result (out.new.items ≡ out.old.items) }
+{
+    out.extend_from_slice(Buffer::new().format(number).as_bytes())
+}
+
+// Adds the text of a value, as a field of a record.
+fn write_value(out: &mut Vec<u8>, value: &Value) -> Result<(), AllocError>
+    ensures ok { OnOk result (out.new.items ≡ out.old.items ++ field_text default_writer (text_of value.now)) }
+    ensures err { OnErr result (out.new.items ≡ out.old.items) }
+{
+    match value {
+        Value::Int(number) => write_int(out, *number),
+    }
+}
+
+// Adds the comma before the value at a place, unless it is the first.
+fn write_separator(out: &mut Vec<u8>, place: usize) -> Result<(), AllocError>
+    ensures ok { OnOk result (out.new.items ≡ out.old.items ++ next_sep default_writer place) }
+    ensures err { OnErr result (out.new.items ≡ out.old.items) }
+{
+    let separator: &[u8] = if place == 0 { b"" } else { b"," };
+    out.extend_from_slice(separator)
+}
+
+// Adds the value at a place of a record.
+fn write_at(out: &mut Vec<u8>, place: usize, value: &Value) -> Result<(), AllocError>
+    ensures ok { OnOk result (out.new.items ≡ out.old.items ++ (next_sep default_writer place ++ field_text default_writer (text_of value.now))) }
+    ensures err { OnErr result (Grows out.old.items out.new.items) }
+{
+    write_separator(out, place)?;
+    write_value(out, value)
+}
+
+// Adds the text of a record, or a part of it before an `Err`.
+fn write_values(out: &mut Vec<u8>, values: &[Value]) -> Result<(), AllocError>
+    requires { 0 < length values.now }
+    ensures ok { OnOk result (out.new.items ≡ out.old.items ++ record_text (map text_of values.now)) }
+    ensures err { OnErr result (Grows out.old.items out.new.items) }
+{
+    let start = out.len();
+    for (place, value) in values.iter().enumerate() {
+        write_at(out, place, value)?;
+    }
+    if out.len() == start {
+        out.extend_from_slice(b"\"\"")?;
+    }
+    Ok(())
+}
+
+/// Adds the text of a record: its fields joined by commas, with quotes where a field needs them. After an `Err`, for want of
+/// memory, `out` is as it was.
+pub fn write_record(out: &mut Vec<u8>, values: &[Value]) -> Result<(), AllocError>
+    requires { 0 < length values.now }
+    ensures ok { OnOk result (out.new.items ≡ out.old.items ++ record_text (map text_of values.now)) }
+    ensures err { OnErr result (out.new.items ≡ out.old.items) }
+{
+    let start = out.len();
+    let result = write_values(out, values);
+    if result.is_err() {
+        out.truncate(start);
+    }
+    result
+}

@@ -1,0 +1,138 @@
+//! The columns of a table.
+ghost use Rattle.std.specs.Prelude.{◌≡◌, ◌≤◌, Ok, Err, if◌then◌else◌, length, take};
+ghost use Rattle.bt_rowtype.specs.Schemas.{are_apart, checked_as, fits_kind, has_column as has_column_named, is_schema};
+
+use crate::refusal::Refusal;
+use crate::sequence::Sequence;
+use crate::text::Text;
+use crate::value::{Kind, Row, Value};
+use std::marker::Model;
+
+/// The most columns of a table.
+pub const MOST_COLUMNS: usize = 16;
+
+/// The most columns of a key.
+pub const MOST_KEYS: usize = 4;
+
+/// A column: its name, and what its values are.
+#[derive(Debug, Drop)]
+pub struct Column {
+    pub name: Text,
+    pub kind: Kind,
+}
+
+/// Columns in order.
+pub type Columns = Sequence<Column>;
+
+/// The columns of a table, of which the first are its key.
+#[derive(Debug, Drop)]
+pub struct Schema {
+    columns: Columns,
+    keys: usize,
+}
+
+impl Model for Schema {
+    ghost use Rattle.bt_rowtype.specs.Schemas.{IsSchema, Layout};
+
+    ghost Value = { Layout };
+
+    ghost view = { λ a. record { columns = a.columns; keys = a.keys } };
+
+    ghost invariant = { λ a. IsSchema a.columns a.keys };
+}
+
+impl Schema {
+    /// The schema of these columns, of which the first `keys` are the key. It is refused as `BadSchema` unless it has 1 to
+    /// 16 columns with different names, and 1 to 4 of them are key columns.
+    pub fn new(columns: Columns, keys: usize) -> Result<Self, Refusal>
+        ensures { result ≡ (if is_schema columns keys then Ok (record { columns = columns; keys = keys }) else Err Refusal.BadSchema) }
+    {
+        if is_schema_of(columns.as_slice(), keys) {
+            Ok(Schema { columns, keys })
+        } else {
+            Err(Refusal::BadSchema)
+        }
+    }
+
+    /// All columns, in order.
+    pub fn columns(&self) -> &[Column]
+        ensures { result.now ≡ self.now.columns }
+    {
+        self.columns.as_slice()
+    }
+
+    /// The columns of the key.
+    pub fn key_columns(&self) -> &[Column]
+        ensures value { result.now ≡ take self.now.keys self.now.columns }
+    {
+        &self.columns.as_slice()[..self.keys]
+    }
+
+    /// How many columns are the key.
+    pub fn keys(&self) -> usize
+        ensures value { result ≡ self.now.keys }
+        ensures within { self.now.keys ≤ length self.now.columns }
+    {
+        self.keys
+    }
+
+    /// Whether a row is one of this schema. `BadLength` where its length differs, `BadField` where a value is not of its column.
+    pub fn check_row(&self, item: u64, row: &Row) -> Result<(), Refusal>
+        ensures { result ≡ checked_as self.now.columns item row.now }
+    {
+        let columns = self.columns.as_slice();
+        let values = row.as_slice();
+        if values.len() != columns.len() {
+            return Err(Refusal::BadLength(item));
+        }
+        for (place, column) in columns.iter().enumerate() {
+            if !is_of_kind(column.kind, &values[place]) {
+                return Err(Refusal::BadField(item));
+            }
+        }
+        Ok(())
+    }
+}
+
+fn is_of_kind(kind: Kind, value: &Value) -> bool
+    ensures { result ≡ fits_kind kind value.now }
+{
+    match (kind, value) {
+        (Kind::Int, Value::Int(_)) => true,
+    }
+}
+
+fn is_schema_of(columns: &[Column], keys: usize) -> bool
+    ensures { result ≡ is_schema columns.now keys }
+{
+    if columns.is_empty() || columns.len() > MOST_COLUMNS {
+        return false;
+    }
+    if keys == 0 || keys > MOST_KEYS || keys > columns.len() {
+        return false;
+    }
+    names_differ(columns)
+}
+
+// Whether a column has this name.
+fn has_column(columns: &[Column], name: &Text) -> bool
+    ensures { result ≡ has_column_named name.now columns.now }
+{
+    columns
+        .iter()
+        .any(|column| column.name.as_str() == name.as_str())
+}
+
+// Whether no two columns have the same name.
+fn names_differ(columns: &[Column]) -> bool
+    ensures { result ≡ are_apart columns.now }
+{
+    let mut rest = columns;
+    while let [first, others @ ..] = rest {
+        if has_column(others, &first.name) {
+            return false;
+        }
+        rest = others;
+    }
+    true
+}

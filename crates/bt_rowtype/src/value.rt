@@ -1,0 +1,55 @@
+//! Kinds, values and rows.
+ghost use Rattle.std.specs.Prelude.{◌≡◌};
+
+use std::marker::Model;
+
+/// What the values of a column are.
+#[derive(Clone, Copy, Debug, PartialEq, Eq)]
+pub enum Kind {
+    /// A whole number of 64 bits with a sign.
+    Int,
+}
+
+/// A value of a column.
+#[derive(Debug, Drop)]
+pub enum Value {
+    /// A whole number of 64 bits with a sign.
+    Int(i64),
+}
+
+/// The values of a row, column by column.
+#[derive(Debug, Drop)]
+pub struct Row {
+    values: Vec<Value>,
+}
+
+impl Model for Row {
+    ghost use Rattle.std.specs.Prelude.{List};
+    ghost use Rattle.bt_rowtype.specs.declared.value.Value.{Value as value};
+
+    ghost Value = { List value };
+
+    ghost view = { λ a. a.values.items };
+}
+
+impl Row {
+    /// The row of these values.
+    pub fn new(values: Vec<Value>) -> Self
+        ensures { result ≡ values.items }
+    {
+        Row { values }
+    }
+
+    pub fn as_slice(&self) -> &[Value]
+        ensures { result.now ≡ self.now }
+    {
+        self.values.as_slice()
+    }
+
+    pub fn into_values(self) -> Vec<Value>
+        ensures { result.items ≡ self }
+    {
+        let Row { values } = self;
+        values
+    }
+}
