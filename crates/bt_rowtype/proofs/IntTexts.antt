@@ -1,8 +1,8 @@
 -- The ints that std's `parse` reads are those that fields spell.
-use Rattle.std.proofs.Common.{◌-◌, ℕ, ℤ, Bool, List, [], ◌∷◌, ◌<◌, ◌≤◌, ◌^◌, ◌≡◌, ◌≢◌, ◌∙◌, refl, sym, true, false, not, ◌==◌, ◌&&◌, length, drop, get_or, pos, neg_ℤ, Option, Some, None, Result, Ok, Err, arith, rules, inl, inr, cond, nat_le, eq-eqb, ap}
+use Rattle.std.proofs.Common.{◌-◌, ℕ, ℤ, List, [], ◌∷◌, ◌<◌, ◌≤◌, ◌^◌, ◌≡◌, ◌≢◌, ◌∙◌, refl, sym, true, false, ◌==◌, ◌&&◌, length, drop, get_or, pos, neg_ℤ, Some, None, Result, Ok, Err, arith, rules, inl, inr, nat_le, eq-eqb, ap}
 use Rattle.std.proofs.lemmas.Bool.{cases_Bool, eqb-true}
 use Rattle.std.proofs.lemmas.Bool.Decides.{nat_tests}
-use Rattle.std.proofs.lemmas.Str.Parse.{IsDigitsTest, IsNumeralModel, numerals_by_fold, parse_signed_minus, parse_signed_plain, digit_from_value}
+use Rattle.std.proofs.lemmas.Str.Parse.{IsNumeralModel, numerals_by_fold, parse_signed_minus, parse_signed_plain}
 use Rattle.std.specs.List.{list_all}
 use Rattle.std.specs.Int.{w64}
 use Rattle.std.specs.Prelude.{option_map}
@@ -12,9 +12,9 @@ use Rattle.std.specs.Prelude.{IsUtf8}
 use Rattle.std.proofs.lemmas.Fmt.{IsAscii-from_digits}
 use Rattle.std.proofs.lemmas.Result.{Ok-from_Ok_iff}
 use Rattle.std.proofs.lemmas.Str.{IsUtf8-from_ascii}
-use Rattle.std.proofs.lemmas.Str.Ascii.{IsAscii-cons, IsAscii-nil}
+use Rattle.std.proofs.lemmas.Str.Ascii.{IsAscii-cons}
 use mathlib.Core.Bool.{true≢false}
-use Rattle.std.specs.Str.Parse.{AllDigits, IsNumeral, ParsesSigned}
+use Rattle.std.specs.Str.Parse.{ParsesSigned}
 use Rattle.bt_rowtype.specs.Ints.{digits_after, int_of, is_digit, is_numeral, number_up_to, number_written}
 
 -- the words of this crate for digits and their number are std's

@@ -1,6 +1,6 @@
 -- A byte order mark at the start of a text.
-use Rattle.std.proofs.Common.{ℕ, List, [], ◌∷◌, ◌≡◌, ◌+◌, refl, cond, drop, take, length, rules, arith, true, false, Bool, ◌&&◌, ◌==◌}
-use Rattle.csv.specs.Reading.{is_bom, strip_bom}
+use Rattle.std.proofs.Common.{ℕ, List, [], ◌∷◌, ◌≡◌, refl, cond, drop}
+use Rattle.csv.specs.Reading.{strip_bom}
 use Rattle.bt_rowtype.specs.Records.{has_mark}
 
 -- what is left after the mark, where it is there

@@ -1,5 +1,5 @@
 -- A line with no quote and no line end is read as its parts between commas.
-use Rattle.std.proofs.Common.{ℕ, Bool, List, [], ◌∷◌, ◌++◌, ◌≡◌, ◌∙◌, refl, sym, ap, true, false, ◌||◌, ◌==◌, append_assoc, inl, inr, Some, length, cond}
+use Rattle.std.proofs.Common.{ℕ, Bool, List, [], ◌∷◌, ◌++◌, ◌≡◌, ◌∙◌, refl, ap, true, false, ◌||◌, ◌==◌, append_assoc, inl, inr, Some}
 use Rattle.std.proofs.lemmas.List.{append-nil}
 use Rattle.std.proofs.lemmas.Bool.{cases_Bool}
 use Rattle.std.specs.List.{list_any, onto_first}

@@ -1,5 +1,5 @@
 -- The text of a record, field by field.
-use Rattle.std.proofs.Common.{ℕ, ℤ, pos, negsuc, Bool, List, [], ◌∷◌, ◌++◌, ◌+◌, ◌-◌, ◌^◌, ◌<◌, ◌≤◌, ◌≡◌, ◌∙◌, refl, sym, ap, true, false, not, ◌==◌, ◌&&◌, ◌||◌, length, take, get_or, map, cond, arith, rules, suc, ◌≢◌, length-append}
+use Rattle.std.proofs.Common.{ℕ, ℤ, pos, negsuc, List, [], ◌∷◌, ◌++◌, ◌+◌, ◌^◌, ◌<◌, ◌≤◌, ◌≡◌, ◌∙◌, refl, sym, ap, false, ◌==◌, length, take, get_or, map, arith, suc, ◌≢◌, length-append}
 use Rattle.std.proofs.lemmas.Bool.Decides.{nat_tests}
 use Rattle.std.proofs.lemmas.Fmt.{decimal_is_IsNumeral}
 use Rattle.std.proofs.lemmas.Bool.{ne_eqb}
@@ -7,7 +7,6 @@ use Rattle.std.proofs.lemmas.List.{append-nil, get_or_default, length-map}
 use Rattle.std.proofs.Math.ListN.{get_or-map}
 use Rattle.std.proofs.lemmas.Str.Parse.{digit_from_value}
 use Rattle.std.specs.Fmt.{decimal, signed_decimal}
-use Rattle.std.specs.List.{list_any}
 use Rattle.std.specs.Str.Parse.{AllDigits}
 use Rattle.csv.specs.Quoting.{needs_byte}
 use Rattle.csv.specs.Writing.{default_writer, field_text, fields_text, is_blank, needs_quotes, next_sep, row_body}
@@ -42,10 +41,10 @@ one_more values i d within =
     row-step default_writer texts i (omega (arith, length-map values text_of)) ∙ ap (λ (f : List ℕ). row_body default_writer (take i texts) ++ (next_sep default_writer i ++ field_text default_writer f)) here
 
 -- a record shows no byte just where its text has none
-pub blank_is_empty : (fields : List (List ℕ)) → 0 < length fields → is_blank default_writer fields ≡ (length (row_body default_writer fields) == 0)
+pub blank_is_empty : (fields : List (List ℕ)) → is_blank default_writer fields ≡ (length (row_body default_writer fields) == 0)
 unfolding is_blank fields_text
-blank_is_empty [] some = absurd (omega arith)
-blank_is_empty (field ∷ []) some = rw (append-nil (field_text default_writer field)) refl
-blank_is_empty (field ∷ next ∷ rest) some =
+blank_is_empty [] = refl
+blank_is_empty (field ∷ []) = rw (append-nil (field_text default_writer field)) refl
+blank_is_empty (field ∷ next ∷ rest) =
     let shown : length (field_text default_writer field ++ (44 ∷ (field_text default_writer next ++ fields_text default_writer rest))) ≢ 0 = simp length-append (omega arith) in
     sym (ne_eqb _ 0 shown)

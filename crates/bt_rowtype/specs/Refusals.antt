@@ -1,5 +1,5 @@
 -- The table of refusals: number, name and item of each.
-use Rattle.std.specs.Prelude.{ℕ, List, codes, Option, Some, None}
+use Rattle.std.specs.Prelude.{ℕ, ◌==◌, Bool, List, [], ◌∷◌, codes, nat_lt, Option, Some, None, unwrap_or, if◌then◌else◌}
 use Rattle.bt_rowtype.specs.declared.refusal.Refusal.{Refusal}
 use Rattle.bt_rowtype.specs.declared.refusal.Refusal.TheVariants.{Syntax, Unfinished, NoTable, TableExists, BadSchema, BadField, BadLength, NoSuchTree, NameTaken, TooMany, Building, AlreadyComplete, NotEmpty, DuplicateKey, NoSuchColumn, NotInt, OutOfMemory, Failed, BadCrew, BadShape}
 
@@ -55,3 +55,20 @@ item_of (BadField item) = Some item
 item_of (BadLength item) = Some item
 item_of (DuplicateKey item) = Some item
 item_of other = None
+
+-- whether its number is less than the other's, or of equal numbers its item
+abbrev pub is_before : Refusal → Refusal → Bool
+is_before a b = if number_of a == number_of b then nat_lt (unwrap_or (item_of a) 0) (unwrap_or (item_of b) 0) else nat_lt (number_of a) (number_of b)
+
+abbrev pub lesser : Refusal → Refusal → Refusal
+lesser a b = if is_before b a then b else a
+
+-- the least of one that was found, if one was, and of others
+abbrev pub least_from : Option Refusal → List Refusal → Option Refusal
+least_from found [] = found
+least_from None (refusal ∷ others) = least_from (Some refusal) others
+least_from (Some found) (refusal ∷ others) = least_from (Some (lesser found refusal)) others
+
+-- which of the refusals that apply is answered, if one does: the least number, and of equal numbers the least item
+abbrev pub least : List Refusal → Option Refusal
+least refusals = least_from None refusals

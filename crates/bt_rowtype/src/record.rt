@@ -1,5 +1,5 @@
 //! Reading the record that stands in a line, and writing the text of one.
-ghost use Rattle.std.specs.Prelude.{◌≡◌, ◌==◌, ◌++◌, ◌<◌, IfOk, OnOk, OnErr, List, length, map, option_map, ℕ};
+ghost use Rattle.std.specs.Prelude.{◌≡◌, ◌==◌, ◌++◌, IfOk, OnOk, OnErr, List, length, map, option_map, ℕ};
 ghost use Rattle.std.specs.Fmt.{signed_decimal};
 ghost use Rattle.std.specs.List.{list_any};
 ghost use Rattle.csv.specs.Reading.{strip_bom};
@@ -147,7 +147,6 @@ fn write_at(out: &mut Vec<u8>, place: usize, value: &Value) -> Result<(), AllocE
 
 // Adds the text of a record, or a part of it before an `Err`.
 fn write_values(out: &mut Vec<u8>, values: &[Value]) -> Result<(), AllocError>
-    requires { 0 < length values.now }
     ensures ok { OnOk result (out.new.items ≡ out.old.items ++ record_text (map text_of values.now)) }
     ensures err { OnErr result (Grows out.old.items out.new.items) }
 {
@@ -164,7 +163,6 @@ fn write_values(out: &mut Vec<u8>, values: &[Value]) -> Result<(), AllocError>
 /// Adds the text of a record: its fields joined by commas, with quotes where a field needs them. After an `Err`, for want of
 /// memory, `out` is as it was.
 pub fn write_record(out: &mut Vec<u8>, values: &[Value]) -> Result<(), AllocError>
-    requires { 0 < length values.now }
     ensures ok { OnOk result (out.new.items ≡ out.old.items ++ record_text (map text_of values.now)) }
     ensures err { OnErr result (out.new.items ≡ out.old.items) }
 {

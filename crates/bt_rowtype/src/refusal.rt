@@ -121,6 +121,28 @@ impl Refusal {
     }
 }
 
+impl Refusal {
+    ghost use Rattle.bt_rowtype.specs.Refusals.{is_before, lesser};
+
+    // Whether its number is less, or of equal numbers its item.
+    fn is_before(&self, other: &Refusal) -> bool
+        ensures { result ≡ is_before self.now other.now }
+    {
+        let (number, other_number) = (self.number(), other.number());
+        if number != other_number {
+            return number < other_number;
+        }
+        self.item().unwrap_or(0) < other.item().unwrap_or(0)
+    }
+
+    /// Which of two refusals that apply is answered: the one with the less number, or of equal numbers with the less item.
+    pub fn lesser(self, other: Refusal) -> Refusal
+        ensures { result ≡ lesser self other }
+    {
+        if other.is_before(&self) { other } else { self }
+    }
+}
+
 impl From<AllocError> for Refusal {
     ghost use Rattle.std.specs.Prelude.{◌≡◌};
     ghost use Rattle.bt_rowtype.specs.declared.refusal.Refusal.TheVariants.{OutOfMemory};

@@ -1,6 +1,5 @@
-use Rattle.std.proofs.Common.{◌≡◌, ◌∙◌, ◌≢◌, ◌==◌, ℕ, List, sym, ap, rules, arith, get_or, true, false}
+use Rattle.std.proofs.Common.{◌∙◌, ◌≢◌, sym, get_or}
 use Rattle.std.proofs.lemmas.Bool.{eqb-true, eqb-false}
-use Rattle.bt_rowtype.specs.Ints.{int_of}
 use Rattle.bt_rowtype.proofs.IntTexts.{int_utf8, plus_none, read_signed}
 use Rattle.bt_rowtype.proofs.field.read_int.Goals as goal
 

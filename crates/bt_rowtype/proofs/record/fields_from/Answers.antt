@@ -1,4 +1,4 @@
-use Rattle.std.proofs.Common.{rules, arith, ℕ, List, [], ◌∷◌, ◌++◌, ◌+◌, ◌<◌, ◌≡◌, ◌∙◌, sym, ap, take, length, Some, None}
+use Rattle.std.proofs.Common.{arith, ℕ, List, [], ◌∷◌, ◌++◌, ◌+◌, ◌<◌, ◌≡◌, ◌∙◌, sym, ap, take, length, Some}
 use Rattle.std.proofs.lemmas.List.{take_more}
 use Rattle.csv.specs.Records.{field_at, fields_of}
 use Rattle.csv.proofs.RecordFacts.{field-get, field-there}

@@ -1,6 +1,5 @@
-use Rattle.std.proofs.Common.{ℕ, Bool, List, Option, Some, ◌≡◌, ◌∙◌, sym, ap, false, rules}
+use Rattle.std.proofs.Common.{Some, ◌≡◌, ◌∙◌, sym, ap, false, rules}
 use Rattle.std.specs.List.{list_any}
-use Rattle.csv.specs.Reading.{strip_bom}
 use Rattle.bt_rowtype.specs.Records.{is_special, is_refused, parts_of}
 use Rattle.bt_rowtype.proofs.Plain.{plain_line}
 use Rattle.bt_rowtype.proofs.record.read_record.Goals as goal

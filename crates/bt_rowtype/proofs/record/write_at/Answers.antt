@@ -1,6 +1,5 @@
-use Rattle.std.proofs.Common.{◌≡◌, ◌∙◌, ◌++◌, [], List, ℕ, sym, ap, rules, append_assoc, Result, OnOk, OnErr}
+use Rattle.std.proofs.Common.{◌∙◌, ◌++◌, List, ℕ, ap, append_assoc}
 use Rattle.std.proofs.lemmas.Result.{on_err_weaker, on_ok_weaker}
-use Rattle.std.proofs.lemmas.List.{append-nil}
 use Rattle.csv.specs.Writing.{default_writer, field_text, next_sep}
 use Rattle.bt_rowtype.specs.Values.{text_of}
 use Rattle.bt_rowtype.proofs.record.write_at.Goals as goal

@@ -1,4 +1,4 @@
-use Rattle.std.proofs.Common.{◌≡◌, ◌∙◌, ◌++◌, List, ℕ, sym, ap, rules, subst}
+use Rattle.std.proofs.Common.{◌≡◌, rules}
 use Rattle.std.specs.Fmt.{signed_decimal}
 use Rattle.csv.specs.Writing.{default_writer, field_text}
 use Rattle.bt_rowtype.proofs.RecordTexts.{int_field}

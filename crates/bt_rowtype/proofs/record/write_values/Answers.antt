@@ -1,8 +1,8 @@
-use Rattle.std.proofs.Common.{◌≡◌, ◌∙◌, ◌++◌, ◌==◌, ◌<◌, ◌∷◌, ◌+◌, [], ℕ, List, refl, sym, ap, rules, arith, map, take, length, get_or, true, false, append_assoc, length-append, cond, take_all, Result, OnErr, ◌≢◌, ◌≤◌}
+use Rattle.std.proofs.Common.{◌≡◌, ◌∙◌, ◌++◌, ◌==◌, ◌∷◌, [], ℕ, List, sym, ap, rules, arith, map, take, length, true, false, append_assoc, length-append, take_all, ◌≢◌, ◌≤◌}
 use Rattle.std.proofs.lemmas.Bool.{eq-eqb, ne_eqb}
 use Rattle.std.proofs.lemmas.List.{append-nil, length-map}
 use Rattle.bt_rowtype.proofs.Exits.{on_err}
-use Rattle.csv.specs.Writing.{default_writer, field_text, is_blank, next_sep, row_body}
+use Rattle.csv.specs.Writing.{default_writer, row_body}
 use Rattle.bt_rowtype.specs.Records.{record_text}
 use Rattle.bt_rowtype.specs.Values.{text_of}
 use Rattle.bt_rowtype.specs.declared.value.Value.{Value}
@@ -25,23 +25,23 @@ returns-in_err-write_at-clause-err c =
     on_err c.from_residual.result _ (wrote ++ part.0, part.1 ∙ ap (λ (t : List ℕ). t ++ part.0) c.loop-place.invariant ∙ append_assoc c.args.out.now.items wrote part.0)
 
 -- nothing was shown
-blank : (old out : List ℕ) (values : List Value) → 0 < length values → out ≡ old ++ row_body default_writer (map text_of values) → length out ≡ length old
+blank : (old out : List ℕ) (values : List Value) → out ≡ old ++ row_body default_writer (map text_of values) → length out ≡ length old
     → out ++ (34 ∷ 34 ∷ []) ≡ old ++ record_text (map text_of values)
-blank old out values some wrote same =
+blank old out values wrote same =
     let texts = map text_of values in
     let body = row_body default_writer texts in
     let none : (length body == 0) ≡ true = eq-eqb _ 0 (omega (arith, simp length-append at (ap length wrote))) in
-    let is = blank_is_empty texts (omega (arith, length-map values text_of)) ∙ none in
+    let is = blank_is_empty texts ∙ none in
     rw is (ap (λ (t : List ℕ). t ++ (34 ∷ 34 ∷ [])) wrote ∙ append_assoc old body (34 ∷ 34 ∷ []))
 
 -- something was
-shown : (old out : List ℕ) (values : List Value) → 0 < length values → out ≡ old ++ row_body default_writer (map text_of values) → length out ≢ length old
+shown : (old out : List ℕ) (values : List Value) → out ≡ old ++ row_body default_writer (map text_of values) → length out ≢ length old
     → out ≡ old ++ record_text (map text_of values)
-shown old out values some wrote other =
+shown old out values wrote other =
     let texts = map text_of values in
     let body = row_body default_writer texts in
     let none : (length body == 0) ≡ false = ne_eqb _ 0 (λ e. other (omega (arith, e, simp length-append at (ap length wrote)))) in
-    let is = blank_is_empty texts (omega (arith, length-map values text_of)) ∙ none in
+    let is = blank_is_empty texts ∙ none in
     rw (is, append-nil body) wrote
 
 whole : (out old : List ℕ) (values : List Value) (i : ℕ) → length values ≤ i → out ≡ old ++ row_body default_writer (take i (map text_of values)) → out ≡ old ++ row_body default_writer (map text_of values)
@@ -53,7 +53,7 @@ returns-in_ok-extend_from_slice-clause-ok c =
     let out = c.loop-place.out.items in
     let values = c.args.values.now in
     let wrote = whole out old values c.loop-place.place c.loop-place-test.false c.loop-place.invariant in
-    c.in_ok-extend_from_slice.ensures.items ∙ blank old out values c.requires wrote (search rules)
+    c.in_ok-extend_from_slice.ensures.items ∙ blank old out values wrote (search rules)
 
 pub returns-else-len-start-clause-ok : goal.returns-else-len-start-clause-ok
 returns-else-len-start-clause-ok c =
@@ -61,4 +61,4 @@ returns-else-len-start-clause-ok c =
     let out = c.loop-place.out.items in
     let values = c.args.values.now in
     let wrote = whole out old values c.loop-place.place c.loop-place-test.false c.loop-place.invariant in
-    shown old out values c.requires wrote (λ e. c.if-len-start.false (search rules))
+    shown old out values wrote (λ e. c.if-len-start.false (search rules))

@@ -1,4 +1,4 @@
-use Rattle.std.proofs.Common.{◌≡◌, ◌++◌, length, map, take, vec_len}
+use Rattle.std.proofs.Common.{◌≡◌, ◌++◌, map, take}
 use Rattle.csv.specs.Writing.{default_writer, row_body}
 use Rattle.bt_rowtype.specs.Values.{text_of}
 use Rattle.bt_rowtype.proofs.record.write_values.Given as goal

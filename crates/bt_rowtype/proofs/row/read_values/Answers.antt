@@ -1,4 +1,4 @@
-use Rattle.std.proofs.Common.{◌≡◌, ◌∙◌, ◌<◌, ◌==◌, ◌++◌, ◌∷◌, [], ℕ, List, Option, Some, None, sym, ap, rules, arith, length, get_or, true, false, eq-eqb, drop, ◌+◌}
+use Rattle.std.proofs.Common.{◌≡◌, ◌∙◌, ◌++◌, ◌∷◌, [], ℕ, List, Option, Some, None, sym, ap, rules, arith, length, get_or, eq-eqb, drop, ◌+◌}
 use Rattle.bt_rowtype.specs.Values.{value_of, values_of}
 use Rattle.bt_rowtype.specs.declared.refusal.Refusal.TheVariants.{BadField}
 use Rattle.bt_rowtype.specs.declared.schema.Column.{Column}

@@ -1,4 +1,4 @@
-use Rattle.std.proofs.Common.{◌≡◌, drop, length}
+use Rattle.std.proofs.Common.{◌≡◌, drop}
 use Rattle.bt_rowtype.specs.Values.{values_of}
 use Rattle.bt_rowtype.proofs.Columnwise.{behind}
 use Rattle.bt_rowtype.proofs.row.read_values.Given as goal

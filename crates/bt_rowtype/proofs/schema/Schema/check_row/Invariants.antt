@@ -1,4 +1,4 @@
-use Rattle.std.proofs.Common.{◌≡◌, drop, length}
+use Rattle.std.proofs.Common.{◌≡◌, drop}
 use Rattle.bt_rowtype.specs.Schemas.{fit_columns}
 use Rattle.bt_rowtype.proofs.schema.Schema.check_row.Given as goal
 

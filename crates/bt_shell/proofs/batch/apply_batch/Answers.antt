@@ -1,0 +1,25 @@
+use Rattle.std.proofs.Common.{ℕ, List, ◌≡◌, ◌∙◌, ◌<◌, ◌∷◌, [], ◌++◌, sym, ap, rules, arith, length, true, Option, Some, nat_lt}
+use Rattle.std.proofs.lemmas.Bool.Decides.{nat_tests}
+use Rattle.std.specs.List.{filter_map}
+use Rattle.std.specs.Result.{result_err}
+use Rattle.bt_rowtype.specs.Refusals.{least, least_from}
+use Rattle.bt_rowtype.specs.declared.refusal.Refusal.{Refusal}
+use Rattle.bt_rowtype.specs.declared.refusal.Refusal.TheVariants.{TooMany}
+use Rattle.bt_shell.specs.Steps.{one_if, read_batch}
+use Rattle.bt_rowtype.specs.Schemas.{Layout}
+use Rattle.bt_shell.proofs.Batches.{least_from-append}
+use Rattle.bt_shell.proofs.batch.apply_batch.Goals as goal
+
+-- the limit of messages comes last
+with_limit : (refusals : List Refusal) (count : ℕ) (found : Option Refusal) (answer : Refusal) → 65536 < count → found ≡ least refusals → least_from found (TooMany ∷ []) ≡ Some answer
+    → least (refusals ++ one_if (nat_lt 65536 count) TooMany) ≡ Some answer
+with_limit refusals count found answer over is answered =
+    let test : nat_lt 65536 count ≡ true = grind (arith, nat_tests) in
+    rw test (least_from-append _ refusals (TooMany ∷ []) ∙ ap (λ (o : Option Refusal). least_from o (TooMany ∷ [])) (sym is) ∙ answered)
+
+pub returns-then-items-gt-MOST_MESSAGES-clause-refused : goal.returns-then-items-gt-MOST_MESSAGES-clause-refused
+returns-then-items-gt-MOST_MESSAGES-clause-refused c =
+    let schema : c.schema.result.now ≡ c.args.table.now.layout = search rules in
+    let found = c.in_ok-messages.ensures.refusal ∙ ap (λ (l : Layout). least (filter_map result_err (read_batch l 1 c.args.items.now))) schema in
+    λ _. with_limit (filter_map result_err (read_batch c.args.table.now.layout 1 c.args.items.now)) (length c.args.items.now) c.in_ok-messages.field-0.refusal c.lesser_of.result
+    c.if-items-gt-MOST_MESSAGES.true found c.lesser_of.ensures

@@ -1,0 +1,10 @@
+pub mod Blocks
+pub mod Commands
+pub mod Lines
+pub mod Options
+pub mod Places
+pub mod Runs
+pub mod Statuses
+pub mod Steps
+pub mod Streams
+pub mod Tables

@@ -1,0 +1,41 @@
+-- The lines of a script, the words of a line, and what a word spells.
+use Rattle.std.specs.Prelude.{ℕ, ◌==◌, ◌&&◌, ◌||◌, ◌-◌, not, Bool, List, [], ◌∷◌, length, take, drop, get_or, filter, Option, Some, None, if◌then◌else◌, nat_le}
+use Rattle.std.specs.List.{list_all, onto_first, slice_split, take_while}
+use Rattle.bt_rowtype.specs.Ints.{is_digit, number_written}
+
+-- the lines: a line feed ends each, and a last one without it counts where it has bytes
+abbrev pub lines : List ℕ → List (List ℕ)
+lines [] = []
+lines (b ∷ bs) = if b == 10 then [] ∷ lines bs else onto_first b (lines bs)
+
+-- a line without the one carriage return at its end
+abbrev pub without_return : List ℕ → List ℕ
+without_return line = if get_or line (length line - 1) 0 == 13 then take (length line - 1) line else line
+
+-- the words: what stands between spaces
+abbrev pub words : List ℕ → List (List ℕ)
+words line = filter (λ w. not (length w == 0)) (slice_split (λ b. b == 32) line)
+
+-- nothing, or spaces only
+abbrev pub is_blank : List ℕ → Bool
+is_blank line = list_all (λ b. b == 32) line
+
+-- a line without the spaces before its first word
+abbrev pub without_spaces : List ℕ → List ℕ
+without_spaces line = drop (length (take_while (λ b. b == 32) line)) line
+
+-- the number that a word of 1 to 9 digits writes
+abbrev pub number_of : List ℕ → Option ℕ
+number_of word = if nat_le 1 (length word) && nat_le (length word) 9 && list_all is_digit word then Some (number_written word) else None
+
+-- a to z
+abbrev pub is_letter : ℕ → Bool
+is_letter b = nat_le 97 b && nat_le b 122
+
+-- a to z, 0 to 9 or _
+abbrev pub is_name_byte : ℕ → Bool
+is_name_byte b = is_letter b || is_digit b || (b == 95)
+
+-- a name: 1 to 32 such bytes, the first one a letter
+abbrev pub is_name : List ℕ → Bool
+is_name word = nat_le 1 (length word) && nat_le (length word) 32 && is_letter (get_or word 0 0) && list_all is_name_byte word

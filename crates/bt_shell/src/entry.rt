@@ -1,0 +1,181 @@
+//! The program over any runtime and streams.
+ghost use Rattle.std.specs.Prelude.{◌≡◌, ◌≤◌, ◌<◌, ◌⊎◌, [], false, true, length, OnOk, OnErr, IfSome, IsErrOf};
+ghost use Rattle.std.specs.Io.KnownBytes.{Appends};
+ghost use Rattle.bt_shell.specs.Options.{AsksHelp, IsFaulty, IsToReadInput, kinds_of_words};
+ghost use Rattle.bt_shell.specs.Runs.{run};
+ghost use Rattle.bt_shell.specs.Streams.{AppendsFront, has_failed, source_of};
+
+use crate::counted::Counted;
+use crate::run::run_script;
+use crate::streams::{RunFault, SCRIPT_LIMIT, write_text};
+use crate::words::{WordsError, read_words};
+use bt_rowtype::Texts;
+use std::alloc::AllocError;
+use std::fs;
+use std::io::{BufWriter, Read, Write};
+use std::rt::Files;
+use thiserror::Error;
+
+/// Why the program ends with a status other than 0.
+#[derive(Debug, Drop, Error)]
+pub enum ProgramFault {
+    /// The command line says nothing to run.
+    #[error("faulty command line")]
+    Words,
+    /// The run ended early.
+    #[error(transparent)]
+    Run(RunFault),
+}
+
+impl From<RunFault> for ProgramFault {
+    ghost use Rattle.std.specs.Prelude.{◌≡◌};
+    ghost use Rattle.bt_shell.specs.declared.entry.ProgramFault.TheVariants.{Run};
+
+    ghost from_gives = { λ fault e. e ≡ Run fault };
+
+    fn from(fault: RunFault) -> ProgramFault {
+        ProgramFault::Run(fault)
+    }
+}
+
+impl From<AllocError> for ProgramFault {
+    ghost use Rattle.std.specs.Prelude.{◌≡◌};
+    ghost use Rattle.bt_shell.specs.declared.entry.ProgramFault.TheVariants.{Run};
+    ghost use Rattle.bt_shell.specs.declared.streams.RunFault.TheVariants.{OutOfMemory};
+
+    ghost from_gives = { λ _ e. e ≡ Run OutOfMemory };
+
+    fn from(_e: AllocError) -> ProgramFault {
+        ProgramFault::Run(RunFault::OutOfMemory)
+    }
+}
+
+impl ProgramFault {
+    ghost use Rattle.bt_shell.specs.Statuses.{status_of};
+
+    /// Writes the fault as one line, after `betable: `, and answers the exit status: 2 for the command line, and 1 for a
+    /// run. An error of the stream is let go.
+    pub fn report<E: Write>(&self, errors: &mut E) -> u8
+        ensures { result ≡ status_of self.now }
+    {
+        let _ = writeln!(errors, "betable: {self}");
+        match self {
+            ProgramFault::Words => 2,
+            ProgramFault::Run(_) => 1,
+        }
+    }
+}
+
+// Runs the script of a file. One that does not open is a read that fails.
+fn run_file<R: Files + AllocGlobal, W: Write>(
+    rt: &R,
+    path: &str,
+    output: &mut Counted<W>,
+) -> Result<(), RunFault>
+    requires writes { has_failed output.old ≡ false }
+    ensures done { OnOk result (has_failed output.new ≡ false) }
+    ensures write { IsErrOf result RunFault.Write → has_failed output.new ≡ true }
+{
+    let Ok(file) = fs::open(rt, path) else {
+        return Err(RunFault::Read);
+    };
+    run_script(rt.alloc(), &mut Counted::new(file), output)
+}
+
+// Does what the words ask for. After a fault what was written is not flushed.
+fn run_words<R: Files + AllocGlobal, I: Read, W: Write>(
+    rt: &R,
+    words: &Texts,
+    input: &mut Counted<I>,
+    output: &mut Counted<W>,
+) -> Result<(), ProgramFault>
+    requires reads { has_failed input.old ≡ false }
+    requires writes { has_failed output.old ≡ false }
+    ensures ok { OnOk result (IsToReadInput words.now → IfSome (I.remaining (source_of input.old)) (λ script. Appends (W.contents (source_of output.old)) (W.contents (source_of output.new)) (run script))) }
+    ensures err { OnErr result (IsToReadInput words.now → IfSome (I.remaining (source_of input.old)) (λ script. AppendsFront (W.contents (source_of output.old)) (W.contents (source_of output.new)) (run script))) }
+    ensures done { OnOk result ((has_failed input.new ≡ false) × (has_failed output.new ≡ false)) }
+    ensures words { OnOk result ((kinds_of_words words.now ≡ []) ⊎ AsksHelp words.now) }
+    ensures faulty { IsErrOf result ProgramFault.Words → IsFaulty words.now × (input.new ≡ input.old) × (output.new ≡ output.old) }
+    ensures read { IsErrOf result (ProgramFault.Run RunFault.Read) → IsToReadInput words.now → (has_failed input.new ≡ true) ⊎ IfSome (I.remaining (source_of input.old)) (λ script. SCRIPT_LIMIT < length script) }
+    ensures write { IsErrOf result (ProgramFault.Run RunFault.Write) → has_failed output.new ≡ true }
+{
+    let said = match read_words(rt.alloc(), words) {
+        Ok(said) => said,
+        Err(WordsError::Faulty) => return Err(ProgramFault::Words),
+        Err(WordsError::Help(text)) => return Ok(write_text(output, text.as_bytes())?),
+        Err(WordsError::OutOfMemory) => return Err(ProgramFault::Run(RunFault::OutOfMemory)),
+    };
+    match &said.script {
+        None => run_script(rt.alloc(), input, output)?,
+        Some(path) => run_file(rt, path.as_str(), output)?,
+    }
+    Ok(())
+}
+
+/// Does what the words ask for, and flushes what was written, also after a fault.
+pub fn answer<R: Files + AllocGlobal, I: Read, W: Write>(
+    rt: &R,
+    words: &Texts,
+    input: &mut Counted<I>,
+    output: &mut Counted<W>,
+) -> Result<(), ProgramFault>
+    requires reads { has_failed input.old ≡ false }
+    requires writes { has_failed output.old ≡ false }
+    ensures ok { OnOk result (IsToReadInput words.now → IfSome (I.remaining (source_of input.old)) (λ script. Appends (W.contents (source_of output.old)) (W.contents (source_of output.new)) (run script))) }
+    ensures err { OnErr result (IsToReadInput words.now → IfSome (I.remaining (source_of input.old)) (λ script. AppendsFront (W.contents (source_of output.old)) (W.contents (source_of output.new)) (run script))) }
+    ensures done { OnOk result ((has_failed input.new ≡ false) × (has_failed output.new ≡ false)) }
+    ensures words { OnOk result ((kinds_of_words words.now ≡ []) ⊎ AsksHelp words.now) }
+    ensures faulty { IsErrOf result ProgramFault.Words → IsFaulty words.now }
+    ensures read { IsErrOf result (ProgramFault.Run RunFault.Read) → IsToReadInput words.now → (has_failed input.new ≡ true) ⊎ IfSome (I.remaining (source_of input.old)) (λ script. SCRIPT_LIMIT < length script) }
+    ensures write { IsErrOf result (ProgramFault.Run RunFault.Write) → has_failed output.new ≡ true }
+{
+    let ended = run_words(rt, words, input, output);
+    let flushed = output.flush();
+    ended?;
+    match flushed {
+        Ok(()) => Ok(()),
+        Err(_) => Err(ProgramFault::Run(RunFault::Write)),
+    }
+}
+
+// The same over a buffer in front of the output.
+fn answer_buffered<R: Files + AllocGlobal, I: Read, O: Write>(
+    rt: &R,
+    words: &Texts,
+    input: &mut I,
+    output: &mut O,
+) -> Result<(), ProgramFault>
+    ensures words { OnOk result ((kinds_of_words words.now ≡ []) ⊎ AsksHelp words.now) }
+    ensures faulty { IsErrOf result ProgramFault.Words → IsFaulty words.now }
+{
+    let Ok(buffer) = BufWriter::new(rt.alloc(), output) else {
+        return Err(ProgramFault::Run(RunFault::OutOfMemory));
+    };
+    answer(
+        rt,
+        words,
+        &mut Counted::new(input),
+        &mut Counted::new(buffer),
+    )
+}
+
+/// Runs the program over its words, its name first, and three streams, and answers its exit status. 0: the script ran, or
+/// the help text was printed. 1: `read failed`, `write failed` or `out of memory`. 2: `faulty command line`. For a status
+/// other than 0 the error stream gets that as one line, after `betable: `.
+pub fn program<R: Files + AllocGlobal, I: Read, O: Write, E: Write>(
+    rt: &R,
+    words: &Texts,
+    input: &mut I,
+    output: &mut O,
+    errors: &mut E,
+) -> u8
+    ensures status { result ≤ 2 }
+    ensures done { result ≡ 0 → (kinds_of_words words.now ≡ []) ⊎ AsksHelp words.now }
+    ensures faulty { result ≡ 2 → IsFaulty words.now }
+    ensures quiet { result ≡ 0 → errors.new ≡ errors.old }
+{
+    match answer_buffered(rt, words, input, output) {
+        Ok(()) => 0,
+        Err(fault) => fault.report(errors),
+    }
+}

@@ -1,0 +1,35 @@
+//! Scripts of table commands: words and lines to commands, commands to replies, and the run from the bytes of a reader to
+//! the bytes of a writer.
+//!
+//! A script is any list of bytes. It is cut into lines, lines into commands, and each command is answered once: by its
+//! reply, or by the least refusal that applies, which changes nothing. What a run writes is proved to be `run` of the
+//! script, a definition over lines, commands and a map of rows.
+//!
+//! ```text
+//! let mut reader = Counted::new(b"table 4 3 2 1 id:int qty:int\nbatch\nput 1,10\nend\n".as_slice());
+//! let mut writer = Counted::new(Vec::new(alloc));
+//! run_script(alloc, &mut reader, &mut writer)?;        // table 2, batch 1
+//! ```
+#![tactic(auto)]
+
+mod batch;
+mod command;
+mod counted;
+mod entry;
+mod lines;
+mod order;
+mod parse;
+mod reply;
+mod run;
+mod session;
+mod streams;
+mod table;
+mod words;
+
+pub use command::{Command, Item, Items, Parsed, TableForm};
+pub use counted::Counted;
+pub use entry::{ProgramFault, program};
+pub use parse::parse_command;
+pub use run::run_script;
+pub use streams::{RunFault, SCRIPT_LIMIT};
+pub use words::{Words, WordsError, read_words};

@@ -1,0 +1,155 @@
+//! The table between commands, and the reply to each.
+ghost use Rattle.std.specs.Prelude.{◌≡◌, ◌≢◌, ◌++◌, ◌<◌, ◌≤◌, Ok, Err, None, IfErr, IfOk, IfNone, IfSome, OnOk, [], codes, drop, length};
+ghost use Rattle.bt_rowtype.specs.Refusals.{least};
+ghost use Rattle.bt_shell.specs.Commands.{commands, is_word};
+ghost use Rattle.bt_shell.specs.Runs.{replies};
+ghost use Rattle.bt_shell.specs.Steps as step;
+ghost use Rattle.bt_shell.specs.declared.command.Command.TheVariants as command;
+
+use crate::batch::apply_batch;
+use crate::command::{Command, Items, Parsed, TableForm};
+use crate::parse::parse_command;
+use crate::reply::{count_reply, refusal_reply, write_count, write_rows};
+use crate::table::Table;
+use bt_rowtype::{Refusal, Schema, Text};
+use std::alloc::{AllocError, Global};
+
+fn is_shape(fanout: u32, buffer: u32, leaf: u32) -> bool
+    ensures { result ≡ step.is_shape fanout buffer leaf }
+{
+    (4 <= fanout && fanout <= 64) && (1 <= buffer && buffer <= 4096) && (2 <= leaf && leaf <= 1024)
+}
+
+// Makes the table, and gives the number of its columns.
+fn create_table(alloc: Global, table: &mut Option<Table>, form: TableForm) -> Result<usize, Refusal>
+    ensures refusal { IfOk result (λ _. least (step.refusals_of table.old (command.Table form)) ≡ None) }
+    ensures state { OnOk result (table.new ≡ step.state_after table.old (command.Table form)) }
+    ensures count { IfOk result (λ count. count ≡ length form.columns) }
+    ensures refused { IfErr result (λ e. least (step.refusals_of table.old (command.Table form)) ≡ Some e) }
+    ensures unchanged { IfErr result (λ e. table.new ≡ table.old) }
+{
+    if table.is_some() {
+        return Err(Refusal::TableExists);
+    }
+    let count = form.columns.len();
+    let Ok(schema) = Schema::new(form.columns, form.keys as usize) else {
+        return Err(Refusal::BadSchema);
+    };
+    if !is_shape(form.fanout, form.buffer, form.leaf) {
+        return Err(Refusal::BadShape);
+    }
+    *table = Some(Table::new(alloc, schema));
+    Ok(count)
+}
+
+fn batch(alloc: Global, table: &mut Option<Table>, items: &Items) -> Result<usize, Refusal>
+    ensures refusal { IfOk result (λ _. least (step.refusals_of table.old (command.Batch items.now)) ≡ None) }
+    ensures state { OnOk result (table.new ≡ step.state_after table.old (command.Batch items.now)) }
+    ensures count { IfOk result (λ count. count ≡ length items.now) }
+    ensures refused { IfErr result (λ e. e ≢ Refusal.OutOfMemory → least (step.refusals_of table.old (command.Batch items.now)) ≡ Some e) }
+    ensures unchanged { IfErr result (λ e. e ≢ Refusal.OutOfMemory → table.new ≡ table.old) }
+{
+    match table {
+        None => Err(Refusal::NoTable),
+        Some(table) => apply_batch(alloc, table, items.as_slice()),
+    }
+}
+
+// The lines of all rows, and their number.
+fn scan_text(alloc: Global, table: &Table) -> Result<Vec<u8>, AllocError>
+    ensures { IfOk result (λ text. text.items ≡ step.scan_reply table.now.rows) }
+{
+    let mut text = Vec::new(alloc);
+    write_rows(&mut text, table.rows())?;
+    write_count(&mut text, b"rows ", table.rows().len())?;
+    Ok(text)
+}
+
+fn is_primary(tree: &Text) -> bool
+    ensures { result ≡ is_word tree.now (codes "primary") }
+{
+    tree.as_str() == "primary"
+}
+
+fn scan(alloc: Global, table: &Option<Table>, tree: &Text) -> Result<Vec<u8>, Refusal>
+    ensures refusal { IfOk result (λ _. least (step.refusals_of table.now (command.Scan tree.now)) ≡ None) }
+    ensures text { IfOk result (λ text. text.items ≡ step.reply_to table.now (command.Scan tree.now)) }
+    ensures refused { IfErr result (λ e. e ≢ Refusal.OutOfMemory → least (step.refusals_of table.now (command.Scan tree.now)) ≡ Some e) }
+{
+    let Some(table) = table else {
+        return Err(Refusal::NoTable);
+    };
+    if !is_primary(tree) {
+        return Err(Refusal::NoSuchTree);
+    }
+    Ok(scan_text(alloc, table)?)
+}
+
+// The reply to a command that is not refused, or its refusal.
+fn answer(alloc: Global, table: &mut Option<Table>, command: Command) -> Result<Vec<u8>, Refusal>
+    ensures refusal { IfOk result (λ _. least (step.refusals_of table.old command) ≡ None) }
+    ensures state { OnOk result (table.new ≡ step.state_after table.old command) }
+    ensures text { IfOk result (λ text. text.items ≡ step.reply_to table.old command) }
+    ensures refused { IfErr result (λ e. e ≢ Refusal.OutOfMemory → least (step.refusals_of table.old command) ≡ Some e) }
+    ensures unchanged { IfErr result (λ e. e ≢ Refusal.OutOfMemory → table.new ≡ table.old) }
+{
+    match command {
+        Command::Table(form) => {
+            let count = create_table(alloc, table, form)?;
+            Ok(count_reply(alloc, b"table ", count)?)
+        }
+        Command::Batch(items) => {
+            let count = batch(alloc, table, &items)?;
+            Ok(count_reply(alloc, b"batch ", count)?)
+        }
+        Command::Scan(tree) => scan(alloc, table, &tree),
+    }
+}
+
+// The reply to a command, and what the command does. An `Err` is for want of memory.
+fn take_turn(
+    alloc: Global,
+    table: &mut Option<Table>,
+    command: Command,
+) -> Result<Vec<u8>, AllocError>
+    ensures text { IfOk result (λ text. text.items ≡ (step.turn table.old (Ok command)).1) }
+    ensures state { OnOk result (table.new ≡ (step.turn table.old (Ok command)).0) }
+{
+    match answer(alloc, table, command) {
+        Ok(text) => Ok(text),
+        Err(Refusal::OutOfMemory) => Err(AllocError),
+        Err(refusal) => refusal_reply(alloc, refusal),
+    }
+}
+
+/// A reply, and the place behind its command.
+#[derive(Drop)]
+pub struct Step {
+    pub text: Vec<u8>,
+    pub next: usize,
+}
+
+/// The reply to the command that stands at a place, or `None` where no further one does. An `Err` is for want of memory.
+pub fn next_reply(
+    alloc: Global,
+    script: &[u8],
+    table: &mut Option<Table>,
+    at: usize,
+) -> Result<Option<Step>, AllocError>
+    ensures step { IfOk result (λ found. IfSome found (λ step. replies table.old (commands (drop at script.now))
+        ≡ step.text.items ++ replies table.new (commands (drop step.next script.now)))) }
+    ensures end { IfOk result (λ found. IfNone found (replies table.old (commands (drop at script.now)) ≡ [])) }
+    ensures past { IfOk result (λ found. IfSome found (λ step. (at < step.next) × (step.next ≤ length script.now))) }
+{
+    match parse_command(alloc, script, at)? {
+        Parsed::End => Ok(None),
+        Parsed::Bad { refusal, next } => {
+            let text = refusal_reply(alloc, refusal)?;
+            Ok(Some(Step { text, next }))
+        }
+        Parsed::Good { command, next } => {
+            let text = take_turn(alloc, table, command)?;
+            Ok(Some(Step { text, next }))
+        }
+    }
+}
