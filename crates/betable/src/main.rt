@@ -2,8 +2,8 @@
 #![tactic(auto)]
 
 use bt_rowtype::Texts;
-use bt_shell::{ProgramFault, RunFault, program};
-use std::io::ErrorKind;
+use bt_shell::{Counted, ProgramFault, RunFault, program};
+use std::io::{BufWriter, ErrorKind, Write};
 use std::process::ExitCode;
 use std::rt::Env;
 use std::{env, io};
@@ -24,16 +24,25 @@ fn words_of<R: Env + AllocGlobal>(rt: &R) -> Result<Texts, ProgramFault> {
     Ok(words)
 }
 
+// Passes the words and the streams on. Replies leave through a buffer.
+fn run<E: Write>(rt: &HostRuntime, errors: &mut E) -> Result<u8, ProgramFault> {
+    let words = words_of(rt)?;
+    let Ok(output) = BufWriter::new(rt.alloc(), io::writer(rt)) else {
+        return Err(ProgramFault::Run(RunFault::OutOfMemory));
+    };
+    Ok(program(
+        rt,
+        &words,
+        &mut Counted::new(rt.reader()),
+        &mut Counted::new(output),
+        errors,
+    ))
+}
+
 fn main(rt: HostRuntime) -> ExitCode {
     let mut errors = rt.stderr();
-    let status = match words_of(&rt) {
-        Ok(words) => program(
-            &rt,
-            &words,
-            &mut rt.reader(),
-            &mut io::writer(&rt),
-            &mut errors,
-        ),
+    let status = match run(&rt, &mut errors) {
+        Ok(status) => status,
         Err(fault) => fault.report(&mut errors),
     };
     ExitCode::from(status)

@@ -1,6 +1,7 @@
 pub mod Columnwise
+pub mod Exits
 pub mod IntTexts
 pub mod Marks
+pub mod OnLiterals
 pub mod Plain
 pub mod RecordTexts
-pub mod Exits

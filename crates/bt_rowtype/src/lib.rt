@@ -33,3 +33,6 @@ pub use schema::{Column, Columns, MOST_COLUMNS, MOST_KEYS, Schema};
 pub use sequence::Sequence;
 pub use text::{Text, Texts};
 pub use value::{Kind, Row, Value};
+
+#[cfg(test)]
+mod tests;

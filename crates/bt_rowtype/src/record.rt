@@ -15,12 +15,12 @@ use itoa::Buffer;
 use std::alloc::{AllocError, Global};
 
 // The fields of a record that csv has read.
-fn fields_from(alloc: Global, record: &ByteRecord) -> Result<Fields, AllocError>
-    ensures { IfOk result (λ fields. fields ≡ fields_of record.now) }
+fn fields_from(alloc: Global, found: &ByteRecord) -> Result<Fields, AllocError>
+    ensures { IfOk result (λ fields. fields ≡ fields_of found.now) }
 {
     let mut fields = Fields::new(alloc);
-    for place in 0..record.len() {
-        if let Some(field) = record.get(place) {
+    for place in 0..found.len() {
+        if let Some(field) = found.get(place) {
             fields.push(field)?;
         }
     }

@@ -1,5 +1,6 @@
 -- What was written before a fault is a front of the text.
 use Rattle.std.proofs.Common.{ℕ, List, ◌++◌, ◌≡◌, ◌∙◌, refl, sym, ap, subst, take, drop, length, append_assoc, Option, Result, Ok, Err, OnErr, take-append-drop}
+use Rattle.std.proofs.Math.Seq.{take-length}
 use Rattle.std.proofs.lemmas.List.{take_at}
 use Rattle.std.proofs.KnownBytes.{Appends-trans}
 use Rattle.std.specs.Io.KnownBytes.{Appends}
@@ -23,3 +24,7 @@ front-more from mid to all done text more wrote whole front =
     ∙ ap (λ (t : List ℕ). done ++ t) (append_assoc (take n text) (drop n text) more)
     ∙ sym (append_assoc done (take n text) (drop n text ++ more)) in
     front-done from to all (done ++ take n text) (drop n text ++ more) (Appends-trans from mid to done (take n text) wrote front.1) (whole ∙ parts)
+
+-- all of the text was written
+pub front-all : (from to : Option (List ℕ)) (text : List ℕ) → Appends from to text → AppendsFront from to text
+front-all from to text wrote = (length text, subst (λ (front : List ℕ). Appends from to front) (sym (take-length text)) wrote)

@@ -6,3 +6,4 @@ pub mod Machine
 pub mod Names
 pub mod Orders
 pub mod Places
+pub mod WorkedRows

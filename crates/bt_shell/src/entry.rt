@@ -1,6 +1,6 @@
 //! The program over any runtime and streams.
 ghost use Rattle.std.specs.Prelude.{◌≡◌, ◌≤◌, ◌<◌, ◌⊎◌, [], false, true, length, OnOk, OnErr, IfSome, IsErrOf};
-ghost use Rattle.std.specs.Io.KnownBytes.{Appends};
+ghost use Rattle.std.specs.Io.KnownBytes.{Appends, Keeps};
 ghost use Rattle.bt_shell.specs.Options.{AsksHelp, IsFaulty, IsToReadInput, kinds_of_words};
 ghost use Rattle.bt_shell.specs.Runs.{run};
 ghost use Rattle.bt_shell.specs.Streams.{AppendsFront, has_failed, source_of};
@@ -12,7 +12,7 @@ use crate::words::{WordsError, read_words};
 use bt_rowtype::Texts;
 use std::alloc::AllocError;
 use std::fs;
-use std::io::{BufWriter, Read, Write};
+use std::io::{Read, Write};
 use std::rt::Files;
 use thiserror::Error;
 
@@ -112,8 +112,8 @@ fn run_words<R: Files + AllocGlobal, I: Read, W: Write>(
     Ok(())
 }
 
-/// Does what the words ask for, and flushes what was written, also after a fault.
-pub fn answer<R: Files + AllocGlobal, I: Read, W: Write>(
+// Does what the words ask for, and flushes what was written, also after a fault.
+fn answer<R: Files + AllocGlobal, I: Read, W: Write>(
     rt: &R,
     words: &Texts,
     input: &mut Counted<I>,
@@ -125,7 +125,7 @@ pub fn answer<R: Files + AllocGlobal, I: Read, W: Write>(
     ensures err { OnErr result (IsToReadInput words.now → IfSome (I.remaining (source_of input.old)) (λ script. AppendsFront (W.contents (source_of output.old)) (W.contents (source_of output.new)) (run script))) }
     ensures done { OnOk result ((has_failed input.new ≡ false) × (has_failed output.new ≡ false)) }
     ensures words { OnOk result ((kinds_of_words words.now ≡ []) ⊎ AsksHelp words.now) }
-    ensures faulty { IsErrOf result ProgramFault.Words → IsFaulty words.now }
+    ensures faulty { IsErrOf result ProgramFault.Words → IsFaulty words.now × (input.new ≡ input.old) × Keeps (W.contents (source_of output.old)) (W.contents (source_of output.new)) }
     ensures read { IsErrOf result (ProgramFault.Run RunFault.Read) → IsToReadInput words.now → (has_failed input.new ≡ true) ⊎ IfSome (I.remaining (source_of input.old)) (λ script. SCRIPT_LIMIT < length script) }
     ensures write { IsErrOf result (ProgramFault.Run RunFault.Write) → has_failed output.new ≡ true }
 {
@@ -138,43 +138,36 @@ pub fn answer<R: Files + AllocGlobal, I: Read, W: Write>(
     }
 }
 
-// The same over a buffer in front of the output.
-fn answer_buffered<R: Files + AllocGlobal, I: Read, O: Write>(
-    rt: &R,
-    words: &Texts,
-    input: &mut I,
-    output: &mut O,
-) -> Result<(), ProgramFault>
-    ensures words { OnOk result ((kinds_of_words words.now ≡ []) ⊎ AsksHelp words.now) }
-    ensures faulty { IsErrOf result ProgramFault.Words → IsFaulty words.now }
-{
-    let Ok(buffer) = BufWriter::new(rt.alloc(), output) else {
-        return Err(ProgramFault::Run(RunFault::OutOfMemory));
-    };
-    answer(
-        rt,
-        words,
-        &mut Counted::new(input),
-        &mut Counted::new(buffer),
-    )
-}
-
 /// Runs the program over its words, its name first, and three streams, and answers its exit status. 0: the script ran, or
 /// the help text was printed. 1: `read failed`, `write failed` or `out of memory`. 2: `faulty command line`. For a status
 /// other than 0 the error stream gets that as one line, after `betable: `.
-pub fn program<R: Files + AllocGlobal, I: Read, O: Write, E: Write>(
+///
+/// Where the words name no file, the input is the script: with status 0 the output has gained its replies, and with any
+/// other status a front of them.
+pub fn program<R: Files + AllocGlobal, I: Read, W: Write, E: Write>(
     rt: &R,
     words: &Texts,
-    input: &mut I,
-    output: &mut O,
+    input: &mut Counted<I>,
+    output: &mut Counted<W>,
     errors: &mut E,
 ) -> u8
+    requires reads { has_failed input.old ≡ false }
+    requires writes { has_failed output.old ≡ false }
     ensures status { result ≤ 2 }
-    ensures done { result ≡ 0 → (kinds_of_words words.now ≡ []) ⊎ AsksHelp words.now }
-    ensures faulty { result ≡ 2 → IsFaulty words.now }
+
+    // The script is the input.
+    ensures ok { result ≡ 0 → IsToReadInput words.now → IfSome (I.remaining (source_of input.old)) (λ script.
+        Appends (W.contents (source_of output.old)) (W.contents (source_of output.new)) (run script)) }
+    ensures front { IsToReadInput words.now → IfSome (I.remaining (source_of input.old)) (λ script.
+        AppendsFront (W.contents (source_of output.old)) (W.contents (source_of output.new)) (run script)) }
+
+    // What each status says.
+    ensures words { result ≡ 0 → (kinds_of_words words.now ≡ []) ⊎ AsksHelp words.now }
+    ensures done { result ≡ 0 → (has_failed input.new ≡ false) × (has_failed output.new ≡ false) }
     ensures quiet { result ≡ 0 → errors.new ≡ errors.old }
+    ensures faulty { result ≡ 2 → IsFaulty words.now }
 {
-    match answer_buffered(rt, words, input, output) {
+    match answer(rt, words, input, output) {
         Ok(()) => 0,
         Err(fault) => fault.report(errors),
     }

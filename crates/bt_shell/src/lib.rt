@@ -33,3 +33,6 @@ pub use parse::parse_command;
 pub use run::run_script;
 pub use streams::{RunFault, SCRIPT_LIMIT};
 pub use words::{Words, WordsError, read_words};
+
+#[cfg(test)]
+mod tests;

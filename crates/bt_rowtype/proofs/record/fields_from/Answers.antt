@@ -11,7 +11,7 @@ one_more fields i field within at = sym (take_more fields i [] within ∙ ap (λ
 
 pub loop-place-preserved : goal.loop-place-preserved
 loop-place-preserved c =
-    let all = fields_of c.args.record.now in
+    let all = fields_of c.args.found.now in
     let within : c.loop-place.place < length all = omega arith in
     elim c.match-get.branch [
       | in-Some+in_ok-push w ↦
