@@ -1,8 +1,7 @@
 -- Going over columns and what stands under each, one by one.
-use Rattle.std.proofs.Common.{ℕ, Bool, List, [], ◌∷◌, ◌++◌, ◌+◌, ◌<◌, ◌≡◌, refl, sym, ap, true, ◌&&◌, length, drop, get_or, Option, Some, None, Ok, Err, append_assoc, ◌==◌}
+use Rattle.std.proofs.Common.{ℕ, List, [], ◌∷◌, ◌++◌, ◌+◌, ◌<◌, ◌≡◌, refl, sym, ap, true, length, drop, get_or, Option, Some, None, Ok, Err, append_assoc, ◌==◌}
 use Rattle.std.proofs.lemmas.List.{drop_more}
 use Rattle.std.proofs.lemmas.Option.{get_or_from_slice_get}
-use Rattle.std.specs.Cmp.Lexicographic.{pointwise}
 use Rattle.std.specs.Prelude.{option_map, slice_get}
 use Rattle.bt_rowtype.specs.Values.{or_refused, read_as, value_of, values_of, with_first}
 use Rattle.bt_rowtype.specs.declared.refusal.Refusal.{Refusal}
@@ -10,18 +9,9 @@ use Rattle.bt_rowtype.specs.declared.refusal.Refusal.TheVariants.{BadField}
 use Rattle.bt_rowtype.specs.declared.schema.Column.{Column}
 use Rattle.bt_rowtype.specs.declared.value.Value.{Value}
 
--- a test of two lists pair by pair goes on behind each pair
-pub pointwise-drop : {A B : Type 0} (test : A → B → Bool) (xs : List A) (ys : List B) (i : ℕ) (x : A) (y : B) → i < length xs → i < length ys
-    → pointwise test (drop i xs) (drop i ys) ≡ (test (get_or xs i x) (get_or ys i y) && pointwise test (drop (i + 1) xs) (drop (i + 1) ys))
-pointwise-drop test xs ys i x y in_xs in_ys = rw (drop_more xs i x in_xs, drop_more ys i y in_ys) refl
-
 -- values before others, where those are there
 abbrev pub behind : List Value → Option (List Value) → Option (List Value)
 behind front rest = option_map (λ vs. front ++ vs) rest
-
-pub behind-nil : (rest : Option (List Value)) → behind [] rest ≡ rest
-behind-nil None = refl
-behind-nil (Some vs) = refl
 
 behind-first : (front : List Value) (v : Value) (rest : Option (List Value)) → behind front (with_first (Some v) rest) ≡ behind (front ++ v ∷ []) rest
 behind-first front v None = refl
@@ -53,9 +43,6 @@ not_spelled refusal e (Some w) is = cc
 pub at_place : (fields : List (List ℕ)) (i : ℕ) (field : List ℕ) → slice_get fields i ≡ Some field → get_or fields i [] ≡ field
 at_place fields i field at = get_or_from_slice_get fields i field [] at
 
--- a record of the right length in which no field or every field is a value
+-- a record of the right length in which a field is no value
 pub read_none : (columns : List Column) (item : ℕ) (fields : List (List ℕ)) → (length fields == length columns) ≡ true → values_of columns fields ≡ None → read_as columns item fields ≡ Err (BadField item)
 read_none columns item fields same none = rw (same, none) refl
-
-pub read_some : (columns : List Column) (item : ℕ) (fields : List (List ℕ)) (row : List Value) → (length fields == length columns) ≡ true → values_of columns fields ≡ Some row → read_as columns item fields ≡ Ok row
-read_some columns item fields row same some = rw (same, some) refl

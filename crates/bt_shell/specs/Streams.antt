@@ -1,5 +1,5 @@
 -- Streams that keep whether a call failed, by the bytes that a reader has left and a writer holds.
-use Rattle.std.specs.Prelude.{◌==◌, ◌&&◌, not, ℕ, Bool, true, List, take, Option, Result, Ok, Err}
+use Rattle.std.specs.Prelude.{◌≡◌, ◌==◌, ◌&&◌, ◌<◌, ◌⊎◌, IfSome, length, not, ℕ, Bool, true, List, take, Option, Result, Ok, Err}
 use Rattle.std.specs.Io.KnownBytes.{Appends}
 use Rattle.bt_shell.specs.declared.counted.Counted.{Counted}
 
@@ -10,6 +10,10 @@ source_of stream = stream.inner
 -- a call on it failed
 abbrev pub has_failed : {T : Type 0} → Counted T → Bool
 has_failed stream = stream.failed
+
+-- a reader has failed, or its known bytes were more than a limit
+abbrev pub FailsToGive : Bool → Option (List ℕ) → ℕ → Type 0
+FailsToGive failed bytes limit = (failed ≡ true) ⊎ IfSome bytes (λ bs. limit < length bs)
 
 -- known bytes grow by some front of the text
 abbrev pub AppendsFront : Option (List ℕ) → Option (List ℕ) → List ℕ → Type 0

@@ -1,9 +1,9 @@
 //! The program over any runtime and streams.
-ghost use Rattle.std.specs.Prelude.{◌≡◌, ◌≤◌, ◌<◌, ◌⊎◌, [], false, true, length, OnOk, OnErr, IfSome, IsErrOf};
-ghost use Rattle.std.specs.Io.KnownBytes.{Appends, Keeps};
+ghost use Rattle.std.specs.Prelude.{◌≡◌, ◌≤◌, ◌⊎◌, [], false, true, OnOk, OnErr, IsErrOf};
+ghost use Rattle.std.specs.Io.KnownBytes.{Keeps};
 ghost use Rattle.bt_shell.specs.Options.{AsksHelp, IsFaulty, IsToReadInput, kinds_of_words};
-ghost use Rattle.bt_shell.specs.Runs.{run};
-ghost use Rattle.bt_shell.specs.Streams.{AppendsFront, has_failed, source_of};
+ghost use Rattle.bt_shell.specs.Runs.{WritesFront, WritesRun};
+ghost use Rattle.bt_shell.specs.Streams.{FailsToGive, has_failed, source_of};
 
 use crate::counted::Counted;
 use crate::run::run_script;
@@ -91,12 +91,12 @@ fn run_words<R: Files + AllocGlobal, I: Read, W: Write>(
 ) -> Result<(), ProgramFault>
     requires reads { has_failed input.old ≡ false }
     requires writes { has_failed output.old ≡ false }
-    ensures ok { OnOk result (IsToReadInput words.now → IfSome (I.remaining (source_of input.old)) (λ script. Appends (W.contents (source_of output.old)) (W.contents (source_of output.new)) (run script))) }
-    ensures err { OnErr result (IsToReadInput words.now → IfSome (I.remaining (source_of input.old)) (λ script. AppendsFront (W.contents (source_of output.old)) (W.contents (source_of output.new)) (run script))) }
+    ensures ok { OnOk result (IsToReadInput words.now → WritesRun (I.remaining (source_of input.old)) (W.contents (source_of output.old)) (W.contents (source_of output.new))) }
+    ensures err { OnErr result (IsToReadInput words.now → WritesFront (I.remaining (source_of input.old)) (W.contents (source_of output.old)) (W.contents (source_of output.new))) }
     ensures done { OnOk result ((has_failed input.new ≡ false) × (has_failed output.new ≡ false)) }
     ensures words { OnOk result ((kinds_of_words words.now ≡ []) ⊎ AsksHelp words.now) }
     ensures faulty { IsErrOf result ProgramFault.Words → IsFaulty words.now × (input.new ≡ input.old) × (output.new ≡ output.old) }
-    ensures read { IsErrOf result (ProgramFault.Run RunFault.Read) → IsToReadInput words.now → (has_failed input.new ≡ true) ⊎ IfSome (I.remaining (source_of input.old)) (λ script. SCRIPT_LIMIT < length script) }
+    ensures read { IsErrOf result (ProgramFault.Run RunFault.Read) → IsToReadInput words.now → FailsToGive (has_failed input.new) (I.remaining (source_of input.old)) SCRIPT_LIMIT }
     ensures write { IsErrOf result (ProgramFault.Run RunFault.Write) → has_failed output.new ≡ true }
 {
     let said = match read_words(rt.alloc(), words) {
@@ -121,12 +121,12 @@ fn answer<R: Files + AllocGlobal, I: Read, W: Write>(
 ) -> Result<(), ProgramFault>
     requires reads { has_failed input.old ≡ false }
     requires writes { has_failed output.old ≡ false }
-    ensures ok { OnOk result (IsToReadInput words.now → IfSome (I.remaining (source_of input.old)) (λ script. Appends (W.contents (source_of output.old)) (W.contents (source_of output.new)) (run script))) }
-    ensures err { OnErr result (IsToReadInput words.now → IfSome (I.remaining (source_of input.old)) (λ script. AppendsFront (W.contents (source_of output.old)) (W.contents (source_of output.new)) (run script))) }
+    ensures ok { OnOk result (IsToReadInput words.now → WritesRun (I.remaining (source_of input.old)) (W.contents (source_of output.old)) (W.contents (source_of output.new))) }
+    ensures err { OnErr result (IsToReadInput words.now → WritesFront (I.remaining (source_of input.old)) (W.contents (source_of output.old)) (W.contents (source_of output.new))) }
     ensures done { OnOk result ((has_failed input.new ≡ false) × (has_failed output.new ≡ false)) }
     ensures words { OnOk result ((kinds_of_words words.now ≡ []) ⊎ AsksHelp words.now) }
     ensures faulty { IsErrOf result ProgramFault.Words → IsFaulty words.now × (input.new ≡ input.old) × Keeps (W.contents (source_of output.old)) (W.contents (source_of output.new)) }
-    ensures read { IsErrOf result (ProgramFault.Run RunFault.Read) → IsToReadInput words.now → (has_failed input.new ≡ true) ⊎ IfSome (I.remaining (source_of input.old)) (λ script. SCRIPT_LIMIT < length script) }
+    ensures read { IsErrOf result (ProgramFault.Run RunFault.Read) → IsToReadInput words.now → FailsToGive (has_failed input.new) (I.remaining (source_of input.old)) SCRIPT_LIMIT }
     ensures write { IsErrOf result (ProgramFault.Run RunFault.Write) → has_failed output.new ≡ true }
 {
     let ended = run_words(rt, words, input, output);
@@ -156,10 +156,8 @@ pub fn program<R: Files + AllocGlobal, I: Read, W: Write, E: Write>(
     ensures status { result ≤ 2 }
 
     // The script is the input.
-    ensures ok { result ≡ 0 → IsToReadInput words.now → IfSome (I.remaining (source_of input.old)) (λ script.
-        Appends (W.contents (source_of output.old)) (W.contents (source_of output.new)) (run script)) }
-    ensures front { IsToReadInput words.now → IfSome (I.remaining (source_of input.old)) (λ script.
-        AppendsFront (W.contents (source_of output.old)) (W.contents (source_of output.new)) (run script)) }
+    ensures ok { result ≡ 0 → IsToReadInput words.now → WritesRun (I.remaining (source_of input.old)) (W.contents (source_of output.old)) (W.contents (source_of output.new)) }
+    ensures front { IsToReadInput words.now → WritesFront (I.remaining (source_of input.old)) (W.contents (source_of output.old)) (W.contents (source_of output.new)) }
 
     // What each status says.
     ensures words { result ≡ 0 → (kinds_of_words words.now ≡ []) ⊎ AsksHelp words.now }

@@ -1,8 +1,8 @@
 //! The run of a script.
-ghost use Rattle.std.specs.Prelude.{◌≡◌, ◌+◌, ◌<◌, ◌≤◌, ◌⊎◌, false, true, length, IfSome, IsErrOf, List, OnErr, OnOk, ℕ};
+ghost use Rattle.std.specs.Prelude.{◌≡◌, ◌+◌, ◌≤◌, false, true, length, IsErrOf, List, OnErr, OnOk, ℕ};
 ghost use Rattle.std.specs.Io.KnownBytes.{Appends, Consumes, Keeps};
-ghost use Rattle.bt_shell.specs.Runs.{run};
-ghost use Rattle.bt_shell.specs.Streams.{AppendsFront, has_failed, source_of};
+ghost use Rattle.bt_shell.specs.Runs.{WritesFront, WritesRun, run};
+ghost use Rattle.bt_shell.specs.Streams.{AppendsFront, FailsToGive, has_failed, source_of};
 
 use crate::counted::Counted;
 use crate::session::next_reply;
@@ -46,15 +46,12 @@ pub fn run_script<R: Read, W: Write>(
 ) -> Result<(), RunFault>
     requires reads { has_failed reader.old ≡ false }
     requires writes { has_failed writer.old ≡ false }
-    ensures ok { OnOk result (IfSome (R.remaining (source_of reader.old)) (λ script.
-        Appends (W.contents (source_of writer.old)) (W.contents (source_of writer.new)) (run script))) }
-    ensures err { OnErr result (IfSome (R.remaining (source_of reader.old)) (λ script.
-        AppendsFront (W.contents (source_of writer.old)) (W.contents (source_of writer.new)) (run script))) }
+    ensures ok { OnOk result (WritesRun (R.remaining (source_of reader.old)) (W.contents (source_of writer.old)) (W.contents (source_of writer.new))) }
+    ensures err { OnErr result (WritesFront (R.remaining (source_of reader.old)) (W.contents (source_of writer.old)) (W.contents (source_of writer.new))) }
     ensures done { OnOk result ((has_failed reader.new ≡ false) × (has_failed writer.new ≡ false)) }
 
     // Which fault it is, and what it leaves.
-    ensures read { IsErrOf result RunFault.Read → (has_failed reader.new ≡ true)
-        ⊎ IfSome (R.remaining (source_of reader.old)) (λ script. SCRIPT_LIMIT < length script) }
+    ensures read { IsErrOf result RunFault.Read → FailsToGive (has_failed reader.new) (R.remaining (source_of reader.old)) SCRIPT_LIMIT }
     ensures unread { IsErrOf result RunFault.Read → Keeps (W.contents (source_of writer.old)) (W.contents (source_of writer.new)) }
     ensures write { IsErrOf result RunFault.Write → has_failed writer.new ≡ true }
 

@@ -1,7 +1,7 @@
 //! The reading of a whole script and the writing of text.
-ghost use Rattle.std.specs.Prelude.{◌≡◌, ◌<◌, ◌≤◌, ◌⊎◌, ◌+◌, true, length, IfOk, OnOk, OnErr, IfSome, IsErrOf, ℕ, List};
+ghost use Rattle.std.specs.Prelude.{◌≡◌, ◌≤◌, ◌+◌, true, length, IfOk, OnOk, OnErr, IfSome, IsErrOf, ℕ, List};
 ghost use Rattle.std.specs.Io.KnownBytes.{Appends, Consumes};
-ghost use Rattle.bt_shell.specs.Streams.{AppendsFront, has_failed, source_of};
+ghost use Rattle.bt_shell.specs.Streams.{AppendsFront, FailsToGive, has_failed, source_of};
 
 use crate::counted::Counted;
 use std::alloc::{AllocError, Global};
@@ -47,7 +47,7 @@ pub fn read_script<R: Read>(alloc: Global, reader: &mut Counted<R>) -> Result<Ve
     ensures short { IfOk result (λ script. length script.items ≤ SCRIPT_LIMIT) }
     // No more than one byte past the limit is read, also before an error.
     ensures at_most { (bytes : List ℕ) × (length bytes ≤ SCRIPT_LIMIT + 1) × Consumes (R.remaining (source_of reader.old)) (R.remaining (source_of reader.new)) bytes }
-    ensures read { IsErrOf result RunFault.Read → (has_failed reader.new ≡ true) ⊎ IfSome (R.remaining (source_of reader.old)) (λ bytes. SCRIPT_LIMIT < length bytes) }
+    ensures read { IsErrOf result RunFault.Read → FailsToGive (has_failed reader.new) (R.remaining (source_of reader.old)) SCRIPT_LIMIT }
     ensures write { IsErrOf result RunFault.Write → ⊥ }
     ensures failed { OnOk result (has_failed reader.new ≡ has_failed reader.old) }
 {

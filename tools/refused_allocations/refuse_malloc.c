@@ -1,0 +1,113 @@
+/*
+ * A library to be preloaded into a program (LD_PRELOAD), which refuses requests for memory, as a system does that has no
+ * more. For Linux with the GNU C library.
+ *
+ * Requests are the calls of malloc, calloc, realloc, reallocarray, posix_memalign and aligned_alloc from the start of the
+ * program on, counted from 1. A realloc counts whether it grows or shrinks its block. Environment variables:
+ *
+ *   REFUSE_AT    a request that is refused
+ *   REFUSE_FROM  the first of the requests that are refused, with all that follow it
+ *   COUNT_FILE   the file that gets the number of requests when the program ends by exit or by a return from main
+ */
+#include <errno.h>
+#include <fcntl.h>
+#include <limits.h>
+#include <stdatomic.h>
+#include <stdbool.h>
+#include <stddef.h>
+#include <stdint.h>
+#include <stdio.h>
+#include <stdlib.h>
+#include <unistd.h>
+
+/* The C library's own functions, by names that this file does not define. */
+void *__libc_malloc(size_t size);
+void *__libc_calloc(size_t count, size_t size);
+void *__libc_realloc(void *block, size_t size);
+void *__libc_memalign(size_t alignment, size_t size);
+
+static atomic_ulong requests;
+static unsigned long refuse_at = ULONG_MAX;
+static unsigned long refuse_from = ULONG_MAX;
+static bool has_started;
+
+/* The number in an environment variable, or one that no request has. */
+static unsigned long number_in(const char *name)
+{
+    const char *text = getenv(name);
+    return text == NULL ? ULONG_MAX : strtoul(text, NULL, 10);
+}
+
+__attribute__((constructor)) static void start(void)
+{
+    refuse_at = number_in("REFUSE_AT");
+    refuse_from = number_in("REFUSE_FROM");
+    has_started = true;
+}
+
+__attribute__((destructor)) static void write_count(void)
+{
+    unsigned long count = atomic_load(&requests);
+    const char *path = getenv("COUNT_FILE");
+    if (path == NULL)
+        return;
+    int file = open(path, O_WRONLY | O_CREAT | O_TRUNC, 0600);
+    if (file < 0)
+        return;
+    char text[32];
+    int length = snprintf(text, sizeof text, "%lu\n", count);
+    if (write(file, text, (size_t)length) != length)
+        _exit(70);
+    close(file);
+}
+
+/* Counts a request, and answers whether it is refused. What the loader asks for before the program is not counted. */
+static bool is_refused(void)
+{
+    if (!has_started)
+        return false;
+    unsigned long request = atomic_fetch_add(&requests, 1) + 1;
+    return request == refuse_at || request >= refuse_from;
+}
+
+static void *no_memory(void)
+{
+    errno = ENOMEM;
+    return NULL;
+}
+
+void *malloc(size_t size)
+{
+    return is_refused() ? no_memory() : __libc_malloc(size);
+}
+
+void *calloc(size_t count, size_t size)
+{
+    return is_refused() ? no_memory() : __libc_calloc(count, size);
+}
+
+void *realloc(void *block, size_t size)
+{
+    return is_refused() ? no_memory() : __libc_realloc(block, size);
+}
+
+void *reallocarray(void *block, size_t count, size_t size)
+{
+    if (is_refused() || (size != 0 && count > SIZE_MAX / size))
+        return no_memory();
+    return __libc_realloc(block, count * size);
+}
+
+int posix_memalign(void **block, size_t alignment, size_t size)
+{
+    void *found = is_refused() ? NULL : __libc_memalign(alignment, size);
+    if (found == NULL)
+        return ENOMEM;
+    *block = found;
+    return 0;
+}
+
+void *aligned_alloc(size_t alignment, size_t size)
+{
+    return is_refused() ? no_memory() : __libc_memalign(alignment, size);
+}
