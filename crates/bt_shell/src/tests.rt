@@ -57,6 +57,35 @@ impl Write for Full<'_> {
     }
 }
 
+// Counts its flushes.
+#[derive(Drop)]
+struct Flushes {
+    count: u32,
+}
+
+impl Write for Flushes {
+    fn write(&mut self, buf: &[u8]) -> io::Result<usize> {
+        Ok(buf.len())
+    }
+
+    fn flush(&mut self) -> io::Result<()> {
+        self.count = self.count.wrapping_add(1);
+        Ok(())
+    }
+}
+
+#[test]
+fn a_flush_reaches_the_stream(rt: HostRuntime) {
+    let mut stream = Flushes { count: 0 };
+    {
+        let mut reader = Counted::new(b"scan primary\ngo\n".as_slice());
+        let mut writer = Counted::new(&mut stream);
+        let result = run_script(rt.alloc(), &mut reader, &mut writer);
+        assert!(rt; result.is_ok());
+    }
+    assert_eq!(rt; stream.count, 1);
+}
+
 // The program's name and more words.
 fn words_of(alloc: Global, more: &[&str]) -> Result<Texts, AllocError> {
     let mut words = Texts::new(alloc);
