@@ -32,7 +32,7 @@ pub use row::{read_key, read_row};
 pub use schema::{Column, Columns, MOST_COLUMNS, MOST_KEYS, Schema};
 pub use sequence::Sequence;
 pub use text::{Text, Texts};
-pub use value::{Kind, Row, Value};
+pub use value::{Kind, Row, Value, copy_row};
 
 #[cfg(test)]
 mod tests;

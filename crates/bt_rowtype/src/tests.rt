@@ -97,6 +97,8 @@ fn rows(rt: HostRuntime) -> Result<(), Fail> {
     assert!(rt; matches!(&schema.check_row(4, &short), Err(Refusal::BadLength(4))));
     let whole = Row::new(vec![in alloc; Value::Int(1), Value::Int(2)]?);
     assert!(rt; schema.check_row(4, &whole).is_ok());
+    let copy = copy_row(alloc, &whole)?;
+    assert!(rt; matches!(copy.as_slice(), [Value::Int(1), Value::Int(2)]));
     Ok(())
 }
 

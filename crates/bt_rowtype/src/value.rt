@@ -1,6 +1,7 @@
 //! Kinds, values and rows.
-ghost use Rattle.std.specs.Prelude.{◌≡◌};
+ghost use Rattle.std.specs.Prelude.{◌≡◌, IfOk};
 
+use std::alloc::{AllocError, Global};
 use std::marker::Model;
 
 /// What the values of a column are.
@@ -52,4 +53,24 @@ impl Row {
         let Row { values } = self;
         values
     }
+}
+
+fn copy_value(value: &Value) -> Value
+    ensures { result ≡ value.now }
+{
+    match value {
+        Value::Int(number) => Value::Int(*number),
+    }
+}
+
+/// A copy of the row.
+pub fn copy_row(alloc: Global, row: &Row) -> Result<Row, AllocError>
+    ensures { IfOk result (λ copy. copy ≡ row.now) }
+{
+    let values = row.as_slice();
+    let mut copies = Vec::with_capacity(alloc, values.len())?;
+    for value in values {
+        copies.push(copy_value(value))?;
+    }
+    Ok(Row::new(copies))
 }

@@ -1,0 +1,3 @@
+pub mod Codes
+pub mod Hex
+pub mod Keys

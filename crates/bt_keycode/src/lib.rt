@@ -1,0 +1,20 @@
+//! Keys as bytes: the code of a list of values, whose order byte by byte is the order of the lists.
+//!
+//! A tree compares keys and never looks into them, so the values of a key become one [`Key`]. The code of an int is eight
+//! bytes, big endian, with the sign bit inverted; a list has the codes of its values one after the other. No code is the
+//! beginning of another one of the same kinds.
+//!
+//! ```text
+//! let key = encode(alloc, &[Value::Int(3)])?;
+//! key.write_hex(&mut out)?;               // 8000000000000003
+//! let other = encode(alloc, &[Value::Int(-1)])?;
+//! other.compare(&key)                     // Less
+//! ```
+#![tactic(auto)]
+
+mod code;
+mod hex;
+mod key;
+
+pub use code::{cmp_rows, encode};
+pub use key::Key;
