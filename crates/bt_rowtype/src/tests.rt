@@ -1,7 +1,7 @@
 //! The public calls once each, on values worked out by hand.
 use crate::{
-    Column, Columns, Fields, Kind, Refusal, Row, Schema, Text, Texts, Value, read_field, read_key,
-    read_record, read_row, write_record,
+    Column, Columns, Fields, Kind, Refusal, Row, Schema, Text, Texts, Value, copy_row, read_field,
+    read_key, read_record, read_row, write_record,
 };
 use std::alloc::{AllocError, Global};
 use std::test::Fail;
