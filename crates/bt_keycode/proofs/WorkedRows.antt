@@ -1,5 +1,5 @@
 -- Codes, computed.
-use Rattle.std.proofs.Common.{◌≡◌, List, ℕ, [], ◌∷◌, pos, negsuc, refl, codes}
+use Rattle.std.proofs.Common.{◌≡◌, [], ◌∷◌, pos, negsuc, refl, codes}
 use Rattle.bt_rowtype.specs.declared.value.Value.TheVariants as value
 use Rattle.bt_keycode.specs.Codes.{code_of}
 use Rattle.bt_keycode.specs.Hex.{hex_text}

@@ -1,4 +1,4 @@
-use Rattle.std.proofs.Common.{◌≡◌, arith}
+use Rattle.std.proofs.Common.{arith}
 use Rattle.std.proofs.lemmas.Grind.{common_steps}
 use Rattle.bt_keycode.proofs.Codes.{codes_compare}
 use Rattle.bt_keycode.proofs.code.cmp_rows.Goals as goal

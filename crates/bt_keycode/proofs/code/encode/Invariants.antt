@@ -1,4 +1,4 @@
-use Rattle.std.proofs.Common.{◌≡◌, take, drop, ◌++◌}
+use Rattle.std.proofs.Common.{◌≡◌, drop, ◌++◌}
 use Rattle.bt_keycode.specs.Codes.{code_of}
 use Rattle.bt_keycode.proofs.code.encode.Given as goal
 

@@ -1,4 +1,4 @@
-use Rattle.std.proofs.Common.{◌≡◌, ℕ, ◌<◌, ◌∷◌, [], List, get_or, length, sym, ap, ◌∙◌, rules, refl}
+use Rattle.std.proofs.Common.{ℕ, ◌<◌, ◌∷◌, [], List, get_or, rules, refl}
 use Rattle.std.proofs.lemmas.Nat.{be_bytes_8}
 use Rattle.bt_keycode.specs.Keys.{eight_bytes}
 use Rattle.bt_keycode.proofs.Paddings.{are_small, first_eight-places}

@@ -1,4 +1,4 @@
-use Rattle.std.proofs.Common.{◌≡◌, ℕ, ◌<◌, ◌^◌, sym, ap, ◌∙◌, rules}
+use Rattle.std.proofs.Common.{◌<◌, ◌^◌, ap, rules}
 use Rattle.std.specs.Cmp.Lexicographic.{slice_cmp}
 use Rattle.std.specs.Ordering.{nat_cmp, ordering_then}
 use Rattle.bt_keycode.proofs.Kept.{heads_decide, rests_decide}

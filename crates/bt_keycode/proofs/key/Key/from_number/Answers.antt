@@ -1,4 +1,3 @@
-use Rattle.std.proofs.Common.{◌≡◌}
 use Rattle.bt_keycode.proofs.Kept.{gives_back, is_kept, number_kept}
 use Rattle.bt_keycode.proofs.key.Key.from_number.Goals as goal
 

@@ -1,4 +1,3 @@
-use Rattle.std.proofs.Common.{◌≡◌}
 use Rattle.bt_keycode.proofs.Kept.{is_kept, none_kept}
 use Rattle.bt_keycode.proofs.key.Key.new.Goals as goal
 

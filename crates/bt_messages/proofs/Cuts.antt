@@ -1,0 +1,179 @@
+-- Sorted messages cut at keys.
+use Rattle.std.proofs.Common.{◌≡◌, ℕ, zero, suc, ◌<◌, ◌≤◌, Bool, true, false, not, ◌&&◌, cond, List, [], ◌∷◌, ◌++◌, length, take, drop, get_or, Option, Some, None, refl, sym, ap, subst, ◌∙◌, true≢false, arith}
+use Rattle.std.specs.List.{filter}
+use Rattle.std.specs.List.Sorted.{IsPartitionedBy, IsPartitionPoint}
+use Rattle.bt_messages.specs.Messages.{AllFrom, IsSorted, Messages, is_at_or_past, is_before, is_short_of, messages_before, messages_between, messages_from, messages_outside, with_messages}
+use Rattle.bt_messages.proofs.Order.{later_chain, not_after, not_before_itself}
+use Rattle.bt_messages.proofs.Placed.{first_stays, from_earlier}
+
+module _ {M : Type 0} where
+  -- ---- a search for a key
+
+  from_first : (k : List ℕ) (ms : Messages M) (j : ℕ) (d : List ℕ × M) → AllFrom k ms → j < length ms → is_before (get_or ms j d).0 k ≡ false
+  from_first k [] j d h l = absurd (omega arith)
+  from_first k (m ∷ ms) zero d h l = h.0
+  from_first k (m ∷ ms) (suc j) d h l = from_first k ms j d h.1 (omega arith)
+
+  in_order : (ms : Messages M) (i j : ℕ) (d : List ℕ × M) → IsSorted ms → i ≤ j → j < length ms → is_before (get_or ms j d).0 (get_or ms i d).0 ≡ false
+  in_order [] i j d h l n = absurd (omega arith)
+  in_order (m ∷ ms) zero zero d h l n = not_before_itself m.0
+  in_order (m ∷ ms) zero (suc j) d h l n = from_first m.0 ms j d h.0 (omega arith)
+  in_order (m ∷ ms) (suc i) zero d h l n = absurd (omega arith)
+  in_order (m ∷ ms) (suc i) (suc j) d h l n = in_order ms i j d h.1 (omega arith) (omega arith)
+
+  -- what has a key before one stands first
+  pub parted : (k : List ℕ) (ms : Messages M) → IsSorted ms → IsPartitionedBy (λ m. is_before m.0 k) ms
+  parted k ms h i j d l n e = go (is_before (get_or ms i d).0 k) refl
+    where
+      go : (t : Bool) → is_before (get_or ms i d).0 k ≡ t → is_before (get_or ms i d).0 k ≡ true
+      go true f = f
+      go false f = absurd (true≢false (sym e ∙ later_chain k (get_or ms i d).0 (get_or ms j d).0 f (in_order ms i j d h l n)))
+
+module _ {X : Type 0} (p : X → Bool) where
+  none_passes : (xs : List X) → ((j : ℕ) (d : X) → 0 ≤ j → j < length xs → p (get_or xs j d) ≡ false) → ([] ≡ filter p xs) × (xs ≡ filter (λ x. not (p x)) xs)
+  none_passes [] h = (refl, refl)
+  none_passes (x ∷ xs) h =
+      let here : p x ≡ false = h 0 x (omega arith) (omega arith) in
+      let others = none_passes xs (λ j d l m. h (suc j) d (omega arith) (omega arith)) in (
+        others.0 ∙ ap (λ b. cond b (x ∷ filter p xs) (filter p xs)) (sym here),
+        ap (λ ys. x ∷ ys) others.1 ∙ ap (λ b. cond (not b) (x ∷ filter (λ y. not (p y)) xs) (filter (λ y. not (p y)) xs)) (sym here),
+      )
+
+  -- where a test turns from true to false, its two filters are the two parts
+  pub parts_are : (xs : List X) (n : ℕ) → IsPartitionPoint (λ x. p x ≡ true) (λ x. p x ≡ false) xs n → (take n xs ≡ filter p xs) × (drop n xs ≡ filter (λ x. not (p x)) xs)
+  parts_are xs zero h = none_passes xs h.1
+  parts_are [] (suc n) h = (refl, refl)
+  parts_are (x ∷ xs) (suc n) h =
+      let here : p x ≡ true = h.0 0 x (omega arith) (omega arith) in
+      let others = parts_are xs n ((λ k d l m. h.0 (suc k) d (omega arith) (omega arith)), (λ k d l m. h.1 (suc k) d (omega arith) (omega arith))) in (
+        ap (λ ys. x ∷ ys) others.0 ∙ ap (λ b. cond b (x ∷ filter p xs) (filter p xs)) (sym here),
+        others.1 ∙ ap (λ b. cond (not b) (x ∷ filter (λ y. not (p y)) xs) (filter (λ y. not (p y)) xs)) (sym here),
+      )
+
+  pub filter_both : (q : X → Bool) (xs : List X) → filter (λ x. q x && p x) xs ≡ filter q (filter p xs)
+  filter_both q [] = refl
+  filter_both q (x ∷ xs) = elim (p x) as (λ b. cond (q x && b) (x ∷ filter (λ y. q y && p y) xs) (filter (λ y. q y && p y) xs) ≡ filter q (cond b (x ∷ filter p xs) (filter p xs))) [
+    | true ↦ elim (q x) as (λ b. cond (b && true) (x ∷ filter (λ y. q y && p y) xs) (filter (λ y. q y && p y) xs) ≡ cond b (x ∷ filter q (filter p xs)) (filter q (filter p xs))) [
+      | true ↦ ap (λ ys. x ∷ ys) (filter_both q xs)
+      | false ↦ filter_both q xs
+    ]
+    | false ↦ elim (q x) as (λ b. cond (b && false) (x ∷ filter (λ y. q y && p y) xs) (filter (λ y. q y && p y) xs) ≡ filter q (filter p xs)) [
+      | true ↦ filter_both q xs
+      | false ↦ filter_both q xs
+    ]
+  ]
+
+  pub filter_all : (xs : List X) → ((x : X) → p x ≡ true) → filter p xs ≡ xs
+  filter_all [] h = refl
+  filter_all (x ∷ xs) h = ap (λ b. cond b (x ∷ filter p xs) (filter p xs)) (h x) ∙ ap (λ ys. x ∷ ys) (filter_all xs h)
+
+  pub filter_none : (xs : List X) → ((x : X) → p x ≡ false) → filter p xs ≡ []
+  filter_none [] h = refl
+  filter_none (x ∷ xs) h = ap (λ b. cond b (x ∷ filter p xs) (filter p xs)) (h x) ∙ filter_none xs h
+
+  pub filter_not_not : (xs : List X) → filter (λ x. not (not (p x))) xs ≡ filter p xs
+  filter_not_not [] = refl
+  filter_not_not (x ∷ xs) = elim (p x) as (λ b. cond (not (not b)) (x ∷ filter (λ y. not (not (p y))) xs) (filter (λ y. not (not (p y))) xs) ≡ cond b (x ∷ filter p xs) (filter p xs)) [
+    | true ↦ ap (λ ys. x ∷ ys) (filter_not_not xs)
+    | false ↦ filter_not_not xs
+  ]
+
+module _ {M : Type 0} where
+  -- ---- a part of sorted messages
+
+  all_from-filter : (p : (List ℕ × M) → Bool) (k : List ℕ) (ms : Messages M) → AllFrom k ms → AllFrom k (filter p ms)
+  all_from-filter p k [] h = tt
+  all_from-filter p k (m ∷ ms) h = elim (p m) as (λ b. AllFrom k (cond b (m ∷ filter p ms) (filter p ms))) [
+    | true ↦ (h.0, all_from-filter p k ms h.1)
+    | false ↦ all_from-filter p k ms h.1
+  ]
+
+  pub filter_sorted : (p : (List ℕ × M) → Bool) (ms : Messages M) → IsSorted ms → IsSorted (filter p ms)
+  filter_sorted p [] h = tt
+  filter_sorted p (m ∷ ms) h = elim (p m) as (λ b. IsSorted (cond b (m ∷ filter p ms) (filter p ms))) [
+    | true ↦ (all_from-filter p m.0 ms h.0, filter_sorted p ms h.1)
+    | false ↦ filter_sorted p ms h.1
+  ]
+
+  -- ---- the messages outside a range
+
+  past_the_end : (to : Option (List ℕ)) (k : List ℕ) (ms : Messages M) → is_short_of to k ≡ false → AllFrom k ms → filter (λ (m : List ℕ × M). is_short_of to m.0) ms ≡ []
+  past_the_end to k [] e h = refl
+  past_the_end None k (m ∷ ms) e h = absurd (true≢false e)
+  past_the_end (Some bound) k (m ∷ ms) e h =
+      ap (λ b. cond b (m ∷ filter (λ (n : List ℕ × M). is_before n.0 bound) ms) (filter (λ (n : List ℕ × M). is_before n.0 bound) ms)) (later_chain bound k m.0 e h.0)
+      ∙ past_the_end (Some bound) k ms e h.1
+
+  -- they are those before its first bound, and those from its second one on
+  pub outside_is : (from to : Option (List ℕ)) (ms : Messages M) → IsSorted ms →
+      messages_outside from to ms ≡ filter (λ (m : List ℕ × M). not (is_at_or_past from m.0)) (filter (λ (m : List ℕ × M). is_short_of to m.0) ms) ++ filter (λ (m : List ℕ × M). not (is_short_of to m.0)) ms
+  outside_is from to [] h = refl
+  outside_is from to (m ∷ ms) h =
+      let others = outside_is from to ms h.1 in
+      elim (is_short_of to m.0) as (λ s. is_short_of to m.0 ≡ s →
+      cond (not (is_at_or_past from m.0 && s)) (m ∷ messages_outside from to ms) (messages_outside from to ms)
+      ≡ filter (λ (n : List ℕ × M). not (is_at_or_past from n.0)) (cond s (m ∷ filter (λ (n : List ℕ × M). is_short_of to n.0) ms) (filter (λ (n : List ℕ × M). is_short_of to n.0) ms))
+      ++ cond (not s) (m ∷ filter (λ (n : List ℕ × M). not (is_short_of to n.0)) ms) (filter (λ (n : List ℕ × M). not (is_short_of to n.0)) ms)) [
+        | true ↦ λ e. elim (is_at_or_past from m.0) as (λ a.
+            cond (not (a && true)) (m ∷ messages_outside from to ms) (messages_outside from to ms)
+            ≡ cond (not a) (m ∷ filter (λ (n : List ℕ × M). not (is_at_or_past from n.0)) (filter (λ (n : List ℕ × M). is_short_of to n.0) ms)) (filter (λ (n : List ℕ × M). not (is_at_or_past from n.0)) (filter (λ (n : List ℕ × M). is_short_of to n.0) ms))
+            ++ filter (λ (n : List ℕ × M). not (is_short_of to n.0)) ms) [
+              | true ↦ others
+              | false ↦ ap (λ zs. m ∷ zs) others
+            ]
+        | false ↦ λ e.
+            let none = past_the_end to m.0 ms e h.0 in
+            let rest = ap (λ zs. m ∷ zs) (others ∙ ap (λ zs. filter (λ (n : List ℕ × M). not (is_at_or_past from n.0)) zs ++ filter (λ (n : List ℕ × M). not (is_short_of to n.0)) ms) none)
+            ∙ sym (ap (λ zs. filter (λ (n : List ℕ × M). not (is_at_or_past from n.0)) zs ++ m ∷ filter (λ (n : List ℕ × M). not (is_short_of to n.0)) ms) none) in
+            elim (is_at_or_past from m.0) as (λ a.
+            cond (not (a && false)) (m ∷ messages_outside from to ms) (messages_outside from to ms)
+            ≡ filter (λ (n : List ℕ × M). not (is_at_or_past from n.0)) (filter (λ (n : List ℕ × M). is_short_of to n.0) ms) ++ m ∷ filter (λ (n : List ℕ × M). not (is_short_of to n.0)) ms) [
+              | true ↦ rest
+              | false ↦ rest
+            ]
+      ] refl
+
+  pub between_is : (from to : Option (List ℕ)) (ms : Messages M) →
+      messages_between from to ms ≡ filter (λ (m : List ℕ × M). is_at_or_past from m.0) (filter (λ (m : List ℕ × M). is_short_of to m.0) ms)
+  between_is from to ms = filter_both (λ (m : List ℕ × M). is_short_of to m.0) (λ (m : List ℕ × M). is_at_or_past from m.0) ms
+
+  -- what is left and what was taken, step by step
+  pub left_is : (from to : Option (List ℕ)) (ms first later left : Messages M) → IsSorted ms →
+      first ≡ filter (λ (m : List ℕ × M). is_short_of to m.0) ms → later ≡ filter (λ (m : List ℕ × M). not (is_short_of to m.0)) ms →
+      left ≡ filter (λ (m : List ℕ × M). not (is_at_or_past from m.0)) first → left ++ later ≡ messages_outside from to ms
+  left_is from to ms first later left h e f g =
+      ap (λ zs. zs ++ later) g ∙ ap (λ zs. filter (λ (m : List ℕ × M). not (is_at_or_past from m.0)) zs ++ later) e
+      ∙ ap (λ zs. filter (λ (m : List ℕ × M). not (is_at_or_past from m.0)) (filter (λ (m : List ℕ × M). is_short_of to m.0) ms) ++ zs) f
+      ∙ sym (outside_is from to ms h)
+
+  pub taken_is : (from to : Option (List ℕ)) (ms first taken : Messages M) →
+      first ≡ filter (λ (m : List ℕ × M). is_short_of to m.0) ms → taken ≡ filter (λ (m : List ℕ × M). is_at_or_past from m.0) first → taken ≡ messages_between from to ms
+  taken_is from to ms first taken e f = f ∙ ap (filter (λ (m : List ℕ × M). is_at_or_past from m.0)) e ∙ sym (between_is from to ms)
+
+  pub sorted_part : (p : (List ℕ × M) → Bool) (ms part : Messages M) → IsSorted ms → part ≡ filter p ms → IsSorted part
+  sorted_part p ms part h e = subst IsSorted (sym e) (filter_sorted p ms h)
+
+  -- ---- newer messages go behind what is before the first of them
+
+  none_before : (k : List ℕ) (e : List ℕ) (ms : Messages M) → is_before e k ≡ false → AllFrom e ms → (messages_before k ms ≡ []) × (messages_from k ms ≡ ms)
+  none_before k e [] f h = (refl, refl)
+  none_before k e (m ∷ ms) f h =
+      let here = later_chain k e m.0 f h.0 in
+      let others = none_before k e ms f h.1 in (
+        ap (λ b. cond b (m ∷ messages_before k ms) (messages_before k ms)) here ∙ others.0,
+        ap (λ b. cond (not b) (m ∷ messages_from k ms) (messages_from k ms)) here ∙ ap (λ zs. m ∷ zs) others.1,
+      )
+
+  pub behind : (k : List ℕ) (newer older : Messages M) → AllFrom k newer → IsSorted older → messages_before k older ++ with_messages newer (messages_from k older) ≡ with_messages newer older
+  behind k newer [] h i = refl
+  behind k newer (e ∷ es) h i = elim (is_before e.0 k) as (λ t. is_before e.0 k ≡ t →
+      cond t (e ∷ messages_before k es) (messages_before k es) ++ with_messages newer (cond (not t) (e ∷ messages_from k es) (messages_from k es)) ≡ with_messages newer (e ∷ es)) [
+        | true ↦ λ t. ap (λ zs. e ∷ zs) (behind k newer es h i.1) ∙ sym (first_stays e newer es (from_earlier e.0 k newer (not_after e.0 k t) h))
+        | false ↦ λ t.
+            let others = none_before k e.0 es t i.0 in
+            ap (λ zs. zs ++ with_messages newer (e ∷ messages_from k es)) others.0 ∙ ap (λ zs. with_messages newer (e ∷ zs)) others.1
+      ] refl
+
+  pub all_from_first : (m : List ℕ × M) (ms : Messages M) → IsSorted ms → m ≡ get_or ms 0 m → AllFrom m.0 ms
+  all_from_first m [] h e = tt
+  all_from_first m (n ∷ ns) h e = subst (λ (k : List ℕ × M). AllFrom k.0 (n ∷ ns)) (sym e) (not_before_itself n.0, h.0)

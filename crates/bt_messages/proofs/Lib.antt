@@ -1,0 +1,7 @@
+pub mod Cuts
+pub mod Merging
+pub mod Order
+pub mod Placed
+pub mod Rows
+pub mod Stable
+pub mod WorkedRows

@@ -1,0 +1,227 @@
+//! Buffers: what waits at a node.
+ghost use Rattle.std.specs.Prelude.{◌≡◌, ◌==◌, ◌<◌, [], Some, IfOk, OnOk, OnErr, length, slice_get};
+ghost use Rattle.bt_messages.specs.Messages.{messages_between, messages_outside, with_messages};
+ghost use Rattle.std.specs.Option.{option_copied};
+
+use crate::message::{Merge, Message};
+use crate::packet::Packet;
+use crate::sorted;
+use bt_keycode::Key;
+use std::alloc::{AllocError, Global};
+use std::marker::Model;
+
+/// Messages that wait, sorted by key, those of one key in the order in which they came.
+#[derive(Drop)]
+pub struct Buffer<V: Merge> {
+    messages: Vec<(Key, Message<V>)>,
+}
+
+impl<V: Merge> Model for Buffer<V> {
+    ghost use Rattle.std.specs.Prelude.{List, ℕ};
+    ghost use Rattle.bt_messages.specs.Messages.{IsSorted};
+    ghost use Rattle.bt_messages.specs.declared.message.Message.{Message};
+
+    ghost Value = { List (List ℕ × Message V) };
+
+    ghost view = { λ b. b.messages.items };
+
+    ghost invariant = { λ b. IsSorted b.messages.items };
+}
+
+impl<V: Merge> Buffer<V> {
+    /// No message.
+    pub fn new(alloc: Global) -> Self
+        ensures { result ≡ [] }
+    {
+        Buffer {
+            messages: Vec::new(alloc),
+        }
+    }
+
+    /// The number of messages.
+    pub fn count(&self) -> usize
+        ensures { result ≡ length self.now }
+    {
+        self.messages.len()
+    }
+
+    /// The message at a place, counted from 0, and its key.
+    pub fn get(&self, place: usize) -> (&Key, &Message<V>)
+        requires { place < length self.now }
+        ensures { slice_get self.now place ≡ Some (result.0.now, result.1.now) }
+    {
+        let entry = &self.messages[place];
+        (&entry.0, &entry.1)
+    }
+
+    /// Adds the messages of a packet, each after those of its key. An `Err` changes nothing, and the packet is gone.
+    pub fn add(&mut self, packet: Packet<V>) -> Result<(), AllocError>
+        ensures ok { OnOk result (self.new ≡ with_messages packet self.old) }
+        ensures err { OnErr result (self.new ≡ self.old) }
+    {
+        sorted::add(&mut self.messages, packet.into_messages())
+    }
+
+    /// Takes out the messages with a key at or past `from` and before `to`, in order. A bound that is absent doesn't limit.
+    /// An `Err` changes nothing.
+    pub fn take_range(
+        &mut self,
+        alloc: Global,
+        from: Option<&Key>,
+        to: Option<&Key>,
+    ) -> Result<Packet<V>, AllocError>
+        ensures taken { IfOk result (λ packet. packet ≡ messages_between (option_copied from.entry) (option_copied to.entry) self.old) }
+        ensures left { OnOk result (self.new ≡ messages_outside (option_copied from.entry) (option_copied to.entry) self.old) }
+        ensures err { OnErr result (self.new ≡ self.old) }
+    {
+        if self.messages.is_empty() {
+            return Ok(Packet::new(alloc));
+        }
+        let taken = sorted::take_between(&mut self.messages, from, to)?;
+        Ok(Packet::from_sorted(taken))
+    }
+}
+
+#[cfg(test)]
+mod tests {
+    use super::*;
+    use crate::message::effect;
+    use bt_keycode::encode;
+    use bt_rowtype::{Row, Value, copy_row};
+    use std::cmp::Ordering;
+    use std::test::Fail;
+
+    fn key_of(alloc: Global, number: i64) -> Result<Key, AllocError> {
+        encode(alloc, &[Value::Int(number)])
+    }
+
+    fn row_of(alloc: Global, number: i64, other: i64) -> Result<Row, AllocError> {
+        Ok(Row::new(vec![in alloc; Value::Int(number), Value::Int(other)]?))
+    }
+
+    fn put(alloc: Global, number: i64) -> Result<(Key, Message<Row>), AllocError> {
+        let row = row_of(alloc, number, number)?;
+        Ok((key_of(alloc, number)?, Message::Put(row)))
+    }
+
+    fn del(alloc: Global, number: i64) -> Result<(Key, Message<Row>), AllocError> {
+        Ok((key_of(alloc, number)?, Message::Del))
+    }
+
+    fn is_put(
+        alloc: Global,
+        buffer: &Buffer<Row>,
+        place: usize,
+        number: i64,
+    ) -> Result<bool, AllocError> {
+        if buffer.count() <= place {
+            return Ok(false);
+        }
+        let (key, message) = buffer.get(place);
+        Ok(
+            key.compare(&key_of(alloc, number)?) == Ordering::Equal
+                && matches!(message, Message::Put(_)),
+        )
+    }
+
+    fn is_del(
+        alloc: Global,
+        buffer: &Buffer<Row>,
+        place: usize,
+        number: i64,
+    ) -> Result<bool, AllocError> {
+        if buffer.count() <= place {
+            return Ok(false);
+        }
+        let (key, message) = buffer.get(place);
+        Ok(
+            key.compare(&key_of(alloc, number)?) == Ordering::Equal
+                && matches!(message, Message::Del),
+        )
+    }
+
+    fn buffer_of(
+        alloc: Global,
+        batch: Vec<(Key, Message<Row>)>,
+    ) -> Result<Buffer<Row>, AllocError> {
+        let mut buffer = Buffer::new(alloc);
+        buffer.add(Packet::from_batch(alloc, batch)?)?;
+        Ok(buffer)
+    }
+
+    #[test]
+    fn a_batch_is_sorted_by_key(rt: HostRuntime) -> Result<(), Fail> {
+        let alloc = rt.alloc();
+        let batch = vec![in alloc; put(alloc, 2)?, del(alloc, 1)?, del(alloc, 2)?]?;
+        let packet = Packet::from_batch(alloc, batch)?;
+        assert_eq!(rt; packet.len(), 3);
+        let mut buffer = Buffer::new(alloc);
+        buffer.add(packet)?;
+        assert!(rt; is_del(alloc, &buffer, 0, 1)?);
+        assert!(rt; is_put(alloc, &buffer, 1, 2)?);
+        assert!(rt; is_del(alloc, &buffer, 2, 2)?);
+        Ok(())
+    }
+
+    #[test]
+    fn newer_messages_come_after_older_ones(rt: HostRuntime) -> Result<(), Fail> {
+        let alloc = rt.alloc();
+        let mut buffer = buffer_of(alloc, vec![in alloc; put(alloc, 1)?]?)?;
+        let batch = vec![in alloc; put(alloc, 0)?, del(alloc, 1)?]?;
+        buffer.add(Packet::from_batch(alloc, batch)?)?;
+        assert_eq!(rt; buffer.count(), 3);
+        assert!(rt; is_put(alloc, &buffer, 0, 0)?);
+        assert!(rt; is_put(alloc, &buffer, 1, 1)?);
+        assert!(rt; is_del(alloc, &buffer, 2, 1)?);
+
+        let one = key_of(alloc, 1)?;
+        let taken = buffer.take_range(alloc, Some(&one), None)?;
+        assert_eq!(rt; buffer.count(), 1);
+        let mut other = Buffer::new(alloc);
+        other.add(taken)?;
+        assert!(rt; is_put(alloc, &other, 0, 1)?);
+        assert!(rt; is_del(alloc, &other, 1, 1)?);
+        Ok(())
+    }
+
+    #[test]
+    fn a_range_between_two_keys(rt: HostRuntime) -> Result<(), Fail> {
+        let alloc = rt.alloc();
+        let batch = vec![in alloc;
+            put(alloc, 5)?,
+            put(alloc, 1)?,
+            put(alloc, 3)?,
+            del(alloc, 3)?,
+        ]?;
+        let mut buffer = buffer_of(alloc, batch)?;
+        let (three, five) = (key_of(alloc, 3)?, key_of(alloc, 5)?);
+        assert!(rt;
+            buffer
+                .take_range(alloc, Some(&five), Some(&three))?
+                .is_empty()
+        );
+        assert_eq!(rt;
+            buffer.take_range(alloc, Some(&three), Some(&five))?.len(),
+            2
+        );
+        assert_eq!(rt; buffer.count(), 2);
+        assert!(rt; is_put(alloc, &buffer, 1, 5)?);
+        assert_eq!(rt; buffer.take_range(alloc, None, None)?.len(), 2);
+        assert!(rt; buffer.take_range(alloc, None, None)?.is_empty());
+        Ok(())
+    }
+
+    #[test]
+    fn what_messages_make_of_rows(rt: HostRuntime) -> Result<(), Fail> {
+        let alloc = rt.alloc();
+        let row = row_of(alloc, 1, 2)?;
+        let copy = copy_row(alloc, &row)?;
+        assert!(rt; matches!(copy.as_slice(), [Value::Int(1), Value::Int(2)]));
+        assert!(rt; effect::<Row>(None, Message::Del).is_none());
+        assert!(rt; effect(None, Message::Put(copy)).is_some());
+        let message = Message::Put(row);
+        assert!(rt; effect(Some(row_of(alloc, 7, 7)?), message.copy(alloc)?).is_some());
+        assert!(rt; effect(Some(row_of(alloc, 7, 7)?), Message::Del).is_none());
+        Ok(())
+    }
+}

@@ -1,0 +1,24 @@
+//! Messages that wait on their way to the rows of their keys: put and del, packets of them, and buffers.
+//!
+//! A message is sent to a key. What it makes of the value there is its effect: a put gives its own value, a del gives none.
+//! A [`Packet`] and a [`Buffer`] hold messages sorted by key, and those of one key in the order in which they came, so that
+//! the later one is the newer.
+//!
+//! ```text
+//! let mut batch = Vec::new(alloc);
+//! batch.push((encode(alloc, &[Value::Int(2)])?, Message::Put(row)))?;
+//! batch.push((encode(alloc, &[Value::Int(1)])?, Message::Del))?;
+//! let mut buffer = Buffer::new(alloc);
+//! buffer.add(Packet::from_batch(alloc, batch)?)?;
+//! let (key, message) = buffer.get(0);     // the del of 1
+//! ```
+#![tactic(auto)]
+
+mod buffer;
+mod message;
+mod packet;
+mod sorted;
+
+pub use buffer::Buffer;
+pub use message::{Merge, Message, effect};
+pub use packet::Packet;

@@ -1,0 +1,77 @@
+//! Packets: what is sent on at one time.
+ghost use Rattle.std.specs.Prelude.{◌≡◌, ◌==◌, [], IfOk, length};
+ghost use Rattle.bt_messages.specs.Messages.{IsSorted, sorted_batch};
+
+use crate::message::{Merge, Message};
+use crate::sorted;
+use bt_keycode::Key;
+use std::alloc::{AllocError, Global};
+use std::marker::Model;
+
+/// Messages on the way down, sorted by key, those of one key in the order in which they came.
+#[derive(Drop)]
+pub struct Packet<V: Merge> {
+    messages: Vec<(Key, Message<V>)>,
+}
+
+impl<V: Merge> Model for Packet<V> {
+    ghost use Rattle.std.specs.Prelude.{List, ℕ};
+    ghost use Rattle.bt_messages.specs.Messages.{IsSorted};
+    ghost use Rattle.bt_messages.specs.declared.message.Message.{Message};
+
+    ghost Value = { List (List ℕ × Message V) };
+
+    ghost view = { λ p. p.messages.items };
+
+    ghost invariant = { λ p. IsSorted p.messages.items };
+}
+
+impl<V: Merge> Packet<V> {
+    /// No message.
+    pub fn new(alloc: Global) -> Self
+        ensures { result ≡ [] }
+    {
+        Packet {
+            messages: Vec::new(alloc),
+        }
+    }
+
+    /// The messages of a batch, in the order in which they came.
+    pub fn from_batch(alloc: Global, batch: Vec<(Key, Message<V>)>) -> Result<Self, AllocError>
+        ensures { IfOk result (λ packet. packet ≡ sorted_batch batch.items) }
+    {
+        let mut messages = batch;
+        sorted::sort(&mut messages)?;
+        Ok(Packet { messages })
+    }
+
+    /// The number of messages.
+    pub fn len(&self) -> usize
+        ensures { result ≡ length self.now }
+    {
+        self.messages.len()
+    }
+
+    pub fn is_empty(&self) -> bool
+        ensures { result ≡ (length self.now == 0) }
+    {
+        self.messages.is_empty()
+    }
+
+    // The packet of messages that are sorted by key.
+    pub(crate) fn from_sorted(messages: Vec<(Key, Message<V>)>) -> Self
+        requires { IsSorted messages.items }
+        ensures { result ≡ messages.items }
+    {
+        Packet { messages }
+    }
+
+    /// The messages and their keys, in order.
+    pub fn into_messages(self) -> Vec<(Key, Message<V>)>
+        ensures messages { result.items ≡ self }
+        ensures sorted { IsSorted result.items }
+    {
+        let Packet { messages } = self;
+        messages
+    }
+}

@@ -1,0 +1,11 @@
+use Rattle.std.proofs.Common.{◌≡◌, drop, length, vec_len}
+use Rattle.bt_node.specs.Plans.{marks_of, planned, set_all}
+use Rattle.bt_node.proofs.planning.flush_marks.Given as goal
+
+-- what is left to mark
+abbrev pub invariant-loop-place : goal.invariant-loop-place
+invariant-loop-place l = record {
+  long : vec_len l.marks ≡ length l.counts;
+  places : l.place-items ≡ planned l.counts l.capacity;
+  marks : set_all (drop l.place-index l.place-items) l.marks.items ≡ marks_of (length l.counts) (planned l.counts l.capacity);
+}

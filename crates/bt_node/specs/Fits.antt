@@ -1,0 +1,65 @@
+-- Trees whose keys lie in their places, and whose nodes are no larger than their shape allows.
+use Rattle.std.specs.Prelude.{◌≡◌, ℕ, zero, suc, ◌≤◌, List, [], ◌∷◌, length}
+use Rattle.std.specs.declared.option.Option.{Option}
+use Rattle.std.specs.declared.option.Option.TheVariants.{None}
+use Rattle.bt_node.specs.Keys.{Key, Within, AllWithin, IsRising, SideBySide}
+use Rattle.bt_node.specs.Messages.{Rows}
+use Rattle.bt_node.specs.Trees.{Shape, Tree, leaf, inner, Nodes, none, node, Siblings, children, nodes, height}
+
+-- keys strictly rising from the one limit to the other
+abbrev pub RowsLie : {V : Type 0} → Option Key → Option Key → Rows V → Type 0
+RowsLie = SideBySide (λ r. r.0) (λ low high r. Within low high r.0)
+
+-- one node or more, and the first stands behind the empty key
+abbrev pub IsLed : {X : Type 0} → List (Key × X) → Type 0
+IsLed [] = ⊥
+IsLed (x ∷ xs) = x.0 ≡ []
+
+-- All leaves are this many levels below the root. Keys, of rows and messages, and pivots lie between the limits; each child's between the pivots
+-- around it. Rows, pivots and messages are in order.
+abbrev pub Lies : {V M : Type 0} → ℕ → Option Key → Option Key → Tree V M → Type 0
+Lies zero low high (leaf rows) = RowsLie low high rows
+Lies zero low high (inner ns buffer) = ⊥
+Lies (suc levels) low high (leaf rows) = ⊥
+Lies (suc levels) low high (inner ns buffer) =
+    AllWithin low high buffer × IsRising buffer × SideBySide (λ x. x.0) (λ l h x. Lies levels l h x.1) low high (children ns) × IsLed (children ns)
+
+-- siblings, each with this many levels below it, between the limits
+abbrev pub SiblingsLie : {V M : Type 0} → ℕ → Option Key → Option Key → Siblings V M → Type 0
+SiblingsLie levels = SideBySide (λ x. x.0) (λ l h x. Lies levels l h x.1)
+
+-- no node is larger than the shape allows, and no inner node has fewer than two children
+abbrev mutual
+  pub IsSized : {V M : Type 0} → Shape → Tree V M → Type 0
+  IsSized shape (leaf rows) = length rows ≤ shape.leaf
+  IsSized shape (inner ns buffer) =
+      (2 ≤ length (children ns)) × (length (children ns) ≤ shape.fanout) × (length buffer ≤ shape.buffer) × AreSized shape ns
+
+  pub AreSized : {V M : Type 0} → Shape → Nodes V M → Type 0
+  AreSized shape none = Unit {0}
+  AreSized shape (node k t ns) = IsSized shape t × AreSized shape ns
+
+-- a node that fits between two limits, with this many levels below it
+pub record NodeFits {V M : Type 0} (shape : Shape) (levels : ℕ) (low high : Option Key) (t : Tree V M) : Type 0 where
+  pub lies : Lies levels low high t
+  pub sized : IsSized shape t
+
+-- siblings that fit as the children of one node, whatever their number
+pub record SiblingsFit {V M : Type 0} (shape : Shape) (levels : ℕ) (low high : Option Key) (xs : Siblings V M) : Type 0 where
+  pub lie : SiblingsLie levels low high xs
+  pub led : IsLed xs
+  pub sized : AreSized shape (nodes xs)
+
+-- siblings of this height
+abbrev pub AreHigh : {V M : Type 0} → ℕ → Siblings V M → Type 0
+AreHigh high [] = Unit {0}
+AreHigh high (x ∷ xs) = (height x.1 ≡ high) × AreHigh high xs
+
+-- a tree that fits
+abbrev pub IsFit : {V M : Type 0} → Shape → Tree V M → Type 0
+IsFit shape t = (levels : ℕ) × NodeFits shape levels None None t
+
+-- room for three children in an inner node, so that no deal leaves a node with one child, and for a row in a leaf
+pub record IsRoomy (shape : Shape) : Type 0 where
+  pub fanout : 3 ≤ shape.fanout
+  pub leaf : 1 ≤ shape.leaf

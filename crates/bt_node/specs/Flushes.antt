@@ -1,0 +1,105 @@
+-- How a packet of messages goes down a tree.
+use Rattle.std.specs.Prelude.{ℕ, zero, suc, List, [], ◌∷◌, ◌++◌, map, length}
+use Rattle.std.specs.List.{flat_map}
+use Rattle.std.specs.declared.option.Option.{Option}
+use Rattle.bt_node.specs.Keys.{Key}
+use Rattle.bt_node.specs.Messages.{Rows, Messages, rows_after, with_messages, before, from}
+use Rattle.bt_node.specs.Deals.{deal}
+use Rattle.bt_node.specs.Plans.{total}
+use Rattle.bt_node.specs.Loops.{settled}
+use Rattle.bt_node.specs.Trees.{Shape, Tree, leaf, inner, Nodes, none, node, Siblings, children, nodes, height}
+
+-- a child with the messages of its parent's buffer that wait for it
+pub record Child (V M : Type 0) : Type 0 where
+  pub pivot : Key
+  pub tree : Tree V M
+  pub waiting : Messages M
+
+-- what becomes of a node and a packet
+abbrev pub Flush : Type 0 → Type 0 → Type 0
+Flush V M = Tree V M → Messages M → Siblings V M
+
+-- items behind their keys, the first of them behind this key
+abbrev pub pivot_first : {X : Type 0} → Key → List (Key × X) → List (Key × X)
+pivot_first k [] = []
+pivot_first k (x ∷ xs) = (k, x.1) ∷ xs
+
+-- the key of the first item
+abbrev pub first_key : {X : Type 0} → (X → Key) → List X → Key
+first_key key [] = []
+first_key key (x ∷ xs) = key x
+
+module _ {V M : Type 0} where
+  -- Each child with its share of the buffer: a message waits for the child after the last pivot that is at most its key, or for the first child.
+  abbrev pub shared : Siblings V M → Messages M → List (Child V M)
+  shared [] buffer = []
+  shared (x ∷ []) buffer = record { pivot = x.0; tree = x.1; waiting = buffer } ∷ []
+  shared (x ∷ y ∷ ys) buffer = record { pivot = x.0; tree = x.1; waiting = before y.0 buffer } ∷ shared (y ∷ ys) (from y.0 buffer)
+
+  -- how many messages wait for each child
+  abbrev pub counts : List (Child V M) → List ℕ
+  counts = map (λ c. length c.waiting)
+
+  -- what becomes of a child when the messages that wait for it go down, behind its pivot; no messages wait for the parts
+  abbrev pub flushed : Flush V M → Child V M → List (Child V M)
+  flushed flush c = map (λ x. record { pivot = x.0; tree = x.1; waiting = [] }) (pivot_first c.pivot (flush c.tree c.waiting))
+
+  -- While more than the capacity waits, the fullest child is flushed, and the choice is made anew. Each turn sends a message down at least, so there
+  -- are no more turns than messages.
+  abbrev pub flushed_over : Flush V M → ℕ → List (Child V M) → List (Child V M)
+  flushed_over flush capacity cs = settled (λ c. length c.waiting) (flushed flush) capacity (total (counts cs)) cs
+
+  -- neighbouring children under one inner node, what waits for them in its buffer, behind the pivot of the first
+  abbrev pub gathered : List (Child V M) → Key × Tree V M
+  gathered cs =
+      (first_key (λ c. c.pivot) cs, inner (nodes (pivot_first [] (map (λ c. (c.pivot, c.tree)) cs))) (flat_map (λ c. c.waiting) cs))
+
+  -- the children dealt by the fanout, each part under an inner node
+  abbrev pub grouped : Shape → List (Child V M) → Siblings V M
+  grouped shape cs = pivot_first [] (map gathered (deal shape.fanout cs))
+
+  -- the rows dealt by the size of a leaf, each part behind its least key
+  abbrev pub leaves : Shape → Rows V → Siblings V M
+  leaves shape rows = pivot_first [] (map (λ part. (first_key (λ r. r.0) part, leaf part)) (deal shape.leaf rows))
+
+  -- one node for all siblings, with a bound on the levels that are put above them
+  abbrev pub crowned : ℕ → Shape → Siblings V M → Tree V M
+  crowned levels shape [] = leaf []
+  crowned levels shape (x ∷ []) = x.1
+  crowned zero shape (x ∷ y ∷ xs) = x.1
+  crowned (suc levels) shape (x ∷ y ∷ xs) = crowned levels shape (grouped shape (shared (x ∷ y ∷ xs) []))
+
+  -- One node stands for itself. More are dealt by the fanout under inner nodes with empty buffers, again until one is left.
+  abbrev pub crown : Shape → Siblings V M → Tree V M
+  crown shape xs = crowned (length xs) shape xs
+
+module _ {V M : Type 0} (effect : Option V → M → Option V) where
+  -- what becomes of a node and a packet, with a bound on the node's height
+  abbrev pub absorbed : ℕ → Shape → Flush V M
+  absorbed height shape (leaf rows) packet = leaves shape (rows_after effect packet rows)
+  absorbed zero shape (inner ns buffer) packet = ([], inner ns buffer) ∷ []
+  absorbed (suc height) shape (inner ns buffer) packet =
+      grouped shape (flushed_over (absorbed height shape) shape.buffer (shared (children ns) (with_messages packet buffer)))
+
+  -- A leaf's rows after the messages, dealt anew. An inner node takes the packet into its buffer, flushes the fullest child as long as the buffer is
+  -- over capacity, and its children are dealt anew, each part with its share of the buffer.
+  abbrev pub absorb : Shape → Flush V M
+  absorb shape t packet = absorbed (height t) shape t packet
+
+  -- a tree after a packet
+  abbrev pub sunk : Shape → Tree V M → Messages M → Tree V M
+  sunk shape t packet = crown shape (absorb shape t packet)
+
+  -- the rows of a tree when all its messages have had their effect, those of a node after those below it
+  abbrev mutual
+    pub holds : Tree V M → Rows V
+    holds (leaf rows) = rows
+    holds (inner ns buffer) = rows_after effect buffer (nodes_hold ns)
+
+    pub nodes_hold : Nodes V M → Rows V
+    nodes_hold none = []
+    nodes_hold (node k t ns) = holds t ++ nodes_hold ns
+
+  -- the rows of siblings
+  abbrev pub all_hold : Siblings V M → Rows V
+  all_hold = flat_map (λ x. holds x.1)

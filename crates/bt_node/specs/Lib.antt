@@ -1,0 +1,13 @@
+pub mod Deals
+pub mod DrainLaws
+pub mod Drains
+pub mod Fits
+pub mod Flushes
+pub mod Keys
+pub mod Laws
+pub mod Lookups
+pub mod Loops
+pub mod Messages
+pub mod Plans
+pub mod Trees
+pub mod WorkedRows

@@ -1,0 +1,21 @@
+-- The value at a key, looked up along one path from the root.
+use Rattle.std.specs.Prelude.{cond}
+use Rattle.std.specs.FinMap.{find}
+use Rattle.std.specs.declared.option.Option.{Option}
+use Rattle.std.specs.declared.option.Option.TheVariants.{None}
+use Rattle.bt_node.specs.Keys.{Key, key_cmp, key_lt}
+use Rattle.bt_node.specs.Messages.{value_after}
+use Rattle.bt_node.specs.Trees.{Tree, leaf, inner, Nodes, none, node}
+
+module _ {V M : Type 0} (effect : Option V → M → Option V) where
+  -- A leaf has the value among its rows. An inner node has what its messages make of the value that the child has to which the key belongs: the one
+  -- after the last pivot that is at most the key, or the first.
+  abbrev mutual
+    pub value_at : Key → Tree V M → Option V
+    value_at k (leaf rows) = find key_cmp k rows
+    value_at k (inner ns buffer) = value_after effect k buffer (value_below k ns)
+
+    pub value_below : Key → Nodes V M → Option V
+    value_below k none = None
+    value_below k (node p t none) = value_at k t
+    value_below k (node p t (node q u ns)) = cond (key_lt k q) (value_at k t) (value_below k (node q u ns))

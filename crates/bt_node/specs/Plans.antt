@@ -1,0 +1,65 @@
+-- Which children are flushed, by the numbers of messages that wait for them.
+use Rattle.std.specs.Prelude.{ℕ, zero, suc, ◌+◌, max, Bool, true, false, cond, nat_le, nat_eq, List, [], ◌∷◌, set, replicate}
+
+-- the counts together
+abbrev pub total : List ℕ → ℕ
+total [] = 0
+total (n ∷ ns) = n + total ns
+
+-- the largest count
+abbrev pub most : List ℕ → ℕ
+most [] = 0
+most (n ∷ ns) = max n (most ns)
+
+-- the leftmost place of a count
+abbrev pub place_of : ℕ → List ℕ → ℕ
+place_of m [] = 0
+place_of m (n ∷ ns) = cond (nat_eq n m) 0 (suc (place_of m ns))
+
+-- the leftmost place among those with the most messages
+abbrev pub fullest : List ℕ → ℕ
+fullest counts = place_of (most counts) counts
+
+-- each count behind its place, counted from k
+abbrev pub placed : ℕ → List ℕ → List (ℕ × ℕ)
+placed k [] = []
+placed k (n ∷ ns) = (k, n) ∷ placed (suc k) ns
+
+-- a place and its count, put among others by falling count, before its equals
+abbrev pub ranked_in : ℕ × ℕ → List (ℕ × ℕ) → List (ℕ × ℕ)
+ranked_in x [] = x ∷ []
+ranked_in x (y ∷ ys) = cond (nat_le y.1 x.1) (x ∷ y ∷ ys) (y ∷ ranked_in x ys)
+
+-- by falling count, equal counts from left to right
+abbrev pub ranked : List (ℕ × ℕ) → List (ℕ × ℕ)
+ranked [] = []
+ranked (x ∷ xs) = ranked_in x (ranked xs)
+
+-- the counts of these places together
+abbrev pub total_of : List (ℕ × ℕ) → ℕ
+total_of [] = 0
+total_of (x ∷ xs) = x.1 + total_of xs
+
+-- the places of the shortest front after which the other counts are at most the capacity together
+abbrev pub shortest : ℕ → List (ℕ × ℕ) → List ℕ
+shortest capacity [] = []
+shortest capacity (x ∷ xs) = cond (nat_le (x.1 + total_of xs) capacity) [] (x.0 ∷ shortest capacity xs)
+
+-- The children that are flushed, in order: the fullest first, as many as it takes until no more than the capacity waits.
+abbrev pub planned : List ℕ → ℕ → List ℕ
+planned counts capacity = shortest capacity (ranked (placed 0 counts))
+
+-- The same without a plan: while more than the capacity waits, the fullest is emptied, and the choice is made anew. With a bound on the turns.
+abbrev pub renewed : ℕ → ℕ → List ℕ → List ℕ
+renewed capacity zero counts = []
+renewed capacity (suc turns) counts =
+    cond (nat_le (total counts) capacity) [] (fullest counts ∷ renewed capacity turns (set counts (fullest counts) 0))
+
+-- true at each of these places
+abbrev pub set_all : List ℕ → List Bool → List Bool
+set_all [] marks = marks
+set_all (i ∷ is) marks = set_all is (set marks i true)
+
+-- for each of n children, whether its place is among these
+abbrev pub marks_of : ℕ → List ℕ → List Bool
+marks_of n places = set_all places (replicate n false)

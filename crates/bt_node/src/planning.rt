@@ -1,0 +1,112 @@
+//! The children that a node flushes, worked out once from the numbers of messages that wait for each.
+//!
+//! Counts, sums and capacities are numbers of messages, and places are counted from 0, the leftmost child.
+ghost use Rattle.std.specs.Prelude.{◌≡◌, IfOk, length, vec_len};
+ghost use Rattle.bt_node.specs.Plans.{fullest, marks_of, planned, total};
+
+use std::alloc::{AllocError, Global};
+
+// How many messages wait in all, which may be more than fit 64 bits.
+fn sum_of(counts: &[u64]) -> u128
+    ensures { result ≡ total counts.now }
+{
+    let mut sum = 0;
+    for count in counts {
+        sum += u128::from(*count);
+    }
+    sum
+}
+
+// The place of the child for which the most messages wait, the leftmost of them.
+fn fullest_place(counts: &[u64]) -> usize
+    ensures { result ≡ fullest counts.now }
+{
+    let mut best = 0;
+    let mut most = 0;
+    for (place, count) in counts.iter().enumerate() {
+        if *count > most {
+            most = *count;
+            best = place;
+        }
+    }
+    best
+}
+
+// The places in turn, where so many messages wait in all: the fullest child is emptied, until no more are left than the
+// capacity.
+fn choose(
+    alloc: Global,
+    counts: &[u64],
+    waiting: u128,
+    capacity: u128,
+) -> Result<Vec<usize>, AllocError>
+    requires { waiting ≡ total counts.now }
+    ensures { IfOk result (λ places. places.items ≡ planned counts.now capacity) }
+{
+    let mut places = Vec::new(alloc);
+    let mut rest = Vec::from_slice(alloc, counts)?;
+    let mut left = waiting;
+    while left > capacity {
+        let place = fullest_place(rest.as_slice());
+        left -= u128::from(rest[place]);
+        rest[place] = 0;
+        places.push(place)?;
+    }
+    Ok(places)
+}
+
+/// The places of the children to flush, where this many messages wait for each: the fullest first, of equally full ones the
+/// leftmost, and no more of them than it takes until at most the capacity waits for the others. Takes no memory where no
+/// child is flushed.
+pub fn plan(alloc: Global, counts: &[u64], capacity: u64) -> Result<Vec<usize>, AllocError>
+    ensures { IfOk result (λ places. places.items ≡ planned counts.now capacity) }
+{
+    let waiting = sum_of(counts);
+    if waiting <= u128::from(capacity) {
+        return Ok(Vec::new(alloc));
+    }
+    choose(alloc, counts, waiting, u128::from(capacity))
+}
+
+// Whether each child is flushed, where this many messages wait for each.
+pub(crate) fn flush_marks(
+    alloc: Global,
+    counts: &[u64],
+    capacity: u64,
+) -> Result<Vec<bool>, AllocError>
+    ensures length { IfOk result (λ marks. vec_len marks ≡ length counts.now) }
+    ensures marks { IfOk result (λ marks. marks.items ≡ marks_of (length counts.now) (planned counts.now capacity)) }
+{
+    let places = plan(alloc, counts, capacity)?;
+    let mut marks = vec![in alloc; false; counts.len()]?;
+    for place in &places {
+        marks[*place] = true;
+    }
+    Ok(marks)
+}
+
+#[cfg(test)]
+mod tests {
+    use super::*;
+    use std::test::Fail;
+
+    #[test]
+    fn plans(rt: HostRuntime) -> Result<(), Fail> {
+        let alloc = rt.alloc();
+        let table: [(&[u64], u64, &[usize]); 6] = [
+            (&[4, 2, 2], 3, &[0, 1]),
+            (&[1, 3, 3, 2], 4, &[1, 2]),
+            (&[0, 0], 3, &[]),
+            (&[], 0, &[]),
+            (&[1, 0, 2], 0, &[2, 0]),
+            (&[u64::MAX, u64::MAX], u64::MAX, &[0]),
+        ];
+        for (counts, capacity, places) in table {
+            let planned = plan(alloc, counts, capacity)?;
+            assert_eq!(rt; planned.as_slice(), places);
+        }
+        let marks = flush_marks(alloc, &[1, 3, 3, 2], 4)?;
+        assert_eq!(rt; marks.as_slice(), [false, true, true, false].as_slice());
+        Ok(())
+    }
+}
