@@ -24,8 +24,9 @@ fn replies_to(alloc: Global, script: &[u8]) -> Result<Vec<u8>> {
 fn replay<R: Files + AllocGlobal>(rt: &R, name: &str) -> Result<usize> {
     let alloc = rt.alloc();
     let script = fs::read(rt, name).context(format_args!("reading {name}"))?;
-    let expected = fs::read(rt, format!(in alloc; "{name}.stdout")?.as_str())
-        .context(format_args!("reading {name}.stdout"))?;
+    let expected = fs::read(rt, format!(in alloc; "{name}.stdout")?.as_str()).context(format_args!(
+        "reading {name}.stdout"
+    ))?;
     let text = replies_to(alloc, script.as_slice()).context(format_args!("running {name}"))?;
     if text.as_slice() != expected.as_slice() {
         bail!("{name}: its replies differ");
