@@ -1,8 +1,9 @@
 -- Sorted messages cut at keys.
-use Rattle.std.proofs.Common.{◌≡◌, ℕ, zero, suc, ◌<◌, ◌≤◌, Bool, true, false, not, ◌&&◌, cond, List, [], ◌∷◌, ◌++◌, length, take, drop, get_or, Option, Some, None, refl, sym, ap, subst, ◌∙◌, true≢false, arith}
+use Rattle.std.proofs.Common.{◌≡◌, ℕ, zero, suc, ◌<◌, ◌≤◌, Bool, true, false, not, ◌&&◌, cond, List, [], ◌∷◌, ◌++◌, length, take, drop, get_or, append_assoc, Option, Some, None, refl, sym, ap, subst, ◌∙◌, true≢false, arith}
 use Rattle.std.specs.List.{filter}
 use Rattle.std.specs.List.Sorted.{IsPartitionedBy, IsPartitionPoint}
 use Rattle.bt_messages.specs.Messages.{AllFrom, IsSorted, Messages, is_at_or_past, is_before, is_short_of, messages_before, messages_between, messages_from, messages_outside, with_messages}
+use Rattle.bt_messages.specs.Merges.{messages_ahead, messages_not_ahead}
 use Rattle.bt_messages.proofs.Order.{later_chain, not_after, not_before_itself}
 use Rattle.bt_messages.proofs.Placed.{first_stays, from_earlier}
 
@@ -177,3 +178,35 @@ module _ {M : Type 0} where
   pub all_from_first : (m : List ℕ × M) (ms : Messages M) → IsSorted ms → m ≡ get_or ms 0 m → AllFrom m.0 ms
   all_from_first m [] h e = tt
   all_from_first m (n ∷ ns) h e = subst (λ (k : List ℕ × M). AllFrom k.0 (n ∷ ns)) (sym e) (not_before_itself n.0, h.0)
+
+  -- of sorted messages the first ones are those with a key before one
+  pub ahead_is : (k : List ℕ) (ms : Messages M) → IsSorted ms → messages_ahead k ms ≡ messages_before k ms
+  ahead_is k [] h = refl
+  ahead_is k (m ∷ ms) h = elim (is_before m.0 k) as (λ t. is_before m.0 k ≡ t → cond t (m ∷ messages_ahead k ms) [] ≡ cond t (m ∷ messages_before k ms) (messages_before k ms)) [
+    | true ↦ λ t. ap (λ zs. m ∷ zs) (ahead_is k ms h.1)
+    | false ↦ λ t. sym (none_before k m.0 ms t h.0).0
+  ] refl
+
+  pub not_ahead_is : (k : List ℕ) (ms : Messages M) → IsSorted ms → messages_not_ahead k ms ≡ messages_from k ms
+  not_ahead_is k [] h = refl
+  not_ahead_is k (m ∷ ms) h = elim (is_before m.0 k) as (λ t. is_before m.0 k ≡ t → cond t (messages_not_ahead k ms) (m ∷ ms) ≡ cond (not t) (m ∷ messages_from k ms) (messages_from k ms)) [
+    | true ↦ λ t. not_ahead_is k ms h.1
+    | false ↦ λ t. ap (λ zs. m ∷ zs) (sym (none_before k m.0 ms t h.0).1)
+  ] refl
+
+  pub before_sorted : (k : List ℕ) (ms : Messages M) → IsSorted ms → IsSorted (messages_before k ms)
+  before_sorted k ms h = filter_sorted (λ m. is_before m.0 k) ms h
+
+  -- one more of the first messages
+  pub one_ahead : (k : List ℕ) (m : List ℕ × M) (ms rest ahead taken more : Messages M) → ms ≡ m ∷ rest → is_before m.0 k ≡ true →
+      ahead ≡ taken ++ messages_ahead k ms → more ≡ taken ++ m ∷ [] → ahead ≡ more ++ messages_ahead k rest
+  one_ahead k m ms rest ahead taken more e t h p =
+      h ∙ ap (λ zs. taken ++ messages_ahead k zs) e ∙ ap (λ b. taken ++ cond b (m ∷ messages_ahead k rest) []) t
+      ∙ sym (append_assoc taken (m ∷ []) (messages_ahead k rest)) ∙ ap (λ zs. zs ++ messages_ahead k rest) (sym p)
+
+  pub one_not_ahead : (k : List ℕ) (m : List ℕ × M) (ms rest behind : Messages M) → ms ≡ m ∷ rest → is_before m.0 k ≡ true →
+      behind ≡ messages_not_ahead k ms → behind ≡ messages_not_ahead k rest
+  one_not_ahead k m ms rest behind e t h = h ∙ ap (messages_not_ahead k) e ∙ ap (λ b. cond b (messages_not_ahead k rest) (m ∷ rest)) t
+
+  pub rest_sorted : (m : List ℕ × M) (ms rest : Messages M) → ms ≡ m ∷ rest → IsSorted ms → IsSorted rest
+  rest_sorted m ms rest e h = (subst (IsSorted {M = M}) e h).1

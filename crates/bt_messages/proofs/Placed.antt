@@ -1,5 +1,5 @@
 -- Messages placed among sorted ones.
-use Rattle.std.proofs.Common.{◌≡◌, ℕ, true, false, List, [], ◌∷◌, refl, ap, ◌∙◌, if◌then◌else◌}
+use Rattle.std.proofs.Common.{◌≡◌, ℕ, true, false, List, [], ◌∷◌, length, refl, ap, ◌∙◌, if◌then◌else◌, arith}
 use Rattle.bt_messages.specs.Messages.{AllFrom, IsSorted, Messages, is_before, with_message, with_messages}
 use Rattle.bt_messages.proofs.Order.{later_chain, not_after}
 
@@ -45,3 +45,12 @@ module _ {M : Type 0} where
 
   pub newer_last : (m : List ℕ × M) (ms : Messages M) → AllFrom m.0 ms → with_messages (m ∷ ms) [] ≡ m ∷ with_messages ms []
   newer_last m ms h = first_stays m ms [] h
+
+  -- sorted messages that go into none are all
+  pub alone : (ms : Messages M) → IsSorted ms → with_messages ms [] ≡ ms
+  alone [] h = refl
+  alone (m ∷ ms) h = newer_last m ms h.0 ∙ ap (λ zs. m ∷ zs) (alone ms h.1)
+
+pub nothing : {X : Type 0} (xs : List X) → length xs ≡ 0 → xs ≡ []
+nothing [] e = refl
+nothing (x ∷ xs) e = absurd (omega (arith, e))

@@ -5,6 +5,7 @@ ghost use Rattle.std.specs.Option.{option_copied};
 
 use crate::message::{Merge, Message};
 use crate::packet::Packet;
+use crate::rest::Rest;
 use crate::sorted;
 use bt_keycode::Key;
 use std::alloc::{AllocError, Global};
@@ -52,6 +53,14 @@ impl<V: Merge> Buffer<V> {
     {
         let entry = &self.messages[place];
         (&entry.0, &entry.1)
+    }
+
+    /// The messages, to be taken off from the front.
+    pub fn into_rest(self) -> Rest<V>
+        ensures { result ≡ self }
+    {
+        let Buffer { messages } = self;
+        Rest::from_sorted(messages)
     }
 
     /// Adds the messages of a packet, each after those of its key. An `Err` changes nothing, and the packet is gone.

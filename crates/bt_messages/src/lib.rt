@@ -17,8 +17,10 @@
 mod buffer;
 mod message;
 mod packet;
+mod rest;
 mod sorted;
 
 pub use buffer::Buffer;
 pub use message::{Merge, Message, effect};
 pub use packet::Packet;
+pub use rest::Rest;
