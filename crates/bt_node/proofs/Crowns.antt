@@ -1,17 +1,16 @@
 -- Siblings under one node: it fits where they fit, and holds what they hold.
-use Rattle.std.proofs.Common.{◌≡◌, ℕ, zero, suc, ◌<◌, ◌≤◌, List, [], ◌∷◌, map, length, refl, sym, ap, ◌∙◌, arith, append-nil}
+use Rattle.std.proofs.Common.{◌≡◌, ℕ, zero, suc, ◌<◌, ◌≤◌, List, [], ◌∷◌, length, refl, sym, ap, ◌∙◌, arith, append-nil}
 use Rattle.std.specs.FinMap.{find, nat_cmp-IsAntisymmetric, slice_cmp-IsAntisymmetric}
 use Rattle.std.specs.FinMap.Entries.{same_entries}
-use Rattle.std.proofs.lemmas.List.{length-map}
 use Rattle.std.specs.declared.option.Option.{Option}
 use Rattle.bt_node.specs.Keys.{Key, key_cmp}
 use Rattle.bt_node.specs.Deals.{deal}
 use Rattle.bt_node.specs.Trees.{Shape, Tree, Siblings, nodes}
-use Rattle.bt_node.specs.Flushes.{Child, pivot_first, shared, gathered, grouped, crowned, crown, holds, all_hold}
+use Rattle.bt_node.specs.Flushes.{Child, shared, gathered, grouped, crowned, crown, holds, all_hold}
 use Rattle.bt_node.specs.Fits.{AreSized, NodeFits, SiblingsFit, IsRoomy}
 use Rattle.bt_node.proofs.Order.{total_keys}
 use Rattle.bt_node.proofs.Deals.{joined-deal}
-use Rattle.bt_node.proofs.Sizes.{fewer-parts}
+use Rattle.bt_node.proofs.Raising.{raised-shorter}
 use Rattle.bt_node.proofs.RowsAfter.{rows-sorted}
 use Rattle.bt_node.proofs.Children.{waits, below, value-below-seen}
 use Rattle.bt_node.proofs.Shares.{value-shared, below-shared, shared-lie}
@@ -43,15 +42,8 @@ module _ {V M : Type 0} (s : Shape) (roomy : IsRoomy s) where
       cs : List (Child V M)
       cs = shared (x ∷ y ∷ xs) []
 
-  length-pivot_first : (k : Key) (xs : Siblings V M) → length (pivot_first k xs) ≡ length xs
-  length-pivot_first k [] = refl
-  length-pivot_first k (x ∷ xs) = refl
-
   raised-fewer : (x y : Key × Tree V M) (xs : Siblings V M) → length (raised x y xs) < length (x ∷ y ∷ xs)
-  raised-fewer x y xs =
-      let cs = shared (x ∷ y ∷ xs) [] in
-      let many = length-shared (x ∷ y ∷ xs) [] in
-      omega (arith, length-pivot_first [] (map gathered (deal s.fanout cs)), length-map (deal s.fanout cs) gathered, many, fewer-parts s.fanout cs roomy.fanout (omega arith))
+  raised-fewer = raised-shorter s (omega (arith, roomy.fanout))
 
   crowned-fits : (bound levels : ℕ) (low high : Option Key) (xs : Siblings V M) → SiblingsFit s levels low high xs → length xs ≤ suc bound → (top : ℕ) × NodeFits s top low high (crowned bound s xs)
   crowned-fits bound levels low high [] fit few = absurd fit.led

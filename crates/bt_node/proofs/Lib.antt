@@ -1,11 +1,15 @@
+pub mod Absorbing
 pub mod Absorbs
 pub mod Buffers
 pub mod Children
 pub mod Choices
 pub mod Crowns
+pub mod DealPass
 pub mod Deals
+pub mod Dividing
 pub mod Drains
 pub mod Flushing
+pub mod Gathering
 pub mod Groups
 pub mod Held
 pub mod Limits
@@ -17,7 +21,10 @@ pub mod Outside
 pub mod Packets
 pub mod Passes
 pub mod Plans
+pub mod Raising
 pub mod Recursion
+pub mod RowPass
+pub mod RowSearch
 pub mod RowsAfter
 pub mod Settled
 pub mod Shares
@@ -26,3 +33,5 @@ pub mod Sized
 pub mod Sizes
 pub mod Still
 pub mod Values
+pub mod Views
+pub mod Waiting

@@ -13,7 +13,7 @@ use Rattle.bt_node.specs.Keys.{Key, key_cmp, key_lt, IsFrom, IsPast, IsBelow}
 pub total_keys : IsTotalOrder key_cmp
 total_keys = nat_list_cmp_total
 
-is_less : (o : Ordering) → is_lt o ≡ true → o ≡ Less
+pub is_less : (o : Ordering) → is_lt o ≡ true → o ≡ Less
 is_less Less e = refl
 is_less Equal e = absurd (true≢false (sym e))
 is_less Greater e = absurd (true≢false (sym e))

@@ -26,7 +26,7 @@ t_second false b p = absurd p
 t_true : (b : Bool) → b ≡ true → T b
 t_true b e = subst T (sym e) tt
 
-true_t : (b : Bool) → T b → b ≡ true
+pub true_t : (b : Bool) → T b → b ≡ true
 true_t true h = refl
 true_t false h = absurd h
 

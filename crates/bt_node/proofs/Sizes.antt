@@ -98,13 +98,21 @@ deal-one m xs some fits =
     ∙ ap (λ q. parted (q ∷ []) xs) whole
     ∙ ap (λ z. z ∷ []) (take-length xs)
 
-length-even : (n k : ℕ) → 0 < k → length (even n k) ≡ k
+pub length-even : (n k : ℕ) → 0 < k → length (even n k) ≡ k
 length-even n k l =
     omega (arith, length-append (replicate (n % k) (n / k + 1)) (replicate (k - n % k) (n / k)), length-replicate (n % k) (n / k + 1), length-replicate (k - n % k) (n / k))
 
--- two or more, dealt by three or more, become fewer
-pub fewer-parts : {X : Type 0} (m : ℕ) (xs : List X) → 3 ≤ m → 2 ≤ length xs → length (deal m xs) < length xs
-fewer-parts m xs three two =
+-- n items, with room for m of them in a part, are more than their parts, if two may stand in one
+fewer : (n m a b : ℕ) → m * a + b ≡ n → b < m → 2 ≤ n → 2 ≤ m → max 1 (a + min 1 b) < n
+fewer n m zero b e l some two = omega arith
+fewer n m (suc a) b e l some two = omega (arith, wide)
+  where
+    wide : 2 * suc a ≤ m * suc a
+    wide = omega (arith, mul-le-mul_left (suc a) two)
+
+-- two or more, dealt by two or more, become fewer
+pub fewer-parts : {X : Type 0} (m : ℕ) (xs : List X) → 2 ≤ m → 2 ≤ length xs → length (deal m xs) < length xs
+fewer-parts m xs two some =
     let n = length xs in
     let k = max 1 (div_ceil n m) in
-    omega (arith, length-map (deal m xs) length, ap length (lengths-deal m xs), length-even n k (omega arith), doubled n m (n / m) (n % m) (omega arith) (omega arith) two three)
+    omega (arith, length-map (deal m xs) length, ap length (lengths-deal m xs), length-even n k (omega arith), fewer n m (n / m) (n % m) (omega arith) (omega arith) some two)

@@ -6,7 +6,7 @@ use Rattle.bt_node.specs.Keys.{Key, key_lt, AllWithin, IsRising}
 use Rattle.bt_node.specs.Messages.{Messages, before, from}
 use Rattle.bt_node.specs.Plans.{total}
 use Rattle.bt_node.specs.Trees.{Shape, Tree, leaf, inner, Nodes, Siblings, children, nodes}
-use Rattle.bt_node.specs.Flushes.{Child, pivot_first, counts, shared, flushed, gathered, grouped, absorbed, absorb}
+use Rattle.bt_node.specs.Flushes.{Child, Flush, pivot_first, counts, shared, flushed, flushed_over, gathered, grouped, absorbed, absorb}
 use Rattle.bt_node.specs.Fits.{IsLed, Lies, IsSized, NodeFits, IsRoomy}
 use Rattle.bt_node.proofs.Limits.{rising-where, from-lower}
 use Rattle.bt_node.proofs.Sizes.{deal-one}
@@ -45,7 +45,7 @@ led-first (x ∷ xs) l = ap (λ k. (k, x.1) ∷ xs) (sym l)
 
 module _ {V M : Type 0} where
   -- a sorted buffer is its shares joined
-  waits-shared : (x : Key × Tree V M) (xs : Siblings V M) (b : Messages M) → IsRising b → waits (shared (x ∷ xs) b) ≡ b
+  pub waits-shared : (x : Key × Tree V M) (xs : Siblings V M) (b : Messages M) → IsRising b → waits (shared (x ∷ xs) b) ≡ b
   waits-shared x [] b r = append-nil b
   waits-shared x (y ∷ ys) b r = ap (λ z. before y.0 b ++ z) (waits-shared y ys (from y.0 b) (from-rising y.0 b r)) ∙ divided y.0 b r
 
@@ -53,7 +53,7 @@ module _ {V M : Type 0} where
   waits-shared-all [] b l r = absurd l
   waits-shared-all (x ∷ xs) b l r = waits-shared x xs b r
 
-  stripped-shared : (xs : Siblings V M) (b : Messages M) → stripped (shared xs b) ≡ xs
+  pub stripped-shared : (xs : Siblings V M) (b : Messages M) → stripped (shared xs b) ≡ xs
   stripped-shared [] b = refl
   stripped-shared (x ∷ []) b = refl
   stripped-shared (x ∷ y ∷ ys) b = ap (λ z. x ∷ z) (stripped-shared (y ∷ ys) (from y.0 b))
@@ -70,18 +70,23 @@ module _ {V M : Type 0} where
   grouped-one : (s : Shape) (cs : List (Child V M)) → 1 ≤ s.fanout → length cs ≤ s.fanout → grouped s cs ≡ ([], (gathered cs).1) ∷ []
   grouped-one s cs some fits = ap (λ gs. pivot_first [] (map gathered gs)) (deal-one s.fanout cs some fits)
 
+  -- what becomes of a node whose children and messages are within its shape is the node
+  pub still-here : (s : Shape) (ns : Nodes V M) (b : Messages M) → IsLed (children ns) → IsRising b → 1 ≤ s.fanout → length (children ns) ≤ s.fanout → length b ≤ s.buffer → (flush : Flush V M) →
+      grouped s (flushed_over flush s.buffer (shared (children ns) b)) ≡ ([], inner ns b) ∷ []
+  still-here s ns b l r some few fits flush =
+      let cs = shared (children ns) b in
+      let waiting : total (counts cs) ≤ s.buffer = omega (arith, total-counts cs, ap length (waits-shared-all (children ns) b l r), fits) in
+      ap (grouped s) (settled-still (λ c. length c.waiting) (flushed flush) (flushed-light flush) s.buffer (total (counts cs)) cs waiting)
+      ∙ grouped-one s cs some (omega (arith, length-shared (children ns) b, few))
+      ∙ ap (λ t. ([], t) ∷ []) (gathered-shared ns b l r)
+
 module _ {V M : Type 0} (effect : Option V → M → Option V) (s : Shape) (roomy : IsRoomy s) where
   absorbed-still : (levels : ℕ) (low high : Option Key) (t : Tree V M) → Lies levels low high t → IsSized s t → absorbed effect (suc levels) s t [] ≡ ([], t) ∷ []
   absorbed-still zero low high (leaf rs) lies z = ap (λ gs. pivot_first [] (map (as_leaf M) gs)) (deal-one s.leaf rs roomy.leaf z)
   absorbed-still zero low high (inner ns b) lies z = absurd lies
   absorbed-still (suc levels) low high (leaf rs) lies z = absurd lies
   absorbed-still (suc levels) low high (inner ns b) lies z =
-      let cs = shared (children ns) b in
-      let f = absorbed effect (suc levels) s in
-      let waiting : total (counts cs) ≤ s.buffer = omega (arith, total-counts cs, ap length (waits-shared-all (children ns) b lies.3 lies.1), z.2) in
-      ap (grouped s) (settled-still (λ c. length c.waiting) (flushed f) (flushed-light f) s.buffer (total (counts cs)) cs waiting)
-      ∙ grouped-one s cs (omega (arith, roomy.fanout)) (omega (arith, length-shared (children ns) b, z.1))
-      ∙ ap (λ t. ([], t) ∷ []) (gathered-shared ns b lies.3 lies.1)
+      still-here s ns b lies.3 lies.1 (omega (arith, roomy.fanout)) z.1 z.2 (absorbed effect (suc levels) s)
 
   pub absorb-still : (levels : ℕ) (low high : Option Key) (t : Tree V M) → NodeFits s levels low high t → absorb effect s t [] ≡ ([], t) ∷ []
   absorb-still levels low high t fits = absorb-at effect s levels low high t [] fits.lies ∙ absorbed-still levels low high t fits.lies fits.sized

@@ -62,8 +62,7 @@ module _ {V M : Type 0} (effect : Option V → M → Option V) where
 
   -- An inner node flushes its children by the same rule as itself.
   abbrev pub AbsorbRecurs : Type 0
-  AbsorbRecurs = (shape : Shape) (levels : ℕ) (low high : Option Key) (ns : Nodes V M) (buffer packet : Messages M) →
-      NodeFits shape levels low high (inner ns buffer) → AllWithin low high packet →
+  AbsorbRecurs = (shape : Shape) (ns : Nodes V M) (buffer packet : Messages M) →
       absorb effect shape (inner ns buffer) packet ≡ grouped shape (flushed_over (absorb effect shape) shape.buffer (shared (children ns) (with_messages packet buffer)))
 
   -- An empty packet leaves a node as it is.

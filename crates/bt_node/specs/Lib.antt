@@ -9,5 +9,9 @@ pub mod Lookups
 pub mod Loops
 pub mod Messages
 pub mod Plans
+pub mod Shapes
+pub mod Shares
+pub mod Stored
 pub mod Trees
+pub mod Views
 pub mod WorkedRows

@@ -9,8 +9,15 @@
 //! what is promised of all this; the functions here carry these laws. `WorkedRows` are small trees worked out.
 #![tactic(auto)]
 
+mod absorb;
+mod deal;
+mod group;
 mod laws;
+mod node;
 mod planning;
+mod rows;
+mod shape;
+mod share;
 
 pub use laws::{
     HasEffect, absorb_keeps_the_map, absorb_keeps_the_shape, children_by_the_same_rule,

@@ -1,0 +1,82 @@
+-- What the code makes of an inner node is what becomes of it.
+use Rattle.std.proofs.Common.{Vec, Global, Result, Ok, Err, IfOk, ◌≡◌, ◌≤◌, ◌<◌, ◌+◌, ◌*◌, ℕ, Bool, List, [], ◌∷◌, ◌++◌, length, map, refl, sym, ap, subst, ◌∙◌, arith}
+use Rattle.std.specs.List.{zip}
+use Rattle.bt_messages.specs.Effects.{effect_of}
+use Rattle.bt_messages.specs.Messages.{IsSorted}
+use Rattle.bt_messages.specs.declared.message.Message.{Message}
+use Rattle.bt_node.specs.declared.node.Child as code
+use Rattle.bt_node.specs.declared.node.Node.{Node}
+use Rattle.bt_node.specs.declared.node.Node.TheVariants as variants
+use Rattle.bt_node.specs.declared.share.Share.{Share}
+use Rattle.bt_node.specs.Keys.{Key}
+use Rattle.bt_node.specs.Messages.{Messages, with_messages}
+use Rattle.bt_node.specs.Plans.{marks_of, planned}
+use Rattle.bt_node.specs.Loops.{passed}
+use Rattle.bt_node.specs.Trees.{Shape, Siblings, children, height, height_below, inner, nodes}
+use Rattle.bt_node.specs.Fits.{IsLed}
+use Rattle.bt_node.specs.Flushes.{Child, absorb, counts, flushed, flushed_over, grouped, shared}
+use Rattle.bt_node.specs.Shares.{marked_children, with_shares}
+use Rattle.bt_node.specs.Views.{children_of, siblings_of, tree_of, waiting_of}
+use Rattle.bt_node.proofs.Children.{waits}
+use Rattle.bt_node.proofs.Groups.{children-nodes, led-full}
+use Rattle.bt_node.proofs.Marks.{flushed_over-marks}
+use Rattle.bt_node.proofs.Recursion.{absorb_recurs}
+use Rattle.bt_node.proofs.Still.{still-here}
+use Rattle.bt_node.proofs.Views.{tree_inner}
+use Rattle.bt_node.proofs.Waiting.{sorted-passed, sorted-rising, waits-of-shared}
+
+-- the height of the highest of these nodes
+abbrev pub highest : {V : Type 0} → List (Key × Node V) → ℕ
+highest xs = height_below (nodes (siblings_of xs))
+
+-- one pass over children beside marks
+abbrev pub pass : {V : Type 0} → Shape → List (Child V (Message V) × Bool) → List (Child V (Message V))
+pass s = passed (λ c. length c.waiting) (flushed (absorb effect_of s))
+
+module _ {V : Type 0} (s : Shape) (cs : Vec (Key × Node V) Global) (buffer packet after : Messages (Message V)) (taken : after ≡ with_messages packet buffer) (sorted : IsSorted after) where
+  -- what becomes of the node
+  becomes : absorb effect_of s (tree_of (variants.Inner cs buffer)) packet ≡ grouped s (flushed_over (absorb effect_of s) s.buffer (shared (siblings_of cs.items) after))
+  becomes =
+      ap (λ t. absorb effect_of s t packet) (tree_inner cs buffer) ∙ absorb_recurs effect_of s (nodes (siblings_of cs.items)) buffer packet
+      ∙ ap (λ xs. grouped s (flushed_over (absorb effect_of s) s.buffer (shared xs (with_messages packet buffer)))) (children-nodes (siblings_of cs.items))
+      ∙ ap (λ b. grouped s (flushed_over (absorb effect_of s) s.buffer (shared (siblings_of cs.items) b))) (sym taken)
+
+  -- it stays as it is
+  pub stays_here : IsLed (siblings_of cs.items) → 1 ≤ s.fanout → length (siblings_of cs.items) ≤ s.fanout → length after ≤ s.buffer →
+      ([], tree_of (variants.Inner cs after)) ∷ [] ≡ absorb effect_of s (tree_of (variants.Inner cs buffer)) packet
+  stays_here led some few waiting =
+      let ns = nodes (siblings_of cs.items) in
+      let same = children-nodes (siblings_of cs.items) in
+      ap (λ t. ([], t) ∷ []) (tree_inner cs after)
+      ∙ sym (still-here s ns after (subst IsLed (sym same) led) (sorted-rising after sorted) some (subst (λ xs. length xs ≤ s.fanout) (sym same) few) waiting (absorb effect_of s))
+      ∙ ap (λ xs. grouped s (flushed_over (absorb effect_of s) s.buffer (shared xs after))) same
+      ∙ sym becomes
+
+  shares-sorted : (xs : Siblings V (Message V)) → IsSorted (waits (shared xs after))
+  shares-sorted [] = tt
+  shares-sorted (x ∷ xs) = subst IsSorted (sym (waits-of-shared (x ∷ xs) after tt sorted)) sorted
+
+  module _ (ss : List (Share V)) (marked : with_shares cs.items ss ≡ marked_children (siblings_of cs.items) after s.buffer) (parts : List (code.Child V)) (flushed_is : children_of parts ≡ pass s (with_shares cs.items ss)) where
+    -- what waits is still in order
+    pub parts_sorted : IsSorted (waiting_of parts)
+    parts_sorted =
+        let xs = shared (siblings_of cs.items) after in
+        subst (λ zs. IsSorted (waits zs)) (sym (flushed_is ∙ ap (pass s) marked))
+            (sorted-passed (absorb effect_of s) xs (marks_of (length xs) (planned (counts xs) s.buffer)) (shares-sorted (siblings_of cs.items)))
+
+    pub grouped_anew : grouped s (children_of parts) ≡ absorb effect_of s (tree_of (variants.Inner cs buffer)) packet
+    grouped_anew =
+        ap (grouped s) (flushed_is ∙ ap (pass s) marked ∙ sym (flushed_over-marks (absorb effect_of s) s.buffer (shared (siblings_of cs.items) after))) ∙ sym becomes
+
+-- a fact of the value, if there is one, gives another
+pub if_ok : {A E : Type 0} (P Q : A → Type 0) (r : Result A E) → ((x : A) → P x → Q x) → IfOk r P → IfOk r Q
+if_ok P Q (Ok x) f h = f x h
+if_ok P Q (Err e) f h = tt
+
+-- an inner node is higher than its children
+pub lower : {V : Type 0} (node : Node V) (cs : Vec (Key × Node V) Global) (buffer : Messages (Message V)) → node ≡ variants.Inner cs buffer → 2 * highest cs.items + 1 < 2 * height (tree_of node)
+lower node cs buffer e = omega (arith, ap (λ n. height (tree_of n)) e, ap height (tree_inner cs buffer))
+
+-- a child is no higher than the highest
+pub among : {V : Type 0} (x : Key × Node V) (xs ys : List (Key × Node V)) (bound : ℕ) → ys ≡ x ∷ xs → highest ys ≤ bound → (2 * height (tree_of x.1) < 2 * bound + 1) × (highest xs ≤ bound)
+among x xs ys bound e h = let all = ap highest e in (omega (arith, all, h), omega (arith, all, h))

@@ -1,0 +1,70 @@
+-- The shares of a buffer, as the code makes them, are those of the children.
+use Rattle.std.proofs.Common.{◌≡◌, ◌≤◌, ◌-◌, ℕ, Bool, List, [], ◌∷◌, drop, take, length, map, refl, sym, ap, ◌∙◌, arith}
+use Rattle.std.proofs.lemmas.List.{length-map}
+use Rattle.std.proofs.Math.Seq.{take-length}
+use Rattle.std.specs.List.{zip}
+use Rattle.bt_messages.specs.declared.message.Message.{Message}
+use Rattle.bt_node.specs.declared.node.Node.{Node}
+use Rattle.bt_node.specs.declared.share.Share.{Share}
+use Rattle.bt_node.specs.Keys.{Key}
+use Rattle.bt_node.specs.Messages.{Messages, before, from}
+use Rattle.bt_node.specs.Plans.{marks_of, planned}
+use Rattle.bt_node.specs.Trees.{Siblings}
+use Rattle.bt_node.specs.Flushes.{Child, counts, shared}
+use Rattle.bt_node.specs.Shares.{divided, marked_children, with_shares}
+use Rattle.bt_node.specs.Views.{siblings_of, tree_of}
+use Rattle.bt_node.proofs.Groups.{stripped}
+use Rattle.bt_node.proofs.Still.{stripped-shared}
+
+-- what is divided at the pivots behind the first one waits for the children
+waiting-shared : {V : Type 0} (x : Key × Node V) (xs : List (Key × Node V)) (b : Messages (Message V)) →
+    divided (map (λ y. y.0) xs) b ≡ map (λ c. c.waiting) (shared (siblings_of (x ∷ xs)) b)
+waiting-shared x [] b = refl
+waiting-shared x (y ∷ ys) b = ap (λ z. before y.0 b ∷ z) (waiting-shared y ys (from y.0 b))
+
+length-shares : {V M : Type 0} (cs : List (Child V M)) → map length (map (λ c. c.waiting) cs) ≡ counts cs
+length-shares [] = refl
+length-shares (c ∷ cs) = ap (λ z. length c.waiting ∷ z) (length-shares cs)
+
+-- siblings, each with a share
+abbrev with_pairs : {V M : Type 0} → Siblings V M → List (Messages M × Bool) → List (Child V M × Bool)
+with_pairs [] ps = []
+with_pairs (x ∷ xs) [] = []
+with_pairs (x ∷ xs) (p ∷ ps) = (record { pivot = x.0; tree = x.1; waiting = p.0 }, p.1) ∷ with_pairs xs ps
+
+shares-pairs : {V : Type 0} (xs : List (Key × Node V)) (ss : List (Share V)) → with_shares xs ss ≡ with_pairs (siblings_of xs) (map (λ s. (s.waiting, s.flushed)) ss)
+shares-pairs [] ss = refl
+shares-pairs (x ∷ xs) [] = refl
+shares-pairs (x ∷ xs) (s ∷ ss) = ap (λ z. (record { pivot = x.0; tree = tree_of x.1; waiting = s.waiting }, s.flushed) ∷ z) (shares-pairs xs ss)
+
+pairs-stripped : {V M : Type 0} (cs : List (Child V M)) (marks : List Bool) → with_pairs (stripped cs) (zip (map (λ c. c.waiting) cs) marks) ≡ zip cs marks
+pairs-stripped [] marks = refl
+pairs-stripped (c ∷ cs) [] = refl
+pairs-stripped (c ∷ cs) (m ∷ ms) = ap (λ z. (c, m) ∷ z) (pairs-stripped cs ms)
+
+-- shares beside their children
+beside : {V : Type 0} (xs : List (Key × Node V)) (b : Messages (Message V)) (marks : List Bool) (ss : List (Share V)) →
+    map (λ s. (s.waiting, s.flushed)) ss ≡ zip (map (λ c. c.waiting) (shared (siblings_of xs) b)) marks → with_shares xs ss ≡ zip (shared (siblings_of xs) b) marks
+beside xs b marks ss e =
+    let cs = shared (siblings_of xs) b in
+    shares-pairs xs ss ∙ ap (with_pairs (siblings_of xs)) e
+    ∙ ap (λ ys. with_pairs ys (zip (map (λ c. c.waiting) cs) marks)) (sym (stripped-shared (siblings_of xs) b))
+    ∙ pairs-stripped cs marks
+
+shares_are : {V : Type 0} (x : Key × Node V) (xs : List (Key × Node V)) (b : Messages (Message V)) (capacity : ℕ) (packets : List (Messages (Message V))) (marks : List Bool) (ss : List (Share V)) →
+    packets ≡ divided (map (λ y. y.0) xs) b → marks ≡ marks_of (length (map length packets)) (planned (map length packets) capacity) →
+    map (λ s. (s.waiting, s.flushed)) ss ≡ zip packets marks → with_shares (x ∷ xs) ss ≡ marked_children (siblings_of (x ∷ xs)) b capacity
+shares_are x xs b capacity packets marks ss e m h =
+    let cs = shared (siblings_of (x ∷ xs)) b in
+    let p = e ∙ waiting-shared x xs b in
+    let n = ap (map length) p ∙ length-shares cs in
+    beside (x ∷ xs) b marks ss (h ∙ ap (λ z. zip z marks) p)
+    ∙ ap (zip cs) (m ∙ ap (λ ns. marks_of (length ns) (planned ns capacity)) n ∙ ap (λ k. marks_of k (planned (counts cs) capacity)) (length-map cs (λ c. length c.waiting)))
+
+pub shares_from : {V : Type 0} (xs : List (Key × Node V)) (b : Messages (Message V)) (capacity : ℕ) (packets : List (Messages (Message V))) (marks : List Bool) (ss : List (Share V)) → 1 ≤ length xs →
+    packets ≡ divided (map (λ y. y.0) (take (length xs - 1) (drop 1 xs))) b → marks ≡ marks_of (length (map length packets)) (planned (map length packets) capacity) →
+    map (λ s. (s.waiting, s.flushed)) ss ≡ zip packets marks → with_shares xs ss ≡ marked_children (siblings_of xs) b capacity
+shares_from [] b capacity packets marks ss some e m h = absurd (omega (arith, some))
+shares_from (x ∷ xs) b capacity packets marks ss some e m h =
+    let all : length (x ∷ xs) - 1 ≡ length xs = omega arith in
+    shares_are x xs b capacity packets marks ss (e ∙ ap (λ n. divided (map (λ y. y.0) (take n xs)) b) all ∙ ap (λ ys. divided (map (λ y. y.0) ys) b) (take-length xs)) m h

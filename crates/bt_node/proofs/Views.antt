@@ -1,0 +1,23 @@
+-- What a node's tree is, by its layer.
+use Rattle.std.proofs.Common.{Vec, Global, ◌≡◌, ℕ, List, [], ◌∷◌, ◌++◌, map, length, suc, refl, ap, sym, ◌∙◌}
+use Rattle.bt_messages.specs.declared.message.Message.{Message}
+use Rattle.bt_node.specs.declared.node.Node.{Node}
+use Rattle.bt_node.specs.declared.node.Node.TheOpen.{Node-F, Leaf, Inner}
+use Rattle.bt_node.specs.declared.node.Node.TheVariants.{rolls-Inner, rolls-Leaf}
+use Rattle.bt_node.specs.declared.node.Node.TheVariants as variants
+use Rattle.bt_node.specs.declared.node.Node.TheFolds.{fold-Node, fold-roll-Node}
+use Rattle.bt_node.specs.Keys.{Key}
+use Rattle.bt_node.specs.Messages.{Rows, Messages}
+use Rattle.bt_node.specs.Trees.{Tree, nodes, leaf, inner}
+use Rattle.bt_node.specs.Views.{tree_of, tree_step, siblings_of}
+
+module _ {V : Type 0} where
+  pub tree_inner : (children : Vec (Key × Node V) Global) (buffer : Messages (Message V)) → tree_of (variants.Inner children buffer) ≡ inner (nodes (siblings_of children.items)) buffer
+  tree_inner children buffer = ap tree_of (sym (rolls-Inner children buffer)) ∙ fold-roll-Node V (Tree V (Message V)) tree_step (Inner children buffer)
+
+  pub tree_leaf : (rows : Rows V) → tree_of (variants.Leaf rows) ≡ leaf rows
+  tree_leaf rows = ap tree_of (sym (rolls-Leaf rows)) ∙ fold-roll-Node V (Tree V (Message V)) tree_step (Leaf rows)
+
+  pub length-siblings : (xs : List (Key × Node V)) → length (siblings_of xs) ≡ length xs
+  length-siblings [] = refl
+  length-siblings (x ∷ xs) = ap suc (length-siblings xs)

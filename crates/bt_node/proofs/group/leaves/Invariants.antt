@@ -1,0 +1,10 @@
+use Rattle.std.proofs.Common.{◌≡◌, ◌++◌, map}
+use Rattle.bt_node.specs.Views.{siblings_of}
+use Rattle.bt_node.proofs.Groups.{as_leaf}
+use Rattle.bt_messages.specs.declared.message.Message.{Message}
+use Rattle.bt_node.proofs.group.leaves.Given as goal
+
+abbrev pub invariant-loop-part : goal.invariant-loop-part
+invariant-loop-part g l =
+    siblings_of l.nodes.items ++ map (as_leaf (Message g.row.V.Denot)) l.part-iterator.rest.items
+    ≡ siblings_of l.initial.nodes.items ++ map (as_leaf (Message g.row.V.Denot)) l.initial.part-iterator.rest.items

@@ -1,0 +1,40 @@
+-- The tree that a node stands for.
+use Rattle.std.specs.Prelude.{List, [], map, ℕ}
+use Rattle.std.specs.List.{flat_map}
+use Rattle.bt_node.specs.declared.node.Node.{Node}
+use Rattle.bt_node.specs.declared.node.Node.TheOpen.{Node-F, Leaf, Inner}
+use Rattle.bt_node.specs.declared.node.Node.TheFolds.{fold-Node}
+use Rattle.bt_node.specs.declared.node.Child as code
+use Rattle.bt_messages.specs.declared.message.Message.{Message}
+use Rattle.bt_node.specs.Keys.{Key}
+use Rattle.bt_node.specs.Messages.{Messages}
+use Rattle.bt_node.specs.Trees.{Tree, leaf, inner, Siblings, nodes}
+use Rattle.bt_node.specs.Flushes.{Child}
+
+-- one layer of it
+abbrev pub tree_step : {V : Type 0} → Node-F V (Tree V (Message V)) → Tree V (Message V)
+tree_step (Leaf rows) = leaf rows
+tree_step (Inner children buffer) = inner (nodes children.items) buffer
+
+-- the tree that a node stands for
+abbrev pub tree_of : {V : Type 0} → Node V → Tree V (Message V)
+tree_of {V} = fold-Node V (Tree V (Message V)) tree_step
+
+-- nodes behind their keys, as siblings
+abbrev pub siblings_of : {V : Type 0} → List (Key × Node V) → Siblings V (Message V)
+siblings_of = map (λ x. (x.0, tree_of x.1))
+
+-- a child with what waits for it
+abbrev pub child_of : {V : Type 0} → code.Child V → Child V (Message V)
+child_of c = record { pivot = c.pivot; tree = tree_of c.node; waiting = c.waiting }
+
+abbrev pub children_of : {V : Type 0} → List (code.Child V) → List (Child V (Message V))
+children_of = map child_of
+
+-- what waits for children, as one list
+abbrev pub waiting_of : {V : Type 0} → List (code.Child V) → Messages (Message V)
+waiting_of cs = flat_map (λ c. c.waiting) (children_of cs)
+
+-- siblings as children for which nothing waits
+abbrev pub unwaited_of : {V M : Type 0} → Siblings V M → List (Child V M)
+unwaited_of = map (λ x. record { pivot = x.0; tree = x.1; waiting = [] })

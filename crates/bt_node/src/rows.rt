@@ -1,0 +1,213 @@
+//! Rows: the entries of a map in order.
+ghost use Rattle.std.specs.Prelude.{◌≡◌, ◌+◌, ◌<◌, ◌≤◌, ◌++◌, [], IfOk, IsTrue, Some, None, length, slice_get, vec_len, vec_capacity};
+ghost use Rattle.std.specs.FinMap.{find, is_sorted};
+ghost use Rattle.std.specs.Option.{option_copied};
+ghost use Rattle.bt_messages.specs.Effects.{effect_of};
+ghost use Rattle.bt_node.specs.Deals.{deal};
+ghost use Rattle.bt_node.specs.Keys.{key_cmp};
+ghost use Rattle.bt_node.specs.Messages.{before, from, rows_after, with_value};
+
+use crate::deal;
+use bt_keycode::Key;
+use bt_messages::{Merge, Packet, effect};
+use std::alloc::{AllocError, Global};
+use std::cmp::Ordering;
+use std::collections::VecDeque;
+use std::marker::Model;
+
+/// Rows sorted by key, of which no two have the same key.
+#[derive(Drop)]
+pub struct Rows<V: Merge> {
+    rows: Vec<(Key, V)>,
+}
+
+impl<V: Merge> Model for Rows<V> {
+    ghost use Rattle.std.specs.Prelude.{IsTrue, List, ℕ};
+    ghost use Rattle.std.specs.FinMap.{is_sorted};
+    ghost use Rattle.bt_node.specs.Keys.{key_cmp};
+
+    ghost Value = { List (List ℕ × V) };
+
+    ghost view = { λ r. r.rows.items };
+
+    ghost invariant = { λ r. IsTrue (is_sorted key_cmp r.rows.items) };
+}
+
+// Moves the first rows, as far as their keys are before this one.
+fn move_before<V: Merge>(moved: &mut Vec<(Key, V)>, older: &mut VecDeque<(Key, V)>, key: &Key)
+    requires sorted { IsTrue (is_sorted key_cmp older.old.items) }
+    requires room { vec_len moved.old + length older.old.items ≤ vec_capacity moved.old }
+    ensures moved { moved.new.items ≡ moved.old.items ++ before key.now older.old.items }
+    ensures left { older.new.items ≡ from key.now older.old.items }
+    ensures len { vec_len moved.new + length older.new.items ≡ vec_len moved.old + length older.old.items }
+    ensures capacity { vec_capacity moved.new ≡ vec_capacity moved.old }
+{
+    while let Some(first) = older.front() {
+        if first.0.compare(key) != Ordering::Less {
+            break;
+        }
+        if let Some(row) = older.pop_front() {
+            moved.push_reserved(row);
+        }
+    }
+}
+
+// Takes out the first row where it has this key, and gives its value.
+fn take_first<V: Merge>(rows: &mut VecDeque<(Key, V)>, key: &Key) -> Option<V>
+    requires sorted { IsTrue (is_sorted key_cmp rows.old.items) }
+    requires none_before { before key.now rows.old.items ≡ [] }
+    ensures value { result ≡ find key_cmp key.now rows.old.items }
+    ensures others { rows.new.items ≡ with_value key.now None rows.old.items }
+    ensures len { length rows.new.items ≤ length rows.old.items }
+{
+    let first = rows.front()?;
+    if first.0.compare(key) != Ordering::Equal {
+        return None;
+    }
+    let (_, value) = rows.pop_front()?;
+    Some(value)
+}
+
+impl<V: Merge> Rows<V> {
+    /// No row.
+    pub(crate) fn new(alloc: Global) -> Self
+        ensures { result ≡ [] }
+    {
+        Rows {
+            rows: Vec::new(alloc),
+        }
+    }
+
+    /// The number of rows.
+    pub(crate) fn len(&self) -> usize
+        ensures { result ≡ length self.now }
+    {
+        self.rows.len()
+    }
+
+    /// The row at a place, counted from 0: its key and its value.
+    pub(crate) fn get(&self, place: usize) -> (&Key, &V)
+        requires { place < length self.now }
+        ensures { slice_get self.now place ≡ Some (result.0.now, result.1.now) }
+    {
+        let row = &self.rows[place];
+        (&row.0, &row.1)
+    }
+
+    /// The value at a key.
+    pub(crate) fn find(&self, key: &Key) -> Option<&V>
+        ensures { option_copied result ≡ find key_cmp key.now self.now }
+    {
+        match self
+            .rows
+            .as_slice()
+            .binary_search_by(|row| row.0.compare(key))
+        {
+            Ok(place) => Some(&self.rows[place].1),
+            Err(_) => None,
+        }
+    }
+
+    /// The rows after the messages of a packet, in one merge.
+    pub(crate) fn after(self, alloc: Global, packet: Packet<V>) -> Result<Self, AllocError>
+        ensures { IfOk result (λ rows. rows ≡ rows_after effect_of packet self) }
+    {
+        if packet.is_empty() {
+            return Ok(self);
+        }
+        let Rows { rows } = self;
+        let messages = packet.into_messages();
+        let mut changed = Vec::with_capacity(alloc, rows.len() + messages.len())?;
+        let mut older = VecDeque::from(rows);
+        for (key, message) in messages {
+            move_before(&mut changed, &mut older, &key);
+            let old = take_first(&mut older, &key);
+            if let Some(value) = effect(old, message) {
+                older.push_front((key, value))?;
+            }
+        }
+        for row in older {
+            changed.push_reserved(row);
+        }
+        Ok(Rows { rows: changed })
+    }
+
+    /// The rows in parts, none larger than the most.
+    pub(crate) fn deal(self, alloc: Global, most: usize) -> Result<Vec<Rows<V>>, AllocError>
+        requires { 0 < most }
+        ensures { IfOk result (λ parts. parts.items ≡ deal most self) }
+    {
+        let Rows { rows } = self;
+        let dealt = deal::deal(alloc, rows, most)?;
+        let mut parts = Vec::with_capacity(alloc, dealt.len())?;
+        for rows in dealt {
+            parts.push_reserved(Rows { rows });
+        }
+        Ok(parts)
+    }
+}
+
+#[cfg(test)]
+mod tests {
+    use super::*;
+    use bt_keycode::encode;
+    use bt_messages::Message;
+    use bt_rowtype::{Row, Value};
+    use std::test::Fail;
+
+    fn key_of(alloc: Global, number: i64) -> Result<Key, AllocError> {
+        encode(alloc, &[Value::Int(number)])
+    }
+
+    fn put(alloc: Global, number: i64, other: i64) -> Result<(Key, Message<Row>), AllocError> {
+        let row = Row::new(vec![in alloc; Value::Int(number), Value::Int(other)]?);
+        Ok((key_of(alloc, number)?, Message::Put(row)))
+    }
+
+    fn del(alloc: Global, number: i64) -> Result<(Key, Message<Row>), AllocError> {
+        Ok((key_of(alloc, number)?, Message::Del))
+    }
+
+    fn holds(row: &Row, number: i64, other: i64) -> bool {
+        matches!(row.as_slice(), [Value::Int(a), Value::Int(b)] if *a == number && *b == other)
+    }
+
+    #[test]
+    fn messages_change_rows(rt: HostRuntime) -> Result<(), Fail> {
+        let alloc = rt.alloc();
+        let batch = vec![in alloc; put(alloc, 5, 50)?, put(alloc, 1, 10)?, put(alloc, 3, 30)?]?;
+        let rows = Rows::new(alloc).after(alloc, Packet::from_batch(alloc, batch)?)?;
+        assert_eq!(rt; rows.len(), 3);
+
+        let batch = vec![in alloc;
+            put(alloc, 5, 51)?,
+            del(alloc, 1)?,
+            put(alloc, 4, 40)?,
+            put(alloc, 7, 70)?,
+            put(alloc, 5, 52)?,
+            del(alloc, 7)?,
+            del(alloc, 9)?,
+            put(alloc, 0, 0)?,
+        ]?;
+        let rows = rows.after(alloc, Packet::from_batch(alloc, batch)?)?;
+        let rows = rows.after(alloc, Packet::new(alloc))?;
+        let wanted = [(0, 0), (3, 30), (4, 40), (5, 52)];
+        assert_eq!(rt; rows.len(), wanted.len());
+        for (place, (number, other)) in wanted.into_iter().enumerate() {
+            let key = key_of(alloc, number)?;
+            let (at, row) = rows.get(place);
+            assert!(rt; at.compare(&key) == Ordering::Equal);
+            assert!(rt; holds(row, number, other));
+            assert!(rt; rows.find(&key).is_some_and(|row| holds(row, number, other)));
+        }
+        assert!(rt; rows.find(&key_of(alloc, 1)?).is_none());
+        assert!(rt; rows.find(&key_of(alloc, 9)?).is_none());
+
+        let parts = rows.deal(alloc, 3)?;
+        assert_eq!(rt; parts.len(), 2);
+        for part in &parts {
+            assert_eq!(rt; part.len(), 2);
+        }
+        Ok(())
+    }
+}
