@@ -1,6 +1,5 @@
 -- What the code makes of an inner node is what becomes of it.
-use Rattle.std.proofs.Common.{Vec, Global, Result, Ok, Err, IfOk, ◌≡◌, ◌≤◌, ◌<◌, ◌+◌, ◌*◌, ℕ, Bool, List, [], ◌∷◌, ◌++◌, length, map, refl, sym, ap, subst, ◌∙◌, arith}
-use Rattle.std.specs.List.{zip}
+use Rattle.std.proofs.Common.{Vec, Global, Result, Ok, Err, IfOk, ◌≡◌, ◌≤◌, ◌<◌, ◌+◌, ◌*◌, ℕ, Bool, List, [], ◌∷◌, length, sym, ap, subst, ◌∙◌, arith}
 use Rattle.bt_messages.specs.Effects.{effect_of}
 use Rattle.bt_messages.specs.Messages.{IsSorted}
 use Rattle.bt_messages.specs.declared.message.Message.{Message}
@@ -12,13 +11,13 @@ use Rattle.bt_node.specs.Keys.{Key}
 use Rattle.bt_node.specs.Messages.{Messages, with_messages}
 use Rattle.bt_node.specs.Plans.{marks_of, planned}
 use Rattle.bt_node.specs.Loops.{passed}
-use Rattle.bt_node.specs.Trees.{Shape, Siblings, children, height, height_below, inner, nodes}
+use Rattle.bt_node.specs.Trees.{Shape, Siblings, height, height_below, nodes}
 use Rattle.bt_node.specs.Fits.{IsLed}
 use Rattle.bt_node.specs.Flushes.{Child, absorb, counts, flushed, flushed_over, grouped, shared}
 use Rattle.bt_node.specs.Shares.{marked_children, with_shares}
 use Rattle.bt_node.specs.Views.{children_of, siblings_of, tree_of, waiting_of}
 use Rattle.bt_node.proofs.Children.{waits}
-use Rattle.bt_node.proofs.Groups.{children-nodes, led-full}
+use Rattle.bt_node.proofs.Groups.{children-nodes}
 use Rattle.bt_node.proofs.Marks.{flushed_over-marks}
 use Rattle.bt_node.proofs.Recursion.{absorb_recurs}
 use Rattle.bt_node.proofs.Still.{still-here}
@@ -62,7 +61,7 @@ module _ {V : Type 0} (s : Shape) (cs : Vec (Key × Node V) Global) (buffer pack
     parts_sorted =
         let xs = shared (siblings_of cs.items) after in
         subst (λ zs. IsSorted (waits zs)) (sym (flushed_is ∙ ap (pass s) marked))
-            (sorted-passed (absorb effect_of s) xs (marks_of (length xs) (planned (counts xs) s.buffer)) (shares-sorted (siblings_of cs.items)))
+        (sorted-passed (absorb effect_of s) xs (marks_of (length xs) (planned (counts xs) s.buffer)) (shares-sorted (siblings_of cs.items)))
 
     pub grouped_anew : grouped s (children_of parts) ≡ absorb effect_of s (tree_of (variants.Inner cs buffer)) packet
     grouped_anew =

@@ -30,7 +30,7 @@ high-siblings levels low high (x ∷ []) b = (height-lies levels low high x.1 b,
 high-siblings levels low high (x ∷ y ∷ ys) b = (height-lies levels low (Some y.0) x.1 b.2, high-siblings levels (Some y.0) high (y ∷ ys) b.3)
 
 -- without limits any packet is within them
-anywhere : {X : Type 0} (xs : List (Key × X)) → AllWithin None None xs
+pub anywhere : {X : Type 0} (xs : List (Key × X)) → AllWithin None None xs
 anywhere [] = tt
 anywhere (x ∷ xs) = (record { from = tt; below = tt }, anywhere xs)
 

@@ -3,6 +3,7 @@ pub mod Absorbs
 pub mod Buffers
 pub mod Children
 pub mod Choices
+pub mod Crowning
 pub mod Crowns
 pub mod DealPass
 pub mod Deals
@@ -20,6 +21,7 @@ pub mod Order
 pub mod Outside
 pub mod Packets
 pub mod Passes
+pub mod Planting
 pub mod Plans
 pub mod Raising
 pub mod Recursion

@@ -1,15 +1,17 @@
 -- What a node's tree is, by its layer.
-use Rattle.std.proofs.Common.{Vec, Global, ◌≡◌, ℕ, List, [], ◌∷◌, ◌++◌, map, length, suc, refl, ap, sym, ◌∙◌}
+use Rattle.std.proofs.Common.{Vec, Global, ◌≡◌, List, [], ◌∷◌, length, suc, refl, ap, sym, ◌∙◌}
 use Rattle.bt_messages.specs.declared.message.Message.{Message}
 use Rattle.bt_node.specs.declared.node.Node.{Node}
-use Rattle.bt_node.specs.declared.node.Node.TheOpen.{Node-F, Leaf, Inner}
+use Rattle.bt_node.specs.declared.node.Node.TheOpen.{Leaf, Inner}
 use Rattle.bt_node.specs.declared.node.Node.TheVariants.{rolls-Inner, rolls-Leaf}
 use Rattle.bt_node.specs.declared.node.Node.TheVariants as variants
-use Rattle.bt_node.specs.declared.node.Node.TheFolds.{fold-Node, fold-roll-Node}
+use Rattle.bt_node.specs.declared.node.Node.TheFolds.{fold-roll-Node}
 use Rattle.bt_node.specs.Keys.{Key}
 use Rattle.bt_node.specs.Messages.{Rows, Messages}
 use Rattle.bt_node.specs.Trees.{Tree, nodes, leaf, inner}
 use Rattle.bt_node.specs.Views.{tree_of, tree_step, siblings_of}
+use Rattle.bt_node.specs.Walks.{children_of}
+use Rattle.bt_node.proofs.Groups.{children-nodes}
 
 module _ {V : Type 0} where
   pub tree_inner : (children : Vec (Key × Node V) Global) (buffer : Messages (Message V)) → tree_of (variants.Inner children buffer) ≡ inner (nodes (siblings_of children.items)) buffer
@@ -21,3 +23,6 @@ module _ {V : Type 0} where
   pub length-siblings : (xs : List (Key × Node V)) → length (siblings_of xs) ≡ length xs
   length-siblings [] = refl
   length-siblings (x ∷ xs) = ap suc (length-siblings xs)
+
+  pub children_seen : (t : Tree V (Message V)) (n : Node V) (cs : Vec (Key × Node V) Global) (buffer : Messages (Message V)) → tree_of n ≡ t → n ≡ variants.Inner cs buffer → children_of t ≡ siblings_of cs.items
+  children_seen t n cs buffer e is = ap children_of (sym e ∙ ap tree_of is ∙ tree_inner cs buffer) ∙ children-nodes (siblings_of cs.items)

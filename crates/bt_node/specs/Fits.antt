@@ -63,3 +63,9 @@ IsFit shape t = (levels : ℕ) × NodeFits shape levels None None t
 pub record IsRoomy (shape : Shape) : Type 0 where
   pub fanout : 3 ≤ shape.fanout
   pub leaf : 1 ≤ shape.leaf
+
+-- a tree that fits its shape, which has room
+pub record HasShape {V M : Type 0} (shape : Shape) (t : Tree V M) : Type 0 where
+  pub roomy : IsRoomy shape
+  pub levels : ℕ
+  pub fits : NodeFits shape levels None None t

@@ -14,4 +14,5 @@ pub mod Shares
 pub mod Stored
 pub mod Trees
 pub mod Views
+pub mod Walks
 pub mod WorkedRows

@@ -1,5 +1,5 @@
 -- The tree that a node stands for.
-use Rattle.std.specs.Prelude.{List, [], map, ℕ}
+use Rattle.std.specs.Prelude.{List, [], map}
 use Rattle.std.specs.List.{flat_map}
 use Rattle.bt_node.specs.declared.node.Node.{Node}
 use Rattle.bt_node.specs.declared.node.Node.TheOpen.{Node-F, Leaf, Inner}

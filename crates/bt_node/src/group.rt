@@ -114,8 +114,8 @@ pub(crate) fn group<V: Merge>(
     Ok(nodes)
 }
 
-// Adds a child for which nothing waits.
-fn add_part<V: Merge>(
+/// Adds a child for which nothing waits.
+pub(crate) fn add_part<V: Merge>(
     alloc: Global,
     children: &mut Vec<Child<V>>,
     pivot: Key,

@@ -10,6 +10,7 @@
 #![tactic(auto)]
 
 mod absorb;
+mod crowned;
 mod deal;
 mod group;
 mod laws;
@@ -18,10 +19,16 @@ mod planning;
 mod rows;
 mod shape;
 mod share;
+mod tree;
+mod walk;
 
 pub use laws::{
     HasEffect, absorb_keeps_the_map, absorb_keeps_the_shape, children_by_the_same_rule,
     crown_keeps_all, drain_keeps_all, lookup_finds_held, messages_in_order, pack_keeps_all,
     plan_is_choice, sunk_keeps_all,
 };
+pub use node::Node;
 pub use planning::plan;
+pub use shape::Shape;
+pub use tree::{Siblings, Tree, absorb_alone, crown};
+pub use walk::Walk;

@@ -1,13 +1,11 @@
-use Rattle.std.proofs.Common.{◌≡◌, ◌≤◌, ◌∷◌, ◌∙◌, [], ap, arith, length, rules, subst, sym}
-use Rattle.std.proofs.lemmas.List.{length-map}
+use Rattle.std.proofs.Common.{◌≡◌, ◌≤◌, ◌∙◌, ap, arith, length, rules, subst, sym}
 use Rattle.bt_messages.specs.Effects.{effect_of}
 use Rattle.bt_messages.specs.Messages.{IsSorted}
-use Rattle.bt_node.specs.declared.node.Node.TheVariants as variants
 use Rattle.bt_node.specs.Fits.{IsLed}
 use Rattle.bt_node.specs.Flushes.{absorb, leaves}
 use Rattle.bt_node.specs.Shares.{marked_children, with_shares}
-use Rattle.bt_node.specs.Views.{children_of, siblings_of, tree_of}
-use Rattle.bt_node.proofs.Absorbing.{grouped_anew, if_ok, parts_sorted, pass, stays_here}
+use Rattle.bt_node.specs.Views.{siblings_of, tree_of}
+use Rattle.bt_node.proofs.Absorbing.{grouped_anew, if_ok, parts_sorted, stays_here}
 use Rattle.bt_node.proofs.Views.{length-siblings, tree_leaf}
 use Rattle.bt_node.proofs.absorb.+flushes.Goals as goal
 
@@ -37,7 +35,7 @@ absorb-group-requires g t c =
 pub absorb-returns-in_ok-after-in-Leaf : goal.absorb-returns-in_ok-after-in-Leaf
 absorb-returns-in_ok-after-in-Leaf g t c =
     if_ok _ _ c.leaves.result (λ nodes e. e ∙ ap (leaves c.args.shape) c.in_ok-after-in-Leaf.ensures ∙ sym (ap (λ n. absorb effect_of c.args.shape (tree_of n) c.args.packet) c.in-Leaf.is
-        ∙ ap (λ n. absorb effect_of c.args.shape n c.args.packet) (tree_leaf c.in-Leaf.rows))) c.leaves.ensures
+    ∙ ap (λ n. absorb effect_of c.args.shape n c.args.packet) (tree_leaf c.in-Leaf.rows))) c.leaves.ensures
 
 pub absorb-returns-in_ok-parts-in-Inner : goal.absorb-returns-in_ok-parts-in-Inner
 absorb-returns-in_ok-parts-in-Inner g t c =
@@ -47,4 +45,4 @@ absorb-returns-in_ok-parts-in-Inner g t c =
     let sorted : IsSorted after = search rules in
     let marked : with_shares cs.items c.in_ok-shares-in-Inner.shares.items ≡ marked_children (siblings_of cs.items) after c.args.shape.buffer = search rules in
     if_ok _ _ c.group.result (λ nodes e. e ∙ grouped_anew c.args.shape cs c.in-Inner.buffer c.args.packet after taken sorted c.in_ok-shares-in-Inner.shares.items marked
-        c.in_ok-parts-in-Inner.parts.items c.in_ok-parts-in-Inner.ensures ∙ sym (ap (λ n. absorb effect_of c.args.shape (tree_of n) c.args.packet) c.in-Inner.is)) c.group.ensures
+    c.in_ok-parts-in-Inner.parts.items c.in_ok-parts-in-Inner.ensures ∙ sym (ap (λ n. absorb effect_of c.args.shape (tree_of n) c.args.packet) c.in-Inner.is)) c.group.ensures

@@ -1,9 +1,8 @@
-use Rattle.std.proofs.Common.{◌≡◌, ◌∷◌, ◌++◌, ◌∙◌, [], ap, append_assoc, arith, refl, rules, subst, sym}
+use Rattle.std.proofs.Common.{◌≡◌, ◌∷◌, ◌++◌, ◌∙◌, [], ap, arith, refl, rules, subst, sym}
 use Rattle.bt_messages.specs.Messages.{IsSorted}
 use Rattle.bt_node.specs.Deals.{deal}
-use Rattle.bt_node.specs.Flushes.{gathered}
-use Rattle.bt_node.specs.Views.{children_of, siblings_of, tree_of, waiting_of}
-use Rattle.bt_node.proofs.Gathering.{all_dealt, all_of, first_part, group_done, group_none, groups_of, more, nothing_left, other_parts, parts_of}
+use Rattle.bt_node.specs.Views.{siblings_of, tree_of, waiting_of}
+use Rattle.bt_node.proofs.Gathering.{all_dealt, all_of, first_part, group_done, group_none, groups_of, more, nothing_left, other_parts}
 use Rattle.bt_node.proofs.group.group.Goals as goal
 
 pub returns-in_default : goal.returns-in_default
@@ -56,6 +55,6 @@ returns g c =
     let split : parts ≡ c.in-Some.first ∷ rest = search rules in
     let none : it.items ≡ [] = nothing_left it.items (omega (arith, it.ok.0, c.in-None.ensures.steps.0)) in
     let start = ap siblings_of c.in_ok-push.ensures.items ∙ ap (λ xs. siblings_of (xs ++ (c.new.result, c.in_ok-node.node) ∷ [])) c.new-nodes.ensures.items
-        ∙ ap (λ k. (k, tree_of c.in_ok-node.node) ∷ []) c.new.ensures in
+    ∙ ap (λ k. (k, tree_of c.in_ok-node.node) ∷ []) c.new.ensures in
     group_done c.args.shape parts c.args.children.items c.in-Some.first rest it.items c.in_ok-node.field-0-0 c.in_ok-node.node c.push.new.self.items c.loop-part.nodes.items
-        dealt split c.in_ok-node.ensures start c.loop-part.invariant.nodes none
+    dealt split c.in_ok-node.ensures start c.loop-part.invariant.nodes none

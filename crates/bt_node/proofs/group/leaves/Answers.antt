@@ -27,5 +27,5 @@ returns g c =
     let split : parts ≡ first ∷ rest = search rules in
     let empty : it.items ≡ [] = nothing_left it.items (omega (arith, it.ok.0, c.in-None.ensures.steps.0)) in
     let start = ap siblings_of c.in_ok-push.ensures.items ∙ ap (λ xs. siblings_of (xs ++ (c.new.result, variants.Leaf first) ∷ [])) c.new-nodes.ensures.items
-        ∙ ap (λ k. siblings_of ((k, variants.Leaf first) ∷ [])) c.new.ensures ∙ ap (λ t. ([], t) ∷ []) (tree_leaf first) in
+    ∙ ap (λ k. siblings_of ((k, variants.Leaf first) ∷ [])) c.new.ensures ∙ ap (λ t. ([], t) ∷ []) (tree_leaf first) in
     leaves_done c.args.shape c.args.rows parts first rest it.items c.push.new.self.items c.loop-part.nodes.items dealt split start c.loop-part.invariant empty

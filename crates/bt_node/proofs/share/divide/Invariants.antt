@@ -1,4 +1,4 @@
-use Rattle.std.proofs.Common.{◌≡◌, ◌+◌, ◌++◌, drop, map}
+use Rattle.std.proofs.Common.{◌≡◌, ◌++◌, drop, map}
 use Rattle.bt_node.specs.Shares.{divided}
 use Rattle.bt_node.proofs.share.divide.Given as goal
 

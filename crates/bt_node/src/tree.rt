@@ -1,0 +1,213 @@
+//! Trees, and what becomes of them under a packet.
+ghost use Rattle.std.specs.Prelude.{◌≡◌, ℕ, [], IfOk};
+ghost use Rattle.std.specs.FinMap.{find};
+ghost use Rattle.std.specs.declared.option.Option.TheVariants.{None};
+ghost use Rattle.bt_messages.specs.Effects.{effect_of};
+ghost use Rattle.bt_node.specs.Fits.{HasShape, SiblingsFit};
+ghost use Rattle.bt_node.specs.Flushes.{absorb, crown, holds, sunk};
+ghost use Rattle.bt_node.specs.Keys.{key_cmp};
+ghost use Rattle.bt_node.specs.Messages.{rows_after};
+ghost use Rattle.bt_node.specs.Trees.{leaf};
+ghost use Rattle.bt_node.specs.Views.{tree_of};
+
+use crate::absorb::absorb;
+use crate::crowned::crowned;
+use crate::node::Node;
+use crate::rows::Rows;
+use crate::shape::Shape;
+use crate::walk::Walk;
+use bt_keycode::Key;
+use bt_messages::{Merge, Packet};
+use std::alloc::{AllocError, Global};
+use std::marker::Model;
+
+/// A tree with its shape. A contract sees the shape and the tree that the root stands for, which fits the shape.
+#[derive(Drop)]
+pub struct Tree<V: Merge> {
+    shape: Shape,
+    root: Node<V>,
+}
+
+impl<V: Merge> Model for Tree<V> {
+    ghost use Rattle.bt_messages.specs.declared.message.Message.{Message};
+    ghost use Rattle.bt_node.specs.Trees as trees;
+    ghost use Rattle.bt_node.specs.Fits.{HasShape};
+    ghost use Rattle.bt_node.specs.Stored.{message_code, planted_code};
+
+    ghost Value = { trees.Shape × trees.Tree V (Message V) };
+
+    ghost coded = { planted_code V.code (message_code V.code) };
+
+    ghost use Rattle.bt_node.specs.Views.{tree_of};
+
+    ghost view = { λ t. (t.shape, tree_of t.root) };
+
+    ghost invariant = { λ t. HasShape t.shape (tree_of t.root) };
+}
+
+/// Neighbouring nodes, each behind the pivot before it and the first behind the empty key.
+#[derive(Drop)]
+pub struct Siblings<V: Merge> {
+    nodes: Vec<(Key, Node<V>)>,
+}
+
+impl<V: Merge> Model for Siblings<V> {
+    ghost use Rattle.std.specs.Coded.{coded×, coded_list, coded_ℕ};
+    ghost use Rattle.bt_messages.specs.declared.message.Message.{Message};
+    ghost use Rattle.bt_node.specs.Trees as trees;
+    ghost use Rattle.bt_node.specs.Stored.{message_code, tree_code};
+
+    ghost Value = { trees.Siblings V (Message V) };
+
+    ghost coded = { coded_list (coded× (coded_list coded_ℕ) (tree_code V.code (message_code V.code))) };
+
+    ghost use Rattle.bt_node.specs.Views.{siblings_of};
+
+    ghost view = { λ s. siblings_of s.nodes.items };
+}
+
+/// What becomes of a node and a packet, on the caller's thread. An `Err` keeps neither.
+pub fn absorb_alone<V: Merge>(
+    alloc: Global,
+    shape: Shape,
+    node: Node<V>,
+    packet: Packet<V>,
+) -> Result<Siblings<V>, AllocError>
+    ensures { IfOk result (λ siblings. siblings ≡ absorb effect_of shape (tree_of node) packet) }
+{
+    let nodes = absorb(alloc, shape, node, packet)?;
+    Ok(Siblings { nodes })
+}
+
+/// The tree whose root stands above these siblings. An `Err` keeps nothing of them.
+#[tactic(auto, using(crate::proofs::Planting::crown_has_shape))]
+pub fn crown<V: Merge>(
+    alloc: Global,
+    shape: Shape,
+    siblings: Siblings<V>,
+) -> Result<Tree<V>, AllocError>
+    requires { (levels : ℕ) × SiblingsFit shape levels None None siblings }
+    ensures { IfOk result (λ tree. tree ≡ (shape, crown shape siblings)) }
+{
+    let Siblings { nodes } = siblings;
+    let root = crowned(alloc, shape, nodes)?;
+    Ok(Tree { shape, root })
+}
+
+impl<V: Merge> Tree<V> {
+    /// One leaf without rows.
+    pub fn empty(alloc: Global, shape: Shape) -> Self
+        ensures { result ≡ (shape, leaf []) }
+    {
+        Tree {
+            shape,
+            root: Node::Leaf(Rows::new(alloc)),
+        }
+    }
+
+    pub fn shape(&self) -> Shape
+        ensures { result ≡ self.now.0 }
+    {
+        self.shape
+    }
+
+    /// The shape and the root.
+    pub fn apart(self) -> (Shape, Node<V>)
+        ensures shape { result.0 ≡ self.0 }
+        ensures root { tree_of result.1 ≡ self.1 }
+        ensures fits { HasShape self.0 self.1 }
+    {
+        let Tree { shape, root } = self;
+        (shape, root)
+    }
+
+    /// The tree after a packet, on the caller's thread. An `Err` keeps neither.
+    pub fn sink(self, alloc: Global, packet: Packet<V>) -> Result<Self, AllocError>
+        ensures tree { IfOk result (λ tree. tree ≡ (self.0, sunk effect_of self.0 self.1 packet)) }
+        ensures rows { IfOk result (λ tree. holds effect_of tree.1 ≡ rows_after effect_of packet (holds effect_of self.1)) }
+    {
+        let (shape, root) = self.apart();
+        let siblings = absorb_alone(alloc, shape, root, packet)?;
+        Ok(crown(alloc, shape, siblings)?)
+    }
+
+    /// What can be seen of the root and of all that is below it.
+    pub fn walk(&self) -> Walk<'_, V>
+        ensures root { result ≡ self.now.1 }
+        ensures fits { HasShape self.now.0 self.now.1 }
+    {
+        Walk::new(&self.root)
+    }
+}
+
+#[cfg(test)]
+mod tests {
+    use super::*;
+    use bt_keycode::encode;
+    use bt_messages::Message;
+    use bt_rowtype::{Row, Value};
+    use std::test::Fail;
+
+    fn shape() -> Result<Shape, AllocError> {
+        Shape::new(4, 3, 2).map_err(|_| AllocError)
+    }
+
+    // Puts of numbers, each under its own code.
+    fn puts(alloc: Global, numbers: &[i64]) -> Result<Packet<Row>, AllocError> {
+        let mut batch = Vec::new(alloc);
+        for number in numbers {
+            let key = encode(alloc, &[Value::Int(*number)])?;
+            let row = Row::new(vec![in alloc; Value::Int(*number)]?);
+            batch.push((key, Message::Put(row)))?;
+        }
+        Packet::from_batch(alloc, batch)
+    }
+
+    // The numbers of rows of the leaves, from left to right.
+    fn leaves(alloc: Global, walk: &Walk<Row>) -> Result<Vec<usize>, AllocError> {
+        let mut counts = Vec::new(alloc);
+        for place in 0..walk.child_count() {
+            counts.push(walk.child(place).row_count())?;
+        }
+        Ok(counts)
+    }
+
+    #[test]
+    fn a_leaf_splits_and_ties_flush_left(rt: HostRuntime) -> Result<(), Fail> {
+        let alloc = rt.alloc();
+        let tree = Tree::empty(alloc, shape()?);
+        assert!(rt; tree.walk().is_leaf());
+        assert_eq!(rt; tree.shape().fanout(), 4);
+        let tree = tree.sink(alloc, puts(alloc, &[1, 2, 3, 4])?)?;
+        assert_eq!(rt; leaves(alloc, &tree.walk())?.as_slice(), [2, 2].as_slice());
+        assert_eq!(rt; tree.walk().message_count(), 0);
+
+        let tree = tree.sink(alloc, puts(alloc, &[1, 2, 3, 4])?)?;
+        assert_eq!(rt; tree.walk().message_count(), 2);
+        let three = encode(alloc, &[Value::Int(3)])?;
+        let (key, message) = tree.walk().message(0);
+        assert!(rt; key.compare(&three) == std::cmp::Ordering::Equal);
+        assert!(rt; matches!(message, Message::Put(_)));
+        assert!(rt; tree.walk().pivot(1).compare(&three) == std::cmp::Ordering::Equal);
+        Ok(())
+    }
+
+    #[test]
+    fn a_node_and_its_crown(rt: HostRuntime) -> Result<(), Fail> {
+        let alloc = rt.alloc();
+        let (shape, root) = Tree::empty(alloc, shape()?).apart();
+        let siblings = absorb_alone(
+            alloc,
+            shape,
+            root,
+            puts(alloc, &[1, 2, 3, 4, 5, 6, 7, 8, 9])?,
+        )?;
+        let tree = crown(alloc, shape, siblings)?;
+        assert_eq!(rt; tree.walk().child_count(), 2);
+        let first = tree.walk().child(0);
+        assert_eq!(rt; leaves(alloc, &first)?.as_slice(), [2, 2, 2].as_slice());
+        let (key, _) = first.child(0).row(0);
+        assert_eq!(rt; key.len(), 8);
+        Ok(())
+    }
+}
