@@ -1,6 +1,6 @@
 //! Buffers: what waits at a node.
-ghost use Rattle.std.specs.Prelude.{◌≡◌, ◌==◌, ◌<◌, [], Some, IfOk, OnOk, OnErr, length, slice_get};
-ghost use Rattle.bt_messages.specs.Messages.{messages_between, messages_outside, with_messages};
+ghost use Rattle.std.specs.Prelude.{◌≡◌, ◌==◌, ◌<◌, ◌≤◌, [], Some, IfOk, OnOk, OnErr, drop, length, slice_get, take};
+ghost use Rattle.bt_messages.specs.Messages.{IsSorted, messages_before, messages_between, messages_from, messages_outside, with_messages};
 ghost use Rattle.std.specs.Option.{option_copied};
 
 use crate::message::{Merge, Message};
@@ -53,6 +53,16 @@ impl<V: Merge> Buffer<V> {
     {
         let entry = &self.messages[place];
         (&entry.0, &entry.1)
+    }
+
+    /// How many messages have a key before this one: the place of the first that is at or past it.
+    pub fn first_from(&self, key: &Key) -> usize
+        ensures bound { result ≤ length self.now }
+        ensures before { take result self.now ≡ messages_before key.now self.now }
+        ensures from { drop result self.now ≡ messages_from key.now self.now }
+        ensures sorted { IsSorted self.now }
+    {
+        sorted::place_of(self.messages.as_slice(), key)
     }
 
     /// The messages, to be taken off from the front.
@@ -182,6 +192,9 @@ mod tests {
         assert!(rt; is_put(alloc, &buffer, 0, 0)?);
         assert!(rt; is_put(alloc, &buffer, 1, 1)?);
         assert!(rt; is_del(alloc, &buffer, 2, 1)?);
+        for (number, place) in [(-1, 0), (0, 0), (1, 1), (2, 3)] {
+            assert_eq!(rt; buffer.first_from(&key_of(alloc, number)?), place);
+        }
 
         let one = key_of(alloc, 1)?;
         let taken = buffer.take_range(alloc, Some(&one), None)?;

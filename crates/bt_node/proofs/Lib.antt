@@ -21,6 +21,7 @@ pub mod Order
 pub mod Outside
 pub mod Packets
 pub mod Passes
+pub mod Paths
 pub mod Planting
 pub mod Plans
 pub mod Raising

@@ -1,5 +1,5 @@
 -- The value at a key, looked up along one path from the root.
-use Rattle.std.specs.Prelude.{cond}
+use Rattle.std.specs.Prelude.{ℕ, suc, cond, List, [], ◌∷◌}
 use Rattle.std.specs.FinMap.{find}
 use Rattle.std.specs.declared.option.Option.{Option}
 use Rattle.std.specs.declared.option.Option.TheVariants.{None}
@@ -19,3 +19,8 @@ module _ {V M : Type 0} (effect : Option V → M → Option V) where
     value_below k none = None
     value_below k (node p t none) = value_at k t
     value_below k (node p t (node q u ns)) = cond (key_lt k q) (value_at k t) (value_below k (node q u ns))
+
+-- how many of the first siblings have a pivot that is at most a key
+abbrev pub pivots_up_to : {X : Type 0} → Key → List (Key × X) → ℕ
+pivots_up_to k [] = 0
+pivots_up_to k (x ∷ xs) = cond (key_lt k x.0) 0 (suc (pivots_up_to k xs))

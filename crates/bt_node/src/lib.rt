@@ -14,6 +14,7 @@ mod crowned;
 mod deal;
 mod group;
 mod laws;
+mod lookup;
 mod node;
 mod planning;
 mod rows;

@@ -12,6 +12,7 @@ ghost use Rattle.bt_node.specs.Views.{tree_of};
 
 use crate::absorb::absorb;
 use crate::crowned::crowned;
+use crate::lookup::value_at;
 use crate::node::Node;
 use crate::rows::Rows;
 use crate::shape::Shape;
@@ -109,6 +110,13 @@ impl<V: Merge> Tree<V> {
         ensures { result ≡ self.now.0 }
     {
         self.shape
+    }
+
+    /// The value at a key when all messages have had their effect.
+    pub fn get(&self, alloc: Global, key: &Key) -> Result<Option<V>, AllocError>
+        ensures { IfOk result (λ value. value ≡ find key_cmp key.now (holds effect_of self.now.1)) }
+    {
+        value_at(alloc, &self.root, key)
     }
 
     /// The shape and the root.

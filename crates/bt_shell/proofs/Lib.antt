@@ -1,9 +1,12 @@
 pub mod Batches
 pub mod Columns
 pub mod Cuts
+pub mod Drawings
 pub mod Fronts
+pub mod Indents
 pub mod Machine
+pub mod Merges
 pub mod Names
-pub mod Orders
-pub mod Places
+pub mod Scans
+pub mod Sinks
 pub mod WorkedRows

@@ -41,71 +41,73 @@ blank-more block line = list_all-append is_blank_line block (line ∷ []) ∙ ap
     and-true false = refl
 
 -- a line that does not close the block
-pub inside-more : (ws : List (List ℕ)) (closing : List ℕ) (block : List (List ℕ)) (line : List ℕ) (more : List (List ℕ)) → is_word (without_return line) closing ≡ false
-    → commands_from (Inside ws closing block) (line ∷ more) ≡ commands_from (Inside ws closing (block ++ line ∷ [])) more
+pub inside-more : (head closing : List ℕ) (block : List (List ℕ)) (line : List ℕ) (more : List (List ℕ)) → is_word (without_return line) closing ≡ false
+    → commands_from (Inside head closing block) (line ∷ more) ≡ commands_from (Inside head closing (block ++ line ∷ [])) more
 unfolding commands_from step
-inside-more ws closing block line more other = rw other refl
+inside-more head closing block line more other = rw other refl
 
 -- the line that closes it
-pub inside-closed : (ws : List (List ℕ)) (closing : List ℕ) (block : List (List ℕ)) (line : List ℕ) (more : List (List ℕ)) → is_word (without_return line) closing ≡ true
-    → commands_from (Inside ws closing block) (line ∷ more) ≡ or_syntax (command_of ws block) ∷ commands_from Outside more
+pub inside-closed : (head closing : List ℕ) (block : List (List ℕ)) (line : List ℕ) (more : List (List ℕ)) → is_word (without_return line) closing ≡ true
+    → commands_from (Inside head closing block) (line ∷ more) ≡ or_syntax (command_of head block) ∷ commands_from Outside more
 unfolding commands_from step
-inside-closed ws closing block line more closes = rw closes refl
+inside-closed head closing block line more closes = rw closes refl
 
 -- the end of the script
-pub inside-cut : (ws : List (List ℕ)) (closing : List ℕ) (block : List (List ℕ)) → commands_from (Inside ws closing block) [] ≡ unfinished (command_of ws block) ∷ commands_from Outside []
+pub inside-cut : (head closing : List ℕ) (block : List (List ℕ)) → commands_from (Inside head closing block) [] ≡ unfinished (command_of head block) ∷ commands_from Outside []
 unfolding commands_from
-inside-cut ws closing block = refl
+inside-cut head closing block = refl
 
 -- inside a block, what stands at one place is what stands at another behind these lines
 abbrev pub Leads : List ℕ → ℕ → ℕ → List ℕ → List (List ℕ) → Type 0
-Leads script start at closing block = (ws : List (List ℕ)) → commands_from (Inside ws closing []) (lines (drop start script)) ≡ commands_from (Inside ws closing block) (lines (drop at script))
+Leads script start at closing block = (head : List ℕ) → commands_from (Inside head closing []) (lines (drop start script)) ≡ commands_from (Inside head closing block) (lines (drop at script))
 
 pub leads-more : (script : List ℕ) (start at next : ℕ) (closing line : List ℕ) (block : List (List ℕ)) → Leads script start at closing block
     → lines (drop at script) ≡ line ∷ lines (drop next script) → is_word (without_return line) closing ≡ false → Leads script start next closing (block ++ line ∷ [])
-leads-more script start at next closing line block so_far first other ws =
-    so_far ws ∙ ap (commands_from (Inside ws closing block)) first ∙ inside-more ws closing block line (lines (drop next script)) other
+leads-more script start at next closing line block so_far first other head =
+    so_far head ∙ ap (commands_from (Inside head closing block)) first ∙ inside-more head closing block line (lines (drop next script)) other
 
 pub leads-closed : (script : List ℕ) (start at next : ℕ) (closing line : List ℕ) (block : List (List ℕ)) → Leads script start at closing block
     → lines (drop at script) ≡ line ∷ lines (drop next script) → is_word (without_return line) closing ≡ true → IsBlock script start closing block true next
-leads-closed script start at next closing line block so_far first closes ws =
-    so_far ws ∙ ap (commands_from (Inside ws closing block)) first ∙ inside-closed ws closing block line (lines (drop next script)) closes
+leads-closed script start at next closing line block so_far first closes head =
+    so_far head ∙ ap (commands_from (Inside head closing block)) first ∙ inside-closed head closing block line (lines (drop next script)) closes
 
 pub leads-cut : (script : List ℕ) (start at : ℕ) (closing : List ℕ) (block : List (List ℕ)) → Leads script start at closing block
     → length script ≤ at → IsBlock script start closing block false (length script)
-leads-cut script start at closing block so_far past ws =
+leads-cut script start at closing block so_far past head =
     let none : drop at script ≡ [] = drop_all at script past in
     let left : drop (length script) script ≡ [] = drop_all (length script) script (omega arith) in
-    so_far ws ∙ ap (λ (rest : List ℕ). commands_from (Inside ws closing block) (lines rest)) (none ∙ sym left) ∙ rw left (inside-cut ws closing block)
+    so_far head ∙ ap (λ (rest : List ℕ). commands_from (Inside head closing block) (lines rest)) (none ∙ sym left) ∙ rw left (inside-cut head closing block)
 
 -- the test of the code is that of the definition
 pub tested : (line inner closing : List ℕ) (found answer : Bool) → inner ≡ without_return line → found ≡ is_word inner closing → found ≡ answer → is_word (without_return line) closing ≡ answer
 tested line inner closing found answer cut test is = ap (λ (l : List ℕ). is_word l closing) (sym cut) ∙ sym test ∙ is
 
 -- the head line of a batch, of a scan, and of any other command
-pub headed-batch : (ws more : List (List ℕ)) → begins ws (codes "batch") ≡ true → headed ws more ≡ commands_from (Inside ws (codes "end") []) more
+pub headed-batch : (head : List ℕ) (more : List (List ℕ)) → begins (words head) (codes "batch") ≡ true → headed head more ≡ commands_from (Inside head (codes "end") []) more
 unfolding closing_of
-headed-batch ws more is = rw is refl
+headed-batch head more is = rw is refl
 
-pub headed-scan : (ws more : List (List ℕ)) → begins ws (codes "batch") ≡ false → begins ws (codes "scan") ≡ true → headed ws more ≡ commands_from (Inside ws (codes "go") []) more
+pub headed-scan : (head : List ℕ) (more : List (List ℕ)) → begins (words head) (codes "batch") ≡ false → begins (words head) (codes "scan") ≡ true
+    → headed head more ≡ commands_from (Inside head (codes "go") []) more
 unfolding closing_of
-headed-scan ws more other is = rw (other, is) refl
+headed-scan head more other is = rw (other, is) refl
 
-pub headed-line : (ws more : List (List ℕ)) (command : Option Command) → begins ws (codes "batch") ≡ false → begins ws (codes "scan") ≡ false → command ≡ command_of ws []
-    → headed ws more ≡ or_syntax command ∷ commands_from Outside more
+pub headed-line : (head : List ℕ) (more : List (List ℕ)) (command : Option Command) → begins (words head) (codes "batch") ≡ false → begins (words head) (codes "scan") ≡ false
+    → command ≡ command_of head [] → headed head more ≡ or_syntax command ∷ commands_from Outside more
 unfolding closing_of
-headed-line ws more command no_batch no_scan is = rw (no_batch, no_scan, is) refl
+headed-line head more command no_batch no_scan is = rw (no_batch, no_scan, is) refl
 
-pub command-batch : (ws block : List (List ℕ)) → begins ws (codes "batch") ≡ true → command_of ws block ≡ batch_of ws (items_of block)
+pub command-batch : (head : List ℕ) (block : List (List ℕ)) → begins (words head) (codes "batch") ≡ true → command_of head block ≡ batch_of (words head) (items_of block)
 unfolding command_of
-command-batch ws block is = rw is refl
+command-batch head block is = rw is refl
 
-pub command-scan : (ws block : List (List ℕ)) → begins ws (codes "batch") ≡ false → begins ws (codes "scan") ≡ true → command_of ws block ≡ scan_of ws (list_all is_blank_line block)
+pub command-scan : (head : List ℕ) (block : List (List ℕ)) → begins (words head) (codes "batch") ≡ false → begins (words head) (codes "scan") ≡ true
+    → command_of head block ≡ scan_of (words head) (list_all is_blank_line block)
 unfolding command_of
-command-scan ws block other is = rw (other, is) refl
+command-scan head block other is = rw (other, is) refl
 
 -- a line outside of blocks: one that heads a command, and a blank one
-pub outside-head : (line : List ℕ) (more : List (List ℕ)) → is_blank_line line ≡ false → commands_from Outside (line ∷ more) ≡ headed (words (without_return line)) more
+pub outside-head : (line : List ℕ) (more : List (List ℕ)) → is_blank_line line ≡ false → commands_from Outside (line ∷ more) ≡ headed (without_return line) more
 unfolding commands_from step
 outside-head line more some = rw some refl
 

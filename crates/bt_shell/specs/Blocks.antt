@@ -1,7 +1,7 @@
 -- What the parts of the parser find, in the words of the commands.
 use Rattle.std.specs.Prelude.{ℕ, ◌≡◌, Bool, true, false, List, [], ◌∷◌, ◌++◌, Option, Some, None, if◌then◌else◌, drop}
 use Rattle.bt_shell.specs.Commands.{Answer, Inside, closing_of, command_of, commands, commands_from, is_blank_line, item_of, opened, or_syntax, unfinished}
-use Rattle.bt_shell.specs.Lines.{lines}
+use Rattle.bt_shell.specs.Lines.{lines, words}
 use Rattle.bt_shell.specs.declared.command.Command.{Command}
 use Rattle.bt_shell.specs.declared.command.Item.{Item}
 
@@ -22,9 +22,9 @@ ended false command = unfinished command
 
 -- a block of these lines stands at a place, with its closing line or without; behind it the script goes on at the next place
 abbrev pub IsBlock : List ℕ → ℕ → List ℕ → List (List ℕ) → Bool → ℕ → Type 0
-IsBlock script at closing block closed next = (ws : List (List ℕ))
-    → commands_from (Inside ws closing []) (lines (drop at script)) ≡ ended closed (command_of ws block) ∷ commands (drop next script)
+IsBlock script at closing block closed next = (head : List ℕ)
+    → commands_from (Inside head closing []) (lines (drop at script)) ≡ ended closed (command_of head block) ∷ commands (drop next script)
 
 -- the commands of a head line and the lines behind it
-abbrev pub headed : List (List ℕ) → List (List ℕ) → List Answer
-headed ws more = (opened ws (closing_of ws)).1 ++ commands_from (opened ws (closing_of ws)).0 more
+abbrev pub headed : List ℕ → List (List ℕ) → List Answer
+headed head more = (opened head (closing_of (words head))).1 ++ commands_from (opened head (closing_of (words head))).0 more

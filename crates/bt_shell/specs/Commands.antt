@@ -10,7 +10,7 @@ use Rattle.bt_rowtype.specs.declared.value.Kind.{Kind}
 use Rattle.bt_rowtype.specs.declared.value.Kind.TheVariants as kind
 use Rattle.bt_shell.specs.Lines.{is_blank, is_name, lines, number_of, without_return, without_spaces, words}
 use Rattle.bt_shell.specs.declared.command.Command.{Command}
-use Rattle.bt_shell.specs.declared.command.Command.TheVariants.{Batch, Scan, Table}
+use Rattle.bt_shell.specs.declared.command.Command.TheVariants.{Batch, Get, Image, Scan, Table}
 use Rattle.bt_shell.specs.declared.command.Item.{Item}
 use Rattle.bt_shell.specs.declared.command.Item.TheVariants.{Put, Del}
 use Rattle.bt_shell.specs.declared.command.Parsed.{Parsed}
@@ -87,6 +87,14 @@ batch_of ws items = if length ws == 1 then option_map Batch items else None
 abbrev pub scan_of : List (List ℕ) → Bool → Option Command
 scan_of ws blank = if (length ws == 2) && is_name (word_at ws 1) && blank then Some (Scan (word_at ws 1)) else None
 
+-- get, one space and a record
+abbrev pub get_of : List ℕ → Option Command
+get_of head = option_map Get (record_behind (codes "get ") (without_spaces head))
+
+-- image and the name of a tree
+abbrev pub image_of : List (List ℕ) → Option Command
+image_of ws = if (length ws == 2) && is_name (word_at ws 1) then Some (Image (word_at ws 1)) else None
+
 -- whether the first of the words is this one
 abbrev pub begins : List (List ℕ) → List ℕ → Bool
 begins ws word = is_word (word_at ws 0) word
@@ -95,12 +103,18 @@ begins ws word = is_word (word_at ws 0) word
 unfoldable pub closing_of : List (List ℕ) → Option (List ℕ)
 closing_of ws = if begins ws (codes "batch") then Some (codes "end") else (if begins ws (codes "scan") then Some (codes "go") else None)
 
--- the command of the words of its head line and the lines of its block, if it is one
-unfoldable pub command_of : List (List ℕ) → List (List ℕ) → Option Command
-command_of ws block =
+-- the command of its head line, which has these words, and of the lines of its block, if it is one
+abbrev pub command_from : List ℕ → List (List ℕ) → List (List ℕ) → Option Command
+command_from head ws block =
     if begins ws (codes "batch") then batch_of ws (items_of block)
     else (if begins ws (codes "scan") then scan_of ws (list_all is_blank_line block)
-    else (if begins ws (codes "table") then table_of ws else None))
+    else (if begins ws (codes "table") then table_of ws
+    else (if begins ws (codes "get") then get_of head
+    else (if begins ws (codes "image") then image_of ws else None))))
+
+-- the command of its head line and the lines of its block, if it is one
+unfoldable pub command_of : List ℕ → List (List ℕ) → Option Command
+command_of head block = command_from head (words head) block
 
 -- a command, or why there is none
 abbrev pub Answer : Type 0
@@ -115,30 +129,30 @@ abbrev pub unfinished : Option Command → Answer
 unfinished None = Err Syntax
 unfinished (Some command) = Err Unfinished
 
--- where a line stands: outside of blocks, or in the block of a head line with these words, with this closing line and these lines before it
+-- where a line stands: outside of blocks, or in the block of this head line, with this closing line and these lines before it
 pub data Place : Type 0 where
   Outside : Place
-  Inside : (ws : List (List ℕ)) → (closing : List ℕ) → (block : List (List ℕ)) → Place
+  Inside : (head : List ℕ) → (closing : List ℕ) → (block : List (List ℕ)) → Place
 
 -- a head line: the command itself where it has no block, or else the start of its block
-abbrev pub opened : List (List ℕ) → Option (List ℕ) → Place × List Answer
-opened ws None = (Outside, or_syntax (command_of ws []) ∷ [])
-opened ws (Some closing) = (Inside ws closing [], [])
+abbrev pub opened : List ℕ → Option (List ℕ) → Place × List Answer
+opened head None = (Outside, or_syntax (command_of head []) ∷ [])
+opened head (Some closing) = (Inside head closing [], [])
 
-abbrev pub head : List (List ℕ) → Place × List Answer
-head ws = opened ws (closing_of ws)
+abbrev pub begun : List ℕ → Place × List Answer
+begun head = opened head (closing_of (words head))
 
 -- one line: where the next one stands, and the command that ends here, if one does
 unfoldable pub step : Place → List ℕ → Place × List Answer
-step Outside line = if is_blank_line line then (Outside, []) else head (words (without_return line))
-step (Inside ws closing block) line =
-    if is_word (without_return line) closing then (Outside, or_syntax (command_of ws block) ∷ [])
-    else (Inside ws closing (block ++ line ∷ []), [])
+step Outside line = if is_blank_line line then (Outside, []) else begun (without_return line)
+step (Inside head closing block) line =
+    if is_word (without_return line) closing then (Outside, or_syntax (command_of head block) ∷ [])
+    else (Inside head closing (block ++ line ∷ []), [])
 
 -- the end of the script
 abbrev pub ending : Place → List Answer
 ending Outside = []
-ending (Inside ws closing block) = unfinished (command_of ws block) ∷ []
+ending (Inside head closing block) = unfinished (command_of head block) ∷ []
 
 -- the commands of lines, from a place on
 unfoldable pub commands_from : Place → List (List ℕ) → List Answer

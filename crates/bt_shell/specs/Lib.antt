@@ -1,10 +1,13 @@
 pub mod Blocks
 pub mod Commands
+pub mod Drawings
+pub mod Images
 pub mod Lines
+pub mod Merges
 pub mod Options
-pub mod Places
 pub mod Runs
 pub mod Statuses
 pub mod Steps
 pub mod Streams
 pub mod Tables
+pub mod Walks

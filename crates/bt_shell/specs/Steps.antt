@@ -1,5 +1,6 @@
 -- What a command does to the table, what it is answered, and why it is refused.
 use Rattle.std.specs.Prelude.{ℕ, ◌&&◌, ◌+◌, not, nat_lt, nat_le, Bool, List, [], ◌∷◌, ◌++◌, length, map, take, flat_map, Option, Some, None, is_some, Result, Ok, Err, if◌then◌else◌, codes, decimal}
+use Rattle.std.specs.FinMap.{find}
 use Rattle.std.specs.List.{filter_map}
 use Rattle.std.specs.Result.{result_err, result_ok}
 use Rattle.bt_rowtype.specs.Records.{record_text}
@@ -9,12 +10,18 @@ use Rattle.bt_rowtype.specs.Values.{read_as, text_of}
 use Rattle.bt_rowtype.specs.declared.refusal.Refusal.{Refusal}
 use Rattle.bt_rowtype.specs.declared.refusal.Refusal.TheVariants.{BadSchema, BadShape, NoSuchTree, NoTable, TableExists, TooMany}
 use Rattle.bt_rowtype.specs.declared.value.Value.{Value}
+use Rattle.bt_keycode.specs.Codes.{code_of}
+use Rattle.bt_messages.specs.declared.message.Message.{Message}
+use Rattle.bt_messages.specs.declared.message.Message.TheVariants as message
+use Rattle.bt_node.specs.Keys.{Key, key_cmp}
+use Rattle.bt_node.specs.Messages.{Rows}
+use Rattle.bt_node.specs.Shapes.{is_shape}
 use Rattle.bt_shell.specs.Commands.{Answer, is_word}
-use Rattle.bt_shell.specs.Tables.{Rows, TableState, with_row, without_key}
-use Rattle.bt_shell.specs.declared.batch.Message.{Message}
-use Rattle.bt_shell.specs.declared.batch.Message.TheVariants as message
+use Rattle.bt_shell.specs.Images.{image_text}
+use Rattle.bt_shell.specs.Tables.{RowMessages, TableState, after_batch, empty_table}
 use Rattle.bt_shell.specs.declared.command.Command.{Command}
-use Rattle.bt_shell.specs.declared.command.Command.TheVariants.{Batch, Scan, Table}
+use Rattle.bt_shell.specs.declared.command.Command.TheVariants.{Batch, Get, Image, Scan, Table}
+use Rattle.bt_shell.specs.declared.command.TableForm.{TableForm}
 use Rattle.bt_shell.specs.declared.command.Item.{Item}
 use Rattle.bt_shell.specs.declared.command.Item.TheVariants.{Put, Del}
 
@@ -22,56 +29,67 @@ use Rattle.bt_shell.specs.declared.command.Item.TheVariants.{Put, Del}
 abbrev pub State : Type 0
 State = Option TableState
 
-abbrev pub made : (List Value → Message) → Result (List Value) Refusal → Result Message Refusal
-made message (Ok values) = Ok (message values)
-made message (Err refusal) = Err refusal
+abbrev pub made : {A B : Type 0} → (A → B) → Result A Refusal → Result B Refusal
+made make (Ok value) = Ok (make value)
+made make (Err refusal) = Err refusal
+
+-- the values of the key that fields spell in a table, or their refusal as this item
+abbrev pub read_key : Layout → ℕ → List (List ℕ) → Result (List Value) Refusal
+read_key layout item fields = read_as (take layout.keys layout.columns) item fields
+
+-- the message to put a row, which goes to the code of its key
+abbrev pub put_of : ℕ → List Value → Key × Message (List Value)
+put_of keys row = (code_of (take keys row), message.Put row)
+
+-- the message to remove the row of a key
+abbrev pub del_of : List Value → Key × Message (List Value)
+del_of key = (code_of key, message.Del)
 
 -- the message that the line of a batch spells in a table, or its refusal as this item
-abbrev pub read_message : Layout → ℕ → Item → Result Message Refusal
-read_message layout item (Put fields) = made message.Put (read_as layout.columns item fields)
-read_message layout item (Del fields) = made message.Del (read_as (take layout.keys layout.columns) item fields)
+abbrev pub read_message : Layout → ℕ → Item → Result (Key × Message (List Value)) Refusal
+read_message layout item (Put fields) = made (put_of layout.keys) (read_as layout.columns item fields)
+read_message layout item (Del fields) = made del_of (read_key layout item fields)
 
 -- what the lines of a batch spell, counted from an item on
-abbrev pub read_batch : Layout → ℕ → List Item → List (Result Message Refusal)
+abbrev pub read_batch : Layout → ℕ → List Item → List (Result (Key × Message (List Value)) Refusal)
 read_batch layout item [] = []
 read_batch layout item (line ∷ lines) = read_message layout item line ∷ read_batch layout (item + 1) lines
 
 -- the messages of a batch
-abbrev pub messages_of : Layout → List Item → List Message
+abbrev pub messages_of : Layout → List Item → RowMessages
 messages_of layout items = filter_map result_ok (read_batch layout 1 items)
-
--- the rows after a message: a put gives its row, a del none
-abbrev pub after_message : ℕ → Message → Rows → Rows
-after_message keys (message.Put row) rows = with_row keys row rows
-after_message keys (message.Del key) rows = without_key key rows
-
--- the rows after messages in order
-abbrev pub after_messages : ℕ → List Message → Rows → Rows
-after_messages keys [] rows = rows
-after_messages keys (m ∷ ms) rows = after_messages keys ms (after_message keys m rows)
-
--- a fanout of 4 to 64, a buffer of 1 to 4,096 and leaves of 2 to 1,024
-abbrev pub is_shape : ℕ → ℕ → ℕ → Bool
-is_shape fanout buffer leaf = (nat_le 4 fanout && nat_le fanout 64) && (nat_le 1 buffer && nat_le buffer 4096) && (nat_le 2 leaf && nat_le leaf 1024)
 
 abbrev pub one_if : Bool → Refusal → List Refusal
 one_if applies refusal = if applies then refusal ∷ [] else []
 
--- the refusals that apply to a command; the fields of a batch and the name of a tree are looked at where there is a table
+-- the refusals that apply to a command on a tree: the primary one is the only one
+abbrev pub tree_refusals : State → List ℕ → List Refusal
+tree_refusals None tree = NoTable ∷ []
+tree_refusals (Some table) tree = one_if (not (is_word tree (codes "primary"))) NoSuchTree
+
+-- the refusals that apply to a command; fields are read where there is a table
 abbrev pub refusals_of : State → Command → List Refusal
 refusals_of state (Table form) =
     one_if (is_some state) TableExists ++ (one_if (not (is_schema form.columns form.keys)) BadSchema ++ one_if (not (is_shape form.fanout form.buffer form.leaf)) BadShape)
 refusals_of None (Batch items) = NoTable ∷ []
 refusals_of (Some table) (Batch items) = filter_map result_err (read_batch table.layout 1 items) ++ one_if (nat_lt 65536 (length items)) TooMany
-refusals_of None (Scan tree) = NoTable ∷ []
-refusals_of (Some table) (Scan tree) = one_if (not (is_word tree (codes "primary"))) NoSuchTree
+refusals_of None (Get fields) = NoTable ∷ []
+refusals_of (Some table) (Get fields) = filter_map result_err (read_key table.layout 1 fields ∷ [])
+refusals_of state (Scan tree) = tree_refusals state tree
+refusals_of state (Image tree) = tree_refusals state tree
+
+-- what a table is made of
+abbrev pub table_of : TableForm → TableState
+table_of form = empty_table (record { columns = form.columns; keys = form.keys }) (record { fanout = form.fanout; buffer = form.buffer; leaf = form.leaf })
 
 -- the table after a command that is not refused
 abbrev pub state_after : State → Command → State
-state_after state (Table form) = Some (record { layout = record { columns = form.columns; keys = form.keys }; rows = [] })
+state_after state (Table form) = Some (table_of form)
 state_after None (Batch items) = None
-state_after (Some table) (Batch items) = Some (record table { rows = after_messages table.layout.keys (messages_of table.layout items) table.rows })
+state_after (Some table) (Batch items) = Some (after_batch table (messages_of table.layout items))
+state_after state (Get fields) = state
 state_after state (Scan tree) = state
+state_after state (Image tree) = state
 
 -- a word, a number and a line end
 abbrev pub count_line : List ℕ → ℕ → List ℕ
@@ -82,15 +100,29 @@ abbrev pub row_line : List Value → List ℕ
 row_line row = codes "row " ++ (record_text (map text_of row) ++ codes "\n")
 
 -- the lines of all rows, and their number
-abbrev pub scan_reply : Rows → List ℕ
+abbrev pub scan_reply : Rows (List Value) → List ℕ
 scan_reply rows = flat_map row_line (map (λ p. p.1) rows) ++ count_line (codes "rows ") (length rows)
+
+-- the row of a key, where it has one
+abbrev pub row_reply : Option (List Value) → List ℕ
+row_reply None = codes "none\n"
+row_reply (Some row) = row_line row
+
+-- the row of the key that was read
+abbrev pub get_reply : Rows (List Value) → Result (List Value) Refusal → List ℕ
+get_reply rows (Ok key) = row_reply (find key_cmp (code_of key) rows)
+get_reply rows (Err refusal) = []
 
 -- what a command that is not refused is answered
 abbrev pub reply_to : State → Command → List ℕ
 reply_to state (Table form) = count_line (codes "table ") (length form.columns)
 reply_to state (Batch items) = count_line (codes "batch ") (length items)
+reply_to None (Get fields) = []
+reply_to (Some table) (Get fields) = get_reply table.rows (read_key table.layout 1 fields)
 reply_to None (Scan tree) = []
 reply_to (Some table) (Scan tree) = scan_reply table.rows
+reply_to None (Image tree) = []
+reply_to (Some table) (Image tree) = image_text tree table.tree
 
 -- the item of a refusal behind a space, where it has one
 abbrev pub item_text : Option ℕ → List ℕ

@@ -1,29 +1,32 @@
--- The rows of a table by rising key, and what an edit leaves.
-use Rattle.std.specs.Prelude.{ℕ, not, List, map, take}
-use Rattle.std.specs.FinMap.{put}
-use Rattle.std.specs.FinMap.Entries.{where_key}
-use Rattle.std.specs.Ordering.{eq_by_cmp}
+-- A table, and what a batch leaves of it.
+use Rattle.std.specs.Prelude.{List, []}
 use Rattle.bt_rowtype.specs.Schemas.{Layout}
-use Rattle.bt_rowtype.specs.Values.{key_cmp}
 use Rattle.bt_rowtype.specs.declared.value.Value.{Value}
+use Rattle.bt_messages.specs.Effects.{effect_of}
+use Rattle.bt_messages.specs.Messages.{Messages, sorted_batch}
+use Rattle.bt_messages.specs.declared.message.Message.{Message}
+use Rattle.bt_node.specs.Flushes.{sunk}
+use Rattle.bt_node.specs.Messages.{Rows, rows_after}
+use Rattle.bt_node.specs.Trees.{Shape, Tree, leaf}
 
--- rows with their keys, by rising key
-abbrev pub Rows : Type 0
-Rows = List (List Value × List Value)
+-- messages to the keys of rows
+abbrev pub RowMessages : Type 0
+RowMessages = Messages (Message (List Value))
 
--- what a contract sees of a table: its columns, and its rows
+-- what a contract sees of a table: its columns, how large the nodes of its tree may be, its rows by their key codes, and its tree
 pub record TableState : Type 0 where
   pub layout : Layout
-  pub rows : Rows
+  pub shape : Shape
+  pub rows : Rows (List Value)
+  pub tree : Tree (List Value) (Message (List Value))
 
--- each row with its key, which is its first `keys` values
-abbrev pub keyed : ℕ → List (List Value) → Rows
-keyed keys rows = map (λ r. (take keys r, r)) rows
+-- a table with no rows: its tree is one leaf
+abbrev pub empty_table : Layout → Shape → TableState
+empty_table layout shape = record { layout = layout; shape = shape; rows = []; tree = leaf [] }
 
--- the rows after a row is put in: it takes the place of the row with its key
-abbrev pub with_row : ℕ → List Value → Rows → Rows
-with_row keys row rows = put key_cmp (take keys row) row rows
-
--- the rows after the row with this key is removed
-abbrev pub without_key : List Value → Rows → Rows
-without_key key rows = where_key key_cmp (λ k. not (eq_by_cmp key_cmp key k)) rows
+-- a table after the messages of a batch: its rows take them in order, and its tree takes them sorted by key
+abbrev pub after_batch : TableState → RowMessages → TableState
+after_batch table batch = record table {
+  rows = rows_after effect_of batch table.rows;
+  tree = sunk effect_of table.shape table.tree (sorted_batch batch);
+}

@@ -1,43 +1,83 @@
 //! The messages of a batch, and what they do to a table.
-ghost use Rattle.std.specs.Prelude.{◌≡◌, ◌≢◌, ◌∷◌, ◌++◌, [], Ok, Err, None, Some, IfErr, IfOk, OnOk, length};
+ghost use Rattle.std.specs.Prelude.{◌≡◌, ◌≢◌, ◌∷◌, ◌++◌, [], Ok, Err, None, Some, IfErr, IfOk, OnOk, length, take};
 ghost use Rattle.std.specs.List.{filter_map};
 ghost use Rattle.std.specs.Option.{option_to_list};
 ghost use Rattle.std.specs.Result.{result_err, result_ok};
 ghost use Rattle.bt_rowtype.specs.Refusals.{least, least_from};
 ghost use Rattle.bt_shell.specs.Steps as step;
 ghost use Rattle.bt_shell.specs.declared.command.Command.TheVariants.{Batch};
+ghost use Rattle.bt_shell.specs.declared.command.Item.TheVariants as line;
 
 use crate::command::Item;
 use crate::table::Table;
-use bt_rowtype::{Refusal, Row, Schema, Sequence, read_key, read_row};
+use bt_keycode::{Key, encode};
+use bt_messages::Message;
+use bt_rowtype::{Fields, Refusal, Row, Schema, Value, read_key, read_row};
 use std::alloc::{AllocError, Global};
 
 /// The most messages of a batch.
 pub const MOST_MESSAGES: usize = 65_536;
 
-/// A message to a table.
-#[derive(Debug, Drop)]
-pub enum Message {
-    /// The row that its key has from now on.
-    Put(Row),
-    /// The key that has no row from now on.
-    Del(Row),
-}
-
 // What the lines of a batch spell: their messages, and the refusal that is answered if one is.
 struct Reading {
-    messages: Sequence<Message>,
+    messages: Vec<(Key, Message<Row>)>,
     refusal: Option<Refusal>,
 }
 
+// The key of a row, its first `keys` values.
+fn key_of(row: &Row, keys: usize) -> &[Value]
+    ensures { result.now ≡ take keys row.now }
+{
+    let values = row.as_slice();
+    if keys < values.len() {
+        &values[..keys]
+    } else {
+        values
+    }
+}
+
+// The message to put the row that fields spell, or its refusal as this item.
+fn read_put(
+    alloc: Global,
+    schema: &Schema,
+    item: u64,
+    fields: &Fields,
+) -> Result<(Key, Message<Row>), Refusal>
+    ensures ok { IfOk result (λ message. step.read_message schema.now item (line.Put fields.now) ≡ Ok message) }
+    ensures refused { IfErr result (λ e. e ≢ Refusal.OutOfMemory → step.read_message schema.now item (line.Put fields.now) ≡ Err e) }
+{
+    let row = read_row(alloc, schema, item, fields)?;
+    let key = encode(alloc, key_of(&row, schema.keys()))?;
+    Ok((key, Message::Put(row)))
+}
+
+// The message to remove the row of the key that fields spell, or its refusal as this item.
+fn read_del(
+    alloc: Global,
+    schema: &Schema,
+    item: u64,
+    fields: &Fields,
+) -> Result<(Key, Message<Row>), Refusal>
+    ensures ok { IfOk result (λ message. step.read_message schema.now item (line.Del fields.now) ≡ Ok message) }
+    ensures refused { IfErr result (λ e. e ≢ Refusal.OutOfMemory → step.read_message schema.now item (line.Del fields.now) ≡ Err e) }
+{
+    let key = read_key(alloc, schema, item, fields)?;
+    Ok((encode(alloc, key.as_slice())?, Message::Del))
+}
+
 // The message that a line spells, or its refusal as this item.
-fn read_message(alloc: Global, schema: &Schema, item: u64, line: &Item) -> Result<Message, Refusal>
+fn read_message(
+    alloc: Global,
+    schema: &Schema,
+    item: u64,
+    line: &Item,
+) -> Result<(Key, Message<Row>), Refusal>
     ensures ok { IfOk result (λ message. step.read_message schema.now item line.now ≡ Ok message) }
     ensures refused { IfErr result (λ e. e ≢ Refusal.OutOfMemory → step.read_message schema.now item line.now ≡ Err e) }
 {
     match line {
-        Item::Put(fields) => Ok(Message::Put(read_row(alloc, schema, item, fields)?)),
-        Item::Del(fields) => Ok(Message::Del(read_key(alloc, schema, item, fields)?)),
+        Item::Put(fields) => read_put(alloc, schema, item, fields),
+        Item::Del(fields) => read_del(alloc, schema, item, fields),
     }
 }
 
@@ -59,7 +99,7 @@ fn add_line(
     item: u64,
     line: &Item,
 ) -> Result<Reading, AllocError>
-    ensures messages { IfOk result (λ read. read.messages ≡ reading.messages ++ option_to_list (result_ok (step.read_message schema.now item line.now))) }
+    ensures messages { IfOk result (λ read. read.messages.items ≡ reading.messages.items ++ option_to_list (result_ok (step.read_message schema.now item line.now))) }
     ensures refusal { IfOk result (λ read. read.refusal ≡ least_from reading.refusal (option_to_list (result_err (step.read_message schema.now item line.now)))) }
 {
     let Reading {
@@ -80,40 +120,17 @@ fn add_line(
 }
 
 fn read_batch(alloc: Global, schema: &Schema, items: &[Item]) -> Result<Reading, AllocError>
-    ensures messages { IfOk result (λ read. read.messages ≡ step.messages_of schema.now items.now) }
+    ensures messages { IfOk result (λ read. read.messages.items ≡ step.messages_of schema.now items.now) }
     ensures refusal { IfOk result (λ read. read.refusal ≡ least (filter_map result_err (step.read_batch schema.now 1 items.now))) }
 {
     let mut reading = Reading {
-        messages: Sequence::new(alloc),
+        messages: Vec::new(alloc),
         refusal: None,
     };
     for (place, line) in items.iter().enumerate() {
         reading = add_line(alloc, schema, reading, place as u64 + 1, line)?;
     }
     Ok(reading)
-}
-
-// What one message does.
-fn apply_message(table: &mut Table, message: Message) -> Result<(), AllocError>
-    ensures ok { OnOk result (table.new ≡ record table.old { rows = step.after_message table.old.layout.keys message table.old.rows }) }
-{
-    match message {
-        Message::Put(row) => table.put(row),
-        Message::Del(key) => {
-            table.remove(&key);
-            Ok(())
-        }
-    }
-}
-
-// What messages do in order.
-fn apply_messages(table: &mut Table, messages: Sequence<Message>) -> Result<(), AllocError>
-    ensures ok { OnOk result (table.new ≡ record table.old { rows = step.after_messages table.old.layout.keys messages table.old.rows }) }
-{
-    for message in messages.into_vec() {
-        apply_message(table, message)?;
-    }
-    Ok(())
 }
 
 /// Applies a batch and gives the number of its messages. The least refusal that applies is answered, and then, unless it is
@@ -132,6 +149,6 @@ pub fn apply_batch(alloc: Global, table: &mut Table, items: &[Item]) -> Result<u
     if let Some(refusal) = refusal {
         return Err(refusal);
     }
-    apply_messages(table, messages)?;
+    table.apply(alloc, messages)?;
     Ok(items.len())
 }

@@ -34,8 +34,12 @@ pub enum Command {
     Table(TableForm),
     /// `batch` and its messages.
     Batch(Items),
+    /// `get rec`: the row of the key that these fields spell.
+    Get(Fields),
     /// `scan TREE`: all rows of a tree.
     Scan(Text),
+    /// `image TREE`: the nodes of a tree.
+    Image(Text),
 }
 
 /// What stands at a place of a script.

@@ -260,6 +260,24 @@ fn scan_command(alloc: Global, words: &[&[u8]], blank: bool) -> Result<Option<Co
     }
 }
 
+fn get_command(alloc: Global, head: &[u8]) -> Result<Option<Command>, AllocError>
+    ensures { IfOk result (λ command. command ≡ spec.get_of head.now) }
+{
+    Ok(record_behind(alloc, b"get ", without_spaces(head))?.map(Command::Get))
+}
+
+fn image_command(alloc: Global, words: &[&[u8]]) -> Result<Option<Command>, AllocError>
+    ensures { IfOk result (λ command. command ≡ spec.image_of (map (λ w. w.now) words.now)) }
+{
+    if words.len() != 2 {
+        return Ok(None);
+    }
+    match parse_name(alloc, word_at(words, 1))? {
+        Some(tree) => Ok(Some(Command::Image(tree))),
+        None => Ok(None),
+    }
+}
+
 fn parsed(command: Option<Command>, closed: bool, next: usize) -> Parsed
     ensures found { (script : List ℕ) → spec.Finds result script (ended closed command ∷ spec.commands (drop next script)) }
     ensures past { (at : ℕ) (script : List ℕ) → at < next → next ≤ length script → spec.NextPast result at script }
@@ -280,12 +298,14 @@ fn parsed(command: Option<Command>, closed: bool, next: usize) -> Parsed
 fn parse_batch(
     alloc: Global,
     script: &[u8],
+    head: &[u8],
     words: &[&[u8]],
     at: usize,
 ) -> Result<Parsed, AllocError>
     requires within { at ≤ length script.now }
+    requires words { map (λ w. w.now) words.now ≡ text.words head.now }
     requires batch { spec.begins (map (λ w. w.now) words.now) (codes "batch") ≡ true }
-    ensures found { IfOk result (λ parsed. spec.Finds parsed script.now (headed (map (λ w. w.now) words.now) (text.lines (drop at script.now)))) }
+    ensures found { IfOk result (λ parsed. spec.Finds parsed script.now (headed head.now (text.lines (drop at script.now)))) }
     ensures past { IfOk result (λ parsed. (before : ℕ) → before < at → spec.NextPast parsed before script.now) }
 {
     let Block {
@@ -299,13 +319,15 @@ fn parse_batch(
 fn parse_scan(
     alloc: Global,
     script: &[u8],
+    head: &[u8],
     words: &[&[u8]],
     at: usize,
 ) -> Result<Parsed, AllocError>
     requires within { at ≤ length script.now }
+    requires words { map (λ w. w.now) words.now ≡ text.words head.now }
     requires no_batch { spec.begins (map (λ w. w.now) words.now) (codes "batch") ≡ false }
     requires scan { spec.begins (map (λ w. w.now) words.now) (codes "scan") ≡ true }
-    ensures found { IfOk result (λ parsed. spec.Finds parsed script.now (headed (map (λ w. w.now) words.now) (text.lines (drop at script.now)))) }
+    ensures found { IfOk result (λ parsed. spec.Finds parsed script.now (headed head.now (text.lines (drop at script.now)))) }
     ensures past { IfOk result (λ parsed. (before : ℕ) → before < at → spec.NextPast parsed before script.now) }
 {
     let Block {
@@ -319,42 +341,49 @@ fn parse_scan(
 
 // The command of a head line that has no block.
 #[tactic(auto, unfolding(crate::specs::Commands::command_of))]
-fn line_command(alloc: Global, words: &[&[u8]]) -> Result<Option<Command>, AllocError>
+fn line_command(alloc: Global, head: &[u8], words: &[&[u8]]) -> Result<Option<Command>, AllocError>
+    requires words { map (λ w. w.now) words.now ≡ text.words head.now }
     requires no_batch { spec.begins (map (λ w. w.now) words.now) (codes "batch") ≡ false }
     requires no_scan { spec.begins (map (λ w. w.now) words.now) (codes "scan") ≡ false }
-    ensures { IfOk result (λ command. command ≡ spec.command_of (map (λ w. w.now) words.now) []) }
+    ensures { IfOk result (λ command. command ≡ spec.command_of head.now []) }
 {
     if begins(words, b"table") {
-        table_command(alloc, words)
-    } else {
-        Ok(None)
+        return table_command(alloc, words);
     }
+    if begins(words, b"get") {
+        return get_command(alloc, head);
+    }
+    if begins(words, b"image") {
+        return image_command(alloc, words);
+    }
+    Ok(None)
 }
 
-fn parse_line(alloc: Global, words: &[&[u8]], at: usize) -> Result<Parsed, AllocError>
+fn parse_line(alloc: Global, head: &[u8], words: &[&[u8]], at: usize) -> Result<Parsed, AllocError>
+    requires words { map (λ w. w.now) words.now ≡ text.words head.now }
     requires no_batch { spec.begins (map (λ w. w.now) words.now) (codes "batch") ≡ false }
     requires no_scan { spec.begins (map (λ w. w.now) words.now) (codes "scan") ≡ false }
-    ensures found { IfOk result (λ parsed. (script : List ℕ) → spec.Finds parsed script (headed (map (λ w. w.now) words.now) (text.lines (drop at script)))) }
+    ensures found { IfOk result (λ parsed. (script : List ℕ) → spec.Finds parsed script (headed head.now (text.lines (drop at script)))) }
     ensures past { IfOk result (λ parsed. (before : ℕ) (script : List ℕ) → before < at → at ≤ length script → spec.NextPast parsed before script) }
 {
-    let command = line_command(alloc, words)?;
+    let command = line_command(alloc, head, words)?;
     Ok(parsed(command, true, at))
 }
 
 // The command of a head line, behind which its block starts at a place.
 fn parse_headed(alloc: Global, script: &[u8], head: &[u8], at: usize) -> Result<Parsed, AllocError>
     requires { at ≤ length script.now }
-    ensures found { IfOk result (λ parsed. spec.Finds parsed script.now (headed (text.words head.now) (text.lines (drop at script.now)))) }
+    ensures found { IfOk result (λ parsed. spec.Finds parsed script.now (headed head.now (text.lines (drop at script.now)))) }
     ensures past { IfOk result (λ parsed. (before : ℕ) → before < at → spec.NextPast parsed before script.now) }
 {
     let words = words(alloc, head)?;
     if begins(&words, b"batch") {
-        return parse_batch(alloc, script, &words, at);
+        return parse_batch(alloc, script, head, &words, at);
     }
     if begins(&words, b"scan") {
-        return parse_scan(alloc, script, &words, at);
+        return parse_scan(alloc, script, head, &words, at);
     }
-    parse_line(alloc, &words, at)
+    parse_line(alloc, head, &words, at)
 }
 
 /// The command that stands at a place of a script, or its refusal, `Syntax` or `Unfinished`, and the place behind it.

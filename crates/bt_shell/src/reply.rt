@@ -1,12 +1,14 @@
 //! The texts of replies.
-ghost use Rattle.std.specs.Prelude.{◌≡◌, ◌++◌, IfOk, OnOk, decimal, flat_map};
+ghost use Rattle.std.specs.Prelude.{◌≡◌, ◌++◌, IfOk, None, OnOk, Some, decimal, flat_map, map};
 ghost use Rattle.bt_shell.specs.Steps.{count_line, item_text, refused_text, row_line};
+ghost use Rattle.bt_shell.specs.Steps as step;
 
+use bt_keycode::Key;
 use bt_rowtype::{Refusal, Row, write_record};
 use itoa::Buffer;
 use std::alloc::{AllocError, Global};
 
-fn write_number(out: &mut Vec<u8>, number: u64) -> Result<(), AllocError>
+pub(crate) fn write_number(out: &mut Vec<u8>, number: u64) -> Result<(), AllocError>
     ensures { OnOk result (out.new.items ≡ out.old.items ++ decimal number) }
 {
     out.extend_from_slice(Buffer::new().format(number).as_bytes())
@@ -40,12 +42,24 @@ fn write_row(out: &mut Vec<u8>, row: &Row) -> Result<(), AllocError>
     Ok(())
 }
 
+/// The reply that is the row of a key, where it has one.
+pub fn row_reply(alloc: Global, row: Option<Row>) -> Result<Vec<u8>, AllocError>
+    ensures { IfOk result (λ text. text.items ≡ step.row_reply row) }
+{
+    let Some(row) = row else {
+        return Vec::from_slice(alloc, b"none\n");
+    };
+    let mut text = Vec::new(alloc);
+    write_row(&mut text, &row)?;
+    Ok(text)
+}
+
 /// Adds the lines of rows.
-pub fn write_rows(out: &mut Vec<u8>, rows: &[Row]) -> Result<(), AllocError>
-    ensures { OnOk result (out.new.items ≡ out.old.items ++ flat_map row_line rows.now) }
+pub fn write_rows(out: &mut Vec<u8>, rows: &[(Key, Row)]) -> Result<(), AllocError>
+    ensures { OnOk result (out.new.items ≡ out.old.items ++ flat_map row_line (map (λ p. p.1) rows.now)) }
 {
     for row in rows {
-        write_row(out, row)?;
+        write_row(out, &row.1)?;
     }
     Ok(())
 }

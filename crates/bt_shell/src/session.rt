@@ -1,5 +1,5 @@
 //! The table between commands, and the reply to each.
-ghost use Rattle.std.specs.Prelude.{◌≡◌, ◌≢◌, ◌++◌, ◌<◌, ◌≤◌, Ok, Err, None, IfErr, IfOk, IfNone, IfSome, OnOk, [], codes, drop, length};
+ghost use Rattle.std.specs.Prelude.{◌≡◌, ◌≢◌, ◌++◌, ◌<◌, ◌≤◌, Ok, Err, None, Some, IfErr, IfOk, IfNone, IfSome, OnOk, [], codes, drop, length};
 ghost use Rattle.bt_rowtype.specs.Refusals.{least};
 ghost use Rattle.bt_shell.specs.Commands.{commands, is_word};
 ghost use Rattle.bt_shell.specs.Runs.{replies};
@@ -8,17 +8,13 @@ ghost use Rattle.bt_shell.specs.declared.command.Command.TheVariants as command;
 
 use crate::batch::apply_batch;
 use crate::command::{Command, Items, Parsed, TableForm};
+use crate::image::image_text;
 use crate::parse::parse_command;
-use crate::reply::{count_reply, refusal_reply, write_count, write_rows};
+use crate::reply::{count_reply, refusal_reply, row_reply, write_count, write_rows};
 use crate::table::Table;
-use bt_rowtype::{Refusal, Schema, Text};
+use bt_node::Shape;
+use bt_rowtype::{Fields, Refusal, Schema, Text, read_key};
 use std::alloc::{AllocError, Global};
-
-fn is_shape(fanout: u32, buffer: u32, leaf: u32) -> bool
-    ensures { result ≡ step.is_shape fanout buffer leaf }
-{
-    (4 <= fanout && fanout <= 64) && (1 <= buffer && buffer <= 4096) && (2 <= leaf && leaf <= 1024)
-}
 
 // Makes the table, and gives the number of its columns.
 fn create_table(alloc: Global, table: &mut Option<Table>, form: TableForm) -> Result<usize, Refusal>
@@ -35,10 +31,8 @@ fn create_table(alloc: Global, table: &mut Option<Table>, form: TableForm) -> Re
     let Ok(schema) = Schema::new(form.columns, form.keys as usize) else {
         return Err(Refusal::BadSchema);
     };
-    if !is_shape(form.fanout, form.buffer, form.leaf) {
-        return Err(Refusal::BadShape);
-    }
-    *table = Some(Table::new(alloc, schema));
+    let shape = Shape::new(form.fanout, form.buffer, form.leaf)?;
+    *table = Some(Table::new(alloc, schema, shape));
     Ok(count)
 }
 
@@ -60,8 +54,9 @@ fn scan_text(alloc: Global, table: &Table) -> Result<Vec<u8>, AllocError>
     ensures { IfOk result (λ text. text.items ≡ step.scan_reply table.now.rows) }
 {
     let mut text = Vec::new(alloc);
-    write_rows(&mut text, table.rows())?;
-    write_count(&mut text, b"rows ", table.rows().len())?;
+    let rows = table.rows(alloc)?;
+    write_rows(&mut text, rows.as_slice())?;
+    write_count(&mut text, b"rows ", rows.len())?;
     Ok(text)
 }
 
@@ -71,10 +66,11 @@ fn is_primary(tree: &Text) -> bool
     tree.as_str() == "primary"
 }
 
-fn scan(alloc: Global, table: &Option<Table>, tree: &Text) -> Result<Vec<u8>, Refusal>
-    ensures refusal { IfOk result (λ _. least (step.refusals_of table.now (command.Scan tree.now)) ≡ None) }
-    ensures text { IfOk result (λ text. text.items ≡ step.reply_to table.now (command.Scan tree.now)) }
-    ensures refused { IfErr result (λ e. e ≢ Refusal.OutOfMemory → least (step.refusals_of table.now (command.Scan tree.now)) ≡ Some e) }
+// The table whose tree is named: the primary one is the only one.
+fn table_with<'a>(table: &'a Option<Table>, tree: &Text) -> Result<&'a Table, Refusal>
+    ensures found { IfOk result (λ found. table.now ≡ Some found.now) }
+    ensures named { IfOk result (λ _. least (step.tree_refusals table.now tree.now) ≡ None) }
+    ensures refused { IfErr result (λ e. least (step.tree_refusals table.now tree.now) ≡ Some e) }
 {
     let Some(table) = table else {
         return Err(Refusal::NoTable);
@@ -82,7 +78,36 @@ fn scan(alloc: Global, table: &Option<Table>, tree: &Text) -> Result<Vec<u8>, Re
     if !is_primary(tree) {
         return Err(Refusal::NoSuchTree);
     }
-    Ok(scan_text(alloc, table)?)
+    Ok(table)
+}
+
+fn scan(alloc: Global, table: &Option<Table>, tree: &Text) -> Result<Vec<u8>, Refusal>
+    ensures refusal { IfOk result (λ _. least (step.refusals_of table.now (command.Scan tree.now)) ≡ None) }
+    ensures text { IfOk result (λ text. text.items ≡ step.reply_to table.now (command.Scan tree.now)) }
+    ensures refused { IfErr result (λ e. e ≢ Refusal.OutOfMemory → least (step.refusals_of table.now (command.Scan tree.now)) ≡ Some e) }
+{
+    Ok(scan_text(alloc, table_with(table, tree)?)?)
+}
+
+fn get(alloc: Global, table: &Option<Table>, fields: &Fields) -> Result<Vec<u8>, Refusal>
+    ensures refusal { IfOk result (λ _. least (step.refusals_of table.now (command.Get fields.now)) ≡ None) }
+    ensures text { IfOk result (λ text. text.items ≡ step.reply_to table.now (command.Get fields.now)) }
+    ensures refused { IfErr result (λ e. e ≢ Refusal.OutOfMemory → least (step.refusals_of table.now (command.Get fields.now)) ≡ Some e) }
+{
+    let Some(table) = table else {
+        return Err(Refusal::NoTable);
+    };
+    let key = read_key(alloc, table.schema(), 1, fields)?;
+    let row = table.get(alloc, key.as_slice())?;
+    Ok(row_reply(alloc, row)?)
+}
+
+fn image(alloc: Global, table: &Option<Table>, tree: &Text) -> Result<Vec<u8>, Refusal>
+    ensures refusal { IfOk result (λ _. least (step.refusals_of table.now (command.Image tree.now)) ≡ None) }
+    ensures text { IfOk result (λ text. text.items ≡ step.reply_to table.now (command.Image tree.now)) }
+    ensures refused { IfErr result (λ e. e ≢ Refusal.OutOfMemory → least (step.refusals_of table.now (command.Image tree.now)) ≡ Some e) }
+{
+    Ok(image_text(alloc, tree, &table_with(table, tree)?.walk())?)
 }
 
 // The reply to a command that is not refused, or its refusal.
@@ -102,7 +127,9 @@ fn answer(alloc: Global, table: &mut Option<Table>, command: Command) -> Result<
             let count = batch(alloc, table, &items)?;
             Ok(count_reply(alloc, b"batch ", count)?)
         }
+        Command::Get(fields) => get(alloc, table, &fields),
         Command::Scan(tree) => scan(alloc, table, &tree),
+        Command::Image(tree) => image(alloc, table, &tree),
     }
 }
 

@@ -1,42 +1,53 @@
 //! A table.
-ghost use Rattle.std.specs.Prelude.{◌≡◌, [], map, IfErr, IfOk, OnErr, OnOk};
-ghost use Rattle.bt_rowtype.specs.Values.{key_cmp};
-ghost use Rattle.bt_shell.specs.Places.{IsAt, IsBetween};
-ghost use Rattle.bt_shell.specs.Tables.{with_row, without_key};
+ghost use Rattle.std.specs.Prelude.{◌≡◌, IfOk, OnOk};
+ghost use Rattle.std.specs.FinMap.{find};
+ghost use Rattle.bt_keycode.specs.Codes.{code_of};
+ghost use Rattle.bt_node.specs.Fits.{IsRoomy};
+ghost use Rattle.bt_node.specs.Keys.{key_cmp};
+ghost use Rattle.bt_shell.specs.Tables.{after_batch, empty_table};
 
-use crate::order::{compare_keys, key_of};
+use crate::scan::held_rows;
+use bt_keycode::{Key, encode};
+use bt_messages::{Message, Packet};
+use bt_node::{Shape, Tree, Walk};
 use bt_rowtype::{Row, Schema, Value};
 use std::alloc::{AllocError, Global};
 use std::marker::Model;
+use std::mem;
 
-/// Rows of a schema by rising key, of which no two have the same key.
+/// Rows of a schema in a tree, under the codes of their keys.
 #[derive(Drop)]
 pub struct Table {
     schema: Schema,
-    rows: Vec<Row>,
+    tree: Tree<Row>,
 }
 
 impl Model for Table {
-    ghost use Rattle.std.specs.Prelude.{IsTrue};
-    ghost use Rattle.std.specs.FinMap.{is_sorted};
-    ghost use Rattle.bt_rowtype.specs.Values.{key_cmp};
-    ghost use Rattle.bt_shell.specs.Tables.{TableState, keyed};
+    ghost use Rattle.bt_messages.specs.Effects.{effect_of};
+    ghost use Rattle.bt_node.specs.Fits.{IsFit, IsRoomy};
+    ghost use Rattle.bt_node.specs.Flushes.{holds};
+    ghost use Rattle.bt_shell.specs.Tables.{TableState};
+    ghost use Rattle.std.specs.Coded.{codes};
+    ghost use Rattle.bt_node.specs.Stored.{tree_code};
 
     ghost Value = { TableState };
 
-    ghost view = { λ a. record { layout = a.schema; rows = keyed a.schema.keys a.rows.items } };
+    ghost coded = { Prim.hlevel (codes, tree_code) };
 
-    ghost invariant = { λ a. IsTrue (is_sorted key_cmp (keyed a.schema.keys a.rows.items)) };
+    ghost view = { λ a. record { layout = a.schema; shape = a.tree.0; rows = holds effect_of a.tree.1; tree = a.tree.1 } };
+
+    ghost invariant = { λ a. IsRoomy a.tree.0 × IsFit a.tree.0 a.tree.1 };
 }
 
 impl Table {
     /// A table with no rows.
-    pub fn new(alloc: Global, schema: Schema) -> Self
-        ensures { result ≡ record { layout = schema; rows = [] } }
+    pub fn new(alloc: Global, schema: Schema, shape: Shape) -> Self
+        requires { IsRoomy shape }
+        ensures { result ≡ empty_table schema shape }
     {
         Table {
             schema,
-            rows: Vec::new(alloc),
+            tree: Tree::empty(alloc, shape),
         }
     }
 
@@ -46,87 +57,40 @@ impl Table {
         &self.schema
     }
 
-    /// Puts a row in, in the place of the row with its key if there is one. An `Err` changes nothing, and the row is gone.
-    pub fn put(&mut self, row: Row) -> Result<(), AllocError>
-        ensures ok { OnOk result (self.new ≡ record self.old { rows = with_row self.old.layout.keys row self.old.rows }) }
-        ensures err { OnErr result (self.new ≡ self.old) }
+    /// Applies the messages of a batch in order. After an `Err` the table has no rows.
+    pub fn apply(
+        &mut self,
+        alloc: Global,
+        batch: Vec<(Key, Message<Row>)>,
+    ) -> Result<(), AllocError>
+        ensures { OnOk result (self.new ≡ after_batch self.old batch.items) }
     {
-        match self.place(key_of(&row, self.schema.keys())) {
-            Ok(at) => {
-                self.rows[at] = row;
-                Ok(())
-            }
-            Err(at) => Ok(self.rows.insert(at, row)?),
-        }
-    }
-
-    /// Removes the row with this key if there is one.
-    pub fn remove(&mut self, key: &Row)
-        ensures { self.new ≡ record self.old { rows = without_key key.now self.old.rows } }
-    {
-        if let Ok(at) = self.place(key.as_slice()) {
-            self.rows.remove(at);
-        }
-    }
-
-    /// All rows, by rising key.
-    pub fn rows(&self) -> &[Row]
-        ensures { result.now ≡ map (λ p. p.1) self.now.rows }
-    {
-        self.rows.as_slice()
-    }
-
-    // The place of the row with this key, or as `Err` the place where it would go.
-    fn place(&self, key: &[Value]) -> Result<usize, usize>
-        ensures found { IfOk result (IsAt key_cmp key.now self.now.rows) }
-        ensures absent { IfErr result (IsBetween key_cmp key.now self.now.rows) }
-    {
-        let keys = self.schema.keys();
-        self.rows
-            .as_slice()
-            .binary_search_by(|row| compare_keys(key_of(row, keys), key))
-    }
-}
-
-#[cfg(test)]
-mod tests {
-    use super::*;
-    use bt_rowtype::{Column, Columns, Kind, Refusal, Text};
-    use std::cmp::Ordering;
-    use std::test::Fail;
-
-    fn pair(alloc: Global, key: i64, other: i64) -> Result<Row, AllocError> {
-        Ok(Row::new(vec![in alloc; Value::Int(key), Value::Int(other)]?))
-    }
-
-    fn two_ints(alloc: Global) -> Result<Schema, Refusal> {
-        let mut columns = Columns::new(alloc);
-        for name in ["id", "qty"] {
-            columns.push(Column {
-                name: Text::new(alloc, name)?,
-                kind: Kind::Int,
-            })?;
-        }
-        Schema::new(columns, 1)
-    }
-
-    #[test]
-    fn keeps_the_last_row_of_a_key_in_order(rt: HostRuntime) -> Result<(), Fail> {
-        let alloc = rt.alloc();
-        let schema = two_ints(alloc).expect(&rt, "a schema");
-        let mut table = Table::new(alloc, schema);
-        for (key, other) in [(7, 1), (-4, 2), (9, 3), (7, 5)] {
-            table.put(pair(alloc, key, other)?)?;
-        }
-        table.remove(&Row::new(vec![in alloc; Value::Int(9)]?));
-        table.remove(&Row::new(vec![in alloc; Value::Int(8)]?));
-        let rows = table.rows();
-        assert_eq!(rt; rows.len(), 2);
-        for (place, (key, other)) in [(-4, 2), (7, 5)].into_iter().enumerate() {
-            let wanted = pair(alloc, key, other)?;
-            let row = rows.get(place).expect(&rt, "a row");
-            assert!(rt; compare_keys(row.as_slice(), wanted.as_slice()) == Ordering::Equal);
-        }
+        let packet = Packet::from_batch(alloc, batch)?;
+        let empty = Tree::empty(alloc, self.tree.shape());
+        let tree = mem::replace(&mut self.tree, empty);
+        self.tree = tree.sink(alloc, packet)?;
         Ok(())
+    }
+
+    /// The row of a key, where it has one.
+    pub fn get(&self, alloc: Global, key: &[Value]) -> Result<Option<Row>, AllocError>
+        ensures { IfOk result (λ row. row ≡ find key_cmp (code_of key.now) self.now.rows) }
+    {
+        let key = encode(alloc, key)?;
+        self.tree.get(alloc, &key)
+    }
+
+    /// All rows behind their keys, by rising key.
+    pub fn rows(&self, alloc: Global) -> Result<Vec<(Key, Row)>, AllocError>
+        ensures { IfOk result (λ rows. rows.items ≡ self.now.rows) }
+    {
+        held_rows(alloc, &self.tree.walk())
+    }
+
+    /// The nodes of the tree.
+    pub fn walk(&self) -> Walk<'_, Row>
+        ensures { result ≡ self.now.tree }
+    {
+        self.tree.walk()
     }
 }

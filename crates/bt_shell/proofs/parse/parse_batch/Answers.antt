@@ -1,7 +1,7 @@
-use Rattle.std.proofs.Common.{Option, ◌∷◌, ◌≡◌, ◌∙◌, sym, ap, subst, map, drop}
+use Rattle.std.proofs.Common.{Option, ◌∷◌, ◌≡◌, ◌∙◌, sym, ap, subst, drop}
 use Rattle.bt_shell.specs.Blocks.{ended}
 use Rattle.bt_shell.specs.Commands.{Finds, batch_of, command_of, commands}
-use Rattle.bt_shell.specs.Lines.{lines}
+use Rattle.bt_shell.specs.Lines.{lines, words}
 use Rattle.bt_shell.specs.declared.command.Command.{Command}
 use Rattle.bt_shell.proofs.Machine.{command-batch, headed-batch}
 use Rattle.bt_shell.proofs.parse.parse_batch.Goals as goal
@@ -9,9 +9,12 @@ use Rattle.bt_shell.proofs.parse.parse_batch.Goals as goal
 pub returns-clause-found : goal.returns-clause-found
 returns-clause-found c =
     let script = c.args.script.now in
-    let ws = map (λ w. w.now) c.args.words.now in
+    let head = c.args.head.now in
+    let ws = words head in
+    let batch = rw c.requires.words at c.requires.batch in
+    let made = rw c.requires.words at c.batch_command.ensures in
     let read = c.in_ok-content.field-0 in
     let block = c.in_ok-content.ensures.block in
-    let command : command_of ws block.0 ≡ c.batch_command.result = command-batch ws block.0 c.requires.batch ∙ ap (batch_of ws) (sym block.1) ∙ sym c.batch_command.ensures in
-    let all = headed-batch ws (lines (drop c.args.at script)) c.requires.batch ∙ block.2 ws ∙ ap (λ (o : Option Command). ended read.closed o ∷ commands (drop read.next script)) command in
+    let command : command_of head block.0 ≡ c.batch_command.result = command-batch head block.0 batch ∙ ap (batch_of ws) (sym block.1) ∙ sym made in
+    let all = headed-batch head (lines (drop c.args.at script)) batch ∙ block.2 head ∙ ap (λ (o : Option Command). ended read.closed o ∷ commands (drop read.next script)) command in
     subst (Finds c.parsed.result script) (sym all) (c.parsed.ensures.found script)

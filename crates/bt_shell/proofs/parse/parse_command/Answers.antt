@@ -3,7 +3,7 @@ use Rattle.std.proofs.lemmas.List.{drop_all}
 use Rattle.std.proofs.lemmas.Result.{IfOk-weaker}
 use Rattle.bt_shell.specs.Blocks.{headed}
 use Rattle.bt_shell.specs.Commands.{Finds, Outside, commands_from, is_blank_line}
-use Rattle.bt_shell.specs.Lines.{is_blank, lines, without_return, words}
+use Rattle.bt_shell.specs.Lines.{is_blank, lines, without_return}
 use Rattle.bt_shell.proofs.Machine.{outside-blank, outside-end, outside-head}
 use Rattle.bt_shell.proofs.parse.parse_command.Goals as goal
 
@@ -20,7 +20,7 @@ returns-then-not-is_blank-clause-found c =
     let some = tested line c.without_return-head.result.now c.is_blank.result false c.without_return-head.ensures c.is_blank.ensures answer in
     let all =
     c.loop-place.invariant.same ∙ ap (commands_from Outside) c.next_line-next.ensures.line ∙ outside-head line more some
-    ∙ ap (λ (h : List ℕ). headed (words h) more) (sym c.without_return-head.ensures) in
+    ∙ ap (λ (h : List ℕ). headed h more) (sym c.without_return-head.ensures) in
     IfOk-weaker c.parse_headed.result _ _ (λ parsed found. subst (Finds parsed script) (sym all) found) c.parse_headed.ensures.found
 
 pub loop-place-preserved : goal.loop-place-preserved

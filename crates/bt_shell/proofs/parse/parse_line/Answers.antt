@@ -1,4 +1,4 @@
-use Rattle.std.proofs.Common.{ℕ, List, sym, subst, map, drop}
+use Rattle.std.proofs.Common.{ℕ, List, sym, subst, drop}
 use Rattle.bt_shell.specs.Commands.{Finds}
 use Rattle.bt_shell.specs.Lines.{lines}
 use Rattle.bt_shell.proofs.Machine.{headed-line}
@@ -6,6 +6,8 @@ use Rattle.bt_shell.proofs.parse.parse_line.Goals as goal
 
 pub returns-clause-found : goal.returns-clause-found
 returns-clause-found c = λ (script : List ℕ).
-    let ws = map (λ w. w.now) c.args.words.now in
-    let all = headed-line ws (lines (drop c.args.at script)) c.in_ok-command.command c.requires.no_batch c.requires.no_scan c.in_ok-command.ensures in
+    let head = c.args.head.now in
+    let no_batch = rw c.requires.words at c.requires.no_batch in
+    let no_scan = rw c.requires.words at c.requires.no_scan in
+    let all = headed-line head (lines (drop c.args.at script)) c.in_ok-command.command no_batch no_scan c.in_ok-command.ensures in
     subst (Finds c.parsed.result script) (sym all) (c.parsed.ensures.found script)

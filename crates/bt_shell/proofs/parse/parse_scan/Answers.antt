@@ -1,7 +1,7 @@
-use Rattle.std.proofs.Common.{Option, ◌∷◌, ◌≡◌, ◌∙◌, sym, ap, subst, map, drop}
+use Rattle.std.proofs.Common.{Option, ◌∷◌, ◌≡◌, ◌∙◌, sym, ap, subst, drop}
 use Rattle.bt_shell.specs.Blocks.{ended}
 use Rattle.bt_shell.specs.Commands.{Finds, scan_of, command_of, commands}
-use Rattle.bt_shell.specs.Lines.{lines}
+use Rattle.bt_shell.specs.Lines.{lines, words}
 use Rattle.bt_shell.specs.declared.command.Command.{Command}
 use Rattle.bt_shell.proofs.Machine.{command-scan, headed-scan}
 use Rattle.bt_shell.proofs.parse.parse_scan.Goals as goal
@@ -9,10 +9,14 @@ use Rattle.bt_shell.proofs.parse.parse_scan.Goals as goal
 pub returns-clause-found : goal.returns-clause-found
 returns-clause-found c =
     let script = c.args.script.now in
-    let ws = map (λ w. w.now) c.args.words.now in
+    let head = c.args.head.now in
+    let ws = words head in
+    let no_batch = rw c.requires.words at c.requires.no_batch in
+    let scan = rw c.requires.words at c.requires.scan in
+    let made = rw c.requires.words at c.in_ok-command.ensures in
     let read = c.read_bounds-content.result in
     let block = c.read_bounds-content.ensures.block in
-    let command : command_of ws block.0 ≡ c.in_ok-command.command =
-    command-scan ws block.0 c.requires.no_batch c.requires.scan ∙ ap (scan_of ws) (sym block.1) ∙ sym c.in_ok-command.ensures in
-    let all = headed-scan ws (lines (drop c.args.at script)) c.requires.no_batch c.requires.scan ∙ block.2 ws ∙ ap (λ (o : Option Command). ended read.closed o ∷ commands (drop read.next script)) command in
+    let command : command_of head block.0 ≡ c.in_ok-command.command =
+    command-scan head block.0 no_batch scan ∙ ap (scan_of ws) (sym block.1) ∙ sym made in
+    let all = headed-scan head (lines (drop c.args.at script)) no_batch scan ∙ block.2 head ∙ ap (λ (o : Option Command). ended read.closed o ∷ commands (drop read.next script)) command in
     subst (Finds c.parsed.result script) (sym all) (c.parsed.ensures.found script)

@@ -10,7 +10,7 @@ unfolding items_of
 no_items = refl
 
 pub loop-at-init : goal.loop-at-init
-loop-at-init c = record { within = search rules; past = search rules; so_far = ([], ap Some c.new.ensures ∙ sym no_items, λ ws. refl) }
+loop-at-init c = record { within = search rules; past = search rules; so_far = ([], ap Some c.new.ensures ∙ sym no_items, λ head. refl) }
 
 pub loop-at-preserved : goal.loop-at-preserved
 loop-at-preserved c =

@@ -1,7 +1,5 @@
-use Rattle.std.proofs.Common.{take}
-use Rattle.bt_shell.proofs.Places.{elements}
+use Rattle.bt_shell.proofs.Scans.{fit_in_order}
 use Rattle.bt_shell.proofs.table.Table.rows.Goals as goal
 
--- the entry of a row has that row
-pub returns : goal.returns
-returns c = rw (← c.self.view_is, c.as_slice.ensures.value) (elements (take c.self.inside.schema.keys) c.self.inside.rows.items)
+pub held_rows-requires : goal.held_rows-requires
+held_rows-requires c = rw c.walk.ensures.root (fit_in_order c.self.inside.tree.0 c.self.inside.tree.1 c.self.invariant.1)

@@ -1,0 +1,143 @@
+//! The value at a key, looked up along one path.
+ghost use Rattle.std.specs.Prelude.{◌≡◌, ◌≤◌, IfOk, length};
+ghost use Rattle.std.specs.Option.{option_copied};
+ghost use Rattle.bt_messages.specs.Effects.{effect_of};
+ghost use Rattle.bt_node.specs.Lookups.{pivots_up_to, value_at};
+ghost use Rattle.bt_node.specs.Messages.{value_after};
+ghost use Rattle.bt_node.specs.Views.{tree_of};
+
+use crate::node::Node;
+use bt_keycode::Key;
+use bt_messages::{Buffer, Merge, effect};
+use std::alloc::{AllocError, Global};
+use std::cmp::Ordering;
+
+// A copy of a value, where there is one.
+fn copied<V: Merge>(alloc: Global, value: Option<&V>) -> Result<Option<V>, AllocError>
+    ensures { IfOk result (λ copy. copy ≡ option_copied value.entry) }
+{
+    match value {
+        Some(value) => Ok(Some(value.copy(alloc)?)),
+        None => Ok(None),
+    }
+}
+
+// How many of these children have a pivot that is at most the key.
+fn pivots_up_to<V: Merge>(children: &[(Key, Node<V>)], key: &Key) -> usize
+    ensures count { result ≡ pivots_up_to key.now children.now }
+    ensures bound { result ≤ length children.now }
+{
+    for (place, (pivot, _)) in children.iter().enumerate() {
+        if key.compare(pivot) == Ordering::Less {
+            return place;
+        }
+    }
+    children.len()
+}
+
+// What the messages to a key make of the value there.
+fn after_messages<V: Merge>(
+    alloc: Global,
+    buffer: &Buffer<V>,
+    key: &Key,
+    old: Option<V>,
+) -> Result<Option<V>, AllocError>
+    ensures { IfOk result (λ value. value ≡ value_after effect_of key.now buffer.now old) }
+{
+    let mut value = old;
+    for place in buffer.first_from(key)..buffer.count() {
+        let (at, message) = buffer.get(place);
+        if at.compare(key) != Ordering::Equal {
+            return Ok(value);
+        }
+        value = effect(value, message.copy(alloc)?);
+    }
+    Ok(value)
+}
+
+/// The value at a key below a node, along one path: what the messages to it make of the value in its leaf, those nearer to the
+/// leaf first.
+pub(crate) fn value_at<V: Merge>(
+    alloc: Global,
+    node: &Node<V>,
+    key: &Key,
+) -> Result<Option<V>, AllocError>
+    ensures { IfOk result (λ value. value ≡ value_at effect_of key.now (tree_of node.now)) }
+{
+    match node {
+        Node::Leaf(rows) => copied(alloc, rows.find(key)),
+        Node::Inner { children, buffer } => {
+            let [_, others @ ..] = children.as_slice() else {
+                return after_messages(alloc, buffer, key, None);
+            };
+            let child = &children[pivots_up_to(others, key)];
+            let old = value_at(alloc, &child.1, key)?;
+            after_messages(alloc, buffer, key, old)
+        }
+    }
+}
+
+#[cfg(test)]
+mod tests {
+    use super::*;
+    use crate::absorb::absorb;
+    use crate::rows::Rows;
+    use crate::shape::Shape;
+    use bt_keycode::encode;
+    use bt_messages::{Message, Packet};
+    use bt_rowtype::{Row, Value};
+    use std::test::Fail;
+
+    fn key_of(alloc: Global, number: i64) -> Result<Key, AllocError> {
+        encode(alloc, &[Value::Int(number)])
+    }
+
+    fn put(alloc: Global, number: i64, other: i64) -> Result<(Key, Message<Row>), AllocError> {
+        let row = Row::new(vec![in alloc; Value::Int(number), Value::Int(other)]?);
+        Ok((key_of(alloc, number)?, Message::Put(row)))
+    }
+
+    fn del(alloc: Global, number: i64) -> Result<(Key, Message<Row>), AllocError> {
+        Ok((key_of(alloc, number)?, Message::Del))
+    }
+
+    fn holds(row: &Row, number: i64, other: i64) -> bool {
+        matches!(row.as_slice(), [Value::Int(a), Value::Int(b)] if *a == number && *b == other)
+    }
+
+    // Two leaves of two rows each, and no messages.
+    fn two_leaves(alloc: Global, shape: Shape) -> Result<Node<Row>, AllocError> {
+        let batch = vec![in alloc;
+            put(alloc, 1, 10)?,
+            put(alloc, 2, 20)?,
+            put(alloc, 3, 30)?,
+            put(alloc, 4, 40)?,
+        ]?;
+        let rows = Node::Leaf(Rows::new(alloc));
+        let children = absorb(alloc, shape, rows, Packet::from_batch(alloc, batch)?)?;
+        let buffer = Buffer::new(alloc);
+        Ok(Node::Inner { children, buffer })
+    }
+
+    #[test]
+    fn lookups_in_two_levels(rt: HostRuntime) -> Result<(), Fail> {
+        let alloc = rt.alloc();
+        let shape = Shape::new(4, 3, 2).unwrap();
+        let node = two_leaves(alloc, shape)?;
+        let batch = vec![in alloc; put(alloc, 5, 50)?, del(alloc, 4)?, put(alloc, 5, 51)?]?;
+        let nodes = absorb(alloc, shape, node, Packet::from_batch(alloc, batch)?)?;
+        assert_eq!(rt; nodes.len(), 1);
+        let node = &nodes[0].1;
+        assert!(rt;
+            matches!(node, Node::Inner { children, buffer } if children.len() == 2 && buffer.count() == 3)
+        );
+        for (number, other) in [(1, 10), (2, 20), (3, 30), (5, 51)] {
+            let found = value_at(alloc, node, &key_of(alloc, number)?)?;
+            assert!(rt; found.is_some_and(|row| holds(&row, number, other)));
+        }
+        for number in [-1, 0, 4, 6] {
+            assert!(rt; value_at(alloc, node, &key_of(alloc, number)?)?.is_none());
+        }
+        Ok(())
+    }
+}

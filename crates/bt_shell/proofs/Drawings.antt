@@ -1,0 +1,138 @@
+-- The text and the height of a node from those of its children.
+use Rattle.std.proofs.Common.{ℕ, zero, suc, ◌+◌, ◌<◌, ◌≤◌, ◌≡◌, ◌∙◌, List, [], ◌∷◌, ◌++◌, Option, Some, None, refl, sym, ap, take, length, arith, append_assoc, append-nil, max, take_all}
+use Rattle.std.specs.Prelude.{flat_map, min, option_map, slice_get}
+use Rattle.bt_rowtype.specs.declared.value.Value.{Value}
+use Rattle.bt_messages.specs.declared.message.Message.{Message}
+use Rattle.bt_node.specs.Keys.{Key}
+use Rattle.bt_node.specs.Trees.{Tree, leaf, inner, Nodes, none, node, Siblings, children, height, height_below}
+use Rattle.bt_shell.specs.Drawings.{child_text, highest, own_text, pivot_text, siblings_text}
+use Rattle.bt_shell.specs.Images.{inner_line, message_line, node_text, others_text, pivot_line}
+use Rattle.bt_shell.specs.Walks.{children_of}
+
+pub same_item : {X : Type 0} (x y : X) → Some x ≡ Some y → x ≡ y
+same_item x y is = cc
+
+-- one more of the lines of some items
+pub lines_more : {X : Type 0} (f : X → List ℕ) (xs : List X) (i : ℕ) (x : X) → slice_get xs i ≡ Some x → flat_map f (take (suc i) xs) ≡ flat_map f (take i xs) ++ f x
+lines_more f [] i x is = cc
+lines_more f (y ∷ ys) zero x is = append-nil (f y) ∙ ap f (same_item y x is)
+lines_more f (y ∷ ys) (suc i) x is = ap (λ (l : List ℕ). f y ++ l) (lines_more f ys i x is) ∙ sym (append_assoc (f y) (flat_map f (take i ys)) (f x))
+
+-- the lines of one more child
+pub siblings_more : (depth place : ℕ) (xs : Siblings (List Value) (Message (List Value))) (i : ℕ) (x : Key × Tree (List Value) (Message (List Value))) → slice_get xs i ≡ Some x
+    → siblings_text depth place (take (suc i) xs) ≡ siblings_text depth place (take i xs) ++ child_text depth (place + i) x
+siblings_more depth place [] i x is = cc
+siblings_more depth place (y ∷ ys) zero x is =
+    let here : place ≡ place + 0 = omega arith in
+    append-nil (child_text depth place y) ∙ ap (child_text depth place) (same_item y x is) ∙ ap (λ (p : ℕ). child_text depth p x) here
+siblings_more depth place (y ∷ ys) (suc i) x is =
+    let here : suc place + i ≡ place + suc i = omega arith in
+    ap (λ (l : List ℕ). child_text depth place y ++ l) (siblings_more depth (suc place) ys i x is ∙ ap (λ (p : ℕ). siblings_text depth (suc place) (take i ys) ++ child_text depth p x) here)
+    ∙ sym (append_assoc (child_text depth place y) (siblings_text depth (suc place) (take i ys)) (child_text depth (place + suc i) x))
+
+others_listed : (depth place : ℕ) (ns : Nodes (List Value) (Message (List Value))) → others_text depth ns ≡ siblings_text depth (suc place) (children ns)
+others_listed depth place none = refl
+others_listed depth place (node k t ns) =
+    ap (λ (l : List ℕ). pivot_line depth k ++ (node_text depth t ++ l)) (others_listed depth (suc place) ns)
+    ∙ sym (append_assoc (pivot_line depth k) (node_text depth t) (siblings_text depth (suc (suc place)) (children ns)))
+
+listed : (depth : ℕ) (t : Tree (List Value) (Message (List Value))) → node_text depth t ≡ own_text depth (suc depth) t ++ siblings_text (suc depth) 0 (children_of t)
+listed depth (leaf rows) = sym (append-nil _)
+listed depth (inner none buffer) =
+    let own = inner_line depth 0 (length buffer) in
+    let lines = flat_map (message_line (suc depth)) buffer in
+    ap (λ (l : List ℕ). own ++ l) (append-nil lines) ∙ sym (append-nil (own ++ lines))
+listed depth (inner (node k t ns) buffer) =
+    let own = inner_line depth (length (children (node k t ns))) (length buffer) in
+    let lines = flat_map (message_line (suc depth)) buffer in
+    ap (λ (l : List ℕ). own ++ (lines ++ (node_text (suc depth) t ++ l))) (others_listed (suc depth) 0 ns)
+    ∙ sym (append_assoc own lines (node_text (suc depth) t ++ siblings_text (suc depth) 1 (children ns)))
+
+-- a node has its own lines, and then those of its children
+pub node_listed : (depth : ℕ) (t : Tree (List Value) (Message (List Value))) → node_text depth t ≡ own_text depth (depth + 1) t ++ siblings_text (depth + 1) 0 (children_of t)
+node_listed depth t =
+    let next : depth + 1 ≡ suc depth = omega arith in
+    rw next (listed depth t)
+
+below_listed : {V M : Type 0} (ns : Nodes V M) → height_below ns ≡ highest (children ns)
+below_listed none = refl
+below_listed (node k t ns) = ap (max (height t)) (below_listed ns)
+
+-- a node is one higher than its children
+pub height_listed : {V M : Type 0} (t : Tree V M) → height t ≡ suc (highest (children_of t))
+height_listed (leaf rows) = refl
+height_listed (inner ns buffer) = ap suc (below_listed ns)
+
+pub highest_more : {V M : Type 0} (xs : Siblings V M) (i : ℕ) (x : Key × Tree V M) → slice_get xs i ≡ Some x → highest (take (suc i) xs) ≡ max (highest (take i xs)) (height x.1)
+highest_more [] i x is = cc
+highest_more (y ∷ ys) zero x is = omega (arith, ap (λ (z : Key × Tree _ _). height z.1) (same_item y x is))
+highest_more (y ∷ ys) (suc i) x is = omega (arith, highest_more ys i x is)
+
+-- a child is no higher than the highest
+pub child_lower : {V M : Type 0} (xs : Siblings V M) (i : ℕ) (x : Key × Tree V M) → slice_get xs i ≡ Some x → height x.1 ≤ highest xs
+child_lower [] i x is = cc
+child_lower (y ∷ ys) zero x is = omega (arith, ap (λ (z : Key × Tree _ _). height z.1) (same_item y x is))
+child_lower (y ∷ ys) (suc i) x is = omega (arith, child_lower ys i x is)
+
+-- a list that grows by what was written
+pub written_more : (out before after so_far next line : List ℕ) → after ≡ before ++ line → before ≡ out ++ so_far → next ≡ so_far ++ line → after ≡ out ++ next
+written_more out before after so_far next line wrote was more =
+    wrote ∙ ap (λ (l : List ℕ). l ++ line) was ∙ append_assoc out so_far line ∙ ap (λ (l : List ℕ). out ++ l) (sym more)
+
+pub lines_next : {X : Type 0} (f : X → List ℕ) (xs : List X) (i : ℕ) (x : X) → slice_get xs i ≡ Some x → flat_map f (take (i + 1) xs) ≡ flat_map f (take i xs) ++ f x
+lines_next f xs i x is =
+    let next : i + 1 ≡ suc i = omega arith in
+    rw next (lines_more f xs i x is)
+
+-- ---- children found at their places
+
+pub child_at : {X Y : Type 0} (o : Option (X × Y)) (y : Y) → option_map (λ p. p.1) o ≡ Some y → (p : X × Y) × (o ≡ Some p) × (p.1 ≡ y)
+child_at None y is = cc
+child_at (Some p) y is = (p, refl, same_item p.1 y is)
+
+pub child_below : {V M : Type 0} (t child : Tree V M) (i : ℕ) → option_map (λ p. p.1) (slice_get (children_of t) i) ≡ Some child → height child < height t
+child_below t child i is =
+    let found = child_at (slice_get (children_of t) i) child is in
+    let lower = child_lower (children_of t) i found.0 found.1 in
+    let same = ap height found.2 in
+    let all = height_listed t in
+    omega (arith, lower, same, all)
+
+pub highest_next : {V M : Type 0} (xs : Siblings V M) (i : ℕ) (child : Tree V M) (most before after high : ℕ) → option_map (λ p. p.1) (slice_get xs i) ≡ Some child
+    → before ≡ min (highest (take i xs)) most → high ≡ min (height child) most → after ≡ max before high → after ≡ min (highest (take (i + 1) xs)) most
+highest_next xs i child most before after high is was found step =
+    let at = child_at (slice_get xs i) child is in
+    let same = ap height at.2 in
+    let next : i + 1 ≡ suc i = omega arith in
+    let more = highest_more xs i at.0 at.1 in
+    rw next (omega (arith, same, more, was, found, step))
+
+pub highest_last : {V M : Type 0} (t : Tree V M) (i most before after : ℕ) → length (children_of t) ≤ i → before ≡ min (highest (take i (children_of t))) most → after ≡ min (before + 1) most
+    → after ≡ min (height t) most
+highest_last t i most before after past was step =
+    let whole = ap highest (take_all i (children_of t) past) in
+    let all = height_listed t in
+    omega (arith, whole, all, was, step)
+
+pub child_written : (xs : Siblings (List Value) (Message (List Value))) (i below : ℕ) (child : Tree (List Value) (Message (List Value))) (out own before mid after : List ℕ)
+    → option_map (λ p. p.1) (slice_get xs i) ≡ Some child → mid ≡ before ++ pivot_text below i (slice_get xs i) → after ≡ mid ++ node_text below child
+    → before ≡ out ++ (own ++ siblings_text below 0 (take i xs)) → after ≡ out ++ (own ++ siblings_text below 0 (take (i + 1) xs))
+child_written xs i below child out own before mid after is pivot text was =
+    let at = child_at (slice_get xs i) child is in
+    let next : i + 1 ≡ suc i = omega arith in
+    let here : 0 + i ≡ i = omega arith in
+    let so_far = siblings_text below 0 (take i xs) in
+    let line = pivot_text below i (Some at.0) in
+    let more : siblings_text below 0 (take (i + 1) xs) ≡ so_far ++ child_text below i at.0 =
+    ap (λ (n : ℕ). siblings_text below 0 (take n xs)) next ∙ siblings_more below 0 xs i at.0 at.1 ∙ ap (λ (n : ℕ). so_far ++ child_text below n at.0) here in
+    let wrote : after ≡ before ++ child_text below i at.0 =
+    text ∙ ap (λ (l : List ℕ). l ++ node_text below child) (pivot ∙ ap (λ o. before ++ pivot_text below i o) at.1)
+    ∙ ap (λ t. (before ++ line) ++ node_text below t) (sym at.2) ∙ append_assoc before line (node_text below at.0.1) in
+    written_more out before after (own ++ so_far) (own ++ siblings_text below 0 (take (i + 1) xs)) (child_text below i at.0) wrote was
+    (ap (λ (l : List ℕ). own ++ l) more ∙ sym (append_assoc own so_far (child_text below i at.0)))
+
+pub node_written : (t : Tree (List Value) (Message (List Value))) (depth below i : ℕ) → below ≡ depth + 1 → length (children_of t) ≤ i
+    → own_text depth below t ++ siblings_text below 0 (take i (children_of t)) ≡ node_text depth t
+node_written t depth below i is past =
+    let whole = take_all i (children_of t) past in
+    rw (is, whole) (sym (node_listed depth t))

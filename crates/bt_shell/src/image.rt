@@ -1,0 +1,223 @@
+//! The text of a tree.
+ghost use Rattle.std.specs.Prelude.{◌≡◌, ◌<◌, ◌-◌, ◌^◌, ◌++◌, ◌∷◌, [], IfOk, OnOk, flat_map, length, min, slice_get};
+ghost use Rattle.std.specs.Option.{option_copied};
+ghost use Rattle.bt_node.specs.Trees as trees;
+ghost use Rattle.bt_shell.specs.Drawings.{own_text, pivot_text};
+ghost use Rattle.bt_shell.specs.Images as spec;
+ghost use Rattle.bt_shell.specs.Walks.{children_of, messages_of, rows_of};
+
+use crate::reply::write_number;
+use bt_keycode::Key;
+use bt_messages::Message;
+use bt_node::Walk;
+use bt_rowtype::{Row, Text, write_record};
+use std::alloc::{AllocError, Global};
+
+// Adds two spaces for each level.
+fn write_indent(out: &mut Vec<u8>, depth: usize) -> Result<(), AllocError>
+    ensures { OnOk result (out.new.items ≡ out.old.items ++ spec.indent depth) }
+{
+    for _level in 0..depth {
+        out.extend_from_slice(b"  ")?;
+    }
+    Ok(())
+}
+
+// Adds the record of a row behind a space, where there is a row.
+fn write_row(out: &mut Vec<u8>, row: Option<&Row>) -> Result<(), AllocError>
+    ensures { OnOk result (out.new.items ≡ out.old.items ++ spec.row_text (option_copied row.entry)) }
+{
+    let Some(row) = row else {
+        return Ok(());
+    };
+    out.push(b' ')?;
+    write_record(out, row.as_slice())
+}
+
+/// Adds a line with a mark, a key and the record of a row where there is one.
+pub fn write_key_line(
+    out: &mut Vec<u8>,
+    depth: usize,
+    mark: u8,
+    key: &Key,
+    row: Option<&Row>,
+) -> Result<(), AllocError>
+    ensures { OnOk result (out.new.items ≡ out.old.items ++ spec.key_line depth (mark ∷ []) key.now (option_copied row.entry)) }
+{
+    write_indent(out, depth)?;
+    out.extend_from_slice(&[mark, b' '])?;
+    key.write_hex(out)?;
+    write_row(out, row)?;
+    out.push(b'\n')?;
+    Ok(())
+}
+
+/// Adds the line of a row of a leaf.
+pub fn write_row_line(
+    out: &mut Vec<u8>,
+    depth: usize,
+    key: &Key,
+    row: &Row,
+) -> Result<(), AllocError>
+    ensures { OnOk result (out.new.items ≡ out.old.items ++ spec.row_line depth (key.now, row.now)) }
+{
+    write_key_line(out, depth, b'=', key, Some(row))
+}
+
+/// Adds the line of a message that waits.
+pub fn write_message_line(
+    out: &mut Vec<u8>,
+    depth: usize,
+    key: &Key,
+    message: &Message<Row>,
+) -> Result<(), AllocError>
+    ensures { OnOk result (out.new.items ≡ out.old.items ++ spec.message_line depth (key.now, message.now)) }
+{
+    match message {
+        Message::Put(row) => write_key_line(out, depth, b'+', key, Some(row)),
+        Message::Del => write_key_line(out, depth, b'-', key, None),
+    }
+}
+
+/// Adds the line of a pivot.
+pub fn write_pivot_line(out: &mut Vec<u8>, depth: usize, pivot: &Key) -> Result<(), AllocError>
+    ensures { OnOk result (out.new.items ≡ out.old.items ++ spec.pivot_line depth pivot.now) }
+{
+    write_key_line(out, depth, b'|', pivot, None)
+}
+
+/// Adds the first line of a leaf.
+pub fn write_leaf_line(out: &mut Vec<u8>, depth: usize, rows: usize) -> Result<(), AllocError>
+    ensures { OnOk result (out.new.items ≡ out.old.items ++ spec.leaf_line depth rows) }
+{
+    write_indent(out, depth)?;
+    out.extend_from_slice(b"leaf ")?;
+    write_number(out, rows as u64)?;
+    out.push(b'\n')?;
+    Ok(())
+}
+
+/// Adds the first line of an inner node.
+pub fn write_inner_line(
+    out: &mut Vec<u8>,
+    depth: usize,
+    children: usize,
+    messages: usize,
+) -> Result<(), AllocError>
+    ensures { OnOk result (out.new.items ≡ out.old.items ++ spec.inner_line depth children messages) }
+{
+    write_indent(out, depth)?;
+    out.extend_from_slice(b"inner ")?;
+    write_number(out, children as u64)?;
+    out.push(b' ')?;
+    write_number(out, messages as u64)?;
+    out.push(b'\n')?;
+    Ok(())
+}
+
+/// Adds the first line of an image.
+pub fn write_first_line(out: &mut Vec<u8>, name: &Text, height: u64) -> Result<(), AllocError>
+    ensures { OnOk result (out.new.items ≡ out.old.items ++ spec.first_line name.now height) }
+{
+    out.extend_from_slice(b"image ")?;
+    out.extend_from_slice(name.as_str().as_bytes())?;
+    out.extend_from_slice(b" height ")?;
+    write_number(out, height)?;
+    out.push(b'\n')?;
+    Ok(())
+}
+
+// Adds the lines of the rows of a leaf.
+fn write_rows(out: &mut Vec<u8>, depth: usize, walk: &Walk<Row>) -> Result<(), AllocError>
+    ensures { OnOk result (out.new.items ≡ out.old.items ++ flat_map (spec.row_line depth) (rows_of walk.now)) }
+{
+    for place in 0..walk.row_count() {
+        let (key, row) = walk.row(place);
+        write_row_line(out, depth, key, row)?;
+    }
+    Ok(())
+}
+
+// Adds the lines of the messages of an inner node.
+fn write_messages(out: &mut Vec<u8>, depth: usize, walk: &Walk<Row>) -> Result<(), AllocError>
+    ensures { OnOk result (out.new.items ≡ out.old.items ++ flat_map (spec.message_line depth) (messages_of walk.now)) }
+{
+    for place in 0..walk.message_count() {
+        let (key, message) = walk.message(place);
+        write_message_line(out, depth, key, message)?;
+    }
+    Ok(())
+}
+
+// Adds the lines of a node that speak of no other one; all but the first at the depth below.
+fn write_own_lines(
+    out: &mut Vec<u8>,
+    depth: usize,
+    below: usize,
+    walk: &Walk<Row>,
+) -> Result<(), AllocError>
+    ensures { OnOk result (out.new.items ≡ out.old.items ++ own_text depth below walk.now) }
+{
+    if walk.is_leaf() {
+        write_leaf_line(out, depth, walk.row_count())?;
+        write_rows(out, below, walk)
+    } else {
+        write_inner_line(out, depth, walk.child_count(), walk.message_count())?;
+        write_messages(out, below, walk)
+    }
+}
+
+// Adds the line of the pivot before a child, but not before the first.
+fn write_pivot(
+    out: &mut Vec<u8>,
+    depth: usize,
+    walk: &Walk<Row>,
+    place: usize,
+) -> Result<(), AllocError>
+    requires { place < length (children_of walk.now) }
+    ensures { OnOk result (out.new.items ≡ out.old.items ++ pivot_text depth place (slice_get (children_of walk.now) place)) }
+{
+    if place == 0 {
+        return Ok(());
+    }
+    write_pivot_line(out, depth, walk.pivot(place))
+}
+
+// Adds the lines of a node and of those below it. A depth past all numbers is want of memory: no tree has it.
+fn write_node(out: &mut Vec<u8>, depth: usize, walk: &Walk<Row>) -> Result<(), AllocError>
+    ensures { OnOk result (out.new.items ≡ out.old.items ++ spec.node_text depth walk.now) }
+{
+    let Some(below) = depth.checked_add(1) else {
+        return Err(AllocError);
+    };
+    write_own_lines(out, depth, below, walk)?;
+    for place in 0..walk.child_count() {
+        write_pivot(out, below, walk, place)?;
+        let child = walk.child(place);
+        write_node(out, below, &child)?;
+    }
+    Ok(())
+}
+
+// The height of a node, held at the greatest number.
+fn height(walk: &Walk<Row>) -> u64
+    ensures { result ≡ min (trees.height walk.now) (2 ^ 64 - 1) }
+{
+    let mut highest = 0u64;
+    for place in 0..walk.child_count() {
+        let child = walk.child(place);
+        highest = highest.max(height(&child));
+    }
+    highest.saturating_add(1)
+}
+
+/// The image of a tree under its name.
+pub fn image_text(alloc: Global, name: &Text, walk: &Walk<Row>) -> Result<Vec<u8>, AllocError>
+    ensures { IfOk result (λ text. text.items ≡ spec.image_text name.now walk.now) }
+{
+    let mut text = Vec::new(alloc);
+    write_first_line(&mut text, name, height(walk))?;
+    write_node(&mut text, 0, walk)?;
+    text.extend_from_slice(b"end\n")?;
+    Ok(text)
+}
