@@ -171,11 +171,20 @@ mod tests {
         Packet::from_batch(alloc, batch)
     }
 
-    // The numbers of rows of the leaves, from left to right.
-    fn leaves(alloc: Global, walk: &Walk<Row>) -> Result<Vec<usize>, AllocError> {
+    // The numbers of rows of the children, from left to right.
+    fn rows_of_children(alloc: Global, walk: &Walk<Row>) -> Result<Vec<usize>, AllocError> {
         let mut counts = Vec::new(alloc);
         for place in 0..walk.child_count() {
             counts.push(walk.child(place).row_count())?;
+        }
+        Ok(counts)
+    }
+
+    // The numbers of children of the children, from left to right.
+    fn children_of_children(alloc: Global, walk: &Walk<Row>) -> Result<Vec<usize>, AllocError> {
+        let mut counts = Vec::new(alloc);
+        for place in 0..walk.child_count() {
+            counts.push(walk.child(place).child_count())?;
         }
         Ok(counts)
     }
@@ -187,7 +196,10 @@ mod tests {
         assert!(rt; tree.walk().is_leaf());
         assert_eq!(rt; tree.shape().fanout(), 4);
         let tree = tree.sink(alloc, puts(alloc, &[1, 2, 3, 4])?)?;
-        assert_eq!(rt; leaves(alloc, &tree.walk())?.as_slice(), [2, 2].as_slice());
+        assert_eq!(rt;
+            rows_of_children(alloc, &tree.walk())?.as_slice(),
+            [2, 2].as_slice()
+        );
         assert_eq!(rt; tree.walk().message_count(), 0);
 
         let tree = tree.sink(alloc, puts(alloc, &[1, 2, 3, 4])?)?;
@@ -201,21 +213,18 @@ mod tests {
     }
 
     #[test]
-    fn a_node_and_its_crown(rt: HostRuntime) -> Result<(), Fail> {
+    fn children_are_dealt_under_a_new_root(rt: HostRuntime) -> Result<(), Fail> {
         let alloc = rt.alloc();
-        let (shape, root) = Tree::empty(alloc, shape()?).apart();
-        let siblings = absorb_alone(
-            alloc,
-            shape,
-            root,
-            puts(alloc, &[1, 2, 3, 4, 5, 6, 7, 8, 9])?,
-        )?;
-        let tree = crown(alloc, shape, siblings)?;
-        assert_eq!(rt; tree.walk().child_count(), 2);
-        let first = tree.walk().child(0);
-        assert_eq!(rt; leaves(alloc, &first)?.as_slice(), [2, 2, 2].as_slice());
-        let (key, _) = first.child(0).row(0);
-        assert_eq!(rt; key.len(), 8);
+        let packet = puts(alloc, &[1, 2, 3, 4, 5, 6, 7, 8, 9])?;
+        let tree = Tree::empty(alloc, shape()?).sink(alloc, packet)?;
+        assert_eq!(rt;
+            children_of_children(alloc, &tree.walk())?.as_slice(),
+            [3, 2].as_slice()
+        );
+        let seven = encode(alloc, &[Value::Int(7)])?;
+        assert!(rt; tree.get(alloc, &seven)?.is_some());
+        let ten = encode(alloc, &[Value::Int(10)])?;
+        assert!(rt; tree.get(alloc, &ten)?.is_none());
         Ok(())
     }
 }

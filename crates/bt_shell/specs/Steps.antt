@@ -1,5 +1,5 @@
 -- What a command does to the table, what it is answered, and why it is refused.
-use Rattle.std.specs.Prelude.{ℕ, ◌&&◌, ◌+◌, not, nat_lt, nat_le, Bool, List, [], ◌∷◌, ◌++◌, length, map, take, flat_map, Option, Some, None, is_some, Result, Ok, Err, if◌then◌else◌, codes, decimal}
+use Rattle.std.specs.Prelude.{ℕ, ◌+◌, not, nat_lt, Bool, List, [], ◌∷◌, ◌++◌, length, map, take, flat_map, Option, Some, None, is_some, Result, Ok, Err, if◌then◌else◌, codes, decimal}
 use Rattle.std.specs.FinMap.{find}
 use Rattle.std.specs.List.{filter_map}
 use Rattle.std.specs.Result.{result_err, result_ok}
