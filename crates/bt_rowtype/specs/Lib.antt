@@ -1,4 +1,5 @@
 pub mod Ints
+pub mod Pieces
 pub mod Records
 pub mod Refusals
 pub mod Schemas

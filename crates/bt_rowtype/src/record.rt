@@ -83,7 +83,7 @@ fn fields_of_plain(alloc: Global, text: &[u8]) -> Result<Fields, AllocError>
     ensures { IfOk result (λ fields. fields ≡ parts_of text.now) }
 {
     let parts = parts(alloc, text)?;
-    let mut fields = Fields::new(alloc);
+    let mut fields = Fields::with_room(alloc, parts.len(), text.len())?;
     for part in &parts {
         fields.push(part)?;
     }
