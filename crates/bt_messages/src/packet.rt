@@ -52,6 +52,7 @@ impl<V: Merge> Packet<V> {
         self.messages.len()
     }
 
+    /// Whether there is no message.
     pub fn is_empty(&self) -> bool
         ensures { result ≡ (length self.now == 0) }
     {

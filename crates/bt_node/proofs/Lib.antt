@@ -22,7 +22,6 @@ pub mod Outside
 pub mod Packets
 pub mod Passes
 pub mod Paths
-pub mod Planting
 pub mod Plans
 pub mod Raising
 pub mod Recursion
@@ -30,6 +29,7 @@ pub mod RowPass
 pub mod RowSearch
 pub mod RowsAfter
 pub mod Settled
+pub mod ShapedTrees
 pub mod Shares
 pub mod SideBySide
 pub mod Sized

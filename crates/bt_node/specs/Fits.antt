@@ -3,7 +3,7 @@ use Rattle.std.specs.Prelude.{◌≡◌, ℕ, zero, suc, ◌≤◌, List, [], �
 use Rattle.std.specs.declared.option.Option.{Option}
 use Rattle.std.specs.declared.option.Option.TheVariants.{None}
 use Rattle.bt_node.specs.Keys.{Key, Within, AllWithin, IsRising, SideBySide}
-use Rattle.bt_node.specs.Messages.{Rows}
+use Rattle.bt_node.specs.Messages.{Rows, Messages}
 use Rattle.bt_node.specs.Trees.{Shape, Tree, leaf, inner, Nodes, none, node, Siblings, children, nodes, height}
 
 -- keys strictly rising from the one limit to the other
@@ -69,3 +69,8 @@ pub record HasShape {V M : Type 0} (shape : Shape) (t : Tree V M) : Type 0 where
   pub roomy : IsRoomy shape
   pub levels : ℕ
   pub fits : NodeFits shape levels None None t
+
+-- a fact of a node and a packet, wherever the node fits between two limits, the packet lies between them, and the shape has room
+abbrev pub WhereFits : {V M : Type 0} → Shape → Tree V M → Messages M → (ℕ → Option Key → Option Key → Type 0) → Type 0
+WhereFits shape t packet Fact =
+    (levels : ℕ) (low high : Option Key) → IsRoomy shape → NodeFits shape levels low high t → AllWithin low high packet → Fact levels low high

@@ -90,5 +90,5 @@ shape_code =
     (λ p. record { fanout = p.0; buffer = p.1.0; leaf = p.1.1 }) (λ _. refl)
 
 -- a tree with the shape of its nodes
-abbrev pub planted_code : {V M : Type 0} → Coded V → Coded M → Coded (Shape × Tree V M)
-planted_code value message = coded× shape_code (tree_code value message)
+abbrev pub shaped_tree_code : {V M : Type 0} → Coded V → Coded M → Coded (Shape × Tree V M)
+shaped_tree_code value message = coded× shape_code (tree_code value message)

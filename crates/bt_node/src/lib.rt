@@ -28,8 +28,7 @@ pub use laws::{
     crown_keeps_all, drain_keeps_all, lookup_finds_held, messages_in_order, pack_keeps_all,
     plan_is_choice, sunk_keeps_all,
 };
-pub use node::Node;
 pub use planning::plan;
 pub use shape::Shape;
-pub use tree::{Siblings, Tree, absorb_alone, crown};
+pub use tree::{Siblings, Subtree as Node, Tree, absorb_alone, crown};
 pub use walk::Walk;

@@ -5,7 +5,7 @@ use bt_messages::{Buffer, Merge, Packet};
 
 /// A node with all that is below it.
 #[derive(Drop)]
-pub enum Node<V: Merge> {
+pub(crate) enum Node<V: Merge> {
     /// Rows.
     Leaf(Rows<V>),
     /// Children, each behind the pivot before it and the first behind the empty key, and the messages that wait for them.

@@ -3,12 +3,11 @@ ghost use Rattle.std.specs.Prelude.{◌≡◌, ℕ, [], IfOk};
 ghost use Rattle.std.specs.FinMap.{find};
 ghost use Rattle.std.specs.declared.option.Option.TheVariants.{None};
 ghost use Rattle.bt_messages.specs.Effects.{effect_of};
-ghost use Rattle.bt_node.specs.Fits.{HasShape, SiblingsFit};
-ghost use Rattle.bt_node.specs.Flushes.{absorb, crown, holds, sunk};
+ghost use Rattle.bt_node.specs.Fits.{AreHigh, HasShape, SiblingsFit, WhereFits};
+ghost use Rattle.bt_node.specs.Flushes.{absorb, all_hold, crown, holds, sunk};
 ghost use Rattle.bt_node.specs.Keys.{key_cmp};
 ghost use Rattle.bt_node.specs.Messages.{rows_after};
-ghost use Rattle.bt_node.specs.Trees.{leaf};
-ghost use Rattle.bt_node.specs.Views.{tree_of};
+ghost use Rattle.bt_node.specs.Trees.{height, leaf};
 
 use crate::absorb::absorb;
 use crate::crowned::crowned;
@@ -33,17 +32,37 @@ impl<V: Merge> Model for Tree<V> {
     ghost use Rattle.bt_messages.specs.declared.message.Message.{Message};
     ghost use Rattle.bt_node.specs.Trees as trees;
     ghost use Rattle.bt_node.specs.Fits.{HasShape};
-    ghost use Rattle.bt_node.specs.Stored.{message_code, planted_code};
+    ghost use Rattle.bt_node.specs.Stored.{message_code, shaped_tree_code};
 
     ghost Value = { trees.Shape × trees.Tree V (Message V) };
 
-    ghost coded = { planted_code V.code (message_code V.code) };
+    ghost coded = { shaped_tree_code V.code (message_code V.code) };
 
     ghost use Rattle.bt_node.specs.Views.{tree_of};
 
     ghost view = { λ t. (t.shape, tree_of t.root) };
 
     ghost invariant = { λ t. HasShape t.shape (tree_of t.root) };
+}
+
+/// A node with all that is below it. A contract sees the tree that it stands for.
+#[derive(Drop)]
+pub struct Subtree<V: Merge> {
+    node: Node<V>,
+}
+
+impl<V: Merge> Model for Subtree<V> {
+    ghost use Rattle.bt_messages.specs.declared.message.Message.{Message};
+    ghost use Rattle.bt_node.specs.Trees as trees;
+    ghost use Rattle.bt_node.specs.Stored.{message_code, tree_code};
+
+    ghost Value = { trees.Tree V (Message V) };
+
+    ghost coded = { tree_code V.code (message_code V.code) };
+
+    ghost use Rattle.bt_node.specs.Views.{tree_of};
+
+    ghost view = { λ n. tree_of n.node };
 }
 
 /// Neighbouring nodes, each behind the pivot before it and the first behind the empty key.
@@ -68,27 +87,36 @@ impl<V: Merge> Model for Siblings<V> {
 }
 
 /// What becomes of a node and a packet, on the caller's thread. An `Err` keeps neither.
+///
+/// Where the node fits between two limits and the packet lies between them, the siblings fit there at the node's height, and
+/// hold its rows after the packet.
 pub fn absorb_alone<V: Merge>(
     alloc: Global,
     shape: Shape,
-    node: Node<V>,
+    node: Subtree<V>,
     packet: Packet<V>,
 ) -> Result<Siblings<V>, AllocError>
-    ensures { IfOk result (λ siblings. siblings ≡ absorb effect_of shape (tree_of node) packet) }
+    ensures siblings { IfOk result (λ siblings. siblings ≡ absorb effect_of shape node packet) }
+    ensures fits { IfOk result (λ siblings. WhereFits shape node packet (λ levels low high. SiblingsFit shape levels low high siblings)) }
+    ensures height { IfOk result (λ siblings. WhereFits shape node packet (λ levels low high. AreHigh (height node) siblings)) }
+    ensures rows { IfOk result (λ siblings. WhereFits shape node packet (λ levels low high. all_hold effect_of siblings ≡ rows_after effect_of packet (holds effect_of node))) }
 {
+    let Subtree { node } = node;
     let nodes = absorb(alloc, shape, node, packet)?;
     Ok(Siblings { nodes })
 }
 
-/// The tree whose root stands above these siblings. An `Err` keeps nothing of them.
-#[tactic(auto, using(crate::proofs::Planting::crown_has_shape))]
+/// The tree whose root stands above these siblings, and holds what they hold. An `Err` keeps nothing of them.
+#[tactic(auto, using(crate::proofs::ShapedTrees::crown_has_shape))]
 pub fn crown<V: Merge>(
     alloc: Global,
     shape: Shape,
     siblings: Siblings<V>,
 ) -> Result<Tree<V>, AllocError>
     requires { (levels : ℕ) × SiblingsFit shape levels None None siblings }
-    ensures { IfOk result (λ tree. tree ≡ (shape, crown shape siblings)) }
+    ensures tree { IfOk result (λ tree. tree ≡ (shape, crown shape siblings)) }
+    ensures fits { IfOk result (λ tree. HasShape tree.0 tree.1) }
+    ensures rows { IfOk result (λ tree. holds effect_of tree.1 ≡ all_hold effect_of siblings) }
 {
     let Siblings { nodes } = siblings;
     let root = crowned(alloc, shape, nodes)?;
@@ -106,6 +134,7 @@ impl<V: Merge> Tree<V> {
         }
     }
 
+    /// How large its nodes may be.
     pub fn shape(&self) -> Shape
         ensures { result ≡ self.now.0 }
     {
@@ -120,18 +149,19 @@ impl<V: Merge> Tree<V> {
     }
 
     /// The shape and the root.
-    pub fn apart(self) -> (Shape, Node<V>)
+    pub fn apart(self) -> (Shape, Subtree<V>)
         ensures shape { result.0 ≡ self.0 }
-        ensures root { tree_of result.1 ≡ self.1 }
-        ensures fits { HasShape self.0 self.1 }
+        ensures root { result.1 ≡ self.1 }
+        ensures fits { HasShape result.0 result.1 }
     {
         let Tree { shape, root } = self;
-        (shape, root)
+        (shape, Subtree { node: root })
     }
 
     /// The tree after a packet, on the caller's thread. An `Err` keeps neither.
     pub fn sink(self, alloc: Global, packet: Packet<V>) -> Result<Self, AllocError>
         ensures tree { IfOk result (λ tree. tree ≡ (self.0, sunk effect_of self.0 self.1 packet)) }
+        ensures fits { IfOk result (λ tree. HasShape tree.0 tree.1) }
         ensures rows { IfOk result (λ tree. holds effect_of tree.1 ≡ rows_after effect_of packet (holds effect_of self.1)) }
     {
         let (shape, root) = self.apart();

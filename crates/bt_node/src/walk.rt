@@ -35,6 +35,7 @@ impl<'a, V: Merge> Walk<'a, V> {
         Walk { node }
     }
 
+    /// Whether it is a leaf: it has rows, and no messages and no children.
     pub fn is_leaf(&self) -> bool
         ensures { result ≡ walk.is_leaf self.now }
     {

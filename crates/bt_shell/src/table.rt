@@ -57,7 +57,7 @@ impl Table {
         &self.schema
     }
 
-    /// Applies the messages of a batch in order. After an `Err` the table has no rows.
+    /// Applies the messages of a batch in order. After an `Err` the table is as it was, or it has no rows.
     pub fn apply(
         &mut self,
         alloc: Global,

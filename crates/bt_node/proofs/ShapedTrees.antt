@@ -1,5 +1,6 @@
 -- Trees that fit, with their shape.
-use Rattle.std.proofs.Common.{◌≡◌, ℕ, [], sym, subst, arith}
+use Rattle.std.proofs.Common.{◌≡◌, ◌≤◌, ◌&&◌, ℕ, Bool, true, false, nat_le, [], refl, sym, subst, arith, true≢false}
+use Rattle.std.proofs.lemmas.Bool.Decides.{nat_tests}
 use Rattle.std.specs.FinMap.{find}
 use Rattle.std.specs.declared.option.Option.TheVariants.{None}
 use Rattle.bt_messages.specs.Effects.{effect_of}
@@ -7,11 +8,30 @@ use Rattle.bt_messages.specs.declared.message.Message.{Message}
 use Rattle.bt_node.specs.Keys.{Key, key_cmp}
 use Rattle.bt_node.specs.Messages.{Messages, rows_after}
 use Rattle.bt_node.specs.Trees.{Shape, Tree, Siblings, leaf}
-use Rattle.bt_node.specs.Flushes.{absorb, crown, holds, sunk}
+use Rattle.bt_node.specs.Flushes.{crown, holds}
 use Rattle.bt_node.specs.Fits.{HasShape, IsRoomy, SiblingsFit}
 use Rattle.bt_node.specs.Lookups.{value_at}
-use Rattle.bt_node.proofs.Flushing.{absorb_fits, anywhere, crown_fits, sunk_loses_nothing}
+use Rattle.bt_node.specs.Shapes.{is_shape}
+use Rattle.bt_node.proofs.Flushing.{crown_fits}
 use Rattle.bt_node.proofs.Lookups.{lookup_finds_held}
+
+both : (a b : Bool) → a && b ≡ true → (a ≡ true) × (b ≡ true)
+both true b e = (refl, e)
+both false b e = absurd (true≢false (sym e))
+
+up_to : (a b : ℕ) → nat_le a b ≡ true → a ≤ b
+up_to a b e = grind (arith, nat_tests)
+
+-- a shape has room
+pub has_room : (shape : Shape) → is_shape shape.fanout shape.buffer shape.leaf ≡ true → IsRoomy shape
+has_room shape e =
+    let f = shape.fanout in
+    let b = shape.buffer in
+    let l = shape.leaf in
+    let parts = both ((nat_le 4 f && nat_le f 64) && (nat_le 1 b && nat_le b 4096)) (nat_le 2 l && nat_le l 1024) e in
+    let four = up_to 4 f (both (nat_le 4 f) (nat_le f 64) (both (nat_le 4 f && nat_le f 64) (nat_le 1 b && nat_le b 4096) parts.0).0).0 in
+    let two = up_to 2 l (both (nat_le 2 l) (nat_le l 1024) parts.1).0 in
+    record { fanout = omega (arith, four); leaf = omega (arith, two) }
 
 module _ {V : Type 0} (shape : Shape) where
   pub empty_has_shape : (t : Tree V (Message V)) → IsRoomy shape → t ≡ leaf [] → HasShape shape t
@@ -23,11 +43,5 @@ module _ {V : Type 0} (shape : Shape) where
       subst (HasShape shape) (sym e) (record { roomy = roomy; levels = top.0; fits = top.1 })
 
   module _ (t : Tree V (Message V)) (has : HasShape shape t) where
-    pub absorbed_fit : (packet : Messages (Message V)) → (levels : ℕ) × SiblingsFit shape levels None None (absorb effect_of shape t packet)
-    absorbed_fit packet = (has.levels, absorb_fits effect_of shape has.levels None None t packet has.roomy has.fits (anywhere packet))
-
-    pub sunk_holds : (packet : Messages (Message V)) → holds effect_of (sunk effect_of shape t packet) ≡ rows_after effect_of packet (holds effect_of t)
-    sunk_holds packet = sunk_loses_nothing effect_of shape t packet has.roomy (has.levels, has.fits)
-
     pub found_held : (k : Key) → value_at effect_of k t ≡ find key_cmp k (holds effect_of t)
     found_held k = lookup_finds_held effect_of shape has.levels None None t k has.fits
