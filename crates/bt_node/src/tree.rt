@@ -233,12 +233,14 @@ mod tests {
         assert_eq!(rt; tree.walk().message_count(), 0);
 
         let tree = tree.sink(alloc, puts(alloc, &[1, 2, 3, 4])?)?;
-        assert_eq!(rt; tree.walk().message_count(), 2);
         let three = encode(alloc, &[Value::Int(3)])?;
-        let (key, message) = tree.walk().message(0);
+        let root = tree.walk();
+        assert_eq!(rt; root.message_count(), 2);
+        let (key, message) = root.message(0);
         assert!(rt; key.compare(&three) == std::cmp::Ordering::Equal);
         assert!(rt; matches!(message, Message::Put(_)));
-        assert!(rt; tree.walk().pivot(1).compare(&three) == std::cmp::Ordering::Equal);
+        assert_eq!(rt; root.child_count(), 2);
+        assert!(rt; root.pivot(1).compare(&three) == std::cmp::Ordering::Equal);
         Ok(())
     }
 
