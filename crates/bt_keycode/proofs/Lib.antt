@@ -1,5 +1,10 @@
 pub mod Codes
-pub mod Kept
+pub mod Decoding
+pub mod DecodingInts
+pub mod DecodingTexts
+pub mod Escapes
+pub mod Heads
+pub mod Lengths
 pub mod Numbers
 pub mod Paddings
 pub mod Texts

@@ -1,5 +1,5 @@
 -- Codes, computed.
-use Rattle.std.proofs.Common.{◌≡◌, [], ◌∷◌, pos, negsuc, refl, codes}
+use Rattle.std.proofs.Common.{◌≡◌, true, false, [], ◌∷◌, pos, negsuc, refl, codes}
 use Rattle.bt_rowtype.specs.declared.value.Value.TheVariants as value
 use Rattle.bt_keycode.specs.Codes.{code_of}
 use Rattle.bt_keycode.specs.Hex.{hex_text}
@@ -19,3 +19,28 @@ minus_one = refl
 both : hex_text (code_of (value.Int (pos 3) ∷ value.Int (negsuc 0) ∷ [])) ≡ codes "80000000000000037fffffffffffffff"
 unfolding eight_bytes
 both = refl
+
+-- of the text `a` and 1
+text_and_one : hex_text (code_of (value.Text (codes "a") ∷ value.Int (pos 1) ∷ [])) ≡ codes "6100018000000000000001"
+unfolding eight_bytes
+text_and_one = refl
+
+-- of the text of `a` and a zero byte, and 0
+zero_byte_and_zero : hex_text (code_of (value.Text (97 ∷ 0 ∷ []) ∷ value.Int (pos 0) ∷ [])) ≡ codes "6100ff00018000000000000000"
+unfolding eight_bytes
+zero_byte_and_zero = refl
+
+-- of the empty text and -9223372036854775808
+empty_and_least : hex_text (code_of (value.Text [] ∷ value.Int (negsuc 9223372036854775807) ∷ [])) ≡ codes "00010000000000000000"
+unfolding eight_bytes
+empty_and_least = refl
+
+-- of flags and texts
+false_and_empty : hex_text (code_of (value.Flag false ∷ value.Text [] ∷ [])) ≡ codes "000001"
+false_and_empty = refl
+
+true_and_empty : hex_text (code_of (value.Flag true ∷ value.Text [] ∷ [])) ≡ codes "010001"
+true_and_empty = refl
+
+false_and_text : hex_text (code_of (value.Flag false ∷ value.Text (codes "b") ∷ [])) ≡ codes "00620001"
+false_and_text = refl

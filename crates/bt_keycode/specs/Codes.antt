@@ -1,5 +1,7 @@
 -- The key code of values.
-use Rattle.std.specs.Prelude.{ℕ, suc, ◌≡◌, ◌+◌, ◌-◌, ◌^◌, ◌++◌, List, [], ◌∷◌, map, ℤ, pos, negsuc}
+use Rattle.std.specs.Int.{w64}
+use Rattle.std.specs.Prelude.{ℕ, suc, ◌≡◌, ◌==◌, ◌+◌, ◌-◌, ◌^◌, ◌++◌, true, List, [], ◌∷◌, map, if◌then◌else◌, ℤ, pos, negsuc, FitsSigned}
+use Rattle.bt_rowtype.specs.Values.{is_text}
 use Rattle.bt_rowtype.specs.declared.value.Kind.{Kind}
 use Rattle.bt_rowtype.specs.declared.value.Kind.TheVariants as kind
 use Rattle.bt_rowtype.specs.declared.value.Value.{Value}
@@ -11,9 +13,17 @@ abbrev pub raised : ℤ → ℕ
 raised (pos n) = 2 ^ 63 + n
 raised (negsuc n) = 2 ^ 63 - suc n
 
--- the code of a value; of an int eight bytes, big endian, with the sign bit inverted
+-- the bytes of a text with 255 behind each zero byte
+abbrev pub escaped : List ℕ → List ℕ
+escaped [] = []
+escaped (b ∷ bs) = if b == 0 then 0 ∷ 255 ∷ escaped bs else b ∷ escaped bs
+
+-- the code of a value: of an int eight bytes, big endian, with the sign bit inverted; of a text its bytes, with 255 behind each zero byte, and 0 and 1 at
+-- the end; of a flag one byte
 abbrev pub code_of_value : Value → List ℕ
 code_of_value (value.Int n) = eight_bytes (raised n)
+code_of_value (value.Text bytes) = escaped bytes ++ (0 ∷ 1 ∷ [])
+code_of_value (value.Flag flag) = (if flag then 1 else 0) ∷ []
 
 -- the code of a list of values: the codes of the values, one after the other
 abbrev pub code_of : List Value → List ℕ
@@ -23,6 +33,8 @@ code_of (v ∷ vs) = code_of_value v ++ code_of vs
 -- the kind that a value is of
 abbrev pub kind_of : Value → Kind
 kind_of (value.Int n) = kind.Int
+kind_of (value.Text bytes) = kind.Text
+kind_of (value.Flag flag) = kind.Flag
 
 -- two lists of values have the same kinds, place by place
 abbrev pub HaveSameKinds : List Value → List Value → Type 0
@@ -31,3 +43,16 @@ HaveSameKinds left right = map kind_of left ≡ map kind_of right
 -- a list is not the beginning of a longer one
 abbrev pub IsNoProperPrefix : List ℕ → List ℕ → Type 0
 IsNoProperPrefix bytes other = (more : List ℕ) → other ≡ bytes ++ more → more ≡ []
+
+-- values are within the ranges of their kinds: ints have 64 bits, texts are UTF-8 of at most 255 bytes
+abbrev pub AreInRange : List Value → Type 0
+AreInRange [] = Unit {0}
+AreInRange (value.Int n ∷ vs) = FitsSigned w64 n × AreInRange vs
+AreInRange (value.Text bytes ∷ vs) = (is_text bytes ≡ true) × AreInRange vs
+AreInRange (value.Flag flag ∷ vs) = AreInRange vs
+
+-- bytes are the code of values of these kinds
+pub record IsCodeOf (kinds : List Kind) (bytes : List ℕ) (values : List Value) : Type 0 where
+  pub of_kinds : map kind_of values ≡ kinds
+  pub in_range : AreInRange values
+  pub code : code_of values ≡ bytes

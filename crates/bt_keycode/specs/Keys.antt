@@ -1,5 +1,5 @@
--- How a key is kept: its first eight bytes as a number, and the others.
-use Rattle.std.specs.Prelude.{ℕ, zero, suc, ◌≡◌, ◌++◌, min, List, [], ◌∷◌, length, take, drop}
+-- The first eight bytes of a key, which are kept as a number.
+use Rattle.std.specs.Prelude.{ℕ, zero, suc, List, [], ◌∷◌}
 use Rattle.std.specs.Int.{bytes_high_first}
 
 -- the eight bytes of a number, the highest first
@@ -14,13 +14,3 @@ padded (suc n) (b ∷ bs) = b ∷ padded n bs
 
 unfoldable pub first_eight : List ℕ → List ℕ
 first_eight bytes = padded 8 bytes
-
--- the bytes that are kept as this number, this count of its bytes and these others
-abbrev pub bytes_kept : ℕ → ℕ → List ℕ → List ℕ
-bytes_kept head short rest = take short (eight_bytes head) ++ rest
-
--- bytes are kept in one way alone
-pub record IsKept (head short : ℕ) (rest bytes : List ℕ) : Type 0 where
-  pub head_is : eight_bytes head ≡ first_eight bytes
-  pub short_is : short ≡ min 8 (length bytes)
-  pub rest_is : rest ≡ drop 8 bytes

@@ -1,3 +1,4 @@
 pub mod Codes
+pub mod Decoding
 pub mod Hex
 pub mod Keys

@@ -1,9 +1,9 @@
 //! The key code of values.
-ghost use Rattle.std.specs.Prelude.{◌≡◌, ◌++◌, IfOk, OnOk};
+ghost use Rattle.std.specs.Prelude.{◌≡◌, ◌≤◌, ◌++◌, ◌∷◌, [], IfOk, OnOk, length, take};
 ghost use Rattle.std.specs.Cmp.Lexicographic.{slice_cmp};
 ghost use Rattle.std.specs.Ordering.{int_cmp, nat_cmp};
 ghost use Rattle.bt_rowtype.specs.Values.{key_cmp, value_cmp};
-ghost use Rattle.bt_keycode.specs.Codes.{HaveSameKinds, IsNoProperPrefix, code_of, code_of_value, raised};
+ghost use Rattle.bt_keycode.specs.Codes.{HaveSameKinds, IsNoProperPrefix, code_of, code_of_value, escaped, kind_of, raised};
 ghost use Rattle.bt_keycode.specs.Keys.{eight_bytes};
 
 use crate::key::Key;
@@ -18,13 +18,97 @@ fn raise(number: i64) -> u64
     number.abs_diff(i64::MIN)
 }
 
+// Adds a byte of a text, with 255 behind a zero byte.
+fn add_byte(bytes: &mut Vec<u8>, byte: u8) -> Result<(), AllocError>
+    ensures { OnOk result (bytes.new.items ≡ bytes.old.items ++ escaped (byte ∷ [])) }
+{
+    if byte == 0 {
+        bytes.extend_from_slice(&[0, 255])
+    } else {
+        bytes.extend_from_slice(&[byte])
+    }
+}
+
+// Adds the bytes of a text one by one.
+fn add_each(bytes: &mut Vec<u8>, text: &[u8]) -> Result<(), AllocError>
+    ensures { OnOk result (bytes.new.items ≡ bytes.old.items ++ escaped text.now) }
+{
+    for byte in text {
+        add_byte(bytes, *byte)?;
+    }
+    Ok(())
+}
+
+// Adds the bytes of a text, at once where none of them is zero.
+#[tactic(auto, using(crate::proofs::Escapes::escaped_no_zero))]
+fn add_escaped(bytes: &mut Vec<u8>, text: &[u8]) -> Result<(), AllocError>
+    ensures { OnOk result (bytes.new.items ≡ bytes.old.items ++ escaped text.now) }
+{
+    if text.contains(&0) {
+        add_each(bytes, text)
+    } else {
+        bytes.extend_from_slice(text)
+    }
+}
+
+// Adds the code of a text.
+fn add_text(bytes: &mut Vec<u8>, text: &[u8]) -> Result<(), AllocError>
+    ensures { OnOk result (bytes.new.items ≡ bytes.old.items ++ (escaped text.now ++ (0 ∷ 1 ∷ []))) }
+{
+    add_escaped(bytes, text)?;
+    bytes.extend_from_slice(&[0, 1])
+}
+
+// Adds the code of an int.
+#[tactic(auto, unfolding(crate::specs::Keys::eight_bytes))]
+fn add_int(bytes: &mut Vec<u8>, number: i64) -> Result<(), AllocError>
+    ensures { OnOk result (bytes.new.items ≡ bytes.old.items ++ eight_bytes (raised number)) }
+{
+    bytes.extend_from_slice(&raise(number).to_be_bytes())
+}
+
 // Adds the code of a value.
 fn add_code(bytes: &mut Vec<u8>, value: &Value) -> Result<(), AllocError>
     ensures { OnOk result (bytes.new.items ≡ bytes.old.items ++ code_of_value value.now) }
 {
     match value {
-        Value::Int(number) => bytes.extend_from_slice(&raise(*number).to_be_bytes()),
+        Value::Int(number) => add_int(bytes, *number),
+        Value::Text(text) => add_text(bytes, text.as_bytes()),
+        Value::Flag(true) => bytes.extend_from_slice(&[1]),
+        Value::Flag(false) => bytes.extend_from_slice(&[0]),
     }
+}
+
+// The length of the code of a value, but for the bytes behind zero bytes.
+#[tactic(auto, using(crate::proofs::Lengths::length_text), unfolding(crate::specs::Keys::eight_bytes))]
+fn room_of(value: &Value) -> usize
+    ensures { result ≤ length (code_of_value value.now) }
+{
+    match value {
+        Value::Int(_) => 8,
+        Value::Text(text) => text.as_bytes().len().saturating_add(2),
+        Value::Flag(_) => 1,
+    }
+}
+
+// The length of the code of the values, but for the bytes behind zero bytes.
+#[tactic(auto, using(crate::proofs::Lengths::length_code_of))]
+fn room_for(values: &[Value]) -> usize
+    ensures { result ≤ length (code_of values.now) }
+{
+    let mut room: usize = 0;
+    for value in values {
+        room = room.saturating_add(room_of(value));
+    }
+    room
+}
+
+// The key that is the code of an int.
+#[tactic(auto, unfolding(crate::specs::Keys::eight_bytes))]
+fn encode_int(alloc: Global, number: i64) -> Result<Key, AllocError>
+    ensures { IfOk result (λ key. key ≡ eight_bytes (raised number)) }
+{
+    Ok(Key::from_bytes(alloc, &raise(number).to_be_bytes())?)
 }
 
 /// The key that is the code of the values. That of one int takes no memory.
@@ -32,13 +116,21 @@ pub fn encode(alloc: Global, values: &[Value]) -> Result<Key, AllocError>
     ensures { IfOk result (λ key. key ≡ code_of values.now) }
 {
     if let [Value::Int(number)] = values {
-        return Ok(Key::from_number(alloc, raise(*number)));
+        return Ok(encode_int(alloc, *number)?);
     }
-    let mut bytes = Vec::with_capacity(alloc, values.len().saturating_mul(8))?;
+    let mut bytes = Vec::with_capacity(alloc, room_for(values))?;
     for value in values {
         add_code(&mut bytes, value)?;
     }
-    Key::from_bytes(alloc, bytes.as_slice())
+    Key::from_vec(alloc, bytes)
+}
+
+/// The key that is the code of the first values, with which the code of all of them begins.
+pub fn encode_prefix(alloc: Global, values: &[Value], count: usize) -> Result<Key, AllocError>
+    requires { count ≤ length values.now }
+    ensures { IfOk result (λ key. key ≡ code_of (take count values.now)) }
+{
+    encode(alloc, &values[..count])
 }
 
 #[tactic(auto, using(crate::proofs::Codes::ints_compare))]
@@ -49,12 +141,26 @@ fn cmp_ints(left: i64, right: i64) -> Ordering
     left.cmp(&right)
 }
 
+#[tactic(auto, using(crate::proofs::Codes::texts_compare))]
+fn cmp_texts(left: &[u8], right: &[u8]) -> Ordering
+    ensures values { result ≡ slice_cmp nat_cmp left.now right.now }
+    ensures codes { result ≡ slice_cmp nat_cmp (escaped left.now ++ (0 ∷ 1 ∷ [])) (escaped right.now ++ (0 ∷ 1 ∷ [])) }
+{
+    left.cmp(right)
+}
+
+// The order of two values of a kind, which is that of their codes.
+#[tactic(auto, using(crate::proofs::Codes::flags_compare))]
 fn cmp_values(left: &Value, right: &Value) -> Ordering
+    requires { kind_of left.now ≡ kind_of right.now }
     ensures values { result ≡ value_cmp left.now right.now }
     ensures codes { result ≡ slice_cmp nat_cmp (code_of_value left.now) (code_of_value right.now) }
 {
     match (left, right) {
         (Value::Int(a), Value::Int(b)) => cmp_ints(*a, *b),
+        (Value::Text(a), Value::Text(b)) => cmp_texts(a.as_bytes(), b.as_bytes()),
+        (Value::Flag(a), Value::Flag(b)) => a.cmp(b),
+        _ => Ordering::Equal,
     }
 }
 
@@ -89,6 +195,7 @@ pub fn cmp_rows(left: &[Value], right: &[Value]) -> Ordering
 #[cfg(test)]
 mod tests {
     use super::*;
+    use bt_rowtype::Text;
     use std::test::Fail;
 
     fn hex_of(alloc: Global, values: &[Value]) -> Result<Vec<u8>, AllocError> {
@@ -107,6 +214,77 @@ mod tests {
             code.as_slice(),
             b"80000000000000030000000000000000".as_slice()
         );
+        Ok(())
+    }
+
+    #[test]
+    fn codes_of_texts_and_flags(rt: HostRuntime) -> Result<(), Fail> {
+        let alloc = rt.alloc();
+        let rows: [([Value; 2], &[u8]); 6] = [
+            (
+                [Value::Text(Text::new(alloc, "a")?), Value::Int(1)],
+                b"6100018000000000000001",
+            ),
+            (
+                [Value::Text(Text::new(alloc, "a\0")?), Value::Int(0)],
+                b"6100ff00018000000000000000",
+            ),
+            (
+                [Value::Text(Text::empty(alloc)), Value::Int(i64::MIN)],
+                b"00010000000000000000",
+            ),
+            (
+                [Value::Flag(false), Value::Text(Text::empty(alloc))],
+                b"000001",
+            ),
+            (
+                [Value::Flag(true), Value::Text(Text::empty(alloc))],
+                b"010001",
+            ),
+            (
+                [Value::Flag(false), Value::Text(Text::new(alloc, "b")?)],
+                b"00620001",
+            ),
+        ];
+        for (values, expected) in &rows {
+            let code = hex_of(alloc, values)?;
+            assert_eq!(rt; code.as_slice(), *expected);
+        }
+        Ok(())
+    }
+
+    #[test]
+    fn codes_of_first_values(rt: HostRuntime) -> Result<(), Fail> {
+        let alloc = rt.alloc();
+        let values = [Value::Text(Text::new(alloc, "a")?), Value::Int(1)];
+        let mut out = Vec::new(alloc);
+        encode_prefix(alloc, &values, 1)?.write_hex(&mut out)?;
+        assert_eq!(rt; out.as_slice(), b"610001".as_slice());
+        assert!(rt; encode_prefix(alloc, &values, 0)?.len() == 0);
+        assert!(rt; encode_prefix(alloc, &values, 2)?.len() == 11);
+        Ok(())
+    }
+
+    #[test]
+    fn texts_and_flags_are_ordered_by_their_codes(rt: HostRuntime) -> Result<(), Fail> {
+        let alloc = rt.alloc();
+        let texts = [
+            "", "\0", "\0\0", "\0a", "\u{1}", "a", "a\0", "a\0b", "a\u{1}", "ab", "b",
+        ];
+        for (place, text) in texts.iter().enumerate() {
+            let row = [Value::Text(Text::new(alloc, text)?), Value::Flag(true)];
+            let key = encode(alloc, &row)?;
+            assert!(rt; cmp_rows(&row, &row) == Ordering::Equal);
+            for later in &texts[place + 1..] {
+                let other = [Value::Text(Text::new(alloc, later)?), Value::Flag(false)];
+                assert!(rt; cmp_rows(&row, &other) == Ordering::Less);
+                assert!(rt; cmp_rows(&other, &row) == Ordering::Greater);
+                assert!(rt; key.compare(&encode(alloc, &other)?) == Ordering::Less);
+            }
+        }
+        assert!(rt; cmp_rows(&[Value::Flag(false)], &[Value::Flag(true)]) == Ordering::Less);
+        assert!(rt; cmp_rows(&[Value::Flag(true)], &[Value::Flag(true)]) == Ordering::Equal);
+        assert!(rt; cmp_rows(&[Value::Int(-1)], &[Value::Int(1)]) == Ordering::Less);
         Ok(())
     }
 
@@ -132,7 +310,7 @@ mod tests {
                 assert!(rt; other.compare(&key) == Ordering::Greater);
             }
         }
-        let least = Key::new(alloc);
+        let least = Key::new();
         assert!(rt; least.compare(&encode(alloc, &[Value::Int(i64::MIN)])?) == Ordering::Less);
         assert!(rt;
             cmp_rows(

@@ -33,22 +33,13 @@ fn add_bytes(out: &mut Vec<u8>, bytes: &[u8]) -> Result<(), AllocError>
     Ok(())
 }
 
-fn add_both(out: &mut Vec<u8>, first: &[u8], others: &[u8]) -> Result<(), AllocError>
-    ensures ok { OnOk result (out.new.items ≡ out.old.items ++ hex_text (first.now ++ others.now)) }
-    ensures err { OnErr result (take (length out.old.items) out.new.items ≡ out.old.items) }
-{
-    add_bytes(out, first)?;
-    add_bytes(out, others)?;
-    Ok(())
-}
-
-// Adds two digits for each byte of two lists. After an `Err` nothing was added.
-pub(crate) fn write_hex(out: &mut Vec<u8>, first: &[u8], others: &[u8]) -> Result<(), AllocError>
-    ensures ok { OnOk result (out.new.items ≡ out.old.items ++ hex_text (first.now ++ others.now)) }
+// Adds two digits for each byte. After an `Err` nothing was added.
+pub(crate) fn write_hex(out: &mut Vec<u8>, bytes: &[u8]) -> Result<(), AllocError>
+    ensures ok { OnOk result (out.new.items ≡ out.old.items ++ hex_text bytes.now) }
     ensures err { OnErr result (out.new.items ≡ out.old.items) }
 {
     let start = out.len();
-    let result = add_both(out, first, others);
+    let result = add_bytes(out, bytes);
     if result.is_err() {
         out.truncate(start);
     }

@@ -6,33 +6,30 @@ ghost use Rattle.bt_keycode.specs.Hex.{hex_text};
 ghost use Rattle.bt_keycode.specs.Keys.{eight_bytes, first_eight};
 
 use crate::hex;
+use bt_rowtype::Bytes;
 use std::alloc::{AllocError, Global};
 use std::cmp::Ordering;
 use std::marker::Model;
 
 /// A key: bytes, ordered byte by byte, a prefix before what it begins. A contract sees the list of its bytes.
 ///
-/// The first eight bytes are kept as one number, so that most comparisons compare numbers, and a key of at most eight bytes
-/// takes no memory of its own.
+/// The first eight bytes are kept as a number too, so that most comparisons compare numbers.
 #[derive(Debug, Drop)]
 pub struct Key {
     // the first eight bytes, big endian, with zeros after a shorter key
     head: u64,
-    // how many bytes of `head` are the key's
-    short: usize,
-    // the bytes after the first eight
-    rest: Vec<u8>,
+    bytes: Bytes,
 }
 
 impl Model for Key {
-    ghost use Rattle.std.specs.Prelude.{List, ℕ};
-    ghost use Rattle.bt_keycode.specs.Keys.{IsKept, bytes_kept};
+    ghost use Rattle.std.specs.Prelude.{◌≡◌, List, ℕ};
+    ghost use Rattle.bt_keycode.specs.Keys.{eight_bytes, first_eight};
 
     ghost Value = { List ℕ };
 
-    ghost view = { λ k. bytes_kept k.head k.short k.rest.items };
+    ghost view = { λ k. k.bytes };
 
-    ghost invariant = { λ k. IsKept k.head k.short k.rest.items (bytes_kept k.head k.short k.rest.items) };
+    ghost invariant = { λ k. eight_bytes k.head ≡ first_eight k.bytes };
 }
 
 fn byte_at(bytes: &[u8], place: usize) -> u8
@@ -41,8 +38,8 @@ fn byte_at(bytes: &[u8], place: usize) -> u8
     if place < bytes.len() { bytes[place] } else { 0 }
 }
 
-// The number that the first eight bytes are kept as.
-fn head_of(bytes: &[u8]) -> u64
+// The number that the first eight bytes are kept as, with zeros after fewer.
+fn padded_head(bytes: &[u8]) -> u64
     ensures { eight_bytes result ≡ first_eight bytes.now }
 {
     u64::from_be_bytes([
@@ -57,15 +54,24 @@ fn head_of(bytes: &[u8]) -> u64
     ])
 }
 
+// The number that the first eight bytes are kept as.
+pub(crate) fn head_of(bytes: &[u8]) -> u64
+    ensures { eight_bytes result ≡ first_eight bytes.now }
+{
+    match bytes {
+        [a, b, c, d, e, f, g, h, ..] => u64::from_be_bytes([*a, *b, *c, *d, *e, *f, *g, *h]),
+        _ => padded_head(bytes),
+    }
+}
+
 impl Key {
     /// The key of no bytes, which is before all others.
-    pub fn new(alloc: Global) -> Self
+    pub fn new() -> Self
         ensures { result ≡ [] }
     {
         Key {
             head: 0,
-            short: 0,
-            rest: Vec::new(alloc),
+            bytes: Bytes::new(),
         }
     }
 
@@ -73,30 +79,20 @@ impl Key {
     pub fn from_bytes(alloc: Global, bytes: &[u8]) -> Result<Self, AllocError>
         ensures { IfOk result (λ key. key ≡ bytes.now) }
     {
-        let head = head_of(bytes);
-        if bytes.len() <= 8 {
-            return Ok(Key {
-                head,
-                short: bytes.len(),
-                rest: Vec::new(alloc),
-            });
-        }
         Ok(Key {
-            head,
-            short: 8,
-            rest: Vec::from_slice(alloc, &bytes[8..])?,
+            head: head_of(bytes),
+            bytes: Bytes::from_slice(alloc, bytes)?,
         })
     }
 
-    // The key of the eight bytes of a number.
-    pub(crate) fn from_number(alloc: Global, number: u64) -> Self
-        ensures { result ≡ eight_bytes number }
+    // The key of these bytes.
+    pub(crate) fn from_vec(alloc: Global, bytes: Vec<u8>) -> Result<Self, AllocError>
+        ensures { IfOk result (λ key. key ≡ bytes.items) }
     {
-        Key {
-            head: number,
-            short: 8,
-            rest: Vec::new(alloc),
-        }
+        Ok(Key {
+            head: head_of(bytes.as_slice()),
+            bytes: Bytes::from_vec(alloc, bytes)?,
+        })
     }
 
     /// A copy of the key.
@@ -105,8 +101,7 @@ impl Key {
     {
         Ok(Key {
             head: self.head,
-            short: self.short,
-            rest: Vec::from_slice(alloc, self.rest.as_slice())?,
+            bytes: self.bytes.copy(alloc)?,
         })
     }
 
@@ -114,7 +109,13 @@ impl Key {
     pub fn len(&self) -> usize
         ensures { result ≡ length self.now }
     {
-        self.short + self.rest.len()
+        self.bytes.as_slice().len()
+    }
+
+    pub fn as_slice(&self) -> &[u8]
+        ensures { result.now ≡ self.now }
+    {
+        self.bytes.as_slice()
     }
 
     /// How the key stands to another one, byte by byte.
@@ -124,20 +125,15 @@ impl Key {
         if self.head != other.head {
             return self.head.cmp(&other.head);
         }
-        match self.short.cmp(&other.short) {
-            Ordering::Equal => self.rest.as_slice().cmp(other.rest.as_slice()),
-            order => order,
-        }
+        self.as_slice().cmp(other.as_slice())
     }
 
     /// Adds the bytes as text: two lower-case hexadecimal digits for each. After an `Err`, for want of memory, `out` is as it
     /// was.
-    #[tactic(auto, unfolding(crate::specs::Keys::eight_bytes))]
     pub fn write_hex(&self, out: &mut Vec<u8>) -> Result<(), AllocError>
         ensures ok { OnOk result (out.new.items ≡ out.old.items ++ hex_text self.now) }
         ensures err { OnErr result (out.new.items ≡ out.old.items) }
     {
-        let head = self.head.to_be_bytes();
-        hex::write_hex(out, &head[..self.short], self.rest.as_slice())
+        hex::write_hex(out, self.as_slice())
     }
 }

@@ -1,7 +1,8 @@
 //! Keys as bytes: the code of a list of values, whose order byte by byte is the order of the lists.
 //!
 //! A tree compares keys and never looks into them, so the values of a key become one [`Key`]. The code of an int is eight
-//! bytes, big endian, with the sign bit inverted; a list has the codes of its values one after the other. No code is the
+//! bytes, big endian, with the sign bit inverted. That of a text is its bytes, with 255 behind each zero byte, and 0 and 1 at
+//! the end; that of a flag is one byte, 0 or 1. A list has the codes of its values one after the other. No code is the
 //! beginning of another one of the same kinds.
 //!
 //! ```text
@@ -13,8 +14,10 @@
 #![tactic(auto)]
 
 mod code;
+mod decoder;
 mod hex;
 mod key;
 
-pub use code::{cmp_rows, encode};
+pub use code::{cmp_rows, encode, encode_prefix};
+pub use decoder::{DecodeError, decode};
 pub use key::Key;

@@ -1,18 +1,26 @@
 -- Messages, computed.
-use Rattle.std.proofs.Common.{◌≡◌, ℕ, List, [], ◌∷◌, Some, None, refl}
-use Rattle.bt_messages.specs.Effects.{rows_after}
+use Rattle.std.proofs.Common.{◌≡◌, ℕ, ◌+◌, List, [], ◌∷◌, Option, Some, None, refl}
+use Rattle.bt_messages.specs.Effects.{effect_of, rows_after}
 use Rattle.bt_messages.specs.Messages.{messages_between, messages_outside, sorted_batch, with_messages}
 use Rattle.bt_messages.specs.declared.message.Message.{Message}
-use Rattle.bt_messages.specs.declared.message.Message.TheVariants.{Put, Del}
+use Rattle.bt_messages.specs.declared.message.Message.TheVariants.{Put, Del, Ups}
 
 key : ℕ → List ℕ
 key n = n ∷ []
 
-put_at : ℕ → ℕ → List ℕ × Message ℕ
+put_at : ℕ → ℕ → List ℕ × Message ℕ ℕ
 put_at n value = (key n, Put value)
 
-del_at : ℕ → List ℕ × Message ℕ
+del_at : ℕ → List ℕ × Message ℕ ℕ
 del_at n = (key n, Del)
+
+-- here an upsert adds to the value, or to 100 where there is none
+add_at : ℕ → ℕ → List ℕ × Message ℕ ℕ
+add_at n more = (key n, Ups more)
+
+merged : Option ℕ → ℕ → ℕ
+merged None more = 100 + more
+merged (Some old) more = old + more
 
 batch : sorted_batch (put_at 2 7 ∷ del_at 1 ∷ del_at 2 ∷ []) ≡ del_at 1 ∷ put_at 2 7 ∷ del_at 2 ∷ []
 unfolding key put_at del_at
@@ -30,6 +38,15 @@ left : messages_outside (Some (key 1)) None (put_at 0 5 ∷ put_at 1 6 ∷ del_a
 unfolding key put_at del_at
 left = refl
 
-after : rows_after (put_at 3 30 ∷ put_at 1 10 ∷ put_at 3 31 ∷ del_at 1 ∷ del_at 7 ∷ []) [] ≡ (key 3, 31) ∷ []
+after : rows_after (effect_of merged) (put_at 3 30 ∷ put_at 1 10 ∷ put_at 3 31 ∷ del_at 1 ∷ del_at 7 ∷ []) [] ≡ (key 3, 31) ∷ []
 unfolding key put_at del_at
 after = refl
+
+upserted : rows_after (effect_of merged) (put_at 3 30 ∷ add_at 3 1 ∷ add_at 3 1 ∷ add_at 4 2 ∷ []) [] ≡ (key 3, 32) ∷ (key 4, 102) ∷ []
+unfolding key put_at add_at merged
+upserted = refl
+
+-- two upserts of a key stay two messages
+apart : with_messages (add_at 1 6 ∷ []) (add_at 1 5 ∷ []) ≡ add_at 1 5 ∷ add_at 1 6 ∷ []
+unfolding key add_at
+apart = refl

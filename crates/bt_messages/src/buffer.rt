@@ -22,7 +22,7 @@ impl<V: Merge> Model for Buffer<V> {
     ghost use Rattle.bt_messages.specs.Messages.{IsSorted};
     ghost use Rattle.bt_messages.specs.declared.message.Message.{Message};
 
-    ghost Value = { List (List ℕ × Message V) };
+    ghost Value = { List (List ℕ × Message V V.Delta) };
 
     ghost view = { λ b. b.messages.items };
 
@@ -63,6 +63,13 @@ impl<V: Merge> Buffer<V> {
         ensures sorted { IsSorted self.now }
     {
         sorted::place_of(self.messages.as_slice(), key)
+    }
+
+    /// A copy of the messages.
+    pub fn copy_messages(&self, alloc: Global) -> Result<Packet<V>, AllocError>
+        ensures { IfOk result (λ packet. packet ≡ self.now) }
+    {
+        Ok(Packet::from_sorted(sorted::copied(alloc, self.messages.as_slice())?))
     }
 
     /// The messages, to be taken off from the front.
@@ -179,6 +186,7 @@ mod tests {
         assert!(rt; is_del(alloc, &buffer, 0, 1)?);
         assert!(rt; is_put(alloc, &buffer, 1, 2)?);
         assert!(rt; is_del(alloc, &buffer, 2, 2)?);
+        assert_eq!(rt; buffer.copy_messages(alloc)?.len(), 3);
         Ok(())
     }
 
@@ -239,11 +247,11 @@ mod tests {
         let row = row_of(alloc, 1, 2)?;
         let copy = copy_row(alloc, &row)?;
         assert!(rt; matches!(copy.as_slice(), [Value::Int(1), Value::Int(2)]));
-        assert!(rt; effect::<Row>(None, Message::Del).is_none());
-        assert!(rt; effect(None, Message::Put(copy)).is_some());
+        assert!(rt; effect::<Row>(alloc, None, Message::Del)?.is_none());
+        assert!(rt; effect(alloc, None, Message::Put(copy))?.is_some());
         let message = Message::Put(row);
-        assert!(rt; effect(Some(row_of(alloc, 7, 7)?), message.copy(alloc)?).is_some());
-        assert!(rt; effect(Some(row_of(alloc, 7, 7)?), Message::Del).is_none());
+        assert!(rt; effect(alloc, Some(row_of(alloc, 7, 7)?), message.copy(alloc)?)?.is_some());
+        assert!(rt; effect(alloc, Some(row_of(alloc, 7, 7)?), Message::Del)?.is_none());
         Ok(())
     }
 }

@@ -1,20 +1,54 @@
 //! Messages, and what they make of a value.
-ghost use Rattle.std.specs.Prelude.{◌≡◌, IfOk};
+ghost use Rattle.std.specs.Prelude.{◌≡◌, IfOk, Option};
 ghost use Rattle.bt_messages.specs.Effects.{effect_of};
 
-use bt_rowtype::{Row, copy_row};
+use bt_rowtype::{Change, Row, apply_ops, copy_change, copy_row};
 use std::alloc::{AllocError, Global};
 
 /// What messages carry to a key.
 pub trait Merge: Drop {
+    /// What an upsert carries.
+    type Delta: Drop;
+
+    /// What an upsert makes of the value at its key, or of none.
+    ghost merged: { Option Self → Self.Delta → Self };
+
+    /// The value after an upsert. It may be asked for where there was none.
+    fn merge(alloc: Global, old: Option<Self>, delta: &Self::Delta) -> Result<Self, AllocError>
+        ensures { IfOk result (λ new. new ≡ merged old delta.now) };
+
     /// A copy of the value.
     fn copy(&self, alloc: Global) -> Result<Self, AllocError>
         ensures { IfOk result (λ copy. copy ≡ self.now) };
+
+    /// A copy of what an upsert carries.
+    fn copy_delta(alloc: Global, delta: &Self::Delta) -> Result<Self::Delta, AllocError>
+        ensures { IfOk result (λ copy. copy ≡ delta.now) };
 }
 
 impl Merge for Row {
+    ghost use Rattle.bt_rowtype.specs.Ops as ops;
+
+    type Delta = Change;
+
+    ghost merged = { ops.merged };
+
+    fn merge(alloc: Global, old: Option<Row>, delta: &Change) -> Result<Row, AllocError>
+        ensures { IfOk result (λ new. new ≡ ops.merged old delta.now) }
+    {
+        let row = match old {
+            Some(row) => row,
+            None => copy_row(alloc, &delta.base)?,
+        };
+        apply_ops(alloc, row, delta.ops.as_slice())
+    }
+
     fn copy(&self, alloc: Global) -> Result<Row, AllocError> {
         copy_row(alloc, self)
+    }
+
+    fn copy_delta(alloc: Global, delta: &Change) -> Result<Change, AllocError> {
+        copy_change(alloc, delta)
     }
 }
 
@@ -25,6 +59,8 @@ pub enum Message<V: Merge> {
     Put(V),
     /// The key has no value from now on.
     Del,
+    /// The key has what this makes of its value, or of none.
+    Ups(V::Delta),
 }
 
 impl<V: Merge> Message<V> {
@@ -35,16 +71,22 @@ impl<V: Merge> Message<V> {
         match self {
             Message::Put(value) => Ok(Message::Put(value.copy(alloc)?)),
             Message::Del => Ok(Message::Del),
+            Message::Ups(delta) => Ok(Message::Ups(V::copy_delta(alloc, delta)?)),
         }
     }
 }
 
 /// What a message makes of the value at its key, which may have none.
-pub fn effect<V: Merge>(old: Option<V>, message: Message<V>) -> Option<V>
-    ensures { result ≡ effect_of old message }
+pub fn effect<V: Merge>(
+    alloc: Global,
+    old: Option<V>,
+    message: Message<V>,
+) -> Result<Option<V>, AllocError>
+    ensures { IfOk result (λ new. new ≡ effect_of V.merged old message) }
 {
     match message {
-        Message::Put(value) => Some(value),
-        Message::Del => None,
+        Message::Put(value) => Ok(Some(value)),
+        Message::Del => Ok(None),
+        Message::Ups(delta) => Ok(Some(V::merge(alloc, old, &delta)?)),
     }
 }

@@ -21,7 +21,7 @@ impl<V: Merge> Model for Rest<V> {
     ghost use Rattle.bt_messages.specs.Messages.{IsSorted};
     ghost use Rattle.bt_messages.specs.declared.message.Message.{Message};
 
-    ghost Value = { List (List ℕ × Message V) };
+    ghost Value = { List (List ℕ × Message V V.Delta) };
 
     ghost view = { λ r. r.messages.items };
 

@@ -18,16 +18,16 @@ nothing-waits : {V M : Type 0} (xs : Siblings V M) → waits (unwaited_of xs) �
 nothing-waits [] = refl
 nothing-waits (x ∷ xs) = nothing-waits xs
 
-module _ {V : Type 0} (cs : List (code.Child V)) (xs : Siblings V (Message V)) (is : children_of cs ≡ unwaited_of xs) where
+module _ {V D : Type 0} (cs : List (code.Child V D)) (xs : Siblings V (Message V D)) (is : children_of cs ≡ unwaited_of xs) where
   -- nothing waits, which is in order
   pub none_sorted : IsSorted (waiting_of cs)
   none_sorted = subst IsSorted (sym (ap waits is ∙ nothing-waits xs)) tt
 
-  module _ (s : Shape) (two : 2 ≤ s.fanout) (several : 1 < length xs) (ys : Siblings V (Message V)) (made : ys ≡ grouped s (children_of cs)) where
+  module _ (s : Shape) (two : 2 ≤ s.fanout) (several : 1 < length xs) (ys : Siblings V (Message V D)) (made : ys ≡ grouped s (children_of cs)) where
     pub crown_kept : crown s ys ≡ crown s xs
     crown_kept = ap (crown s) (made ∙ ap (grouped s) is) ∙ again xs several
       where
-        again : (zs : Siblings V (Message V)) → 1 < length zs → crown s (grouped s (unwaited_of zs)) ≡ crown s zs
+        again : (zs : Siblings V (Message V D)) → 1 < length zs → crown s (grouped s (unwaited_of zs)) ≡ crown s zs
         again [] l = absurd (omega (arith, l))
         again (z ∷ []) l = absurd (omega (arith, l))
         again (y ∷ z ∷ zs) l = ap (λ qs. crown s (grouped s qs)) (sym (shared-nothing (y ∷ z ∷ zs))) ∙ sym (crown-step s two y z zs)
@@ -35,13 +35,13 @@ module _ {V : Type 0} (cs : List (code.Child V)) (xs : Siblings V (Message V)) (
     pub fewer : length ys < length xs
     fewer = omega (arith, ap length (made ∙ ap (grouped s) is), shorter xs several)
       where
-        shorter : (zs : Siblings V (Message V)) → 1 < length zs → length (grouped s (unwaited_of zs)) < length zs
+        shorter : (zs : Siblings V (Message V D)) → 1 < length zs → length (grouped s (unwaited_of zs)) < length zs
         shorter [] l = absurd (omega (arith, l))
         shorter (z ∷ []) l = absurd (omega (arith, l))
         shorter (y ∷ z ∷ zs) l = subst (λ qs. length (grouped s qs) < length (y ∷ z ∷ zs)) (shared-nothing (y ∷ z ∷ zs)) (raised-shorter s two y z zs)
 
-module _ {V : Type 0} (s : Shape) (level : List (Key × Node V)) where
-  pub crown_one : (rest : List (Key × Node V)) (k : Key) (n : Node V) → level ≡ rest ++ (k, n) ∷ [] → length level ≤ 1 → tree_of n ≡ crown s (siblings_of level)
+module _ {V D : Type 0} (s : Shape) (level : List (Key × Node V D)) where
+  pub crown_one : (rest : List (Key × Node V D)) (k : Key) (n : Node V D) → level ≡ rest ++ (k, n) ∷ [] → length level ≤ 1 → tree_of n ≡ crown s (siblings_of level)
   crown_one [] k n e few = sym (ap (λ ns. crown s (siblings_of ns)) e)
   crown_one (r ∷ rest) k n e few = absurd (omega (arith, few, ap length e, length-append rest ((k, n) ∷ [])))
 

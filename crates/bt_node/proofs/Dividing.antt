@@ -17,7 +17,7 @@ use Rattle.bt_node.proofs.Groups.{stripped}
 use Rattle.bt_node.proofs.Still.{stripped-shared}
 
 -- what is divided at the pivots behind the first one waits for the children
-waiting-shared : {V : Type 0} (x : Key × Node V) (xs : List (Key × Node V)) (b : Messages (Message V)) →
+waiting-shared : {V D : Type 0} (x : Key × Node V D) (xs : List (Key × Node V D)) (b : Messages (Message V D)) →
     divided (map (λ y. y.0) xs) b ≡ map (λ c. c.waiting) (shared (siblings_of (x ∷ xs)) b)
 waiting-shared x [] b = refl
 waiting-shared x (y ∷ ys) b = ap (λ z. before y.0 b ∷ z) (waiting-shared y ys (from y.0 b))
@@ -32,7 +32,7 @@ with_pairs [] ps = []
 with_pairs (x ∷ xs) [] = []
 with_pairs (x ∷ xs) (p ∷ ps) = (record { pivot = x.0; tree = x.1; waiting = p.0 }, p.1) ∷ with_pairs xs ps
 
-shares-pairs : {V : Type 0} (xs : List (Key × Node V)) (ss : List (Share V)) → with_shares xs ss ≡ with_pairs (siblings_of xs) (map (λ s. (s.waiting, s.flushed)) ss)
+shares-pairs : {V D : Type 0} (xs : List (Key × Node V D)) (ss : List (Share V D)) → with_shares xs ss ≡ with_pairs (siblings_of xs) (map (λ s. (s.waiting, s.flushed)) ss)
 shares-pairs [] ss = refl
 shares-pairs (x ∷ xs) [] = refl
 shares-pairs (x ∷ xs) (s ∷ ss) = ap (λ z. (record { pivot = x.0; tree = tree_of x.1; waiting = s.waiting }, s.flushed) ∷ z) (shares-pairs xs ss)
@@ -43,7 +43,7 @@ pairs-stripped (c ∷ cs) [] = refl
 pairs-stripped (c ∷ cs) (m ∷ ms) = ap (λ z. (c, m) ∷ z) (pairs-stripped cs ms)
 
 -- shares beside their children
-beside : {V : Type 0} (xs : List (Key × Node V)) (b : Messages (Message V)) (marks : List Bool) (ss : List (Share V)) →
+beside : {V D : Type 0} (xs : List (Key × Node V D)) (b : Messages (Message V D)) (marks : List Bool) (ss : List (Share V D)) →
     map (λ s. (s.waiting, s.flushed)) ss ≡ zip (map (λ c. c.waiting) (shared (siblings_of xs) b)) marks → with_shares xs ss ≡ zip (shared (siblings_of xs) b) marks
 beside xs b marks ss e =
     let cs = shared (siblings_of xs) b in
@@ -51,7 +51,7 @@ beside xs b marks ss e =
     ∙ ap (λ ys. with_pairs ys (zip (map (λ c. c.waiting) cs) marks)) (sym (stripped-shared (siblings_of xs) b))
     ∙ pairs-stripped cs marks
 
-shares_are : {V : Type 0} (x : Key × Node V) (xs : List (Key × Node V)) (b : Messages (Message V)) (capacity : ℕ) (packets : List (Messages (Message V))) (marks : List Bool) (ss : List (Share V)) →
+shares_are : {V D : Type 0} (x : Key × Node V D) (xs : List (Key × Node V D)) (b : Messages (Message V D)) (capacity : ℕ) (packets : List (Messages (Message V D))) (marks : List Bool) (ss : List (Share V D)) →
     packets ≡ divided (map (λ y. y.0) xs) b → marks ≡ marks_of (length (map length packets)) (planned (map length packets) capacity) →
     map (λ s. (s.waiting, s.flushed)) ss ≡ zip packets marks → with_shares (x ∷ xs) ss ≡ marked_children (siblings_of (x ∷ xs)) b capacity
 shares_are x xs b capacity packets marks ss e m h =
@@ -61,7 +61,7 @@ shares_are x xs b capacity packets marks ss e m h =
     beside (x ∷ xs) b marks ss (h ∙ ap (λ z. zip z marks) p)
     ∙ ap (zip cs) (m ∙ ap (λ ns. marks_of (length ns) (planned ns capacity)) n ∙ ap (λ k. marks_of k (planned (counts cs) capacity)) (length-map cs (λ c. length c.waiting)))
 
-pub shares_from : {V : Type 0} (xs : List (Key × Node V)) (b : Messages (Message V)) (capacity : ℕ) (packets : List (Messages (Message V))) (marks : List Bool) (ss : List (Share V)) → 1 ≤ length xs →
+pub shares_from : {V D : Type 0} (xs : List (Key × Node V D)) (b : Messages (Message V D)) (capacity : ℕ) (packets : List (Messages (Message V D))) (marks : List Bool) (ss : List (Share V D)) → 1 ≤ length xs →
     packets ≡ divided (map (λ y. y.0) (take (length xs - 1) (drop 1 xs))) b → marks ≡ marks_of (length (map length packets)) (planned (map length packets) capacity) →
     map (λ s. (s.waiting, s.flushed)) ss ≡ zip packets marks → with_shares xs ss ≡ marked_children (siblings_of xs) b capacity
 shares_from [] b capacity packets marks ss some e m h = absurd (omega (arith, some))

@@ -28,6 +28,7 @@ pub mod Recursion
 pub mod RowPass
 pub mod RowSearch
 pub mod RowsAfter
+pub mod Scans
 pub mod Settled
 pub mod ShapedTrees
 pub mod Shares
@@ -38,3 +39,4 @@ pub mod Still
 pub mod Values
 pub mod Views
 pub mod Waiting
+pub mod WorkedRows

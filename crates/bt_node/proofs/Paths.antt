@@ -10,7 +10,6 @@ use Rattle.std.specs.declared.cmp.Ordering.{Ordering}
 use Rattle.std.specs.declared.cmp.Ordering.TheVariants.{Less, Equal, Greater}
 use Rattle.std.specs.declared.option.Option.{Option}
 use Rattle.std.specs.declared.option.Option.TheVariants.{None, Some}
-use Rattle.bt_messages.specs.Effects.{effect_of}
 use Rattle.bt_messages.specs.Messages.{AllFrom}
 use Rattle.bt_messages.specs.declared.message.Message.{Message}
 use Rattle.bt_node.specs.declared.node.Node.{Node}
@@ -43,74 +42,74 @@ past k at Less e t l = absurd (true≢false (ap is_lt e ∙ l))
 past k at Equal e t l = absurd (true≢false t)
 past k at Greater e t l = ap is_lt (total_keys.antisymm k at ∙ ap ordering_reverse (sym e))
 
-module _ {V : Type 0} where
+module _ {V D : Type 0} (effect : Option V → Message V D → Option V) where
   -- ---- children
 
   -- what is below a node is found in the child with the last pivot that is at most the key
-  one_child : (k : Key) (x : Key × Node V) (xs : List (Key × Node V)) (d : Key × Node V) →
-      value_below effect_of k (nodes (siblings_of (x ∷ xs))) ≡ value_at effect_of k (tree_of (get_or (x ∷ xs) (pivots_up_to k xs) d).1)
+  one_child : (k : Key) (x : Key × Node V D) (xs : List (Key × Node V D)) (d : Key × Node V D) →
+      value_below effect k (nodes (siblings_of (x ∷ xs))) ≡ value_at effect k (tree_of (get_or (x ∷ xs) (pivots_up_to k xs) d).1)
   one_child k x [] d = refl
   one_child k x (y ∷ ys) d = elim (key_lt k y.0) as (λ b.
-      cond b (value_at effect_of k (tree_of x.1)) (value_below effect_of k (nodes (siblings_of (y ∷ ys)))) ≡ value_at effect_of k (tree_of (get_or (x ∷ y ∷ ys) (cond b 0 (suc (pivots_up_to k ys))) d).1)) [
+      cond b (value_at effect k (tree_of x.1)) (value_below effect k (nodes (siblings_of (y ∷ ys)))) ≡ value_at effect k (tree_of (get_or (x ∷ y ∷ ys) (cond b 0 (suc (pivots_up_to k ys))) d).1)) [
         | true ↦ refl
         | false ↦ one_child k y ys d
       ]
 
-  child_at : (k : Key) (xs : List (Key × Node V)) (d : Key × Node V) → 0 < length xs →
-      value_below effect_of k (nodes (siblings_of xs)) ≡ value_at effect_of k (tree_of (get_or xs (pivots_up_to k (drop 1 xs)) d).1)
+  child_at : (k : Key) (xs : List (Key × Node V D)) (d : Key × Node V D) → 0 < length xs →
+      value_below effect k (nodes (siblings_of xs)) ≡ value_at effect k (tree_of (get_or xs (pivots_up_to k (drop 1 xs)) d).1)
   child_at k [] d some = absurd (omega arith)
   child_at k (x ∷ xs) d some = one_child k x xs d
 
   -- the value at a key in an inner node, from the one in that child
-  pub along : (k : Key) (cs : Vec (Key × Node V) Global) (buffer : Messages (Message V)) (xs : List (Key × Node V)) (place : ℕ) (child : Key × Node V) (old : Option V) →
-      xs ≡ cs.items → 0 < length xs → place ≡ pivots_up_to k (take (length xs - 1) (drop 1 xs)) → child ≡ get_or cs.items place child → old ≡ value_at effect_of k (tree_of child.1) →
-      value_after effect_of k buffer old ≡ value_at effect_of k (tree_of (variants.Inner cs buffer))
+  pub along : (k : Key) (cs : Vec (Key × Node V D) Global) (buffer : Messages (Message V D)) (xs : List (Key × Node V D)) (place : ℕ) (child : Key × Node V D) (old : Option V) →
+      xs ≡ cs.items → 0 < length xs → place ≡ pivots_up_to k (take (length xs - 1) (drop 1 xs)) → child ≡ get_or cs.items place child → old ≡ value_at effect k (tree_of child.1) →
+      value_after effect k buffer old ≡ value_at effect k (tree_of (variants.Inner cs buffer))
   along k cs buffer xs place child old same some is at below =
-      ap (value_after effect_of k buffer)
-      (below ∙ ap (λ x. value_at effect_of k (tree_of x.1)) (at ∙ ap (λ ys. get_or ys place child) (sym same) ∙ ap (λ i. get_or xs i child) (is ∙ ap (pivots_up_to k) (all_behind xs)))
-      ∙ sym (child_at k xs child some) ∙ ap (λ ys. value_below effect_of k (nodes (siblings_of ys))) same)
-      ∙ sym (ap (value_at effect_of k) (tree_inner cs buffer))
+      ap (value_after effect k buffer)
+      (below ∙ ap (λ x. value_at effect k (tree_of x.1)) (at ∙ ap (λ ys. get_or ys place child) (sym same) ∙ ap (λ i. get_or xs i child) (is ∙ ap (pivots_up_to k) (all_behind xs)))
+      ∙ sym (child_at k xs child some) ∙ ap (λ ys. value_below effect k (nodes (siblings_of ys))) same)
+      ∙ sym (ap (value_at effect k) (tree_inner cs buffer))
 
   -- ---- messages
 
   -- those of earlier keys change nothing
-  pub value_after-from : (k : Key) (ms : Messages (Message V)) (o : Option V) → value_after effect_of k (from k ms) o ≡ value_after effect_of k ms o
+  pub value_after-from : (k : Key) (ms : Messages (Message V D)) (o : Option V) → value_after effect k (from k ms) o ≡ value_after effect k ms o
   value_after-from k [] o = refl
   value_after-from k (m ∷ ms) o = elim (key_lt m.0 k) as (λ b. key_lt m.0 k ≡ b →
-      value_after effect_of k (cond (not b) (m ∷ from k ms) (from k ms)) o ≡ value_after effect_of k ms (cond (eq_by_cmp key_cmp k m.0) (effect_of o m.1) o)) [
-        | true ↦ λ t. value_after-from k ms o ∙ ap (λ b. value_after effect_of k ms (cond b (effect_of o m.1) o)) (sym (apart_back m.0 k k t (not_below_itself k)))
-        | false ↦ λ t. value_after-from k ms (cond (eq_by_cmp key_cmp k m.0) (effect_of o m.1) o)
+      value_after effect k (cond (not b) (m ∷ from k ms) (from k ms)) o ≡ value_after effect k ms (cond (eq_by_cmp key_cmp k m.0) (effect o m.1) o)) [
+        | true ↦ λ t. value_after-from k ms o ∙ ap (λ b. value_after effect k ms (cond b (effect o m.1) o)) (sym (apart_back m.0 k k t (not_below_itself k)))
+        | false ↦ λ t. value_after-from k ms (cond (eq_by_cmp key_cmp k m.0) (effect o m.1) o)
       ] refl
 
-  pub all_from : (k : Key) (ms : Messages (Message V)) → AllFrom k (from k ms)
+  pub all_from : (k : Key) (ms : Messages (Message V D)) → AllFrom k (from k ms)
   all_from k [] = tt
   all_from k (m ∷ ms) = elim (key_lt m.0 k) as (λ b. key_lt m.0 k ≡ b → AllFrom k (cond (not b) (m ∷ from k ms) (from k ms))) [
     | true ↦ λ t. all_from k ms
     | false ↦ λ t. (t, all_from k ms)
   ] refl
 
-  pub rising-drop : (i : ℕ) (ms : Messages (Message V)) → IsRising ms → IsRising (drop i ms)
+  pub rising-drop : (i : ℕ) (ms : Messages (Message V D)) → IsRising ms → IsRising (drop i ms)
   rising-drop zero ms r = r
   rising-drop (suc i) [] r = tt
   rising-drop (suc i) (m ∷ ms) r = rising-drop i ms r.1
 
-  module _ (k : Key) (ms : Messages (Message V)) (place : ℕ) (at : Key) (m : Message V) (here : slice_get ms place ≡ Some (at, m)) (o : Ordering) (compared : o ≡ key_cmp at k) where
+  module _ (k : Key) (ms : Messages (Message V D)) (place : ℕ) (at : Key) (m : Message V D) (here : slice_get ms place ≡ Some (at, m)) (o : Ordering) (compared : o ≡ key_cmp at k) where
     -- from a message past the key on nothing changes
-    pub none_left : true ≡ not (ordering_index o == 1) → (value : Option V) → AllFrom k (drop place ms) → IsRising (drop place ms) → value ≡ value_after effect_of k (drop place ms) value
+    pub none_left : true ≡ not (ordering_index o == 1) → (value : Option V) → AllFrom k (drop place ms) → IsRising (drop place ms) → value ≡ value_after effect k (drop place ms) value
     none_left test value all rising =
         let rest = left_from ms place (at, m) here in
         let low = (subst (AllFrom k) rest all).0 in
         let up = (subst IsRising rest rising).0 in
-        sym (ap (λ xs. value_after effect_of k xs value) rest
-        ∙ value-above effect_of k at None ((at, m) ∷ drop (place + 1) ms) value (past k at o compared test low) (record { from = not_below_itself at; below = tt }, up))
+        sym (ap (λ xs. value_after effect k xs value) rest
+        ∙ value-above effect k at None ((at, m) ∷ drop (place + 1) ms) value (past k at o compared test low) (record { from = not_below_itself at; below = tt }, up))
 
     -- a message to the key has its effect
-    pub one_more : false ≡ not (ordering_index o == 1) → (value changed : Option V) → changed ≡ effect_of value m →
-        value_after effect_of k (drop place ms) value ≡ value_after effect_of k (drop (place + 1) ms) changed
+    pub one_more : false ≡ not (ordering_index o == 1) → (value changed : Option V) → changed ≡ effect value m →
+        value_after effect k (drop place ms) value ≡ value_after effect k (drop (place + 1) ms) changed
     one_more test value changed is =
-        ap (λ xs. value_after effect_of k xs value) (left_from ms place (at, m) here)
-        ∙ ap (λ b. value_after effect_of k (drop (place + 1) ms) (cond b (effect_of value m) value)) (tied k at o compared test)
-        ∙ ap (value_after effect_of k (drop (place + 1) ms)) (sym is)
+        ap (λ xs. value_after effect k xs value) (left_from ms place (at, m) here)
+        ∙ ap (λ b. value_after effect k (drop (place + 1) ms) (cond b (effect value m) value)) (tied k at o compared test)
+        ∙ ap (value_after effect k (drop (place + 1) ms)) (sym is)
 
     pub rest_from : AllFrom k (drop place ms) → AllFrom k (drop (place + 1) ms)
     rest_from all = (subst (AllFrom k) (left_from ms place (at, m) here) all).1

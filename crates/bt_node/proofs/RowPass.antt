@@ -1,5 +1,5 @@
 -- One pass that changes rows by messages.
-use Rattle.std.proofs.Common.{◌≡◌, ◌∙◌, ℕ, zero, suc, Bool, true, false, not, ◌&&◌, cond, T, List, [], ◌∷◌, ◌++◌, append_assoc, length, get_or, take, drop, append-nil, refl, sym, ap, subst, true≢false, arith}
+use Rattle.std.proofs.Common.{◌≡◌, ◌∙◌, ℕ, zero, suc, Bool, true, false, not, ◌&&◌, cond, T, List, [], ◌∷◌, ◌++◌, append_assoc, length, get_or, take, drop, append-nil, refl, sym, ap, subst, true≢false, arith, option_to_list, option_map}
 use Rattle.std.proofs.lemmas.Bool.{and_parts}
 use Rattle.std.specs.Ordering.{is_eq, is_lt, ordering_reverse}
 use Rattle.std.specs.FinMap.{find, put, is_sorted, nat_cmp-IsAntisymmetric, slice_cmp-IsAntisymmetric}
@@ -215,16 +215,22 @@ module _ {V M : Type 0} (effect : Option V → M → Option V) where
   effect_is : (m : Key × M) (rs later : Rows V) (old new : Option V) → later ≡ from m.0 rs → old ≡ find key_cmp m.0 later → new ≡ effect old m.1 → new ≡ effect (find key_cmp m.0 (from m.0 rs)) m.1
   effect_is m rs later old new l f e = e ∙ ap (λ o. effect o m.1) (f ∙ ap (find key_cmp m.0) l)
 
-  pub with_row : (m : Key × M) (rs later others changed : Rows V) (old new : Option V) (v : V) → is_sorted key_cmp rs ≡ true → later ≡ from m.0 rs → old ≡ find key_cmp m.0 later → new ≡ effect old m.1 → new ≡ Some v →
+  with_row : (m : Key × M) (rs later others changed : Rows V) (old new : Option V) (v : V) → is_sorted key_cmp rs ≡ true → later ≡ from m.0 rs → old ≡ find key_cmp m.0 later → new ≡ effect old m.1 → new ≡ Some v →
       others ≡ with_value m.0 None later → changed ≡ (m.0, v) ∷ others → changed ≡ changed_by m rs
   with_row m rs later others changed old new v s l f e is o c =
       c ∙ ap (λ zs. (m.0, v) ∷ zs) (o ∙ ap (with_value m.0 None) l) ∙ put_first m.0 v (from m.0 rs) (sorted_from m.0 rs s) (none_before_from m.0 rs)
       ∙ ap (λ w. with_value m.0 w (from m.0 rs)) (sym is ∙ effect_is m rs later old new l f e)
 
-  pub without_row : (m : Key × M) (rs later changed : Rows V) (old new : Option V) → later ≡ from m.0 rs → old ≡ find key_cmp m.0 later → new ≡ effect old m.1 → new ≡ None →
+  without_row : (m : Key × M) (rs later changed : Rows V) (old new : Option V) → later ≡ from m.0 rs → old ≡ find key_cmp m.0 later → new ≡ effect old m.1 → new ≡ None →
       changed ≡ with_value m.0 None later → changed ≡ changed_by m rs
   without_row m rs later changed old new l f e is c =
       c ∙ ap (with_value m.0 None) l ∙ ap (λ w. with_value m.0 w (from m.0 rs)) (sym is ∙ effect_is m rs later old new l f e)
+
+  -- what a message makes of the value is put in front of the others, where it makes one
+  pub put_in_front : (m : Key × M) (rs later others changed : Rows V) (old new : Option V) → is_sorted key_cmp rs ≡ true → later ≡ from m.0 rs → old ≡ find key_cmp m.0 later → new ≡ effect old m.1 →
+      others ≡ with_value m.0 None later → changed ≡ option_to_list (option_map (λ v. (m.0, v)) new) ++ others → changed ≡ changed_by m rs
+  put_in_front m rs later others changed old (Some v) s l f e o c = with_row m rs later others changed old (Some v) v s l f e refl o c
+  put_in_front m rs later others changed old None s l f e o c = without_row m rs later changed old None l f e refl (c ∙ o)
 
   pub changed_sorted : (m : Key × M) (rs changed : Rows V) → is_sorted key_cmp rs ≡ true → changed ≡ changed_by m rs → is_sorted key_cmp changed ≡ true
   changed_sorted m rs changed s c = subst (λ zs. is_sorted key_cmp zs ≡ true) (sym c) (sorted_changed m.0 _ (from m.0 rs) (sorted_from m.0 rs s))

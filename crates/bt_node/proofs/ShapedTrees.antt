@@ -1,12 +1,10 @@
 -- Trees that fit, with their shape.
-use Rattle.std.proofs.Common.{◌≡◌, ◌≤◌, ◌&&◌, ℕ, Bool, true, false, nat_le, [], refl, sym, subst, arith, true≢false}
+use Rattle.std.proofs.Common.{◌≡◌, ◌≤◌, ◌&&◌, ℕ, Bool, true, false, nat_le, [], refl, sym, subst, arith, true≢false, Option}
 use Rattle.std.proofs.lemmas.Bool.Decides.{nat_tests}
 use Rattle.std.specs.FinMap.{find}
 use Rattle.std.specs.declared.option.Option.TheVariants.{None}
-use Rattle.bt_messages.specs.Effects.{effect_of}
 use Rattle.bt_messages.specs.declared.message.Message.{Message}
 use Rattle.bt_node.specs.Keys.{Key, key_cmp}
-use Rattle.bt_node.specs.Messages.{Messages, rows_after}
 use Rattle.bt_node.specs.Trees.{Shape, Tree, Siblings, leaf}
 use Rattle.bt_node.specs.Flushes.{crown, holds}
 use Rattle.bt_node.specs.Fits.{HasShape, IsRoomy, SiblingsFit}
@@ -33,15 +31,15 @@ has_room shape e =
     let two = up_to 2 l (both (nat_le 2 l) (nat_le l 1024) parts.1).0 in
     record { fanout = omega (arith, four); leaf = omega (arith, two) }
 
-module _ {V : Type 0} (shape : Shape) where
-  pub empty_has_shape : (t : Tree V (Message V)) → IsRoomy shape → t ≡ leaf [] → HasShape shape t
+module _ {V D : Type 0} (shape : Shape) where
+  pub empty_has_shape : (t : Tree V (Message V D)) → IsRoomy shape → t ≡ leaf [] → HasShape shape t
   empty_has_shape t roomy e = subst (HasShape shape) (sym e) (record { roomy = roomy; levels = 0; fits = record { lies = tt; sized = omega arith } })
 
-  pub crown_has_shape : (t : Tree V (Message V)) (xs : Siblings V (Message V)) → IsRoomy shape → (levels : ℕ) × SiblingsFit shape levels None None xs → t ≡ crown shape xs → HasShape shape t
+  pub crown_has_shape : (t : Tree V (Message V D)) (xs : Siblings V (Message V D)) → IsRoomy shape → (levels : ℕ) × SiblingsFit shape levels None None xs → t ≡ crown shape xs → HasShape shape t
   crown_has_shape t xs roomy fit e =
       let top = crown_fits shape fit.0 None None xs roomy fit.1 in
       subst (HasShape shape) (sym e) (record { roomy = roomy; levels = top.0; fits = top.1 })
 
-  module _ (t : Tree V (Message V)) (has : HasShape shape t) where
-    pub found_held : (k : Key) → value_at effect_of k t ≡ find key_cmp k (holds effect_of t)
-    found_held k = lookup_finds_held effect_of shape has.levels None None t k has.fits
+  module _ (effect : Option V → Message V D → Option V) (t : Tree V (Message V D)) (has : HasShape shape t) where
+    pub found_held : (k : Key) → value_at effect k t ≡ find key_cmp k (holds effect t)
+    found_held k = lookup_finds_held effect shape has.levels None None t k has.fits

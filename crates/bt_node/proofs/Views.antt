@@ -13,16 +13,16 @@ use Rattle.bt_node.specs.Views.{tree_of, tree_step, siblings_of}
 use Rattle.bt_node.specs.Walks.{children_of}
 use Rattle.bt_node.proofs.Groups.{children-nodes}
 
-module _ {V : Type 0} where
-  pub tree_inner : (children : Vec (Key × Node V) Global) (buffer : Messages (Message V)) → tree_of (variants.Inner children buffer) ≡ inner (nodes (siblings_of children.items)) buffer
-  tree_inner children buffer = ap tree_of (sym (rolls-Inner children buffer)) ∙ fold-roll-Node V (Tree V (Message V)) tree_step (Inner children buffer)
+module _ {V D : Type 0} where
+  pub tree_inner : (children : Vec (Key × Node V D) Global) (buffer : Messages (Message V D)) → tree_of (variants.Inner children buffer) ≡ inner (nodes (siblings_of children.items)) buffer
+  tree_inner children buffer = ap tree_of (sym (rolls-Inner children buffer)) ∙ fold-roll-Node V D (Tree V (Message V D)) tree_step (Inner children buffer)
 
-  pub tree_leaf : (rows : Rows V) → tree_of (variants.Leaf rows) ≡ leaf rows
-  tree_leaf rows = ap tree_of (sym (rolls-Leaf rows)) ∙ fold-roll-Node V (Tree V (Message V)) tree_step (Leaf rows)
+  pub tree_leaf : (rows : Rows V) → tree_of {D = D} (variants.Leaf rows) ≡ leaf rows
+  tree_leaf rows = ap tree_of (sym (rolls-Leaf rows)) ∙ fold-roll-Node V D (Tree V (Message V D)) tree_step (Leaf rows)
 
-  pub length-siblings : (xs : List (Key × Node V)) → length (siblings_of xs) ≡ length xs
+  pub length-siblings : (xs : List (Key × Node V D)) → length (siblings_of xs) ≡ length xs
   length-siblings [] = refl
   length-siblings (x ∷ xs) = ap suc (length-siblings xs)
 
-  pub children_seen : (t : Tree V (Message V)) (n : Node V) (cs : Vec (Key × Node V) Global) (buffer : Messages (Message V)) → tree_of n ≡ t → n ≡ variants.Inner cs buffer → children_of t ≡ siblings_of cs.items
+  pub children_seen : (t : Tree V (Message V D)) (n : Node V D) (cs : Vec (Key × Node V D) Global) (buffer : Messages (Message V D)) → tree_of n ≡ t → n ≡ variants.Inner cs buffer → children_of t ≡ siblings_of cs.items
   children_seen t n cs buffer e is = ap children_of (sym e ∙ ap tree_of is ∙ tree_inner cs buffer) ∙ children-nodes (siblings_of cs.items)

@@ -28,6 +28,10 @@ Lies (suc levels) low high (inner ns buffer) =
 abbrev pub SiblingsLie : {V M : Type 0} → ℕ → Option Key → Option Key → Siblings V M → Type 0
 SiblingsLie levels = SideBySide (λ x. x.0) (λ l h x. Lies levels l h x.1)
 
+-- in order between some limits, all leaves equally deep
+abbrev pub IsInOrder : {V M : Type 0} → Tree V M → Type 0
+IsInOrder t = (levels : ℕ) × (low : Option Key) × (high : Option Key) × Lies levels low high t
+
 -- no node is larger than the shape allows, and no inner node has fewer than two children
 abbrev mutual
   pub IsSized : {V M : Type 0} → Shape → Tree V M → Type 0

@@ -15,4 +15,3 @@ pub mod Stored
 pub mod Trees
 pub mod Views
 pub mod Walks
-pub mod WorkedRows

@@ -17,7 +17,7 @@ divided [] buffer = buffer ∷ []
 divided (k ∷ ks) buffer = before k buffer ∷ divided ks (from k buffer)
 
 -- each child with its share, and whether it is flushed
-abbrev pub with_shares : {V : Type 0} → List (Key × Node V) → List (Share V) → List (Child V (Message V) × Bool)
+abbrev pub with_shares : {V D : Type 0} → List (Key × Node V D) → List (Share V D) → List (Child V (Message V D) × Bool)
 with_shares [] ss = []
 with_shares (x ∷ xs) [] = []
 with_shares (x ∷ xs) (s ∷ ss) = (record { pivot = x.0; tree = tree_of x.1; waiting = s.waiting }, s.flushed) ∷ with_shares xs ss

@@ -5,7 +5,7 @@ use Rattle.std.specs.declared.option.Option.{Option}
 use Rattle.std.specs.declared.option.Option.TheVariants.{None, Some}
 use Rattle.std.proofs.Common.{ap, ◌∙◌, inl, inr}
 use Rattle.bt_messages.specs.declared.message.Message.{Message}
-use Rattle.bt_messages.specs.declared.message.Message.TheVariants.{Put, Del}
+use Rattle.bt_messages.specs.declared.message.Message.TheVariants.{Put, Del, Ups}
 use Rattle.bt_node.specs.Keys.{Key}
 use Rattle.bt_node.specs.Messages.{Rows, Messages}
 use Rattle.bt_node.specs.Trees.{Shape, Tree, leaf, inner, Nodes, none, node}
@@ -66,22 +66,25 @@ module _ {V M : Type 0} where
   tree_code value message =
       code_by (List (Token V M)) (coded_list (token_code value message)) tree_tokens (λ xs. first_tree (nodes_of xs)) first_tree-tree_tokens
 
--- a message to a key is stored as the value that it gives the key, if it gives one
-module _ {V : Type 0} where
-  abbrev pub given : Message V → Option V
-  given (Put value) = Some value
-  given Del = None
+-- a message to a key is stored as what it carries, if it carries something
+module _ {V D : Type 0} where
+  abbrev pub carried : Message V D → Option (V ⊎ D)
+  carried (Put value) = Some (inl value)
+  carried Del = None
+  carried (Ups delta) = Some (inr delta)
 
-  abbrev pub giving : Option V → Message V
-  giving None = Del
-  giving (Some value) = Put value
+  abbrev pub carrying : Option (V ⊎ D) → Message V D
+  carrying None = Del
+  carrying (Some (inl value)) = Put value
+  carrying (Some (inr delta)) = Ups delta
 
-  pub giving-given : (m : Message V) → giving (given m) ≡ m
-  giving-given (Put value) = refl
-  giving-given Del = refl
+  pub carrying-carried : (m : Message V D) → carrying (carried m) ≡ m
+  carrying-carried (Put value) = refl
+  carrying-carried Del = refl
+  carrying-carried (Ups delta) = refl
 
-  abbrev pub message_code : Coded V → Coded (Message V)
-  message_code value = code_by (Option V) (coded_option value) given giving giving-given
+  abbrev pub message_code : Coded V → Coded D → Coded (Message V D)
+  message_code value delta = code_by (Option (V ⊎ D)) (coded_option (coded⊎ value delta)) carried carrying carrying-carried
 
 -- a shape is stored as its three numbers
 abbrev pub shape_code : Coded Shape

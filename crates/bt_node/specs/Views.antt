@@ -12,27 +12,27 @@ use Rattle.bt_node.specs.Trees.{Tree, leaf, inner, Siblings, nodes}
 use Rattle.bt_node.specs.Flushes.{Child}
 
 -- one layer of it
-abbrev pub tree_step : {V : Type 0} → Node-F V (Tree V (Message V)) → Tree V (Message V)
+abbrev pub tree_step : {V D : Type 0} → Node-F V D (Tree V (Message V D)) → Tree V (Message V D)
 tree_step (Leaf rows) = leaf rows
 tree_step (Inner children buffer) = inner (nodes children.items) buffer
 
 -- the tree that a node stands for
-abbrev pub tree_of : {V : Type 0} → Node V → Tree V (Message V)
-tree_of {V} = fold-Node V (Tree V (Message V)) tree_step
+abbrev pub tree_of : {V D : Type 0} → Node V D → Tree V (Message V D)
+tree_of {V} {D} = fold-Node V D (Tree V (Message V D)) tree_step
 
 -- nodes behind their keys, as siblings
-abbrev pub siblings_of : {V : Type 0} → List (Key × Node V) → Siblings V (Message V)
+abbrev pub siblings_of : {V D : Type 0} → List (Key × Node V D) → Siblings V (Message V D)
 siblings_of = map (λ x. (x.0, tree_of x.1))
 
 -- a child with what waits for it
-abbrev pub child_of : {V : Type 0} → code.Child V → Child V (Message V)
+abbrev pub child_of : {V D : Type 0} → code.Child V D → Child V (Message V D)
 child_of c = record { pivot = c.pivot; tree = tree_of c.node; waiting = c.waiting }
 
-abbrev pub children_of : {V : Type 0} → List (code.Child V) → List (Child V (Message V))
+abbrev pub children_of : {V D : Type 0} → List (code.Child V D) → List (Child V (Message V D))
 children_of = map child_of
 
 -- what waits for children, as one list
-abbrev pub waiting_of : {V : Type 0} → List (code.Child V) → Messages (Message V)
+abbrev pub waiting_of : {V D : Type 0} → List (code.Child V D) → Messages (Message V D)
 waiting_of cs = flat_map (λ c. c.waiting) (children_of cs)
 
 -- siblings as children for which nothing waits

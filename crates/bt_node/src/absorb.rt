@@ -30,7 +30,7 @@ fn alone<V: Merge>(alloc: Global, node: Node<V>) -> Result<Vec<(Key, Node<V>)>, 
     ensures { IfOk result (λ nodes. siblings_of nodes.items ≡ ([], tree_of node) ∷ []) }
 {
     let mut nodes = Vec::new(alloc);
-    nodes.push((Key::new(alloc), node))?;
+    nodes.push((Key::new(), node))?;
     Ok(nodes)
 }
 
@@ -42,7 +42,7 @@ fn flush<V: Merge>(
     children: Vec<(Key, Node<V>)>,
     shares: Vec<Share<V>>,
 ) -> Result<Vec<Child<V>>, AllocError>
-    ensures { IfOk result (λ parts. children_of parts.items ≡ passed (λ c. length c.waiting) (flushed (absorb effect_of shape)) (with_shares children.items shares.items)) }
+    ensures { IfOk result (λ parts. children_of parts.items ≡ passed (λ c. length c.waiting) (flushed (absorb (effect_of V.merged) shape)) (with_shares children.items shares.items)) }
 {
     let mut parts = Vec::with_capacity(alloc, children.len())?;
     let mut shares = shares.into_iter();
@@ -76,7 +76,7 @@ pub(crate) fn absorb<V: Merge>(
     node: Node<V>,
     packet: Packet<V>,
 ) -> Result<Vec<(Key, Node<V>)>, AllocError>
-    ensures { IfOk result (λ nodes. siblings_of nodes.items ≡ absorb effect_of shape (tree_of node) packet) }
+    ensures { IfOk result (λ nodes. siblings_of nodes.items ≡ absorb (effect_of V.merged) shape (tree_of node) packet) }
 {
     match node {
         Node::Leaf(rows) => leaves(alloc, shape, rows.after(alloc, packet)?),

@@ -17,7 +17,7 @@ fn least_key<V: Merge>(alloc: Global, rows: &Rows<V>) -> Result<Key, AllocError>
     ensures { IfOk result (λ key. key ≡ first_key (λ r. r.0) rows.now) }
 {
     if rows.len() == 0 {
-        return Ok(Key::new(alloc));
+        return Ok(Key::new());
     }
     rows.get(0).0.copy(alloc)
 }
@@ -35,7 +35,7 @@ pub(crate) fn leaves<V: Merge>(
     let Some(first) = parts.next() else {
         return Ok(nodes);
     };
-    nodes.push((Key::new(alloc), Node::Leaf(first)))?;
+    nodes.push((Key::new(), Node::Leaf(first)))?;
     for part in parts {
         let pivot = least_key(alloc, &part)?;
         nodes.push((pivot, Node::Leaf(part)))?;
@@ -73,7 +73,7 @@ fn gather<V: Merge>(alloc: Global, part: Vec<Child<V>>) -> Result<(Key, Node<V>)
     let mut buffer = Buffer::new(alloc);
     let mut part = part.into_iter();
     let Some(first) = part.next() else {
-        return Ok((Key::new(alloc), Node::Inner { children, buffer }));
+        return Ok((Key::new(), Node::Inner { children, buffer }));
     };
     let Child {
         pivot,
@@ -81,7 +81,7 @@ fn gather<V: Merge>(alloc: Global, part: Vec<Child<V>>) -> Result<(Key, Node<V>)
         waiting,
     } = first;
     let first = Child {
-        pivot: Key::new(alloc),
+        pivot: Key::new(),
         node,
         waiting,
     };
@@ -107,7 +107,7 @@ pub(crate) fn group<V: Merge>(
         return Ok(nodes);
     };
     let (_, node) = gather(alloc, first)?;
-    nodes.push((Key::new(alloc), node))?;
+    nodes.push((Key::new(), node))?;
     for part in parts {
         nodes.push(gather(alloc, part)?)?;
     }

@@ -4,15 +4,34 @@
 //! is flushed: its messages go down together, and the parts into which it splits take its place. A tree is the map that it
 //! holds when all messages have had their effect, those nearer to a leaf first.
 //!
+//! ```text
+//! use bt_keycode::encode;
+//! use bt_messages::{Message, Packet};
+//! use bt_node::{Shape, Tree};
+//! use bt_rowtype::{Row, Value};
+//! use std::alloc::{AllocError, Global};
+//!
+//! // The rows of a tree after a put of key 1 and a del of key 2: one. `Shape::new(4, 3, 2)` makes a shape of small nodes.
+//! fn count(alloc: Global, shape: Shape, row: Row) -> Result<usize, AllocError> {
+//!     let one = encode(alloc, &[Value::Int(1)])?;
+//!     let two = encode(alloc, &[Value::Int(2)])?;
+//!     let batch = vec![in alloc; (one, Message::Put(row)), (two, Message::Del)]?;
+//!     let tree = Tree::empty(alloc, shape).sink(alloc, Packet::from_batch(alloc, batch)?)?;
+//!     Ok(tree.rows(alloc)?.len())
+//! }
+//! ```
+//!
 //! `specs` has the definitions. `Trees` are the nodes, `Flushes` says what becomes of a node and a packet of messages, and `Fits` which trees are in
 //! order. `Lookups` reads one key, `Drains` works all messages off. `Plans` and `Loops` say which children are flushed. `Laws` and `DrainLaws` are
-//! what is promised of all this; the functions here carry these laws. `WorkedRows` are small trees worked out.
+//! what is promised of all this; the functions here carry these laws. `proofs` has small trees worked
+//! out, in `WorkedRows`.
 #![tactic(auto)]
 
 mod absorb;
 mod crowned;
 mod deal;
 mod group;
+mod held_rows;
 mod laws;
 mod lookup;
 mod node;
@@ -24,9 +43,9 @@ mod tree;
 mod walk;
 
 pub use laws::{
-    HasEffect, absorb_keeps_the_map, absorb_keeps_the_shape, children_by_the_same_rule,
-    crown_keeps_all, drain_keeps_all, lookup_finds_held, messages_in_order, pack_keeps_all,
-    plan_is_choice, sunk_keeps_all,
+    absorb_keeps_the_map, absorb_keeps_the_shape, children_by_the_same_rule, crown_keeps_all,
+    drain_keeps_all, lookup_finds_held, messages_in_order, pack_keeps_all, plan_is_choice,
+    sunk_keeps_all,
 };
 pub use planning::plan;
 pub use shape::Shape;

@@ -42,7 +42,7 @@ fn after_messages<V: Merge>(
     key: &Key,
     old: Option<V>,
 ) -> Result<Option<V>, AllocError>
-    ensures { IfOk result (λ value. value ≡ value_after effect_of key.now buffer.now old) }
+    ensures { IfOk result (λ value. value ≡ value_after (effect_of V.merged) key.now buffer.now old) }
 {
     let mut value = old;
     for place in buffer.first_from(key)..buffer.count() {
@@ -50,7 +50,7 @@ fn after_messages<V: Merge>(
         if at.compare(key) != Ordering::Equal {
             return Ok(value);
         }
-        value = effect(value, message.copy(alloc)?);
+        value = effect(alloc, value, message.copy(alloc)?)?;
     }
     Ok(value)
 }
@@ -62,7 +62,7 @@ pub(crate) fn value_at<V: Merge>(
     node: &Node<V>,
     key: &Key,
 ) -> Result<Option<V>, AllocError>
-    ensures { IfOk result (λ value. value ≡ value_at effect_of key.now (tree_of node.now)) }
+    ensures { IfOk result (λ value. value ≡ value_at (effect_of V.merged) key.now (tree_of node.now)) }
 {
     match node {
         Node::Leaf(rows) => copied(alloc, rows.find(key)),

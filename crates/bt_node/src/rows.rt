@@ -1,7 +1,7 @@
 //! Rows: the entries of a map in order.
-ghost use Rattle.std.specs.Prelude.{◌≡◌, ◌+◌, ◌<◌, ◌≤◌, ◌++◌, [], IfOk, IsTrue, Some, None, length, slice_get, vec_len, vec_capacity};
+ghost use Rattle.std.specs.Prelude.{◌≡◌, ◌+◌, ◌<◌, ◌≤◌, ◌++◌, [], IfOk, IsTrue, OnOk, Some, None, length, option_map, slice_get, vec_len, vec_capacity};
 ghost use Rattle.std.specs.FinMap.{find, is_sorted};
-ghost use Rattle.std.specs.Option.{option_copied};
+ghost use Rattle.std.specs.Option.{option_copied, option_to_list};
 ghost use Rattle.bt_messages.specs.Effects.{effect_of};
 ghost use Rattle.bt_node.specs.Deals.{deal};
 ghost use Rattle.bt_node.specs.Keys.{key_cmp};
@@ -68,6 +68,32 @@ fn take_first<V: Merge>(rows: &mut VecDeque<(Key, V)>, key: &Key) -> Option<V>
     Some(value)
 }
 
+// A copy of keys and their values.
+fn copied<V: Merge>(alloc: Global, rows: &[(Key, V)]) -> Result<Vec<(Key, V)>, AllocError>
+    ensures { IfOk result (λ copies. copies.items ≡ rows.now) }
+{
+    let mut copies = Vec::with_capacity(alloc, rows.len())?;
+    for (key, value) in rows {
+        copies.push((key.copy(alloc)?, value.copy(alloc)?))?;
+    }
+    Ok(copies)
+}
+
+// Puts a row in front of the others, where there is a value.
+fn put_front<V: Merge>(
+    rows: &mut VecDeque<(Key, V)>,
+    key: Key,
+    value: Option<V>,
+) -> Result<(), AllocError>
+    ensures row { OnOk result (rows.new.items ≡ option_to_list (option_map (λ v. (key, v)) value) ++ rows.old.items) }
+    ensures len { OnOk result (length rows.new.items ≤ length rows.old.items + 1) }
+{
+    if let Some(value) = value {
+        rows.push_front((key, value))?;
+    }
+    Ok(())
+}
+
 impl<V: Merge> Rows<V> {
     /// No row.
     pub(crate) fn new(alloc: Global) -> Self
@@ -76,6 +102,29 @@ impl<V: Merge> Rows<V> {
         Rows {
             rows: Vec::new(alloc),
         }
+    }
+
+    /// Rows that are sorted already.
+    pub(crate) fn from_sorted(rows: Vec<(Key, V)>) -> Self
+        requires { IsTrue (is_sorted key_cmp rows.items) }
+        ensures { result ≡ rows.items }
+    {
+        Rows { rows }
+    }
+
+    /// The rows as pairs of a key and a value, by rising key.
+    pub(crate) fn into_vec(self) -> Vec<(Key, V)>
+        ensures { result.items ≡ self }
+    {
+        let Rows { rows } = self;
+        rows
+    }
+
+    /// A copy of the rows.
+    pub(crate) fn copy(&self, alloc: Global) -> Result<Self, AllocError>
+        ensures { IfOk result (λ copy. copy ≡ self.now) }
+    {
+        Ok(Rows::from_sorted(copied(alloc, self.rows.as_slice())?))
     }
 
     /// The number of rows.
@@ -110,7 +159,7 @@ impl<V: Merge> Rows<V> {
 
     /// The rows after the messages of a packet, in one merge.
     pub(crate) fn after(self, alloc: Global, packet: Packet<V>) -> Result<Self, AllocError>
-        ensures { IfOk result (λ rows. rows ≡ rows_after effect_of packet self) }
+        ensures { IfOk result (λ rows. rows ≡ rows_after (effect_of V.merged) packet self) }
     {
         if packet.is_empty() {
             return Ok(self);
@@ -122,9 +171,8 @@ impl<V: Merge> Rows<V> {
         for (key, message) in messages {
             move_before(&mut changed, &mut older, &key);
             let old = take_first(&mut older, &key);
-            if let Some(value) = effect(old, message) {
-                older.push_front((key, value))?;
-            }
+            let new = effect(alloc, old, message)?;
+            put_front(&mut older, key, new)?;
         }
         for row in older {
             changed.push_reserved(row);
@@ -159,50 +207,75 @@ mod tests {
         encode(alloc, &[Value::Int(number)])
     }
 
-    fn put(alloc: Global, number: i64, other: i64) -> Result<(Key, Message<Row>), AllocError> {
+    // A put of a number with another one, or a del of it.
+    fn change(
+        alloc: Global,
+        number: i64,
+        other: Option<i64>,
+    ) -> Result<(Key, Message<Row>), AllocError> {
+        let key = key_of(alloc, number)?;
+        let Some(other) = other else {
+            return Ok((key, Message::Del));
+        };
         let row = Row::new(vec![in alloc; Value::Int(number), Value::Int(other)]?);
-        Ok((key_of(alloc, number)?, Message::Put(row)))
+        Ok((key, Message::Put(row)))
     }
 
-    fn del(alloc: Global, number: i64) -> Result<(Key, Message<Row>), AllocError> {
-        Ok((key_of(alloc, number)?, Message::Del))
+    fn packet(alloc: Global, changes: &[(i64, Option<i64>)]) -> Result<Packet<Row>, AllocError> {
+        let mut batch = Vec::new(alloc);
+        for (number, other) in changes {
+            batch.push(change(alloc, *number, *other)?)?;
+        }
+        Packet::from_batch(alloc, batch)
     }
 
     fn holds(row: &Row, number: i64, other: i64) -> bool {
         matches!(row.as_slice(), [Value::Int(a), Value::Int(b)] if *a == number && *b == other)
     }
 
+    // Whether a key is found with this other number.
+    fn finds(alloc: Global, rows: &Rows<Row>, number: i64, other: i64) -> Result<bool, AllocError> {
+        let key = key_of(alloc, number)?;
+        Ok(rows.find(&key).is_some_and(|row| holds(row, number, other)))
+    }
+
     #[test]
     fn messages_change_rows(rt: HostRuntime) -> Result<(), Fail> {
         let alloc = rt.alloc();
-        let batch = vec![in alloc; put(alloc, 5, 50)?, put(alloc, 1, 10)?, put(alloc, 3, 30)?]?;
-        let rows = Rows::new(alloc).after(alloc, Packet::from_batch(alloc, batch)?)?;
+        let first = [(5, Some(50)), (1, Some(10)), (3, Some(30))];
+        let rows = Rows::new(alloc).after(alloc, packet(alloc, &first)?)?;
         assert_eq!(rt; rows.len(), 3);
 
-        let batch = vec![in alloc;
-            put(alloc, 5, 51)?,
-            del(alloc, 1)?,
-            put(alloc, 4, 40)?,
-            put(alloc, 7, 70)?,
-            put(alloc, 5, 52)?,
-            del(alloc, 7)?,
-            del(alloc, 9)?,
-            put(alloc, 0, 0)?,
-        ]?;
-        let rows = rows.after(alloc, Packet::from_batch(alloc, batch)?)?;
+        let second = [
+            (5, Some(51)),
+            (1, None),
+            (4, Some(40)),
+            (7, Some(70)),
+            (5, Some(52)),
+            (7, None),
+            (9, None),
+            (0, Some(0)),
+        ];
+        let rows = rows.after(alloc, packet(alloc, &second)?)?;
         let rows = rows.after(alloc, Packet::new(alloc))?;
         let wanted = [(0, 0), (3, 30), (4, 40), (5, 52)];
         assert_eq!(rt; rows.len(), wanted.len());
         for (place, (number, other)) in wanted.into_iter().enumerate() {
-            let key = key_of(alloc, number)?;
             let (at, row) = rows.get(place);
-            assert!(rt; at.compare(&key) == Ordering::Equal);
+            assert!(rt; at.compare(&key_of(alloc, number)?) == Ordering::Equal);
             assert!(rt; holds(row, number, other));
-            assert!(rt; rows.find(&key).is_some_and(|row| holds(row, number, other)));
+            assert!(rt; finds(alloc, &rows, number, other)?);
         }
         assert!(rt; rows.find(&key_of(alloc, 1)?).is_none());
         assert!(rt; rows.find(&key_of(alloc, 9)?).is_none());
+        Ok(())
+    }
 
+    #[test]
+    fn rows_are_dealt(rt: HostRuntime) -> Result<(), Fail> {
+        let alloc = rt.alloc();
+        let four = [(1, Some(1)), (2, Some(2)), (3, Some(3)), (4, Some(4))];
+        let rows = Rows::new(alloc).after(alloc, packet(alloc, &four)?)?;
         let parts = rows.deal(alloc, 3)?;
         assert_eq!(rt; parts.len(), 2);
         for part in &parts {

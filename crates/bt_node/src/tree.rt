@@ -11,6 +11,7 @@ ghost use Rattle.bt_node.specs.Trees.{height, leaf};
 
 use crate::absorb::absorb;
 use crate::crowned::crowned;
+use crate::held_rows::held_rows;
 use crate::lookup::value_at;
 use crate::node::Node;
 use crate::rows::Rows;
@@ -34,9 +35,9 @@ impl<V: Merge> Model for Tree<V> {
     ghost use Rattle.bt_node.specs.Fits.{HasShape};
     ghost use Rattle.bt_node.specs.Stored.{message_code, shaped_tree_code};
 
-    ghost Value = { trees.Shape × trees.Tree V (Message V) };
+    ghost Value = { trees.Shape × trees.Tree V (Message V V.Delta) };
 
-    ghost coded = { shaped_tree_code V.code (message_code V.code) };
+    ghost coded = { shaped_tree_code V.code (message_code V.code V.Delta.code) };
 
     ghost use Rattle.bt_node.specs.Views.{tree_of};
 
@@ -56,9 +57,9 @@ impl<V: Merge> Model for Subtree<V> {
     ghost use Rattle.bt_node.specs.Trees as trees;
     ghost use Rattle.bt_node.specs.Stored.{message_code, tree_code};
 
-    ghost Value = { trees.Tree V (Message V) };
+    ghost Value = { trees.Tree V (Message V V.Delta) };
 
-    ghost coded = { tree_code V.code (message_code V.code) };
+    ghost coded = { tree_code V.code (message_code V.code V.Delta.code) };
 
     ghost use Rattle.bt_node.specs.Views.{tree_of};
 
@@ -77,9 +78,9 @@ impl<V: Merge> Model for Siblings<V> {
     ghost use Rattle.bt_node.specs.Trees as trees;
     ghost use Rattle.bt_node.specs.Stored.{message_code, tree_code};
 
-    ghost Value = { trees.Siblings V (Message V) };
+    ghost Value = { trees.Siblings V (Message V V.Delta) };
 
-    ghost coded = { coded_list (coded× (coded_list coded_ℕ) (tree_code V.code (message_code V.code))) };
+    ghost coded = { coded_list (coded× (coded_list coded_ℕ) (tree_code V.code (message_code V.code V.Delta.code))) };
 
     ghost use Rattle.bt_node.specs.Views.{siblings_of};
 
@@ -96,10 +97,10 @@ pub fn absorb_alone<V: Merge>(
     node: Subtree<V>,
     packet: Packet<V>,
 ) -> Result<Siblings<V>, AllocError>
-    ensures siblings { IfOk result (λ siblings. siblings ≡ absorb effect_of shape node packet) }
+    ensures siblings { IfOk result (λ siblings. siblings ≡ absorb (effect_of V.merged) shape node packet) }
     ensures fits { IfOk result (λ siblings. WhereFits shape node packet (λ levels low high. SiblingsFit shape levels low high siblings)) }
     ensures height { IfOk result (λ siblings. WhereFits shape node packet (λ levels low high. AreHigh (height node) siblings)) }
-    ensures rows { IfOk result (λ siblings. WhereFits shape node packet (λ levels low high. all_hold effect_of siblings ≡ rows_after effect_of packet (holds effect_of node))) }
+    ensures rows { IfOk result (λ siblings. WhereFits shape node packet (λ levels low high. all_hold (effect_of V.merged) siblings ≡ rows_after (effect_of V.merged) packet (holds (effect_of V.merged) node))) }
 {
     let Subtree { node } = node;
     let nodes = absorb(alloc, shape, node, packet)?;
@@ -116,7 +117,7 @@ pub fn crown<V: Merge>(
     requires { (levels : ℕ) × SiblingsFit shape levels None None siblings }
     ensures tree { IfOk result (λ tree. tree ≡ (shape, crown shape siblings)) }
     ensures fits { IfOk result (λ tree. HasShape tree.0 tree.1) }
-    ensures rows { IfOk result (λ tree. holds effect_of tree.1 ≡ all_hold effect_of siblings) }
+    ensures rows { IfOk result (λ tree. holds (effect_of V.merged) tree.1 ≡ all_hold (effect_of V.merged) siblings) }
 {
     let Siblings { nodes } = siblings;
     let root = crowned(alloc, shape, nodes)?;
@@ -143,9 +144,16 @@ impl<V: Merge> Tree<V> {
 
     /// The value at a key when all messages have had their effect.
     pub fn get(&self, alloc: Global, key: &Key) -> Result<Option<V>, AllocError>
-        ensures { IfOk result (λ value. value ≡ find key_cmp key.now (holds effect_of self.now.1)) }
+        ensures { IfOk result (λ value. value ≡ find key_cmp key.now (holds (effect_of V.merged) self.now.1)) }
     {
         value_at(alloc, &self.root, key)
+    }
+
+    /// The pairs that it holds when all messages have had their effect, by rising key.
+    pub fn rows(&self, alloc: Global) -> Result<Vec<(Key, V)>, AllocError>
+        ensures { IfOk result (λ rows. rows.items ≡ holds (effect_of V.merged) self.now.1) }
+    {
+        Ok(held_rows(alloc, &self.root)?.into_vec())
     }
 
     /// The shape and the root.
@@ -160,9 +168,9 @@ impl<V: Merge> Tree<V> {
 
     /// The tree after a packet, on the caller's thread. An `Err` keeps neither.
     pub fn sink(self, alloc: Global, packet: Packet<V>) -> Result<Self, AllocError>
-        ensures tree { IfOk result (λ tree. tree ≡ (self.0, sunk effect_of self.0 self.1 packet)) }
+        ensures tree { IfOk result (λ tree. tree ≡ (self.0, sunk (effect_of V.merged) self.0 self.1 packet)) }
         ensures fits { IfOk result (λ tree. HasShape tree.0 tree.1) }
-        ensures rows { IfOk result (λ tree. holds effect_of tree.1 ≡ rows_after effect_of packet (holds effect_of self.1)) }
+        ensures rows { IfOk result (λ tree. holds (effect_of V.merged) tree.1 ≡ rows_after (effect_of V.merged) packet (holds (effect_of V.merged) self.1)) }
     {
         let (shape, root) = self.apart();
         let siblings = absorb_alone(alloc, shape, root, packet)?;
@@ -183,7 +191,8 @@ mod tests {
     use super::*;
     use bt_keycode::encode;
     use bt_messages::Message;
-    use bt_rowtype::{Row, Value};
+    use bt_rowtype::{Change, Op, Ops, Row, Value};
+    use std::cmp::Ordering;
     use std::test::Fail;
 
     fn shape() -> Result<Shape, AllocError> {
@@ -237,10 +246,10 @@ mod tests {
         let root = tree.walk();
         assert_eq!(rt; root.message_count(), 2);
         let (key, message) = root.message(0);
-        assert!(rt; key.compare(&three) == std::cmp::Ordering::Equal);
+        assert!(rt; key.compare(&three) == Ordering::Equal);
         assert!(rt; matches!(message, Message::Put(_)));
         assert_eq!(rt; root.child_count(), 2);
-        assert!(rt; root.pivot(1).compare(&three) == std::cmp::Ordering::Equal);
+        assert!(rt; root.pivot(1).compare(&three) == Ordering::Equal);
         Ok(())
     }
 
@@ -257,6 +266,86 @@ mod tests {
         assert!(rt; tree.get(alloc, &seven)?.is_some());
         let ten = encode(alloc, &[Value::Int(10)])?;
         assert!(rt; tree.get(alloc, &ten)?.is_none());
+        Ok(())
+    }
+
+    // A row of a number and a quantity.
+    fn row_of(alloc: Global, number: i64, quantity: i64) -> Result<Row, AllocError> {
+        Ok(Row::new(vec![in alloc; Value::Int(number), Value::Int(quantity)]?))
+    }
+
+    fn put(alloc: Global, number: i64, quantity: i64) -> Result<(Key, Message<Row>), AllocError> {
+        let key = encode(alloc, &[Value::Int(number)])?;
+        Ok((key, Message::Put(row_of(alloc, number, quantity)?)))
+    }
+
+    // An upsert that adds to the quantity.
+    fn add(alloc: Global, number: i64, more: i64) -> Result<(Key, Message<Row>), AllocError> {
+        let key = encode(alloc, &[Value::Int(number)])?;
+        let base = row_of(alloc, number, 0)?;
+        let mut ops = Ops::new(alloc);
+        ops.push(Op::Add(1, more))?;
+        Ok((key, Message::Ups(Change { base, ops })))
+    }
+
+    fn holds(row: &Row, number: i64, quantity: i64) -> bool {
+        matches!(row.as_slice(), [Value::Int(a), Value::Int(b)] if *a == number && *b == quantity)
+    }
+
+    // Two leaves of two rows each, with a quantity of ten times the number.
+    fn two_leaves(alloc: Global) -> Result<Tree<Row>, AllocError> {
+        let batch = vec![in alloc;
+            put(alloc, 1, 10)?,
+            put(alloc, 2, 20)?,
+            put(alloc, 3, 30)?,
+            put(alloc, 4, 40)?,
+        ]?;
+        Tree::empty(alloc, shape()?).sink(alloc, Packet::from_batch(alloc, batch)?)
+    }
+
+    #[test]
+    fn upserts_wait_one_by_one(rt: HostRuntime) -> Result<(), Fail> {
+        let alloc = rt.alloc();
+        let batch = vec![in alloc; add(alloc, 1, 5)?, put(alloc, 4, 0)?, add(alloc, 1, 5)?]?;
+        let tree = two_leaves(alloc)?.sink(alloc, Packet::from_batch(alloc, batch)?)?;
+        let one = encode(alloc, &[Value::Int(1)])?;
+        let root = tree.walk();
+        assert_eq!(rt; root.message_count(), 3);
+        for place in 0..2 {
+            let (key, message) = root.message(place);
+            assert!(rt; key.compare(&one) == Ordering::Equal);
+            assert!(rt; matches!(message, Message::Ups(_)));
+        }
+        assert!(rt; tree.get(alloc, &one)?.is_some_and(|row| holds(&row, 1, 20)));
+
+        let rows = tree.rows(alloc)?;
+        let wanted = [(1, 20), (2, 20), (3, 30), (4, 0)];
+        assert_eq!(rt; rows.len(), wanted.len());
+        for (place, (number, quantity)) in wanted.into_iter().enumerate() {
+            let key = encode(alloc, &[Value::Int(number)])?;
+            assert!(rt; rows[place].0.compare(&key) == Ordering::Equal);
+            assert!(rt; holds(&rows[place].1, number, quantity));
+        }
+        Ok(())
+    }
+
+    #[test]
+    fn upserts_go_down_in_order(rt: HostRuntime) -> Result<(), Fail> {
+        let alloc = rt.alloc();
+        let batch = vec![in alloc;
+            add(alloc, 1, 5)?,
+            put(alloc, 1, 7)?,
+            add(alloc, 1, 6)?,
+            add(alloc, 0, 9)?,
+        ]?;
+        let tree = two_leaves(alloc)?.sink(alloc, Packet::from_batch(alloc, batch)?)?;
+        assert_eq!(rt; tree.walk().message_count(), 0);
+        let rows = tree.rows(alloc)?;
+        let wanted = [(0, 9), (1, 13), (2, 20), (3, 30), (4, 40)];
+        assert_eq!(rt; rows.len(), wanted.len());
+        for (place, (number, quantity)) in wanted.into_iter().enumerate() {
+            assert!(rt; holds(&rows[place].1, number, quantity));
+        }
         Ok(())
     }
 }

@@ -19,9 +19,9 @@ impl<'a, V: Merge> Model for Walk<'a, V> {
     ghost use Rattle.bt_node.specs.Trees as trees;
     ghost use Rattle.bt_node.specs.Stored.{message_code, tree_code};
 
-    ghost Value = { trees.Tree V (Message V) };
+    ghost Value = { trees.Tree V (Message V V.Delta) };
 
-    ghost coded = { tree_code V.code (message_code V.code) };
+    ghost coded = { tree_code V.code (message_code V.code V.Delta.code) };
 
     ghost use Rattle.bt_node.specs.Views.{tree_of};
 

@@ -1,10 +1,9 @@
 -- Going over columns and what stands under each, one by one.
-use Rattle.std.proofs.Common.{ℕ, List, [], ◌∷◌, ◌++◌, ◌+◌, ◌<◌, ◌≡◌, refl, sym, ap, true, length, drop, get_or, Option, Some, None, Ok, Err, append_assoc, ◌==◌}
+use Rattle.std.proofs.Common.{ℕ, List, [], ◌∷◌, ◌++◌, ◌+◌, ◌<◌, ◌≡◌, refl, sym, ap, true, length, drop, get_or, Option, Some, None, Err, append_assoc, ◌==◌}
 use Rattle.std.proofs.lemmas.List.{drop_more}
 use Rattle.std.proofs.lemmas.Option.{get_or_from_slice_get}
 use Rattle.std.specs.Prelude.{option_map, slice_get}
-use Rattle.bt_rowtype.specs.Values.{or_refused, read_as, value_of, values_of, with_first}
-use Rattle.bt_rowtype.specs.declared.refusal.Refusal.{Refusal}
+use Rattle.bt_rowtype.specs.Values.{read_as, value_of, values_of, with_first}
 use Rattle.bt_rowtype.specs.declared.refusal.Refusal.TheVariants.{BadField}
 use Rattle.bt_rowtype.specs.declared.schema.Column.{Column}
 use Rattle.bt_rowtype.specs.declared.value.Value.{Value}
@@ -29,15 +28,6 @@ pub values-drop-none : (columns : List Column) (fields : List (List ℕ)) (i : �
     → value_of (get_or columns i c).kind (get_or fields i []) ≡ None
     → behind front (values_of (drop i columns) (drop i fields)) ≡ None
 values-drop-none columns fields i c front in_columns in_fields not_spelled = rw (drop_more columns i c in_columns, drop_more fields i [] in_fields, not_spelled) refl
-
--- what a field was read as is what it spells
-pub spelled : (refusal : Refusal) (o : Option Value) (v : Value) → Ok v ≡ or_refused refusal o → o ≡ Some v
-spelled refusal None v e = cc
-spelled refusal (Some w) v e = cc
-
-pub not_spelled : (refusal e : Refusal) (o : Option Value) → Err e ≡ or_refused refusal o → o ≡ None
-not_spelled refusal e None is = refl
-not_spelled refusal e (Some w) is = cc
 
 -- the field at a place
 pub at_place : (fields : List (List ℕ)) (i : ℕ) (field : List ℕ) → slice_get fields i ≡ Some field → get_or fields i [] ≡ field

@@ -5,4 +5,8 @@ pub mod Marks
 pub mod OnLiterals
 pub mod Pieces
 pub mod Plain
+pub mod Utf8
+pub mod Quotes
 pub mod RecordTexts
+pub mod Upserts
+pub mod WorkedOps

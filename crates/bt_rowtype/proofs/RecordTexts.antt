@@ -33,11 +33,11 @@ pub int_field : (n : ℤ) → mag n < 2 ^ 63 → field_text default_writer (sign
 int_field n small = rw (int_plain n small) refl
 
 -- one more field
-pub one_more : (values : List Value) (i : ℕ) (d : Value) → i < length values
-    → row_body default_writer (take (i + 1) (map text_of values)) ≡ row_body default_writer (take i (map text_of values)) ++ (next_sep default_writer i ++ field_text default_writer (text_of (get_or values i d)))
-one_more values i d within =
+pub one_more : (values : List Value) (i : ℕ) (v : Value) → i < length values → v ≡ get_or values i v
+    → row_body default_writer (take (i + 1) (map text_of values)) ≡ row_body default_writer (take i (map text_of values)) ++ (next_sep default_writer i ++ field_text default_writer (text_of v))
+one_more values i v within at =
     let texts = map text_of values in
-    let here : get_or texts i [] ≡ text_of (get_or values i d) = get_or_default texts i [] (text_of d) (omega (arith, length-map values text_of)) ∙ get_or-map text_of values i d in
+    let here : get_or texts i [] ≡ text_of v = get_or_default texts i [] (text_of v) (omega (arith, length-map values text_of)) ∙ get_or-map text_of values i v ∙ ap text_of (sym at) in
     row-step default_writer texts i (omega (arith, length-map values text_of)) ∙ ap (λ (f : List ℕ). row_body default_writer (take i texts) ++ (next_sep default_writer i ++ field_text default_writer f)) here
 
 -- a record shows no byte just where its text has none

@@ -1,5 +1,5 @@
 -- The columns of a table.
-use Rattle.std.specs.Prelude.{ℕ, ◌≡◌, ◌==◌, ◌&&◌, not, Bool, true, List, [], ◌∷◌, length, nat_le, Result, Ok, Err, if◌then◌else◌}
+use Rattle.std.specs.Prelude.{ℕ, ◌≡◌, ◌==◌, ◌&&◌, not, Bool, true, false, List, [], ◌∷◌, length, nat_le, Result, Ok, Err, if◌then◌else◌}
 use Rattle.std.specs.List.{list_any}
 use Rattle.std.specs.Cmp.Lexicographic.{pointwise}
 use Rattle.bt_rowtype.specs.declared.refusal.Refusal.{Refusal}
@@ -9,6 +9,7 @@ use Rattle.bt_rowtype.specs.declared.value.Kind.{Kind}
 use Rattle.bt_rowtype.specs.declared.value.Kind.TheVariants as kind
 use Rattle.bt_rowtype.specs.declared.value.Value.{Value}
 use Rattle.bt_rowtype.specs.declared.value.Value.TheVariants as value
+use Rattle.bt_rowtype.specs.Values.{is_text}
 
 -- what a contract sees of a schema: its columns, of which the first `keys` are the key
 pub record Layout : Type 0 where
@@ -34,6 +35,9 @@ IsSchema columns keys = is_schema columns keys ≡ true
 -- whether a value is one of a kind
 abbrev pub fits_kind : Kind → Value → Bool
 fits_kind kind.Int (value.Int n) = true
+fits_kind kind.Text (value.Text bytes) = is_text bytes
+fits_kind kind.Flag (value.Flag flag) = true
+fits_kind kind value = false
 
 -- whether values are of the kinds of their columns, one for each
 abbrev pub fit_columns : List Column → List Value → Bool

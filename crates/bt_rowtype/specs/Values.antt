@@ -1,8 +1,10 @@
 -- Values, how fields spell them, and their order.
-use Rattle.std.specs.Prelude.{ℕ, ◌==◌, List, [], ◌∷◌, length, Option, Some, None, option_map, option_and_then, Result, Ok, Err, if◌then◌else◌}
+use Rattle.std.specs.Prelude.{ℕ, ◌==◌, ◌&&◌, Bool, true, false, List, [], ◌∷◌, codes, length, nat_le, Option, Some, None, option_map, option_and_then, Result, Ok, Err, if◌then◌else◌, pos}
 use Rattle.std.specs.Fmt.{signed_decimal}
-use Rattle.std.specs.Ordering.{int_cmp}
+use Rattle.std.specs.Ordering.{bool_cmp, int_cmp, nat_cmp}
+use Rattle.std.specs.Str.{is_utf8, str_eq_ignore_ascii_case}
 use Rattle.std.specs.declared.cmp.Ordering.{Ordering}
+use Rattle.std.specs.declared.cmp.Ordering.TheVariants.{Equal}
 use Rattle.std.specs.Cmp.Lexicographic.{slice_cmp}
 use Rattle.bt_rowtype.specs.Ints.{int_of}
 use Rattle.bt_rowtype.specs.declared.refusal.Refusal.{Refusal}
@@ -13,9 +15,21 @@ use Rattle.bt_rowtype.specs.declared.value.Kind.TheVariants as kind
 use Rattle.bt_rowtype.specs.declared.value.Value.{Value}
 use Rattle.bt_rowtype.specs.declared.value.Value.TheVariants as value
 
+-- whether bytes are a text of a column: UTF-8, and at most 255 bytes
+abbrev pub is_text : List ℕ → Bool
+is_text bytes = nat_le (length bytes) 255 && is_utf8 bytes
+
+-- the flag that a field spells: true or false, in letters of either case
+abbrev pub flag_of : List ℕ → Option Bool
+flag_of field =
+    if str_eq_ignore_ascii_case field (codes "true") then Some true
+    else (if str_eq_ignore_ascii_case field (codes "false") then Some false else None)
+
 -- the value that a field spells in a column of a kind
 abbrev pub value_of : Kind → List ℕ → Option Value
 value_of kind.Int field = option_map value.Int (int_of field)
+value_of kind.Text field = if is_text field then Some (value.Text field) else None
+value_of kind.Flag field = option_map value.Flag (flag_of field)
 
 -- a value before the others, where all are there
 abbrev pub with_first : Option Value → Option (List Value) → Option (List Value)
@@ -39,10 +53,21 @@ read_as columns item fields = if length fields == length columns then or_refused
 -- the text of a value
 abbrev pub text_of : Value → List ℕ
 text_of (value.Int n) = signed_decimal n
+text_of (value.Text bytes) = bytes
+text_of (value.Flag flag) = if flag then codes "true" else codes "false"
 
--- the order of two values of a kind: ints by size
+-- the value of a column that nothing was set in: 0, the empty text or false
+abbrev pub default_of : Kind → Value
+default_of kind.Int = value.Int (pos 0)
+default_of kind.Text = value.Text []
+default_of kind.Flag = value.Flag false
+
+-- the order of two values of a kind: ints by size, texts by their bytes, false before true; values of two kinds have none
 abbrev pub value_cmp : Value → Value → Ordering
 value_cmp (value.Int a) (value.Int b) = int_cmp a b
+value_cmp (value.Text a) (value.Text b) = slice_cmp nat_cmp a b
+value_cmp (value.Flag a) (value.Flag b) = bool_cmp a b
+value_cmp a b = Equal
 
 -- the order of keys, value by value
 abbrev pub key_cmp : List Value → List Value → Ordering

@@ -1,11 +1,16 @@
 //! Reading one field.
-ghost use Rattle.std.specs.Prelude.{◌≡◌, ◌==◌, slice_index};
+ghost use Rattle.std.specs.Prelude.{◌≡◌, ◌≢◌, ◌==◌, Some, None, Ok, Err, IfOk, IfErr, if◌then◌else◌, slice_index};
 ghost use Rattle.bt_rowtype.specs.Ints.{int_of};
-ghost use Rattle.bt_rowtype.specs.Values.{or_refused, value_of};
+ghost use Rattle.bt_rowtype.specs.Values.{flag_of, is_text, or_refused, value_of};
 
 use crate::refusal::Refusal;
+use crate::text::Text;
 use crate::value::{Kind, Value};
+use std::alloc::{AllocError, Global};
 use std::str;
+
+/// The most bytes of a text.
+pub const LONGEST_TEXT: usize = 255;
 
 fn has_plus(field: &[u8]) -> bool
     ensures { result ≡ (slice_index field.now 0 == 43) }
@@ -17,7 +22,7 @@ fn has_plus(field: &[u8]) -> bool
 }
 
 // The whole number that a field spells.
-fn read_int(field: &[u8]) -> Option<i64>
+pub(crate) fn read_int(field: &[u8]) -> Option<i64>
     ensures { result ≡ int_of field.now }
 {
     if has_plus(field) {
@@ -29,16 +34,64 @@ fn read_int(field: &[u8]) -> Option<i64>
     }
 }
 
-/// The value that a field spells in a column of a kind, or `BadField` of item 1.
-///
-/// An int is an optional `-` and one or more digits, leading zeros included, whose number has 64 bits.
-pub fn read_field(kind: Kind, field: &[u8]) -> Result<Value, Refusal>
-    ensures { result ≡ or_refused (Refusal.BadField 1) (value_of kind field.now) }
+// Whether bytes are a text of a column.
+pub(crate) fn is_text(bytes: &[u8]) -> bool
+    ensures { result ≡ is_text bytes.now }
+{
+    match str::from_utf8(bytes) {
+        Ok(_) => bytes.len() <= LONGEST_TEXT,
+        Err(_) => false,
+    }
+}
+
+// The text that a field is.
+#[tactic(auto, using(crate::proofs::Utf8::short_text, crate::proofs::Utf8::long_text, crate::proofs::Utf8::no_text))]
+fn read_text(alloc: Global, field: &[u8]) -> Result<Option<Text>, AllocError>
+    ensures { IfOk result (λ text. text ≡ (if is_text field.now then Some field.now else None)) }
+{
+    if field.len() > LONGEST_TEXT {
+        return Ok(None);
+    }
+    match str::from_utf8(field) {
+        Ok(text) => Ok(Some(Text::new(alloc, text)?)),
+        Err(_) => Ok(None),
+    }
+}
+
+// The flag that a field spells.
+fn read_flag(field: &[u8]) -> Option<bool>
+    ensures { result ≡ flag_of field.now }
+{
+    if field.eq_ignore_ascii_case(b"true") {
+        return Some(true);
+    }
+    if field.eq_ignore_ascii_case(b"false") {
+        return Some(false);
+    }
+    None
+}
+
+// The value that a field spells in a column of a kind.
+fn read_value(alloc: Global, kind: Kind, field: &[u8]) -> Result<Option<Value>, AllocError>
+    ensures { IfOk result (λ value. value ≡ value_of kind field.now) }
 {
     match kind {
-        Kind::Int => match read_int(field) {
-            Some(number) => Ok(Value::Int(number)),
-            None => Err(Refusal::BadField(1)),
-        },
+        Kind::Int => Ok(read_int(field).map(Value::Int)),
+        Kind::Text => Ok(read_text(alloc, field)?.map(Value::Text)),
+        Kind::Flag => Ok(read_flag(field).map(Value::Flag)),
+    }
+}
+
+/// The value that a field spells in a column of a kind, or `BadField` of item 1.
+///
+/// An int is an optional `-` and one or more digits, leading zeros included, whose number has 64 bits. A text is UTF-8 of at
+/// most 255 bytes. A flag is `true` or `false`, in letters of either case.
+pub fn read_field(alloc: Global, kind: Kind, field: &[u8]) -> Result<Value, Refusal>
+    ensures ok { IfOk result (λ value. or_refused (Refusal.BadField 1) (value_of kind field.now) ≡ Ok value) }
+    ensures refused { IfErr result (λ e. e ≢ Refusal.OutOfMemory → or_refused (Refusal.BadField 1) (value_of kind field.now) ≡ Err e) }
+{
+    match read_value(alloc, kind, field)? {
+        Some(value) => Ok(value),
+        None => Err(Refusal::BadField(1)),
     }
 }

@@ -14,8 +14,10 @@
 //! ```
 #![tactic(auto)]
 
+mod bytes;
 mod field;
 mod fields;
+mod op;
 mod record;
 mod refusal;
 mod row;
@@ -24,15 +26,20 @@ mod sequence;
 mod text;
 mod value;
 
-pub use field::read_field;
+pub use bytes::Bytes;
+pub use field::{LONGEST_TEXT, read_field};
 pub use fields::Fields;
+pub use op::{
+    Change, MOST_OPS, Op, Ops, Upsert, apply_ops, check_ops, copy_change, default_row, read_ops,
+    read_upsert,
+};
 pub use record::{read_record, write_record};
-pub use refusal::Refusal;
+pub use refusal::{Refusal, least_with};
 pub use row::{read_key, read_row};
 pub use schema::{Column, Columns, MOST_COLUMNS, MOST_KEYS, Schema};
 pub use sequence::Sequence;
 pub use text::{Text, Texts};
-pub use value::{Kind, Row, Value, copy_row};
+pub use value::{Kind, Row, Value, copy_row, copy_value};
 
 #[cfg(test)]
 mod tests;

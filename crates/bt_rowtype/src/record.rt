@@ -1,10 +1,10 @@
 //! Reading the record that stands in a line, and writing the text of one.
-ghost use Rattle.std.specs.Prelude.{◌≡◌, ◌==◌, ◌++◌, IfOk, OnOk, OnErr, List, length, map, option_map, ℕ};
+ghost use Rattle.std.specs.Prelude.{◌≡◌, ◌==◌, ◌++◌, ◌∷◌, [], IfOk, OnOk, OnErr, List, codes, if◌then◌else◌, length, map, option_map, ℕ};
 ghost use Rattle.std.specs.Fmt.{signed_decimal};
 ghost use Rattle.std.specs.List.{list_any};
 ghost use Rattle.csv.specs.Reading.{strip_bom};
 ghost use Rattle.csv.specs.Records.{fields_of};
-ghost use Rattle.csv.specs.Writing.{default_writer, field_text, next_sep};
+ghost use Rattle.csv.specs.Writing.{default_writer, escaped, field_text, needs_quotes as text_needs_quotes, next_sep, quoted};
 ghost use Rattle.bt_rowtype.specs.Records.{Grows, csv_record, has_mark as is_behind_mark, is_refused, is_special, parts_of, record_of, record_text};
 ghost use Rattle.bt_rowtype.specs.Values.{text_of};
 
@@ -117,6 +117,72 @@ fn write_int(out: &mut Vec<u8>, number: i64) -> Result<(), AllocError>
     out.extend_from_slice(Buffer::new().format(number).as_bytes())
 }
 
+fn needs_quotes(text: &[u8]) -> bool
+    ensures { result ≡ text_needs_quotes default_writer text.now }
+{
+    text.iter()
+        .any(|byte| matches!(*byte, b',' | b'"' | b'\r' | b'\n'))
+}
+
+// Adds a byte of a text between quotes, twice where it is a quote.
+#[tactic(auto, using(crate::proofs::Quotes::quote_escaped, crate::proofs::Quotes::other_escaped))]
+fn add_escaped(out: &mut Vec<u8>, byte: u8) -> Result<(), AllocError>
+    ensures ok { OnOk result (out.new.items ≡ out.old.items ++ escaped default_writer (byte ∷ [])) }
+    ensures err { OnErr result (out.new.items ≡ out.old.items) }
+{
+    if byte == b'"' {
+        return out.extend_from_slice(b"\"\"");
+    }
+    out.push(byte)?;
+    Ok(())
+}
+
+// Adds a text between quotes, with each quote in it doubled, or a part of that before an `Err`.
+#[tactic(auto, using(crate::proofs::Quotes::none_escaped, crate::proofs::Quotes::more_escaped))]
+fn add_quoted(out: &mut Vec<u8>, text: &[u8]) -> Result<(), AllocError>
+    ensures ok { OnOk result (out.new.items ≡ out.old.items ++ quoted default_writer text.now) }
+    ensures err { OnErr result (Grows out.old.items out.new.items) }
+{
+    out.push(b'"')?;
+    for byte in text {
+        add_escaped(out, *byte)?;
+    }
+    out.push(b'"')?;
+    Ok(())
+}
+
+// Adds a text between quotes, with each quote in it doubled.
+fn write_quoted(out: &mut Vec<u8>, text: &[u8]) -> Result<(), AllocError>
+    ensures ok { OnOk result (out.new.items ≡ out.old.items ++ quoted default_writer text.now) }
+    ensures err { OnErr result (out.new.items ≡ out.old.items) }
+{
+    let before = out.len();
+    let result = add_quoted(out, text);
+    if result.is_err() {
+        out.truncate(before);
+    }
+    result
+}
+
+fn write_text(out: &mut Vec<u8>, text: &[u8]) -> Result<(), AllocError>
+    ensures ok { OnOk result (out.new.items ≡ out.old.items ++ field_text default_writer text.now) }
+    ensures err { OnErr result (out.new.items ≡ out.old.items) }
+{
+    if needs_quotes(text) {
+        write_quoted(out, text)
+    } else {
+        out.extend_from_slice(text)
+    }
+}
+
+fn write_flag(out: &mut Vec<u8>, flag: bool) -> Result<(), AllocError>
+    ensures ok { OnOk result (out.new.items ≡ out.old.items ++ field_text default_writer (if flag then codes "true" else codes "false")) }
+    ensures err { OnErr result (out.new.items ≡ out.old.items) }
+{
+    let text: &[u8] = if flag { b"true" } else { b"false" };
+    out.extend_from_slice(text)
+}
+
 // Adds the text of a value, as a field of a record.
 fn write_value(out: &mut Vec<u8>, value: &Value) -> Result<(), AllocError>
     ensures ok { OnOk result (out.new.items ≡ out.old.items ++ field_text default_writer (text_of value.now)) }
@@ -124,6 +190,8 @@ fn write_value(out: &mut Vec<u8>, value: &Value) -> Result<(), AllocError>
 {
     match value {
         Value::Int(number) => write_int(out, *number),
+        Value::Text(text) => write_text(out, text.as_bytes()),
+        Value::Flag(flag) => write_flag(out, *flag),
     }
 }
 

@@ -1,5 +1,6 @@
 //! Why a call is refused.
-ghost use Rattle.std.specs.Prelude.{◌≡◌};
+ghost use Rattle.std.specs.Prelude.{◌≡◌, ◌∷◌, [], Some};
+ghost use Rattle.bt_rowtype.specs.Refusals.{least_from};
 
 use std::alloc::{AllocError, AllocFailed};
 
@@ -140,6 +141,16 @@ impl Refusal {
         ensures { result ≡ lesser self other }
     {
         if other.is_before(&self) { other } else { self }
+    }
+}
+
+/// The lesser of a refusal that was found, if one was, and one more.
+pub fn least_with(found: Option<Refusal>, refusal: Refusal) -> Refusal
+    ensures { least_from found (refusal ∷ []) ≡ Some result }
+{
+    match found {
+        Some(found) => found.lesser(refusal),
+        None => refusal,
     }
 }
 

@@ -1,13 +1,25 @@
 //! Reading a record as a row or as a key.
-ghost use Rattle.std.specs.Prelude.{◌≡◌, ◌≢◌, ◌≤◌, Ok, Err, IfOk, IfErr, take, length};
-ghost use Rattle.bt_rowtype.specs.Values.{read_as};
+ghost use Rattle.std.specs.Prelude.{◌≡◌, ◌≢◌, ◌≤◌, None, Some, Ok, Err, IfOk, IfErr, take, length};
+ghost use Rattle.bt_rowtype.specs.Values.{read_as, value_of};
 
 use crate::field::read_field;
 use crate::fields::Fields;
 use crate::refusal::Refusal;
 use crate::schema::{Column, Schema};
-use crate::value::Row;
+use crate::value::{Kind, Row, Value};
 use std::alloc::Global;
+
+// The value that a field spells, or its refusal as this item.
+pub(crate) fn read_at(alloc: Global, kind: Kind, item: u64, field: &[u8]) -> Result<Value, Refusal>
+    ensures ok { IfOk result (λ value. value_of kind field.now ≡ Some value) }
+    ensures refused { IfErr result (λ e. e ≢ Refusal.OutOfMemory → (value_of kind field.now ≡ None) × (e ≡ Refusal.BadField item)) }
+{
+    match read_field(alloc, kind, field) {
+        Ok(value) => Ok(value),
+        Err(Refusal::OutOfMemory) => Err(Refusal::OutOfMemory),
+        Err(_) => Err(Refusal::BadField(item)),
+    }
+}
 
 // The values that fields spell, one for each column.
 fn read_values(
@@ -24,10 +36,7 @@ fn read_values(
     }
     let mut values = Vec::with_capacity(alloc, columns.len())?;
     for (place, column) in columns.iter().enumerate() {
-        let Ok(value) = read_field(column.kind, fields.get(place)) else {
-            return Err(Refusal::BadField(item));
-        };
-        values.push(value)?;
+        values.push(read_at(alloc, column.kind, item, fields.get(place))?)?;
     }
     Ok(Row::new(values))
 }

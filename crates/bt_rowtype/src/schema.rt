@@ -2,6 +2,7 @@
 ghost use Rattle.std.specs.Prelude.{◌≡◌, ◌≤◌, Ok, Err, if◌then◌else◌, length, take};
 ghost use Rattle.bt_rowtype.specs.Schemas.{are_apart, checked_as, fits_kind, has_column as has_column_named, is_schema};
 
+use crate::field::is_text;
 use crate::refusal::Refusal;
 use crate::sequence::Sequence;
 use crate::text::Text;
@@ -64,6 +65,7 @@ impl Schema {
     /// The columns of the key.
     pub fn key_columns(&self) -> &[Column]
         ensures value { result.now ≡ take self.now.keys self.now.columns }
+        ensures within { self.now.keys ≤ length self.now.columns }
     {
         &self.columns.as_slice()[..self.keys]
     }
@@ -94,11 +96,14 @@ impl Schema {
     }
 }
 
-fn is_of_kind(kind: Kind, value: &Value) -> bool
+pub(crate) fn is_of_kind(kind: Kind, value: &Value) -> bool
     ensures { result ≡ fits_kind kind value.now }
 {
     match (kind, value) {
         (Kind::Int, Value::Int(_)) => true,
+        (Kind::Text, Value::Text(text)) => is_text(text.as_bytes()),
+        (Kind::Flag, Value::Flag(_)) => true,
+        _ => false,
     }
 }
 
@@ -120,7 +125,7 @@ fn has_column(columns: &[Column], name: &Text) -> bool
 {
     columns
         .iter()
-        .any(|column| column.name.as_str() == name.as_str())
+        .any(|column| column.name.as_bytes() == name.as_bytes())
 }
 
 // Whether no two columns have the same name.

@@ -1,21 +1,22 @@
 //! Texts that contracts see as their bytes, and lists of them.
 ghost use Rattle.std.specs.Prelude.{◌≡◌, ◌++◌, ◌∷◌, [], IfOk, OnOk, OnErr, map, string_bytes};
 
+use crate::bytes::Bytes;
 use std::alloc::{AllocError, Global};
 use std::marker::Model;
 
-/// A text, as the name of a column or of a tree. A contract sees its bytes.
+/// A text, as a value, or the name of a column or of a tree. A contract sees its bytes.
 #[derive(Debug, Drop)]
 pub struct Text {
-    text: String,
+    bytes: Bytes,
 }
 
 impl Model for Text {
-    ghost use Rattle.std.specs.Prelude.{List, ℕ, string_bytes};
+    ghost use Rattle.std.specs.Prelude.{List, ℕ};
 
     ghost Value = { List ℕ };
 
-    ghost view = { λ a. string_bytes a.text };
+    ghost view = { λ a. a.bytes };
 }
 
 impl Text {
@@ -24,14 +25,33 @@ impl Text {
         ensures { IfOk result (λ copy. copy ≡ text.now) }
     {
         Ok(Text {
-            text: String::from_str(alloc, text)?,
+            bytes: Bytes::from_slice(alloc, text.as_bytes())?,
         })
     }
 
-    pub fn as_str(&self) -> &str
+    /// The text of no bytes.
+    pub fn empty() -> Self
+        ensures { result ≡ [] }
+    {
+        Text {
+            bytes: Bytes::new(),
+        }
+    }
+
+    /// A copy of the text.
+    pub fn copy(&self, alloc: Global) -> Result<Self, AllocError>
+        ensures { IfOk result (λ copy. copy ≡ self.now) }
+    {
+        Ok(Text {
+            bytes: self.bytes.copy(alloc)?,
+        })
+    }
+
+    /// The bytes, which are UTF-8.
+    pub fn as_bytes(&self) -> &[u8]
         ensures { result.now ≡ self.now }
     {
-        self.text.as_str()
+        self.bytes.as_slice()
     }
 }
 

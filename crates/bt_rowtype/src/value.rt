@@ -1,6 +1,7 @@
 //! Kinds, values and rows.
 ghost use Rattle.std.specs.Prelude.{◌≡◌, IfOk};
 
+use crate::text::Text;
 use std::alloc::{AllocError, Global};
 use std::marker::Model;
 
@@ -9,6 +10,10 @@ use std::marker::Model;
 pub enum Kind {
     /// A whole number of 64 bits with a sign.
     Int,
+    /// A text: UTF-8 of at most 255 bytes.
+    Text,
+    /// `true` or `false`.
+    Flag,
 }
 
 /// A value of a column.
@@ -16,6 +21,10 @@ pub enum Kind {
 pub enum Value {
     /// A whole number of 64 bits with a sign.
     Int(i64),
+    /// A text: UTF-8 of at most 255 bytes.
+    Text(Text),
+    /// `true` or `false`.
+    Flag(bool),
 }
 
 /// The values of a row, column by column.
@@ -55,11 +64,14 @@ impl Row {
     }
 }
 
-fn copy_value(value: &Value) -> Value
-    ensures { result ≡ value.now }
+/// A copy of the value.
+pub fn copy_value(alloc: Global, value: &Value) -> Result<Value, AllocError>
+    ensures { IfOk result (λ copy. copy ≡ value.now) }
 {
     match value {
-        Value::Int(number) => Value::Int(*number),
+        Value::Int(number) => Ok(Value::Int(*number)),
+        Value::Text(text) => Ok(Value::Text(text.copy(alloc)?)),
+        Value::Flag(flag) => Ok(Value::Flag(*flag)),
     }
 }
 
@@ -70,7 +82,7 @@ pub fn copy_row(alloc: Global, row: &Row) -> Result<Row, AllocError>
     let values = row.as_slice();
     let mut copies = Vec::with_capacity(alloc, values.len())?;
     for value in values {
-        copies.push(copy_value(value))?;
+        copies.push(copy_value(alloc, value)?)?;
     }
     Ok(Row::new(copies))
 }

@@ -1,13 +1,16 @@
 -- The text and the height of a node from those of its children.
 use Rattle.std.proofs.Common.{ℕ, zero, suc, ◌+◌, ◌<◌, ◌≤◌, ◌≡◌, ◌∙◌, List, [], ◌∷◌, ◌++◌, Option, Some, None, refl, sym, ap, take, length, arith, append_assoc, append-nil, max, take_all}
 use Rattle.std.specs.Prelude.{flat_map, min, option_map, slice_get}
+use Rattle.bt_rowtype.specs.declared.op.Change.{Change}
+use Rattle.bt_rowtype.specs.declared.schema.Column.{Column}
 use Rattle.bt_rowtype.specs.declared.value.Value.{Value}
 use Rattle.bt_messages.specs.declared.message.Message.{Message}
 use Rattle.bt_node.specs.Keys.{Key}
 use Rattle.bt_node.specs.Trees.{Tree, leaf, inner, Nodes, none, node, Siblings, children, height, height_below}
+use Rattle.bt_node.specs.Walks.{children_of}
 use Rattle.bt_shell.specs.Drawings.{child_text, highest, own_text, pivot_text, siblings_text}
 use Rattle.bt_shell.specs.Images.{inner_line, message_line, node_text, others_text, pivot_line}
-use Rattle.bt_shell.specs.Walks.{children_of}
+use Rattle.bt_shell.specs.Tables.{RowTree}
 
 pub same_item : {X : Type 0} (x y : X) → Some x ≡ Some y → x ≡ y
 same_item x y is = cc
@@ -19,40 +22,40 @@ lines_more f (y ∷ ys) zero x is = append-nil (f y) ∙ ap f (same_item y x is)
 lines_more f (y ∷ ys) (suc i) x is = ap (λ (l : List ℕ). f y ++ l) (lines_more f ys i x is) ∙ sym (append_assoc (f y) (flat_map f (take i ys)) (f x))
 
 -- the lines of one more child
-pub siblings_more : (depth place : ℕ) (xs : Siblings (List Value) (Message (List Value))) (i : ℕ) (x : Key × Tree (List Value) (Message (List Value))) → slice_get xs i ≡ Some x
-    → siblings_text depth place (take (suc i) xs) ≡ siblings_text depth place (take i xs) ++ child_text depth (place + i) x
-siblings_more depth place [] i x is = cc
-siblings_more depth place (y ∷ ys) zero x is =
+pub siblings_more : (columns : List Column) (depth place : ℕ) (xs : List (Key × RowTree)) (i : ℕ) (x : Key × RowTree) → slice_get xs i ≡ Some x
+    → siblings_text columns depth place (take (suc i) xs) ≡ siblings_text columns depth place (take i xs) ++ child_text columns depth (place + i) x
+siblings_more columns depth place [] i x is = cc
+siblings_more columns depth place (y ∷ ys) zero x is =
     let here : place ≡ place + 0 = omega arith in
-    append-nil (child_text depth place y) ∙ ap (child_text depth place) (same_item y x is) ∙ ap (λ (p : ℕ). child_text depth p x) here
-siblings_more depth place (y ∷ ys) (suc i) x is =
+    append-nil (child_text columns depth place y) ∙ ap (child_text columns depth place) (same_item y x is) ∙ ap (λ (p : ℕ). child_text columns depth p x) here
+siblings_more columns depth place (y ∷ ys) (suc i) x is =
     let here : suc place + i ≡ place + suc i = omega arith in
-    ap (λ (l : List ℕ). child_text depth place y ++ l) (siblings_more depth (suc place) ys i x is ∙ ap (λ (p : ℕ). siblings_text depth (suc place) (take i ys) ++ child_text depth p x) here)
-    ∙ sym (append_assoc (child_text depth place y) (siblings_text depth (suc place) (take i ys)) (child_text depth (place + suc i) x))
+    ap (λ (l : List ℕ). child_text columns depth place y ++ l) (siblings_more columns depth (suc place) ys i x is ∙ ap (λ (p : ℕ). siblings_text columns depth (suc place) (take i ys) ++ child_text columns depth p x) here)
+    ∙ sym (append_assoc (child_text columns depth place y) (siblings_text columns depth (suc place) (take i ys)) (child_text columns depth (place + suc i) x))
 
-others_listed : (depth place : ℕ) (ns : Nodes (List Value) (Message (List Value))) → others_text depth ns ≡ siblings_text depth (suc place) (children ns)
-others_listed depth place none = refl
-others_listed depth place (node k t ns) =
-    ap (λ (l : List ℕ). pivot_line depth k ++ (node_text depth t ++ l)) (others_listed depth (suc place) ns)
-    ∙ sym (append_assoc (pivot_line depth k) (node_text depth t) (siblings_text depth (suc (suc place)) (children ns)))
+others_listed : (columns : List Column) (depth place : ℕ) (ns : Nodes (List Value) (Message (List Value) Change)) → others_text columns depth ns ≡ siblings_text columns depth (suc place) (children ns)
+others_listed columns depth place none = refl
+others_listed columns depth place (node k t ns) =
+    ap (λ (l : List ℕ). pivot_line depth k ++ (node_text columns depth t ++ l)) (others_listed columns depth (suc place) ns)
+    ∙ sym (append_assoc (pivot_line depth k) (node_text columns depth t) (siblings_text columns depth (suc (suc place)) (children ns)))
 
-listed : (depth : ℕ) (t : Tree (List Value) (Message (List Value))) → node_text depth t ≡ own_text depth (suc depth) t ++ siblings_text (suc depth) 0 (children_of t)
-listed depth (leaf rows) = sym (append-nil _)
-listed depth (inner none buffer) =
+listed : (columns : List Column) (depth : ℕ) (t : RowTree) → node_text columns depth t ≡ own_text columns depth (suc depth) t ++ siblings_text columns (suc depth) 0 (children_of t)
+listed columns depth (leaf rows) = sym (append-nil _)
+listed columns depth (inner none buffer) =
     let own = inner_line depth 0 (length buffer) in
-    let lines = flat_map (message_line (suc depth)) buffer in
+    let lines = flat_map (message_line columns (suc depth)) buffer in
     ap (λ (l : List ℕ). own ++ l) (append-nil lines) ∙ sym (append-nil (own ++ lines))
-listed depth (inner (node k t ns) buffer) =
+listed columns depth (inner (node k t ns) buffer) =
     let own = inner_line depth (length (children (node k t ns))) (length buffer) in
-    let lines = flat_map (message_line (suc depth)) buffer in
-    ap (λ (l : List ℕ). own ++ (lines ++ (node_text (suc depth) t ++ l))) (others_listed (suc depth) 0 ns)
-    ∙ sym (append_assoc own lines (node_text (suc depth) t ++ siblings_text (suc depth) 1 (children ns)))
+    let lines = flat_map (message_line columns (suc depth)) buffer in
+    ap (λ (l : List ℕ). own ++ (lines ++ (node_text columns (suc depth) t ++ l))) (others_listed columns (suc depth) 0 ns)
+    ∙ sym (append_assoc own lines (node_text columns (suc depth) t ++ siblings_text columns (suc depth) 1 (children ns)))
 
 -- a node has its own lines, and then those of its children
-pub node_listed : (depth : ℕ) (t : Tree (List Value) (Message (List Value))) → node_text depth t ≡ own_text depth (depth + 1) t ++ siblings_text (depth + 1) 0 (children_of t)
-node_listed depth t =
+pub node_listed : (columns : List Column) (depth : ℕ) (t : RowTree) → node_text columns depth t ≡ own_text columns depth (depth + 1) t ++ siblings_text columns (depth + 1) 0 (children_of t)
+node_listed columns depth t =
     let next : depth + 1 ≡ suc depth = omega arith in
-    rw next (listed depth t)
+    rw next (listed columns depth t)
 
 below_listed : {V M : Type 0} (ns : Nodes V M) → height_below ns ≡ highest (children ns)
 below_listed none = refl
@@ -114,25 +117,27 @@ highest_last t i most before after past was step =
     let all = height_listed t in
     omega (arith, whole, all, was, step)
 
-pub child_written : (xs : Siblings (List Value) (Message (List Value))) (i below : ℕ) (child : Tree (List Value) (Message (List Value))) (out own before mid after : List ℕ)
-    → option_map (λ p. p.1) (slice_get xs i) ≡ Some child → mid ≡ before ++ pivot_text below i (slice_get xs i) → after ≡ mid ++ node_text below child
-    → before ≡ out ++ (own ++ siblings_text below 0 (take i xs)) → after ≡ out ++ (own ++ siblings_text below 0 (take (i + 1) xs))
-child_written xs i below child out own before mid after is pivot text was =
+pub child_written : (columns : List Column) (xs : List (Key × RowTree)) (i below : ℕ) (child : RowTree) (out own before mid after : List ℕ)
+    → option_map (λ p. p.1) (slice_get xs i) ≡ Some child → mid ≡ before ++ pivot_text below i (slice_get xs i) → after ≡ mid ++ node_text columns below child
+    → before ≡ out ++ (own ++ siblings_text columns below 0 (take i xs)) → after ≡ out ++ (own ++ siblings_text columns below 0 (take (i + 1) xs))
+child_written columns xs i below child out own before mid after is pivot text was =
     let at = child_at (slice_get xs i) child is in
     let next : i + 1 ≡ suc i = omega arith in
     let here : 0 + i ≡ i = omega arith in
-    let so_far = siblings_text below 0 (take i xs) in
+    let so_far = siblings_text columns below 0 (take i xs) in
     let line = pivot_text below i (Some at.0) in
-    let more : siblings_text below 0 (take (i + 1) xs) ≡ so_far ++ child_text below i at.0 =
-    ap (λ (n : ℕ). siblings_text below 0 (take n xs)) next ∙ siblings_more below 0 xs i at.0 at.1 ∙ ap (λ (n : ℕ). so_far ++ child_text below n at.0) here in
-    let wrote : after ≡ before ++ child_text below i at.0 =
-    text ∙ ap (λ (l : List ℕ). l ++ node_text below child) (pivot ∙ ap (λ o. before ++ pivot_text below i o) at.1)
-    ∙ ap (λ t. (before ++ line) ++ node_text below t) (sym at.2) ∙ append_assoc before line (node_text below at.0.1) in
-    written_more out before after (own ++ so_far) (own ++ siblings_text below 0 (take (i + 1) xs)) (child_text below i at.0) wrote was
-    (ap (λ (l : List ℕ). own ++ l) more ∙ sym (append_assoc own so_far (child_text below i at.0)))
+    let more : siblings_text columns below 0 (take (i + 1) xs) ≡ so_far ++ child_text columns below i at.0 =
+    ap (λ (n : ℕ). siblings_text columns below 0 (take n xs)) next ∙ siblings_more columns below 0 xs i at.0 at.1 ∙ ap (λ (n : ℕ). so_far ++ child_text columns below n at.0) here in
+    let wrote : after ≡ before ++ child_text columns below i at.0 =
+    text ∙ ap (λ (l : List ℕ). l ++ node_text columns below child) (pivot ∙ ap (λ o. before ++ pivot_text below i o) at.1)
+    ∙ ap (λ t. (before ++ line) ++ node_text columns below t) (sym at.2) ∙ append_assoc before line (node_text columns below at.0.1) in
+    written_more out before after (own ++ so_far) (own ++ siblings_text columns below 0 (take (i + 1) xs)) (child_text columns below i at.0) wrote was
+    (ap (λ (l : List ℕ). own ++ l) more ∙ sym (append_assoc own so_far (child_text columns below i at.0)))
 
-pub node_written : (t : Tree (List Value) (Message (List Value))) (depth below i : ℕ) → below ≡ depth + 1 → length (children_of t) ≤ i
-    → own_text depth below t ++ siblings_text below 0 (take i (children_of t)) ≡ node_text depth t
-node_written t depth below i is past =
-    let whole = take_all i (children_of t) past in
-    rw (is, whole) (sym (node_listed depth t))
+-- a node whose own lines and those of all its children were added
+pub node_written : (columns : List Column) (t : RowTree) (depth below i : ℕ) (out after : List ℕ) → below ≡ depth + 1 → length (children_of t) ≤ i
+    → after ≡ out ++ (own_text columns depth below t ++ siblings_text columns below 0 (take i (children_of t))) → after ≡ out ++ node_text columns depth t
+node_written columns t depth below i out after is past was =
+    let whole : own_text columns depth below t ++ siblings_text columns below 0 (take i (children_of t)) ≡ node_text columns depth t =
+    rw (is, take_all i (children_of t) past) (sym (node_listed columns depth t)) in
+    was ∙ ap (λ (l : List ℕ). out ++ l) whole

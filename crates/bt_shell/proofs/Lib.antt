@@ -5,8 +5,6 @@ pub mod Drawings
 pub mod Fronts
 pub mod Indents
 pub mod Machine
-pub mod Merges
 pub mod Names
-pub mod Scans
 pub mod Sinks
 pub mod WorkedRows

@@ -1,9 +1,50 @@
--- Worked scripts, computed by the definitions themselves.
-use Rattle.std.proofs.Common.{[], ◌≡◌, refl, codes}
+-- Worked lines and scripts, computed by the definitions themselves.
+use Rattle.std.proofs.Common.{ℕ, List, [], ◌∷◌, ◌++◌, ◌≡◌, refl, codes}
+use Rattle.std.specs.Prelude.{Ok, Some, None, pos}
+use Rattle.std.specs.Char.{encode_utf8}
+use Rattle.std.specs.Str.{chars, is_utf8}
+use Rattle.bt_rowtype.specs.Schemas.{Layout}
+use Rattle.bt_rowtype.specs.declared.op.Op.TheVariants as op
+use Rattle.bt_rowtype.specs.declared.value.Kind.TheVariants as kind
+use Rattle.bt_rowtype.specs.declared.value.Value.TheVariants as value
 use Rattle.bt_rowtype.proofs.OnLiterals.{rowtype_on_literals}
-use Rattle.bt_shell.specs.Commands.{closing_of, column_of, command_of, commands_from, item_of, items_of, step, table_of}
+use Rattle.bt_messages.specs.declared.message.Message.TheVariants as message
+use Rattle.bt_shell.specs.Commands.{closing_of, column_of, command_of, commands_from, form_of, item_of, items_of, step, table_of}
 use Rattle.bt_keycode.specs.Keys.{eight_bytes}
+use Rattle.bt_shell.specs.Images.{message_line}
 use Rattle.bt_shell.specs.Runs.{replies, run}
+use Rattle.bt_shell.specs.Steps.{read_message}
+use Rattle.bt_shell.specs.declared.command.Item.TheVariants as line
+
+-- a line of a batch that changes the row of a key
+pub ups_line : item_of (codes "ups 1,add,qty,5") ≡ Some (line.Ups (codes "1" ∷ codes "add" ∷ codes "qty" ∷ codes "5" ∷ []))
+unfolding item_of rowtype_on_literals
+ups_line = refl
+
+-- columns of the other kinds, and a kind that there is not
+pub text_column : column_of (codes "name:text") ≡ Some (record { name = codes "name"; kind = kind.Text })
+unfolding column_of
+text_column = refl
+
+pub flag_column : column_of (codes "ok:flag") ≡ Some (record { name = codes "ok"; kind = kind.Flag })
+unfolding column_of
+flag_column = refl
+
+pub date_column : column_of (codes "name:date") ≡ None
+unfolding column_of
+date_column = refl
+
+-- a table with two key columns
+pub two_key_columns : command_of (codes "table 4 3 2 2 id:int ok:flag") []
+    ≡ Some (form_of 4 3 2 2 (record { name = codes "id"; kind = kind.Int } ∷ record { name = codes "ok"; kind = kind.Flag } ∷ []))
+unfolding command_of table_of column_of rowtype_on_literals
+two_key_columns = refl
+
+-- no key column, more than there are columns, more than 4, and what is no number
+pub key_counts : run (codes "table 4 3 2 0 id:int ok:flag\ntable 4 3 2 3 id:int ok:flag\ntable 4 3 2 5 a:int b:int c:int d:int e:int\ntable 4 3 2 x id:int\ntable 4 3 2 2 id:int ok:flag\n")
+    ≡ codes "refused 5 BadSchema\nrefused 5 BadSchema\nrefused 5 BadSchema\nrefused 1 Syntax\ntable 2\n"
+unfolding replies commands_from step closing_of command_of items_of item_of column_of table_of eight_bytes rowtype_on_literals
+key_counts = refl
 
 -- a script of no bytes writes nothing
 pub empty_script : run [] ≡ []
@@ -56,3 +97,73 @@ pub gets_and_images : run (codes "table 4 3 2 1 id:int qty:int\nget\nget \nget  
     ≡ codes "table 2\nrefused 1 Syntax\nrefused 1 Syntax\nrefused 6 BadField 1\nrefused 7 BadLength 1\nnone\nimage primary height 1\nleaf 0\nend\nrefused 8 NoSuchTree\nrefused 1 Syntax\nbatch 4\nnone\nrow 2,20\nimage primary height 1\nleaf 2\n  = 8000000000000002 2,20\n  = 8000000000000003 3,30\nend\n"
 unfolding replies commands_from step closing_of command_of items_of item_of column_of table_of eight_bytes rowtype_on_literals
 gets_and_images = refl
+
+-- a key, and a number of each
+abbrev stock : Layout
+stock = record { columns = record { name = codes "id"; kind = kind.Int } ∷ record { name = codes "qty"; kind = kind.Int } ∷ []; keys = 1 }
+
+-- the code of the key 1
+abbrev key_of_one : List ℕ
+key_of_one = 128 ∷ 0 ∷ 0 ∷ 0 ∷ 0 ∷ 0 ∷ 0 ∷ 1 ∷ []
+
+-- the line of an upsert
+pub upsert_line : item_of (codes " ups 1,add,qty,5\r") ≡ Some (line.Ups (codes "1" ∷ codes "add" ∷ codes "qty" ∷ codes "5" ∷ []))
+unfolding item_of rowtype_on_literals
+upsert_line = refl
+
+-- its message, to the code of the key, carries the default row of the key
+pub upsert_message : read_message stock 1 (line.Ups (codes "1" ∷ codes "add" ∷ codes "qty" ∷ codes "5" ∷ []))
+    ≡ Ok (key_of_one, message.Ups (record { base = value.Int (pos 1) ∷ value.Int (pos 0) ∷ []; ops = op.Add 1 (pos 5) ∷ [] }))
+unfolding eight_bytes rowtype_on_literals
+upsert_message = refl
+
+-- the line of an image for it, with one operation, with two, and with one on no column
+pub upsert_waits : message_line stock.columns 0 (key_of_one, message.Ups (record { base = value.Int (pos 1) ∷ value.Int (pos 0) ∷ []; ops = op.Add 1 (pos 5) ∷ [] }))
+    ≡ codes "~ 8000000000000001 add,qty,5\n"
+unfolding rowtype_on_literals
+upsert_waits = refl
+
+pub operations_wait : message_line stock.columns 1 (key_of_one, message.Ups (record { base = []; ops = op.Set 1 (value.Int (pos 7)) ∷ op.Add 1 (pos 5) ∷ [] }))
+    ≡ codes "  ~ 8000000000000001 set,qty,7,add,qty,5\n"
+unfolding rowtype_on_literals
+operations_wait = refl
+
+pub no_column : message_line stock.columns 0 (key_of_one, message.Ups (record { base = []; ops = op.Add 2 (pos 5) ∷ [] })) ≡ codes "~ 8000000000000001 add,,5\n"
+unfolding rowtype_on_literals
+no_column = refl
+
+-- a buffer that is full to its capacity waits: two upserts of one key are two messages
+pub capacity_is_not_over : run (codes "table 4 3 2 1 id:int qty:int\nbatch\nput 1,10\nput 2,20\nput 3,30\nput 4,40\nend\nbatch\nups 1,add,qty,5\nups 1,add,qty,5\nput 4,0\nend\nimage primary\nget 1\n")
+    ≡ codes "table 2\nbatch 4\nbatch 3\nimage primary height 2\ninner 2 3\n  ~ 8000000000000001 add,qty,5\n  ~ 8000000000000001 add,qty,5\n  + 8000000000000004 4,0\n  leaf 2\n    = 8000000000000001 1,10\n    = 8000000000000002 2,20\n  | 8000000000000003\n  leaf 2\n    = 8000000000000003 3,30\n    = 8000000000000004 4,40\nend\nrow 1,20\n"
+unfolding replies commands_from step closing_of command_of items_of item_of column_of table_of eight_bytes rowtype_on_literals
+capacity_is_not_over = refl
+
+-- an addition holds at both ends of 64 bits, and a new key begins with its default row
+pub adds_saturate : run (codes "table 4 3 2 1 id:int qty:int\nbatch\nput 1,9223372036854775807\nput 2,-9223372036854775808\nend\nbatch\nups 1,add,qty,1\nups 2,add,qty,-1\nups 9,add,qty,1\nend\nscan primary\ngo\n")
+    ≡ codes "table 2\nbatch 2\nbatch 3\nrow 1,9223372036854775807\nrow 2,-9223372036854775808\nrow 9,1\nrows 3\n"
+unfolding replies commands_from step closing_of command_of items_of item_of column_of table_of eight_bytes rowtype_on_literals
+adds_saturate = refl
+
+-- the operations of one upsert, in turn
+pub operations_in_turn : run (codes "table 4 3 2 1 id:int qty:int\nbatch\nups 9,set,qty,5,add,qty,-2\nend\nget 9\n")
+    ≡ codes "table 2\nbatch 1\nrow 9,3\n"
+unfolding replies commands_from step closing_of command_of items_of item_of column_of table_of eight_bytes rowtype_on_literals
+operations_in_turn = refl
+
+-- faults of messages: their length, a field, the kind for add, a column of the key, the word; and a batch without messages
+pub refusals_of_batches : run (codes "table 4 3 2 1 id:int city:text qty:int\ntable 4 3 2 1 a:int\nbatch\nput 1,a\nend\nbatch\nput 1,a\nput x,a,1\nend\nbatch\nups 1,add,city,2\nend\nbatch\nups 1,set,id,2\nend\nbatch\nups 1,mul,qty,2\nend\nbatch\nend\n")
+    ≡ codes "table 3\nrefused 4 TableExists\nrefused 7 BadLength 1\nrefused 6 BadField 2\nrefused 16 NotInt\nrefused 15 NoSuchColumn\nrefused 6 BadField 1\nbatch 0\n"
+unfolding replies commands_from step closing_of command_of items_of item_of column_of table_of eight_bytes rowtype_on_literals
+refusals_of_batches = refl
+
+-- a flag and a text as the key, in letters of either case; an upsert makes a row
+pub compound_key : run (codes "table 4 3 2 2 f:flag t:text n:int\nbatch\nput TRUE,,1\nput false,b,2\nput false,,3\nend\nscan primary\ngo\nbatch\nups true,x,add,n,4\nend\nget true,x\n")
+    ≡ codes "table 3\nbatch 3\nrow false,,3\nrow false,b,2\nrow true,,1\nrows 3\nbatch 1\nrow true,x,4\n"
+unfolding replies commands_from step closing_of command_of items_of item_of column_of table_of eight_bytes rowtype_on_literals chars encode_utf8 is_utf8
+compound_key = refl
+
+-- a text with a zero byte and texts without bytes as keys, and the codes of the keys
+pub text_key_order : run (codes "table 4 3 8 2 name:text n:int\nbatch\nput a,1\nput a" ++ (0 ∷ codes ",0\nput ,-1\nput ,-9223372036854775808\nend\nscan primary\ngo\nimage primary\n"))
+    ≡ codes "table 2\nbatch 4\nrow ,-9223372036854775808\nrow ,-1\nrow a,1\nrow a" ++ (0 ∷ codes ",0\nrows 4\nimage primary height 1\nleaf 4\n  = 00010000000000000000 ,-9223372036854775808\n  = 00017fffffffffffffff ,-1\n  = 6100018000000000000001 a,1\n  = 6100ff00018000000000000000 a" ++ (0 ∷ codes ",0\nend\n"))
+unfolding replies commands_from step closing_of command_of items_of item_of column_of table_of eight_bytes rowtype_on_literals chars encode_utf8 is_utf8
+text_key_order = refl

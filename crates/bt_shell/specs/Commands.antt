@@ -12,7 +12,7 @@ use Rattle.bt_shell.specs.Lines.{is_blank, is_name, lines, number_of, without_re
 use Rattle.bt_shell.specs.declared.command.Command.{Command}
 use Rattle.bt_shell.specs.declared.command.Command.TheVariants.{Batch, Get, Image, Scan, Table}
 use Rattle.bt_shell.specs.declared.command.Item.{Item}
-use Rattle.bt_shell.specs.declared.command.Item.TheVariants.{Put, Del}
+use Rattle.bt_shell.specs.declared.command.Item.TheVariants.{Put, Del, Ups}
 use Rattle.bt_shell.specs.declared.command.Parsed.{Parsed}
 use Rattle.bt_shell.specs.declared.command.Parsed.TheVariants.{End, Bad, Good}
 
@@ -38,12 +38,15 @@ behind_prefix prefix line = if is_word (take (length prefix) line) prefix then S
 abbrev pub record_behind : List ℕ → List ℕ → Option (List (List ℕ))
 record_behind prefix line = option_and_then record_of (behind_prefix prefix line)
 
--- a message of a batch: put or del, one space and a record
+-- a message of a batch: put, del or ups, one space and a record
+abbrev pub item_from : List ℕ → Option Item
+item_from line =
+    if is_some (behind_prefix (codes "put ") line) then option_map Put (record_behind (codes "put ") line)
+    else (if is_some (behind_prefix (codes "del ") line) then option_map Del (record_behind (codes "del ") line)
+    else option_map Ups (record_behind (codes "ups ") line))
+
 unfoldable pub item_of : List ℕ → Option Item
-item_of line =
-    if is_some (behind_prefix (codes "put ") (without_spaces (without_return line)))
-    then option_map Put (record_behind (codes "put ") (without_spaces (without_return line)))
-    else option_map Del (record_behind (codes "del ") (without_spaces (without_return line)))
+item_of line = item_from (without_spaces (without_return line))
 
 abbrev pub is_blank_line : List ℕ → Bool
 is_blank_line line = is_blank (without_return line)
@@ -54,7 +57,9 @@ items_of block = all_some (map item_of (filter (λ line. not (is_blank_line line
 
 -- the kind that a word names
 abbrev pub kind_of : List ℕ → Option Kind
-kind_of word = if is_word word (codes "int") then Some kind.Int else None
+kind_of word =
+    if is_word word (codes "int") then Some kind.Int
+    else (if is_word word (codes "text") then Some kind.Text else (if is_word word (codes "flag") then Some kind.Flag else None))
 
 -- a column: its name, a colon and its kind
 abbrev pub column_from : List (List ℕ) → Option Column
@@ -64,10 +69,6 @@ column_from parts =
 unfoldable pub column_of : List ℕ → Option Column
 column_of word = column_from (slice_split (λ b. b == 58) word)
 
--- how many columns are the key; keys of 2 to 4 columns are still to come
-abbrev pub key_count_of : List ℕ → Option ℕ
-key_count_of word = option_and_then (λ k. if nat_le 2 k && nat_le k 4 then None else Some k) (number_of word)
-
 abbrev pub form_of : ℕ → ℕ → ℕ → ℕ → List Column → Command
 form_of fanout buffer leaf keys columns = Table (record { fanout = fanout; buffer = buffer; leaf = leaf; keys = keys; columns = columns })
 
@@ -76,7 +77,7 @@ unfoldable pub table_of : List (List ℕ) → Option Command
 table_of ws =
     if nat_le 6 (length ws) then
     option_and_then (λ fanout. option_and_then (λ buffer. option_and_then (λ leaf. option_and_then (λ keys. option_map (form_of fanout buffer leaf keys)
-    (all_some (map column_of (drop 5 ws)))) (key_count_of (word_at ws 4))) (number_of (word_at ws 3))) (number_of (word_at ws 2))) (number_of (word_at ws 1))
+    (all_some (map column_of (drop 5 ws)))) (number_of (word_at ws 4))) (number_of (word_at ws 3))) (number_of (word_at ws 2))) (number_of (word_at ws 1))
     else None
 
 -- batch, with its messages

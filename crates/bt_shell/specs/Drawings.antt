@@ -1,17 +1,17 @@
 -- The lines of a node by its parts, as they are written.
 use Rattle.std.specs.Prelude.{ℕ, zero, suc, max, List, [], ◌∷◌, ◌++◌, length, flat_map, Option, Some, None, if◌then◌else◌}
-use Rattle.bt_rowtype.specs.declared.value.Value.{Value}
-use Rattle.bt_messages.specs.declared.message.Message.{Message}
+use Rattle.bt_rowtype.specs.declared.schema.Column.{Column}
 use Rattle.bt_node.specs.Keys.{Key}
-use Rattle.bt_node.specs.Trees.{Tree, Siblings, height}
+use Rattle.bt_node.specs.Trees.{Siblings, height}
+use Rattle.bt_node.specs.Walks.{children_of, is_leaf, messages_of, rows_of}
 use Rattle.bt_shell.specs.Images.{inner_line, leaf_line, message_line, node_text, pivot_line, row_line}
-use Rattle.bt_shell.specs.Walks.{children_of, is_leaf, messages_of, rows_of}
+use Rattle.bt_shell.specs.Tables.{RowTree}
 
 -- the lines of a node that speak of no other one
-abbrev pub own_text : ℕ → ℕ → Tree (List Value) (Message (List Value)) → List ℕ
-own_text depth below t =
+abbrev pub own_text : List Column → ℕ → ℕ → RowTree → List ℕ
+own_text columns depth below t =
     if is_leaf t then leaf_line depth (length (rows_of t)) ++ flat_map (row_line below) (rows_of t)
-    else inner_line depth (length (children_of t)) (length (messages_of t)) ++ flat_map (message_line below) (messages_of t)
+    else inner_line depth (length (children_of t)) (length (messages_of t)) ++ flat_map (message_line columns below) (messages_of t)
 
 -- the line of the pivot before a child at a place, but not before the first
 abbrev pub pivot_text : {X : Type 0} → ℕ → ℕ → Option (Key × X) → List ℕ
@@ -20,13 +20,13 @@ pivot_text depth zero (Some child) = []
 pivot_text depth (suc place) (Some child) = pivot_line depth child.0
 
 -- the lines of a child at a place
-abbrev pub child_text : ℕ → ℕ → Key × Tree (List Value) (Message (List Value)) → List ℕ
-child_text depth place child = pivot_text depth place (Some child) ++ node_text depth child.1
+abbrev pub child_text : List Column → ℕ → ℕ → Key × RowTree → List ℕ
+child_text columns depth place child = pivot_text depth place (Some child) ++ node_text columns depth child.1
 
 -- the lines of children from a place on
-abbrev pub siblings_text : ℕ → ℕ → Siblings (List Value) (Message (List Value)) → List ℕ
-siblings_text depth place [] = []
-siblings_text depth place (x ∷ xs) = child_text depth place x ++ siblings_text depth (suc place) xs
+abbrev pub siblings_text : List Column → ℕ → ℕ → List (Key × RowTree) → List ℕ
+siblings_text columns depth place [] = []
+siblings_text columns depth place (x ∷ xs) = child_text columns depth place x ++ siblings_text columns depth (suc place) xs
 
 -- the height of the highest
 abbrev pub highest : {V M : Type 0} → Siblings V M → ℕ

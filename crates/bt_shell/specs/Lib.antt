@@ -3,11 +3,9 @@ pub mod Commands
 pub mod Drawings
 pub mod Images
 pub mod Lines
-pub mod Merges
 pub mod Options
 pub mod Runs
 pub mod Statuses
 pub mod Steps
 pub mod Streams
 pub mod Tables
-pub mod Walks

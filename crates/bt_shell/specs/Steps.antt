@@ -3,27 +3,28 @@ use Rattle.std.specs.Prelude.{ℕ, ◌+◌, not, nat_lt, Bool, List, [], ◌∷�
 use Rattle.std.specs.FinMap.{find}
 use Rattle.std.specs.List.{filter_map}
 use Rattle.std.specs.Result.{result_err, result_ok}
+use Rattle.bt_rowtype.specs.Ops.{default_row, upsert_as}
 use Rattle.bt_rowtype.specs.Records.{record_text}
 use Rattle.bt_rowtype.specs.Refusals.{item_of, least, name_of, number_of}
 use Rattle.bt_rowtype.specs.Schemas.{Layout, is_schema}
 use Rattle.bt_rowtype.specs.Values.{read_as, text_of}
+use Rattle.bt_rowtype.specs.declared.op.Op.{Op}
 use Rattle.bt_rowtype.specs.declared.refusal.Refusal.{Refusal}
 use Rattle.bt_rowtype.specs.declared.refusal.Refusal.TheVariants.{BadSchema, BadShape, NoSuchTree, NoTable, TableExists, TooMany}
 use Rattle.bt_rowtype.specs.declared.value.Value.{Value}
 use Rattle.bt_keycode.specs.Codes.{code_of}
-use Rattle.bt_messages.specs.declared.message.Message.{Message}
 use Rattle.bt_messages.specs.declared.message.Message.TheVariants as message
-use Rattle.bt_node.specs.Keys.{Key, key_cmp}
+use Rattle.bt_node.specs.Keys.{key_cmp}
 use Rattle.bt_node.specs.Messages.{Rows}
 use Rattle.bt_node.specs.Shapes.{is_shape}
 use Rattle.bt_shell.specs.Commands.{Answer, is_word}
 use Rattle.bt_shell.specs.Images.{image_text}
-use Rattle.bt_shell.specs.Tables.{RowMessages, TableState, after_batch, empty_table}
+use Rattle.bt_shell.specs.Tables.{RowMessage, RowMessages, TableState, after_batch, empty_table}
 use Rattle.bt_shell.specs.declared.command.Command.{Command}
 use Rattle.bt_shell.specs.declared.command.Command.TheVariants.{Batch, Get, Image, Scan, Table}
 use Rattle.bt_shell.specs.declared.command.TableForm.{TableForm}
 use Rattle.bt_shell.specs.declared.command.Item.{Item}
-use Rattle.bt_shell.specs.declared.command.Item.TheVariants.{Put, Del}
+use Rattle.bt_shell.specs.declared.command.Item.TheVariants.{Put, Del, Ups}
 
 -- what the commands before one have left: no table so far, or the table
 abbrev pub State : Type 0
@@ -38,20 +39,25 @@ abbrev pub read_key : Layout → ℕ → List (List ℕ) → Result (List Value)
 read_key layout item fields = read_as (take layout.keys layout.columns) item fields
 
 -- the message to put a row, which goes to the code of its key
-abbrev pub put_of : ℕ → List Value → Key × Message (List Value)
+abbrev pub put_of : ℕ → List Value → RowMessage
 put_of keys row = (code_of (take keys row), message.Put row)
 
 -- the message to remove the row of a key
-abbrev pub del_of : List Value → Key × Message (List Value)
+abbrev pub del_of : List Value → RowMessage
 del_of key = (code_of key, message.Del)
 
+-- the message to change the row of a key, which carries the default row of the key
+abbrev pub ups_of : Layout → List Value × List Op → RowMessage
+ups_of layout upsert = (code_of upsert.0, message.Ups (record { base = default_row layout upsert.0; ops = upsert.1 }))
+
 -- the message that the line of a batch spells in a table, or its refusal as this item
-abbrev pub read_message : Layout → ℕ → Item → Result (Key × Message (List Value)) Refusal
+abbrev pub read_message : Layout → ℕ → Item → Result RowMessage Refusal
 read_message layout item (Put fields) = made (put_of layout.keys) (read_as layout.columns item fields)
 read_message layout item (Del fields) = made del_of (read_key layout item fields)
+read_message layout item (Ups fields) = made (ups_of layout) (upsert_as layout item fields)
 
 -- what the lines of a batch spell, counted from an item on
-abbrev pub read_batch : Layout → ℕ → List Item → List (Result (Key × Message (List Value)) Refusal)
+abbrev pub read_batch : Layout → ℕ → List Item → List (Result RowMessage Refusal)
 read_batch layout item [] = []
 read_batch layout item (line ∷ lines) = read_message layout item line ∷ read_batch layout (item + 1) lines
 
@@ -122,7 +128,7 @@ reply_to (Some table) (Get fields) = get_reply table.rows (read_key table.layout
 reply_to None (Scan tree) = []
 reply_to (Some table) (Scan tree) = scan_reply table.rows
 reply_to None (Image tree) = []
-reply_to (Some table) (Image tree) = image_text tree table.tree
+reply_to (Some table) (Image tree) = image_text table.layout.columns tree table.tree
 
 -- the item of a refusal behind a space, where it has one
 abbrev pub item_text : Option ℕ → List ℕ

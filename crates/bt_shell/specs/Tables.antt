@@ -1,24 +1,38 @@
 -- A table, and what a batch leaves of it.
-use Rattle.std.specs.Prelude.{List, []}
+use Rattle.std.specs.Prelude.{List, [], Option}
+use Rattle.bt_rowtype.specs.Ops.{merged}
 use Rattle.bt_rowtype.specs.Schemas.{Layout}
+use Rattle.bt_rowtype.specs.declared.op.Change.{Change}
 use Rattle.bt_rowtype.specs.declared.value.Value.{Value}
 use Rattle.bt_messages.specs.Effects.{effect_of}
-use Rattle.bt_messages.specs.Messages.{Messages, sorted_batch}
+use Rattle.bt_messages.specs.Messages.{sorted_batch}
 use Rattle.bt_messages.specs.declared.message.Message.{Message}
 use Rattle.bt_node.specs.Flushes.{sunk}
+use Rattle.bt_node.specs.Keys.{Key}
 use Rattle.bt_node.specs.Messages.{Rows, rows_after}
 use Rattle.bt_node.specs.Trees.{Shape, Tree, leaf}
 
--- messages to the keys of rows
+-- a message to the key of a row, and messages
+abbrev pub RowMessage : Type 0
+RowMessage = Key × Message (List Value) Change
+
 abbrev pub RowMessages : Type 0
-RowMessages = Messages (Message (List Value))
+RowMessages = List RowMessage
+
+-- what a message makes of the row at its key
+abbrev pub row_effect : Option (List Value) → Message (List Value) Change → Option (List Value)
+row_effect = effect_of merged
+
+-- a tree of rows
+abbrev pub RowTree : Type 0
+RowTree = Tree (List Value) (Message (List Value) Change)
 
 -- what a contract sees of a table: its columns, how large the nodes of its tree may be, its rows by their key codes, and its tree
 pub record TableState : Type 0 where
   pub layout : Layout
   pub shape : Shape
   pub rows : Rows (List Value)
-  pub tree : Tree (List Value) (Message (List Value))
+  pub tree : RowTree
 
 -- a table with no rows: its tree is one leaf
 abbrev pub empty_table : Layout → Shape → TableState
@@ -27,6 +41,6 @@ empty_table layout shape = record { layout = layout; shape = shape; rows = []; t
 -- a table after the messages of a batch: its rows take them in order, and its tree takes them sorted by key
 abbrev pub after_batch : TableState → RowMessages → TableState
 after_batch table batch = record table {
-  rows = rows_after effect_of batch table.rows;
-  tree = sunk effect_of table.shape table.tree (sorted_batch batch);
+  rows = rows_after row_effect batch table.rows;
+  tree = sunk row_effect table.shape table.tree (sorted_batch batch);
 }

@@ -12,7 +12,10 @@ use crate::command::Item;
 use crate::table::Table;
 use bt_keycode::{Key, encode};
 use bt_messages::Message;
-use bt_rowtype::{Fields, Refusal, Row, Schema, Value, read_key, read_row};
+use bt_rowtype::{
+    Change, Fields, Refusal, Row, Schema, Upsert, Value, default_row, read_key, read_row,
+    read_upsert,
+};
 use std::alloc::{AllocError, Global};
 
 /// The most messages of a batch.
@@ -65,6 +68,22 @@ fn read_del(
     Ok((encode(alloc, key.as_slice())?, Message::Del))
 }
 
+// The message to change the row of the key that fields spell, or its refusal as this item.
+fn read_ups(
+    alloc: Global,
+    schema: &Schema,
+    item: u64,
+    fields: &Fields,
+) -> Result<(Key, Message<Row>), Refusal>
+    ensures ok { IfOk result (λ message. step.read_message schema.now item (line.Ups fields.now) ≡ Ok message) }
+    ensures refused { IfErr result (λ e. e ≢ Refusal.OutOfMemory → step.read_message schema.now item (line.Ups fields.now) ≡ Err e) }
+{
+    let Upsert { key, ops } = read_upsert(alloc, schema, item, fields)?;
+    let code = encode(alloc, key.as_slice())?;
+    let base = default_row(alloc, schema, key)?;
+    Ok((code, Message::Ups(Change { base, ops })))
+}
+
 // The message that a line spells, or its refusal as this item.
 fn read_message(
     alloc: Global,
@@ -78,6 +97,7 @@ fn read_message(
     match line {
         Item::Put(fields) => read_put(alloc, schema, item, fields),
         Item::Del(fields) => read_del(alloc, schema, item, fields),
+        Item::Ups(fields) => read_ups(alloc, schema, item, fields),
     }
 }
 

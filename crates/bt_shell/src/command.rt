@@ -8,6 +8,8 @@ pub enum Item {
     Put(Fields),
     /// The fields of a key, one for each key column.
     Del(Fields),
+    /// The fields of a key, and three for each operation.
+    Ups(Fields),
 }
 
 /// The messages of a batch, in order.

@@ -1,16 +1,17 @@
 //! The text of a tree.
-ghost use Rattle.std.specs.Prelude.{◌≡◌, ◌<◌, ◌-◌, ◌^◌, ◌++◌, ◌∷◌, [], IfOk, OnOk, flat_map, length, min, slice_get};
-ghost use Rattle.std.specs.Option.{option_copied};
+ghost use Rattle.std.specs.Prelude.{◌≡◌, ◌<◌, ◌-◌, ◌^◌, ◌++◌, ◌∷◌, [], IfOk, OnOk, flat_map, get_or, length, map, min, option_map, slice_get};
+ghost use Rattle.bt_rowtype.specs.declared.value.Value.TheVariants as value;
+ghost use Rattle.bt_messages.specs.declared.message.Message.TheVariants as message;
 ghost use Rattle.bt_node.specs.Trees as trees;
+ghost use Rattle.bt_node.specs.Walks.{children_of, messages_of, rows_of};
 ghost use Rattle.bt_shell.specs.Drawings.{own_text, pivot_text};
 ghost use Rattle.bt_shell.specs.Images as spec;
-ghost use Rattle.bt_shell.specs.Walks.{children_of, messages_of, rows_of};
 
 use crate::reply::write_number;
 use bt_keycode::Key;
 use bt_messages::Message;
 use bt_node::Walk;
-use bt_rowtype::{Row, Text, write_record};
+use bt_rowtype::{Change, Column, Op, Row, Text, Value, copy_value, write_record};
 use std::alloc::{AllocError, Global};
 
 // Adds two spaces for each level.
@@ -23,31 +24,31 @@ fn write_indent(out: &mut Vec<u8>, depth: usize) -> Result<(), AllocError>
     Ok(())
 }
 
-// Adds the record of a row behind a space, where there is a row.
-fn write_row(out: &mut Vec<u8>, row: Option<&Row>) -> Result<(), AllocError>
-    ensures { OnOk result (out.new.items ≡ out.old.items ++ spec.row_text (option_copied row.entry)) }
+// Adds the record of values behind a space, where there are values.
+fn write_values(out: &mut Vec<u8>, values: Option<&[Value]>) -> Result<(), AllocError>
+    ensures { OnOk result (out.new.items ≡ out.old.items ++ spec.values_text (option_map (λ vs. vs.now) values.entry)) }
 {
-    let Some(row) = row else {
+    let Some(values) = values else {
         return Ok(());
     };
     out.push(b' ')?;
-    write_record(out, row.as_slice())
+    write_record(out, values)
 }
 
-/// Adds a line with a mark, a key and the record of a row where there is one.
+/// Adds a line with a mark, a key and the record of values where there are some.
 pub fn write_key_line(
     out: &mut Vec<u8>,
     depth: usize,
     mark: u8,
     key: &Key,
-    row: Option<&Row>,
+    values: Option<&[Value]>,
 ) -> Result<(), AllocError>
-    ensures { OnOk result (out.new.items ≡ out.old.items ++ spec.key_line depth (mark ∷ []) key.now (option_copied row.entry)) }
+    ensures { OnOk result (out.new.items ≡ out.old.items ++ spec.key_line depth (mark ∷ []) key.now (option_map (λ vs. vs.now) values.entry)) }
 {
     write_indent(out, depth)?;
     out.extend_from_slice(&[mark, b' '])?;
     key.write_hex(out)?;
-    write_row(out, row)?;
+    write_values(out, values)?;
     out.push(b'\n')?;
     Ok(())
 }
@@ -61,21 +62,98 @@ pub fn write_row_line(
 ) -> Result<(), AllocError>
     ensures { OnOk result (out.new.items ≡ out.old.items ++ spec.row_line depth (key.now, row.now)) }
 {
-    write_key_line(out, depth, b'=', key, Some(row))
+    write_key_line(out, depth, b'=', key, Some(row.as_slice()))
 }
 
-/// Adds the line of a message that waits.
-pub fn write_message_line(
+// A copy of the name of the column at a place, or the empty text where there is none.
+fn name_at(alloc: Global, columns: &[Column], place: usize) -> Result<Text, AllocError>
+    ensures { IfOk result (λ name. name ≡ get_or (map (λ c. c.name) columns.now) place []) }
+{
+    match columns.get(place) {
+        Some(column) => column.name.copy(alloc),
+        None => Ok(Text::empty()),
+    }
+}
+
+// Adds the values of an operation: its word, the name of its column, its argument.
+fn push_op(
+    alloc: Global,
+    values: &mut Vec<Value>,
+    word: &str,
+    name: Text,
+    argument: Value,
+) -> Result<(), AllocError>
+    ensures { OnOk result (values.new.items ≡ values.old.items ++ (value.Text word.now ∷ value.Text name ∷ argument ∷ [])) }
+{
+    values.push(Value::Text(Text::new(alloc, word)?))?;
+    values.push(Value::Text(name))?;
+    values.push(argument)?;
+    Ok(())
+}
+
+// Adds an operation on one of these columns as values.
+fn add_op(
+    alloc: Global,
+    values: &mut Vec<Value>,
+    columns: &[Column],
+    op: &Op,
+) -> Result<(), AllocError>
+    ensures { OnOk result (values.new.items ≡ values.old.items ++ spec.values_of_op columns.now op.now) }
+{
+    match op {
+        Op::Set(place, new) => {
+            let name = name_at(alloc, columns, *place)?;
+            let argument = copy_value(alloc, new)?;
+            push_op(alloc, values, "set", name, argument)
+        }
+        Op::Add(place, number) => {
+            let name = name_at(alloc, columns, *place)?;
+            push_op(alloc, values, "add", name, Value::Int(*number))
+        }
+    }
+}
+
+// Operations on these columns as values.
+fn values_of_ops(alloc: Global, columns: &[Column], ops: &[Op]) -> Result<Vec<Value>, AllocError>
+    ensures { IfOk result (λ values. values.items ≡ flat_map (spec.values_of_op columns.now) ops.now) }
+{
+    let mut values = Vec::new(alloc);
+    for op in ops {
+        add_op(alloc, &mut values, columns, op)?;
+    }
+    Ok(values)
+}
+
+// Adds the line of an upsert that waits, to a row with these columns.
+fn write_upsert_line(
+    alloc: Global,
     out: &mut Vec<u8>,
+    columns: &[Column],
+    depth: usize,
+    key: &Key,
+    change: &Change,
+) -> Result<(), AllocError>
+    ensures { OnOk result (out.new.items ≡ out.old.items ++ spec.message_line columns.now depth (key.now, message.Ups change.now)) }
+{
+    let values = values_of_ops(alloc, columns, change.ops.as_slice())?;
+    write_key_line(out, depth, b'~', key, Some(values.as_slice()))
+}
+
+/// Adds the line of a message that waits, to a row with these columns.
+pub fn write_message_line(
+    alloc: Global,
+    out: &mut Vec<u8>,
+    columns: &[Column],
     depth: usize,
     key: &Key,
     message: &Message<Row>,
 ) -> Result<(), AllocError>
-    ensures { OnOk result (out.new.items ≡ out.old.items ++ spec.message_line depth (key.now, message.now)) }
+    ensures { OnOk result (out.new.items ≡ out.old.items ++ spec.message_line columns.now depth (key.now, message.now)) }
 {
     match message {
-        Message::Put(row) => write_key_line(out, depth, b'+', key, Some(row)),
+        Message::Put(row) => write_key_line(out, depth, b'+', key, Some(row.as_slice())),
         Message::Del => write_key_line(out, depth, b'-', key, None),
+        Message::Ups(change) => write_upsert_line(alloc, out, columns, depth, key, change),
     }
 }
 
@@ -120,7 +198,7 @@ pub fn write_first_line(out: &mut Vec<u8>, name: &Text, height: u64) -> Result<(
     ensures { OnOk result (out.new.items ≡ out.old.items ++ spec.first_line name.now height) }
 {
     out.extend_from_slice(b"image ")?;
-    out.extend_from_slice(name.as_str().as_bytes())?;
+    out.extend_from_slice(name.as_bytes())?;
     out.extend_from_slice(b" height ")?;
     write_number(out, height)?;
     out.push(b'\n')?;
@@ -139,31 +217,39 @@ fn write_rows(out: &mut Vec<u8>, depth: usize, walk: &Walk<Row>) -> Result<(), A
 }
 
 // Adds the lines of the messages of an inner node.
-fn write_messages(out: &mut Vec<u8>, depth: usize, walk: &Walk<Row>) -> Result<(), AllocError>
-    ensures { OnOk result (out.new.items ≡ out.old.items ++ flat_map (spec.message_line depth) (messages_of walk.now)) }
+fn write_messages(
+    alloc: Global,
+    out: &mut Vec<u8>,
+    columns: &[Column],
+    depth: usize,
+    walk: &Walk<Row>,
+) -> Result<(), AllocError>
+    ensures { OnOk result (out.new.items ≡ out.old.items ++ flat_map (spec.message_line columns.now depth) (messages_of walk.now)) }
 {
     for place in 0..walk.message_count() {
         let (key, message) = walk.message(place);
-        write_message_line(out, depth, key, message)?;
+        write_message_line(alloc, out, columns, depth, key, message)?;
     }
     Ok(())
 }
 
 // Adds the lines of a node that speak of no other one; all but the first at the depth below.
 fn write_own_lines(
+    alloc: Global,
     out: &mut Vec<u8>,
+    columns: &[Column],
     depth: usize,
     below: usize,
     walk: &Walk<Row>,
 ) -> Result<(), AllocError>
-    ensures { OnOk result (out.new.items ≡ out.old.items ++ own_text depth below walk.now) }
+    ensures { OnOk result (out.new.items ≡ out.old.items ++ own_text columns.now depth below walk.now) }
 {
     if walk.is_leaf() {
         write_leaf_line(out, depth, walk.row_count())?;
         write_rows(out, below, walk)
     } else {
         write_inner_line(out, depth, walk.child_count(), walk.message_count())?;
-        write_messages(out, below, walk)
+        write_messages(alloc, out, columns, below, walk)
     }
 }
 
@@ -184,17 +270,23 @@ fn write_pivot(
 }
 
 // Adds the lines of a node and of those below it. A depth past all numbers is want of memory: no tree has it.
-fn write_node(out: &mut Vec<u8>, depth: usize, walk: &Walk<Row>) -> Result<(), AllocError>
-    ensures { OnOk result (out.new.items ≡ out.old.items ++ spec.node_text depth walk.now) }
+fn write_node(
+    alloc: Global,
+    out: &mut Vec<u8>,
+    columns: &[Column],
+    depth: usize,
+    walk: &Walk<Row>,
+) -> Result<(), AllocError>
+    ensures { OnOk result (out.new.items ≡ out.old.items ++ spec.node_text columns.now depth walk.now) }
 {
     let Some(below) = depth.checked_add(1) else {
         return Err(AllocError);
     };
-    write_own_lines(out, depth, below, walk)?;
+    write_own_lines(alloc, out, columns, depth, below, walk)?;
     for place in 0..walk.child_count() {
         write_pivot(out, below, walk, place)?;
         let child = walk.child(place);
-        write_node(out, below, &child)?;
+        write_node(alloc, out, columns, below, &child)?;
     }
     Ok(())
 }
@@ -211,13 +303,18 @@ fn height(walk: &Walk<Row>) -> u64
     highest.saturating_add(1)
 }
 
-/// The image of a tree under its name.
-pub fn image_text(alloc: Global, name: &Text, walk: &Walk<Row>) -> Result<Vec<u8>, AllocError>
-    ensures { IfOk result (λ text. text.items ≡ spec.image_text name.now walk.now) }
+/// The image of a tree of rows with these columns, under its name.
+pub fn image_text(
+    alloc: Global,
+    columns: &[Column],
+    name: &Text,
+    walk: &Walk<Row>,
+) -> Result<Vec<u8>, AllocError>
+    ensures { IfOk result (λ text. text.items ≡ spec.image_text columns.now name.now walk.now) }
 {
     let mut text = Vec::new(alloc);
     write_first_line(&mut text, name, height(walk))?;
-    write_node(&mut text, 0, walk)?;
+    write_node(alloc, &mut text, columns, 0, walk)?;
     text.extend_from_slice(b"end\n")?;
     Ok(text)
 }

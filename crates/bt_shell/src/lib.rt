@@ -21,7 +21,6 @@ mod lines;
 mod parse;
 mod reply;
 mod run;
-mod scan;
 mod session;
 mod streams;
 mod table;

@@ -64,10 +64,12 @@ fn parse_item(alloc: Global, line: &[u8]) -> Result<Option<Item>, AllocError>
 {
     let line = without_spaces(without_return(line));
     if behind_prefix(b"put ", line).is_some() {
-        Ok(record_behind(alloc, b"put ", line)?.map(Item::Put))
-    } else {
-        Ok(record_behind(alloc, b"del ", line)?.map(Item::Del))
+        return Ok(record_behind(alloc, b"put ", line)?.map(Item::Put));
     }
+    if behind_prefix(b"del ", line).is_some() {
+        return Ok(record_behind(alloc, b"del ", line)?.map(Item::Del));
+    }
+    Ok(record_behind(alloc, b"ups ", line)?.map(Item::Ups))
 }
 
 // The messages of some lines, and that of one more.
@@ -158,10 +160,15 @@ fn parse_kind(word: &[u8]) -> Option<Kind>
     ensures { result ≡ spec.kind_of word.now }
 {
     if is_word(word, b"int") {
-        Some(Kind::Int)
-    } else {
-        None
+        return Some(Kind::Int);
     }
+    if is_word(word, b"text") {
+        return Some(Kind::Text);
+    }
+    if is_word(word, b"flag") {
+        return Some(Kind::Flag);
+    }
+    None
 }
 
 // A column: its name, a colon and its kind.
@@ -195,18 +202,6 @@ fn parse_columns(alloc: Global, words: &[&[u8]]) -> Result<Option<Columns>, Allo
     Ok(Some(columns))
 }
 
-// How many columns are the key; keys of 2 to 4 columns are still to come.
-fn parse_key_count(word: &[u8]) -> Option<u32>
-    ensures { result ≡ spec.key_count_of word.now }
-{
-    let count = parse_number(word)?;
-    if 2 <= count && count <= 4 {
-        None
-    } else {
-        Some(count)
-    }
-}
-
 #[tactic(auto, unfolding(crate::specs::Commands::table_of))]
 fn table_command(alloc: Global, words: &[&[u8]]) -> Result<Option<Command>, AllocError>
     ensures { IfOk result (λ command. command ≡ spec.table_of (map (λ w. w.now) words.now)) }
@@ -223,7 +218,7 @@ fn table_command(alloc: Global, words: &[&[u8]]) -> Result<Option<Command>, Allo
     let Some(leaf) = parse_number(word_at(words, 3)) else {
         return Ok(None);
     };
-    let Some(keys) = parse_key_count(word_at(words, 4)) else {
+    let Some(keys) = parse_number(word_at(words, 4)) else {
         return Ok(None);
     };
     let Some(columns) = parse_columns(alloc, &words[5..])? else {

@@ -63,7 +63,7 @@ fn scan_text(alloc: Global, table: &Table) -> Result<Vec<u8>, AllocError>
 fn is_primary(tree: &Text) -> bool
     ensures { result ≡ is_word tree.now (codes "primary") }
 {
-    tree.as_str() == "primary"
+    tree.as_bytes() == b"primary".as_slice()
 }
 
 // The table whose tree is named: the primary one is the only one.
@@ -107,7 +107,9 @@ fn image(alloc: Global, table: &Option<Table>, tree: &Text) -> Result<Vec<u8>, R
     ensures text { IfOk result (λ text. text.items ≡ step.reply_to table.now (command.Image tree.now)) }
     ensures refused { IfErr result (λ e. e ≢ Refusal.OutOfMemory → least (step.refusals_of table.now (command.Image tree.now)) ≡ Some e) }
 {
-    Ok(image_text(alloc, tree, &table_with(table, tree)?.walk())?)
+    let found = table_with(table, tree)?;
+    let columns = found.schema().columns();
+    Ok(image_text(alloc, columns, tree, &found.walk())?)
 }
 
 // The reply to a command that is not refused, or its refusal.

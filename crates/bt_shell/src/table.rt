@@ -6,7 +6,6 @@ ghost use Rattle.bt_node.specs.Fits.{IsRoomy};
 ghost use Rattle.bt_node.specs.Keys.{key_cmp};
 ghost use Rattle.bt_shell.specs.Tables.{after_batch, empty_table};
 
-use crate::scan::held_rows;
 use bt_keycode::{Key, encode};
 use bt_messages::{Message, Packet};
 use bt_node::{Shape, Tree, Walk};
@@ -23,18 +22,17 @@ pub struct Table {
 }
 
 impl Model for Table {
-    ghost use Rattle.bt_messages.specs.Effects.{effect_of};
     ghost use Rattle.bt_node.specs.Fits.{IsFit, IsRoomy};
     ghost use Rattle.bt_node.specs.Flushes.{holds};
-    ghost use Rattle.bt_shell.specs.Tables.{TableState};
+    ghost use Rattle.bt_shell.specs.Tables.{TableState, row_effect};
     ghost use Rattle.std.specs.Coded.{codes};
-    ghost use Rattle.bt_node.specs.Stored.{tree_code};
+    ghost use Rattle.bt_node.specs.Stored.{message_code, tree_code};
 
     ghost Value = { TableState };
 
-    ghost coded = { Prim.hlevel (codes, tree_code) };
+    ghost coded = { Prim.hlevel (codes, tree_code, message_code) };
 
-    ghost view = { λ a. record { layout = a.schema; shape = a.tree.0; rows = holds effect_of a.tree.1; tree = a.tree.1 } };
+    ghost view = { λ a. record { layout = a.schema; shape = a.tree.0; rows = holds row_effect a.tree.1; tree = a.tree.1 } };
 
     ghost invariant = { λ a. IsRoomy a.tree.0 × IsFit a.tree.0 a.tree.1 };
 }
@@ -84,7 +82,7 @@ impl Table {
     pub fn rows(&self, alloc: Global) -> Result<Vec<(Key, Row)>, AllocError>
         ensures { IfOk result (λ rows. rows.items ≡ self.now.rows) }
     {
-        held_rows(alloc, &self.tree.walk())
+        self.tree.rows(alloc)
     }
 
     /// The nodes of the tree.

@@ -1,12 +1,14 @@
 //! Streams that fail, command lines, and the public calls once each.
 ghost use Rattle.std.specs.Prelude.{Some};
 
+use crate::command::{Command, Item, Parsed};
 use crate::counted::Counted;
 use crate::entry::program;
+use crate::parse::parse_command;
 use crate::run::run_script;
 use crate::streams::RunFault;
 use crate::words::{WordsError, read_words};
-use bt_rowtype::Texts;
+use bt_rowtype::{Column, Kind, Texts};
 use std::alloc::{AllocError, Global};
 use std::io;
 use std::io::{ErrorKind, Read, Write};
@@ -130,6 +132,27 @@ fn failing_streams(rt: HostRuntime) {
     assert!(rt; !reader_failed && writer_failed);
 }
 
+// Scripts with every kind of column, a key of two columns and upserts, each with the replies to it.
+const SCRIPTS: [(&[u8], &[u8]); 2] = [
+    (
+        b"table 4 3 2 2 f:flag t:text n:int\nbatch\nput TRUE,,1\nput false,b,2\nput false,,3\nend\nscan primary\ngo\nbatch\nups true,x,add,n,4\nend\nget true,x\n",
+        b"table 3\nbatch 3\nrow false,,3\nrow false,b,2\nrow true,,1\nrows 3\nbatch 1\nrow true,x,4\n",
+    ),
+    (
+        b"table 4 3 2 1 id:int qty:int\nbatch\nput 1,10\nput 2,20\nput 3,30\nput 4,40\nend\nbatch\nups 1,add,qty,5\nups 1,add,qty,5\nput 4,0\nend\nimage primary\nget 1\n",
+        b"table 2\nbatch 4\nbatch 3\nimage primary height 2\ninner 2 3\n  ~ 8000000000000001 add,qty,5\n  ~ 8000000000000001 add,qty,5\n  + 8000000000000004 4,0\n  leaf 2\n    = 8000000000000001 1,10\n    = 8000000000000002 2,20\n  | 8000000000000003\n  leaf 2\n    = 8000000000000003 3,30\n    = 8000000000000004 4,40\nend\nrow 1,20\n",
+    ),
+];
+
+#[test]
+fn kinds_and_upserts(rt: HostRuntime) {
+    for (script, replies) in SCRIPTS {
+        let (result, text, _, _) = run_over(rt.alloc(), script, 1000, 1000);
+        assert!(rt; result.is_ok());
+        assert_eq!(rt; text.as_slice(), replies);
+    }
+}
+
 #[test]
 fn command_lines(rt: HostRuntime) -> Result<(), Fail> {
     let alloc = rt.alloc();
@@ -204,5 +227,33 @@ fn statuses(rt: HostRuntime) -> Result<(), Fail> {
     let (status, errors) = run_program(&rt, &["--help"], 0, 5)?;
     assert_eq!(rt; status, 1);
     assert_eq!(rt; errors.as_slice(), b"betable: write failed\n".as_slice());
+    Ok(())
+}
+
+#[test]
+fn messages_of_a_block(rt: HostRuntime) -> Result<(), Fail> {
+    let script = b"batch\nput 1,10\ndel 1\nups 1,add,qty,5\nend\n";
+    let parsed = parse_command(rt.alloc(), script, 0)?;
+    assert!(rt;
+        matches!(
+            &parsed,
+            Parsed::Good { command: Command::Batch(items), .. }
+                if matches!(items.as_slice(), [Item::Put(_), Item::Del(_), Item::Ups(fields)] if fields.len() == 4)
+        )
+    );
+    Ok(())
+}
+
+#[test]
+fn columns_of_a_table(rt: HostRuntime) -> Result<(), Fail> {
+    let script = b"table 4 3 2 2 id:int name:text ok:flag\n";
+    let parsed = parse_command(rt.alloc(), script, 0)?;
+    assert!(rt;
+        matches!(
+            &parsed,
+            Parsed::Good { command: Command::Table(form), .. }
+                if form.keys == 2 && matches!(form.columns.as_slice(), [Column { kind: Kind::Int, .. }, Column { kind: Kind::Text, .. }, Column { kind: Kind::Flag, .. }])
+        )
+    );
     Ok(())
 }

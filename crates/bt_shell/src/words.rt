@@ -1,9 +1,9 @@
 //! The words of the command line.
-ghost use Rattle.std.specs.Prelude.{◌≡◌, [], IfOk, IfErr, OnOk, codes, map, string_bytes};
+ghost use Rattle.std.specs.Prelude.{◌≡◌, [], IfOk, IfErr, OnOk, codes, map, option_map, string_bytes};
 ghost use Rattle.clap.specs.Words.{FailsBy, app_of, first_of, first_value, found_of, kind_of, rows_of};
 ghost use Rattle.bt_shell.specs.Options.{ComesOf, HasFault, betable, kinds_of_words, rows_of_words};
 
-use bt_rowtype::{Text, Texts};
+use bt_rowtype::Texts;
 use clap::error::ErrorKind;
 use clap::{Arg, ArgAction, ArgMatches, Command, Error};
 use std::alloc::{AllocError, Global};
@@ -12,7 +12,7 @@ use std::alloc::{AllocError, Global};
 #[derive(Debug, Drop)]
 pub struct Words {
     /// The file of the script, where one is named. Otherwise the script is the standard input.
-    pub script: Option<Text>,
+    pub script: Option<String>,
 }
 
 /// Why the words say nothing to run.
@@ -50,11 +50,15 @@ fn parse<'a>(alloc: Global, words: &'a [String]) -> Result<ArgMatches<'a>, Error
 }
 
 // The text of an option, where it is given.
-fn text_of(alloc: Global, matches: &ArgMatches<'_>, name: &str) -> Result<Option<Text>, AllocError>
-    ensures { IfOk result (λ text. text ≡ first_value (found_of matches.now) name.now) }
+fn text_of(
+    alloc: Global,
+    matches: &ArgMatches<'_>,
+    name: &str,
+) -> Result<Option<String>, AllocError>
+    ensures { IfOk result (λ text. option_map string_bytes text ≡ first_value (found_of matches.now) name.now) }
 {
     match matches.get_str(name) {
-        Some(text) => Ok(Some(Text::new(alloc, text)?)),
+        Some(text) => Ok(Some(String::from_str(alloc, text)?)),
         None => Ok(None),
     }
 }
@@ -75,7 +79,7 @@ fn fault_of(alloc: Global, error: &Error) -> WordsError
 
 /// What the words of the command line say, the program's name first.
 pub fn read_words(alloc: Global, words: &Texts) -> Result<Words, WordsError>
-    ensures script { IfOk result (λ said. said.script ≡ first_of (codes "script") (rows_of_words words.now)) }
+    ensures script { IfOk result (λ said. option_map string_bytes said.script ≡ first_of (codes "script") (rows_of_words words.now)) }
     ensures ok { OnOk result (kinds_of_words words.now ≡ []) }
     ensures err { IfErr result (λ error. HasFault words.now error) }
 {

@@ -1,4 +1,5 @@
 use Rattle.std.proofs.Common.{◌≡◌, ◌≤◌, ◌+◌, ◌*◌, ◌++◌}
+use Rattle.bt_messages.specs.Effects.{effect_of}
 use Rattle.std.specs.Vec.Iter.{into_iter_items}
 use Rattle.bt_node.specs.Shares.{with_shares}
 use Rattle.bt_node.specs.Trees.{height}
@@ -9,8 +10,8 @@ use Rattle.bt_node.proofs.absorb.+flushes.Given as goal
 -- the children so far, and then what the pass makes of those that are left
 abbrev pub invariant-flush-loop-pivot : goal.invariant-flush-loop-pivot
 invariant-flush-loop-pivot g l = record {
-  parts : children_of l.parts.items ++ pass l.shape (with_shares l.pivot-iterator.rest.items (into_iter_items l.shares))
-      ≡ pass l.shape (with_shares l.initial.pivot-iterator.rest.items (into_iter_items l.initial.shares));
+  parts : children_of l.parts.items ++ pass (effect_of g.V.Merge.merged) l.shape (with_shares l.pivot-iterator.rest.items (into_iter_items l.shares))
+      ≡ pass (effect_of g.V.Merge.merged) l.shape (with_shares l.initial.pivot-iterator.rest.items (into_iter_items l.initial.shares));
   no_higher : highest l.pivot-iterator.rest.items ≤ highest l.fn.children.items;
 }
 

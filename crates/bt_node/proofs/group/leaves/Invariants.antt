@@ -6,5 +6,5 @@ use Rattle.bt_node.proofs.group.leaves.Given as goal
 
 abbrev pub invariant-loop-part : goal.invariant-loop-part
 invariant-loop-part g l =
-    siblings_of l.nodes.items ++ map (as_leaf (Message g.row.V.Denot)) l.part-iterator.rest.items
-    ≡ siblings_of l.initial.nodes.items ++ map (as_leaf (Message g.row.V.Denot)) l.initial.part-iterator.rest.items
+    siblings_of l.nodes.items ++ map (as_leaf (Message g.row.V.Denot g.row.V-Delta.Denot)) l.part-iterator.rest.items
+    ≡ siblings_of l.initial.nodes.items ++ map (as_leaf (Message g.row.V.Denot g.row.V-Delta.Denot)) l.initial.part-iterator.rest.items

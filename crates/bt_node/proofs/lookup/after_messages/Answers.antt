@@ -13,27 +13,27 @@ loop-place-init g c =
     let from = c.first_from-place.ensures.from in
     let sorted = c.first_from-place.ensures.sorted in
     record {
-      value = sym (ap (λ ms. value_after effect_of k ms c.args.old) from ∙ value_after-from k c.args.buffer.now c.args.old);
-      from = subst (AllFrom k) (sym from) (all_from k c.args.buffer.now);
-      rising = rising-drop c.first_from-place.result c.args.buffer.now (sorted-rising c.args.buffer.now sorted);
+      value = sym (ap (λ ms. value_after (effect_of g.V.Merge.merged) k ms c.args.old) from ∙ value_after-from (effect_of g.V.Merge.merged) k c.args.buffer.now c.args.old);
+      from = subst (AllFrom k) (sym from) (all_from (effect_of g.V.Merge.merged) k c.args.buffer.now);
+      rising = rising-drop (effect_of g.V.Merge.merged) c.first_from-place.result c.args.buffer.now (sorted-rising c.args.buffer.now sorted);
     }
 
 pub returns-then-ne : goal.returns-then-ne
 returns-then-ne g c =
     let so_far = c.loop-place.invariant in
     let compared : c.compare.result ≡ key_cmp c.get.result.0.now c.args.key.now = search rules in
-    none_left c.args.key.now c.args.buffer.now c.loop-place.place _ _ c.get.ensures c.compare.result compared c.if-ne.ensures c.loop-place.value so_far.from so_far.rising
+    none_left (effect_of g.V.Merge.merged) c.args.key.now c.args.buffer.now c.loop-place.place _ _ c.get.ensures c.compare.result compared c.if-ne.ensures c.loop-place.value so_far.from so_far.rising
     ∙ sym so_far.value
 
 pub loop-place-preserved : goal.loop-place-preserved
 loop-place-preserved g c =
     let so_far = c.loop-place.invariant in
     let compared : c.compare.result ≡ key_cmp c.get.result.0.now c.args.key.now = search rules in
-    let changed : c.effect-value.result ≡ effect_of c.loop-place.value c.get.result.1.now = search rules in
+    let changed : c.in_ok-value.value ≡ (effect_of g.V.Merge.merged) c.loop-place.value c.get.result.1.now = search rules in
     let buffer = c.args.buffer.now in
     let place = c.loop-place.place in
     record {
-      value = so_far.value ∙ one_more c.args.key.now buffer place _ _ c.get.ensures c.compare.result compared c.if-ne.ensures c.loop-place.value c.effect-value.result changed;
-      from = rest_from c.args.key.now buffer place _ _ c.get.ensures c.compare.result compared so_far.from;
-      rising = rest_rising c.args.key.now buffer place _ _ c.get.ensures c.compare.result compared so_far.rising;
+      value = so_far.value ∙ one_more (effect_of g.V.Merge.merged) c.args.key.now buffer place _ _ c.get.ensures c.compare.result compared c.if-ne.ensures c.loop-place.value c.in_ok-value.value changed;
+      from = rest_from (effect_of g.V.Merge.merged) c.args.key.now buffer place _ _ c.get.ensures c.compare.result compared so_far.from;
+      rising = rest_rising (effect_of g.V.Merge.merged) c.args.key.now buffer place _ _ c.get.ensures c.compare.result compared so_far.rising;
     }

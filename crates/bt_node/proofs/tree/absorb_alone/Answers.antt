@@ -8,15 +8,15 @@ use Rattle.bt_node.proofs.tree.absorb_alone.Goals as goal
 
 pub returns-clause-fits : goal.returns-clause-fits
 returns-clause-fits g c =
-    let is = c.in_ok-nodes.ensures ∙ ap (λ t. absorb effect_of c.args.shape t c.args.packet) c.node.view_is in
-    λ levels low high roomy fits within. subst (SiblingsFit c.args.shape levels low high) (sym is) (absorb_fits effect_of c.args.shape levels low high c.args.node c.args.packet roomy fits within)
+    let is = c.in_ok-nodes.ensures ∙ ap (λ t. absorb (effect_of g.V.Merge.merged) c.args.shape t c.args.packet) c.node.view_is in
+    λ levels low high roomy fits within. subst (SiblingsFit c.args.shape levels low high) (sym is) (absorb_fits (effect_of g.V.Merge.merged) c.args.shape levels low high c.args.node c.args.packet roomy fits within)
 
 pub returns-clause-height : goal.returns-clause-height
 returns-clause-height g c =
-    let is = c.in_ok-nodes.ensures ∙ ap (λ t. absorb effect_of c.args.shape t c.args.packet) c.node.view_is in
-    λ levels low high roomy fits within. subst (AreHigh (height c.args.node)) (sym is) (absorb_keeps_height effect_of c.args.shape levels low high c.args.node c.args.packet roomy fits within)
+    let is = c.in_ok-nodes.ensures ∙ ap (λ t. absorb (effect_of g.V.Merge.merged) c.args.shape t c.args.packet) c.node.view_is in
+    λ levels low high roomy fits within. subst (AreHigh (height c.args.node)) (sym is) (absorb_keeps_height (effect_of g.V.Merge.merged) c.args.shape levels low high c.args.node c.args.packet roomy fits within)
 
 pub returns-clause-rows : goal.returns-clause-rows
 returns-clause-rows g c =
-    let is = c.in_ok-nodes.ensures ∙ ap (λ t. absorb effect_of c.args.shape t c.args.packet) c.node.view_is in
-    λ levels low high roomy fits within. ap (all_hold effect_of) is ∙ absorb_loses_nothing effect_of c.args.shape levels low high c.args.node c.args.packet roomy fits within
+    let is = c.in_ok-nodes.ensures ∙ ap (λ t. absorb (effect_of g.V.Merge.merged) c.args.shape t c.args.packet) c.node.view_is in
+    λ levels low high roomy fits within. ap (all_hold (effect_of g.V.Merge.merged)) is ∙ absorb_loses_nothing (effect_of g.V.Merge.merged) c.args.shape levels low high c.args.node c.args.packet roomy fits within

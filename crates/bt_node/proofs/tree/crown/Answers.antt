@@ -10,5 +10,5 @@ use Rattle.bt_node.proofs.tree.crown.Goals as goal
 pub returns-clause-rows : goal.returns-clause-rows
 returns-clause-rows g c =
     let roomy : IsRoomy c.args.shape = search (has_room, rules) in
-    ap (holds effect_of) (c.in_ok-root.ensures ∙ ap (crown c.args.shape) c.siblings.view_is)
-    ∙ crown_loses_nothing effect_of c.args.shape c.requires.0 None None c.args.siblings roomy c.requires.1
+    ap (holds (effect_of g.V.Merge.merged)) (c.in_ok-root.ensures ∙ ap (crown c.args.shape) c.siblings.view_is)
+    ∙ crown_loses_nothing (effect_of g.V.Merge.merged) c.args.shape c.requires.0 None None c.args.siblings roomy c.requires.1

@@ -16,7 +16,7 @@ pub loop-place-preserved : goal.loop-place-preserved
 loop-place-preserved c =
     let wrote = row_body default_writer (take c.loop-place.place (map text_of c.args.values.now)) in
     next_field c.args.out.now.items c.loop-place.out.items c.write_at.new.out.items wrote _ c.loop-place.invariant c.in_ok-write_at.ensures.ok
-    ∙ ap (λ (t : List ℕ). c.args.out.now.items ++ t) (sym (one_more c.args.values.now c.loop-place.place _ c.loop-place-test.true))
+    ∙ ap (λ (t : List ℕ). c.args.out.now.items ++ t) (sym (one_more c.args.values.now c.loop-place.place c.index-values-place.result c.loop-place-test.true c.index-values-place.is))
 
 pub returns-in_err-write_at-clause-err : goal.returns-in_err-write_at-clause-err
 returns-in_err-write_at-clause-err c =

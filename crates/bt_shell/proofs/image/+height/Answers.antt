@@ -1,5 +1,5 @@
 use Rattle.std.proofs.Common.{arith, ◌-◌, ◌^◌}
-use Rattle.bt_shell.specs.Walks.{children_of}
+use Rattle.bt_node.specs.Walks.{children_of}
 use Rattle.bt_shell.proofs.Drawings.{child_below, highest_last, highest_next}
 use Rattle.bt_shell.proofs.image.+height.Goals as goal
 

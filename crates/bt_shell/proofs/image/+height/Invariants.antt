@@ -1,7 +1,7 @@
 use Rattle.std.proofs.Common.{◌≡◌, ◌-◌, ◌^◌, min, take}
 use Rattle.bt_node.specs.Trees as trees
+use Rattle.bt_node.specs.Walks.{children_of}
 use Rattle.bt_shell.specs.Drawings.{highest}
-use Rattle.bt_shell.specs.Walks.{children_of}
 use Rattle.bt_shell.proofs.image.+height.Given as goal
 
 -- the highest of the children so far

@@ -1,12 +1,12 @@
 use Rattle.std.proofs.Common.{◌≡◌, ◌++◌, take}
 use Rattle.bt_node.specs.Trees as trees
+use Rattle.bt_node.specs.Walks.{children_of}
 use Rattle.bt_shell.specs.Drawings.{own_text, siblings_text}
-use Rattle.bt_shell.specs.Walks.{children_of}
 use Rattle.bt_shell.proofs.image.+write_node.Given as goal
 
 -- the node's own lines and those of the children so far were added
 abbrev pub invariant-loop-place : goal.invariant-loop-place
-invariant-loop-place l = l.out.items ≡ l.fn.out.items ++ (own_text l.depth l.below l.walk ++ siblings_text l.below 0 (take l.place (children_of l.walk)))
+invariant-loop-place l = l.out.items ≡ l.fn.out.items ++ (own_text l.columns l.depth l.below l.walk ++ siblings_text l.columns l.below 0 (take l.place (children_of l.walk)))
 
 abbrev pub decreases-write_node : goal.decreases-write_node
 decreases-write_node l = trees.height l.walk.now

@@ -1,7 +1,7 @@
 use Rattle.std.proofs.Common.{◌≡◌, ◌++◌, take}
 use Rattle.std.specs.Prelude.{flat_map}
+use Rattle.bt_node.specs.Walks.{rows_of}
 use Rattle.bt_shell.specs.Images.{row_line}
-use Rattle.bt_shell.specs.Walks.{rows_of}
 use Rattle.bt_shell.proofs.image.write_rows.Given as goal
 
 -- the lines of the rows so far were added

@@ -1,5 +1,7 @@
-use Rattle.bt_keycode.proofs.Kept.{is_kept, none_kept}
+use Rattle.std.proofs.Common.{◌∙◌, ap, sym}
+use Rattle.bt_keycode.specs.Keys.{first_eight}
+use Rattle.bt_keycode.proofs.Heads.{none_first}
 use Rattle.bt_keycode.proofs.key.Key.new.Goals as goal
 
 pub invariant_of-result : goal.invariant_of-result
-invariant_of-result c = is_kept 0 0 c.new.result.items _ (none_kept c.new.result.items c.new.ensures.items)
+invariant_of-result c = none_first ∙ ap first_eight (sym c.new.ensures)

@@ -8,7 +8,7 @@ use Rattle.bt_node.proofs.rows.Rows.after.Given as goal
 
 abbrev pub invariant-loop-key : goal.invariant-loop-key
 invariant-loop-key g l = record {
-  wanted : l.changed.items ++ rows_after effect_of l.key-iterator.rest.items l.older.items ≡ rows_after effect_of l.fn.packet l.fn.self;
+  wanted : l.changed.items ++ rows_after (effect_of g.V.Merge.merged) l.key-iterator.rest.items l.older.items ≡ rows_after (effect_of g.V.Merge.merged) l.fn.packet l.fn.self;
   messages : IsSorted l.key-iterator.rest.items;
   rows : is_sorted key_cmp l.older.items ≡ true;
   room : vec_len l.changed + length l.older.items + length l.key-iterator.rest.items ≤ vec_capacity l.changed;
@@ -16,6 +16,6 @@ invariant-loop-key g l = record {
 
 abbrev pub invariant-loop-row : goal.invariant-loop-row
 invariant-loop-row g l = record {
-  wanted : l.changed.items ++ l.row-iterator.rest.items ≡ rows_after effect_of l.fn.packet l.fn.self;
+  wanted : l.changed.items ++ l.row-iterator.rest.items ≡ rows_after (effect_of g.V.Merge.merged) l.fn.packet l.fn.self;
   room : vec_len l.changed + length l.row-iterator.rest.items ≤ vec_capacity l.changed;
 }

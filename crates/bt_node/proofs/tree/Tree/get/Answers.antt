@@ -11,5 +11,5 @@ use Rattle.bt_node.proofs.tree.Tree.get.Goals as goal
 pub returns : goal.returns
 returns g c =
     let root = tree_of c.self.inside.root in
-    if_ok _ _ c.value_at.result (λ value e. e ∙ found_held c.self.inside.shape root c.self.invariant c.args.key.now
-    ∙ ap (λ t. find key_cmp c.args.key.now (holds effect_of t.1)) c.self.view_is) c.value_at.ensures
+    if_ok _ _ c.value_at.result (λ value e. e ∙ found_held c.self.inside.shape (effect_of g.V.Merge.merged) root c.self.invariant c.args.key.now
+    ∙ ap (λ t. find key_cmp c.args.key.now (holds (effect_of g.V.Merge.merged) t.1)) c.self.view_is) c.value_at.ensures

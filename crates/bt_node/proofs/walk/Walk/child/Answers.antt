@@ -22,6 +22,6 @@ returns g c =
     let xs = c.in-Inner.children.items in
     let seen = children_seen c.args.self.now c.self.inside.node.now c.in-Inner.children c.in-Inner.buffer c.self.view_is c.in-Inner.is in
     let place = slice_get_read xs (length xs) c.args.place c.index-child.result.now (omega arith) (omega (arith, c.requires, ap length seen, length-siblings xs)) c.index-child.ensures in
-    ap (λ ys. option_map (λ (y : Key × Tree g.row.V.Denot (Message g.row.V.Denot)). y.1) (slice_get ys c.args.place)) seen
-    ∙ ap (option_map (λ (y : Key × Tree g.row.V.Denot (Message g.row.V.Denot)). y.1)) (slice_get-map (λ x. (x.0, tree_of x.1)) xs c.args.place)
-    ∙ ap (λ o. option_map (λ (y : Key × Tree g.row.V.Denot (Message g.row.V.Denot)). y.1) (option_map (λ x. (x.0, tree_of x.1)) o)) place ∙ ap Some (sym c.new.ensures)
+    ap (λ ys. option_map (λ (y : Key × Tree g.row.V.Denot (Message g.row.V.Denot g.row.V-Delta.Denot)). y.1) (slice_get ys c.args.place)) seen
+    ∙ ap (option_map (λ (y : Key × Tree g.row.V.Denot (Message g.row.V.Denot g.row.V-Delta.Denot)). y.1)) (slice_get-map (λ x. (x.0, tree_of x.1)) xs c.args.place)
+    ∙ ap (λ o. option_map (λ (y : Key × Tree g.row.V.Denot (Message g.row.V.Denot g.row.V-Delta.Denot)). y.1) (option_map (λ x. (x.0, tree_of x.1)) o)) place ∙ ap Some (sym c.new.ensures)

@@ -1,0 +1,199 @@
+-- One code stands for one list of values of given kinds.
+use Rattle.std.proofs.Common.{◌≡◌, ℕ, List, [], ◌∷◌, ◌++◌, map, take, drop, length, ◌-◌, ◌<◌, ◌≤◌, append_assoc, append-nil, get_or, ◌+◌, refl, sym, ap, subst, ◌∙◌, Bool, true, false, Some, None, Result, Err, ℤ, SFits, w64, to_z, of_z, arith}
+use Rattle.bt_rowtype.specs.declared.value.Kind.{Kind}
+use Rattle.bt_rowtype.specs.declared.value.Kind.TheVariants as kind
+use Rattle.bt_rowtype.specs.declared.value.Value.{Value}
+use Rattle.bt_rowtype.specs.declared.value.Value.TheVariants as value
+use Rattle.bt_keycode.specs.Codes.{AreInRange, IsCodeOf, code_of, code_of_value, escaped, kind_of, raised}
+use Rattle.bt_keycode.specs.Keys.{eight_bytes, first_eight}
+use Rattle.bt_rowtype.specs.Values.{is_text}
+use Rattle.std.proofs.lemmas.Int.{to_z-of_z}
+use Rattle.std.proofs.lemmas.List.{map-append, take-append-drop, take_more}
+use Rattle.bt_keycode.specs.Decoding.{BeginsWith, BeginsWithAll, unescaped}
+use Rattle.bt_keycode.proofs.DecodingInts.{eight_and_others, eight_long, same_int}
+use Rattle.bt_keycode.proofs.DecodingTexts.{both_read, read_again, spelled, split_end}
+
+same_text : (s t q r : List ℕ) → (escaped s ++ (0 ∷ 1 ∷ [])) ++ q ≡ (escaped t ++ (0 ∷ 1 ∷ [])) ++ r → (s ≡ t) × (q ≡ r)
+same_text s t q r e = both_read s q t r (sym (read_again s q) ∙ ap unescaped (sym (split_end s q) ∙ e ∙ split_end t r) ∙ read_again t r)
+
+same_flag : (a b : Bool) (q r : List ℕ) → code_of_value (value.Flag a) ++ q ≡ code_of_value (value.Flag b) ++ r → (a ≡ b) × (q ≡ r)
+same_flag true true q r e = (refl, (cc))
+same_flag true false q r e = cc
+same_flag false true q r e = cc
+same_flag false false q r e = (refl, (cc))
+
+-- two values of one kind, and what comes after their codes
+same_value : (v w : Value) (q r : List ℕ) → kind_of v ≡ kind_of w → AreInRange (v ∷ []) → AreInRange (w ∷ []) →
+    code_of_value v ++ q ≡ code_of_value w ++ r → (v ≡ w) × (q ≡ r)
+same_value (value.Int a) (value.Int b) q r k f g e = let both = same_int a b q r f.0 g.0 e in (ap value.Int both.0, both.1)
+same_value (value.Text s) (value.Text t) q r k f g e = let both = same_text s t q r e in (ap value.Text both.0, both.1)
+same_value (value.Flag a) (value.Flag b) q r k f g e = let both = same_flag a b q r e in (ap value.Flag both.0, both.1)
+same_value (value.Int a) (value.Text t) q r k f g e = cc
+same_value (value.Int a) (value.Flag b) q r k f g e = cc
+same_value (value.Text s) (value.Int b) q r k f g e = cc
+same_value (value.Text s) (value.Flag b) q r k f g e = cc
+same_value (value.Flag a) (value.Int b) q r k f g e = cc
+same_value (value.Flag a) (value.Text t) q r k f g e = cc
+
+first_in_range : (v : Value) (vs : List Value) → AreInRange (v ∷ vs) → AreInRange (v ∷ [])
+first_in_range (value.Int n) vs f = (f.0, tt)
+first_in_range (value.Text bytes) vs f = (f.0, tt)
+first_in_range (value.Flag flag) vs f = tt
+
+others_in_range : (v : Value) (vs : List Value) → AreInRange (v ∷ vs) → AreInRange vs
+others_in_range (value.Int n) vs f = f.1
+others_in_range (value.Text bytes) vs f = f.1
+others_in_range (value.Flag flag) vs f = f
+
+first_of_both : {A : Type 0} {x y : A} {xs ys : List A} → x ∷ xs ≡ y ∷ ys → (x ≡ y) × (xs ≡ ys)
+first_of_both e = ((cc), (cc))
+
+-- bytes that begin with the codes of values and of one more go on with the code of a value of its kind
+next_value : (values others : List Value) (kind : Kind) (kinds : List Kind) (rest more : List ℕ) →
+    AreInRange values → AreInRange others → map kind_of others ≡ map kind_of values ++ (kind ∷ kinds) →
+    code_of values ++ rest ≡ code_of others ++ more → (v : Value) × (r : List ℕ) × BeginsWith kind rest v r
+next_value [] [] kind kinds rest more f g k e = cc
+next_value [] (w ∷ others) kind kinds rest more f g k e = (
+  w,
+  code_of others ++ more,
+  record {
+    of_kind = (first_of_both k).0;
+    in_range = first_in_range w others g;
+    code = sym (append_assoc (code_of_value w) (code_of others) more) ∙ sym e;
+  },
+)
+next_value (v ∷ values) [] kind kinds rest more f g k e = cc
+next_value (v ∷ values) (w ∷ others) kind kinds rest more f g k e =
+    let both = first_of_both k in
+    let same = same_value v w (code_of values ++ rest) (code_of others ++ more) (sym both.0) (first_in_range v values f) (first_in_range w others g)
+    (sym (append_assoc (code_of_value v) (code_of values) rest) ∙ e ∙ append_assoc (code_of_value w) (code_of others) more) in
+    next_value values others kind kinds rest more (others_in_range v values f) (others_in_range w others g) both.1 same.1
+
+-- two lists of values of the same kinds, and what comes after their codes
+same_values : (values others : List Value) (rest more : List ℕ) → AreInRange values → AreInRange others → map kind_of values ≡ map kind_of others →
+    code_of values ++ rest ≡ code_of others ++ more → (values ≡ others) × (rest ≡ more)
+same_values [] [] rest more f g k e = (refl, e)
+same_values [] (w ∷ others) rest more f g k e = cc
+same_values (v ∷ values) [] rest more f g k e = cc
+same_values (v ∷ values) (w ∷ others) rest more f g k e =
+    let both = first_of_both k in
+    let same = same_value v w (code_of values ++ rest) (code_of others ++ more) both.0 (first_in_range v values f) (first_in_range w others g)
+    (sym (append_assoc (code_of_value v) (code_of values) rest) ∙ e ∙ append_assoc (code_of_value w) (code_of others) more) in
+    let tail = same_values values others rest more (others_in_range v values f) (others_in_range w others g) both.1 same.1 in
+    (cc, tail.1)
+
+-- an error that is passed on
+pub passed_on : {T U E : Type 0} (d e : E) → ◌≡◌ {A = Result T E} (Err d) (Err e) → ◌≡◌ {A = Result U E} (Err d) (Err e)
+passed_on d e same = let f : d ≡ e = cc in ap Err f
+
+-- ---- ints
+
+-- fewer than eight bytes begin with no int
+pub no_int : (bytes : List ℕ) (other : Value) (rest : List ℕ) → length bytes < 8 → BeginsWith kind.Int bytes other rest → ⊥
+no_int bytes (value.Int n) rest short b =
+    let long = eight_long (raised n) rest in
+    let same : length (eight_bytes (raised n) ++ rest) ≡ length bytes = ap length b.code in
+    omega arith
+no_int bytes (value.Text text) rest short b = let k = b.of_kind in cc
+no_int bytes (value.Flag flag) rest short b = let k = b.of_kind in cc
+
+-- eight bytes or more begin with the int of the first eight
+int_begins : (z : ℤ) (number : ℕ) (bytes : List ℕ) → SFits w64 z → raised z ≡ number → eight_bytes number ≡ first_eight bytes → 8 ≤ length bytes →
+    BeginsWith kind.Int bytes (value.Int z) (take (length bytes - 8) (drop 8 bytes))
+int_begins z number bytes fits up same long = record {
+  of_kind = refl;
+  in_range = (fits, tt);
+  code = ap (λ n. eight_bytes n ++ take (length bytes - 8) (drop 8 bytes)) up ∙ eight_and_others number bytes same long;
+}
+
+pub int_found : (z : ℤ) (number : ℕ) (bytes : List ℕ) → SFits w64 z → raised z ≡ number → eight_bytes number ≡ first_eight bytes → 8 ≤ length bytes →
+    BeginsWith kind.Int bytes (value.Int (to_z w64 (of_z w64 z))) (take (length bytes - 8) (drop 8 bytes))
+int_found z number bytes fits up same long = rw (to_z-of_z w64 z fits) (int_begins z number bytes fits up same long)
+
+-- ---- texts
+
+-- what is read as a text within range is one
+pub text_found : (bytes text rest : List ℕ) → unescaped bytes ≡ Some (text, rest) → is_text text ≡ true → BeginsWith kind.Text bytes (value.Text text) rest
+text_found bytes text rest read fits = record {
+  of_kind = refl;
+  in_range = (fits, tt);
+  code = split_end text rest ∙ spelled bytes text rest read;
+}
+
+text_read : (bytes text rest : List ℕ) → BeginsWith kind.Text bytes (value.Text text) rest → unescaped bytes ≡ Some (text, rest)
+text_read bytes text rest b = ap unescaped (sym b.code ∙ split_end text rest) ∙ read_again text rest
+
+-- where nothing is read, no text is there, and none where what is read is out of range
+pub no_code : (bytes : List ℕ) (other : Value) (rest : List ℕ) → unescaped bytes ≡ None → BeginsWith kind.Text bytes other rest → ⊥
+no_code bytes (value.Text text) rest none b = let read = text_read bytes text rest b in cc
+no_code bytes (value.Int n) rest none b = let k = b.of_kind in cc
+no_code bytes (value.Flag flag) rest none b = let k = b.of_kind in cc
+
+pub no_text_code : (bytes text rest : List ℕ) (other : Value) (more : List ℕ) → unescaped bytes ≡ Some (text, rest) → is_text text ≡ false →
+    BeginsWith kind.Text bytes other more → ⊥
+no_text_code bytes text rest (value.Text s) more read long b =
+    let both = both_read text rest s more (sym read ∙ text_read bytes s more b) in
+    let fits : is_text s ≡ true = b.in_range.0 in
+    let same : is_text text ≡ is_text s = ap is_text both.0 in
+    cc
+no_text_code bytes text rest (value.Int n) more read long b = let k = b.of_kind in cc
+no_text_code bytes text rest (value.Flag flag) more read long b = let k = b.of_kind in cc
+
+-- ---- lists
+
+range-append : (values : List Value) (value : Value) → AreInRange values → AreInRange (value ∷ []) → AreInRange (values ++ value ∷ [])
+range-append [] value f g = g
+range-append (value.Int n ∷ values) value f g = (f.0, range-append values value f.1 g)
+range-append (value.Text text ∷ values) value f g = (f.0, range-append values value f.1 g)
+range-append (value.Flag flag ∷ values) value f g = range-append values value f g
+
+code-append : (values : List Value) (value : Value) → code_of (values ++ value ∷ []) ≡ code_of values ++ code_of_value value
+code-append [] value = append-nil (code_of_value value)
+code-append (v ∷ values) value = ap (λ s. code_of_value v ++ s) (code-append values value) ∙ sym (append_assoc (code_of_value v) (code_of values) (code_of_value value))
+
+-- one value more after the others
+one_more : (kinds : List Kind) (kind : Kind) (bytes : List ℕ) (values : List Value) (value : Value) (code rest : List ℕ) →
+    BeginsWithAll kinds bytes values code → BeginsWith kind code value rest → BeginsWithAll (kinds ++ kind ∷ []) bytes (values ++ value ∷ []) rest
+one_more kinds kind bytes values value code rest a b = record {
+  of_kinds = map-append kind_of values (value ∷ []) ∙ ap (λ ks. ks ++ kind_of value ∷ []) a.of_kinds ∙ ap (λ k. kinds ++ k ∷ []) b.of_kind;
+  in_range = range-append values value a.in_range b.in_range;
+  code = ap (λ s. s ++ rest) (code-append values value) ∙ append_assoc (code_of values) (code_of_value value) rest ∙ ap (λ s. code_of values ++ s) b.code ∙ a.code;
+}
+
+split_at : {A : Type 0} (xs : List A) (i : ℕ) (d : A) → i < length xs → xs ≡ take i xs ++ (get_or xs i d ∷ drop (i + 1) xs)
+split_at xs i d below = sym (take-append-drop (i + 1) xs) ∙ ap (λ front. front ++ drop (i + 1) xs) (take_more xs i d below) ∙ append_assoc (take i xs) (get_or xs i d ∷ []) (drop (i + 1) xs)
+
+pub goes_on : (kinds : List Kind) (i : ℕ) (d : Kind) (bytes : List ℕ) (values new : List Value) (value : Value) (code rest : List ℕ) → i < length kinds →
+    new ≡ values ++ value ∷ [] → BeginsWithAll (take i kinds) bytes values code → BeginsWith (get_or kinds i d) code value rest →
+    BeginsWithAll (take (i + 1) kinds) bytes new rest
+goes_on kinds i d bytes values new value code rest below pushed a b =
+    subst (λ ks. BeginsWithAll ks bytes new rest) (sym (take_more kinds i d below))
+    (subst (λ vs. BeginsWithAll (take i kinds ++ get_or kinds i d ∷ []) bytes vs rest) (sym pushed)
+    (one_more (take i kinds) (get_or kinds i d) bytes values value code rest a b))
+
+-- where no further value is begun, no list of values is
+pub none_begins : (kinds : List Kind) (i : ℕ) (d : Kind) (bytes : List ℕ) (values : List Value) (code : List ℕ) → i < length kinds →
+    BeginsWithAll (take i kinds) bytes values code → ((other : Value) (rest : List ℕ) → BeginsWith (get_or kinds i d) code other rest → ⊥) →
+    (others : List Value) (rest : List ℕ) → BeginsWithAll kinds bytes others rest → ⊥
+none_begins kinds i d bytes values code below a none others rest b =
+    let next = next_value values others (get_or kinds i d) (drop (i + 1) kinds) code rest a.in_range b.in_range
+    (b.of_kinds ∙ split_at kinds i d below ∙ ap (λ ks. ks ++ (get_or kinds i d ∷ drop (i + 1) kinds)) (sym a.of_kinds)) (a.code ∙ sym b.code) in
+    none next.0 next.1 next.2
+
+-- ---- whole codes
+
+-- a code is what begins bytes with nothing after it
+whole : (kinds : List Kind) (bytes : List ℕ) (values : List Value) → IsCodeOf kinds bytes values → BeginsWithAll kinds bytes values []
+whole kinds bytes values h = record { of_kinds = h.of_kinds; in_range = h.in_range; code = append-nil (code_of values) ∙ h.code }
+
+pub no_values : (kinds : List Kind) (bytes : List ℕ) → ((others : List Value) (rest : List ℕ) → BeginsWithAll kinds bytes others rest → ⊥) →
+    (values : List Value) → IsCodeOf kinds bytes values → ⊥
+no_values kinds bytes none values h = none values [] (whole kinds bytes values h)
+
+-- the values that bytes begin with are the only ones whose code they can be, and only where nothing is left
+pub one_list : (kinds : List Kind) (bytes : List ℕ) (values : List Value) (rest : List ℕ) → BeginsWithAll kinds bytes values rest →
+    (other : List Value) → IsCodeOf kinds bytes other → (other ≡ values) × (rest ≡ [])
+one_list kinds bytes values rest a other h =
+    let b = whole kinds bytes other h in
+    let same = same_values values other rest [] a.in_range b.in_range (a.of_kinds ∙ sym b.of_kinds) (a.code ∙ sym b.code) in
+    (sym same.0, same.1)

@@ -1,0 +1,34 @@
+-- What bytes begin with: the code of a value, and the code of a list of values.
+use Rattle.std.specs.Prelude.{ℕ, zero, suc, ◌≡◌, ◌==◌, ◌++◌, List, [], ◌∷◌, map, Option, Some, None, if◌then◌else◌}
+use Rattle.bt_rowtype.specs.declared.value.Kind.{Kind}
+use Rattle.bt_rowtype.specs.declared.value.Value.{Value}
+use Rattle.bt_keycode.specs.Codes.{AreInRange, code_of, code_of_value, kind_of}
+
+-- bytes begin with the code of a value of this kind, within range, and these come after it
+pub record BeginsWith (kind : Kind) (bytes : List ℕ) (value : Value) (rest : List ℕ) : Type 0 where
+  pub of_kind : kind_of value ≡ kind
+  pub in_range : AreInRange (value ∷ [])
+  pub code : code_of_value value ++ rest ≡ bytes
+
+-- bytes begin with the code of values of these kinds, within range, and these come after it
+pub record BeginsWithAll (kinds : List Kind) (bytes : List ℕ) (values : List Value) (rest : List ℕ) : Type 0 where
+  pub of_kinds : map kind_of values ≡ kinds
+  pub in_range : AreInRange values
+  pub code : code_of values ++ rest ≡ bytes
+
+-- what is read of a text, with these bytes before it
+abbrev pub after_bytes : List ℕ → Option (List ℕ × List ℕ) → Option (List ℕ × List ℕ)
+after_bytes front None = None
+after_bytes front (Some read) = Some (front ++ read.0, read.1)
+
+-- what is read of a text at the end of its code
+abbrev pub ended : List ℕ → Option (List ℕ × List ℕ)
+ended (zero ∷ suc zero ∷ bytes) = Some ([], bytes)
+ended other = None
+
+-- the bytes of the text whose code bytes begin with, if they do, and what comes after it
+unfoldable pub unescaped : List ℕ → Option (List ℕ × List ℕ)
+unescaped [] = None
+unescaped (suc n ∷ bytes) = after_bytes (suc n ∷ []) (unescaped bytes)
+unescaped (zero ∷ []) = None
+unescaped (zero ∷ b ∷ bytes) = if b == 1 then Some ([], bytes) else (if b == 255 then after_bytes (0 ∷ []) (unescaped bytes) else None)

@@ -1,0 +1,215 @@
+-- Worked trees: what a packet makes of a small tree, computed.
+use Rattle.std.specs.Prelude.{◌≡◌, ℕ, List, [], ◌∷◌, ℤ, pos, neg_ℤ, ◌+ℤ◌}
+use Rattle.std.proofs.Common.{refl}
+use Rattle.std.specs.declared.option.Option.{Option}
+use Rattle.std.specs.declared.option.Option.TheVariants.{None, Some}
+use Rattle.bt_messages.specs.Effects.{effect_of}
+use Rattle.bt_messages.specs.declared.message.Message.{Message}
+use Rattle.bt_messages.specs.declared.message.Message.TheVariants.{Put, Del, Ups}
+use Rattle.bt_rowtype.specs.Ops as ops
+use Rattle.bt_rowtype.specs.declared.op.Change as change
+use Rattle.bt_rowtype.specs.declared.op.Op.TheVariants.{Add}
+use Rattle.bt_rowtype.specs.declared.value.Value.{Value}
+use Rattle.bt_rowtype.specs.declared.value.Value.TheVariants.{Int}
+use Rattle.bt_node.specs.Keys.{Key}
+use Rattle.bt_node.specs.Messages.{rows_after}
+use Rattle.bt_node.specs.Deals.{sizes}
+use Rattle.bt_node.specs.Plans.{planned}
+use Rattle.bt_node.specs.Trees.{Shape, Tree, leaf, inner, Nodes, none, node}
+use Rattle.bt_node.specs.Flushes.{sunk, holds}
+use Rattle.bt_node.specs.Lookups.{value_at}
+use Rattle.bt_node.specs.Drains.{drained_tree, packed, rebuilt}
+
+-- an upsert adds to the value, or to none
+abbrev merged : Option ℤ → ℤ → ℤ
+merged None n = n
+merged (Some old) n = old +ℤ n
+
+-- a message of these trees
+abbrev Change : Type 0
+Change = Message ℤ ℤ
+
+abbrev effect : Option ℤ → Change → Option ℤ
+effect = effect_of merged
+
+-- the code of a number from 0 to 255, and of -1
+abbrev k : ℕ → Key
+k n = 128 ∷ 0 ∷ 0 ∷ 0 ∷ 0 ∷ 0 ∷ 0 ∷ n ∷ []
+
+abbrev k_minus_1 : Key
+k_minus_1 = 127 ∷ 255 ∷ 255 ∷ 255 ∷ 255 ∷ 255 ∷ 255 ∷ 255 ∷ []
+
+abbrev minus_10 : ℤ
+minus_10 = neg_ℤ (pos 10)
+
+-- a put and an upsert to a number's key, and a leaf's row
+abbrev puts : ℕ → ℕ → Key × Change
+puts n v = (k n, Put (pos v))
+
+abbrev adds : ℕ → ℕ → Key × Change
+adds n v = (k n, Ups (pos v))
+
+abbrev entry : ℕ → ℕ → Key × ℤ
+entry n v = (k n, pos v)
+
+abbrev two : ℕ → ℕ → ℕ → ℕ → Tree ℤ Change
+two a x b y = leaf (entry a x ∷ entry b y ∷ [])
+
+-- at most four children, three waiting messages, two rows
+abbrev shape : Shape
+shape = record { fanout = 4; buffer = 3; leaf = 2 }
+
+abbrev empty : Tree ℤ Change
+empty = leaf []
+
+-- ---- dealing and planning
+
+five_by_four : sizes 5 4 ≡ 3 ∷ 2 ∷ []
+five_by_four = refl
+
+none_by_four : sizes 0 4 ≡ 0 ∷ []
+none_by_four = refl
+
+fullest_first : planned (4 ∷ 2 ∷ 2 ∷ []) 3 ≡ 0 ∷ 1 ∷ []
+fullest_first = refl
+
+ties_go_left : planned (1 ∷ 3 ∷ 3 ∷ 2 ∷ []) 4 ≡ 1 ∷ 2 ∷ []
+ties_go_left = refl
+
+nothing_to_flush : planned (0 ∷ 0 ∷ []) 3 ≡ []
+nothing_to_flush = refl
+
+-- ---- flushing
+
+-- four rows split a leaf
+abbrev split_leaf : Tree ℤ Change
+split_leaf = inner (node [] (two 1 10 2 20) (node (k 3) (two 3 30 4 40) none)) []
+
+four_puts : sunk effect shape empty (puts 1 10 ∷ puts 2 20 ∷ puts 3 30 ∷ puts 4 40 ∷ []) ≡ split_leaf
+four_puts = refl
+
+-- of two counts of 2 the left child is flushed, and the right one's messages wait
+tie_flushes_left : sunk effect shape split_leaf (puts 1 11 ∷ puts 2 21 ∷ puts 3 31 ∷ puts 4 41 ∷ [])
+    ≡ inner (node [] (two 1 11 2 21) (node (k 3) (two 3 30 4 40) none)) (puts 3 31 ∷ puts 4 41 ∷ [])
+tie_flushes_left = refl
+
+-- of counts 1 and 3 the right child takes its three
+abbrev four_leaves : Tree ℤ Change
+four_leaves = inner
+    (node [] (two 1 10 2 20) (node (k 3) (two 3 30 4 40) (node (k 5) (two 5 50 6 60) (node (k 7) (leaf (entry 7 70 ∷ [])) none))))
+    (puts 1 11 ∷ [])
+
+fullest_is_right : sunk effect shape (sunk effect shape split_leaf (puts 5 50 ∷ puts 6 60 ∷ puts 1 11 ∷ [])) (puts 7 70 ∷ []) ≡ four_leaves
+fullest_is_right = refl
+
+-- the first child is flushed and splits; five children become three and two, and the buffer is divided
+abbrev three_high : Tree ℤ Change
+three_high = inner
+    (node [] (inner (node [] (leaf ((k_minus_1, minus_10) ∷ entry 0 0 ∷ [])) (node (k 1) (two 1 11 2 20) (node (k 3) (two 3 30 4 40) none))) (puts 4 44 ∷ []))
+    (node (k 5) (inner (node [] (two 5 50 6 60) (node (k 7) (leaf (entry 7 70 ∷ [])) none)) (puts 8 80 ∷ []))
+    none)) []
+
+first_child_splits : sunk effect shape four_leaves (puts 8 80 ∷ puts 0 0 ∷ (k_minus_1, Put minus_10) ∷ puts 4 44 ∷ []) ≡ three_high
+first_child_splits = refl
+
+-- the root sends three messages left, and that node sends two on
+two_levels : sunk effect shape three_high (puts 3 33 ∷ puts 2 22 ∷ puts 10 100 ∷ puts 1 12 ∷ []) ≡ inner
+    (node [] (inner (node [] (leaf ((k_minus_1, minus_10) ∷ entry 0 0 ∷ [])) (node (k 1) (two 1 12 2 22) (node (k 3) (two 3 30 4 40) none))) (puts 3 33 ∷ puts 4 44 ∷ []))
+    (node (k 5) (inner (node [] (two 5 50 6 60) (node (k 7) (leaf (entry 7 70 ∷ [])) none)) (puts 8 80 ∷ []))
+    none)) (puts 10 100 ∷ [])
+two_levels = refl
+
+-- room for one message
+buffer_of_one : sunk effect (record { fanout = 4; buffer = 1; leaf = 2 }) split_leaf (puts 1 11 ∷ puts 4 41 ∷ [])
+    ≡ inner (node [] (two 1 11 2 20) (node (k 3) (two 3 30 4 40) none)) (puts 4 41 ∷ [])
+buffer_of_one = refl
+
+-- all that comes goes to the right child
+right_takes_all : sunk effect shape split_leaf (puts 3 31 ∷ puts 4 41 ∷ puts 5 51 ∷ puts 6 61 ∷ [])
+    ≡ inner (node [] (two 1 10 2 20) (node (k 3) (two 3 31 4 41) (node (k 5) (two 5 51 6 61) none))) []
+right_takes_all = refl
+
+-- ---- upserts
+
+-- at capacity nothing moves, and no two messages are joined
+abbrev upserts_wait : Tree ℤ Change
+upserts_wait = inner (node [] (two 1 10 2 20) (node (k 3) (two 3 30 4 40) none)) (adds 1 5 ∷ adds 1 5 ∷ puts 4 0 ∷ [])
+
+exact_capacity : sunk effect shape split_leaf (adds 1 5 ∷ adds 1 5 ∷ puts 4 0 ∷ []) ≡ upserts_wait
+exact_capacity = refl
+
+-- both are added to the old value
+both_added : value_at effect (k 1) upserts_wait ≡ Some (pos 20)
+both_added = refl
+
+upserts_held : holds effect upserts_wait ≡ entry 1 20 ∷ entry 2 20 ∷ entry 3 30 ∷ entry 4 0 ∷ []
+upserts_held = refl
+
+-- one more, and the three go down to the left child
+three_go_down : sunk effect shape upserts_wait (adds 2 7 ∷ []) ≡ inner (node [] (two 1 20 2 27) (node (k 3) (two 3 30 4 40) none)) (puts 4 0 ∷ [])
+three_go_down = refl
+
+-- what an upsert adds to, where a put and a del come before it
+after_others : rows_after effect (puts 1 10 ∷ (k 1, Del) ∷ adds 1 5 ∷ adds 1 6 ∷ []) (entry 1 1 ∷ []) ≡ entry 1 11 ∷ []
+after_others = refl
+
+-- rows of a number and a quantity, and upserts that add to the quantity
+abbrev quantity : ℕ → ℕ → List Value
+quantity n v = Int (pos n) ∷ Int (pos v) ∷ []
+
+abbrev row_at : ℕ → ℕ → Key × List Value
+row_at n v = (k n, quantity n v)
+
+abbrev row_change : ℕ → ℕ → Key × Message (List Value) change.Change
+row_change n v = (k n, Ups (record { base = quantity n 0; ops = Add 1 (pos v) ∷ [] }))
+
+abbrev row_put : ℕ → ℕ → Key × Message (List Value) change.Change
+row_put n v = (k n, Put (quantity n v))
+
+abbrev row_leaves : Nodes (List Value) (Message (List Value) change.Change)
+row_leaves = node [] (leaf (row_at 1 10 ∷ row_at 2 20 ∷ [])) (node (k 3) (leaf (row_at 3 30 ∷ row_at 4 40 ∷ [])) none)
+
+row_puts : sunk (effect_of ops.merged) shape (leaf []) (row_put 1 10 ∷ row_put 2 20 ∷ row_put 3 30 ∷ row_put 4 40 ∷ []) ≡ inner row_leaves []
+row_puts = refl
+
+row_changes_wait : sunk (effect_of ops.merged) shape (inner row_leaves []) (row_change 1 5 ∷ row_change 1 5 ∷ row_put 4 0 ∷ [])
+    ≡ inner row_leaves (row_change 1 5 ∷ row_change 1 5 ∷ row_put 4 0 ∷ [])
+row_changes_wait = refl
+
+row_changed : value_at (effect_of ops.merged) (k 1) (inner row_leaves (row_change 1 5 ∷ row_change 1 5 ∷ row_put 4 0 ∷ [])) ≡ Some (quantity 1 20)
+row_changed = refl
+
+row_changes_held : holds (effect_of ops.merged) (inner row_leaves (row_change 1 5 ∷ row_change 1 5 ∷ row_put 4 0 ∷ []))
+    ≡ row_at 1 20 ∷ row_at 2 20 ∷ row_at 3 30 ∷ row_at 4 0 ∷ []
+row_changes_held = refl
+
+-- the default row, changed, where there is none
+row_begun : value_at (effect_of ops.merged) (k 9) (inner row_leaves (row_change 9 7 ∷ [])) ≡ Some (quantity 9 7)
+row_begun = refl
+
+-- ---- what a tree holds
+
+three_high_holds : holds effect three_high
+    ≡ (k_minus_1, minus_10) ∷ entry 0 0 ∷ entry 1 11 ∷ entry 2 20 ∷ entry 3 30 ∷ entry 4 44 ∷ entry 5 50 ∷ entry 6 60 ∷ entry 7 70 ∷ entry 8 80 ∷ []
+three_high_holds = refl
+
+-- key 4's message waits in an inner node, above its leaf; key 9 has nothing
+looked_up : value_at effect (k 4) three_high ≡ Some (pos 44)
+looked_up = refl
+
+not_there : value_at effect (k 9) three_high ≡ None
+not_there = refl
+
+-- ---- draining and packing
+
+packs_four : packed shape (entry 1 10 ∷ entry 2 20 ∷ entry 3 30 ∷ entry 4 40 ∷ []) ≡ split_leaf
+packs_four = refl
+
+-- a leaf without rows stays
+keeps_an_empty_leaf : drained_tree effect shape (inner (node [] (two 10 20 20 40) (node (k 30) (leaf (entry 30 20 ∷ [])) none)) (puts 15 21 ∷ (k 30, Del) ∷ []))
+    ≡ inner (node [] (two 10 20 15 21) (node (k 20) (leaf (entry 20 40 ∷ [])) (node (k 30) (leaf []) none))) []
+keeps_an_empty_leaf = refl
+
+rebuilds : rebuilt effect shape four_leaves ≡ inner
+    (node [] (two 1 11 2 20) (node (k 3) (two 3 30 4 40) (node (k 5) (two 5 50 6 60) (node (k 7) (leaf (entry 7 70 ∷ [])) none)))) []
+rebuilds = refl

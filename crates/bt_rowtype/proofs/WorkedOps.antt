@@ -1,0 +1,99 @@
+-- Operations, computed.
+use Rattle.std.proofs.Common.{◌≡◌, List, ℕ, [], ◌∷◌, pos, negsuc, refl, codes, true, false, Ok, Err, Some, None}
+use Rattle.bt_rowtype.proofs.OnLiterals.{rowtype_on_literals}
+use Rattle.bt_rowtype.specs.Ops.{after_ops, checked_ops, default_row, merged, ops_as, upsert_as}
+use Rattle.bt_rowtype.specs.Schemas.{Layout}
+use Rattle.bt_rowtype.specs.declared.op.Op.TheVariants.{Set, Add}
+use Rattle.bt_rowtype.specs.declared.refusal.Refusal.TheVariants.{BadField, BadLength, NoSuchColumn, NotInt}
+use Rattle.bt_rowtype.specs.declared.schema.Column.{Column}
+use Rattle.bt_rowtype.specs.declared.value.Kind.{Kind}
+use Rattle.bt_rowtype.specs.declared.value.Kind.TheVariants as kind
+use Rattle.bt_rowtype.specs.declared.value.Value.TheVariants as value
+
+-- a column of a name and a kind
+abbrev column : List ℕ → Kind → Column
+column name of = record { name = name; kind = of }
+
+-- id:int qty:int, of which the first is the key
+abbrev stock : Layout
+stock = record { columns = column (codes "id") kind.Int ∷ column (codes "qty") kind.Int ∷ []; keys = 1 }
+
+-- id:int qty:int city:text open:flag, of which the first is the key
+abbrev shops : Layout
+shops = record { columns = column (codes "id") kind.Int ∷ column (codes "qty") kind.Int ∷ column (codes "city") kind.Text ∷ column (codes "open") kind.Flag ∷ []; keys = 1 }
+
+-- ---- what operations do
+
+defaults : default_row shops (value.Int (pos 9) ∷ []) ≡ value.Int (pos 9) ∷ value.Int (pos 0) ∷ value.Text [] ∷ value.Flag false ∷ []
+defaults = refl
+
+in_turn : after_ops (Set 1 (value.Int (pos 5)) ∷ Add 1 (negsuc 1) ∷ []) (default_row stock (value.Int (pos 9) ∷ [])) ≡ value.Int (pos 9) ∷ value.Int (pos 3) ∷ []
+in_turn = refl
+
+greatest : after_ops (Add 0 (pos 1) ∷ []) (value.Int (pos 9223372036854775807) ∷ []) ≡ value.Int (pos 9223372036854775807) ∷ []
+greatest = refl
+
+least : after_ops (Add 0 (negsuc 0) ∷ []) (value.Int (negsuc 9223372036854775807) ∷ []) ≡ value.Int (negsuc 9223372036854775807) ∷ []
+least = refl
+
+-- the sum that is held is what the next one is added to
+held_between : after_ops (Add 0 (pos 2) ∷ Add 0 (negsuc 2) ∷ []) (value.Int (pos 9223372036854775806) ∷ []) ≡ value.Int (pos 9223372036854775804) ∷ []
+held_between = refl
+
+-- an addition to a flag, and a place past the row
+nothing_done : after_ops (Add 0 (pos 1) ∷ Set 2 (value.Int (pos 7)) ∷ Add 2 (pos 7) ∷ []) (value.Flag true ∷ value.Int (pos 1) ∷ []) ≡ value.Flag true ∷ value.Int (pos 1) ∷ []
+nothing_done = refl
+
+-- where there is a row, the base is not looked at
+on_a_row : merged (Some (value.Int (pos 9) ∷ value.Int (pos 4) ∷ [])) (record { base = value.Int (pos 9) ∷ value.Int (pos 0) ∷ []; ops = Add 1 (pos 1) ∷ [] }) ≡ value.Int (pos 9) ∷ value.Int (pos 5) ∷ []
+on_a_row = refl
+
+on_no_row : merged None (record { base = value.Int (pos 9) ∷ value.Int (pos 0) ∷ []; ops = Add 1 (pos 1) ∷ [] }) ≡ value.Int (pos 9) ∷ value.Int (pos 1) ∷ []
+on_no_row = refl
+
+-- ---- how records spell them
+
+two_operations : upsert_as stock 4 (codes "9" ∷ codes "set" ∷ codes "qty" ∷ codes "5" ∷ codes "add" ∷ codes "qty" ∷ codes "-2" ∷ [])
+    ≡ Ok (value.Int (pos 9) ∷ [], Set 1 (value.Int (pos 5)) ∷ Add 1 (negsuc 1) ∷ [])
+unfolding rowtype_on_literals
+two_operations = refl
+
+add_to_text : ops_as shops 4 (codes "1" ∷ codes "add" ∷ codes "city" ∷ codes "x" ∷ []) ≡ Err NotInt
+unfolding rowtype_on_literals
+add_to_text = refl
+
+unknown_column : ops_as shops 4 (codes "1" ∷ codes "add" ∷ codes "nope" ∷ codes "x" ∷ []) ≡ Err NoSuchColumn
+unfolding rowtype_on_literals
+unknown_column = refl
+
+key_column : ops_as shops 4 (codes "1" ∷ codes "set" ∷ codes "id" ∷ codes "2" ∷ []) ≡ Err NoSuchColumn
+unfolding rowtype_on_literals
+key_column = refl
+
+-- of two faults the least
+unknown_word : ops_as shops 4 (codes "1" ∷ codes "set" ∷ codes "nope" ∷ codes "1" ∷ codes "mul" ∷ codes "qty" ∷ codes "1" ∷ []) ≡ Err (BadField 4)
+unfolding rowtype_on_literals
+unknown_word = refl
+
+no_operation : ops_as shops 4 (codes "1" ∷ []) ≡ Err (BadLength 4)
+unfolding rowtype_on_literals
+no_operation = refl
+
+-- a fault of the key is less than one of the operations
+bad_key : upsert_as shops 4 (codes "x" ∷ codes "add" ∷ codes "city" ∷ codes "1" ∷ []) ≡ Err (BadField 4)
+unfolding rowtype_on_literals
+bad_key = refl
+
+-- ---- whether they are operations of a schema
+
+add_to_key : checked_ops stock 2 (Add 0 (pos 1) ∷ []) ≡ Err NoSuchColumn
+add_to_key = refl
+
+least_fault : checked_ops shops 2 (Add 2 (pos 1) ∷ Set 4 (value.Int (pos 1)) ∷ Set 1 (value.Int (pos 1)) ∷ []) ≡ Err NoSuchColumn
+least_fault = refl
+
+of_another_kind : checked_ops shops 2 (Add 2 (pos 1) ∷ Set 3 (value.Int (pos 1)) ∷ []) ≡ Err (BadField 2)
+of_another_kind = refl
+
+none_at_all : checked_ops shops 2 [] ≡ Err (BadLength 2)
+none_at_all = refl

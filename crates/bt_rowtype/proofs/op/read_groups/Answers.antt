@@ -1,0 +1,58 @@
+use Rattle.std.proofs.Common.{◌≡◌, ◌∙◌, ◌∷◌, ◌++◌, ◌+◌, ◌*◌, ◌<◌, [], List, Result, refl, ap, sym, rules, arith, length, drop}
+use Rattle.std.proofs.lemmas.List.{append-nil}
+use Rattle.std.specs.List.{filter_map}
+use Rattle.std.specs.Result.{result_err, result_ok}
+use Rattle.bt_rowtype.specs.Ops.{ops_of}
+use Rattle.bt_rowtype.specs.Refusals.{least_from}
+use Rattle.bt_rowtype.specs.declared.op.Op.{Op}
+use Rattle.bt_rowtype.specs.declared.refusal.Refusal.{Refusal}
+use Rattle.bt_rowtype.proofs.Upserts.{is_read, op_of_fields, ops_end, ops_more, with_ops, with_refusals}
+use Rattle.bt_rowtype.proofs.op.read_groups.Goals as goal
+
+pub loop-group-init : goal.loop-group-init
+loop-group-init c =
+    let keys : c.args.schema.now.keys ≡ c.keys-keys.result + 0 = omega (arith, c.keys-keys.ensures.value) in
+    let none : c.new.result ≡ [] = search rules in
+    record {
+      ops = rw (none, ← keys) refl;
+      refusal = rw (← keys) refl;
+    }
+
+pub loop-group-preserved : goal.loop-group-preserved
+loop-group-preserved c =
+    let layout = c.args.schema.now in
+    let item = c.args.item in
+    let fields = c.args.fields.now in
+    let place = c.keys-keys.result + 3 * c.loop-group.group in
+    let next = c.keys-keys.result + 3 * (c.loop-group.group + 1) in
+    let read = c.read_op-read.result in
+    let in_fields : place + 2 < length fields = omega arith in
+    let three : place + 3 ≡ next = omega arith in
+    let spelled = op_of_fields layout item fields place c.get-word.result.now c.get-name.result.now c.get-argument.result.now c.get-word.ensures c.get-name.ensures c.get-argument.ensures
+    ∙ is_read _ read c.read_op-read.ensures.ok c.read_op-read.ensures.refused c.in_ok-reading.ensures.memory in
+    let more : ops_of layout item (drop place fields) ≡ read ∷ ops_of layout item (drop next fields) =
+    ops_more layout item fields place in_fields ∙ ap (λ (o : Result Op Refusal). o ∷ ops_of layout item (drop (place + 3) fields)) spelled ∙ ap (λ n. read ∷ ops_of layout item (drop n fields)) three in
+    record {
+      ops = c.loop-group.invariant.ops ∙ ap (λ (l : List (Result Op Refusal)). c.loop-group.reading.ops ++ filter_map result_ok l) more
+          ∙ with_ops c.loop-group.reading.ops c.in_ok-reading.reading.ops read (ops_of layout item (drop next fields)) c.in_ok-reading.ensures.ops;
+      refusal = c.loop-group.invariant.refusal ∙ ap (λ (l : List (Result Op Refusal)). least_from c.loop-group.reading.refusal (filter_map result_err l)) more
+          ∙ with_refusals c.loop-group.reading.refusal c.in_ok-reading.reading.refusal read (ops_of layout item (drop next fields)) c.in_ok-reading.ensures.refusal;
+    }
+
+pub returns-clause-ops : goal.returns-clause-ops
+returns-clause-ops c =
+    let layout = c.args.schema.now in
+    let fields = c.args.fields.now in
+    let place = c.keys-keys.result + 3 * c.loop-group.group in
+    let short : length fields < place + 3 = omega arith in
+    let none = ops_end layout c.args.item fields place short in
+    sym (c.loop-group.invariant.ops ∙ ap (λ (l : List (Result Op Refusal)). c.loop-group.reading.ops ++ filter_map result_ok l) none ∙ append-nil c.loop-group.reading.ops)
+
+pub returns-clause-refusal : goal.returns-clause-refusal
+returns-clause-refusal c =
+    let layout = c.args.schema.now in
+    let fields = c.args.fields.now in
+    let place = c.keys-keys.result + 3 * c.loop-group.group in
+    let short : length fields < place + 3 = omega arith in
+    let none = ops_end layout c.args.item fields place short in
+    sym (c.loop-group.invariant.refusal ∙ ap (λ (l : List (Result Op Refusal)). least_from c.loop-group.reading.refusal (filter_map result_err l)) none)

@@ -1,0 +1,108 @@
+//! Bytes, of which a few take no memory of their own.
+ghost use Rattle.std.specs.Prelude.{◌≡◌, ◌≤◌, [], IfOk, length, take};
+ghost use Rattle.bt_rowtype.specs.Shorts.{FitsInside, bytes_of};
+
+use std::alloc::{AllocError, Global};
+use std::marker::Model;
+
+// How many bytes are kept in the value itself.
+const SHORT: usize = 22;
+
+#[derive(Debug, Drop)]
+enum Kept {
+    // how many of the places are used, and all places
+    Short(u8, [u8; SHORT]),
+    Long(Box<Vec<u8>>),
+}
+
+/// Bytes in order, as those of a text or of a key. A contract sees the list of them.
+///
+/// Up to 22 bytes are kept in the value itself, and take no memory of their own; a value has the size of three words.
+#[derive(Debug, Drop)]
+pub struct Bytes {
+    kept: Kept,
+}
+
+impl Model for Bytes {
+    ghost use Rattle.std.specs.Prelude.{List, ℕ};
+    ghost use Rattle.bt_rowtype.specs.Shorts.{FitsInside, bytes_of};
+
+    ghost Value = { List ℕ };
+
+    ghost view = { λ b. bytes_of b.kept };
+
+    ghost invariant = { λ b. FitsInside b.kept };
+}
+
+// The bytes with zeros behind them.
+fn padded(bytes: &[u8]) -> [u8; SHORT]
+    requires { length bytes.now ≤ SHORT }
+    ensures { take (length bytes.now) result ≡ bytes.now }
+{
+    let mut padded = [0; SHORT];
+    padded[..bytes.len()].copy_from_slice(bytes);
+    padded
+}
+
+// The bytes in the value itself.
+fn short(bytes: &[u8]) -> Kept
+    requires { length bytes.now ≤ SHORT }
+    ensures bytes { bytes_of result ≡ bytes.now }
+    ensures inside { FitsInside result }
+{
+    Kept::Short(bytes.len() as u8, padded(bytes))
+}
+
+impl Bytes {
+    /// No byte.
+    pub fn new() -> Self
+        ensures { result ≡ [] }
+    {
+        Bytes {
+            kept: Kept::Short(0, [0; SHORT]),
+        }
+    }
+
+    /// A copy of these bytes.
+    pub fn from_slice(alloc: Global, bytes: &[u8]) -> Result<Self, AllocError>
+        ensures { IfOk result (λ copy. copy ≡ bytes.now) }
+    {
+        if bytes.len() <= SHORT {
+            return Ok(Bytes { kept: short(bytes) });
+        }
+        let long = Vec::from_slice(alloc, bytes)?;
+        Ok(Bytes {
+            kept: Kept::Long(Box::new(alloc, long)?),
+        })
+    }
+
+    /// These bytes.
+    pub fn from_vec(alloc: Global, bytes: Vec<u8>) -> Result<Self, AllocError>
+        ensures { IfOk result (λ kept. kept ≡ bytes.items) }
+    {
+        if bytes.len() <= SHORT {
+            return Ok(Bytes {
+                kept: short(bytes.as_slice()),
+            });
+        }
+        Ok(Bytes {
+            kept: Kept::Long(Box::new(alloc, bytes)?),
+        })
+    }
+
+    /// A copy of the bytes.
+    pub fn copy(&self, alloc: Global) -> Result<Self, AllocError>
+        ensures { IfOk result (λ copy. copy ≡ self.now) }
+    {
+        Bytes::from_slice(alloc, self.as_slice())
+    }
+
+    pub fn as_slice(&self) -> &[u8]
+        ensures { result.now ≡ self.now }
+    {
+        match &self.kept {
+            Kept::Short(len, bytes) => &bytes[..*len as usize],
+            Kept::Long(bytes) => bytes.as_slice(),
+        }
+    }
+}
