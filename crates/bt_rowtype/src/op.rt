@@ -146,7 +146,7 @@ fn copy_op(alloc: Global, op: &Op) -> Result<Op, AllocError>
 fn copy_ops(alloc: Global, ops: &[Op]) -> Result<Ops, AllocError>
     ensures { IfOk result (λ copy. copy ≡ ops.now) }
 {
-    let mut copies = Ops::new(alloc);
+    let mut copies = Ops::with_capacity(alloc, ops.len())?;
     for op in ops {
         copies.push(copy_op(alloc, op)?)?;
     }
@@ -287,11 +287,12 @@ fn read_groups(
     ensures refusal { IfOk result (λ read. read.refusal ≡ least (filter_map result_err (spec.ops_of schema.now item (drop schema.now.keys fields.now)))) }
 {
     let keys = schema.keys();
+    let groups = (fields.len() - keys) / 3;
     let mut reading = Reading {
-        ops: Ops::new(alloc),
+        ops: Ops::with_capacity(alloc, groups)?,
         refusal: None,
     };
-    for group in 0..(fields.len() - keys) / 3 {
+    for group in 0..groups {
         let place = keys + 3 * group;
         let (word, name, argument) = (
             fields.get(place),

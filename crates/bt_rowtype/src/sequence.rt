@@ -1,5 +1,5 @@
 //! A list that contracts see as the list of its items.
-ghost use Rattle.std.specs.Prelude.{◌≡◌, ◌++◌, ◌∷◌, [], length, OnOk, OnErr};
+ghost use Rattle.std.specs.Prelude.{◌≡◌, ◌++◌, ◌∷◌, [], length, IfOk, OnOk, OnErr};
 
 use std::alloc::{AllocError, Global};
 use std::marker::Model;
@@ -26,6 +26,15 @@ impl<T> Sequence<T> {
         Sequence {
             items: Vec::new(alloc),
         }
+    }
+
+    /// No item, with room for so many.
+    pub fn with_capacity(alloc: Global, capacity: usize) -> Result<Self, AllocError>
+        ensures { IfOk result (λ new. new ≡ []) }
+    {
+        Ok(Sequence {
+            items: Vec::with_capacity(alloc, capacity)?,
+        })
     }
 
     pub fn len(&self) -> usize

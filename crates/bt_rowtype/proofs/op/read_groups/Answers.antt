@@ -12,7 +12,7 @@ use Rattle.bt_rowtype.proofs.op.read_groups.Goals as goal
 pub loop-group-init : goal.loop-group-init
 loop-group-init c =
     let keys : c.args.schema.now.keys ≡ c.keys-keys.result + 0 = omega (arith, c.keys-keys.ensures.value) in
-    let none : c.new.result ≡ [] = search rules in
+    let none = c.in_ok-with_capacity.ensures in
     record {
       ops = rw (none, ← keys) refl;
       refusal = rw (← keys) refl;
