@@ -1,5 +1,6 @@
--- Keys are ordered by their first eight bytes, where these differ.
-use Rattle.std.proofs.Common.{◌≡◌, ◌≢◌, ℕ, ◌^◌, ◌<◌, List, [], refl, sym, ap, ◌∙◌, ◌⊎◌, inl, inr}
+-- Keys are ordered by their first eight bytes, where these differ, and else by the next eight, where these do.
+use Rattle.std.proofs.Common.{◌≡◌, ◌≢◌, ℕ, ◌^◌, ◌<◌, ◌≤◌, List, [], drop, length, refl, sym, ap, ◌∙◌, ◌⊎◌, inl, inr}
+use Rattle.std.proofs.Math.ListN.{drop_of_length-le}
 use Rattle.std.specs.Cmp.{ranks}
 use Rattle.std.specs.Cmp.Lexicographic.{slice_cmp}
 use Rattle.std.specs.Ordering.{nat_cmp, MatchOrdering}
@@ -7,7 +8,7 @@ use Rattle.std.specs.declared.cmp.Ordering.{Ordering}
 use Rattle.std.specs.declared.cmp.Ordering.TheVariants.{Less, Equal, Greater}
 use Rattle.bt_keycode.specs.Keys.{eight_bytes, first_eight}
 use Rattle.bt_keycode.proofs.Numbers.{slice_cmp-eight_bytes}
-use Rattle.bt_keycode.proofs.Paddings.{slice_cmp-padded}
+use Rattle.bt_keycode.proofs.Paddings.{slice_cmp-next, slice_cmp-padded}
 
 -- ---- the order of two keys
 
@@ -29,6 +30,20 @@ heads_decide h k xs ys low under a b apart =
     (unequal h k (nat_cmp h k) (ranks h k) apart)
     (slice_cmp-padded 8 xs ys)
 
+-- keys with the same heads and different next numbers are ordered as the latter are
+pub nexts_decide : (h k : ℕ) (xs ys : List ℕ) → h < 2 ^ 64 → k < 2 ^ 64 → first_eight xs ≡ first_eight ys →
+    eight_bytes h ≡ first_eight (drop 8 xs) → eight_bytes k ≡ first_eight (drop 8 ys) → h ≢ k → nat_cmp h k ≡ slice_cmp nat_cmp xs ys
+unfolding first_eight
+nexts_decide h k xs ys low under same a b apart =
+    decided (nat_cmp h k) (slice_cmp nat_cmp (first_eight (drop 8 xs)) (first_eight (drop 8 ys))) (slice_cmp nat_cmp xs ys)
+    (sym (slice_cmp-eight_bytes h k low under) ∙ ap (λ zs. slice_cmp nat_cmp zs (eight_bytes k)) a ∙ ap (λ zs. slice_cmp nat_cmp (first_eight (drop 8 xs)) zs) b)
+    (unequal h k (nat_cmp h k) (ranks h k) apart)
+    (slice_cmp-next 8 8 xs ys same)
+
 pub none_first : eight_bytes 0 ≡ first_eight []
 unfolding eight_bytes first_eight
 none_first = refl
+
+-- no byte is behind the first eight of at most eight
+pub no_next : (xs : List ℕ) → length xs ≤ 8 → eight_bytes 0 ≡ first_eight (drop 8 xs)
+no_next xs few = none_first ∙ ap first_eight (sym (drop_of_length-le xs few))

@@ -1,10 +1,11 @@
 -- Lists and their first bytes with zeros after them.
-use Rattle.std.proofs.Common.{◌≡◌, ℕ, zero, suc, ◌<◌, List, [], ◌∷◌, get_or, refl, ◌⊎◌, inl, inr, arith}
-use Rattle.std.specs.Cmp.{ranks, tied_itself}
+use Rattle.std.proofs.Common.{◌≡◌, ℕ, zero, suc, ◌<◌, List, [], ◌∷◌, drop, get_or, refl, subst, sym, ◌⊎◌, inl, inr, arith}
+use Rattle.std.specs.Cmp.{nat_cmp_is, ranks, tied_itself}
 use Rattle.std.specs.Cmp.Lexicographic.{nat_list_cmp_total, slice_cmp}
 use Rattle.std.specs.Ordering.{nat_cmp, ordering_then, MatchOrdering}
 use Rattle.std.specs.declared.cmp.Ordering.{Ordering}
 use Rattle.std.specs.declared.cmp.Ordering.TheVariants.{Less, Equal, Greater}
+use Rattle.std.proofs.Math.Seq.{drop-nil}
 use Rattle.bt_keycode.specs.Keys.{first_eight, padded}
 
 -- the eight places, written out
@@ -66,3 +67,27 @@ slice_cmp-padded (suc n) (x ∷ xs) [] =
 slice_cmp-padded (suc n) [] (y ∷ ys) =
     zero_before y (nat_cmp 0 y) (slice_cmp nat_cmp (padded n []) (padded n ys)) (ranks 0 y) (none_before ys (slice_cmp nat_cmp (padded n []) (padded n ys)) (slice_cmp-padded n [] ys))
 slice_cmp-padded (suc n) (x ∷ xs) (y ∷ ys) = both_begin (nat_cmp x y) (slice_cmp nat_cmp (padded n xs) (padded n ys)) (slice_cmp nat_cmp xs ys) (slice_cmp-padded n xs ys)
+
+-- a first byte next to a byte equal to it
+same_first : (x y : ℕ) (p q : Ordering) → x ≡ y → (p ≡ Equal) ⊎ (p ≡ q) → (p ≡ Equal) ⊎ (p ≡ ordering_then (nat_cmp x y) q)
+same_first x y p q e h =
+    let tied : nat_cmp x y ≡ Equal = sym (nat_cmp_is x y Equal e) in
+    rw tied h
+
+-- where the first paddings are equal and the paddings of what is behind differ, the latter decide
+pub slice_cmp-next : (m n : ℕ) (xs ys : List ℕ) → padded m xs ≡ padded m ys →
+    (slice_cmp nat_cmp (padded n (drop m xs)) (padded n (drop m ys)) ≡ Equal) ⊎ (slice_cmp nat_cmp (padded n (drop m xs)) (padded n (drop m ys)) ≡ slice_cmp nat_cmp xs ys)
+slice_cmp-next zero n xs ys e = slice_cmp-padded n xs ys
+slice_cmp-next (suc m) n [] [] e = slice_cmp-padded n [] []
+slice_cmp-next (suc m) n (x ∷ xs) [] e =
+    let rest : padded m xs ≡ padded m [] = cc in
+    subst (λ zs. (slice_cmp nat_cmp (padded n (drop m xs)) (padded n zs) ≡ Equal) ⊎ (slice_cmp nat_cmp (padded n (drop m xs)) (padded n zs) ≡ Greater)) (drop-nil m)
+    (past_none xs (slice_cmp nat_cmp (padded n (drop m xs)) (padded n (drop m []))) (slice_cmp-next m n xs [] rest))
+slice_cmp-next (suc m) n [] (y ∷ ys) e =
+    let rest : padded m [] ≡ padded m ys = cc in
+    subst (λ zs. (slice_cmp nat_cmp (padded n zs) (padded n (drop m ys)) ≡ Equal) ⊎ (slice_cmp nat_cmp (padded n zs) (padded n (drop m ys)) ≡ Less)) (drop-nil m)
+    (none_before ys (slice_cmp nat_cmp (padded n (drop m [])) (padded n (drop m ys))) (slice_cmp-next m n [] ys rest))
+slice_cmp-next (suc m) n (x ∷ xs) (y ∷ ys) e =
+    let first : x ≡ y = cc in
+    let rest : padded m xs ≡ padded m ys = cc in
+    same_first x y (slice_cmp nat_cmp (padded n (drop m xs)) (padded n (drop m ys))) (slice_cmp nat_cmp xs ys) first (slice_cmp-next m n xs ys rest)

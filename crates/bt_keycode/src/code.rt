@@ -1,5 +1,6 @@
 //! The key code of values.
-ghost use Rattle.std.specs.Prelude.{◌≡◌, ◌≤◌, ◌++◌, ◌∷◌, [], IfOk, OnOk, length, take};
+ghost use Rattle.std.specs.List.{list_any};
+ghost use Rattle.std.specs.Prelude.{◌≡◌, ◌≤◌, ◌+◌, ◌++◌, ◌∷◌, [], IfOk, OnOk, false, length, nat_eq, take};
 ghost use Rattle.std.specs.Cmp.Lexicographic.{slice_cmp};
 ghost use Rattle.std.specs.Ordering.{int_cmp, nat_cmp};
 ghost use Rattle.bt_rowtype.specs.Values.{key_cmp, value_cmp};
@@ -10,6 +11,9 @@ use crate::key::Key;
 use bt_rowtype::Value;
 use std::alloc::{AllocError, Global};
 use std::cmp::Ordering;
+
+// A code of so many bytes takes no memory of its own.
+const SHORT_CODE: usize = 22;
 
 // The int with its sign bit inverted.
 fn raise(number: i64) -> u64
@@ -111,12 +115,50 @@ fn encode_int(alloc: Global, number: i64) -> Result<Key, AllocError>
     Ok(Key::from_bytes(alloc, &raise(number).to_be_bytes())?)
 }
 
-/// The key that is the code of the values. That of one int takes no memory.
+// A text with no zero byte and the end of its code behind it.
+fn short_code(text: &[u8]) -> [u8; SHORT_CODE]
+    requires { length text.now + 2 ≤ SHORT_CODE }
+    ensures { take (length text.now + 2) result ≡ text.now ++ (0 ∷ 1 ∷ []) }
+{
+    let mut code = [0; SHORT_CODE];
+    let end = text.len();
+    code[..end].copy_from_slice(text);
+    code[end..end + 2].copy_from_slice(&[0, 1]);
+    code
+}
+
+// The key that is the code of a short text with no zero byte.
+#[tactic(auto, using(crate::proofs::Escapes::escaped_no_zero))]
+fn encode_short_text(alloc: Global, text: &[u8]) -> Result<Key, AllocError>
+    requires short { length text.now + 2 ≤ SHORT_CODE }
+    requires no_zero { list_any (λ b. nat_eq b 0) text.now ≡ false }
+    ensures { IfOk result (λ key. key ≡ escaped text.now ++ (0 ∷ 1 ∷ [])) }
+{
+    let code = short_code(text);
+    Key::from_bytes(alloc, &code[..text.len() + 2])
+}
+
+// The key that is the code of a text.
+fn encode_text(alloc: Global, text: &[u8]) -> Result<Key, AllocError>
+    ensures { IfOk result (λ key. key ≡ escaped text.now ++ (0 ∷ 1 ∷ [])) }
+{
+    if text.len() <= SHORT_CODE - 2 && !text.contains(&0) {
+        return encode_short_text(alloc, text);
+    }
+    let mut bytes = Vec::with_capacity(alloc, text.len().saturating_add(2))?;
+    add_text(&mut bytes, text)?;
+    Key::from_vec(alloc, bytes)
+}
+
+/// The key that is the code of the values. That of one int, or of one short text with no zero byte, takes no memory.
 pub fn encode(alloc: Global, values: &[Value]) -> Result<Key, AllocError>
     ensures { IfOk result (λ key. key ≡ code_of values.now) }
 {
     if let [Value::Int(number)] = values {
         return Ok(encode_int(alloc, *number)?);
+    }
+    if let [Value::Text(text)] = values {
+        return Ok(encode_text(alloc, text.as_bytes())?);
     }
     let mut bytes = Vec::with_capacity(alloc, room_for(values))?;
     for value in values {
@@ -230,17 +272,11 @@ mod tests {
                 b"6100ff00018000000000000000",
             ),
             (
-                [Value::Text(Text::empty(alloc)), Value::Int(i64::MIN)],
+                [Value::Text(Text::empty()), Value::Int(i64::MIN)],
                 b"00010000000000000000",
             ),
-            (
-                [Value::Flag(false), Value::Text(Text::empty(alloc))],
-                b"000001",
-            ),
-            (
-                [Value::Flag(true), Value::Text(Text::empty(alloc))],
-                b"010001",
-            ),
+            ([Value::Flag(false), Value::Text(Text::empty())], b"000001"),
+            ([Value::Flag(true), Value::Text(Text::empty())], b"010001"),
             (
                 [Value::Flag(false), Value::Text(Text::new(alloc, "b")?)],
                 b"00620001",
@@ -248,6 +284,33 @@ mod tests {
         ];
         for (values, expected) in &rows {
             let code = hex_of(alloc, values)?;
+            assert_eq!(rt; code.as_slice(), *expected);
+        }
+        Ok(())
+    }
+
+    #[test]
+    fn codes_of_one_text(rt: HostRuntime) -> Result<(), Fail> {
+        let alloc = rt.alloc();
+        let texts: [(&str, &[u8]); 6] = [
+            ("", b"0001"),
+            ("ab", b"61620001"),
+            ("a\0b", b"6100ff620001"),
+            (
+                "aaaaaaaaaaaaaaaaaaaa",
+                b"61616161616161616161616161616161616161610001",
+            ),
+            (
+                "aaaaaaaaaaaaaaaaaaaaa",
+                b"6161616161616161616161616161616161616161610001",
+            ),
+            (
+                "aaaaaaaaaaaaaaaaaaa\0",
+                b"6161616161616161616161616161616161616100ff0001",
+            ),
+        ];
+        for (text, expected) in &texts {
+            let code = hex_of(alloc, &[Value::Text(Text::new(alloc, text)?)])?;
             assert_eq!(rt; code.as_slice(), *expected);
         }
         Ok(())
@@ -291,13 +354,20 @@ mod tests {
     #[test]
     fn keys_are_ordered_by_their_bytes(rt: HostRuntime) -> Result<(), Fail> {
         let alloc = rt.alloc();
-        let texts: [&[u8]; 6] = [
+        let texts: [&[u8]; 13] = [
             b"",
             b"\0",
             b"ab",
             b"ab\0",
             b"ab\0\0\0\0\0\0",
             b"ab\0\0\0\0\0\0\0",
+            b"cpu.user",
+            b"cpu.user\0",
+            b"cpu.user.host001",
+            b"cpu.user.host0012",
+            b"cpu.user.host00123",
+            b"cpu.user.host002",
+            b"cpu.user.host00212",
         ];
         for (place, text) in texts.iter().enumerate() {
             let key = Key::from_bytes(alloc, text)?;

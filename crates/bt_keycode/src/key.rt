@@ -1,5 +1,5 @@
 //! Keys: lists of bytes in the order of bytes.
-ghost use Rattle.std.specs.Prelude.{◌≡◌, ◌++◌, ◌≤◌, [], IfOk, OnOk, OnErr, length, slice_index};
+ghost use Rattle.std.specs.Prelude.{◌≡◌, ◌++◌, ◌≤◌, [], IfOk, OnOk, OnErr, drop, length, slice_index};
 ghost use Rattle.std.specs.Cmp.Lexicographic.{slice_cmp};
 ghost use Rattle.std.specs.Ordering.{nat_cmp};
 ghost use Rattle.bt_keycode.specs.Hex.{hex_text};
@@ -13,23 +13,28 @@ use std::marker::Model;
 
 /// A key: bytes, ordered byte by byte, a prefix before what it begins. A contract sees the list of its bytes.
 ///
-/// The first eight bytes are kept as a number too, so that most comparisons compare numbers.
+/// The first sixteen bytes are kept as two numbers too, so that most comparisons compare numbers.
 #[derive(Debug, Drop)]
 pub struct Key {
     // the first eight bytes, big endian, with zeros after a shorter key
     head: u64,
+    // the next eight, in the same way
+    next: u64,
     bytes: Bytes,
 }
 
 impl Model for Key {
-    ghost use Rattle.std.specs.Prelude.{◌≡◌, List, ℕ};
+    ghost use Rattle.std.specs.Prelude.{◌≡◌, List, drop, ℕ};
     ghost use Rattle.bt_keycode.specs.Keys.{eight_bytes, first_eight};
 
     ghost Value = { List ℕ };
 
     ghost view = { λ k. k.bytes };
 
-    ghost invariant = { λ k. eight_bytes k.head ≡ first_eight k.bytes };
+    ghost invariant = { λ k. record {
+      head : eight_bytes k.head ≡ first_eight k.bytes;
+      next : eight_bytes k.next ≡ first_eight (drop 8 k.bytes);
+    } };
 }
 
 fn byte_at(bytes: &[u8], place: usize) -> u8
@@ -64,6 +69,18 @@ pub(crate) fn head_of(bytes: &[u8]) -> u64
     }
 }
 
+// The number that the next eight bytes are kept as.
+#[tactic(auto, using(crate::proofs::Heads::no_next))]
+fn next_of(bytes: &[u8]) -> u64
+    ensures { eight_bytes result ≡ first_eight (drop 8 bytes.now) }
+{
+    if bytes.len() > 8 {
+        head_of(&bytes[8..])
+    } else {
+        0
+    }
+}
+
 impl Key {
     /// The key of no bytes, which is before all others.
     pub fn new() -> Self
@@ -71,6 +88,7 @@ impl Key {
     {
         Key {
             head: 0,
+            next: 0,
             bytes: Bytes::new(),
         }
     }
@@ -81,6 +99,7 @@ impl Key {
     {
         Ok(Key {
             head: head_of(bytes),
+            next: next_of(bytes),
             bytes: Bytes::from_slice(alloc, bytes)?,
         })
     }
@@ -91,6 +110,7 @@ impl Key {
     {
         Ok(Key {
             head: head_of(bytes.as_slice()),
+            next: next_of(bytes.as_slice()),
             bytes: Bytes::from_vec(alloc, bytes)?,
         })
     }
@@ -101,6 +121,7 @@ impl Key {
     {
         Ok(Key {
             head: self.head,
+            next: self.next,
             bytes: self.bytes.copy(alloc)?,
         })
     }
@@ -124,6 +145,9 @@ impl Key {
     {
         if self.head != other.head {
             return self.head.cmp(&other.head);
+        }
+        if self.next != other.next {
+            return self.next.cmp(&other.next);
         }
         self.as_slice().cmp(other.as_slice())
     }

@@ -1,8 +1,9 @@
-//! Messages that wait on their way to the rows of their keys: put and del, packets of them, and buffers.
+//! Messages that wait on their way to the rows of their keys: puts, dels and upserts, packets of them, and buffers.
 //!
-//! A message is sent to a key. What it makes of the value there is its effect: a put gives its own value, a del gives none.
-//! A [`Packet`] and a [`Buffer`] hold messages sorted by key, and those of one key in the order in which they came, so that
-//! the later one is the newer.
+//! A message is sent to a key. What it makes of the value there, or of none, is its effect: a put gives its own value, a del
+//! gives none, an upsert what [`Merge::merge`] makes of the old value or of none. A [`Packet`] and a [`Buffer`] hold messages
+//! sorted by key, and those of one key in the order in which they came, so that the later one is the newer. Two upserts of a
+//! key stay two messages.
 //!
 //! ```text
 //! let mut batch = Vec::new(alloc);

@@ -1,16 +1,23 @@
 //! Typed rows: kinds and values, the columns of a table, and the refusals that every layer answers.
 //!
-//! A field of a record is read by the kind of its column and becomes a [`Value`]; a record becomes a [`Row`], or is
-//! refused with a number, a name and the item at fault. A row is printed as one record.
+//! A field of a record is read by the kind of its column and becomes a [`Value`]: an int, a text or a flag. A record becomes a
+//! [`Row`], or is refused with a number, a name and the item at fault. A row is printed as one record. The record of an
+//! upsert becomes a key and operations ([`Op`]), which change single columns of a row.
 //!
 //! ```text
-//! let columns = vec![in alloc; Column::new(Text::new(alloc, "id")?, Kind::Int), Column::new(Text::new(alloc, "qty")?, Kind::Int)]?;
+//! let mut columns = Columns::new(alloc);
+//! for (name, kind) in [("id", Kind::Int), ("city", Kind::Text), ("qty", Kind::Int)] {
+//!     let name = Text::new(alloc, name)?;
+//!     columns.push(Column { name, kind })?;
+//! }
 //! let schema = Schema::new(columns, 1)?;
 //! let mut fields = Fields::new(alloc);
 //! fields.push(b"007")?;
+//! fields.push(b"Oslo, west")?;
 //! fields.push(b"-5")?;
-//! let row = schema.read_row(alloc, 1, &fields)?;
-//! row.write_record(&mut out)?;            // 7,-5
+//! let row = read_row(alloc, &schema, 1, &fields)?;
+//! write_record(&mut out, row.as_slice())?;                    // adds 7,"Oslo, west",-5
+//! let row = apply_ops(alloc, row, &[Op::Add(2, 8)])?;         // the last value is 3
 //! ```
 #![tactic(auto)]
 
