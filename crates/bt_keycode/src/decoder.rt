@@ -1,5 +1,5 @@
 //! Values from their key code.
-ghost use Rattle.std.specs.Prelude.{◌≡◌, ◌<◌, ◌∷◌, [], IfOk, IfSome, IfNone, IsErrOf, List, None, Some, false, true, length, ℕ};
+ghost use Rattle.std.specs.Prelude.{◌≡◌, ◌<◌, ◌∷◌, [], IfErr, IfOk, IfSome, IfNone, IsErrOf, List, None, Some, false, true, length, ℕ};
 ghost use Rattle.bt_keycode.specs.Codes.{IsCodeOf, raised};
 ghost use Rattle.bt_keycode.specs.Decoding.{BeginsWith, BeginsWithAll, after_bytes, ended, unescaped};
 ghost use Rattle.bt_rowtype.specs.Values.{is_text};
@@ -41,6 +41,7 @@ fn lower(number: u64) -> i64
 fn read_int(bytes: &[u8]) -> Result<(Value, &[u8]), DecodeError>
     ensures found { IfOk result (λ read. BeginsWith Kind.Int bytes.now read.0 read.1.now) }
     ensures none { IsErrOf result DecodeError.NotACode → (other : value) (rest : List ℕ) → BeginsWith Kind.Int bytes.now other rest → ⊥ }
+    ensures memory { IfErr result (λ e. e ≡ DecodeError.NotACode) }
 {
     if bytes.len() < 8 {
         return Err(DecodeError::NotACode);
@@ -52,6 +53,7 @@ fn read_int(bytes: &[u8]) -> Result<(Value, &[u8]), DecodeError>
 fn read_flag(bytes: &[u8]) -> Result<(Value, &[u8]), DecodeError>
     ensures found { IfOk result (λ read. BeginsWith Kind.Flag bytes.now read.0 read.1.now) }
     ensures none { IsErrOf result DecodeError.NotACode → (other : value) (rest : List ℕ) → BeginsWith Kind.Flag bytes.now other rest → ⊥ }
+    ensures memory { IfErr result (λ e. e ≡ DecodeError.NotACode) }
 {
     match bytes {
         [0, rest @ ..] => Ok((Value::Flag(false), rest)),

@@ -214,26 +214,33 @@ mod tests {
         Ok(())
     }
 
+    // A buffer of puts to 1, 3 and 5, and a newer del to 3.
+    fn puts_and_del(alloc: Global) -> Result<Buffer<Row>, AllocError> {
+        let mut batch = Vec::new(alloc);
+        for number in [5, 1, 3] {
+            batch.push(put(alloc, number)?)?;
+        }
+        batch.push(del(alloc, 3)?)?;
+        buffer_of(alloc, batch)
+    }
+
+    fn take_between(
+        alloc: Global,
+        buffer: &mut Buffer<Row>,
+        from: i64,
+        to: i64,
+    ) -> Result<Packet<Row>, AllocError> {
+        let from = key_of(alloc, from)?;
+        let to = key_of(alloc, to)?;
+        buffer.take_range(alloc, Some(&from), Some(&to))
+    }
+
     #[test]
     fn a_range_between_two_keys(rt: HostRuntime) -> Result<(), Fail> {
         let alloc = rt.alloc();
-        let batch = vec![in alloc;
-            put(alloc, 5)?,
-            put(alloc, 1)?,
-            put(alloc, 3)?,
-            del(alloc, 3)?,
-        ]?;
-        let mut buffer = buffer_of(alloc, batch)?;
-        let (three, five) = (key_of(alloc, 3)?, key_of(alloc, 5)?);
-        assert!(rt;
-            buffer
-                .take_range(alloc, Some(&five), Some(&three))?
-                .is_empty()
-        );
-        assert_eq!(rt;
-            buffer.take_range(alloc, Some(&three), Some(&five))?.len(),
-            2
-        );
+        let mut buffer = puts_and_del(alloc)?;
+        assert!(rt; take_between(alloc, &mut buffer, 5, 3)?.is_empty());
+        assert_eq!(rt; take_between(alloc, &mut buffer, 3, 5)?.len(), 2);
         assert_eq!(rt; buffer.count(), 2);
         assert!(rt; is_put(alloc, &buffer, 1, 5)?);
         assert_eq!(rt; buffer.take_range(alloc, None, None)?.len(), 2);
@@ -241,17 +248,44 @@ mod tests {
         Ok(())
     }
 
+    // Whether there is a row after a message.
+    fn has_row_after(
+        alloc: Global,
+        old: Option<Row>,
+        message: Message<Row>,
+    ) -> Result<bool, AllocError> {
+        Ok(effect(alloc, old, message)?.is_some())
+    }
+
+    // Whether there is a row after a message to a row of sevens.
+    fn has_row_after_sevens(alloc: Global, message: Message<Row>) -> Result<bool, AllocError> {
+        let old = row_of(alloc, 7, 7)?;
+        has_row_after(alloc, Some(old), message)
+    }
+
+    #[test]
+    fn copies_of_rows(rt: HostRuntime) -> Result<(), Fail> {
+        let alloc = rt.alloc();
+        let copy = copy_row(alloc, &row_of(alloc, 1, 2)?)?;
+        assert!(rt; matches!(copy.as_slice(), [Value::Int(1), Value::Int(2)]));
+        Ok(())
+    }
+
+    #[test]
+    fn what_messages_make_of_no_row(rt: HostRuntime) -> Result<(), Fail> {
+        let alloc = rt.alloc();
+        assert!(rt; !has_row_after(alloc, None, Message::Del)?);
+        let row = row_of(alloc, 1, 2)?;
+        assert!(rt; has_row_after(alloc, None, Message::Put(copy_row(alloc, &row)?))?);
+        Ok(())
+    }
+
     #[test]
     fn what_messages_make_of_rows(rt: HostRuntime) -> Result<(), Fail> {
         let alloc = rt.alloc();
-        let row = row_of(alloc, 1, 2)?;
-        let copy = copy_row(alloc, &row)?;
-        assert!(rt; matches!(copy.as_slice(), [Value::Int(1), Value::Int(2)]));
-        assert!(rt; effect::<Row>(alloc, None, Message::Del)?.is_none());
-        assert!(rt; effect(alloc, None, Message::Put(copy))?.is_some());
-        let message = Message::Put(row);
-        assert!(rt; effect(alloc, Some(row_of(alloc, 7, 7)?), message.copy(alloc)?)?.is_some());
-        assert!(rt; effect(alloc, Some(row_of(alloc, 7, 7)?), Message::Del)?.is_none());
+        let message = Message::Put(row_of(alloc, 1, 2)?);
+        assert!(rt; has_row_after_sevens(alloc, message.copy(alloc)?)?);
+        assert!(rt; !has_row_after_sevens(alloc, Message::Del)?);
         Ok(())
     }
 }

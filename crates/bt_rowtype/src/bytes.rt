@@ -1,5 +1,5 @@
 //! Bytes, of which a few take no memory of their own.
-ghost use Rattle.std.specs.Prelude.{◌≡◌, ◌≤◌, [], IfOk, length, take};
+ghost use Rattle.std.specs.Prelude.{◌≡◌, ◌≤◌, [], IfOk, IsOk, length, take};
 ghost use Rattle.bt_rowtype.specs.Shorts.{FitsInside, bytes_of};
 
 use std::alloc::{AllocError, Global};
@@ -65,7 +65,8 @@ impl Bytes {
 
     /// A copy of these bytes.
     pub fn from_slice(alloc: Global, bytes: &[u8]) -> Result<Self, AllocError>
-        ensures { IfOk result (λ copy. copy ≡ bytes.now) }
+        ensures copy { IfOk result (λ copy. copy ≡ bytes.now) }
+        ensures short { length bytes.now ≤ SHORT → IsOk result }
     {
         if bytes.len() <= SHORT {
             return Ok(Bytes { kept: short(bytes) });

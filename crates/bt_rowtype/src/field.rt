@@ -1,5 +1,5 @@
 //! Reading one field.
-ghost use Rattle.std.specs.Prelude.{◌≡◌, ◌≢◌, ◌==◌, Some, None, Ok, Err, IfOk, IfErr, if◌then◌else◌, slice_index};
+ghost use Rattle.std.specs.Prelude.{◌≡◌, ◌≢◌, ◌==◌, false, Some, None, Ok, Err, IfOk, IfErr, if◌then◌else◌, slice_index};
 ghost use Rattle.bt_rowtype.specs.Ints.{int_of};
 ghost use Rattle.bt_rowtype.specs.Values.{flag_of, is_text, or_refused, value_of};
 
@@ -47,7 +47,8 @@ pub(crate) fn is_text(bytes: &[u8]) -> bool
 // The text that a field is.
 #[tactic(auto, using(crate::proofs::Utf8::short_text, crate::proofs::Utf8::long_text, crate::proofs::Utf8::no_text))]
 fn read_text(alloc: Global, field: &[u8]) -> Result<Option<Text>, AllocError>
-    ensures { IfOk result (λ text. text ≡ (if is_text field.now then Some field.now else None)) }
+    ensures text { IfOk result (λ text. text ≡ (if is_text field.now then Some field.now else None)) }
+    ensures none { is_text field.now ≡ false → result ≡ Ok None }
 {
     if field.len() > LONGEST_TEXT {
         return Ok(None);
@@ -73,7 +74,8 @@ fn read_flag(field: &[u8]) -> Option<bool>
 
 // The value that a field spells in a column of a kind.
 fn read_value(alloc: Global, kind: Kind, field: &[u8]) -> Result<Option<Value>, AllocError>
-    ensures { IfOk result (λ value. value ≡ value_of kind field.now) }
+    ensures value { IfOk result (λ value. value ≡ value_of kind field.now) }
+    ensures none { value_of kind field.now ≡ None → result ≡ Ok None }
 {
     match kind {
         Kind::Int => Ok(read_int(field).map(Value::Int)),
@@ -89,6 +91,7 @@ fn read_value(alloc: Global, kind: Kind, field: &[u8]) -> Result<Option<Value>, 
 pub fn read_field(alloc: Global, kind: Kind, field: &[u8]) -> Result<Value, Refusal>
     ensures ok { IfOk result (λ value. or_refused (Refusal.BadField 1) (value_of kind field.now) ≡ Ok value) }
     ensures refused { IfErr result (λ e. e ≢ Refusal.OutOfMemory → or_refused (Refusal.BadField 1) (value_of kind field.now) ≡ Err e) }
+    ensures certain { value_of kind field.now ≡ None → result ≡ Err (Refusal.BadField 1) }
 {
     match read_value(alloc, kind, field)? {
         Some(value) => Ok(value),

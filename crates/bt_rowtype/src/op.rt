@@ -197,6 +197,7 @@ fn read_set(
 ) -> Result<Op, Refusal>
     ensures ok { IfOk result (λ op. spec.at_column (spec.set_of item argument.now) (spec.open_column schema.now name.now) ≡ Ok op) }
     ensures refused { IfErr result (λ e. e ≢ Refusal.OutOfMemory → spec.at_column (spec.set_of item argument.now) (spec.open_column schema.now name.now) ≡ Err e) }
+    ensures no_column { spec.open_column schema.now name.now ≡ None → result ≡ Err Refusal.NoSuchColumn }
 {
     let Some((place, kind)) = find_column(schema, name) else {
         return Err(Refusal::NoSuchColumn);
