@@ -82,58 +82,45 @@ mod tests {
     use super::*;
     use crate::absorb::absorb;
     use crate::rows::Rows;
-    use crate::shape::Shape;
-    use bt_keycode::encode;
-    use bt_messages::{Message, Packet};
-    use bt_rowtype::{Row, Value};
+    use crate::samples::{Sent, is_row, key_of, packet_of, small_shape};
+    use bt_rowtype::Row;
     use std::test::Fail;
 
-    fn key_of(alloc: Global, number: i64) -> Result<Key, AllocError> {
-        encode(alloc, &[Value::Int(number)])
-    }
-
-    fn put(alloc: Global, number: i64, other: i64) -> Result<(Key, Message<Row>), AllocError> {
-        let row = Row::new(vec![in alloc; Value::Int(number), Value::Int(other)]?);
-        Ok((key_of(alloc, number)?, Message::Put(row)))
-    }
-
-    fn del(alloc: Global, number: i64) -> Result<(Key, Message<Row>), AllocError> {
-        Ok((key_of(alloc, number)?, Message::Del))
-    }
-
-    fn holds(row: &Row, number: i64, other: i64) -> bool {
-        matches!(row.as_slice(), [Value::Int(a), Value::Int(b)] if *a == number && *b == other)
-    }
-
-    // Two leaves of two rows each, and no messages.
-    fn two_leaves(alloc: Global, shape: Shape) -> Result<Node<Row>, AllocError> {
-        let batch = vec![in alloc;
-            put(alloc, 1, 10)?,
-            put(alloc, 2, 20)?,
-            put(alloc, 3, 30)?,
-            put(alloc, 4, 40)?,
-        ]?;
-        let rows = Node::Leaf(Rows::new(alloc));
-        let children = absorb(alloc, shape, rows, Packet::from_batch(alloc, batch)?)?;
+    // The node that a leaf of four rows becomes: two leaves of two rows each, and no messages.
+    fn two_leaves(alloc: Global) -> Result<Node<Row>, AllocError> {
+        let batch = [
+            (1, Sent::Put(10)),
+            (2, Sent::Put(20)),
+            (3, Sent::Put(30)),
+            (4, Sent::Put(40)),
+        ];
+        let leaf = Node::Leaf(Rows::new(alloc));
+        let children = absorb(alloc, small_shape()?, leaf, packet_of(alloc, &batch)?)?;
         let buffer = Buffer::new(alloc);
         Ok(Node::Inner { children, buffer })
+    }
+
+    // Whether a key has a row of this quantity.
+    fn has(
+        alloc: Global,
+        node: &Node<Row>,
+        number: i64,
+        quantity: i64,
+    ) -> Result<bool, AllocError> {
+        let row = value_at(alloc, node, &key_of(alloc, number)?)?;
+        Ok(row.is_some_and(|row| is_row(&row, number, quantity)))
     }
 
     #[test]
     fn lookups_in_two_levels(rt: HostRuntime) -> Result<(), Fail> {
         let alloc = rt.alloc();
-        let shape = Shape::new(4, 3, 2).unwrap();
-        let node = two_leaves(alloc, shape)?;
-        let batch = vec![in alloc; put(alloc, 5, 50)?, del(alloc, 4)?, put(alloc, 5, 51)?]?;
-        let nodes = absorb(alloc, shape, node, Packet::from_batch(alloc, batch)?)?;
+        let batch = [(5, Sent::Put(50)), (4, Sent::Del), (5, Sent::Add(1))];
+        let packet = packet_of(alloc, &batch)?;
+        let nodes = absorb(alloc, small_shape()?, two_leaves(alloc)?, packet)?;
         assert_eq!(rt; nodes.len(), 1);
         let node = &nodes[0].1;
-        assert!(rt;
-            matches!(node, Node::Inner { children, buffer } if children.len() == 2 && buffer.count() == 3)
-        );
-        for (number, other) in [(1, 10), (2, 20), (3, 30), (5, 51)] {
-            let found = value_at(alloc, node, &key_of(alloc, number)?)?;
-            assert!(rt; found.is_some_and(|row| holds(&row, number, other)));
+        for (number, quantity) in [(1, 10), (2, 20), (3, 30), (5, 51)] {
+            assert!(rt; has(alloc, node, number, quantity)?);
         }
         for number in [-1, 0, 4, 6] {
             assert!(rt; value_at(alloc, node, &key_of(alloc, number)?)?.is_none());

@@ -198,75 +198,61 @@ impl<V: Merge> Rows<V> {
 #[cfg(test)]
 mod tests {
     use super::*;
-    use bt_keycode::encode;
-    use bt_messages::Message;
-    use bt_rowtype::{Row, Value};
+    use crate::samples::{Sent, is_key, is_row, key_of, packet_of};
+    use bt_rowtype::Row;
     use std::test::Fail;
 
-    fn key_of(alloc: Global, number: i64) -> Result<Key, AllocError> {
-        encode(alloc, &[Value::Int(number)])
+    // The rows of three numbers.
+    fn three_rows(alloc: Global) -> Result<Rows<Row>, AllocError> {
+        let batch = [(5, Sent::Put(50)), (1, Sent::Put(10)), (3, Sent::Put(30))];
+        Rows::new(alloc).after(alloc, packet_of(alloc, &batch)?)
     }
 
-    // A put of a number with another one, or a del of it.
-    fn change(
+    // Whether a key is found with this quantity.
+    fn finds(
         alloc: Global,
+        rows: &Rows<Row>,
         number: i64,
-        other: Option<i64>,
-    ) -> Result<(Key, Message<Row>), AllocError> {
+        quantity: i64,
+    ) -> Result<bool, AllocError> {
         let key = key_of(alloc, number)?;
-        let Some(other) = other else {
-            return Ok((key, Message::Del));
-        };
-        let row = Row::new(vec![in alloc; Value::Int(number), Value::Int(other)]?);
-        Ok((key, Message::Put(row)))
-    }
-
-    fn packet(alloc: Global, changes: &[(i64, Option<i64>)]) -> Result<Packet<Row>, AllocError> {
-        let mut batch = Vec::new(alloc);
-        for (number, other) in changes {
-            batch.push(change(alloc, *number, *other)?)?;
-        }
-        Packet::from_batch(alloc, batch)
-    }
-
-    fn holds(row: &Row, number: i64, other: i64) -> bool {
-        matches!(row.as_slice(), [Value::Int(a), Value::Int(b)] if *a == number && *b == other)
-    }
-
-    // Whether a key is found with this other number.
-    fn finds(alloc: Global, rows: &Rows<Row>, number: i64, other: i64) -> Result<bool, AllocError> {
-        let key = key_of(alloc, number)?;
-        Ok(rows.find(&key).is_some_and(|row| holds(row, number, other)))
+        Ok(
+            rows.find(&key)
+                .is_some_and(|row| is_row(row, number, quantity)),
+        )
     }
 
     #[test]
     fn messages_change_rows(rt: HostRuntime) -> Result<(), Fail> {
         let alloc = rt.alloc();
-        let first = [(5, Some(50)), (1, Some(10)), (3, Some(30))];
-        let rows = Rows::new(alloc).after(alloc, packet(alloc, &first)?)?;
-        assert_eq!(rt; rows.len(), 3);
-
-        let second = [
-            (5, Some(51)),
-            (1, None),
-            (4, Some(40)),
-            (7, Some(70)),
-            (5, Some(52)),
-            (7, None),
-            (9, None),
-            (0, Some(0)),
+        let batch = [
+            (5, Sent::Put(51)),
+            (1, Sent::Del),
+            (4, Sent::Add(40)),
+            (7, Sent::Put(70)),
+            (5, Sent::Add(1)),
+            (7, Sent::Del),
+            (9, Sent::Del),
+            (0, Sent::Put(0)),
         ];
-        let rows = rows.after(alloc, packet(alloc, &second)?)?;
-        let rows = rows.after(alloc, Packet::new(alloc))?;
+        let rows = three_rows(alloc)?.after(alloc, packet_of(alloc, &batch)?)?;
         let wanted = [(0, 0), (3, 30), (4, 40), (5, 52)];
         assert_eq!(rt; rows.len(), wanted.len());
-        for (place, (number, other)) in wanted.into_iter().enumerate() {
-            let (at, row) = rows.get(place);
-            assert!(rt; at.compare(&key_of(alloc, number)?) == Ordering::Equal);
-            assert!(rt; holds(row, number, other));
-            assert!(rt; finds(alloc, &rows, number, other)?);
+        for (place, (number, quantity)) in wanted.into_iter().enumerate() {
+            let (key, row) = rows.get(place);
+            assert!(rt; is_key(alloc, key, number)?);
+            assert!(rt; is_row(row, number, quantity));
+            assert!(rt; finds(alloc, &rows, number, quantity)?);
         }
-        assert!(rt; rows.find(&key_of(alloc, 1)?).is_none());
+        Ok(())
+    }
+
+    #[test]
+    fn keys_without_rows(rt: HostRuntime) -> Result<(), Fail> {
+        let alloc = rt.alloc();
+        let rows = three_rows(alloc)?.after(alloc, Packet::new(alloc))?;
+        assert_eq!(rt; rows.len(), 3);
+        assert!(rt; rows.find(&key_of(alloc, 2)?).is_none());
         assert!(rt; rows.find(&key_of(alloc, 9)?).is_none());
         Ok(())
     }
@@ -274,8 +260,8 @@ mod tests {
     #[test]
     fn rows_are_dealt(rt: HostRuntime) -> Result<(), Fail> {
         let alloc = rt.alloc();
-        let four = [(1, Some(1)), (2, Some(2)), (3, Some(3)), (4, Some(4))];
-        let rows = Rows::new(alloc).after(alloc, packet(alloc, &four)?)?;
+        let batch = [(4, Sent::Put(40))];
+        let rows = three_rows(alloc)?.after(alloc, packet_of(alloc, &batch)?)?;
         let parts = rows.deal(alloc, 3)?;
         assert_eq!(rt; parts.len(), 2);
         for part in &parts {

@@ -189,25 +189,20 @@ impl<V: Merge> Tree<V> {
 #[cfg(test)]
 mod tests {
     use super::*;
-    use bt_keycode::encode;
+    use crate::samples::{Sent, is_key, is_row, key_of, packet_of, small_shape};
     use bt_messages::Message;
-    use bt_rowtype::{Change, Op, Ops, Row, Value};
-    use std::cmp::Ordering;
+    use bt_rowtype::Row;
     use std::test::Fail;
 
-    fn shape() -> Result<Shape, AllocError> {
-        Shape::new(4, 3, 2).map_err(|_| AllocError)
-    }
-
-    // Puts of numbers, each under its own code.
-    fn puts(alloc: Global, numbers: &[i64]) -> Result<Packet<Row>, AllocError> {
-        let mut batch = Vec::new(alloc);
-        for number in numbers {
-            let key = encode(alloc, &[Value::Int(*number)])?;
-            let row = Row::new(vec![in alloc; Value::Int(*number)]?);
-            batch.push((key, Message::Put(row)))?;
-        }
-        Packet::from_batch(alloc, batch)
+    // The rows of four numbers, of each a quantity of ten times the number: two leaves of two rows each.
+    fn two_leaves(alloc: Global) -> Result<Tree<Row>, AllocError> {
+        let batch = [
+            (1, Sent::Put(10)),
+            (2, Sent::Put(20)),
+            (3, Sent::Put(30)),
+            (4, Sent::Put(40)),
+        ];
+        Tree::empty(alloc, small_shape()?).sink(alloc, packet_of(alloc, &batch)?)
     }
 
     // The numbers of rows of the children, from left to right.
@@ -228,124 +223,118 @@ mod tests {
         Ok(counts)
     }
 
+    // Whether a tree holds just these numbers with these quantities.
+    fn holds(alloc: Global, tree: &Tree<Row>, wanted: &[(i64, i64)]) -> Result<bool, AllocError> {
+        let rows = tree.rows(alloc)?;
+        if rows.len() != wanted.len() {
+            return Ok(false);
+        }
+        for (place, (key, row)) in rows.iter().enumerate() {
+            if place >= wanted.len() {
+                return Ok(false);
+            }
+            let (number, quantity) = wanted[place];
+            if !is_key(alloc, key, number)? || !is_row(row, number, quantity) {
+                return Ok(false);
+            }
+        }
+        Ok(true)
+    }
+
     #[test]
-    fn a_leaf_splits_and_ties_flush_left(rt: HostRuntime) -> Result<(), Fail> {
+    fn a_leaf_splits(rt: HostRuntime) -> Result<(), Fail> {
         let alloc = rt.alloc();
-        let tree = Tree::empty(alloc, shape()?);
+        let tree = Tree::<Row>::empty(alloc, small_shape()?);
         assert!(rt; tree.walk().is_leaf());
         assert_eq!(rt; tree.shape().fanout(), 4);
-        let tree = tree.sink(alloc, puts(alloc, &[1, 2, 3, 4])?)?;
+        let tree = two_leaves(alloc)?;
         assert_eq!(rt;
             rows_of_children(alloc, &tree.walk())?.as_slice(),
             [2, 2].as_slice()
         );
         assert_eq!(rt; tree.walk().message_count(), 0);
+        Ok(())
+    }
 
-        let tree = tree.sink(alloc, puts(alloc, &[1, 2, 3, 4])?)?;
-        let three = encode(alloc, &[Value::Int(3)])?;
+    #[test]
+    fn ties_flush_left(rt: HostRuntime) -> Result<(), Fail> {
+        let alloc = rt.alloc();
+        let batch = [
+            (1, Sent::Put(11)),
+            (2, Sent::Put(21)),
+            (3, Sent::Put(31)),
+            (4, Sent::Put(41)),
+        ];
+        let tree = two_leaves(alloc)?.sink(alloc, packet_of(alloc, &batch)?)?;
         let root = tree.walk();
         assert_eq!(rt; root.message_count(), 2);
         let (key, message) = root.message(0);
-        assert!(rt; key.compare(&three) == Ordering::Equal);
+        assert!(rt; is_key(alloc, key, 3)?);
         assert!(rt; matches!(message, Message::Put(_)));
         assert_eq!(rt; root.child_count(), 2);
-        assert!(rt; root.pivot(1).compare(&three) == Ordering::Equal);
+        assert!(rt; is_key(alloc, root.pivot(1), 3)?);
         Ok(())
     }
 
     #[test]
     fn children_are_dealt_under_a_new_root(rt: HostRuntime) -> Result<(), Fail> {
         let alloc = rt.alloc();
-        let packet = puts(alloc, &[1, 2, 3, 4, 5, 6, 7, 8, 9])?;
-        let tree = Tree::empty(alloc, shape()?).sink(alloc, packet)?;
+        let batch = [
+            (5, Sent::Put(50)),
+            (6, Sent::Put(60)),
+            (7, Sent::Put(70)),
+            (8, Sent::Put(80)),
+            (9, Sent::Put(90)),
+            (10, Sent::Put(100)),
+        ];
+        let tree = two_leaves(alloc)?.sink(alloc, packet_of(alloc, &batch)?)?;
         assert_eq!(rt;
             children_of_children(alloc, &tree.walk())?.as_slice(),
             [3, 2].as_slice()
         );
-        let seven = encode(alloc, &[Value::Int(7)])?;
-        assert!(rt; tree.get(alloc, &seven)?.is_some());
-        let ten = encode(alloc, &[Value::Int(10)])?;
-        assert!(rt; tree.get(alloc, &ten)?.is_none());
         Ok(())
     }
 
-    // A row of a number and a quantity.
-    fn row_of(alloc: Global, number: i64, quantity: i64) -> Result<Row, AllocError> {
-        Ok(Row::new(vec![in alloc; Value::Int(number), Value::Int(quantity)]?))
-    }
-
-    fn put(alloc: Global, number: i64, quantity: i64) -> Result<(Key, Message<Row>), AllocError> {
-        let key = encode(alloc, &[Value::Int(number)])?;
-        Ok((key, Message::Put(row_of(alloc, number, quantity)?)))
-    }
-
-    // An upsert that adds to the quantity.
-    fn add(alloc: Global, number: i64, more: i64) -> Result<(Key, Message<Row>), AllocError> {
-        let key = encode(alloc, &[Value::Int(number)])?;
-        let base = row_of(alloc, number, 0)?;
-        let mut ops = Ops::new(alloc);
-        ops.push(Op::Add(1, more))?;
-        Ok((key, Message::Ups(Change { base, ops })))
-    }
-
-    fn holds(row: &Row, number: i64, quantity: i64) -> bool {
-        matches!(row.as_slice(), [Value::Int(a), Value::Int(b)] if *a == number && *b == quantity)
-    }
-
-    // Two leaves of two rows each, with a quantity of ten times the number.
-    fn two_leaves(alloc: Global) -> Result<Tree<Row>, AllocError> {
-        let batch = vec![in alloc;
-            put(alloc, 1, 10)?,
-            put(alloc, 2, 20)?,
-            put(alloc, 3, 30)?,
-            put(alloc, 4, 40)?,
-        ]?;
-        Tree::empty(alloc, shape()?).sink(alloc, Packet::from_batch(alloc, batch)?)
+    #[test]
+    fn rows_are_looked_up(rt: HostRuntime) -> Result<(), Fail> {
+        let alloc = rt.alloc();
+        let tree = two_leaves(alloc)?;
+        assert!(rt;
+            tree.get(alloc, &key_of(alloc, 3)?)?
+                .is_some_and(|row| is_row(&row, 3, 30))
+        );
+        assert!(rt; tree.get(alloc, &key_of(alloc, 5)?)?.is_none());
+        Ok(())
     }
 
     #[test]
     fn upserts_wait_one_by_one(rt: HostRuntime) -> Result<(), Fail> {
         let alloc = rt.alloc();
-        let batch = vec![in alloc; add(alloc, 1, 5)?, put(alloc, 4, 0)?, add(alloc, 1, 5)?]?;
-        let tree = two_leaves(alloc)?.sink(alloc, Packet::from_batch(alloc, batch)?)?;
-        let one = encode(alloc, &[Value::Int(1)])?;
+        let batch = [(1, Sent::Add(5)), (4, Sent::Put(0)), (1, Sent::Add(5))];
+        let tree = two_leaves(alloc)?.sink(alloc, packet_of(alloc, &batch)?)?;
         let root = tree.walk();
         assert_eq!(rt; root.message_count(), 3);
         for place in 0..2 {
             let (key, message) = root.message(place);
-            assert!(rt; key.compare(&one) == Ordering::Equal);
+            assert!(rt; is_key(alloc, key, 1)?);
             assert!(rt; matches!(message, Message::Ups(_)));
         }
-        assert!(rt; tree.get(alloc, &one)?.is_some_and(|row| holds(&row, 1, 20)));
-
-        let rows = tree.rows(alloc)?;
-        let wanted = [(1, 20), (2, 20), (3, 30), (4, 0)];
-        assert_eq!(rt; rows.len(), wanted.len());
-        for (place, (number, quantity)) in wanted.into_iter().enumerate() {
-            let key = encode(alloc, &[Value::Int(number)])?;
-            assert!(rt; rows[place].0.compare(&key) == Ordering::Equal);
-            assert!(rt; holds(&rows[place].1, number, quantity));
-        }
+        assert!(rt; holds(alloc, &tree, &[(1, 20), (2, 20), (3, 30), (4, 0)])?);
         Ok(())
     }
 
     #[test]
     fn upserts_go_down_in_order(rt: HostRuntime) -> Result<(), Fail> {
         let alloc = rt.alloc();
-        let batch = vec![in alloc;
-            add(alloc, 1, 5)?,
-            put(alloc, 1, 7)?,
-            add(alloc, 1, 6)?,
-            add(alloc, 0, 9)?,
-        ]?;
-        let tree = two_leaves(alloc)?.sink(alloc, Packet::from_batch(alloc, batch)?)?;
+        let batch = [
+            (1, Sent::Add(5)),
+            (1, Sent::Put(7)),
+            (1, Sent::Add(6)),
+            (0, Sent::Add(9)),
+        ];
+        let tree = two_leaves(alloc)?.sink(alloc, packet_of(alloc, &batch)?)?;
         assert_eq!(rt; tree.walk().message_count(), 0);
-        let rows = tree.rows(alloc)?;
-        let wanted = [(0, 9), (1, 13), (2, 20), (3, 30), (4, 40)];
-        assert_eq!(rt; rows.len(), wanted.len());
-        for (place, (number, quantity)) in wanted.into_iter().enumerate() {
-            assert!(rt; holds(&rows[place].1, number, quantity));
-        }
+        assert!(rt; holds(alloc, &tree, &[(0, 9), (1, 13), (2, 20), (3, 30), (4, 40)])?);
         Ok(())
     }
 }
