@@ -161,7 +161,7 @@ one_more kinds kind bytes values value code rest a b = record {
 }
 
 split_at : {A : Type 0} (xs : List A) (i : ℕ) (d : A) → i < length xs → xs ≡ take i xs ++ (get_or xs i d ∷ drop (i + 1) xs)
-split_at xs i d below = sym (take-append-drop (i + 1) xs) ∙ ap (λ front. front ++ drop (i + 1) xs) (take_more xs i d below) ∙ append_assoc (take i xs) (get_or xs i d ∷ []) (drop (i + 1) xs)
+split_at xs i d below = sym (take-append-drop (i + 1) xs) ∙ ap (λ prefix. prefix ++ drop (i + 1) xs) (take_more xs i d below) ∙ append_assoc (take i xs) (get_or xs i d ∷ []) (drop (i + 1) xs)
 
 pub goes_on : (kinds : List Kind) (i : ℕ) (d : Kind) (bytes : List ℕ) (values new : List Value) (value : Value) (code rest : List ℕ) → i < length kinds →
     new ≡ values ++ value ∷ [] → BeginsWithAll (take i kinds) bytes values code → BeginsWith (get_or kinds i d) code value rest →

@@ -36,14 +36,14 @@ unfolding eight_bytes
 eight_long n rest = omega arith
 
 -- a list that is long enough has no padding
-padded_front : (n : ℕ) (xs : List ℕ) → n ≤ length xs → padded n xs ++ drop n xs ≡ xs
-padded_front zero xs long = refl
-padded_front (suc n) [] long = absurd (omega arith)
-padded_front (suc n) (x ∷ xs) long = ap (λ ys. x ∷ ys) (padded_front n xs (omega arith))
+padded_prefix : (n : ℕ) (xs : List ℕ) → n ≤ length xs → padded n xs ++ drop n xs ≡ xs
+padded_prefix zero xs long = refl
+padded_prefix (suc n) [] long = absurd (omega arith)
+padded_prefix (suc n) (x ∷ xs) long = ap (λ ys. x ∷ ys) (padded_prefix n xs (omega arith))
 
 -- bytes are the first eight of them and the others
 pub eight_and_others : (n : ℕ) (bytes : List ℕ) → eight_bytes n ≡ first_eight bytes → 8 ≤ length bytes → eight_bytes n ++ take (length bytes - 8) (drop 8 bytes) ≡ bytes
 unfolding first_eight
 eight_and_others n bytes same long =
     let others : take (length bytes - 8) (drop 8 bytes) ≡ drop 8 bytes = ap (λ k. take k (drop 8 bytes)) (sym (length-drop 8 bytes)) ∙ take-length (drop 8 bytes) in
-    ap (λ ys. ys ++ take (length bytes - 8) (drop 8 bytes)) same ∙ ap (λ ys. first_eight bytes ++ ys) others ∙ padded_front 8 bytes long
+    ap (λ ys. ys ++ take (length bytes - 8) (drop 8 bytes)) same ∙ ap (λ ys. first_eight bytes ++ ys) others ∙ padded_prefix 8 bytes long

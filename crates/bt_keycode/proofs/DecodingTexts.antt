@@ -32,11 +32,11 @@ read_again (suc n ∷ text) rest =
     ap (λ code. unescaped (code ++ (0 ∷ 1 ∷ rest))) (escaped-suc n text) ∙ ap (after_bytes (suc n ∷ [])) (read_again text rest)
 
 -- what was read with bytes before it
-read_after : (front : List ℕ) (read : Option (List ℕ × List ℕ)) (text rest : List ℕ) → after_bytes front read ≡ Some (text, rest) →
-    (more : List ℕ) × (read ≡ Some (more, rest)) × (text ≡ front ++ more)
-read_after front None text rest e = cc
-read_after front (Some read) text rest e =
-    let both = both_read (front ++ read.0) read.1 text rest e in
+read_after : (prefix : List ℕ) (read : Option (List ℕ × List ℕ)) (text rest : List ℕ) → after_bytes prefix read ≡ Some (text, rest) →
+    (more : List ℕ) × (read ≡ Some (more, rest)) × (text ≡ prefix ++ more)
+read_after prefix None text rest e = cc
+read_after prefix (Some read) text rest e =
+    let both = both_read (prefix ++ read.0) read.1 text rest e in
     (read.0, ap (λ r. Some (read.0, r)) both.1, sym both.0)
 
 -- what is read behind a zero byte

@@ -18,8 +18,8 @@ pub record BeginsWithAll (kinds : List Kind) (bytes : List ℕ) (values : List V
 
 -- what is read of a text, with these bytes before it
 abbrev pub after_bytes : List ℕ → Option (List ℕ × List ℕ) → Option (List ℕ × List ℕ)
-after_bytes front None = None
-after_bytes front (Some read) = Some (front ++ read.0, read.1)
+after_bytes prefix None = None
+after_bytes prefix (Some read) = Some (prefix ++ read.0, read.1)
 
 -- what is read of a text at the end of its code
 abbrev pub ended : List ℕ → Option (List ℕ × List ℕ)

@@ -1,4 +1,4 @@
-//! Buffers: what waits at a node.
+//! Buffers: what is pending at a node.
 ghost use Rattle.std.specs.Prelude.{◌≡◌, ◌==◌, ◌<◌, ◌≤◌, [], Some, IfOk, OnOk, OnErr, drop, length, slice_get, take};
 ghost use Rattle.bt_messages.specs.Messages.{IsSorted, messages_before, messages_between, messages_from, messages_outside, with_messages};
 ghost use Rattle.std.specs.Option.{option_copied};
@@ -11,7 +11,7 @@ use bt_keycode::Key;
 use std::alloc::{AllocError, Global};
 use std::marker::Model;
 
-/// Messages that wait, sorted by key, those of one key in the order in which they came.
+/// Messages that are pending, sorted by key, those of one key in the order in which they came.
 #[derive(Drop)]
 pub struct Buffer<V: Merge> {
     messages: Vec<(Key, Message<V>)>,
@@ -72,7 +72,7 @@ impl<V: Merge> Buffer<V> {
         Ok(Packet::from_sorted(sorted::copied(alloc, self.messages.as_slice())?))
     }
 
-    /// The messages, to be taken off from the front.
+    /// The messages, to be taken off in order.
     pub fn into_rest(self) -> Rest<V>
         ensures { result ≡ self }
     {

@@ -1,4 +1,4 @@
-//! Messages that wait on their way to the rows of their keys: puts, dels and upserts, packets of them, and buffers.
+//! Messages that are pending on their way to the rows of their keys: puts, dels and upserts, packets of them, and buffers.
 //!
 //! A message is sent to a key. What it makes of the value there, or of none, is its effect: a put gives its own value, a del
 //! gives none, an upsert what [`Merge::merge`] makes of the old value or of none. A [`Packet`] and a [`Buffer`] hold messages

@@ -1,4 +1,4 @@
-//! What is left of a buffer, as its messages are taken off from the front.
+//! What is left of a buffer, as its messages are taken off in order.
 ghost use Rattle.std.specs.Prelude.{◌≡◌, IfOk, OnOk};
 ghost use Rattle.bt_messages.specs.Messages.{IsSorted, messages_before, messages_from};
 

@@ -14,14 +14,14 @@ use Rattle.bt_node.specs.Trees.{Shape, Siblings, height, height_below, nodes}
 use Rattle.bt_node.specs.Fits.{IsLed}
 use Rattle.bt_node.specs.Flushes.{Child, absorb, counts, flushed, flushed_over, grouped, shared}
 use Rattle.bt_node.specs.Shares.{marked_children, with_shares}
-use Rattle.bt_node.specs.Views.{children_of, siblings_of, tree_of, waiting_of}
-use Rattle.bt_node.proofs.Children.{waits}
+use Rattle.bt_node.specs.Views.{children_of, siblings_of, tree_of, pending_of}
+use Rattle.bt_node.proofs.Children.{all_pending}
 use Rattle.bt_node.proofs.Groups.{children-nodes}
 use Rattle.bt_node.proofs.Marks.{flushed_over-marks}
 use Rattle.bt_node.proofs.Recursion.{absorb_recurs}
 use Rattle.bt_node.proofs.Still.{still-here}
 use Rattle.bt_node.proofs.Views.{tree_inner}
-use Rattle.bt_node.proofs.Waiting.{sorted-passed, sorted-rising, waits-of-shared}
+use Rattle.bt_node.proofs.Pending.{sorted-passed, sorted-rising, all_pending-of-shared}
 
 -- the height of the highest of these nodes
 abbrev pub highest : {V D : Type 0} → List (Key × Node V D) → ℕ
@@ -29,7 +29,7 @@ highest xs = height_below (nodes (siblings_of xs))
 
 -- one pass over children beside marks
 abbrev pub pass : {V D : Type 0} → (Option V → Message V D → Option V) → Shape → List (Child V (Message V D) × Bool) → List (Child V (Message V D))
-pass effect s = passed (λ c. length c.waiting) (flushed (absorb effect s))
+pass effect s = passed (λ c. length c.pending) (flushed (absorb effect s))
 
 module _ {V D : Type 0} (effect : Option V → Message V D → Option V) (s : Shape) (cs : Vec (Key × Node V D) Global) (buffer packet after : Messages (Message V D)) (taken : after ≡ with_messages packet buffer) (sorted : IsSorted after) where
   -- what becomes of the node
@@ -42,24 +42,24 @@ module _ {V D : Type 0} (effect : Option V → Message V D → Option V) (s : Sh
   -- it stays as it is
   pub stays_here : IsLed (siblings_of cs.items) → 1 ≤ s.fanout → length (siblings_of cs.items) ≤ s.fanout → length after ≤ s.buffer →
       ([], tree_of (variants.Inner cs after)) ∷ [] ≡ absorb effect s (tree_of (variants.Inner cs buffer)) packet
-  stays_here led some few waiting =
+  stays_here led some few pending =
       let ns = nodes (siblings_of cs.items) in
       let same = children-nodes (siblings_of cs.items) in
       ap (λ t. ([], t) ∷ []) (tree_inner cs after)
-      ∙ sym (still-here s ns after (subst IsLed (sym same) led) (sorted-rising after sorted) some (subst (λ xs. length xs ≤ s.fanout) (sym same) few) waiting (absorb effect s))
+      ∙ sym (still-here s ns after (subst IsLed (sym same) led) (sorted-rising after sorted) some (subst (λ xs. length xs ≤ s.fanout) (sym same) few) pending (absorb effect s))
       ∙ ap (λ xs. grouped s (flushed_over (absorb effect s) s.buffer (shared xs after))) same
       ∙ sym becomes
 
-  shares-sorted : (xs : Siblings V (Message V D)) → IsSorted (waits (shared xs after))
+  shares-sorted : (xs : Siblings V (Message V D)) → IsSorted (all_pending (shared xs after))
   shares-sorted [] = tt
-  shares-sorted (x ∷ xs) = subst IsSorted (sym (waits-of-shared (x ∷ xs) after tt sorted)) sorted
+  shares-sorted (x ∷ xs) = subst IsSorted (sym (all_pending-of-shared (x ∷ xs) after tt sorted)) sorted
 
   module _ (ss : List (Share V D)) (marked : with_shares cs.items ss ≡ marked_children (siblings_of cs.items) after s.buffer) (parts : List (code.Child V D)) (flushed_is : children_of parts ≡ pass effect s (with_shares cs.items ss)) where
-    -- what waits is still in order
-    pub parts_sorted : IsSorted (waiting_of parts)
+    -- what is pending is still in order
+    pub parts_sorted : IsSorted (pending_of parts)
     parts_sorted =
         let xs = shared (siblings_of cs.items) after in
-        subst (λ zs. IsSorted (waits zs)) (sym (flushed_is ∙ ap (pass effect s) marked))
+        subst (λ zs. IsSorted (all_pending zs)) (sym (flushed_is ∙ ap (pass effect s) marked))
         (sorted-passed (absorb effect s) xs (marks_of (length xs) (planned (counts xs) s.buffer)) (shares-sorted (siblings_of cs.items)))
 
     pub grouped_anew : grouped s (children_of parts) ≡ absorb effect s (tree_of (variants.Inner cs buffer)) packet

@@ -15,7 +15,7 @@ use Rattle.bt_node.proofs.Values.{find-rows}
 use Rattle.bt_node.proofs.Buffers.{within-with_messages, rising-with_messages, value-with_messages}
 use Rattle.bt_node.proofs.Loops.{names}
 use Rattle.bt_node.proofs.Outside.{nodes_hold-children}
-use Rattle.bt_node.proofs.Children.{ChildrenLie, waits, seen_in, value-below-seen}
+use Rattle.bt_node.proofs.Children.{ChildrenLie, all_pending, seen_in, value-below-seen}
 use Rattle.bt_node.proofs.Shares.{value-shared, below-shared, shared-lie}
 use Rattle.bt_node.proofs.Groups.{some-of, led-map, led-full, leaves-lie, leaves-led, leaves-hold, grouped-lie, find-grouped}
 use Rattle.bt_node.proofs.Passes.{Kept, Keeps, slots, flushed-planned, names-slots, passed-full, passed-lie, seen-passed}
@@ -39,7 +39,7 @@ groups effect levels s low high (c ∷ cs) l n p = record {
   finds = λ q. find-grouped effect levels s q low high c cs l p;
 }
 
-value-shared-all : {V M : Type 0} (effect : Option V → M → Option V) (q : Key) (xs : Siblings V M) (b : Messages M) (o : Option V) → NonEmpty xs → value_after effect q (waits (shared xs b)) o ≡ value_after effect q b o
+value-shared-all : {V M : Type 0} (effect : Option V → M → Option V) (q : Key) (xs : Siblings V M) (b : Messages M) (o : Option V) → NonEmpty xs → value_after effect q (all_pending (shared xs b)) o ≡ value_after effect q b o
 value-shared-all effect q [] b o n = absurd n
 value-shared-all effect q (x ∷ xs) b o n = value-shared effect q x xs b o
 
@@ -63,7 +63,7 @@ module _ {V M : Type 0} (effect : Option V → M → Option V) (s : Shape) (leaf
 
   -- an inner node's children after a packet, of which some are flushed, dealt
   pub pass-keeps : (levels : ℕ) (f : Flush V M) → Keeps effect levels f → (low high : Option Key) (ns : Nodes V M) (b p : Messages M) → Lies (suc levels) low high (inner ns b) → AllWithin low high p →
-      (ss : List (Child V M × Bool)) → names ss ≡ start ns b p → Kept effect (suc levels) low high (inner ns b) p (grouped s (passed (λ c. length c.waiting) (flushed f) ss))
+      (ss : List (Child V M × Bool)) → names ss ≡ start ns b p → Kept effect (suc levels) low high (inner ns b) p (grouped s (passed (λ c. length c.pending) (flushed f) ss))
   pass-keeps levels f keeps low high ns b p lies within ss same = record { lie = g.lie; led = g.led; finds = λ q. g.finds q ∙ found q }
     where
       all : Messages M
@@ -75,10 +75,10 @@ module _ {V M : Type 0} (effect : Option V → M → Option V) (s : Shape) (leaf
       full : NonEmpty (names ss)
       full = subst NonEmpty (sym same) (shared-full (children ns) all (led-full _ lies.3))
 
-      g : Grouped effect levels s low high (passed (λ c. length c.waiting) (flushed f) ss)
+      g : Grouped effect levels s low high (passed (λ c. length c.pending) (flushed f) ss)
       g = groups effect levels s low high _ fanout_some (passed-full effect levels f keeps low high ss placed full) (passed-lie effect levels f keeps low high ss placed)
 
-      found : (q : Key) → seen_in effect q (passed (λ c. length c.waiting) (flushed f) ss) ≡ value_after effect q p (find key_cmp q (holds effect (inner ns b)))
+      found : (q : Key) → seen_in effect q (passed (λ c. length c.pending) (flushed f) ss) ≡ value_after effect q p (find key_cmp q (holds effect (inner ns b)))
       found q =
           seen-passed effect levels f keeps q low high ss placed
           ∙ ap (seen_in effect q) same

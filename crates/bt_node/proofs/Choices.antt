@@ -75,7 +75,7 @@ planned-over ns capacity over =
     ∙ cond-false _ _ _ (lt-leb _ _ over)
     ∙ ap (λ is. fullest ns ∷ is) (renewed-planned capacity (total ns) (set ns (fullest ns) 0) (omega (arith, total-emptied ns capacity over)))
 
--- A turn while n wait in all, at place i.
+-- A turn while n are pending in all, at place i.
 pub record Turn (ns : List ℕ) (capacity n i : ℕ) : Type 0 where
   pub over : capacity < n
   pub all : n ≡ total ns
@@ -86,7 +86,7 @@ module _ (ns : List ℕ) (capacity left place : ℕ) (turn : Turn ns capacity le
   pub turn-below : place < length ns
   turn-below = omega (arith, turn.place, fullest-below ns capacity (omega (arith, turn.over, turn.all)))
 
-  -- for the child some wait
+  -- for the child some are pending
   pub turn-some : (n : ℕ) → n ≡ get_or ns place n → 0 < n
   turn-some n is =
       let some : 0 < get_or ns place 0 = rw turn.place (fullest-some ns capacity (omega (arith, turn.over, turn.all))) in

@@ -9,25 +9,25 @@ use Rattle.bt_node.specs.Keys.{Key}
 use Rattle.bt_node.specs.Messages.{Rows}
 use Rattle.bt_node.specs.Trees.{Shape, Siblings, leaf}
 use Rattle.bt_node.specs.Flushes.{crown, grouped}
-use Rattle.bt_node.specs.Views.{children_of, siblings_of, tree_of, unwaited_of, waiting_of}
-use Rattle.bt_node.proofs.Children.{waits}
+use Rattle.bt_node.specs.Views.{children_of, siblings_of, tree_of, none_pending_of, pending_of}
+use Rattle.bt_node.proofs.Children.{all_pending}
 use Rattle.bt_node.proofs.Views.{tree_leaf}
 use Rattle.bt_node.proofs.Raising.{crown-step, raised-shorter, shared-nothing}
 
-nothing-waits : {V M : Type 0} (xs : Siblings V M) → waits (unwaited_of xs) ≡ []
-nothing-waits [] = refl
-nothing-waits (x ∷ xs) = nothing-waits xs
+nothing-pending : {V M : Type 0} (xs : Siblings V M) → all_pending (none_pending_of xs) ≡ []
+nothing-pending [] = refl
+nothing-pending (x ∷ xs) = nothing-pending xs
 
-module _ {V D : Type 0} (cs : List (code.Child V D)) (xs : Siblings V (Message V D)) (is : children_of cs ≡ unwaited_of xs) where
-  -- nothing waits, which is in order
-  pub none_sorted : IsSorted (waiting_of cs)
-  none_sorted = subst IsSorted (sym (ap waits is ∙ nothing-waits xs)) tt
+module _ {V D : Type 0} (cs : List (code.Child V D)) (xs : Siblings V (Message V D)) (is : children_of cs ≡ none_pending_of xs) where
+  -- nothing is pending, which is in order
+  pub none_sorted : IsSorted (pending_of cs)
+  none_sorted = subst IsSorted (sym (ap all_pending is ∙ nothing-pending xs)) tt
 
   module _ (s : Shape) (two : 2 ≤ s.fanout) (several : 1 < length xs) (ys : Siblings V (Message V D)) (made : ys ≡ grouped s (children_of cs)) where
     pub crown_kept : crown s ys ≡ crown s xs
     crown_kept = ap (crown s) (made ∙ ap (grouped s) is) ∙ again xs several
       where
-        again : (zs : Siblings V (Message V D)) → 1 < length zs → crown s (grouped s (unwaited_of zs)) ≡ crown s zs
+        again : (zs : Siblings V (Message V D)) → 1 < length zs → crown s (grouped s (none_pending_of zs)) ≡ crown s zs
         again [] l = absurd (omega (arith, l))
         again (z ∷ []) l = absurd (omega (arith, l))
         again (y ∷ z ∷ zs) l = ap (λ qs. crown s (grouped s qs)) (sym (shared-nothing (y ∷ z ∷ zs))) ∙ sym (crown-step s two y z zs)
@@ -35,7 +35,7 @@ module _ {V D : Type 0} (cs : List (code.Child V D)) (xs : Siblings V (Message V
     pub fewer : length ys < length xs
     fewer = omega (arith, ap length (made ∙ ap (grouped s) is), shorter xs several)
       where
-        shorter : (zs : Siblings V (Message V D)) → 1 < length zs → length (grouped s (unwaited_of zs)) < length zs
+        shorter : (zs : Siblings V (Message V D)) → 1 < length zs → length (grouped s (none_pending_of zs)) < length zs
         shorter [] l = absurd (omega (arith, l))
         shorter (z ∷ []) l = absurd (omega (arith, l))
         shorter (y ∷ z ∷ zs) l = subst (λ qs. length (grouped s qs) < length (y ∷ z ∷ zs)) (shared-nothing (y ∷ z ∷ zs)) (raised-shorter s two y z zs)

@@ -12,7 +12,7 @@ use Rattle.bt_node.proofs.Order.{total_keys}
 use Rattle.bt_node.proofs.Deals.{joined-deal}
 use Rattle.bt_node.proofs.Raising.{raised-shorter}
 use Rattle.bt_node.proofs.RowsAfter.{rows-sorted}
-use Rattle.bt_node.proofs.Children.{waits, below, value-below-seen}
+use Rattle.bt_node.proofs.Children.{all_pending, below, value-below-seen}
 use Rattle.bt_node.proofs.Shares.{value-shared, below-shared, shared-lie}
 use Rattle.bt_node.proofs.Groups.{some-of, led-map, grouped-lie, find-grouped}
 use Rattle.bt_node.proofs.Held.{all_hold-lie}
@@ -23,9 +23,9 @@ module _ {V M : Type 0} (s : Shape) (roomy : IsRoomy s) where
   abbrev raised : Key × Tree V M → Key × Tree V M → Siblings V M → Siblings V M
   raised x y xs = grouped s (shared (x ∷ y ∷ xs) [])
 
-  waits-none : (x : Key × Tree V M) (xs : Siblings V M) → waits (shared (x ∷ xs) []) ≡ []
-  waits-none x [] = refl
-  waits-none x (y ∷ ys) = waits-none y ys
+  all_pending-none : (x : Key × Tree V M) (xs : Siblings V M) → all_pending (shared (x ∷ xs) []) ≡ []
+  all_pending-none x [] = refl
+  all_pending-none x (y ∷ ys) = all_pending-none y ys
 
   shared-sized : (xs : Siblings V M) → AreSized s (nodes xs) → ChildrenSized s (shared xs [])
   shared-sized [] z = tt
@@ -36,7 +36,7 @@ module _ {V M : Type 0} (s : Shape) (roomy : IsRoomy s) where
   raised-fit levels low high x y xs fit = record {
     lie = grouped-lie levels s low high _ _ (omega (arith, roomy.fanout)) (shared-lie levels low high (x ∷ y ∷ xs) [] fit.lie tt tt);
     led = led-map gathered (deal s.fanout cs) (some-of _ _ _ (joined-deal s.fanout cs));
-    sized = grouped-sized s cs roomy.fanout (omega (arith, length-shared (x ∷ y ∷ xs) [])) (omega (arith, ap length (waits-none x (y ∷ xs)))) (shared-sized (x ∷ y ∷ xs) fit.sized);
+    sized = grouped-sized s cs roomy.fanout (omega (arith, length-shared (x ∷ y ∷ xs) [])) (omega (arith, ap length (all_pending-none x (y ∷ xs)))) (shared-sized (x ∷ y ∷ xs) fit.sized);
   }
     where
       cs : List (Child V M)

@@ -1,4 +1,4 @@
--- A node that is drained keeps what absorb keeps, and no message waits in what comes of it.
+-- A node that is drained keeps what absorb keeps, and no message is pending in what comes of it.
 use Rattle.std.proofs.Common.{◌≡◌, ℕ, zero, suc, ◌<◌, ◌≤◌, Bool, true, List, [], ◌∷◌, ◌++◌, map, length, refl, sym, ap, subst, ◌∙◌, arith}
 use Rattle.std.specs.List.{flat_map}
 use Rattle.std.specs.declared.option.Option.{Option}
@@ -14,9 +14,9 @@ use Rattle.bt_node.specs.Drains.{drained_at, drained, IsDry, AreDry}
 use Rattle.bt_node.specs.DrainLaws.{DrainLosesNothing, DrainFits, DrainIsDry, DrainedTreeLosesNothing, DrainedTreeFits, DrainedTreeIsDry, PackLosesNothing, PackFits, PackIsDry, RebuildLosesNothing, RebuildFits}
 use Rattle.bt_node.proofs.Deals.{joined, joined-deal}
 use Rattle.bt_node.proofs.Loops.{names}
-use Rattle.bt_node.proofs.Children.{ChildrenLie, waits}
+use Rattle.bt_node.proofs.Children.{ChildrenLie, all_pending}
 use Rattle.bt_node.proofs.Groups.{as_leaf, stripped, leaves-lie, leaves-led, leaves-hold}
-use Rattle.bt_node.proofs.Passes.{Keeps, Kept, unwaited}
+use Rattle.bt_node.proofs.Passes.{Keeps, Kept, none_pending}
 use Rattle.bt_node.proofs.Absorbs.{start, start-lies, leaf-keeps, pass-keeps}
 use Rattle.bt_node.proofs.Held.{height-lies, holds-lie, holds-kept}
 use Rattle.bt_node.proofs.Sized.{KeepsSized, leaves-sized, node-sized}
@@ -31,17 +31,17 @@ module _ {V M : Type 0} where
   names-all [] = refl
   names-all (c ∷ cs) = ap (λ z. c ∷ z) (names-all cs)
 
-  passed-all : (f : Flush V M) (cs : List (Child V M)) → flat_map (flushed f) cs ≡ passed (λ c. length c.waiting) (flushed f) (all_marked cs)
+  passed-all : (f : Flush V M) (cs : List (Child V M)) → flat_map (flushed f) cs ≡ passed (λ c. length c.pending) (flushed f) (all_marked cs)
   passed-all f [] = refl
   passed-all f (c ∷ cs) = ap (λ z. flushed f c ++ z) (passed-all f cs)
 
-  waits-unwaited : (xs : Siblings V M) (cs : List (Child V M)) → waits (unwaited xs ++ cs) ≡ waits cs
-  waits-unwaited [] cs = refl
-  waits-unwaited (x ∷ xs) cs = waits-unwaited xs cs
+  all_pending-none_pending : (xs : Siblings V M) (cs : List (Child V M)) → all_pending (none_pending xs ++ cs) ≡ all_pending cs
+  all_pending-none_pending [] cs = refl
+  all_pending-none_pending (x ∷ xs) cs = all_pending-none_pending xs cs
 
-  waits-all : (f : Flush V M) (cs : List (Child V M)) → waits (passed (λ c. length c.waiting) (flushed f) (all_marked cs)) ≡ []
-  waits-all f [] = refl
-  waits-all f (c ∷ cs) = waits-unwaited (pivot_first c.pivot (f c.tree c.waiting)) (passed (λ c. length c.waiting) (flushed f) (all_marked cs)) ∙ waits-all f cs
+  all_pending-all : (f : Flush V M) (cs : List (Child V M)) → all_pending (passed (λ c. length c.pending) (flushed f) (all_marked cs)) ≡ []
+  all_pending-all f [] = refl
+  all_pending-all f (c ∷ cs) = all_pending-none_pending (pivot_first c.pivot (f c.tree c.pending)) (passed (λ c. length c.pending) (flushed f) (all_marked cs)) ∙ all_pending-all f cs
 
 module _ {V M : Type 0} (effect : Option V → M → Option V) (s : Shape) (leaf_some : 0 < s.leaf) (three : 3 ≤ s.fanout) where
   pub drained-keeps : (levels : ℕ) → Keeps effect levels (drained_at effect (suc levels) s)
@@ -63,9 +63,9 @@ module _ {V M : Type 0} (effect : Option V → M → Option V) (s : Shape) (leaf
       let cs = shared (children ns) (with_messages p b) in
       subst (λ cs. AreSized s (nodes (grouped s cs))) (sym (passed-all f cs))
       (node-sized effect s leaf_some three levels f (drained-keeps levels) (drained-sized levels) low high ns b p lies within z (all_marked cs) (names-all cs)
-      (omega (arith, ap length (waits-all f cs))))
+      (omega (arith, ap length (all_pending-all f cs))))
 
--- ---- nothing waits
+-- ---- nothing is pending
 
 dry-pivot_first : {V M : Type 0} (k : Key) (xs : Siblings V M) → AreDry (nodes xs) → AreDry (nodes (pivot_first k xs))
 dry-pivot_first k [] d = d
@@ -76,10 +76,10 @@ dry-leaves M [] = tt
 dry-leaves M (g ∷ gs) = (tt, dry-leaves M gs)
 
 module _ {V M : Type 0} where
-  -- children for which nothing waits, and in which nothing waits
+  -- children for which nothing is pending, and in which nothing is pending
   abbrev ChildrenDry : List (Child V M) → Type 0
   ChildrenDry [] = Unit {0}
-  ChildrenDry (c ∷ cs) = (c.waiting ≡ []) × IsDry c.tree × ChildrenDry cs
+  ChildrenDry (c ∷ cs) = (c.pending ≡ []) × IsDry c.tree × ChildrenDry cs
 
   dry-first : (cs ds : List (Child V M)) → ChildrenDry (cs ++ ds) → ChildrenDry cs
   dry-first [] ds d = tt
@@ -93,9 +93,9 @@ module _ {V M : Type 0} where
   dry-both [] ds d e = e
   dry-both (c ∷ cs) ds d e = (d.0, d.1, dry-both cs ds d.2 e)
 
-  dry-waits : (cs : List (Child V M)) → ChildrenDry cs → waits cs ≡ []
-  dry-waits [] d = refl
-  dry-waits (c ∷ cs) d = ap (λ w. w ++ waits cs) d.0 ∙ dry-waits cs d.2
+  dry-all_pending : (cs : List (Child V M)) → ChildrenDry cs → all_pending cs ≡ []
+  dry-all_pending [] d = refl
+  dry-all_pending (c ∷ cs) d = ap (λ w. w ++ all_pending cs) d.0 ∙ dry-all_pending cs d.2
 
   dry-stripped : (cs : List (Child V M)) → ChildrenDry cs → AreDry (nodes (stripped cs))
   dry-stripped [] d = tt
@@ -105,23 +105,23 @@ module _ {V M : Type 0} where
   dry-groups [] d = tt
   dry-groups (g ∷ gs) d =
       let first = dry-first g (joined gs) d in
-      ((dry-waits g first, dry-pivot_first [] (stripped g) (dry-stripped g first)), dry-groups gs (dry-rest g (joined gs) d))
+      ((dry-all_pending g first, dry-pivot_first [] (stripped g) (dry-stripped g first)), dry-groups gs (dry-rest g (joined gs) d))
 
   pub dry-grouped : (s : Shape) (cs : List (Child V M)) → ChildrenDry cs → AreDry (nodes (grouped s cs))
   dry-grouped s cs d = dry-pivot_first [] (map gathered (deal s.fanout cs)) (dry-groups (deal s.fanout cs) (subst ChildrenDry (sym (joined-deal s.fanout cs)) d))
 
-  dry-unwaited : (xs : Siblings V M) → AreDry (nodes xs) → ChildrenDry (unwaited xs)
-  dry-unwaited [] d = tt
-  dry-unwaited (x ∷ xs) d = (refl, d.0, dry-unwaited xs d.1)
+  dry-none_pending : (xs : Siblings V M) → AreDry (nodes xs) → ChildrenDry (none_pending xs)
+  dry-none_pending [] d = tt
+  dry-none_pending (x ∷ xs) d = (refl, d.0, dry-none_pending xs d.1)
 
   dry-flushed : (levels : ℕ) (f : Flush V M) → ((low high : Option Key) (t : Tree V M) (p : Messages M) → Lies levels low high t → AllWithin low high p → AreDry (nodes (f t p))) →
       (low high : Option Key) (cs : List (Child V M)) → ChildrenLie levels low high cs → ChildrenDry (flat_map (flushed f) cs)
   dry-flushed levels f dry low high [] l = tt
   dry-flushed levels f dry low high (c ∷ []) l =
-      dry-both (flushed f c) [] (dry-unwaited (pivot_first c.pivot (f c.tree c.waiting)) (dry-pivot_first c.pivot (f c.tree c.waiting) (dry low high c.tree c.waiting l.0 l.1))) tt
+      dry-both (flushed f c) [] (dry-none_pending (pivot_first c.pivot (f c.tree c.pending)) (dry-pivot_first c.pivot (f c.tree c.pending) (dry low high c.tree c.pending l.0 l.1))) tt
   dry-flushed levels f dry low high (c ∷ d ∷ cs) l =
       dry-both (flushed f c) (flat_map (flushed f) (d ∷ cs))
-      (dry-unwaited (pivot_first c.pivot (f c.tree c.waiting)) (dry-pivot_first c.pivot (f c.tree c.waiting) (dry low (Some d.pivot) c.tree c.waiting l.2.0 l.2.1)))
+      (dry-none_pending (pivot_first c.pivot (f c.tree c.pending)) (dry-pivot_first c.pivot (f c.tree c.pending) (dry low (Some d.pivot) c.tree c.pending l.2.0 l.2.1)))
       (dry-flushed levels f dry (Some d.pivot) high (d ∷ cs) l.3)
 
   dry-shared : (xs : Siblings V M) → AreDry (nodes xs) → ChildrenDry (shared xs [])

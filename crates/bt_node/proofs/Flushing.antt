@@ -16,7 +16,7 @@ use Rattle.bt_node.proofs.Crowns.{crown-fits, crown-holds}
 use Rattle.bt_node.proofs.Still.{absorb-still}
 
 pub chosen_are_planned : {V M : Type 0} → ChosenArePlanned V M
-chosen_are_planned f capacity cs = replaced-planned (λ c. length c.waiting) (flushed f) (flushed-light f) capacity (total (counts cs)) cs (le_refl (total (counts cs)))
+chosen_are_planned f capacity cs = replaced-planned (λ c. length c.pending) (flushed f) (flushed-light f) capacity (total (counts cs)) cs (le_refl (total (counts cs)))
 
 pub loop_is_one_pass : {V M : Type 0} → LoopIsOnePass V M
 loop_is_one_pass f capacity cs = flushed-planned f capacity cs

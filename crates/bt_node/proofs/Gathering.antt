@@ -1,4 +1,4 @@
--- Children in parts, and what waits for them.
+-- Children in parts, and what is pending for them.
 use Rattle.std.proofs.Common.{Vec, Global, ◌≡◌, ℕ, List, [], ◌∷◌, ◌++◌, length, map, take, drop, refl, sym, ap, subst, ◌∙◌, append-nil, append_assoc, arith}
 use Rattle.std.specs.List.{flat_map}
 use Rattle.std.proofs.lemmas.List.{drop-map, length-map, take-map}
@@ -12,11 +12,11 @@ use Rattle.bt_node.specs.Messages.{Messages, Rows, with_messages}
 use Rattle.bt_node.specs.Trees.{Shape, Siblings, Tree, inner, leaf, none, nodes}
 use Rattle.bt_node.specs.Deals.{deal, parted, sizes}
 use Rattle.bt_node.specs.Flushes.{first_key, gathered, grouped, leaves, pivot_first}
-use Rattle.bt_node.specs.Views.{child_of, children_of, siblings_of, tree_of, waiting_of}
+use Rattle.bt_node.specs.Views.{child_of, children_of, siblings_of, tree_of, pending_of}
 use Rattle.bt_node.proofs.Deals.{joined, joined-deal}
 use Rattle.bt_node.proofs.Groups.{as_leaf, stripped}
 use Rattle.bt_node.proofs.Views.{tree_inner, tree_leaf}
-use Rattle.bt_node.proofs.Waiting.{added-behind, sorted-back, sorted-front}
+use Rattle.bt_node.proofs.Pending.{added-behind, sorted-back, sorted-prefix}
 
 -- nothing is left
 pub nothing_left : {X : Type 0} (xs : List X) → length xs ≡ 0 → xs ≡ []
@@ -30,7 +30,7 @@ all_of = flat_map (λ part. part.items)
 module _ {M : Type 0} where
   -- the first of what is added keeps the order
   pub sorted_through : (b w r : Messages M) → IsSorted (b ++ (w ++ r)) → IsSorted (b ++ w)
-  sorted_through b w r h = sorted-front (b ++ w) r (subst IsSorted (sym (append_assoc b w r)) h)
+  sorted_through b w r h = sorted-prefix (b ++ w) r (subst IsSorted (sym (append_assoc b w r)) h)
 
   pub added_last : (b w : Messages M) → IsSorted (b ++ w) → with_messages w b ≡ b ++ w
   added_last b w h = added-behind w b h
@@ -39,11 +39,11 @@ module _ {M : Type 0} where
 
 module _ {V D : Type 0} where
   -- the first of children is added to none
-  pub first_fits : (part : List (code.Child V D)) (c : code.Child V D) (rest : List (code.Child V D)) → part ≡ c ∷ rest → IsSorted (waiting_of part) → IsSorted (c.waiting ++ waiting_of rest)
-  first_fits part c rest e h = subst (λ cs. IsSorted (waiting_of cs)) e h
+  pub first_fits : (part : List (code.Child V D)) (c : code.Child V D) (rest : List (code.Child V D)) → part ≡ c ∷ rest → IsSorted (pending_of part) → IsSorted (c.pending ++ pending_of rest)
+  first_fits part c rest e h = subst (λ cs. IsSorted (pending_of cs)) e h
 
   pub gather_done : (cs : Vec (Key × Node V D) Global) (buffer : Messages (Message V D)) (part : List (code.Child V D)) (c : code.Child V D) (rest : List (code.Child V D)) →
-      part ≡ c ∷ rest → siblings_of cs.items ≡ ([], tree_of c.node) ∷ stripped (children_of rest) → buffer ≡ c.waiting ++ waiting_of rest →
+      part ≡ c ∷ rest → siblings_of cs.items ≡ ([], tree_of c.node) ∷ stripped (children_of rest) → buffer ≡ c.pending ++ pending_of rest →
       (c.pivot, tree_of (variants.Inner cs buffer)) ≡ gathered (children_of part)
   gather_done cs buffer part c rest e s b =
       ap (λ t. (c.pivot, t)) (tree_inner cs buffer ∙ ap (λ xs. inner (nodes xs) buffer) s ∙ ap (inner (nodes (([], tree_of c.node) ∷ stripped (children_of rest)))) b)
@@ -72,15 +72,15 @@ module _ {V D : Type 0} where
       all_items [] = refl
       all_items (p ∷ ps) = ap (λ z. p.items ++ z) (all_items ps)
 
-  waiting_append : (xs ys : List (code.Child V D)) → waiting_of (xs ++ ys) ≡ waiting_of xs ++ waiting_of ys
-  waiting_append [] ys = refl
-  waiting_append (x ∷ xs) ys = ap (λ z. x.waiting ++ z) (waiting_append xs ys) ∙ sym (append_assoc x.waiting (waiting_of xs) (waiting_of ys))
+  pending_append : (xs ys : List (code.Child V D)) → pending_of (xs ++ ys) ≡ pending_of xs ++ pending_of ys
+  pending_append [] ys = refl
+  pending_append (x ∷ xs) ys = ap (λ z. x.pending ++ z) (pending_append xs ys) ∙ sym (append_assoc x.pending (pending_of xs) (pending_of ys))
 
-  pub first_part : (p : Vec (code.Child V D) Global) (ps : List (Vec (code.Child V D) Global)) → IsSorted (waiting_of (all_of (p ∷ ps))) → IsSorted (waiting_of p.items)
-  first_part p ps h = sorted-front (waiting_of p.items) (waiting_of (all_of ps)) (subst IsSorted (waiting_append p.items (all_of ps)) h)
+  pub first_part : (p : Vec (code.Child V D) Global) (ps : List (Vec (code.Child V D) Global)) → IsSorted (pending_of (all_of (p ∷ ps))) → IsSorted (pending_of p.items)
+  first_part p ps h = sorted-prefix (pending_of p.items) (pending_of (all_of ps)) (subst IsSorted (pending_append p.items (all_of ps)) h)
 
-  pub other_parts : (p : Vec (code.Child V D) Global) (ps : List (Vec (code.Child V D) Global)) → IsSorted (waiting_of (all_of (p ∷ ps))) → IsSorted (waiting_of (all_of ps))
-  other_parts p ps h = sorted-back (waiting_of p.items) (waiting_of (all_of ps)) (subst IsSorted (waiting_append p.items (all_of ps)) h)
+  pub other_parts : (p : Vec (code.Child V D) Global) (ps : List (Vec (code.Child V D) Global)) → IsSorted (pending_of (all_of (p ∷ ps))) → IsSorted (pending_of (all_of ps))
+  other_parts p ps h = sorted-back (pending_of p.items) (pending_of (all_of ps)) (subst IsSorted (pending_append p.items (all_of ps)) h)
 
   -- the groups, the first behind the empty key
   abbrev pub groups_of : List (Vec (code.Child V D) Global) → Siblings V (Message V D)

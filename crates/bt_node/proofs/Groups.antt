@@ -14,7 +14,7 @@ use Rattle.bt_node.proofs.Limits.{within-append, within-below, within-from, risi
 use Rattle.bt_node.proofs.SideBySide.{side-groups, side-weaken, side-map, led-side}
 use Rattle.bt_node.proofs.Values.{find-append, find-rows, or_else}
 use Rattle.bt_node.proofs.Outside.{nodes_hold-children}
-use Rattle.bt_node.proofs.Children.{ChildLies, ChildrenLie, waits, seen_in, seen-append, below, value-below-seen}
+use Rattle.bt_node.proofs.Children.{ChildLies, ChildrenLie, all_pending, seen_in, seen-append, below, value-below-seen}
 
 pub children-nodes : {V M : Type 0} (xs : Siblings V M) → children (nodes xs) ≡ xs
 children-nodes [] = refl
@@ -61,18 +61,18 @@ abbrev pub stripped : {V M : Type 0} → List (Child V M) → Siblings V M
 stripped = map (λ c. (c.pivot, c.tree))
 
 module _ {V M : Type 0} where
-  pub waits-within : (levels : ℕ) (low high : Option Key) (cs : List (Child V M)) → ChildrenLie levels low high cs → AllWithin low high (waits cs)
-  waits-within levels low high [] p = tt
-  waits-within levels low high (c ∷ []) p = subst (AllWithin low high) (sym (append-nil c.waiting)) p.1
-  waits-within levels low high (c ∷ d ∷ cs) p =
-      within-append low high c.waiting _ (within-below low d.pivot high c.waiting p.1 p.2.1)
-      (within-from low d.pivot high _ p.0 (waits-within levels (Some d.pivot) high (d ∷ cs) p.3))
+  pub all_pending-within : (levels : ℕ) (low high : Option Key) (cs : List (Child V M)) → ChildrenLie levels low high cs → AllWithin low high (all_pending cs)
+  all_pending-within levels low high [] p = tt
+  all_pending-within levels low high (c ∷ []) p = subst (AllWithin low high) (sym (append-nil c.pending)) p.1
+  all_pending-within levels low high (c ∷ d ∷ cs) p =
+      within-append low high c.pending _ (within-below low d.pivot high c.pending p.1 p.2.1)
+      (within-from low d.pivot high _ p.0 (all_pending-within levels (Some d.pivot) high (d ∷ cs) p.3))
 
-  pub waits-rising : (levels : ℕ) (low high : Option Key) (cs : List (Child V M)) → ChildrenLie levels low high cs → IsRising (waits cs)
-  waits-rising levels low high [] p = tt
-  waits-rising levels low high (c ∷ []) p = subst IsRising (sym (append-nil c.waiting)) p.2
-  waits-rising levels low high (c ∷ d ∷ cs) p =
-      rising-append low d.pivot high c.waiting _ p.2.2 (waits-rising levels (Some d.pivot) high (d ∷ cs) p.3) p.2.1 (waits-within levels (Some d.pivot) high (d ∷ cs) p.3)
+  pub all_pending-rising : (levels : ℕ) (low high : Option Key) (cs : List (Child V M)) → ChildrenLie levels low high cs → IsRising (all_pending cs)
+  all_pending-rising levels low high [] p = tt
+  all_pending-rising levels low high (c ∷ []) p = subst IsRising (sym (append-nil c.pending)) p.2
+  all_pending-rising levels low high (c ∷ d ∷ cs) p =
+      rising-append low d.pivot high c.pending _ p.2.2 (all_pending-rising levels (Some d.pivot) high (d ∷ cs) p.3) p.2.1 (all_pending-within levels (Some d.pivot) high (d ∷ cs) p.3)
 
   stripped-led : (cs : List (Child V M)) → NonEmpty cs → IsLed (pivot_first [] (stripped cs))
   stripped-led [] n = absurd n
@@ -80,8 +80,8 @@ module _ {V M : Type 0} where
 
   pub gathered-lies : (levels : ℕ) (low high : Option Key) (g : List (Child V M)) → NonEmpty g → ChildrenLie levels low high g → Lies (suc levels) low high (gathered g).1
   gathered-lies levels low high g n p = (
-    waits-within levels low high g p,
-    waits-rising levels low high g p,
+    all_pending-within levels low high g p,
+    all_pending-rising levels low high g p,
     subst (SiblingsLie levels low high) (sym (children-nodes (pivot_first [] (stripped g))))
         (led-side (λ l h t. Lies levels l h t) [] low high (stripped g)
         (side-map (λ c. (c.pivot, c.tree)) (λ x. x.0) (λ l h x. Lies levels l h x.1) low high g
@@ -126,10 +126,10 @@ module _ {V M : Type 0} (effect : Option V → M → Option V) where
 
   find-gathered : (levels : ℕ) (q : Key) (low high : Option Key) (g : List (Child V M)) → ChildrenLie levels low high g → find key_cmp q (holds effect (gathered g).1) ≡ seen_in effect q g
   find-gathered levels q low high g p =
-      find-rows effect q (waits g) (nodes_hold effect (nodes (pivot_first [] (stripped g))))
-      ∙ ap (λ rs. value_after effect q (waits g) (find key_cmp q rs))
+      find-rows effect q (all_pending g) (nodes_hold effect (nodes (pivot_first [] (stripped g))))
+      ∙ ap (λ rs. value_after effect q (all_pending g) (find key_cmp q rs))
       (nodes_hold-children effect (nodes (pivot_first [] (stripped g))) ∙ ap (all_hold effect) (children-nodes (pivot_first [] (stripped g))) ∙ all-pivot_first [] (stripped g))
-      ∙ ap (value_after effect q (waits g)) (find-stripped q g)
+      ∙ ap (value_after effect q (all_pending g)) (find-stripped q g)
       ∙ value-below-seen effect levels q low high g p
 
   find-groups : (levels : ℕ) (q : Key) (low high : Option Key) (gs : List (List (Child V M))) → SideBySide (first_key (λ c. c.pivot)) (ChildrenLie levels) low high gs →

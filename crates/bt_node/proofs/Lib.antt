@@ -38,5 +38,5 @@ pub mod Sizes
 pub mod Still
 pub mod Values
 pub mod Views
-pub mod Waiting
+pub mod Pending
 pub mod WorkedRows

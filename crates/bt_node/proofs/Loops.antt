@@ -115,20 +115,20 @@ module _ {X : Type 0} (weight : X → ℕ) (parts : X → List X) (light : (x : 
 
   -- ---- which are replaced
 
-  front-light : (m : ℕ) (xs ys : List X) → 0 < m → IsLight weight parts xs → drop (place_of m (map weight (xs ++ ys))) (xs ++ ys) ≡ drop (place_of m (map weight ys)) ys
-  front-light m [] ys l h = refl
-  front-light m (x ∷ xs) ys l h = ap (λ i. drop i (x ∷ xs ++ ys)) (skips m x (xs ++ ys) l h.0) ∙ front-light m xs ys l h.1
+  prefix-light : (m : ℕ) (xs ys : List X) → 0 < m → IsLight weight parts xs → drop (place_of m (map weight (xs ++ ys))) (xs ++ ys) ≡ drop (place_of m (map weight ys)) ys
+  prefix-light m [] ys l h = refl
+  prefix-light m (x ∷ xs) ys l h = ap (λ i. drop i (x ∷ xs ++ ys)) (skips m x (xs ++ ys) l h.0) ∙ prefix-light m xs ys l h.1
 
-  front-passed : (m : ℕ) (ss : List (X × Bool)) → 0 < m → take 1 (drop (place_of m (map weight (passed weight parts ss))) (passed weight parts ss)) ≡ take 1 (drop (place_of m (map left ss)) (names ss))
-  front-passed m [] l = refl
-  front-passed m ((x, true) ∷ ss) l =
-      ap (take 1) (front-light m (parts x) (passed weight parts ss) l (light x))
-      ∙ front-passed m ss l
+  prefix-passed : (m : ℕ) (ss : List (X × Bool)) → 0 < m → take 1 (drop (place_of m (map weight (passed weight parts ss))) (passed weight parts ss)) ≡ take 1 (drop (place_of m (map left ss)) (names ss))
+  prefix-passed m [] l = refl
+  prefix-passed m ((x, true) ∷ ss) l =
+      ap (take 1) (prefix-light m (parts x) (passed weight parts ss) l (light x))
+      ∙ prefix-passed m ss l
       ∙ ap (λ i. take 1 (drop i (x ∷ names ss))) (sym (cond-false _ 0 (suc (place_of m (map left ss))) (ne_eqb 0 m (omega arith))))
-  front-passed m ((x, false) ∷ ss) l =
+  prefix-passed m ((x, false) ∷ ss) l =
       elim (eqb (weight x) m) as (λ b. take 1 (drop (cond b 0 (suc (place_of m (map weight (passed weight parts ss))))) (x ∷ passed weight parts ss)) ≡ take 1 (drop (cond b 0 (suc (place_of m (map left ss)))) (x ∷ names ss))) [
         | true ↦ refl
-        | false ↦ front-passed m ss l
+        | false ↦ prefix-passed m ss l
       ]
 
   replaced-passed : (capacity turns : ℕ) (ss : List (X × Bool)) → replaced weight parts capacity turns (passed weight parts ss) ≡ items_at (renewed capacity turns (map left ss)) (names ss)
@@ -144,7 +144,7 @@ module _ {X : Type 0} (weight : X → ℕ) (parts : X → List X) (light : (x : 
         ∙ ap (λ xs. take 1 (drop (fullest (map weight (passed weight parts ss))) (passed weight parts ss)) ++ replaced weight parts capacity turns xs) (next capacity ss over)
         ∙ ap (λ z. z ++ replaced weight parts capacity turns (passed weight parts (marked i ss)))
         (ap (λ m. take 1 (drop (place_of m (map weight (passed weight parts ss))) (passed weight parts ss))) (most-passed ss)
-        ∙ front-passed (most ns) ss (heavy ns capacity over))
+        ∙ prefix-passed (most ns) ss (heavy ns capacity over))
         ∙ ap (λ z. take 1 (drop i (names ss)) ++ z)
         (replaced-passed capacity turns (marked i ss)
         ∙ ap (λ ms. items_at (renewed capacity turns ms) (names (marked i ss))) (left-marked i ss)

@@ -26,6 +26,6 @@ marked-zip cs places = sym (zip-set_all cs places (replicate (length cs) false) 
 
 -- What the loop makes of children is what one pass makes of them beside the marks of the plan.
 pub flushed_over-marks : {V M : Type 0} (flush : Flush V M) (capacity : ℕ) (cs : List (Child V M)) →
-    flushed_over flush capacity cs ≡ passed (λ c. length c.waiting) (flushed flush) (zip cs (marks_of (length cs) (planned (counts cs) capacity)))
+    flushed_over flush capacity cs ≡ passed (λ c. length c.pending) (flushed flush) (zip cs (marks_of (length cs) (planned (counts cs) capacity)))
 flushed_over-marks flush capacity cs =
-    loop_is_one_pass flush capacity cs ∙ ap (passed (λ c. length c.waiting) (flushed flush)) (marked-zip cs (planned (counts cs) capacity))
+    loop_is_one_pass flush capacity cs ∙ ap (passed (λ c. length c.pending) (flushed flush)) (marked-zip cs (planned (counts cs) capacity))

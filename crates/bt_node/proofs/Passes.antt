@@ -26,9 +26,9 @@ pub record Kept {V M : Type 0} (effect : Option V → M → Option V) (levels : 
 abbrev pub Keeps : {V M : Type 0} → (Option V → M → Option V) → ℕ → Flush V M → Type 0
 Keeps {V} {M} effect levels f = (low high : Option Key) (t : Tree V M) (p : Messages M) → Lies levels low high t → AllWithin low high p → Kept effect levels low high t p (f t p)
 
--- siblings as children for which nothing waits
-abbrev pub unwaited : {V M : Type 0} → Siblings V M → List (Child V M)
-unwaited = map (λ x. record { pivot = x.0; tree = x.1; waiting = [] })
+-- siblings as children for which nothing is pending
+abbrev pub none_pending : {V M : Type 0} → Siblings V M → List (Child V M)
+none_pending = map (λ x. record { pivot = x.0; tree = x.1; pending = [] })
 
 -- begins with a child at this pivot
 record Heads {V M : Type 0} (k : Key) (cs : List (Child V M)) : Type 0 where
@@ -49,42 +49,42 @@ children-join levels low k j high cs ds h i l b p q =
     (subst (λ x. ChildrenLie levels (Some x) high (i.first ∷ i.others)) (sym i.pivot) (subst (ChildrenLie levels (Some k) high) i.is q)))
 
 module _ {V M : Type 0} (effect : Option V → M → Option V) (levels : ℕ) (f : Flush V M) (keeps : Keeps effect levels f) where
-  pub seen-unwaited : (q : Key) (xs : Siblings V M) → seen_in effect q (unwaited xs) ≡ find key_cmp q (all_hold effect xs)
-  seen-unwaited q [] = refl
-  seen-unwaited q (x ∷ xs) = ap (or_else (find key_cmp q (holds effect x.1))) (seen-unwaited q xs) ∙ sym (find-append q (holds effect x.1) (all_hold effect xs))
+  pub seen-none_pending : (q : Key) (xs : Siblings V M) → seen_in effect q (none_pending xs) ≡ find key_cmp q (all_hold effect xs)
+  seen-none_pending q [] = refl
+  seen-none_pending q (x ∷ xs) = ap (or_else (find key_cmp q (holds effect x.1))) (seen-none_pending q xs) ∙ sym (find-append q (holds effect x.1) (all_hold effect xs))
 
-  unwaited-lie : (low high : Option Key) (xs : Siblings V M) → SiblingsLie levels low high xs → ChildrenLie levels low high (unwaited xs)
-  unwaited-lie low high xs b = side-map (λ x. record { pivot = x.0; tree = x.1; waiting = [] }) (λ c. c.pivot) (ChildLies levels) low high xs
-      (side-weaken (λ x. x.0) (λ l h x. Lies levels l h x.1) (λ l h x. ChildLies levels l h (record { pivot = x.0; tree = x.1; waiting = [] })) (λ l h x lies. (lies, tt, tt)) low high xs b)
+  none_pending-lie : (low high : Option Key) (xs : Siblings V M) → SiblingsLie levels low high xs → ChildrenLie levels low high (none_pending xs)
+  none_pending-lie low high xs b = side-map (λ x. record { pivot = x.0; tree = x.1; pending = [] }) (λ c. c.pivot) (ChildLies levels) low high xs
+      (side-weaken (λ x. x.0) (λ l h x. Lies levels l h x.1) (λ l h x. ChildLies levels l h (record { pivot = x.0; tree = x.1; pending = [] })) (λ l h x lies. (lies, tt, tt)) low high xs b)
 
   -- one child, flushed or not
   abbrev block : Child V M × Bool → List (Child V M)
   block s = cond s.1 (flushed f s.0) (s.0 ∷ [])
 
-  heads-flushed : (c : Child V M) (xs : Siblings V M) → NonEmpty xs → Heads c.pivot (unwaited (pivot_first c.pivot xs))
+  heads-flushed : (c : Child V M) (xs : Siblings V M) → NonEmpty xs → Heads c.pivot (none_pending (pivot_first c.pivot xs))
   heads-flushed c [] n = absurd n
-  heads-flushed c (x ∷ xs) n = record { first = record { pivot = c.pivot; tree = x.1; waiting = [] }; others = unwaited xs; is = refl; pivot = refl }
+  heads-flushed c (x ∷ xs) n = record { first = record { pivot = c.pivot; tree = x.1; pending = [] }; others = none_pending xs; is = refl; pivot = refl }
 
   heads-block : (low high : Option Key) (s : Child V M × Bool) → ChildLies levels low high s.0 → Heads s.0.pivot (block s)
-  heads-block low high (c, true) g = let k = keeps low high c.tree c.waiting g.0 g.1 in heads-flushed c (f c.tree c.waiting) (led-full _ k.led)
+  heads-block low high (c, true) g = let k = keeps low high c.tree c.pending g.0 g.1 in heads-flushed c (f c.tree c.pending) (led-full _ k.led)
   heads-block low high (c, false) g = record { first = c; others = []; is = refl; pivot = refl }
 
   block-lies : (low high : Option Key) (s : Child V M × Bool) → ChildLies levels low high s.0 → ChildrenLie levels low high (block s)
   block-lies low high (c, true) g =
-      let k = keeps low high c.tree c.waiting g.0 g.1 in
-      unwaited-lie low high _ (led-side (λ l h t. Lies levels l h t) c.pivot low high (f c.tree c.waiting) k.lie)
+      let k = keeps low high c.tree c.pending g.0 g.1 in
+      none_pending-lie low high _ (led-side (λ l h t. Lies levels l h t) c.pivot low high (f c.tree c.pending) k.lie)
   block-lies low high (c, false) g = g
 
   seen-block : (q : Key) (low high : Option Key) (s : Child V M × Bool) → ChildLies levels low high s.0 → seen_in effect q (block s) ≡ seen effect q s.0
   seen-block q low high (c, true) g =
-      let k = keeps low high c.tree c.waiting g.0 g.1 in
-      seen-unwaited q (pivot_first c.pivot (f c.tree c.waiting))
-      ∙ ap (find key_cmp q) (all-pivot_first effect c.pivot (f c.tree c.waiting))
+      let k = keeps low high c.tree c.pending g.0 g.1 in
+      seen-none_pending q (pivot_first c.pivot (f c.tree c.pending))
+      ∙ ap (find key_cmp q) (all-pivot_first effect c.pivot (f c.tree c.pending))
       ∙ k.finds q
   seen-block q low high (c, false) g = or_else-None (seen effect q c)
 
   abbrev pass : List (Child V M × Bool) → List (Child V M)
-  pass = passed (λ c. length c.waiting) (flushed f)
+  pass = passed (λ c. length c.pending) (flushed f)
 
   -- the first child of a list in its limits
   first-lies : (low high : Option Key) (s : Child V M × Bool) (ss : List (Child V M × Bool)) → ChildrenLie levels low high (names (s ∷ ss)) → (h : Option Key) × ChildLies levels low h s.0
@@ -116,19 +116,19 @@ module _ {V M : Type 0} (effect : Option V → M → Option V) (levels : ℕ) (f
 -- ---- the pass that the plan marks
 
 module _ {V M : Type 0} (f : Flush V M) where
-  pub unwaited-light : (xs : Siblings V M) → IsLight (λ c. length c.waiting) (flushed f) (unwaited xs)
-  unwaited-light [] = tt
-  unwaited-light (x ∷ xs) = (refl, unwaited-light xs)
+  pub none_pending-light : (xs : Siblings V M) → IsLight (λ c. length c.pending) (flushed f) (none_pending xs)
+  none_pending-light [] = tt
+  none_pending-light (x ∷ xs) = (refl, none_pending-light xs)
 
-  pub flushed-light : (c : Child V M) → IsLight (λ c. length c.waiting) (flushed f) (flushed f c)
-  flushed-light c = unwaited-light (pivot_first c.pivot (f c.tree c.waiting))
+  pub flushed-light : (c : Child V M) → IsLight (λ c. length c.pending) (flushed f) (flushed f c)
+  flushed-light c = none_pending-light (pivot_first c.pivot (f c.tree c.pending))
 
 -- the children, marked where the plan has their places
 abbrev pub slots : {V M : Type 0} → ℕ → List (Child V M) → List (Child V M × Bool)
 slots capacity cs = marked_all (planned (counts cs) capacity) (unmarked cs)
 
-pub flushed-planned : {V M : Type 0} (f : Flush V M) (capacity : ℕ) (cs : List (Child V M)) → flushed_over f capacity cs ≡ passed (λ c. length c.waiting) (flushed f) (slots capacity cs)
-flushed-planned f capacity cs = settled-planned (λ c. length c.waiting) (flushed f) (flushed-light f) capacity (total (counts cs)) cs (le_refl (total (counts cs)))
+pub flushed-planned : {V M : Type 0} (f : Flush V M) (capacity : ℕ) (cs : List (Child V M)) → flushed_over f capacity cs ≡ passed (λ c. length c.pending) (flushed f) (slots capacity cs)
+flushed-planned f capacity cs = settled-planned (λ c. length c.pending) (flushed f) (flushed-light f) capacity (total (counts cs)) cs (le_refl (total (counts cs)))
 
 pub names-slots : {V M : Type 0} (capacity : ℕ) (cs : List (Child V M)) → names (slots capacity cs) ≡ cs
 names-slots capacity cs = names-marked_all (planned (counts cs) capacity) (unmarked cs) ∙ names-unmarked cs

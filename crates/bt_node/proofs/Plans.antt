@@ -1,4 +1,4 @@
--- Taking the fullest again and again takes the front of a sorted list.
+-- Taking the fullest again and again takes the prefix of a sorted list.
 use Rattle.std.proofs.Common.{◌≡◌, ℕ, zero, suc, ◌+◌, ◌<◌, ◌≤◌, true, false, cond, leb, List, [], ◌∷◌, ◌++◌, set, refl, sym, ap, ◌∙◌, arith, ◌⊎◌, inl, inr, eq-eqb, ne_eqb, subst₂}
 use Rattle.std.proofs.lemmas.Bool.{le-leb, lt-leb, leb-true, leb-false, cond-true, cond-false}
 use Rattle.bt_node.specs.Plans.{total, most, place_of, fullest, placed, total_of, ranked_in, ranked, shortest, planned, renewed}

@@ -6,15 +6,15 @@ use Rattle.bt_node.specs.Deals.{deal}
 use Rattle.bt_node.specs.Trees.{Shape, Tree, Siblings}
 use Rattle.bt_node.specs.Flushes.{pivot_first, shared, gathered, grouped, crowned, crown}
 use Rattle.bt_node.proofs.Sizes.{fewer-parts}
-use Rattle.bt_node.proofs.Passes.{unwaited}
+use Rattle.bt_node.proofs.Passes.{none_pending}
 use Rattle.bt_node.proofs.Sized.{length-shared}
 
 module _ {V M : Type 0} where
-  -- of no messages, none wait
-  pub shared-nothing : (xs : Siblings V M) → shared xs [] ≡ unwaited xs
+  -- of no messages, none are pending
+  pub shared-nothing : (xs : Siblings V M) → shared xs [] ≡ none_pending xs
   shared-nothing [] = refl
   shared-nothing (x ∷ []) = refl
-  shared-nothing (x ∷ y ∷ xs) = ap (λ z. record { pivot = x.0; tree = x.1; waiting = [] } ∷ z) (shared-nothing (y ∷ xs))
+  shared-nothing (x ∷ y ∷ xs) = ap (λ z. record { pivot = x.0; tree = x.1; pending = [] } ∷ z) (shared-nothing (y ∷ xs))
 
   length-pivot_first : (k : Key) (xs : Siblings V M) → length (pivot_first k xs) ≡ length xs
   length-pivot_first k [] = refl

@@ -10,7 +10,7 @@ use Rattle.bt_node.specs.Drains.{drained_at, drained}
 use Rattle.bt_node.specs.Laws.{AbsorbRecurs}
 use Rattle.bt_node.specs.DrainLaws.{DrainRecurs}
 use Rattle.bt_node.proofs.Loops.{names}
-use Rattle.bt_node.proofs.Passes.{unwaited, slots, flushed-planned, names-slots}
+use Rattle.bt_node.proofs.Passes.{none_pending, slots, flushed-planned, names-slots}
 
 -- none of these children is higher than this
 abbrev AreWithin : {V M : Type 0} → ℕ → List (Child V M) → Type 0
@@ -25,14 +25,14 @@ shared-within most (node k t (node j u ns)) b l = (omega (arith, l), shared-with
 -- Two flushes that do the same to trees up to a height do the same to children up to this height: one pass flushes no others.
 module _ {V M : Type 0} (most : ℕ) (f g : Flush V M) (agree : (t : Tree V M) (p : Messages M) → height t ≤ most → f t p ≡ g t p) where
   flushed-same : (c : Child V M) → height c.tree ≤ most → flushed f c ≡ flushed g c
-  flushed-same c l = ap (λ xs. unwaited (pivot_first c.pivot xs)) (agree c.tree c.waiting l)
+  flushed-same c l = ap (λ xs. none_pending (pivot_first c.pivot xs)) (agree c.tree c.pending l)
 
   block-same : (s : Child V M × Bool) → height s.0.tree ≤ most → cond s.1 (flushed f s.0) (s.0 ∷ []) ≡ cond s.1 (flushed g s.0) (s.0 ∷ [])
   block-same (c, true) l = flushed-same c l
   block-same (c, false) l = refl
 
   abbrev pass : Flush V M → List (Child V M × Bool) → List (Child V M)
-  pass h = passed (λ c. length c.waiting) (flushed h)
+  pass h = passed (λ c. length c.pending) (flushed h)
 
   pass-same : (ss : List (Child V M × Bool)) → AreWithin most (names ss) → pass f ss ≡ pass g ss
   pass-same [] l = refl

@@ -12,7 +12,7 @@ use Rattle.bt_node.specs.Fits.{SiblingsLie}
 use Rattle.bt_node.proofs.Order.{same_key}
 use Rattle.bt_node.proofs.Limits.{rising-where}
 use Rattle.bt_node.proofs.Values.{value-append}
-use Rattle.bt_node.proofs.Children.{ChildrenLie, waits, below}
+use Rattle.bt_node.proofs.Children.{ChildrenLie, all_pending, below}
 
 module _ {V M : Type 0} (effect : Option V → M → Option V) where
   value-where : (q : Key) (test : Key → Bool) (ms : Messages M) (o : Option V) → value_after effect q (where_key key_cmp test ms) o ≡ cond (test q) (value_after effect q ms o) o
@@ -41,10 +41,10 @@ module _ {V M : Type 0} (effect : Option V → M → Option V) where
       ∙ value-where q (λ x. not (key_lt x k)) ms _
       ∙ elim (key_lt q k) as (λ b. cond (not b) (value_after effect q ms (cond b (value_after effect q ms o) o)) (cond b (value_after effect q ms o) o) ≡ value_after effect q ms o) [ true ↦ refl | false ↦ refl ]
 
-  pub value-shared : (q : Key) (x : Key × Tree V M) (xs : Siblings V M) (b : Messages M) (o : Option V) → value_after effect q (waits (shared (x ∷ xs) b)) o ≡ value_after effect q b o
+  pub value-shared : (q : Key) (x : Key × Tree V M) (xs : Siblings V M) (b : Messages M) (o : Option V) → value_after effect q (all_pending (shared (x ∷ xs) b)) o ≡ value_after effect q b o
   value-shared q x [] b o = ap (λ w. value_after effect q w o) (append-nil b)
   value-shared q x (y ∷ ys) b o =
-      value-append effect q (before y.0 b) (waits (shared (y ∷ ys) (from y.0 b))) o
+      value-append effect q (before y.0 b) (all_pending (shared (y ∷ ys) (from y.0 b))) o
       ∙ value-shared q y ys (from y.0 b) _
       ∙ value-divided q y.0 b o
 

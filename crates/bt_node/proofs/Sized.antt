@@ -14,9 +14,9 @@ use Rattle.bt_node.proofs.Deals.{NonEmpty, joined, joined-deal}
 use Rattle.bt_node.proofs.Sizes.{Each, sizes-at_most, sizes-two, lengths-deal}
 use Rattle.bt_node.proofs.Settled.{settled-fits}
 use Rattle.bt_node.proofs.Loops.{names}
-use Rattle.bt_node.proofs.Children.{ChildLies, ChildrenLie, waits}
+use Rattle.bt_node.proofs.Children.{ChildLies, ChildrenLie, all_pending}
 use Rattle.bt_node.proofs.Groups.{led-full, stripped, children-nodes, as_leaf}
-use Rattle.bt_node.proofs.Passes.{Keeps, unwaited, flushed-light, slots, flushed-planned, names-slots}
+use Rattle.bt_node.proofs.Passes.{Keeps, none_pending, flushed-light, slots, flushed-planned, names-slots}
 use Rattle.bt_node.proofs.Absorbs.{start-lies, absorbed-keeps}
 
 pub sized-pivot_first : {V M : Type 0} (s : Shape) (k : Key) (xs : Siblings V M) → AreSized s (nodes xs) → AreSized s (nodes (pivot_first k xs))
@@ -65,16 +65,16 @@ module _ {V M : Type 0} (s : Shape) where
       names-many [] = refl
       names-many (c ∷ cs) = ap suc (names-many cs)
 
-  waits-append : (cs ds : List (Child V M)) → length (waits (cs ++ ds)) ≡ length (waits cs) + length (waits ds)
-  waits-append [] ds = omega arith
-  waits-append (c ∷ cs) ds = omega (arith, length-append c.waiting (waits (cs ++ ds)), length-append c.waiting (waits cs), waits-append cs ds)
+  all_pending-append : (cs ds : List (Child V M)) → length (all_pending (cs ++ ds)) ≡ length (all_pending cs) + length (all_pending ds)
+  all_pending-append [] ds = omega arith
+  all_pending-append (c ∷ cs) ds = omega (arith, length-append c.pending (all_pending (cs ++ ds)), length-append c.pending (all_pending cs), all_pending-append cs ds)
 
-  groups-sized : (gs : List (List (Child V M))) → Each (λ n. 2 ≤ n) (map length gs) → Each (λ n. n ≤ s.fanout) (map length gs) → length (waits (joined gs)) ≤ s.buffer → ChildrenSized (joined gs) →
+  groups-sized : (gs : List (List (Child V M))) → Each (λ n. 2 ≤ n) (map length gs) → Each (λ n. n ≤ s.fanout) (map length gs) → length (all_pending (joined gs)) ≤ s.buffer → ChildrenSized (joined gs) →
       AreSized s (nodes (map gathered gs))
   groups-sized [] two most fits z = tt
   groups-sized (g ∷ gs) two most fits z =
       let n = length-stripped g in
-      let w = waits-append g (joined gs) in (
+      let w = all_pending-append g (joined gs) in (
         (
           subst (λ n. 2 ≤ n) (sym n) two.0,
           subst (λ n. n ≤ s.fanout) (sym n) most.0,
@@ -85,7 +85,7 @@ module _ {V M : Type 0} (s : Shape) where
       )
 
   -- two children or more, with no more than a buffer of messages
-  pub grouped-sized : (cs : List (Child V M)) → 3 ≤ s.fanout → 2 ≤ length cs → length (waits cs) ≤ s.buffer → ChildrenSized cs → AreSized s (nodes (grouped s cs))
+  pub grouped-sized : (cs : List (Child V M)) → 3 ≤ s.fanout → 2 ≤ length cs → length (all_pending cs) ≤ s.buffer → ChildrenSized cs → AreSized s (nodes (grouped s cs))
   grouped-sized cs three two fits z =
       let gs = deal s.fanout cs in
       let lengths = lengths-deal s.fanout cs in
@@ -94,7 +94,7 @@ module _ {V M : Type 0} (s : Shape) where
       (groups-sized gs
       (subst (Each (λ n. 2 ≤ n)) (sym lengths) (sizes-two (length cs) s.fanout two three))
       (subst (Each (λ n. n ≤ s.fanout)) (sym lengths) (sizes-at_most (length cs) s.fanout (omega arith)))
-      (subst (λ cs. length (waits cs) ≤ s.buffer) (sym all) fits)
+      (subst (λ cs. length (all_pending cs) ≤ s.buffer) (sym all) fits)
       (subst ChildrenSized (sym all) z))
 
   -- ---- sharing
@@ -109,9 +109,9 @@ length-shared [] b = refl
 length-shared (x ∷ []) b = refl
 length-shared (x ∷ y ∷ ys) b = ap suc (length-shared (y ∷ ys) (from y.0 b))
 
-pub total-counts : {V M : Type 0} (cs : List (Child V M)) → total (counts cs) ≡ length (waits cs)
+pub total-counts : {V M : Type 0} (cs : List (Child V M)) → total (counts cs) ≡ length (all_pending cs)
 total-counts [] = refl
-total-counts (c ∷ cs) = omega (arith, length-append c.waiting (waits cs), total-counts cs)
+total-counts (c ∷ cs) = omega (arith, length-append c.pending (all_pending cs), total-counts cs)
 
 -- ---- one pass over the children
 
@@ -120,19 +120,19 @@ abbrev pub KeepsSized : {V M : Type 0} → Shape → ℕ → Flush V M → Type 
 KeepsSized {V} {M} s levels f = (low high : Option Key) (t : Tree V M) (p : Messages M) → Lies levels low high t → AllWithin low high p → IsSized s t → AreSized s (nodes (f t p))
 
 module _ {V M : Type 0} (effect : Option V → M → Option V) (s : Shape) (levels : ℕ) (f : Flush V M) (keeps : Keeps effect levels f) (sizes : KeepsSized s levels f) where
-  unwaited-sized : (xs : Siblings V M) → AreSized s (nodes xs) → ChildrenSized s (unwaited xs)
-  unwaited-sized [] z = tt
-  unwaited-sized (x ∷ xs) z = (z.0, unwaited-sized xs z.1)
+  none_pending-sized : (xs : Siblings V M) → AreSized s (nodes xs) → ChildrenSized s (none_pending xs)
+  none_pending-sized [] z = tt
+  none_pending-sized (x ∷ xs) z = (z.0, none_pending-sized xs z.1)
 
   abbrev block : Child V M × Bool → List (Child V M)
   block c = cond c.1 (flushed f c.0) (c.0 ∷ [])
 
   abbrev pass : List (Child V M × Bool) → List (Child V M)
-  pass = passed (λ c. length c.waiting) (flushed f)
+  pass = passed (λ c. length c.pending) (flushed f)
 
   block-sized : (low high : Option Key) (c : Child V M × Bool) → ChildLies levels low high c.0 → IsSized s c.0.tree → ChildrenSized s (block c)
   block-sized low high (c, true) l z =
-      unwaited-sized (pivot_first c.pivot (f c.tree c.waiting)) (sized-pivot_first s c.pivot (f c.tree c.waiting) (sizes low high c.tree c.waiting l.0 l.1 z))
+      none_pending-sized (pivot_first c.pivot (f c.tree c.pending)) (sized-pivot_first s c.pivot (f c.tree c.pending) (sizes low high c.tree c.pending l.0 l.1 z))
   block-sized low high (c, false) l z = (z, tt)
 
   pass-sized : (low high : Option Key) (ss : List (Child V M × Bool)) → ChildrenLie levels low high (names ss) → ChildrenSized s (names ss) → ChildrenSized s (pass ss)
@@ -141,12 +141,12 @@ module _ {V M : Type 0} (effect : Option V → M → Option V) (s : Shape) (leve
   pass-sized low high (c ∷ d ∷ ss) p z = both-sized s (block c) (pass (d ∷ ss)) (block-sized low (Some d.0.pivot) c p.2 z.0) (pass-sized (Some d.0.pivot) high (d ∷ ss) p.3 z.1)
 
   -- no child becomes none
-  some-unwaited : (k : Key) (xs : Siblings V M) → NonEmpty xs → 1 ≤ length (unwaited (pivot_first k xs))
-  some-unwaited k [] n = absurd n
-  some-unwaited k (x ∷ xs) n = omega arith
+  some-none_pending : (k : Key) (xs : Siblings V M) → NonEmpty xs → 1 ≤ length (none_pending (pivot_first k xs))
+  some-none_pending k [] n = absurd n
+  some-none_pending k (x ∷ xs) n = omega arith
 
   block-some : (low high : Option Key) (c : Child V M × Bool) → ChildLies levels low high c.0 → 1 ≤ length (block c)
-  block-some low high (c, true) l = let k = keeps low high c.tree c.waiting l.0 l.1 in some-unwaited c.pivot (f c.tree c.waiting) (led-full _ k.led)
+  block-some low high (c, true) l = let k = keeps low high c.tree c.pending l.0 l.1 in some-none_pending c.pivot (f c.tree c.pending) (led-full _ k.led)
   block-some low high (c, false) l = omega arith
 
   pass-longer : (low high : Option Key) (ss : List (Child V M × Bool)) → ChildrenLie levels low high (names ss) → length (names ss) ≤ length (pass ss)
@@ -158,8 +158,8 @@ module _ {V M : Type 0} (effect : Option V → M → Option V) (s : Shape) (leaf
   -- an inner node's children, of which so many are flushed that the messages for the others fit in a buffer
   pub node-sized : (levels : ℕ) (f : Flush V M) → Keeps effect levels f → KeepsSized s levels f → (low high : Option Key) (ns : Nodes V M) (b p : Messages M) →
       Lies (suc levels) low high (inner ns b) → AllWithin low high p → IsSized s (inner ns b) →
-      (ss : List (Child V M × Bool)) → names ss ≡ shared (children ns) (with_messages p b) → length (waits (passed (λ c. length c.waiting) (flushed f) ss)) ≤ s.buffer →
-      AreSized s (nodes (grouped s (passed (λ c. length c.waiting) (flushed f) ss)))
+      (ss : List (Child V M × Bool)) → names ss ≡ shared (children ns) (with_messages p b) → length (all_pending (passed (λ c. length c.pending) (flushed f) ss)) ≤ s.buffer →
+      AreSized s (nodes (grouped s (passed (λ c. length c.pending) (flushed f) ss)))
   node-sized levels f keeps sizes low high ns b p lies within z ss same fits = grouped-sized s _ three two fits sized
     where
       all : Messages M
@@ -168,10 +168,10 @@ module _ {V M : Type 0} (effect : Option V → M → Option V) (s : Shape) (leaf
       placed : ChildrenLie levels low high (names ss)
       placed = subst (ChildrenLie levels low high) (sym same) (start-lies effect s leaf_some (omega arith) levels low high ns b p lies within)
 
-      two : 2 ≤ length (passed (λ c. length c.waiting) (flushed f) ss)
+      two : 2 ≤ length (passed (λ c. length c.pending) (flushed f) ss)
       two = omega (arith, pass-longer effect s levels f keeps sizes low high ss placed, ap length same, length-shared (children ns) all, z.0)
 
-      sized : ChildrenSized s (passed (λ c. length c.waiting) (flushed f) ss)
+      sized : ChildrenSized s (passed (λ c. length c.pending) (flushed f) ss)
       sized = pass-sized effect s levels f keeps sizes low high ss placed (subst (ChildrenSized s) (sym same) (shared-sized s ns all z.3))
 
   pub absorbed-sized : (levels : ℕ) → KeepsSized s levels (absorbed effect (suc levels) s)
@@ -182,7 +182,7 @@ module _ {V M : Type 0} (effect : Option V → M → Option V) (s : Shape) (leaf
       let f = absorbed effect (suc levels) s in
       let cs = shared (children ns) (with_messages p b) in
       let eq = flushed-planned f s.buffer cs in
-      let fits = settled-fits (λ c. length c.waiting) (flushed f) (flushed-light f) s.buffer (total (counts cs)) cs (le_refl (total (counts cs))) in
+      let fits = settled-fits (λ c. length c.pending) (flushed f) (flushed-light f) s.buffer (total (counts cs)) cs (le_refl (total (counts cs))) in
       subst (λ cs. AreSized s (nodes (grouped s cs))) (sym eq)
       (node-sized levels f (absorbed-keeps effect s leaf_some (omega arith) levels) (absorbed-sized levels) low high ns b p lies within z (slots s.buffer cs) (names-slots s.buffer cs)
-      (omega (arith, fits, total-counts (flushed_over f s.buffer cs), ap (λ cs. length (waits cs)) eq)))
+      (omega (arith, fits, total-counts (flushed_over f s.buffer cs), ap (λ cs. length (all_pending cs)) eq)))

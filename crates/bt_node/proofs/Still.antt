@@ -11,7 +11,7 @@ use Rattle.bt_node.specs.Fits.{IsLed, Lies, IsSized, NodeFits, IsRoomy}
 use Rattle.bt_node.proofs.Limits.{rising-where, from-lower}
 use Rattle.bt_node.proofs.Sizes.{deal-one}
 use Rattle.bt_node.proofs.Settled.{settled-still}
-use Rattle.bt_node.proofs.Children.{waits}
+use Rattle.bt_node.proofs.Children.{all_pending}
 use Rattle.bt_node.proofs.Groups.{stripped, as_leaf, nodes-children}
 use Rattle.bt_node.proofs.Passes.{flushed-light}
 use Rattle.bt_node.proofs.Sized.{length-shared, total-counts}
@@ -45,13 +45,13 @@ led-first (x ∷ xs) l = ap (λ k. (k, x.1) ∷ xs) (sym l)
 
 module _ {V M : Type 0} where
   -- a sorted buffer is its shares joined
-  pub waits-shared : (x : Key × Tree V M) (xs : Siblings V M) (b : Messages M) → IsRising b → waits (shared (x ∷ xs) b) ≡ b
-  waits-shared x [] b r = append-nil b
-  waits-shared x (y ∷ ys) b r = ap (λ z. before y.0 b ++ z) (waits-shared y ys (from y.0 b) (from-rising y.0 b r)) ∙ divided y.0 b r
+  pub all_pending-shared : (x : Key × Tree V M) (xs : Siblings V M) (b : Messages M) → IsRising b → all_pending (shared (x ∷ xs) b) ≡ b
+  all_pending-shared x [] b r = append-nil b
+  all_pending-shared x (y ∷ ys) b r = ap (λ z. before y.0 b ++ z) (all_pending-shared y ys (from y.0 b) (from-rising y.0 b r)) ∙ divided y.0 b r
 
-  waits-shared-all : (xs : Siblings V M) (b : Messages M) → IsLed xs → IsRising b → waits (shared xs b) ≡ b
-  waits-shared-all [] b l r = absurd l
-  waits-shared-all (x ∷ xs) b l r = waits-shared x xs b r
+  all_pending-shared-all : (xs : Siblings V M) (b : Messages M) → IsLed xs → IsRising b → all_pending (shared xs b) ≡ b
+  all_pending-shared-all [] b l r = absurd l
+  all_pending-shared-all (x ∷ xs) b l r = all_pending-shared x xs b r
 
   pub stripped-shared : (xs : Siblings V M) (b : Messages M) → stripped (shared xs b) ≡ xs
   stripped-shared [] b = refl
@@ -61,10 +61,10 @@ module _ {V M : Type 0} where
   -- one group of children, with their shares of a buffer, is the node that they came from
   gathered-shared : (ns : Nodes V M) (b : Messages M) → IsLed (children ns) → IsRising b → (gathered (shared (children ns) b)).1 ≡ inner ns b
   gathered-shared ns b l r =
-      ap (λ xs. inner (nodes (pivot_first [] xs)) (waits (shared (children ns) b))) (stripped-shared (children ns) b)
-      ∙ ap (λ xs. inner (nodes xs) (waits (shared (children ns) b))) (led-first (children ns) l)
-      ∙ ap (λ ms. inner ms (waits (shared (children ns) b))) (nodes-children ns)
-      ∙ ap (inner ns) (waits-shared-all (children ns) b l r)
+      ap (λ xs. inner (nodes (pivot_first [] xs)) (all_pending (shared (children ns) b))) (stripped-shared (children ns) b)
+      ∙ ap (λ xs. inner (nodes xs) (all_pending (shared (children ns) b))) (led-first (children ns) l)
+      ∙ ap (λ ms. inner ms (all_pending (shared (children ns) b))) (nodes-children ns)
+      ∙ ap (inner ns) (all_pending-shared-all (children ns) b l r)
 
   -- children within the fanout are one group
   grouped-one : (s : Shape) (cs : List (Child V M)) → 1 ≤ s.fanout → length cs ≤ s.fanout → grouped s cs ≡ ([], (gathered cs).1) ∷ []
@@ -75,8 +75,8 @@ module _ {V M : Type 0} where
       grouped s (flushed_over flush s.buffer (shared (children ns) b)) ≡ ([], inner ns b) ∷ []
   still-here s ns b l r some few fits flush =
       let cs = shared (children ns) b in
-      let waiting : total (counts cs) ≤ s.buffer = omega (arith, total-counts cs, ap length (waits-shared-all (children ns) b l r), fits) in
-      ap (grouped s) (settled-still (λ c. length c.waiting) (flushed flush) (flushed-light flush) s.buffer (total (counts cs)) cs waiting)
+      let pending : total (counts cs) ≤ s.buffer = omega (arith, total-counts cs, ap length (all_pending-shared-all (children ns) b l r), fits) in
+      ap (grouped s) (settled-still (λ c. length c.pending) (flushed flush) (flushed-light flush) s.buffer (total (counts cs)) cs pending)
       ∙ grouped-one s cs some (omega (arith, length-shared (children ns) b, few))
       ∙ ap (λ t. ([], t) ∷ []) (gathered-shared ns b l r)
 

@@ -55,7 +55,7 @@ entry n v = (k n, pos v)
 abbrev two : ℕ → ℕ → ℕ → ℕ → Tree ℤ Change
 two a x b y = leaf (entry a x ∷ entry b y ∷ [])
 
--- at most four children, three waiting messages, two rows
+-- at most four children, three pending messages, two rows
 abbrev shape : Shape
 shape = record { fanout = 4; buffer = 3; leaf = 2 }
 
@@ -88,7 +88,7 @@ split_leaf = inner (node [] (two 1 10 2 20) (node (k 3) (two 3 30 4 40) none)) [
 four_puts : sunk effect shape empty (puts 1 10 ∷ puts 2 20 ∷ puts 3 30 ∷ puts 4 40 ∷ []) ≡ split_leaf
 four_puts = refl
 
--- of two counts of 2 the left child is flushed, and the right one's messages wait
+-- of two counts of 2 the left child is flushed, and the right one's messages are pending
 tie_flushes_left : sunk effect shape split_leaf (puts 1 11 ∷ puts 2 21 ∷ puts 3 31 ∷ puts 4 41 ∷ [])
     ≡ inner (node [] (two 1 11 2 21) (node (k 3) (two 3 30 4 40) none)) (puts 3 31 ∷ puts 4 41 ∷ [])
 tie_flushes_left = refl
@@ -193,7 +193,7 @@ three_high_holds : holds effect three_high
     ≡ (k_minus_1, minus_10) ∷ entry 0 0 ∷ entry 1 11 ∷ entry 2 20 ∷ entry 3 30 ∷ entry 4 44 ∷ entry 5 50 ∷ entry 6 60 ∷ entry 7 70 ∷ entry 8 80 ∷ []
 three_high_holds = refl
 
--- key 4's message waits in an inner node, above its leaf; key 9 has nothing
+-- key 4's message is pending in an inner node, above its leaf; key 9 has nothing
 looked_up : value_at effect (k 4) three_high ≡ Some (pos 44)
 looked_up = refl
 

@@ -31,7 +31,7 @@ module _ {V M : Type 0} (effect : Option V → M → Option V) where
       NodeFits shape levels low high (inner ns buffer) → AllWithin low high packet →
       drained effect shape (inner ns buffer) packet ≡ grouped shape (flat_map (flushed (drained effect shape)) (shared (children ns) (with_messages packet buffer)))
 
-  -- No messages wait in what becomes of a drained node.
+  -- No messages are pending in what becomes of a drained node.
   abbrev pub DrainIsDry : Type 0
   DrainIsDry = (shape : Shape) (levels : ℕ) (low high : Option Key) (t : Tree V M) (packet : Messages M) →
       IsRoomy shape → NodeFits shape levels low high t → AllWithin low high packet →
@@ -47,7 +47,7 @@ module _ {V M : Type 0} (effect : Option V → M → Option V) where
   abbrev pub DrainedTreeFits : Type 0
   DrainedTreeFits = (shape : Shape) (t : Tree V M) → IsRoomy shape → IsFit shape t → IsFit shape (drained_tree effect shape t)
 
-  -- No messages wait in a drained tree.
+  -- No messages are pending in a drained tree.
   abbrev pub DrainedTreeIsDry : Type 0
   DrainedTreeIsDry = (shape : Shape) (t : Tree V M) → IsRoomy shape → IsFit shape t → IsDry (drained_tree effect shape t)
 
@@ -67,6 +67,6 @@ module _ {V M : Type 0} (effect : Option V → M → Option V) where
 abbrev pub PackFits : Type 0 → Type 0 → Type 0
 PackFits V M = (shape : Shape) (rows : Rows V) → IsRoomy shape → RowsLie None None rows → IsFit {M = M} shape (packed shape rows)
 
--- No messages wait in a packed tree.
+-- No messages are pending in a packed tree.
 abbrev pub PackIsDry : Type 0 → Type 0 → Type 0
 PackIsDry V M = (shape : Shape) (rows : Rows V) → IsDry {M = M} (packed shape rows)

@@ -18,7 +18,7 @@ module _ {V M : Type 0} (effect : Option V → M → Option V) where
   drained_at (suc height) shape (inner ns buffer) packet =
       grouped shape (flat_map (flushed (drained_at height shape)) (shared (children ns) (with_messages packet buffer)))
 
-  -- A leaf's rows after the messages, dealt anew. An inner node takes the packet into its buffer, every child is drained with the messages that wait
+  -- A leaf's rows after the messages, dealt anew. An inner node takes the packet into its buffer, every child is drained with the messages that are pending
   -- for it, even none, and what comes of them is dealt anew.
   abbrev pub drained : Shape → Flush V M
   drained shape t packet = drained_at (height t) shape t packet
@@ -31,7 +31,7 @@ module _ {V M : Type 0} (effect : Option V → M → Option V) where
   abbrev pub rebuilt : Shape → Tree V M → Tree V M
   rebuilt shape t = packed shape (holds effect t)
 
--- no messages wait in a node or below it
+-- no messages are pending in a node or below it
 abbrev mutual
   pub IsDry : {V M : Type 0} → Tree V M → Type 0
   IsDry (leaf rows) = Unit {0}

@@ -9,11 +9,11 @@ use Rattle.bt_node.specs.Plans.{total}
 use Rattle.bt_node.specs.Loops.{settled}
 use Rattle.bt_node.specs.Trees.{Shape, Tree, leaf, inner, Nodes, none, node, Siblings, children, nodes, height}
 
--- a child with the messages of its parent's buffer that wait for it
+-- a child with the messages of its parent's buffer that are pending for it
 pub record Child (V M : Type 0) : Type 0 where
   pub pivot : Key
   pub tree : Tree V M
-  pub waiting : Messages M
+  pub pending : Messages M
 
 -- what becomes of a node and a packet
 abbrev pub Flush : Type 0 → Type 0 → Type 0
@@ -30,29 +30,29 @@ first_key key [] = []
 first_key key (x ∷ xs) = key x
 
 module _ {V M : Type 0} where
-  -- Each child with its share of the buffer: a message waits for the child after the last pivot that is at most its key, or for the first child.
+  -- Each child with its share of the buffer: a message is pending for the child after the last pivot that is at most its key, or for the first child.
   abbrev pub shared : Siblings V M → Messages M → List (Child V M)
   shared [] buffer = []
-  shared (x ∷ []) buffer = record { pivot = x.0; tree = x.1; waiting = buffer } ∷ []
-  shared (x ∷ y ∷ ys) buffer = record { pivot = x.0; tree = x.1; waiting = before y.0 buffer } ∷ shared (y ∷ ys) (from y.0 buffer)
+  shared (x ∷ []) buffer = record { pivot = x.0; tree = x.1; pending = buffer } ∷ []
+  shared (x ∷ y ∷ ys) buffer = record { pivot = x.0; tree = x.1; pending = before y.0 buffer } ∷ shared (y ∷ ys) (from y.0 buffer)
 
-  -- how many messages wait for each child
+  -- how many messages are pending for each child
   abbrev pub counts : List (Child V M) → List ℕ
-  counts = map (λ c. length c.waiting)
+  counts = map (λ c. length c.pending)
 
-  -- what becomes of a child when the messages that wait for it go down, behind its pivot; no messages wait for the parts
+  -- what becomes of a child when the messages that are pending for it go down, behind its pivot; no messages are pending for the parts
   abbrev pub flushed : Flush V M → Child V M → List (Child V M)
-  flushed flush c = map (λ x. record { pivot = x.0; tree = x.1; waiting = [] }) (pivot_first c.pivot (flush c.tree c.waiting))
+  flushed flush c = map (λ x. record { pivot = x.0; tree = x.1; pending = [] }) (pivot_first c.pivot (flush c.tree c.pending))
 
-  -- While more than the capacity waits, the fullest child is flushed, and the choice is made anew. Each turn sends a message down at least, so there
+  -- While more than the capacity is pending, the fullest child is flushed, and the choice is made anew. Each turn sends a message down at least, so there
   -- are no more turns than messages.
   abbrev pub flushed_over : Flush V M → ℕ → List (Child V M) → List (Child V M)
-  flushed_over flush capacity cs = settled (λ c. length c.waiting) (flushed flush) capacity (total (counts cs)) cs
+  flushed_over flush capacity cs = settled (λ c. length c.pending) (flushed flush) capacity (total (counts cs)) cs
 
-  -- neighbouring children under one inner node, what waits for them in its buffer, behind the pivot of the first
+  -- neighbouring children under one inner node, what is pending for them in its buffer, behind the pivot of the first
   abbrev pub gathered : List (Child V M) → Key × Tree V M
   gathered cs =
-      (first_key (λ c. c.pivot) cs, inner (nodes (pivot_first [] (map (λ c. (c.pivot, c.tree)) cs))) (flat_map (λ c. c.waiting) cs))
+      (first_key (λ c. c.pivot) cs, inner (nodes (pivot_first [] (map (λ c. (c.pivot, c.tree)) cs))) (flat_map (λ c. c.pending) cs))
 
   -- the children dealt by the fanout, each part under an inner node
   abbrev pub grouped : Shape → List (Child V M) → Siblings V M

@@ -21,12 +21,12 @@ PlanIsChoice = (capacity turns : ℕ) (counts : List ℕ) → total counts ≤ t
 -- The children that the loop flushes are those at the planned places, in this order.
 abbrev pub ChosenArePlanned : Type 0 → Type 0 → Type 0
 ChosenArePlanned V M = (flush : Flush V M) (capacity : ℕ) (cs : List (Child V M)) →
-    replaced (λ c. length c.waiting) (flushed flush) capacity (total (counts cs)) cs ≡ items_at (planned (counts cs) capacity) cs
+    replaced (λ c. length c.pending) (flushed flush) capacity (total (counts cs)) cs ≡ items_at (planned (counts cs) capacity) cs
 
 -- What the loop makes of the children is what one pass makes that flushes the planned ones where they stand.
 abbrev pub LoopIsOnePass : Type 0 → Type 0 → Type 0
 LoopIsOnePass V M = (flush : Flush V M) (capacity : ℕ) (cs : List (Child V M)) →
-    flushed_over flush capacity cs ≡ passed (λ c. length c.waiting) (flushed flush) (marked_all (planned (counts cs) capacity) (unmarked cs))
+    flushed_over flush capacity cs ≡ passed (λ c. length c.pending) (flushed flush) (marked_all (planned (counts cs) capacity) (unmarked cs))
 
 module _ {V M : Type 0} (effect : Option V → M → Option V) where
   -- ---- messages

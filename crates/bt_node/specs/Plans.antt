@@ -1,4 +1,4 @@
--- Which children are flushed, by the numbers of messages that wait for them.
+-- Which children are flushed, by the numbers of messages that are pending for them.
 use Rattle.std.specs.Prelude.{ℕ, zero, suc, ◌+◌, max, Bool, true, false, cond, nat_le, nat_eq, List, [], ◌∷◌, set, replicate}
 
 -- the counts together
@@ -40,16 +40,16 @@ abbrev pub total_of : List (ℕ × ℕ) → ℕ
 total_of [] = 0
 total_of (x ∷ xs) = x.1 + total_of xs
 
--- the places of the shortest front after which the other counts are at most the capacity together
+-- the places of the shortest prefix after which the other counts are at most the capacity together
 abbrev pub shortest : ℕ → List (ℕ × ℕ) → List ℕ
 shortest capacity [] = []
 shortest capacity (x ∷ xs) = cond (nat_le (x.1 + total_of xs) capacity) [] (x.0 ∷ shortest capacity xs)
 
--- The children that are flushed, in order: the fullest first, as many as it takes until no more than the capacity waits.
+-- The children that are flushed, in order: the fullest first, as many as it takes until no more than the capacity is pending.
 abbrev pub planned : List ℕ → ℕ → List ℕ
 planned counts capacity = shortest capacity (ranked (placed 0 counts))
 
--- The same without a plan: while more than the capacity waits, the fullest is emptied, and the choice is made anew. With a bound on the turns.
+-- The same without a plan: while more than the capacity is pending, the fullest is emptied, and the choice is made anew. With a bound on the turns.
 abbrev pub renewed : ℕ → ℕ → List ℕ → List ℕ
 renewed capacity zero counts = []
 renewed capacity (suc turns) counts =

@@ -20,7 +20,7 @@ divided (k ∷ ks) buffer = before k buffer ∷ divided ks (from k buffer)
 abbrev pub with_shares : {V D : Type 0} → List (Key × Node V D) → List (Share V D) → List (Child V (Message V D) × Bool)
 with_shares [] ss = []
 with_shares (x ∷ xs) [] = []
-with_shares (x ∷ xs) (s ∷ ss) = (record { pivot = x.0; tree = tree_of x.1; waiting = s.waiting }, s.flushed) ∷ with_shares xs ss
+with_shares (x ∷ xs) (s ∷ ss) = (record { pivot = x.0; tree = tree_of x.1; pending = s.pending }, s.flushed) ∷ with_shares xs ss
 
 -- each child with its share of a buffer, and whether it is flushed: at the places of the plan
 abbrev pub marked_children : {V M : Type 0} → Siblings V M → Messages M → ℕ → List (Child V M × Bool)

@@ -24,17 +24,17 @@ tree_of {V} {D} = fold-Node V D (Tree V (Message V D)) tree_step
 abbrev pub siblings_of : {V D : Type 0} → List (Key × Node V D) → Siblings V (Message V D)
 siblings_of = map (λ x. (x.0, tree_of x.1))
 
--- a child with what waits for it
+-- a child with what is pending for it
 abbrev pub child_of : {V D : Type 0} → code.Child V D → Child V (Message V D)
-child_of c = record { pivot = c.pivot; tree = tree_of c.node; waiting = c.waiting }
+child_of c = record { pivot = c.pivot; tree = tree_of c.node; pending = c.pending }
 
 abbrev pub children_of : {V D : Type 0} → List (code.Child V D) → List (Child V (Message V D))
 children_of = map child_of
 
--- what waits for children, as one list
-abbrev pub waiting_of : {V D : Type 0} → List (code.Child V D) → Messages (Message V D)
-waiting_of cs = flat_map (λ c. c.waiting) (children_of cs)
+-- what is pending for children, as one list
+abbrev pub pending_of : {V D : Type 0} → List (code.Child V D) → Messages (Message V D)
+pending_of cs = flat_map (λ c. c.pending) (children_of cs)
 
--- siblings as children for which nothing waits
-abbrev pub unwaited_of : {V M : Type 0} → Siblings V M → List (Child V M)
-unwaited_of = map (λ x. record { pivot = x.0; tree = x.1; waiting = [] })
+-- siblings as children for which nothing is pending
+abbrev pub none_pending_of : {V M : Type 0} → Siblings V M → List (Child V M)
+none_pending_of = map (λ x. record { pivot = x.0; tree = x.1; pending = [] })

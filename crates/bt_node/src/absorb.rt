@@ -15,14 +15,14 @@ use bt_keycode::Key;
 use bt_messages::{Merge, Packet};
 use std::alloc::{AllocError, Global};
 
-// Whether a node with these children and so many waiting messages stays as it is.
-fn stays<V: Merge>(shape: Shape, children: &[(Key, Node<V>)], waiting: usize) -> bool
-    ensures { result ≡ true → IsLed (siblings_of children.now) × (1 ≤ length children.now) × (length children.now ≤ shape.fanout) × (waiting ≤ shape.buffer) }
+// Whether a node with these children and so many pending messages stays as it is.
+fn stays<V: Merge>(shape: Shape, children: &[(Key, Node<V>)], pending: usize) -> bool
+    ensures { result ≡ true → IsLed (siblings_of children.now) × (1 ≤ length children.now) × (length children.now ≤ shape.fanout) × (pending ≤ shape.buffer) }
 {
     let [first, ..] = children else {
         return false;
     };
-    first.0.len() == 0 && children.len() <= shape.fanout() && waiting <= shape.buffer()
+    first.0.len() == 0 && children.len() <= shape.fanout() && pending <= shape.buffer()
 }
 
 // One node behind the empty key.
@@ -34,7 +34,7 @@ fn alone<V: Merge>(alloc: Global, node: Node<V>) -> Result<Vec<(Key, Node<V>)>, 
     Ok(nodes)
 }
 
-// What becomes of children when what waits for the marked ones goes down to them.
+// What becomes of children when what is pending for the marked ones goes down to them.
 #[cycle(flushes)]
 fn flush<V: Merge>(
     alloc: Global,
@@ -42,22 +42,22 @@ fn flush<V: Merge>(
     children: Vec<(Key, Node<V>)>,
     shares: Vec<Share<V>>,
 ) -> Result<Vec<Child<V>>, AllocError>
-    ensures { IfOk result (λ parts. children_of parts.items ≡ passed (λ c. length c.waiting) (flushed (absorb (effect_of V.merged) shape)) (with_shares children.items shares.items)) }
+    ensures { IfOk result (λ parts. children_of parts.items ≡ passed (λ c. length c.pending) (flushed (absorb (effect_of V.merged) shape)) (with_shares children.items shares.items)) }
 {
     let mut parts = Vec::with_capacity(alloc, children.len())?;
     let mut shares = shares.into_iter();
     for (pivot, node) in children {
-        let Some(Share { waiting, flushed }) = shares.next() else {
+        let Some(Share { pending, flushed }) = shares.next() else {
             return Ok(parts);
         };
         if flushed {
-            let nodes = absorb(alloc, shape, node, waiting)?;
+            let nodes = absorb(alloc, shape, node, pending)?;
             add_parts(alloc, &mut parts, pivot, nodes)?;
         } else {
             parts.push(Child {
                 pivot,
                 node,
-                waiting,
+                pending,
             })?;
         }
     }

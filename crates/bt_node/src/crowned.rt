@@ -1,7 +1,7 @@
 //! One node above siblings.
 ghost use Rattle.std.specs.Prelude.{◌≡◌, IfOk};
 ghost use Rattle.bt_node.specs.Flushes.{crown};
-ghost use Rattle.bt_node.specs.Views.{children_of, siblings_of, tree_of, unwaited_of};
+ghost use Rattle.bt_node.specs.Views.{children_of, siblings_of, tree_of, none_pending_of};
 
 use crate::group::{add_part, group};
 use crate::node::{Child, Node};
@@ -11,12 +11,12 @@ use bt_keycode::Key;
 use bt_messages::Merge;
 use std::alloc::{AllocError, Global};
 
-// Siblings as children for which nothing waits.
-fn unwaited<V: Merge>(
+// Siblings as children for which nothing is pending.
+fn none_pending<V: Merge>(
     alloc: Global,
     nodes: Vec<(Key, Node<V>)>,
 ) -> Result<Vec<Child<V>>, AllocError>
-    ensures { IfOk result (λ children. children_of children.items ≡ unwaited_of (siblings_of nodes.items)) }
+    ensures { IfOk result (λ children. children_of children.items ≡ none_pending_of (siblings_of nodes.items)) }
 {
     let mut children = Vec::with_capacity(alloc, nodes.len())?;
     for (pivot, node) in nodes {
@@ -35,7 +35,7 @@ pub(crate) fn crowned<V: Merge>(
 {
     let mut level = nodes;
     'levels: while level.len() > 1 {
-        let children = unwaited(alloc, level)?;
+        let children = none_pending(alloc, level)?;
         level = group(alloc, shape, children)?;
     }
     match level.pop() {

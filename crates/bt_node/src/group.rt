@@ -2,7 +2,7 @@
 ghost use Rattle.std.specs.Prelude.{◌≡◌, ◌++◌, ◌∷◌, [], IfOk, OnOk};
 ghost use Rattle.bt_messages.specs.Messages.{IsSorted};
 ghost use Rattle.bt_node.specs.Flushes.{first_key, gathered, grouped, leaves, pivot_first};
-ghost use Rattle.bt_node.specs.Views.{children_of, siblings_of, tree_of, unwaited_of, waiting_of};
+ghost use Rattle.bt_node.specs.Views.{children_of, siblings_of, tree_of, none_pending_of, pending_of};
 
 use crate::deal::deal;
 use crate::node::{Child, Node};
@@ -43,30 +43,30 @@ pub(crate) fn leaves<V: Merge>(
     Ok(nodes)
 }
 
-// Adds a child, and what waits for it behind what waits for those before it.
+// Adds a child, and what is pending for it behind what is pending for those before it.
 #[tactic(auto, using(crate::proofs::Gathering::added_last))]
 fn add_child<V: Merge>(
     children: &mut Vec<(Key, Node<V>)>,
     buffer: &mut Buffer<V>,
     child: Child<V>,
 ) -> Result<(), AllocError>
-    requires { IsSorted (buffer.old ++ child.waiting) }
+    requires { IsSorted (buffer.old ++ child.pending) }
     ensures child { OnOk result (siblings_of children.new.items ≡ siblings_of children.old.items ++ (child.pivot, tree_of child.node) ∷ []) }
-    ensures waiting { OnOk result (buffer.new ≡ buffer.old ++ child.waiting) }
+    ensures pending { OnOk result (buffer.new ≡ buffer.old ++ child.pending) }
 {
     let Child {
         pivot,
         node,
-        waiting,
+        pending,
     } = child;
     children.push((pivot, node))?;
-    buffer.add(waiting)?;
+    buffer.add(pending)?;
     Ok(())
 }
 
 // Neighbouring children under one inner node, behind the pivot of the first.
 fn gather<V: Merge>(alloc: Global, part: Vec<Child<V>>) -> Result<(Key, Node<V>), AllocError>
-    requires sorted { IsSorted (waiting_of part.items) }
+    requires sorted { IsSorted (pending_of part.items) }
     ensures { IfOk result (λ node. (node.0, tree_of node.1) ≡ gathered (children_of part.items)) }
 {
     let mut children = Vec::with_capacity(alloc, part.len())?;
@@ -78,12 +78,12 @@ fn gather<V: Merge>(alloc: Global, part: Vec<Child<V>>) -> Result<(Key, Node<V>)
     let Child {
         pivot,
         node,
-        waiting,
+        pending,
     } = first;
     let first = Child {
         pivot: Key::new(),
         node,
-        waiting,
+        pending,
     };
     add_child(&mut children, &mut buffer, first)?;
     for child in part {
@@ -98,7 +98,7 @@ pub(crate) fn group<V: Merge>(
     shape: Shape,
     children: Vec<Child<V>>,
 ) -> Result<Vec<(Key, Node<V>)>, AllocError>
-    requires { IsSorted (waiting_of children.items) }
+    requires { IsSorted (pending_of children.items) }
     ensures { IfOk result (λ nodes. siblings_of nodes.items ≡ grouped shape (children_of children.items)) }
 {
     let mut parts = deal(alloc, children, shape.fanout())?.into_iter();
@@ -114,32 +114,32 @@ pub(crate) fn group<V: Merge>(
     Ok(nodes)
 }
 
-/// Adds a child for which nothing waits.
+/// Adds a child for which nothing is pending.
 pub(crate) fn add_part<V: Merge>(
     alloc: Global,
     children: &mut Vec<Child<V>>,
     pivot: Key,
     node: Node<V>,
 ) -> Result<(), AllocError>
-    ensures { OnOk result (children_of children.new.items ≡ children_of children.old.items ++ unwaited_of ((pivot, tree_of node) ∷ [])) }
+    ensures { OnOk result (children_of children.new.items ≡ children_of children.old.items ++ none_pending_of ((pivot, tree_of node) ∷ [])) }
 {
-    let waiting = Packet::new(alloc);
+    let pending = Packet::new(alloc);
     children.push(Child {
         pivot,
         node,
-        waiting,
+        pending,
     })?;
     Ok(())
 }
 
-/// Adds the parts that a child became, the first of them behind its pivot. Nothing waits for them.
+/// Adds the parts that a child became, the first of them behind its pivot. Nothing is pending for them.
 pub(crate) fn add_parts<V: Merge>(
     alloc: Global,
     children: &mut Vec<Child<V>>,
     pivot: Key,
     parts: Vec<(Key, Node<V>)>,
 ) -> Result<(), AllocError>
-    ensures { OnOk result (children_of children.new.items ≡ children_of children.old.items ++ unwaited_of (pivot_first pivot (siblings_of parts.items))) }
+    ensures { OnOk result (children_of children.new.items ≡ children_of children.old.items ++ none_pending_of (pivot_first pivot (siblings_of parts.items))) }
 {
     let mut parts = parts.into_iter();
     let Some((_, first)) = parts.next() else {

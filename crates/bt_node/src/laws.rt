@@ -43,7 +43,7 @@ pub fn absorb_keeps_the_shape<V: Merge>(_of: &V)
     ensures same_height { AbsorbKeepsHeight (effect_of V.merged) }
 {}
 
-/// What a node does with a packet, its children do with the messages that wait for them.
+/// What a node does with a packet, its children do with the messages that are pending for them.
 pub fn children_by_the_same_rule<V: Merge>(_of: &V)
     ensures absorbed { AbsorbRecurs (effect_of V.merged) }
     ensures drained { DrainRecurs (effect_of V.merged) }

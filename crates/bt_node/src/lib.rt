@@ -1,6 +1,6 @@
 //! Bε-trees: search trees whose inner nodes keep a buffer of messages on the way to their rows.
 //!
-//! A message enters at the root. Where a buffer holds more messages than it may, the child for which the most of them wait
+//! A message enters at the root. Where a buffer holds more messages than it may, the child for which the most of them are pending
 //! is flushed: its messages go down together, and the parts into which it splits take its place. A tree is the map that it
 //! holds when all messages have had their effect, those nearer to a leaf first.
 //!

@@ -1,4 +1,4 @@
-//! The children that a node flushes, worked out once from the numbers of messages that wait for each.
+//! The children that a node flushes, worked out once from the numbers of messages that are pending for each.
 //!
 //! Counts, sums and capacities are numbers of messages, and places are counted from 0, the leftmost child.
 ghost use Rattle.std.specs.Prelude.{◌≡◌, IfOk, length, vec_len};
@@ -6,7 +6,7 @@ ghost use Rattle.bt_node.specs.Plans.{fullest, marks_of, planned, total};
 
 use std::alloc::{AllocError, Global};
 
-// How many messages wait in all, which may be more than fit 64 bits.
+// How many messages are pending in all, which may be more than fit 64 bits.
 fn sum_of(counts: &[u64]) -> u128
     ensures { result ≡ total counts.now }
 {
@@ -17,7 +17,7 @@ fn sum_of(counts: &[u64]) -> u128
     sum
 }
 
-// The place of the child for which the most messages wait, the leftmost of them.
+// The place of the child for which the most messages are pending, the leftmost of them.
 fn fullest_place(counts: &[u64]) -> usize
     ensures { result ≡ fullest counts.now }
 {
@@ -32,20 +32,20 @@ fn fullest_place(counts: &[u64]) -> usize
     best
 }
 
-// The places in turn, where so many messages wait in all: the fullest child is emptied, until no more are left than the
+// The places in turn, where so many messages are pending in all: the fullest child is emptied, until no more are left than the
 // capacity.
 fn choose(
     alloc: Global,
     counts: &[u64],
-    waiting: u128,
+    pending: u128,
     capacity: u128,
 ) -> Result<Vec<usize>, AllocError>
-    requires { waiting ≡ total counts.now }
+    requires { pending ≡ total counts.now }
     ensures { IfOk result (λ places. places.items ≡ planned counts.now capacity) }
 {
     let mut places = Vec::new(alloc);
     let mut rest = Vec::from_slice(alloc, counts)?;
-    let mut left = waiting;
+    let mut left = pending;
     while left > capacity {
         let place = fullest_place(rest.as_slice());
         left -= u128::from(rest[place]);
@@ -55,20 +55,20 @@ fn choose(
     Ok(places)
 }
 
-/// The places of the children to flush, where this many messages wait for each: the fullest first, of equally full ones the
-/// leftmost, and no more of them than it takes until at most the capacity waits for the others. Takes no memory where no
+/// The places of the children to flush, where this many messages are pending for each: the fullest first, of equally full ones the
+/// leftmost, and no more of them than it takes until at most the capacity is pending for the others. Takes no memory where no
 /// child is flushed.
 pub fn plan(alloc: Global, counts: &[u64], capacity: u64) -> Result<Vec<usize>, AllocError>
     ensures { IfOk result (λ places. places.items ≡ planned counts.now capacity) }
 {
-    let waiting = sum_of(counts);
-    if waiting <= u128::from(capacity) {
+    let pending = sum_of(counts);
+    if pending <= u128::from(capacity) {
         return Ok(Vec::new(alloc));
     }
-    choose(alloc, counts, waiting, u128::from(capacity))
+    choose(alloc, counts, pending, u128::from(capacity))
 }
 
-// Whether each child is flushed, where this many messages wait for each.
+// Whether each child is flushed, where this many messages are pending for each.
 pub(crate) fn flush_marks(
     alloc: Global,
     counts: &[u64],

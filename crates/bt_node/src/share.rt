@@ -1,4 +1,4 @@
-//! What waits for each child of a node, and which children are flushed.
+//! What is pending for each child of a node, and which children are flushed.
 ghost use Rattle.std.specs.Prelude.{◌≡◌, [], IfOk, length, map};
 ghost use Rattle.std.specs.List.{zip};
 ghost use Rattle.bt_node.specs.Shares.{divided, marked_children, with_shares};
@@ -10,14 +10,14 @@ use bt_keycode::Key;
 use bt_messages::{Buffer, Merge, Packet};
 use std::alloc::{AllocError, Global};
 
-/// What waits for a child, and whether it goes down to it.
+/// What is pending for a child, and whether it goes down to it.
 #[derive(Drop)]
 pub(crate) struct Share<V: Merge> {
-    pub(crate) waiting: Packet<V>,
+    pub(crate) pending: Packet<V>,
     pub(crate) flushed: bool,
 }
 
-// The messages of a buffer for each of some children: a message waits for the child after the last pivot that is at most its
+// The messages of a buffer for each of some children: a message is pending for the child after the last pivot that is at most its
 // key, or for the first child. One walk of buffer and pivots together.
 fn divide<V: Merge>(
     alloc: Global,
@@ -52,21 +52,21 @@ fn paired<V: Merge>(
     packets: Vec<Packet<V>>,
     marks: Vec<bool>,
 ) -> Result<Vec<Share<V>>, AllocError>
-    ensures { IfOk result (λ shares. map (λ s. (s.waiting, s.flushed)) shares.items ≡ zip packets.items marks.items) }
+    ensures { IfOk result (λ shares. map (λ s. (s.pending, s.flushed)) shares.items ≡ zip packets.items marks.items) }
 {
     let mut shares = Vec::with_capacity(alloc, packets.len())?;
     let mut marks = marks.into_iter();
-    for waiting in packets {
+    for pending in packets {
         let Some(flushed) = marks.next() else {
             return Ok(shares);
         };
-        shares.push(Share { waiting, flushed })?;
+        shares.push(Share { pending, flushed })?;
     }
     Ok(shares)
 }
 
-/// What waits for each child, and whether it is flushed: as many are as it takes, the fullest first, until no more than the
-/// capacity waits for the others.
+/// What is pending for each child, and whether it is flushed: as many are as it takes, the fullest first, until no more than the
+/// capacity is pending for the others.
 pub(crate) fn shares<V: Merge>(
     alloc: Global,
     children: &[(Key, Node<V>)],

@@ -10,24 +10,24 @@ use Rattle.bt_rowtype.specs.declared.value.Value.{Value}
 
 -- values before others, where those are there
 abbrev pub behind : List Value → Option (List Value) → Option (List Value)
-behind front rest = option_map (λ vs. front ++ vs) rest
+behind prefix rest = option_map (λ vs. prefix ++ vs) rest
 
-behind-first : (front : List Value) (v : Value) (rest : Option (List Value)) → behind front (with_first (Some v) rest) ≡ behind (front ++ v ∷ []) rest
-behind-first front v None = refl
-behind-first front v (Some vs) = ap Some (sym (append_assoc front (v ∷ []) vs))
+behind-first : (prefix : List Value) (v : Value) (rest : Option (List Value)) → behind prefix (with_first (Some v) rest) ≡ behind (prefix ++ v ∷ []) rest
+behind-first prefix v None = refl
+behind-first prefix v (Some vs) = ap Some (sym (append_assoc prefix (v ∷ []) vs))
 
 -- one more field that spells a value
-pub values-drop-some : (columns : List Column) (fields : List (List ℕ)) (i : ℕ) (c : Column) (front : List Value) (v : Value) → i < length columns → i < length fields
+pub values-drop-some : (columns : List Column) (fields : List (List ℕ)) (i : ℕ) (c : Column) (prefix : List Value) (v : Value) → i < length columns → i < length fields
     → value_of (get_or columns i c).kind (get_or fields i []) ≡ Some v
-    → behind front (values_of (drop i columns) (drop i fields)) ≡ behind (front ++ v ∷ []) (values_of (drop (i + 1) columns) (drop (i + 1) fields))
-values-drop-some columns fields i c front v in_columns in_fields spelled =
-    rw (drop_more columns i c in_columns, drop_more fields i [] in_fields, spelled) (behind-first front v (values_of (drop (i + 1) columns) (drop (i + 1) fields)))
+    → behind prefix (values_of (drop i columns) (drop i fields)) ≡ behind (prefix ++ v ∷ []) (values_of (drop (i + 1) columns) (drop (i + 1) fields))
+values-drop-some columns fields i c prefix v in_columns in_fields spelled =
+    rw (drop_more columns i c in_columns, drop_more fields i [] in_fields, spelled) (behind-first prefix v (values_of (drop (i + 1) columns) (drop (i + 1) fields)))
 
 -- a field that spells none
-pub values-drop-none : (columns : List Column) (fields : List (List ℕ)) (i : ℕ) (c : Column) (front : List Value) → i < length columns → i < length fields
+pub values-drop-none : (columns : List Column) (fields : List (List ℕ)) (i : ℕ) (c : Column) (prefix : List Value) → i < length columns → i < length fields
     → value_of (get_or columns i c).kind (get_or fields i []) ≡ None
-    → behind front (values_of (drop i columns) (drop i fields)) ≡ None
-values-drop-none columns fields i c front in_columns in_fields not_spelled = rw (drop_more columns i c in_columns, drop_more fields i [] in_fields, not_spelled) refl
+    → behind prefix (values_of (drop i columns) (drop i fields)) ≡ None
+values-drop-none columns fields i c prefix in_columns in_fields not_spelled = rw (drop_more columns i c in_columns, drop_more fields i [] in_fields, not_spelled) refl
 
 -- the field at a place
 pub at_place : (fields : List (List ℕ)) (i : ℕ) (field : List ℕ) → slice_get fields i ≡ Some field → get_or fields i [] ≡ field

@@ -2,7 +2,7 @@
 use Rattle.std.proofs.Common.{◌≡◌, List, ℕ, [], ◌∷◌, pos, negsuc, refl, codes, true, false, Ok, Err, Some, None}
 use Rattle.bt_rowtype.proofs.OnLiterals.{rowtype_on_literals}
 use Rattle.bt_rowtype.specs.Ops.{after_ops, checked_ops, default_row, merged, ops_as, upsert_as}
-use Rattle.bt_rowtype.specs.Schemas.{Layout}
+use Rattle.bt_rowtype.specs.Schemas.{Schema}
 use Rattle.bt_rowtype.specs.declared.op.Op.TheVariants.{Set, Add}
 use Rattle.bt_rowtype.specs.declared.refusal.Refusal.TheVariants.{BadField, BadLength, NoSuchColumn, NotInt}
 use Rattle.bt_rowtype.specs.declared.schema.Column.{Column}
@@ -15,11 +15,11 @@ abbrev column : List ℕ → Kind → Column
 column name of = record { name = name; kind = of }
 
 -- id:int qty:int, of which the first is the key
-abbrev stock : Layout
+abbrev stock : Schema
 stock = record { columns = column (codes "id") kind.Int ∷ column (codes "qty") kind.Int ∷ []; keys = 1 }
 
 -- id:int qty:int city:text open:flag, of which the first is the key
-abbrev shops : Layout
+abbrev shops : Schema
 shops = record { columns = column (codes "id") kind.Int ∷ column (codes "qty") kind.Int ∷ column (codes "city") kind.Text ∷ column (codes "open") kind.Flag ∷ []; keys = 1 }
 
 -- ---- what operations do

@@ -6,7 +6,7 @@ use Rattle.std.specs.List.{filter_map}
 use Rattle.std.specs.Result.{result_err, result_ok}
 use Rattle.bt_rowtype.specs.Ints.{int_of}
 use Rattle.bt_rowtype.specs.Refusals.{least, lesser}
-use Rattle.bt_rowtype.specs.Schemas.{Layout, fits_kind}
+use Rattle.bt_rowtype.specs.Schemas.{Schema, fits_kind}
 use Rattle.bt_rowtype.specs.Values.{default_of, or_refused, value_of, values_of}
 use Rattle.bt_rowtype.specs.declared.op.Change.{Change}
 use Rattle.bt_rowtype.specs.declared.op.Op.{Op}
@@ -22,8 +22,8 @@ use Rattle.bt_rowtype.specs.declared.value.Value.TheVariants as value
 -- ---- what operations do
 
 -- the row of a key where there is none: the key's values, then the default of each other column
-abbrev pub default_row : Layout → List Value → List Value
-default_row layout key = key ++ map (λ c. default_of c.kind) (drop layout.keys layout.columns)
+abbrev pub default_row : Schema → List Value → List Value
+default_row schema key = key ++ map (λ c. default_of c.kind) (drop schema.keys schema.columns)
 
 -- an int with a number added, held at the least and the greatest int of 64 bits; any other value stays
 abbrev pub added : ℤ → Value → Value
@@ -53,8 +53,8 @@ named_from place name [] = None
 named_from place name (column ∷ columns) = if pointwise ◌==◌ column.name name then Some (place, column.kind) else named_from (suc place) name columns
 
 -- the column with a name that operations may change: none of the key
-abbrev pub open_column : Layout → List ℕ → Option (ℕ × Kind)
-open_column layout name = named_from layout.keys name (drop layout.keys layout.columns)
+abbrev pub open_column : Schema → List ℕ → Option (ℕ × Kind)
+open_column schema name = named_from schema.keys name (drop schema.keys schema.columns)
 
 -- set with this argument, at a column
 abbrev pub set_of : ℕ → List ℕ → ℕ × Kind → Result Op Refusal
@@ -74,17 +74,17 @@ at_column read None = Err NoSuchColumn
 at_column read (Some column) = read column
 
 -- the operation of a word, a column's name and an argument, or its one fault: of the word, the column, the kind for add, the argument
-abbrev pub op_of : Layout → ℕ → List ℕ → List ℕ → List ℕ → Result Op Refusal
-op_of layout item word name argument =
-    if pointwise ◌==◌ word (codes "set") then at_column (set_of item argument) (open_column layout name)
-    else (if pointwise ◌==◌ word (codes "add") then at_column (add_of item argument) (open_column layout name) else Err (BadField item))
+abbrev pub op_of : Schema → ℕ → List ℕ → List ℕ → List ℕ → Result Op Refusal
+op_of schema item word name argument =
+    if pointwise ◌==◌ word (codes "set") then at_column (set_of item argument) (open_column schema name)
+    else (if pointwise ◌==◌ word (codes "add") then at_column (add_of item argument) (open_column schema name) else Err (BadField item))
 
 -- the operations of fields in groups of three
-abbrev pub ops_of : Layout → ℕ → List (List ℕ) → List (Result Op Refusal)
-ops_of layout item [] = []
-ops_of layout item (word ∷ []) = []
-ops_of layout item (word ∷ name ∷ []) = []
-ops_of layout item (word ∷ name ∷ argument ∷ fields) = op_of layout item word name argument ∷ ops_of layout item fields
+abbrev pub ops_of : Schema → ℕ → List (List ℕ) → List (Result Op Refusal)
+ops_of schema item [] = []
+ops_of schema item (word ∷ []) = []
+ops_of schema item (word ∷ name ∷ []) = []
+ops_of schema item (word ∷ name ∷ argument ∷ fields) = op_of schema item word name argument ∷ ops_of schema item fields
 
 -- whether a record has the fields of a key and of 1 to 16 operations
 abbrev pub is_upsert : ℕ → ℕ → Bool
@@ -100,9 +100,9 @@ abbrev pub all_read : {T : Type 0} → List (Result T Refusal) → Result (List 
 all_read results = unless (least (filter_map result_err results)) (filter_map result_ok results)
 
 -- the operations that the record of an upsert spells behind its key, or their refusal as this item
-abbrev pub ops_as : Layout → ℕ → List (List ℕ) → Result (List Op) Refusal
-ops_as layout item fields =
-    if is_upsert layout.keys (length fields) then all_read (ops_of layout item (drop layout.keys fields)) else Err (BadLength item)
+abbrev pub ops_as : Schema → ℕ → List (List ℕ) → Result (List Op) Refusal
+ops_as schema item fields =
+    if is_upsert schema.keys (length fields) then all_read (ops_of schema item (drop schema.keys fields)) else Err (BadLength item)
 
 -- two that were read, or the lesser of their refusals
 abbrev pub both_read : {S T : Type 0} → Result S Refusal → Result T Refusal → Result (S × T) Refusal
@@ -112,19 +112,19 @@ both_read (Err refusal) (Ok second) = Err refusal
 both_read (Err refusal) (Err other) = Err (lesser refusal other)
 
 -- the values of the key that the record of an upsert begins with
-abbrev pub key_as : Layout → ℕ → List (List ℕ) → Result (List Value) Refusal
-key_as layout item fields = or_refused (BadField item) (values_of (take layout.keys layout.columns) (take layout.keys fields))
+abbrev pub key_as : Schema → ℕ → List (List ℕ) → Result (List Value) Refusal
+key_as schema item fields = or_refused (BadField item) (values_of (take schema.keys schema.columns) (take schema.keys fields))
 
 -- the key and the operations that the record of an upsert spells, or their least refusal as this item
-abbrev pub upsert_as : Layout → ℕ → List (List ℕ) → Result (List Value × List Op) Refusal
-upsert_as layout item fields =
-    if is_upsert layout.keys (length fields) then both_read (key_as layout item fields) (ops_as layout item fields) else Err (BadLength item)
+abbrev pub upsert_as : Schema → ℕ → List (List ℕ) → Result (List Value × List Op) Refusal
+upsert_as schema item fields =
+    if is_upsert schema.keys (length fields) then both_read (key_as schema item fields) (ops_as schema item fields) else Err (BadLength item)
 
 -- ---- whether they are operations of a schema
 
 -- the kind of the column at a place, where operations may change it
-abbrev pub open_kind : Layout → ℕ → Option Kind
-open_kind layout place = if nat_le layout.keys place then option_map (λ c. c.kind) (slice_get layout.columns place) else None
+abbrev pub open_kind : Schema → ℕ → Option Kind
+open_kind schema place = if nat_le schema.keys place then option_map (λ c. c.kind) (slice_get schema.columns place) else None
 
 -- the fault of an operation, if it has one
 abbrev pub set_fault : ℕ → Value → Option Kind → Option Refusal
@@ -136,11 +136,11 @@ add_fault None = Some NoSuchColumn
 add_fault (Some kind.Int) = None
 add_fault (Some other) = Some NotInt
 
-abbrev pub fault_of : Layout → ℕ → Op → Option Refusal
-fault_of layout item (Set place new) = set_fault item new (open_kind layout place)
-fault_of layout item (Add place n) = add_fault (open_kind layout place)
+abbrev pub fault_of : Schema → ℕ → Op → Option Refusal
+fault_of schema item (Set place new) = set_fault item new (open_kind schema place)
+fault_of schema item (Add place n) = add_fault (open_kind schema place)
 
 -- whether these are 1 to 16 operations of a schema, or their least refusal as this item
-abbrev pub checked_ops : Layout → ℕ → List Op → Result (Unit {0}) Refusal
-checked_ops layout item ops =
-    if nat_le 1 (length ops) && nat_le (length ops) 16 then unless (least (filter_map (fault_of layout item) ops)) tt else Err (BadLength item)
+abbrev pub checked_ops : Schema → ℕ → List Op → Result (Unit {0}) Refusal
+checked_ops schema item ops =
+    if nat_le 1 (length ops) && nat_le (length ops) 16 then unless (least (filter_map (fault_of schema item) ops)) tt else Err (BadLength item)

@@ -12,7 +12,7 @@ use Rattle.bt_rowtype.specs.declared.value.Value.TheVariants as value
 use Rattle.bt_rowtype.specs.Values.{is_text}
 
 -- what a contract sees of a schema: its columns, of which the first `keys` are the key
-pub record Layout : Type 0 where
+pub record Schema : Type 0 where
   pub columns : List Column
   pub keys : ℕ
 

@@ -33,9 +33,10 @@ pub struct Schema {
 }
 
 impl Model for Schema {
-    ghost use Rattle.bt_rowtype.specs.Schemas.{IsSchema, Layout};
+    ghost use Rattle.bt_rowtype.specs.Schemas.{IsSchema};
+    ghost use Rattle.bt_rowtype.specs.Schemas as schemas;
 
-    ghost Value = { Layout };
+    ghost Value = { schemas.Schema };
 
     ghost view = { λ a. record { columns = a.columns; keys = a.keys } };
 

@@ -1,10 +1,6 @@
 pub mod Batches
-pub mod Columns
-pub mod Cuts
 pub mod Drawings
-pub mod Fronts
+pub mod Prefixes
 pub mod Indents
-pub mod Machine
-pub mod Names
 pub mod Sinks
 pub mod WorkedRows

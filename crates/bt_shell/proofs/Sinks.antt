@@ -8,7 +8,7 @@ use Rattle.bt_node.specs.Flushes.{holds, sunk}
 use Rattle.bt_node.specs.Keys.{key_cmp}
 use Rattle.bt_node.specs.Messages.{rows_after}
 use Rattle.bt_node.specs.Trees.{Shape}
-use Rattle.bt_rowtype.specs.Schemas.{Layout}
+use Rattle.bt_rowtype.specs.Schemas.{Schema}
 use Rattle.bt_shell.specs.Tables.{RowMessages, RowTree, TableState, after_batch, row_effect}
 use Rattle.bt_node.proofs.Flushing.{sunk_fits, sunk_loses_nothing}
 use Rattle.bt_node.proofs.Held.{holds-lie}
@@ -30,11 +30,11 @@ pub fits-after_batch : (shape : Shape) (t : RowTree) (batch : RowMessages) → I
 fits-after_batch shape t batch roomy fit = sunk_fits row_effect shape t (sorted_batch batch) roomy fit
 
 -- the state of a table whose rows are what its tree holds
-abbrev pub held_by : Layout → Shape → RowTree → TableState
-held_by layout shape t = record { layout = layout; shape = shape; rows = holds row_effect t; tree = t }
+abbrev pub held_by : Schema → Shape → RowTree → TableState
+held_by schema shape t = record { schema = schema; shape = shape; rows = holds row_effect t; tree = t }
 
 -- the batch makes of it the state by the tree after the batch
-pub stepped : (layout : Layout) (shape : Shape) (t : RowTree) (batch : RowMessages) → IsRoomy shape → IsFit shape t
-    → held_by layout shape (sunk row_effect shape t (sorted_batch batch)) ≡ after_batch (held_by layout shape t) batch
-stepped layout shape t batch roomy fit =
-    λ i. record { layout = layout; shape = shape; rows = holds-after_batch shape t batch roomy fit i; tree = sunk row_effect shape t (sorted_batch batch) }
+pub stepped : (schema : Schema) (shape : Shape) (t : RowTree) (batch : RowMessages) → IsRoomy shape → IsFit shape t
+    → held_by schema shape (sunk row_effect shape t (sorted_batch batch)) ≡ after_batch (held_by schema shape t) batch
+stepped schema shape t batch roomy fit =
+    λ i. record { schema = schema; shape = shape; rows = holds-after_batch shape t batch roomy fit i; tree = sunk row_effect shape t (sorted_batch batch) }

@@ -3,18 +3,18 @@ use Rattle.std.proofs.Common.{ℕ, List, [], ◌∷◌, ◌++◌, ◌≡◌, ref
 use Rattle.std.specs.Prelude.{Ok, Some, None, pos}
 use Rattle.std.specs.Char.{encode_utf8}
 use Rattle.std.specs.Str.{chars, is_utf8}
-use Rattle.bt_rowtype.specs.Schemas.{Layout}
+use Rattle.bt_rowtype.specs.Schemas.{Schema}
 use Rattle.bt_rowtype.specs.declared.op.Op.TheVariants as op
 use Rattle.bt_rowtype.specs.declared.value.Kind.TheVariants as kind
 use Rattle.bt_rowtype.specs.declared.value.Value.TheVariants as value
 use Rattle.bt_rowtype.proofs.OnLiterals.{rowtype_on_literals}
 use Rattle.bt_messages.specs.declared.message.Message.TheVariants as message
-use Rattle.bt_shell.specs.Commands.{closing_of, column_of, command_of, commands_from, form_of, item_of, items_of, step, table_of}
+use Rattle.bt_script.specs.Commands.{closing_of, column_of, command_of, commands_from, form_of, item_of, items_of, step, table_of}
 use Rattle.bt_keycode.specs.Keys.{eight_bytes}
 use Rattle.bt_shell.specs.Images.{message_line}
 use Rattle.bt_shell.specs.Runs.{replies, run}
 use Rattle.bt_shell.specs.Steps.{read_message}
-use Rattle.bt_shell.specs.declared.command.Item.TheVariants as line
+use Rattle.bt_script.specs.declared.command.Item.TheVariants as line
 
 -- a line of a batch that changes the row of a key
 pub ups_line : item_of (codes "ups 1,add,qty,5") ≡ Some (line.Ups (codes "1" ∷ codes "add" ∷ codes "qty" ∷ codes "5" ∷ []))
@@ -80,7 +80,7 @@ pub before_the_table : run (codes "get 1\ntable 4 3 2 1 id:int qty:int\nimage pr
 unfolding replies commands_from step closing_of command_of items_of item_of column_of table_of eight_bytes rowtype_on_literals
 before_the_table = refl
 
--- of two counts of 2 the left child is flushed, and the right one's messages wait
+-- of two counts of 2 the left child is flushed, and the right one's messages are pending
 pub tie_flushes_left : run (codes "table 4 3 2 1 id:int qty:int\nbatch\nput 1,10\nput 2,20\nput 3,30\nput 4,40\nend\nbatch\nput 1,11\nput 2,21\nput 3,31\nput 4,41\nend\nimage primary\nget 4\n")
     ≡ codes "table 2\nbatch 4\nbatch 4\nimage primary height 2\ninner 2 2\n  + 8000000000000003 3,31\n  + 8000000000000004 4,41\n  leaf 2\n    = 8000000000000001 1,11\n    = 8000000000000002 2,21\n  | 8000000000000003\n  leaf 2\n    = 8000000000000003 3,30\n    = 8000000000000004 4,40\nend\nrow 4,41\n"
 unfolding replies commands_from step closing_of command_of items_of item_of column_of table_of eight_bytes rowtype_on_literals
@@ -99,7 +99,7 @@ unfolding replies commands_from step closing_of command_of items_of item_of colu
 gets_and_images = refl
 
 -- a key, and a number of each
-abbrev stock : Layout
+abbrev stock : Schema
 stock = record { columns = record { name = codes "id"; kind = kind.Int } ∷ record { name = codes "qty"; kind = kind.Int } ∷ []; keys = 1 }
 
 -- the code of the key 1
@@ -132,7 +132,7 @@ pub no_column : message_line stock.columns 0 (key_of_one, message.Ups (record { 
 unfolding rowtype_on_literals
 no_column = refl
 
--- a buffer that is full to its capacity waits: two upserts of one key are two messages
+-- a buffer that is full to its capacity stays: two upserts of one key are two messages
 pub capacity_is_not_over : run (codes "table 4 3 2 1 id:int qty:int\nbatch\nput 1,10\nput 2,20\nput 3,30\nput 4,40\nend\nbatch\nups 1,add,qty,5\nups 1,add,qty,5\nput 4,0\nend\nimage primary\nget 1\n")
     ≡ codes "table 2\nbatch 4\nbatch 3\nimage primary height 2\ninner 2 3\n  ~ 8000000000000001 add,qty,5\n  ~ 8000000000000001 add,qty,5\n  + 8000000000000004 4,0\n  leaf 2\n    = 8000000000000001 1,10\n    = 8000000000000002 2,20\n  | 8000000000000003\n  leaf 2\n    = 8000000000000003 3,30\n    = 8000000000000004 4,40\nend\nrow 1,20\n"
 unfolding replies commands_from step closing_of command_of items_of item_of column_of table_of eight_bytes rowtype_on_literals

@@ -1,11 +1,6 @@
-pub mod Blocks
-pub mod Commands
 pub mod Drawings
 pub mod Images
-pub mod Lines
-pub mod Options
 pub mod Runs
 pub mod Statuses
 pub mod Steps
-pub mod Streams
 pub mod Tables

@@ -1,9 +1,9 @@
 -- What a script writes.
 use Rattle.std.specs.Prelude.{ℕ, List, [], ◌∷◌, ◌++◌, Option, None, IfSome}
 use Rattle.std.specs.Io.KnownBytes.{Appends}
-use Rattle.bt_shell.specs.Commands.{Answer, commands}
+use Rattle.bt_script.specs.Commands.{Answer, commands}
 use Rattle.bt_shell.specs.Steps.{State, turn}
-use Rattle.bt_shell.specs.Streams.{AppendsFront}
+use Rattle.bt_script.specs.Streams.{AppendsPrefix}
 
 -- what is written for commands in turn, from a table on
 unfoldable pub replies : State → List Answer → List ℕ
@@ -18,6 +18,6 @@ run script = replies None (commands script)
 abbrev pub WritesRun : Option (List ℕ) → Option (List ℕ) → Option (List ℕ) → Type 0
 WritesRun script old new = IfSome script (λ bytes. Appends old new (run bytes))
 
--- what was written is a front of it
-abbrev pub WritesFront : Option (List ℕ) → Option (List ℕ) → Option (List ℕ) → Type 0
-WritesFront script old new = IfSome script (λ bytes. AppendsFront old new (run bytes))
+-- what was written is a prefix of it
+abbrev pub WritesPrefix : Option (List ℕ) → Option (List ℕ) → Option (List ℕ) → Type 0
+WritesPrefix script old new = IfSome script (λ bytes. AppendsPrefix old new (run bytes))

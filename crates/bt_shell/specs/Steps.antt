@@ -6,7 +6,7 @@ use Rattle.std.specs.Result.{result_err, result_ok}
 use Rattle.bt_rowtype.specs.Ops.{default_row, upsert_as}
 use Rattle.bt_rowtype.specs.Records.{record_text}
 use Rattle.bt_rowtype.specs.Refusals.{item_of, least, name_of, number_of}
-use Rattle.bt_rowtype.specs.Schemas.{Layout, is_schema}
+use Rattle.bt_rowtype.specs.Schemas.{Schema, is_schema}
 use Rattle.bt_rowtype.specs.Values.{read_as, text_of}
 use Rattle.bt_rowtype.specs.declared.op.Op.{Op}
 use Rattle.bt_rowtype.specs.declared.refusal.Refusal.{Refusal}
@@ -17,14 +17,14 @@ use Rattle.bt_messages.specs.declared.message.Message.TheVariants as message
 use Rattle.bt_node.specs.Keys.{key_cmp}
 use Rattle.bt_node.specs.Messages.{Rows}
 use Rattle.bt_node.specs.Shapes.{is_shape}
-use Rattle.bt_shell.specs.Commands.{Answer, is_word}
+use Rattle.bt_script.specs.Commands.{Answer, is_word}
 use Rattle.bt_shell.specs.Images.{image_text}
 use Rattle.bt_shell.specs.Tables.{RowMessage, RowMessages, TableState, after_batch, empty_table}
-use Rattle.bt_shell.specs.declared.command.Command.{Command}
-use Rattle.bt_shell.specs.declared.command.Command.TheVariants.{Batch, Get, Image, Scan, Table}
-use Rattle.bt_shell.specs.declared.command.TableForm.{TableForm}
-use Rattle.bt_shell.specs.declared.command.Item.{Item}
-use Rattle.bt_shell.specs.declared.command.Item.TheVariants.{Put, Del, Ups}
+use Rattle.bt_script.specs.declared.command.Command.{Command}
+use Rattle.bt_script.specs.declared.command.Command.TheVariants.{Batch, Get, Image, Scan, Table}
+use Rattle.bt_script.specs.declared.command.TableForm.{TableForm}
+use Rattle.bt_script.specs.declared.command.Item.{Item}
+use Rattle.bt_script.specs.declared.command.Item.TheVariants.{Put, Del, Ups}
 
 -- what the commands before one have left: no table so far, or the table
 abbrev pub State : Type 0
@@ -35,8 +35,8 @@ made make (Ok value) = Ok (make value)
 made make (Err refusal) = Err refusal
 
 -- the values of the key that fields spell in a table, or their refusal as this item
-abbrev pub read_key : Layout → ℕ → List (List ℕ) → Result (List Value) Refusal
-read_key layout item fields = read_as (take layout.keys layout.columns) item fields
+abbrev pub read_key : Schema → ℕ → List (List ℕ) → Result (List Value) Refusal
+read_key schema item fields = read_as (take schema.keys schema.columns) item fields
 
 -- the message to put a row, which goes to the code of its key
 abbrev pub put_of : ℕ → List Value → RowMessage
@@ -47,23 +47,23 @@ abbrev pub del_of : List Value → RowMessage
 del_of key = (code_of key, message.Del)
 
 -- the message to change the row of a key, which carries the default row of the key
-abbrev pub ups_of : Layout → List Value × List Op → RowMessage
-ups_of layout upsert = (code_of upsert.0, message.Ups (record { base = default_row layout upsert.0; ops = upsert.1 }))
+abbrev pub ups_of : Schema → List Value × List Op → RowMessage
+ups_of schema upsert = (code_of upsert.0, message.Ups (record { base = default_row schema upsert.0; ops = upsert.1 }))
 
 -- the message that the line of a batch spells in a table, or its refusal as this item
-abbrev pub read_message : Layout → ℕ → Item → Result RowMessage Refusal
-read_message layout item (Put fields) = made (put_of layout.keys) (read_as layout.columns item fields)
-read_message layout item (Del fields) = made del_of (read_key layout item fields)
-read_message layout item (Ups fields) = made (ups_of layout) (upsert_as layout item fields)
+abbrev pub read_message : Schema → ℕ → Item → Result RowMessage Refusal
+read_message schema item (Put fields) = made (put_of schema.keys) (read_as schema.columns item fields)
+read_message schema item (Del fields) = made del_of (read_key schema item fields)
+read_message schema item (Ups fields) = made (ups_of schema) (upsert_as schema item fields)
 
 -- what the lines of a batch spell, counted from an item on
-abbrev pub read_batch : Layout → ℕ → List Item → List (Result RowMessage Refusal)
-read_batch layout item [] = []
-read_batch layout item (line ∷ lines) = read_message layout item line ∷ read_batch layout (item + 1) lines
+abbrev pub read_batch : Schema → ℕ → List Item → List (Result RowMessage Refusal)
+read_batch schema item [] = []
+read_batch schema item (line ∷ lines) = read_message schema item line ∷ read_batch schema (item + 1) lines
 
 -- the messages of a batch
-abbrev pub messages_of : Layout → List Item → RowMessages
-messages_of layout items = filter_map result_ok (read_batch layout 1 items)
+abbrev pub messages_of : Schema → List Item → RowMessages
+messages_of schema items = filter_map result_ok (read_batch schema 1 items)
 
 abbrev pub one_if : Bool → Refusal → List Refusal
 one_if applies refusal = if applies then refusal ∷ [] else []
@@ -78,9 +78,9 @@ abbrev pub refusals_of : State → Command → List Refusal
 refusals_of state (Table form) =
     one_if (is_some state) TableExists ++ (one_if (not (is_schema form.columns form.keys)) BadSchema ++ one_if (not (is_shape form.fanout form.buffer form.leaf)) BadShape)
 refusals_of None (Batch items) = NoTable ∷ []
-refusals_of (Some table) (Batch items) = filter_map result_err (read_batch table.layout 1 items) ++ one_if (nat_lt 65536 (length items)) TooMany
+refusals_of (Some table) (Batch items) = filter_map result_err (read_batch table.schema 1 items) ++ one_if (nat_lt 65536 (length items)) TooMany
 refusals_of None (Get fields) = NoTable ∷ []
-refusals_of (Some table) (Get fields) = filter_map result_err (read_key table.layout 1 fields ∷ [])
+refusals_of (Some table) (Get fields) = filter_map result_err (read_key table.schema 1 fields ∷ [])
 refusals_of state (Scan tree) = tree_refusals state tree
 refusals_of state (Image tree) = tree_refusals state tree
 
@@ -92,7 +92,7 @@ table_of form = empty_table (record { columns = form.columns; keys = form.keys }
 abbrev pub state_after : State → Command → State
 state_after state (Table form) = Some (table_of form)
 state_after None (Batch items) = None
-state_after (Some table) (Batch items) = Some (after_batch table (messages_of table.layout items))
+state_after (Some table) (Batch items) = Some (after_batch table (messages_of table.schema items))
 state_after state (Get fields) = state
 state_after state (Scan tree) = state
 state_after state (Image tree) = state
@@ -124,11 +124,11 @@ abbrev pub reply_to : State → Command → List ℕ
 reply_to state (Table form) = count_line (codes "table ") (length form.columns)
 reply_to state (Batch items) = count_line (codes "batch ") (length items)
 reply_to None (Get fields) = []
-reply_to (Some table) (Get fields) = get_reply table.rows (read_key table.layout 1 fields)
+reply_to (Some table) (Get fields) = get_reply table.rows (read_key table.schema 1 fields)
 reply_to None (Scan tree) = []
 reply_to (Some table) (Scan tree) = scan_reply table.rows
 reply_to None (Image tree) = []
-reply_to (Some table) (Image tree) = image_text table.layout.columns tree table.tree
+reply_to (Some table) (Image tree) = image_text table.schema.columns tree table.tree
 
 -- the item of a refusal behind a space, where it has one
 abbrev pub item_text : Option ℕ → List ℕ

@@ -1,7 +1,7 @@
 -- A table, and what a batch leaves of it.
 use Rattle.std.specs.Prelude.{List, [], Option}
 use Rattle.bt_rowtype.specs.Ops.{merged}
-use Rattle.bt_rowtype.specs.Schemas.{Layout}
+use Rattle.bt_rowtype.specs.Schemas.{Schema}
 use Rattle.bt_rowtype.specs.declared.op.Change.{Change}
 use Rattle.bt_rowtype.specs.declared.value.Value.{Value}
 use Rattle.bt_messages.specs.Effects.{effect_of}
@@ -29,14 +29,14 @@ RowTree = Tree (List Value) (Message (List Value) Change)
 
 -- what a contract sees of a table: its columns, how large the nodes of its tree may be, its rows by their key codes, and its tree
 pub record TableState : Type 0 where
-  pub layout : Layout
+  pub schema : Schema
   pub shape : Shape
   pub rows : Rows (List Value)
   pub tree : RowTree
 
 -- a table with no rows: its tree is one leaf
-abbrev pub empty_table : Layout → Shape → TableState
-empty_table layout shape = record { layout = layout; shape = shape; rows = []; tree = leaf [] }
+abbrev pub empty_table : Schema → Shape → TableState
+empty_table schema shape = record { schema = schema; shape = shape; rows = []; tree = leaf [] }
 
 -- a table after the messages of a batch: its rows take them in order, and its tree takes them sorted by key
 abbrev pub after_batch : TableState → RowMessages → TableState

@@ -5,10 +5,9 @@ ghost use Rattle.std.specs.Option.{option_to_list};
 ghost use Rattle.std.specs.Result.{result_err, result_ok};
 ghost use Rattle.bt_rowtype.specs.Refusals.{least, least_from};
 ghost use Rattle.bt_shell.specs.Steps as step;
-ghost use Rattle.bt_shell.specs.declared.command.Command.TheVariants.{Batch};
-ghost use Rattle.bt_shell.specs.declared.command.Item.TheVariants as line;
+ghost use Rattle.bt_script.specs.declared.command.Command.TheVariants.{Batch};
+ghost use Rattle.bt_script.specs.declared.command.Item.TheVariants as line;
 
-use crate::command::Item;
 use crate::table::Table;
 use bt_keycode::{Key, encode};
 use bt_messages::Message;
@@ -16,6 +15,7 @@ use bt_rowtype::{
     Change, Fields, Refusal, Row, Schema, Upsert, Value, default_row, read_key, read_row,
     read_upsert,
 };
+use bt_script::Item;
 use std::alloc::{AllocError, Global};
 
 /// The most messages of a batch.

@@ -1,15 +1,13 @@
 //! The program over any runtime and streams.
 ghost use Rattle.std.specs.Prelude.{◌≡◌, ◌≤◌, ◌⊎◌, [], false, true, OnOk, OnErr, IsErrOf};
 ghost use Rattle.std.specs.Io.KnownBytes.{Keeps};
-ghost use Rattle.bt_shell.specs.Options.{AsksHelp, IsFaulty, IsToReadInput, kinds_of_words};
-ghost use Rattle.bt_shell.specs.Runs.{WritesFront, WritesRun};
-ghost use Rattle.bt_shell.specs.Streams.{FailsToGive, has_failed, source_of};
+ghost use Rattle.bt_script.specs.Options.{AsksHelp, IsFaulty, IsToReadInput, kinds_of_words};
+ghost use Rattle.bt_shell.specs.Runs.{WritesPrefix, WritesRun};
+ghost use Rattle.bt_script.specs.Streams.{FailsToGive, has_failed, source_of};
 
-use crate::counted::Counted;
 use crate::run::run_script;
-use crate::streams::{RunFault, SCRIPT_LIMIT, write_text};
-use crate::words::{WordsError, read_words};
 use bt_rowtype::Texts;
+use bt_script::{Counted, RunFault, SCRIPT_LIMIT, WordsError, read_words, write_text};
 use std::alloc::AllocError;
 use std::fs;
 use std::io::{Read, Write};
@@ -41,7 +39,7 @@ impl From<RunFault> for ProgramFault {
 impl From<AllocError> for ProgramFault {
     ghost use Rattle.std.specs.Prelude.{◌≡◌};
     ghost use Rattle.bt_shell.specs.declared.entry.ProgramFault.TheVariants.{Run};
-    ghost use Rattle.bt_shell.specs.declared.streams.RunFault.TheVariants.{OutOfMemory};
+    ghost use Rattle.bt_script.specs.declared.streams.RunFault.TheVariants.{OutOfMemory};
 
     ghost from_gives = { λ _ e. e ≡ Run OutOfMemory };
 
@@ -92,7 +90,7 @@ fn run_words<R: Files + AllocGlobal, I: Read, W: Write>(
     requires reads { has_failed input.old ≡ false }
     requires writes { has_failed output.old ≡ false }
     ensures ok { OnOk result (IsToReadInput words.now → WritesRun (I.remaining (source_of input.old)) (W.contents (source_of output.old)) (W.contents (source_of output.new))) }
-    ensures err { OnErr result (IsToReadInput words.now → WritesFront (I.remaining (source_of input.old)) (W.contents (source_of output.old)) (W.contents (source_of output.new))) }
+    ensures err { OnErr result (IsToReadInput words.now → WritesPrefix (I.remaining (source_of input.old)) (W.contents (source_of output.old)) (W.contents (source_of output.new))) }
     ensures done { OnOk result ((has_failed input.new ≡ false) × (has_failed output.new ≡ false)) }
     ensures words { OnOk result ((kinds_of_words words.now ≡ []) ⊎ AsksHelp words.now) }
     ensures faulty { IsErrOf result ProgramFault.Words → IsFaulty words.now × (input.new ≡ input.old) × (output.new ≡ output.old) }
@@ -122,7 +120,7 @@ fn answer<R: Files + AllocGlobal, I: Read, W: Write>(
     requires reads { has_failed input.old ≡ false }
     requires writes { has_failed output.old ≡ false }
     ensures ok { OnOk result (IsToReadInput words.now → WritesRun (I.remaining (source_of input.old)) (W.contents (source_of output.old)) (W.contents (source_of output.new))) }
-    ensures err { OnErr result (IsToReadInput words.now → WritesFront (I.remaining (source_of input.old)) (W.contents (source_of output.old)) (W.contents (source_of output.new))) }
+    ensures err { OnErr result (IsToReadInput words.now → WritesPrefix (I.remaining (source_of input.old)) (W.contents (source_of output.old)) (W.contents (source_of output.new))) }
     ensures done { OnOk result ((has_failed input.new ≡ false) × (has_failed output.new ≡ false)) }
     ensures words { OnOk result ((kinds_of_words words.now ≡ []) ⊎ AsksHelp words.now) }
     ensures faulty { IsErrOf result ProgramFault.Words → IsFaulty words.now × (input.new ≡ input.old) × Keeps (W.contents (source_of output.old)) (W.contents (source_of output.new)) }
@@ -143,7 +141,7 @@ fn answer<R: Files + AllocGlobal, I: Read, W: Write>(
 /// other than 0 the error stream gets that as one line, after `betable: `.
 ///
 /// Where the words name no file, the input is the script: with status 0 the output has gained its replies, and with any
-/// other status a front of them.
+/// other status a prefix of them.
 pub fn program<R: Files + AllocGlobal, I: Read, W: Write, E: Write>(
     rt: &R,
     words: &Texts,
@@ -157,7 +155,7 @@ pub fn program<R: Files + AllocGlobal, I: Read, W: Write, E: Write>(
 
     // The script is the input.
     ensures ok { result ≡ 0 → IsToReadInput words.now → WritesRun (I.remaining (source_of input.old)) (W.contents (source_of output.old)) (W.contents (source_of output.new)) }
-    ensures front { IsToReadInput words.now → WritesFront (I.remaining (source_of input.old)) (W.contents (source_of output.old)) (W.contents (source_of output.new)) }
+    ensures prefix { IsToReadInput words.now → WritesPrefix (I.remaining (source_of input.old)) (W.contents (source_of output.old)) (W.contents (source_of output.new)) }
 
     // What each status says.
     ensures words { result ≡ 0 → (kinds_of_words words.now ≡ []) ⊎ AsksHelp words.now }

@@ -124,7 +124,7 @@ fn values_of_ops(alloc: Global, columns: &[Column], ops: &[Op]) -> Result<Vec<Va
     Ok(values)
 }
 
-// Adds the line of an upsert that waits, to a row with these columns.
+// Adds the line of an upsert that is pending, to a row with these columns.
 fn write_upsert_line(
     alloc: Global,
     out: &mut Vec<u8>,
@@ -139,7 +139,7 @@ fn write_upsert_line(
     write_key_line(out, depth, b'~', key, Some(values.as_slice()))
 }
 
-/// Adds the line of a message that waits, to a row with these columns.
+/// Adds the line of a message that is pending, to a row with these columns.
 pub fn write_message_line(
     alloc: Global,
     out: &mut Vec<u8>,

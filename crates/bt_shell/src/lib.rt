@@ -13,26 +13,19 @@
 #![tactic(auto)]
 
 mod batch;
-mod command;
-mod counted;
 mod entry;
 mod image;
-mod lines;
-mod parse;
 mod reply;
 mod run;
 mod session;
-mod streams;
 mod table;
-mod words;
 
-pub use command::{Command, Item, Items, Parsed, TableForm};
-pub use counted::Counted;
+pub use bt_script::{
+    Command, Counted, Item, Items, Parsed, RunFault, SCRIPT_LIMIT, TableForm, Words, WordsError,
+    parse_command, read_words,
+};
 pub use entry::{ProgramFault, program};
-pub use parse::parse_command;
 pub use run::run_script;
-pub use streams::{RunFault, SCRIPT_LIMIT};
-pub use words::{Words, WordsError, read_words};
 
 #[cfg(test)]
 mod tests;

@@ -1,12 +1,11 @@
 //! The run of a script.
 ghost use Rattle.std.specs.Prelude.{◌≡◌, ◌+◌, ◌≤◌, false, true, length, IsErrOf, List, OnErr, OnOk, ℕ};
 ghost use Rattle.std.specs.Io.KnownBytes.{Appends, Consumes, Keeps};
-ghost use Rattle.bt_shell.specs.Runs.{WritesFront, WritesRun, run};
-ghost use Rattle.bt_shell.specs.Streams.{AppendsFront, FailsToGive, has_failed, source_of};
+ghost use Rattle.bt_shell.specs.Runs.{WritesPrefix, WritesRun, run};
+ghost use Rattle.bt_script.specs.Streams.{AppendsPrefix, FailsToGive, has_failed, source_of};
 
-use crate::counted::Counted;
 use crate::session::next_reply;
-use crate::streams::{RunFault, SCRIPT_LIMIT, read_script, write_text};
+use bt_script::{Counted, RunFault, SCRIPT_LIMIT, read_script, write_text};
 use std::alloc::Global;
 use std::io::{Read, Write};
 
@@ -17,7 +16,7 @@ fn write_replies<W: Write>(
     writer: &mut Counted<W>,
 ) -> Result<(), RunFault>
     ensures ok { OnOk result (Appends (W.contents (source_of writer.old)) (W.contents (source_of writer.new)) (run script.now)) }
-    ensures err { OnErr result (AppendsFront (W.contents (source_of writer.old)) (W.contents (source_of writer.new)) (run script.now)) }
+    ensures err { OnErr result (AppendsPrefix (W.contents (source_of writer.old)) (W.contents (source_of writer.new)) (run script.now)) }
     ensures done { OnOk result (has_failed writer.new ≡ has_failed writer.old) }
     ensures no_read { IsErrOf result RunFault.Read → ⊥ }
     ensures write { IsErrOf result RunFault.Write → has_failed writer.new ≡ true }
@@ -37,7 +36,7 @@ fn write_replies<W: Write>(
 /// Runs a script: reads it whole, and then writes the reply to each of its commands and flushes them.
 ///
 /// What is written are the replies that the script has by the definition `run` for the bytes that the reader had, and after
-/// a fault a front of them. `Read`: the reader failed, or gave a byte over [`SCRIPT_LIMIT`], and nothing is written.
+/// a fault a prefix of them. `Read`: the reader failed, or gave a byte over [`SCRIPT_LIMIT`], and nothing is written.
 /// `Write`: the writer failed. `OutOfMemory`: a request for memory was refused; the command at hand has written nothing.
 pub fn run_script<R: Read, W: Write>(
     alloc: Global,
@@ -47,7 +46,7 @@ pub fn run_script<R: Read, W: Write>(
     requires reads { has_failed reader.old ≡ false }
     requires writes { has_failed writer.old ≡ false }
     ensures ok { OnOk result (WritesRun (R.remaining (source_of reader.old)) (W.contents (source_of writer.old)) (W.contents (source_of writer.new))) }
-    ensures err { OnErr result (WritesFront (R.remaining (source_of reader.old)) (W.contents (source_of writer.old)) (W.contents (source_of writer.new))) }
+    ensures err { OnErr result (WritesPrefix (R.remaining (source_of reader.old)) (W.contents (source_of writer.old)) (W.contents (source_of writer.new))) }
     ensures done { OnOk result ((has_failed reader.new ≡ false) × (has_failed writer.new ≡ false)) }
 
     // Which fault it is, and what it leaves.

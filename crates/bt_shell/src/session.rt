@@ -1,19 +1,18 @@
 //! The table between commands, and the reply to each.
 ghost use Rattle.std.specs.Prelude.{◌≡◌, ◌≢◌, ◌++◌, ◌<◌, ◌≤◌, Ok, Err, None, Some, IfErr, IfOk, IfNone, IfSome, OnOk, [], codes, drop, length};
 ghost use Rattle.bt_rowtype.specs.Refusals.{least};
-ghost use Rattle.bt_shell.specs.Commands.{commands, is_word};
+ghost use Rattle.bt_script.specs.Commands.{commands, is_word};
 ghost use Rattle.bt_shell.specs.Runs.{replies};
 ghost use Rattle.bt_shell.specs.Steps as step;
-ghost use Rattle.bt_shell.specs.declared.command.Command.TheVariants as command;
+ghost use Rattle.bt_script.specs.declared.command.Command.TheVariants as command;
 
 use crate::batch::apply_batch;
-use crate::command::{Command, Items, Parsed, TableForm};
 use crate::image::image_text;
-use crate::parse::parse_command;
 use crate::reply::{count_reply, refusal_reply, row_reply, write_count, write_rows};
 use crate::table::Table;
 use bt_node::Shape;
 use bt_rowtype::{Fields, Refusal, Schema, Text, read_key};
+use bt_script::{Command, Items, Parsed, TableForm, parse_command};
 use std::alloc::{AllocError, Global};
 
 // Makes the table, and gives the number of its columns.

@@ -32,7 +32,7 @@ impl Model for Table {
 
     ghost coded = { Prim.hlevel (codes, tree_code, message_code) };
 
-    ghost view = { λ a. record { layout = a.schema; shape = a.tree.0; rows = holds row_effect a.tree.1; tree = a.tree.1 } };
+    ghost view = { λ a. record { schema = a.schema; shape = a.tree.0; rows = holds row_effect a.tree.1; tree = a.tree.1 } };
 
     ghost invariant = { λ a. IsRoomy a.tree.0 × IsFit a.tree.0 a.tree.1 };
 }
@@ -50,7 +50,7 @@ impl Table {
     }
 
     pub fn schema(&self) -> &Schema
-        ensures { result.now ≡ self.now.layout }
+        ensures { result.now ≡ self.now.schema }
     {
         &self.schema
     }

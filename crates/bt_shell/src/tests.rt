@@ -1,14 +1,10 @@
 //! Streams that fail, command lines, and the public calls once each.
 ghost use Rattle.std.specs.Prelude.{Some};
 
-use crate::command::{Command, Item, Parsed};
-use crate::counted::Counted;
 use crate::entry::program;
-use crate::parse::parse_command;
 use crate::run::run_script;
-use crate::streams::RunFault;
-use crate::words::{WordsError, read_words};
 use bt_rowtype::{Column, Kind, Texts};
+use bt_script::{Command, Counted, Item, Parsed, RunFault, WordsError, parse_command, read_words};
 use std::alloc::{AllocError, Global};
 use std::io;
 use std::io::{ErrorKind, Read, Write};

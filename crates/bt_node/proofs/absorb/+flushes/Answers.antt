@@ -18,10 +18,10 @@ absorb-returns-then-stays g t c =
     let here = c.stays.ensures c.if-stays.true in
     let kept = c.as_slice.ensures.value in
     let few : length (siblings_of cs.items) ≤ c.args.shape.fanout = omega (arith, here.2, length-siblings cs.items, ap length kept) in
-    let waiting : length after ≤ c.args.shape.buffer = omega (arith, here.3, c.count.ensures) in
+    let pending : length after ≤ c.args.shape.buffer = omega (arith, here.3, c.count.ensures) in
     let led = subst (λ xs. IsLed (siblings_of xs)) kept here.0 in
     let some : 1 ≤ c.args.shape.fanout = omega (arith, few, here.1, length-siblings cs.items, ap length kept) in
-    if_ok _ _ c.alone.result (λ nodes e. e ∙ stays_here (effect_of g.V.Merge.merged) c.args.shape cs c.in-Inner.buffer c.args.packet after taken sorted led some few waiting ∙ sym (ap (λ n. absorb (effect_of g.V.Merge.merged) c.args.shape (tree_of n) c.args.packet) c.in-Inner.is)) c.alone.ensures
+    if_ok _ _ c.alone.result (λ nodes e. e ∙ stays_here (effect_of g.V.Merge.merged) c.args.shape cs c.in-Inner.buffer c.args.packet after taken sorted led some few pending ∙ sym (ap (λ n. absorb (effect_of g.V.Merge.merged) c.args.shape (tree_of n) c.args.packet) c.in-Inner.is)) c.alone.ensures
 
 pub absorb-group-requires : goal.absorb-group-requires
 absorb-group-requires g t c =

@@ -1,6 +1,6 @@
 use Rattle.std.proofs.Common.{◌≡◌, ◌∷◌, ◌++◌, ◌∙◌, [], append-nil, ap, arith, refl, rules, subst, sym}
 use Rattle.bt_messages.specs.Messages.{IsSorted}
-use Rattle.bt_node.specs.Views.{children_of, siblings_of, tree_of, waiting_of}
+use Rattle.bt_node.specs.Views.{children_of, siblings_of, tree_of, pending_of}
 use Rattle.bt_node.proofs.Gathering.{first_fits, gather_done, nothing_left, sorted_through}
 use Rattle.bt_node.proofs.Groups.{stripped}
 use Rattle.bt_node.proofs.group.gather.Goals as goal
@@ -8,22 +8,22 @@ use Rattle.bt_node.proofs.group.gather.Goals as goal
 pub add_child-requires : goal.add_child-requires
 add_child-requires g c =
     let e : c.args.part.items ≡ c.in-Some.first ∷ c.next.new.self.rest.items = search rules in
-    subst IsSorted (sym (ap (λ b. b ++ c.in-Some.first.waiting) c.new-buffer.ensures))
-    (sorted_through [] c.in-Some.first.waiting (waiting_of c.next.new.self.rest.items) (first_fits c.args.part.items c.in-Some.first c.next.new.self.rest.items e c.requires.sorted))
+    subst IsSorted (sym (ap (λ b. b ++ c.in-Some.first.pending) c.new-buffer.ensures))
+    (sorted_through [] c.in-Some.first.pending (pending_of c.next.new.self.rest.items) (first_fits c.args.part.items c.in-Some.first c.next.new.self.rest.items e c.requires.sorted))
 
 pub loop-child-init : goal.loop-child-init
 loop-child-init g c =
     let rest = c.into_iter-child-iterator.result.rest.items in
     let e : c.args.part.items ≡ c.in-Some.first ∷ rest = search rules in
-    let is = c.in_ok-add_child.ensures.waiting ∙ ap (λ b. b ++ c.in-Some.first.waiting) c.new-buffer.ensures in
-    record { children = refl; waiting = refl; sorted = subst IsSorted (sym (ap (λ b. b ++ waiting_of rest) is)) (first_fits c.args.part.items c.in-Some.first rest e c.requires.sorted) }
+    let is = c.in_ok-add_child.ensures.pending ∙ ap (λ b. b ++ c.in-Some.first.pending) c.new-buffer.ensures in
+    record { children = refl; pending = refl; sorted = subst IsSorted (sym (ap (λ b. b ++ pending_of rest) is)) (first_fits c.args.part.items c.in-Some.first rest e c.requires.sorted) }
 
 pub add_child-requires-in-loop-child : goal.add_child-requires-in-loop-child
 add_child-requires-in-loop-child g c =
     let child = c.in-Some-child.child in
     let left = c.next-in-loop-child.new.self.rest.items in
-    sorted_through c.loop-child.buffer child.waiting (waiting_of left)
-    (subst (λ xs. IsSorted (c.loop-child.buffer ++ waiting_of xs)) c.in-Some-child.ensures.steps.0 c.loop-child.invariant.sorted)
+    sorted_through c.loop-child.buffer child.pending (pending_of left)
+    (subst (λ xs. IsSorted (c.loop-child.buffer ++ pending_of xs)) c.in-Some-child.ensures.steps.0 c.loop-child.invariant.sorted)
 
 pub returns : goal.returns
 returns g c =
@@ -34,9 +34,9 @@ returns g c =
     let none : it.items ≡ [] = nothing_left it.items (omega (arith, it.ok.0, c.in-None.ensures.steps.0)) in
     let start = c.in_ok-add_child.ensures.child ∙ ap (λ k. siblings_of c.in_ok-children.children.items ++ (k, tree_of first.node) ∷ []) c.new-2.ensures
     ∙ ap (λ xs. siblings_of xs ++ ([], tree_of first.node) ∷ []) c.in_ok-children.ensures.items in
-    let is = c.in_ok-add_child.ensures.waiting ∙ ap (λ b. b ++ first.waiting) c.new-buffer.ensures in
+    let is = c.in_ok-add_child.ensures.pending ∙ ap (λ b. b ++ first.pending) c.new-buffer.ensures in
     let all = sym (append-nil (siblings_of c.loop-child.children.items)) ∙ ap (λ xs. siblings_of c.loop-child.children.items ++ stripped (children_of xs)) (sym none)
     ∙ c.loop-child.invariant.children ∙ ap (λ xs. xs ++ stripped (children_of rest)) start in
-    let waits = sym (append-nil c.loop-child.buffer) ∙ ap (λ xs. c.loop-child.buffer ++ waiting_of xs) (sym none)
-    ∙ c.loop-child.invariant.waiting ∙ ap (λ xs. xs ++ waiting_of rest) is in
-    gather_done c.loop-child.children c.loop-child.buffer c.args.part.items first rest e all waits
+    let all_pending = sym (append-nil c.loop-child.buffer) ∙ ap (λ xs. c.loop-child.buffer ++ pending_of xs) (sym none)
+    ∙ c.loop-child.invariant.pending ∙ ap (λ xs. xs ++ pending_of rest) is in
+    gather_done c.loop-child.children c.loop-child.buffer c.args.part.items first rest e all all_pending

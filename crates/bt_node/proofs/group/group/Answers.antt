@@ -1,7 +1,7 @@
 use Rattle.std.proofs.Common.{◌≡◌, ◌∷◌, ◌++◌, ◌∙◌, [], ap, arith, refl, rules, subst, sym}
 use Rattle.bt_messages.specs.Messages.{IsSorted}
 use Rattle.bt_node.specs.Deals.{deal}
-use Rattle.bt_node.specs.Views.{siblings_of, tree_of, waiting_of}
+use Rattle.bt_node.specs.Views.{siblings_of, tree_of, pending_of}
 use Rattle.bt_node.proofs.Gathering.{all_dealt, all_of, first_part, group_done, group_none, groups_of, more, nothing_left, other_parts}
 use Rattle.bt_node.proofs.group.group.Goals as goal
 
@@ -18,8 +18,8 @@ gather-requires g c =
     let parts = c.in_ok-deal.field-0.items in
     let dealt = c.in_ok-deal.ensures in
     let split : parts ≡ c.in-Some.first ∷ c.next.new.self.rest.items = search rules in
-    let whole = subst (λ cs. IsSorted (waiting_of cs)) (sym (all_dealt c.fanout.result parts c.args.children.items dealt)) c.requires in
-    record { sorted = first_part c.in-Some.first c.next.new.self.rest.items (subst (λ ps. IsSorted (waiting_of (all_of ps))) split whole) }
+    let whole = subst (λ cs. IsSorted (pending_of cs)) (sym (all_dealt c.fanout.result parts c.args.children.items dealt)) c.requires in
+    record { sorted = first_part c.in-Some.first c.next.new.self.rest.items (subst (λ ps. IsSorted (pending_of (all_of ps))) split whole) }
 
 pub loop-part-init : goal.loop-part-init
 loop-part-init g c =
@@ -27,12 +27,12 @@ loop-part-init g c =
     let rest = c.into_iter-part-iterator.result.rest.items in
     let dealt = c.in_ok-deal.ensures in
     let split : parts ≡ c.in-Some.first ∷ rest = search rules in
-    let whole = subst (λ cs. IsSorted (waiting_of cs)) (sym (all_dealt c.fanout.result parts c.args.children.items dealt)) c.requires in
-    record { nodes = refl; sorted = other_parts c.in-Some.first rest (subst (λ ps. IsSorted (waiting_of (all_of ps))) split whole) }
+    let whole = subst (λ cs. IsSorted (pending_of cs)) (sym (all_dealt c.fanout.result parts c.args.children.items dealt)) c.requires in
+    record { nodes = refl; sorted = other_parts c.in-Some.first rest (subst (λ ps. IsSorted (pending_of (all_of ps))) split whole) }
 
 pub gather-requires-in-loop-part : goal.gather-requires-in-loop-part
 gather-requires-in-loop-part g c =
-    record { sorted = first_part c.in-Some-part.part c.next-in-loop-part.new.self.rest.items (subst (λ ps. IsSorted (waiting_of (all_of ps))) c.in-Some-part.ensures.steps.0 c.loop-part.invariant.sorted) }
+    record { sorted = first_part c.in-Some-part.part c.next-in-loop-part.new.self.rest.items (subst (λ ps. IsSorted (pending_of (all_of ps))) c.in-Some-part.ensures.steps.0 c.loop-part.invariant.sorted) }
 
 pub loop-part-preserved : goal.loop-part-preserved
 loop-part-preserved g c =
@@ -43,7 +43,7 @@ loop-part-preserved g c =
       nodes = ap (λ xs. siblings_of xs ++ groups_of left) c.in_ok-push-2.ensures.items
           ∙ more c.loop-part.nodes.items c.in_ok-gather.field-0 part left c.in_ok-gather.ensures
           ∙ ap (λ ps. siblings_of c.loop-part.nodes.items ++ groups_of ps) (sym steps) ∙ c.loop-part.invariant.nodes;
-      sorted = other_parts part left (subst (λ ps. IsSorted (waiting_of (all_of ps))) steps c.loop-part.invariant.sorted);
+      sorted = other_parts part left (subst (λ ps. IsSorted (pending_of (all_of ps))) steps c.loop-part.invariant.sorted);
     }
 
 pub returns : goal.returns

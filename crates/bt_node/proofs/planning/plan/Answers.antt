@@ -2,5 +2,5 @@ use Rattle.std.proofs.Common.{sym, ◌∙◌, arith}
 use Rattle.bt_node.proofs.Choices.{planned-within}
 use Rattle.bt_node.proofs.planning.plan.Goals as goal
 
-pub returns-then-waiting-from : goal.returns-then-waiting-from
-returns-then-waiting-from c = c.new.ensures.items ∙ sym (planned-within c.args.counts.now c.args.capacity (omega arith))
+pub returns-then-pending-from : goal.returns-then-pending-from
+returns-then-pending-from c = c.new.ensures.items ∙ sym (planned-within c.args.counts.now c.args.capacity (omega arith))

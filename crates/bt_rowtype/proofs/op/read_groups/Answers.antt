@@ -20,7 +20,7 @@ loop-group-init c =
 
 pub loop-group-preserved : goal.loop-group-preserved
 loop-group-preserved c =
-    let layout = c.args.schema.now in
+    let schema = c.args.schema.now in
     let item = c.args.item in
     let fields = c.args.fields.now in
     let place = c.keys-keys.result + 3 * c.loop-group.group in
@@ -28,31 +28,31 @@ loop-group-preserved c =
     let read = c.read_op-read.result in
     let in_fields : place + 2 < length fields = omega arith in
     let three : place + 3 ≡ next = omega arith in
-    let spelled = op_of_fields layout item fields place c.get-word.result.now c.get-name.result.now c.get-argument.result.now c.get-word.ensures c.get-name.ensures c.get-argument.ensures
+    let spelled = op_of_fields schema item fields place c.get-word.result.now c.get-name.result.now c.get-argument.result.now c.get-word.ensures c.get-name.ensures c.get-argument.ensures
     ∙ is_read _ read c.read_op-read.ensures.ok c.read_op-read.ensures.refused c.in_ok-reading.ensures.memory in
-    let more : ops_of layout item (drop place fields) ≡ read ∷ ops_of layout item (drop next fields) =
-    ops_more layout item fields place in_fields ∙ ap (λ (o : Result Op Refusal). o ∷ ops_of layout item (drop (place + 3) fields)) spelled ∙ ap (λ n. read ∷ ops_of layout item (drop n fields)) three in
+    let more : ops_of schema item (drop place fields) ≡ read ∷ ops_of schema item (drop next fields) =
+    ops_more schema item fields place in_fields ∙ ap (λ (o : Result Op Refusal). o ∷ ops_of schema item (drop (place + 3) fields)) spelled ∙ ap (λ n. read ∷ ops_of schema item (drop n fields)) three in
     record {
       ops = c.loop-group.invariant.ops ∙ ap (λ (l : List (Result Op Refusal)). c.loop-group.reading.ops ++ filter_map result_ok l) more
-          ∙ with_ops c.loop-group.reading.ops c.in_ok-reading.reading.ops read (ops_of layout item (drop next fields)) c.in_ok-reading.ensures.ops;
+          ∙ with_ops c.loop-group.reading.ops c.in_ok-reading.reading.ops read (ops_of schema item (drop next fields)) c.in_ok-reading.ensures.ops;
       refusal = c.loop-group.invariant.refusal ∙ ap (λ (l : List (Result Op Refusal)). least_from c.loop-group.reading.refusal (filter_map result_err l)) more
-          ∙ with_refusals c.loop-group.reading.refusal c.in_ok-reading.reading.refusal read (ops_of layout item (drop next fields)) c.in_ok-reading.ensures.refusal;
+          ∙ with_refusals c.loop-group.reading.refusal c.in_ok-reading.reading.refusal read (ops_of schema item (drop next fields)) c.in_ok-reading.ensures.refusal;
     }
 
 pub returns-clause-ops : goal.returns-clause-ops
 returns-clause-ops c =
-    let layout = c.args.schema.now in
+    let schema = c.args.schema.now in
     let fields = c.args.fields.now in
     let place = c.keys-keys.result + 3 * c.loop-group.group in
     let short : length fields < place + 3 = omega arith in
-    let none = ops_end layout c.args.item fields place short in
+    let none = ops_end schema c.args.item fields place short in
     sym (c.loop-group.invariant.ops ∙ ap (λ (l : List (Result Op Refusal)). c.loop-group.reading.ops ++ filter_map result_ok l) none ∙ append-nil c.loop-group.reading.ops)
 
 pub returns-clause-refusal : goal.returns-clause-refusal
 returns-clause-refusal c =
-    let layout = c.args.schema.now in
+    let schema = c.args.schema.now in
     let fields = c.args.fields.now in
     let place = c.keys-keys.result + 3 * c.loop-group.group in
     let short : length fields < place + 3 = omega arith in
-    let none = ops_end layout c.args.item fields place short in
+    let none = ops_end schema c.args.item fields place short in
     sym (c.loop-group.invariant.refusal ∙ ap (λ (l : List (Result Op Refusal)). least_from c.loop-group.reading.refusal (filter_map result_err l)) none)

@@ -9,39 +9,39 @@ use Rattle.bt_rowtype.proofs.op.read_key_fields.Goals as goal
 
 pub returns-in_err-read_at-clause-refused : goal.returns-in_err-read_at-clause-refused
 returns-in_err-read_at-clause-refused c =
-    let layout = c.args.schema.now in
+    let schema = c.args.schema.now in
     let fields = c.args.fields.now in
     let columns = c.key_columns-columns.result.now in
     let e = c.in_err-read_at.field-0.0 in
-    let same : columns ≡ take layout.keys layout.columns = c.key_columns-columns.ensures.value in
-    let in_keys : length columns ≤ layout.keys = rw same (omega (arith, length-take layout.keys layout.columns)) in
-    handed_on c.from_residual-in_err-read_at.result e (λ r. r ≢ OutOfMemory → key_as layout c.args.item fields ≡ Err r) c.from_residual-in_err-read_at.ensures.1
+    let same : columns ≡ take schema.keys schema.columns = c.key_columns-columns.ensures.value in
+    let in_keys : length columns ≤ schema.keys = rw same (omega (arith, length-take schema.keys schema.columns)) in
+    handed_on c.from_residual-in_err-read_at.result e (λ r. r ≢ OutOfMemory → key_as schema c.args.item fields ≡ Err r) c.from_residual-in_err-read_at.ensures.1
     (λ (memory : e ≢ OutOfMemory).
     let bad = c.in_err-read_at.ensures.refused memory in
-    let none = key_refused columns layout.keys fields c.loop-place.place c.index-columns-place.result c.loop-place.values.items c.get.result.now c.loop-place-test.true in_keys c.requires
+    let none = key_refused columns schema.keys fields c.loop-place.place c.index-columns-place.result c.loop-place.values.items c.get.result.now c.loop-place-test.true in_keys c.requires
     (sym c.index-columns-place.is) c.get.ensures bad.0 in
-    key_err layout c.args.item fields columns e same (c.loop-place.invariant ∙ none) bad.1)
+    key_err schema c.args.item fields columns e same (c.loop-place.invariant ∙ none) bad.1)
 
 pub loop-place-preserved : goal.loop-place-preserved
 loop-place-preserved c =
-    let layout = c.args.schema.now in
+    let schema = c.args.schema.now in
     let fields = c.args.fields.now in
     let columns = c.key_columns-columns.result.now in
     let place = c.loop-place.place in
     let value = c.in_ok-read_at.field-0 in
-    let same : columns ≡ take layout.keys layout.columns = c.key_columns-columns.ensures.value in
-    let in_keys : length columns ≤ layout.keys = rw same (omega (arith, length-take layout.keys layout.columns)) in
+    let same : columns ≡ take schema.keys schema.columns = c.key_columns-columns.ensures.value in
+    let in_keys : length columns ≤ schema.keys = rw same (omega (arith, length-take schema.keys schema.columns)) in
     let more : c.push.new.self.items ≡ c.loop-place.values.items ++ value ∷ [] = search rules in
-    c.loop-place.invariant ∙ key_more columns layout.keys fields place c.index-columns-place.result c.loop-place.values.items value c.get.result.now c.loop-place-test.true in_keys c.requires
+    c.loop-place.invariant ∙ key_more columns schema.keys fields place c.index-columns-place.result c.loop-place.values.items value c.get.result.now c.loop-place-test.true in_keys c.requires
     (sym c.index-columns-place.is) c.get.ensures c.in_ok-read_at.ensures.ok
-    ∙ ap (λ (front : List Value). behind front (values_of (drop (place + 1) columns) (drop (place + 1) (take layout.keys fields)))) (sym more)
+    ∙ ap (λ (prefix : List Value). behind prefix (values_of (drop (place + 1) columns) (drop (place + 1) (take schema.keys fields)))) (sym more)
 
 pub returns-clause-ok : goal.returns-clause-ok
 returns-clause-ok c =
-    let layout = c.args.schema.now in
+    let schema = c.args.schema.now in
     let fields = c.args.fields.now in
     let columns = c.key_columns-columns.result.now in
-    let same : columns ≡ take layout.keys layout.columns = c.key_columns-columns.ensures.value in
-    let all : length columns ≡ layout.keys = rw same (omega (arith, c.key_columns-columns.ensures.within, length-take layout.keys layout.columns)) in
-    let end = key_end columns layout.keys fields c.loop-place.place c.loop-place.values.items c.loop-place-test.false all c.requires in
-    key_ok layout c.args.item fields columns c.new.result same (c.loop-place.invariant ∙ rw c.new.ensures end)
+    let same : columns ≡ take schema.keys schema.columns = c.key_columns-columns.ensures.value in
+    let all : length columns ≡ schema.keys = rw same (omega (arith, c.key_columns-columns.ensures.within, length-take schema.keys schema.columns)) in
+    let end = key_end columns schema.keys fields c.loop-place.place c.loop-place.values.items c.loop-place-test.false all c.requires in
+    key_ok schema c.args.item fields columns c.new.result same (c.loop-place.invariant ∙ rw c.new.ensures end)

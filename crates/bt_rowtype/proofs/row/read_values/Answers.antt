@@ -37,4 +37,4 @@ loop-place-preserved c =
     let long : length fields ≡ length columns = search rules in
     let more : c.push.new.self.items ≡ c.loop-place.values.items ++ value ∷ [] = search rules in
     c.loop-place.invariant ∙ values-drop-some columns fields i column c.loop-place.values.items value c.loop-place-test.true (omega arith) here
-    ∙ ap (λ (front : List Value). behind front (values_of (drop (i + 1) columns) (drop (i + 1) fields))) (sym more)
+    ∙ ap (λ (prefix : List Value). behind prefix (values_of (drop (i + 1) columns) (drop (i + 1) fields))) (sym more)

@@ -6,7 +6,7 @@ use Rattle.bt_rowtype.specs.Refusals.{least, least_from}
 use Rattle.bt_rowtype.specs.declared.refusal.Refusal.{Refusal}
 use Rattle.bt_rowtype.specs.declared.refusal.Refusal.TheVariants.{TooMany}
 use Rattle.bt_shell.specs.Steps.{one_if, read_batch}
-use Rattle.bt_rowtype.specs.Schemas.{Layout}
+use Rattle.bt_rowtype.specs.Schemas.{Schema}
 use Rattle.bt_shell.proofs.Batches.{least_from-append}
 use Rattle.bt_shell.proofs.batch.apply_batch.Goals as goal
 
@@ -19,7 +19,7 @@ with_limit refusals count found answer over is answered =
 
 pub returns-then-items-gt-MOST_MESSAGES-clause-refused : goal.returns-then-items-gt-MOST_MESSAGES-clause-refused
 returns-then-items-gt-MOST_MESSAGES-clause-refused c =
-    let schema : c.schema.result.now ≡ c.args.table.now.layout = search rules in
-    let found = c.in_ok-messages.ensures.refusal ∙ ap (λ (l : Layout). least (filter_map result_err (read_batch l 1 c.args.items.now))) schema in
-    λ _. with_limit (filter_map result_err (read_batch c.args.table.now.layout 1 c.args.items.now)) (length c.args.items.now) c.in_ok-messages.field-0.refusal c.lesser_of.result
+    let schema : c.schema.result.now ≡ c.args.table.now.schema = search rules in
+    let found = c.in_ok-messages.ensures.refusal ∙ ap (λ (l : Schema). least (filter_map result_err (read_batch l 1 c.args.items.now))) schema in
+    λ _. with_limit (filter_map result_err (read_batch c.args.table.now.schema 1 c.args.items.now)) (length c.args.items.now) c.in_ok-messages.field-0.refusal c.lesser_of.result
     c.if-items-gt-MOST_MESSAGES.true found c.lesser_of.ensures

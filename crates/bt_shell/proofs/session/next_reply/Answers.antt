@@ -1,5 +1,5 @@
 use Rattle.std.proofs.Common.{ℕ, List, [], ◌∷◌, ◌++◌, ◌≡◌, refl, ap, Ok, Err, drop}
-use Rattle.bt_shell.specs.Commands.{Answer, commands}
+use Rattle.bt_script.specs.Commands.{Answer, commands}
 use Rattle.bt_shell.specs.Runs.{replies}
 use Rattle.bt_shell.specs.Steps.{State, turn}
 use Rattle.bt_shell.proofs.session.next_reply.Goals as goal

@@ -1,0 +1,4 @@
+pub mod Columns
+pub mod Cuts
+pub mod Machine
+pub mod Names

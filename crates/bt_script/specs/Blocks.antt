@@ -1,0 +1,30 @@
+-- What the parts of the parser find, in the words of the commands.
+use Rattle.std.specs.Prelude.{ℕ, ◌≡◌, Bool, true, false, List, [], ◌∷◌, ◌++◌, Option, Some, None, if◌then◌else◌, drop}
+use Rattle.bt_script.specs.Commands.{Answer, Inside, closing_of, command_of, commands, commands_from, is_blank_line, item_of, opened, or_syntax, unfinished}
+use Rattle.bt_script.specs.Lines.{lines, words}
+use Rattle.bt_script.specs.declared.command.Command.{Command}
+use Rattle.bt_script.specs.declared.command.Item.{Item}
+
+-- some messages and one more, where all are there
+abbrev pub with_last : {A : Type 0} → Option (List A) → Option A → Option (List A)
+with_last None last = None
+with_last (Some xs) None = None
+with_last (Some xs) (Some x) = Some (xs ++ x ∷ [])
+
+-- the messages of some lines, and that of one more
+abbrev pub and_line : Option (List Item) → List ℕ → Option (List Item)
+and_line items line = if is_blank_line line then items else with_last items (item_of line)
+
+-- the command of a block that is closed, or that the end of the script cuts off
+abbrev pub ended : Bool → Option Command → Answer
+ended true command = or_syntax command
+ended false command = unfinished command
+
+-- a block of these lines stands at a place, with its closing line or without; behind it the script goes on at the next place
+abbrev pub IsBlock : List ℕ → ℕ → List ℕ → List (List ℕ) → Bool → ℕ → Type 0
+IsBlock script at closing block closed next = (head : List ℕ)
+    → commands_from (Inside head closing []) (lines (drop at script)) ≡ ended closed (command_of head block) ∷ commands (drop next script)
+
+-- the commands of a head line and the lines behind it
+abbrev pub headed : List ℕ → List (List ℕ) → List Answer
+headed head more = (opened head (closing_of (words head))).1 ++ commands_from (opened head (closing_of (words head))).0 more

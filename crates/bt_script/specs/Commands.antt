@@ -1,0 +1,177 @@
+-- The commands of a script.
+use Rattle.std.specs.Prelude.{ℕ, ◌≡◌, ◌==◌, ◌&&◌, ◌<◌, ◌≤◌, not, Bool, List, [], ◌∷◌, ◌++◌, length, map, filter, take, drop, get_or, nat_le, Option, Some, None, Result, Ok, Err, if◌then◌else◌, codes, option_and_then, option_map, is_some, ⊤}
+use Rattle.std.specs.List.{list_all, slice_split}
+use Rattle.std.specs.Cmp.Lexicographic.{pointwise}
+use Rattle.bt_rowtype.specs.Records.{record_of}
+use Rattle.bt_rowtype.specs.declared.refusal.Refusal.{Refusal}
+use Rattle.bt_rowtype.specs.declared.refusal.Refusal.TheVariants.{Syntax, Unfinished}
+use Rattle.bt_rowtype.specs.declared.schema.Column.{Column}
+use Rattle.bt_rowtype.specs.declared.value.Kind.{Kind}
+use Rattle.bt_rowtype.specs.declared.value.Kind.TheVariants as kind
+use Rattle.bt_script.specs.Lines.{is_blank, is_name, lines, number_of, without_return, without_spaces, words}
+use Rattle.bt_script.specs.declared.command.Command.{Command}
+use Rattle.bt_script.specs.declared.command.Command.TheVariants.{Batch, Get, Image, Scan, Table}
+use Rattle.bt_script.specs.declared.command.Item.{Item}
+use Rattle.bt_script.specs.declared.command.Item.TheVariants.{Put, Del, Ups}
+use Rattle.bt_script.specs.declared.command.Parsed.{Parsed}
+use Rattle.bt_script.specs.declared.command.Parsed.TheVariants.{End, Bad, Good}
+
+-- whether a text is this word
+abbrev pub is_word : List ℕ → List ℕ → Bool
+is_word text word = pointwise ◌==◌ text word
+
+-- the word at a place, counted from 0
+abbrev pub word_at : List (List ℕ) → ℕ → List ℕ
+word_at ws place = get_or ws place []
+
+-- all of them, where each is there
+abbrev pub all_some : {A : Type 0} → List (Option A) → Option (List A)
+all_some [] = Some []
+all_some (None ∷ rest) = None
+all_some (Some x ∷ rest) = option_map (λ xs. x ∷ xs) (all_some rest)
+
+-- what stands behind a prefix, where a line begins with it
+abbrev pub behind_prefix : List ℕ → List ℕ → Option (List ℕ)
+behind_prefix prefix line = if is_word (take (length prefix) line) prefix then Some (drop (length prefix) line) else None
+
+-- the record behind a prefix
+abbrev pub record_behind : List ℕ → List ℕ → Option (List (List ℕ))
+record_behind prefix line = option_and_then record_of (behind_prefix prefix line)
+
+-- a message of a batch: put, del or ups, one space and a record
+abbrev pub item_from : List ℕ → Option Item
+item_from line =
+    if is_some (behind_prefix (codes "put ") line) then option_map Put (record_behind (codes "put ") line)
+    else (if is_some (behind_prefix (codes "del ") line) then option_map Del (record_behind (codes "del ") line)
+    else option_map Ups (record_behind (codes "ups ") line))
+
+unfoldable pub item_of : List ℕ → Option Item
+item_of line = item_from (without_spaces (without_return line))
+
+abbrev pub is_blank_line : List ℕ → Bool
+is_blank_line line = is_blank (without_return line)
+
+-- the messages of a batch: one of each line that is not blank
+unfoldable pub items_of : List (List ℕ) → Option (List Item)
+items_of block = all_some (map item_of (filter (λ line. not (is_blank_line line)) block))
+
+-- the kind that a word names
+abbrev pub kind_of : List ℕ → Option Kind
+kind_of word =
+    if is_word word (codes "int") then Some kind.Int
+    else (if is_word word (codes "text") then Some kind.Text else (if is_word word (codes "flag") then Some kind.Flag else None))
+
+-- a column: its name, a colon and its kind
+abbrev pub column_from : List (List ℕ) → Option Column
+column_from parts =
+    if (length parts == 2) && is_name (word_at parts 0) then option_map (λ k. record { name = word_at parts 0; kind = k }) (kind_of (word_at parts 1)) else None
+
+unfoldable pub column_of : List ℕ → Option Column
+column_of word = column_from (slice_split (λ b. b == 58) word)
+
+abbrev pub form_of : ℕ → ℕ → ℕ → ℕ → List Column → Command
+form_of fanout buffer leaf keys columns = Table (record { fanout = fanout; buffer = buffer; leaf = leaf; keys = keys; columns = columns })
+
+-- table, four numbers, and one column or more
+unfoldable pub table_of : List (List ℕ) → Option Command
+table_of ws =
+    if nat_le 6 (length ws) then
+    option_and_then (λ fanout. option_and_then (λ buffer. option_and_then (λ leaf. option_and_then (λ keys. option_map (form_of fanout buffer leaf keys)
+    (all_some (map column_of (drop 5 ws)))) (number_of (word_at ws 4))) (number_of (word_at ws 3))) (number_of (word_at ws 2))) (number_of (word_at ws 1))
+    else None
+
+-- batch, with its messages
+abbrev pub batch_of : List (List ℕ) → Option (List Item) → Option Command
+batch_of ws items = if length ws == 1 then option_map Batch items else None
+
+-- scan and the name of a tree, with a block of blank lines
+abbrev pub scan_of : List (List ℕ) → Bool → Option Command
+scan_of ws blank = if (length ws == 2) && is_name (word_at ws 1) && blank then Some (Scan (word_at ws 1)) else None
+
+-- get, one space and a record
+abbrev pub get_of : List ℕ → Option Command
+get_of head = option_map Get (record_behind (codes "get ") (without_spaces head))
+
+-- image and the name of a tree
+abbrev pub image_of : List (List ℕ) → Option Command
+image_of ws = if (length ws == 2) && is_name (word_at ws 1) then Some (Image (word_at ws 1)) else None
+
+-- whether the first of the words is this one
+abbrev pub begins : List (List ℕ) → List ℕ → Bool
+begins ws word = is_word (word_at ws 0) word
+
+-- the line that closes the block of a command, where it has one
+unfoldable pub closing_of : List (List ℕ) → Option (List ℕ)
+closing_of ws = if begins ws (codes "batch") then Some (codes "end") else (if begins ws (codes "scan") then Some (codes "go") else None)
+
+-- the command of its head line, which has these words, and of the lines of its block, if it is one
+abbrev pub command_from : List ℕ → List (List ℕ) → List (List ℕ) → Option Command
+command_from head ws block =
+    if begins ws (codes "batch") then batch_of ws (items_of block)
+    else (if begins ws (codes "scan") then scan_of ws (list_all is_blank_line block)
+    else (if begins ws (codes "table") then table_of ws
+    else (if begins ws (codes "get") then get_of head
+    else (if begins ws (codes "image") then image_of ws else None))))
+
+-- the command of its head line and the lines of its block, if it is one
+unfoldable pub command_of : List ℕ → List (List ℕ) → Option Command
+command_of head block = command_from head (words head) block
+
+-- a command, or why there is none
+abbrev pub Answer : Type 0
+Answer = Result Command Refusal
+
+abbrev pub or_syntax : Option Command → Answer
+or_syntax None = Err Syntax
+or_syntax (Some command) = Ok command
+
+-- a command whose block the end of the script cuts off
+abbrev pub unfinished : Option Command → Answer
+unfinished None = Err Syntax
+unfinished (Some command) = Err Unfinished
+
+-- where a line stands: outside of blocks, or in the block of this head line, with this closing line and these lines before it
+pub data Place : Type 0 where
+  Outside : Place
+  Inside : (head : List ℕ) → (closing : List ℕ) → (block : List (List ℕ)) → Place
+
+-- a head line: the command itself where it has no block, or else the start of its block
+abbrev pub opened : List ℕ → Option (List ℕ) → Place × List Answer
+opened head None = (Outside, or_syntax (command_of head []) ∷ [])
+opened head (Some closing) = (Inside head closing [], [])
+
+abbrev pub begun : List ℕ → Place × List Answer
+begun head = opened head (closing_of (words head))
+
+-- one line: where the next one stands, and the command that ends here, if one does
+unfoldable pub step : Place → List ℕ → Place × List Answer
+step Outside line = if is_blank_line line then (Outside, []) else begun (without_return line)
+step (Inside head closing block) line =
+    if is_word (without_return line) closing then (Outside, or_syntax (command_of head block) ∷ [])
+    else (Inside head closing (block ++ line ∷ []), [])
+
+-- the end of the script
+abbrev pub ending : Place → List Answer
+ending Outside = []
+ending (Inside head closing block) = unfinished (command_of head block) ∷ []
+
+-- the commands of lines, from a place on
+unfoldable pub commands_from : Place → List (List ℕ) → List Answer
+commands_from place [] = ending place
+commands_from place (line ∷ more) = (step place line).1 ++ commands_from (step place line).0 more
+
+-- the commands of a script
+abbrev pub commands : List ℕ → List Answer
+commands script = commands_from Outside (lines script)
+
+-- what was found is the first of these commands, and the others are those of the script from the next place on
+abbrev pub Finds : Parsed → List ℕ → List Answer → Type 0
+Finds End script all = all ≡ []
+Finds (Bad refusal next) script all = all ≡ Err refusal ∷ commands (drop next script)
+Finds (Good command next) script all = all ≡ Ok command ∷ commands (drop next script)
+
+-- the next place is past a place, and in the script or at its end
+abbrev pub NextPast : Parsed → ℕ → List ℕ → Type 0
+NextPast End at script = ⊤
+NextPast (Bad refusal next) at script = (at < next) × (next ≤ length script)
+NextPast (Good command next) at script = (at < next) × (next ≤ length script)

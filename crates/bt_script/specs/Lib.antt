@@ -1,0 +1,5 @@
+pub mod Blocks
+pub mod Commands
+pub mod Lines
+pub mod Options
+pub mod Streams

@@ -1,0 +1,49 @@
+-- The options of the program, and what the words of its command line give.
+use Rattle.std.specs.Prelude.{◌≡◌, ◌≢◌, ◌⊎◌, [], List, None, Some, codes}
+use Rattle.clap.specs.Words.{App, IsAmong, Kinds, Row, Rule, Text, fault_of, first_of, matches_of, new_app, new_rule, with_rule}
+use Rattle.clap.specs.declared.builder.ArgAction.TheVariants.{Set}
+use Rattle.clap.specs.declared.error.kind.ErrorKind.{ErrorKind}
+use Rattle.clap.specs.declared.error.kind.ErrorKind.TheVariants as kinds
+use Rattle.clap.specs.declared.error.kind.ErrorKind.TheVariants.{DisplayHelp}
+use Rattle.bt_script.specs.declared.words.WordsError.{WordsError}
+use Rattle.bt_script.specs.declared.words.WordsError.TheVariants.{Faulty, Help, OutOfMemory}
+
+-- an option of one value, by its long name
+abbrev pub option_rule : Text → Rule
+option_rule name = record (new_rule name) { long = Some name; action = Some Set; value_names = 1 }
+
+-- the program's command line
+abbrev pub betable : App
+betable = with_rule (new_app (codes "betable")) (option_rule (codes "script"))
+
+-- what the words give, the program's name first
+unfoldable pub rows_of_words : List Text → List Row
+rows_of_words words = matches_of betable words
+
+-- the kinds of fault that the words have, and none where they are read
+unfoldable pub kinds_of_words : List Text → Kinds
+kinds_of_words words = fault_of betable words
+
+-- the words ask for the help text
+abbrev pub AsksHelp : List Text → Type 0
+AsksHelp words = IsAmong DisplayHelp (kinds_of_words words)
+
+-- the words have a fault that is no request for help
+abbrev pub IsFaulty : List Text → Type 0
+IsFaulty words = (kind : ErrorKind) × IsAmong kind (kinds_of_words words) × (kind ≢ DisplayHelp)
+
+-- the words are read, and name no file of a script
+abbrev pub IsToReadInput : List Text → Type 0
+IsToReadInput words = (kinds_of_words words ≡ []) × (first_of (codes "script") (rows_of_words words) ≡ None)
+
+-- the words have the fault that an error names; want of memory may come at any words
+abbrev pub HasFault : List Text → WordsError → Type 0
+HasFault words Faulty = IsFaulty words
+HasFault words (Help text) = AsksHelp words
+HasFault words OutOfMemory = Unit {0}
+
+-- an error is what one of clap of this kind comes to
+abbrev pub ComesOf : ErrorKind → WordsError → Type 0
+ComesOf kind Faulty = (kind ≢ kinds.OutOfMemory) × (kind ≢ DisplayHelp)
+ComesOf kind (Help text) = kind ≡ DisplayHelp
+ComesOf kind OutOfMemory = (kind ≡ kinds.OutOfMemory) ⊎ (kind ≡ DisplayHelp)

@@ -1,0 +1,24 @@
+//! Scripts as text: the lines, words and commands of a script, the words of a command line, and the streams that a script
+//! comes from and its replies go to.
+//!
+//! A script is any list of bytes. It is cut into lines and lines into commands, of which some have a block with a closing
+//! line. What stands at a place is a command, or what is refused as none, and the place behind it.
+//!
+//! ```text
+//! let script = b"table 4 3 2 1 id:int qty:int\nbatch\nput 1,10\nend\n";
+//! let parsed = parse_command(alloc, script, 0)?;       // Good { command: Table(..), next: 29 }
+//! ```
+#![tactic(auto)]
+
+mod command;
+mod counted;
+mod lines;
+mod parse;
+mod streams;
+mod words;
+
+pub use command::{Command, Item, Items, Parsed, TableForm};
+pub use counted::Counted;
+pub use parse::parse_command;
+pub use streams::{RunFault, SCRIPT_LIMIT, read_script, write_text};
+pub use words::{Words, WordsError, read_words};

@@ -1,0 +1,140 @@
+//! Lines, words, numbers and names.
+ghost use Rattle.std.specs.Prelude.{◌≡◌, ◌==◌, ◌∷◌, ◌<◌, ◌≤◌, Bool, IfOk, drop, if◌then◌else◌, length, map, not, true, Some, None};
+ghost use Rattle.std.specs.List.{list_all, slice_split, take_while};
+ghost use Rattle.bt_rowtype.specs.Ints.{is_digit, number_written};
+ghost use Rattle.bt_script.specs.Lines as text;
+
+use bt_rowtype::Text;
+use std::alloc::{AllocError, Global};
+use std::str;
+
+// How many bytes stand before the first line feed, or in all.
+fn line_len(text: &[u8]) -> usize
+    ensures { result ≡ length (take_while (λ b. not (b == 10)) text.now) }
+{
+    text.iter().take_while(|byte| **byte != b'\n').count()
+}
+
+/// The line that stands at a place, and the place after it.
+pub fn next_line(script: &[u8], at: usize) -> (&[u8], usize)
+    requires { at < length script.now }
+    ensures line { text.lines (drop at script.now) ≡ result.0.now ∷ text.lines (drop result.1 script.now) }
+    ensures past { at < result.1 }
+    ensures within { result.1 ≤ length script.now }
+{
+    let rest = &script[at..];
+    let end = line_len(rest);
+    let next = if end < rest.len() {
+        at + end + 1
+    } else {
+        script.len()
+    };
+    (&rest[..end], next)
+}
+
+pub fn without_return(line: &[u8]) -> &[u8]
+    ensures { result.now ≡ text.without_return line.now }
+{
+    match line {
+        [prefix @ .., b'\r'] => prefix,
+        _ => line,
+    }
+}
+
+// How many spaces stand at the prefix.
+fn space_count(line: &[u8]) -> usize
+    ensures { result ≡ length (take_while (λ b. b == 32) line.now) }
+{
+    line.iter().take_while(|byte| **byte == b' ').count()
+}
+
+pub fn without_spaces(line: &[u8]) -> &[u8]
+    ensures { result.now ≡ text.without_spaces line.now }
+{
+    &line[space_count(line)..]
+}
+
+/// Whether a line has spaces only, or nothing.
+pub fn is_blank(line: &[u8]) -> bool
+    ensures { result ≡ text.is_blank line.now }
+{
+    line.iter().all(|byte| *byte == b' ')
+}
+
+/// The words of a line.
+pub fn words(alloc: Global, line: &[u8]) -> Result<Vec<&[u8]>, AllocError>
+    ensures { IfOk result (λ words. map (λ w. w.now) words.items ≡ text.words line.now) }
+{
+    line.split(|byte| *byte == b' ')
+        .filter(|word| !word.is_empty())
+        .collect(alloc)
+}
+
+/// What stands between the colons of a word.
+pub fn colon_parts(alloc: Global, word: &[u8]) -> Result<Vec<&[u8]>, AllocError>
+    ensures { IfOk result (λ parts. map (λ p. p.now) parts.items ≡ slice_split (λ b. b == 58) word.now) }
+{
+    word.split(|byte| *byte == b':').collect(alloc)
+}
+
+fn has_digits(word: &[u8]) -> bool
+    ensures { result ≡ list_all is_digit word.now }
+{
+    word.iter().all(|byte| b'0' <= *byte && *byte <= b'9')
+}
+
+fn digits_value(word: &[u8]) -> u32
+    requires digits { list_all is_digit word.now ≡ true }
+    requires short { length word.now ≤ 9 }
+    ensures { result ≡ number_written word.now }
+{
+    let mut value = 0u32;
+    for digit in word {
+        value = value * 10 + u32::from(*digit - b'0');
+    }
+    value
+}
+
+/// The number that a word of 1 to 9 digits writes.
+pub fn parse_number(word: &[u8]) -> Option<u32>
+    ensures { result ≡ text.number_of word.now }
+{
+    if word.is_empty() || word.len() > 9 || !has_digits(word) {
+        return None;
+    }
+    Some(digits_value(word))
+}
+
+fn is_name_byte(byte: u8) -> bool
+    ensures { result ≡ text.is_name_byte byte }
+{
+    (b'a' <= byte && byte <= b'z') || (b'0' <= byte && byte <= b'9') || byte == b'_'
+}
+
+fn has_name_bytes(word: &[u8]) -> bool
+    ensures { result ≡ list_all text.is_name_byte word.now }
+{
+    word.iter().all(|byte| is_name_byte(*byte))
+}
+
+fn is_name(word: &[u8]) -> bool
+    ensures { result ≡ text.is_name word.now }
+{
+    if word.is_empty() || word.len() > 32 {
+        return false;
+    }
+    b'a' <= word[0] && word[0] <= b'z' && has_name_bytes(word)
+}
+
+/// The name that a word is: 1 to 32 letters, digits and `_`, the first one a letter.
+pub fn parse_name(alloc: Global, word: &[u8]) -> Result<Option<Text>, AllocError>
+    ensures { IfOk result (λ name. name ≡ (if text.is_name word.now then Some word.now else None)) }
+{
+    if !is_name(word) {
+        return Ok(None);
+    }
+    match str::from_utf8(word) {
+        Ok(name) => Ok(Some(Text::new(alloc, name)?)),
+        Err(_) => Ok(None),
+    }
+}

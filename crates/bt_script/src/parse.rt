@@ -1,0 +1,399 @@
+//! The parser of commands.
+ghost use Rattle.std.specs.Prelude.{◌≡◌, ◌==◌, ◌∷◌, ◌<◌, ◌≤◌, [], IfOk, List, None, Some, codes, drop, false, length, map, not, option_map, true, ℕ};
+ghost use Rattle.std.specs.List.{list_all};
+ghost use Rattle.bt_script.specs.Blocks.{IsBlock, and_line, ended, headed};
+ghost use Rattle.bt_script.specs.Commands as spec;
+ghost use Rattle.bt_script.specs.Lines as text;
+
+use crate::command::{Command, Item, Items, Parsed, TableForm};
+use crate::lines::{
+    colon_parts, is_blank, next_line, parse_name, parse_number, without_return, without_spaces,
+    words,
+};
+use bt_rowtype::{Column, Columns, Fields, Kind, Refusal, read_record};
+use std::alloc::{AllocError, Global};
+
+fn is_word(text: &[u8], word: &[u8]) -> bool
+    ensures { result ≡ spec.is_word text.now word.now }
+{
+    text == word
+}
+
+// The word at a place, or the empty one.
+fn word_at<'a>(words: &[&'a [u8]], place: usize) -> &'a [u8]
+    ensures { result.now ≡ spec.word_at (map (λ w. w.now) words.now) place }
+{
+    match words.get(place) {
+        Some(word) => *word,
+        None => &[],
+    }
+}
+
+fn begins(words: &[&[u8]], word: &[u8]) -> bool
+    ensures { result ≡ spec.begins (map (λ w. w.now) words.now) word.now }
+{
+    is_word(word_at(words, 0), word)
+}
+
+fn is_blank_line(line: &[u8]) -> bool
+    ensures { result ≡ spec.is_blank_line line.now }
+{
+    is_blank(without_return(line))
+}
+
+// What stands behind a prefix, where the line begins with it.
+fn behind_prefix<'a>(prefix: &[u8], line: &'a [u8]) -> Option<&'a [u8]>
+    ensures { option_map (λ s. s.now) result ≡ spec.behind_prefix prefix.now line.now }
+{
+    line.strip_prefix(prefix)
+}
+
+fn record_behind(alloc: Global, prefix: &[u8], line: &[u8]) -> Result<Option<Fields>, AllocError>
+    ensures { IfOk result (λ fields. fields ≡ spec.record_behind prefix.now line.now) }
+{
+    match behind_prefix(prefix, line) {
+        Some(record) => read_record(alloc, record),
+        None => Ok(None),
+    }
+}
+
+// The message of a line of a batch.
+#[tactic(auto, unfolding(crate::specs::Commands::item_of))]
+fn parse_item(alloc: Global, line: &[u8]) -> Result<Option<Item>, AllocError>
+    ensures { IfOk result (λ item. item ≡ spec.item_of line.now) }
+{
+    let line = without_spaces(without_return(line));
+    if behind_prefix(b"put ", line).is_some() {
+        return Ok(record_behind(alloc, b"put ", line)?.map(Item::Put));
+    }
+    if behind_prefix(b"del ", line).is_some() {
+        return Ok(record_behind(alloc, b"del ", line)?.map(Item::Del));
+    }
+    Ok(record_behind(alloc, b"ups ", line)?.map(Item::Ups))
+}
+
+// The messages of some lines, and that of one more.
+fn and_item(alloc: Global, items: Option<Items>, line: &[u8]) -> Result<Option<Items>, AllocError>
+    ensures { IfOk result (λ all. all ≡ and_line items line.now) }
+{
+    if is_blank_line(line) {
+        return Ok(items);
+    }
+    let Some(mut items) = items else {
+        return Ok(None);
+    };
+    let Some(item) = parse_item(alloc, line)? else {
+        return Ok(None);
+    };
+    items.push(item)?;
+    Ok(Some(items))
+}
+
+// What was made of the lines of a block, the place behind it, and whether its closing line is there.
+struct Block<T> {
+    content: T,
+    next: usize,
+    closed: bool,
+}
+
+// The block of a batch: its messages, or `None` where a line is wrong.
+fn read_items(
+    alloc: Global,
+    script: &[u8],
+    start: usize,
+) -> Result<Block<Option<Items>>, AllocError>
+    requires { start ≤ length script.now }
+    ensures block { IfOk result (λ read. (block : List (List ℕ)) × (read.content ≡ spec.items_of block)
+        × IsBlock script.now start (codes "end") block read.closed read.next) }
+    ensures within { IfOk result (λ read. (start ≤ read.next) × (read.next ≤ length script.now)) }
+{
+    let mut items = Some(Items::new(alloc));
+    let mut at = start;
+    while at < script.len() {
+        let (line, next) = next_line(script, at);
+        if is_word(without_return(line), b"end") {
+            return Ok(Block {
+                content: items,
+                next,
+                closed: true,
+            });
+        }
+        items = and_item(alloc, items, line)?;
+        at = next;
+    }
+    Ok(Block {
+        content: items,
+        next: script.len(),
+        closed: false,
+    })
+}
+
+// The block of a scan: whether its lines are blank.
+fn read_bounds(script: &[u8], start: usize) -> Block<bool>
+    requires { start ≤ length script.now }
+    ensures block { (block : List (List ℕ)) × (result.content ≡ list_all spec.is_blank_line block)
+        × IsBlock script.now start (codes "go") block result.closed result.next }
+    ensures within { (start ≤ result.next) × (result.next ≤ length script.now) }
+{
+    let mut blank = true;
+    let mut at = start;
+    while at < script.len() {
+        let (line, next) = next_line(script, at);
+        if is_word(without_return(line), b"go") {
+            return Block {
+                content: blank,
+                next,
+                closed: true,
+            };
+        }
+        blank &= is_blank_line(line);
+        at = next;
+    }
+    Block {
+        content: blank,
+        next: script.len(),
+        closed: false,
+    }
+}
+
+fn parse_kind(word: &[u8]) -> Option<Kind>
+    ensures { result ≡ spec.kind_of word.now }
+{
+    if is_word(word, b"int") {
+        return Some(Kind::Int);
+    }
+    if is_word(word, b"text") {
+        return Some(Kind::Text);
+    }
+    if is_word(word, b"flag") {
+        return Some(Kind::Flag);
+    }
+    None
+}
+
+// A column: its name, a colon and its kind.
+#[tactic(auto, unfolding(crate::specs::Commands::column_of))]
+fn parse_column(alloc: Global, word: &[u8]) -> Result<Option<Column>, AllocError>
+    ensures { IfOk result (λ column. column ≡ spec.column_of word.now) }
+{
+    let parts = colon_parts(alloc, word)?;
+    if parts.len() != 2 {
+        return Ok(None);
+    }
+    let Some(name) = parse_name(alloc, word_at(&parts, 0))? else {
+        return Ok(None);
+    };
+    match parse_kind(word_at(&parts, 1)) {
+        Some(kind) => Ok(Some(Column { name, kind })),
+        None => Ok(None),
+    }
+}
+
+fn parse_columns(alloc: Global, words: &[&[u8]]) -> Result<Option<Columns>, AllocError>
+    ensures { IfOk result (λ columns. columns ≡ spec.all_some (map spec.column_of (map (λ w. w.now) words.now))) }
+{
+    let mut columns = Columns::new(alloc);
+    for word in words {
+        let Some(column) = parse_column(alloc, word)? else {
+            return Ok(None);
+        };
+        columns.push(column)?;
+    }
+    Ok(Some(columns))
+}
+
+#[tactic(auto, unfolding(crate::specs::Commands::table_of))]
+fn table_command(alloc: Global, words: &[&[u8]]) -> Result<Option<Command>, AllocError>
+    ensures { IfOk result (λ command. command ≡ spec.table_of (map (λ w. w.now) words.now)) }
+{
+    if words.len() < 6 {
+        return Ok(None);
+    }
+    let Some(fanout) = parse_number(word_at(words, 1)) else {
+        return Ok(None);
+    };
+    let Some(buffer) = parse_number(word_at(words, 2)) else {
+        return Ok(None);
+    };
+    let Some(leaf) = parse_number(word_at(words, 3)) else {
+        return Ok(None);
+    };
+    let Some(keys) = parse_number(word_at(words, 4)) else {
+        return Ok(None);
+    };
+    let Some(columns) = parse_columns(alloc, &words[5..])? else {
+        return Ok(None);
+    };
+    Ok(Some(Command::Table(TableForm {
+        fanout,
+        buffer,
+        leaf,
+        keys,
+        columns,
+    })))
+}
+
+fn batch_command(words: &[&[u8]], items: Option<Items>) -> Option<Command>
+    ensures { result ≡ spec.batch_of (map (λ w. w.now) words.now) items }
+{
+    if words.len() == 1 {
+        items.map(Command::Batch)
+    } else {
+        None
+    }
+}
+
+fn scan_command(alloc: Global, words: &[&[u8]], blank: bool) -> Result<Option<Command>, AllocError>
+    ensures { IfOk result (λ command. command ≡ spec.scan_of (map (λ w. w.now) words.now) blank) }
+{
+    if words.len() != 2 || !blank {
+        return Ok(None);
+    }
+    match parse_name(alloc, word_at(words, 1))? {
+        Some(tree) => Ok(Some(Command::Scan(tree))),
+        None => Ok(None),
+    }
+}
+
+fn get_command(alloc: Global, head: &[u8]) -> Result<Option<Command>, AllocError>
+    ensures { IfOk result (λ command. command ≡ spec.get_of head.now) }
+{
+    Ok(record_behind(alloc, b"get ", without_spaces(head))?.map(Command::Get))
+}
+
+fn image_command(alloc: Global, words: &[&[u8]]) -> Result<Option<Command>, AllocError>
+    ensures { IfOk result (λ command. command ≡ spec.image_of (map (λ w. w.now) words.now)) }
+{
+    if words.len() != 2 {
+        return Ok(None);
+    }
+    match parse_name(alloc, word_at(words, 1))? {
+        Some(tree) => Ok(Some(Command::Image(tree))),
+        None => Ok(None),
+    }
+}
+
+fn parsed(command: Option<Command>, closed: bool, next: usize) -> Parsed
+    ensures found { (script : List ℕ) → spec.Finds result script (ended closed command ∷ spec.commands (drop next script)) }
+    ensures past { (at : ℕ) (script : List ℕ) → at < next → next ≤ length script → spec.NextPast result at script }
+{
+    match (command, closed) {
+        (Some(command), true) => Parsed::Good { command, next },
+        (Some(_), false) => Parsed::Bad {
+            refusal: Refusal::Unfinished,
+            next,
+        },
+        (None, _) => Parsed::Bad {
+            refusal: Refusal::Syntax,
+            next,
+        },
+    }
+}
+
+fn parse_batch(
+    alloc: Global,
+    script: &[u8],
+    head: &[u8],
+    words: &[&[u8]],
+    at: usize,
+) -> Result<Parsed, AllocError>
+    requires within { at ≤ length script.now }
+    requires words { map (λ w. w.now) words.now ≡ text.words head.now }
+    requires batch { spec.begins (map (λ w. w.now) words.now) (codes "batch") ≡ true }
+    ensures found { IfOk result (λ parsed. spec.Finds parsed script.now (headed head.now (text.lines (drop at script.now)))) }
+    ensures past { IfOk result (λ parsed. (before : ℕ) → before < at → spec.NextPast parsed before script.now) }
+{
+    let Block {
+        content,
+        next,
+        closed,
+    } = read_items(alloc, script, at)?;
+    Ok(parsed(batch_command(words, content), closed, next))
+}
+
+fn parse_scan(
+    alloc: Global,
+    script: &[u8],
+    head: &[u8],
+    words: &[&[u8]],
+    at: usize,
+) -> Result<Parsed, AllocError>
+    requires within { at ≤ length script.now }
+    requires words { map (λ w. w.now) words.now ≡ text.words head.now }
+    requires no_batch { spec.begins (map (λ w. w.now) words.now) (codes "batch") ≡ false }
+    requires scan { spec.begins (map (λ w. w.now) words.now) (codes "scan") ≡ true }
+    ensures found { IfOk result (λ parsed. spec.Finds parsed script.now (headed head.now (text.lines (drop at script.now)))) }
+    ensures past { IfOk result (λ parsed. (before : ℕ) → before < at → spec.NextPast parsed before script.now) }
+{
+    let Block {
+        content,
+        next,
+        closed,
+    } = read_bounds(script, at);
+    let command = scan_command(alloc, words, content)?;
+    Ok(parsed(command, closed, next))
+}
+
+// The command of a head line that has no block.
+#[tactic(auto, unfolding(crate::specs::Commands::command_of))]
+fn line_command(alloc: Global, head: &[u8], words: &[&[u8]]) -> Result<Option<Command>, AllocError>
+    requires words { map (λ w. w.now) words.now ≡ text.words head.now }
+    requires no_batch { spec.begins (map (λ w. w.now) words.now) (codes "batch") ≡ false }
+    requires no_scan { spec.begins (map (λ w. w.now) words.now) (codes "scan") ≡ false }
+    ensures { IfOk result (λ command. command ≡ spec.command_of head.now []) }
+{
+    if begins(words, b"table") {
+        return table_command(alloc, words);
+    }
+    if begins(words, b"get") {
+        return get_command(alloc, head);
+    }
+    if begins(words, b"image") {
+        return image_command(alloc, words);
+    }
+    Ok(None)
+}
+
+fn parse_line(alloc: Global, head: &[u8], words: &[&[u8]], at: usize) -> Result<Parsed, AllocError>
+    requires words { map (λ w. w.now) words.now ≡ text.words head.now }
+    requires no_batch { spec.begins (map (λ w. w.now) words.now) (codes "batch") ≡ false }
+    requires no_scan { spec.begins (map (λ w. w.now) words.now) (codes "scan") ≡ false }
+    ensures found { IfOk result (λ parsed. (script : List ℕ) → spec.Finds parsed script (headed head.now (text.lines (drop at script)))) }
+    ensures past { IfOk result (λ parsed. (before : ℕ) (script : List ℕ) → before < at → at ≤ length script → spec.NextPast parsed before script) }
+{
+    let command = line_command(alloc, head, words)?;
+    Ok(parsed(command, true, at))
+}
+
+// The command of a head line, behind which its block starts at a place.
+fn parse_headed(alloc: Global, script: &[u8], head: &[u8], at: usize) -> Result<Parsed, AllocError>
+    requires { at ≤ length script.now }
+    ensures found { IfOk result (λ parsed. spec.Finds parsed script.now (headed head.now (text.lines (drop at script.now)))) }
+    ensures past { IfOk result (λ parsed. (before : ℕ) → before < at → spec.NextPast parsed before script.now) }
+{
+    let words = words(alloc, head)?;
+    if begins(&words, b"batch") {
+        return parse_batch(alloc, script, head, &words, at);
+    }
+    if begins(&words, b"scan") {
+        return parse_scan(alloc, script, head, &words, at);
+    }
+    parse_line(alloc, head, &words, at)
+}
+
+/// The command that stands at a place of a script, or its refusal, `Syntax` or `Unfinished`, and the place behind it.
+pub fn parse_command(alloc: Global, script: &[u8], at: usize) -> Result<Parsed, AllocError>
+    ensures found { IfOk result (λ parsed. spec.Finds parsed script.now (spec.commands (drop at script.now))) }
+    ensures past { IfOk result (λ parsed. spec.NextPast parsed at script.now) }
+{
+    let mut place = at;
+    while place < script.len() {
+        let (line, next) = next_line(script, place);
+        let head = without_return(line);
+        if !is_blank(head) {
+            return parse_headed(alloc, script, head, next);
+        }
+        place = next;
+    }
+    Ok(Parsed::End)
+}

@@ -1,0 +1,84 @@
+//! The reading of a whole script and the writing of text.
+ghost use Rattle.std.specs.Prelude.{◌≡◌, ◌≤◌, ◌+◌, true, length, IfOk, OnOk, OnErr, IfSome, IsErrOf, ℕ, List};
+ghost use Rattle.std.specs.Io.KnownBytes.{Appends, Consumes};
+ghost use Rattle.bt_script.specs.Streams.{AppendsPrefix, FailsToGive, has_failed, source_of};
+
+use crate::counted::Counted;
+use std::alloc::{AllocError, Global};
+use std::io::{Read, Write};
+use thiserror::Error;
+
+/// The most bytes that a script may have, 64 MiB.
+pub const SCRIPT_LIMIT: usize = 67_108_864;
+
+// How many bytes one read asks for.
+const PIECE_SIZE: usize = 65_536;
+
+/// Why a run ends early.
+#[derive(Debug, Drop, Error)]
+pub enum RunFault {
+    /// A read failed, the file of the script did not open, or the script is longer than [`SCRIPT_LIMIT`].
+    #[error("read failed")]
+    Read,
+    /// A write or a flush failed.
+    #[error("write failed")]
+    Write,
+    /// A request for memory was refused.
+    #[error("out of memory")]
+    OutOfMemory,
+}
+
+impl From<AllocError> for RunFault {
+    ghost use Rattle.std.specs.Prelude.{◌≡◌};
+    ghost use Rattle.bt_script.specs.declared.streams.RunFault.TheVariants.{OutOfMemory};
+
+    ghost from_gives = { λ _ e. e ≡ OutOfMemory };
+
+    fn from(_e: AllocError) -> RunFault {
+        RunFault::OutOfMemory
+    }
+}
+
+/// All bytes that the reader has left, at most [`SCRIPT_LIMIT`] of them. An error of the reader is not tried again,
+/// also not an interrupted read.
+pub fn read_script<R: Read>(alloc: Global, reader: &mut Counted<R>) -> Result<Vec<u8>, RunFault>
+    ensures ok { IfOk result (λ script. Consumes (R.remaining (source_of reader.old)) (R.remaining (source_of reader.new)) script.items) }
+    ensures whole { IfOk result (λ script. IfSome (R.remaining (source_of reader.old)) (λ bytes. bytes ≡ script.items)) }
+    ensures short { IfOk result (λ script. length script.items ≤ SCRIPT_LIMIT) }
+    // No more than one byte past the limit is read, also before an error.
+    ensures at_most { (bytes : List ℕ) × (length bytes ≤ SCRIPT_LIMIT + 1) × Consumes (R.remaining (source_of reader.old)) (R.remaining (source_of reader.new)) bytes }
+    ensures read { IsErrOf result RunFault.Read → FailsToGive (has_failed reader.new) (R.remaining (source_of reader.old)) SCRIPT_LIMIT }
+    ensures write { IsErrOf result RunFault.Write → ⊥ }
+    ensures failed { OnOk result (has_failed reader.new ≡ has_failed reader.old) }
+{
+    let mut script = Vec::new(alloc);
+    let mut piece = [0u8; PIECE_SIZE];
+    while script.len() <= SCRIPT_LIMIT {
+        let room = piece.len().min(SCRIPT_LIMIT + 1 - script.len());
+        let Ok(taken) = reader.read(&mut piece[..room]) else {
+            return Err(RunFault::Read);
+        };
+        if taken == 0 {
+            return Ok(script);
+        }
+        script.extend_from_slice(&piece[..taken])?;
+    }
+    Err(RunFault::Read)
+}
+
+/// Writes all of the text. After an error a prefix of it is written. A write that fails is not tried again.
+pub fn write_text<W: Write>(writer: &mut Counted<W>, text: &[u8]) -> Result<(), RunFault>
+    ensures ok { OnOk result (Appends (W.contents (source_of writer.old)) (W.contents (source_of writer.new)) text.now) }
+    ensures err { OnErr result (AppendsPrefix (W.contents (source_of writer.old)) (W.contents (source_of writer.new)) text.now) }
+    ensures fault { OnErr result (IsErrOf result RunFault.Write × (has_failed writer.new ≡ true)) }
+    ensures failed { OnOk result (has_failed writer.new ≡ has_failed writer.old) }
+{
+    let mut at = 0;
+    while at < text.len() {
+        match writer.write(&text[at..]) {
+            Ok(taken) if taken > 0 => at += taken,
+            _ => return Err(RunFault::Write),
+        }
+    }
+    Ok(())
+}

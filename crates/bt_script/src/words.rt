@@ -1,0 +1,94 @@
+//! The words of the command line.
+ghost use Rattle.std.specs.Prelude.{◌≡◌, [], IfOk, IfErr, OnOk, codes, map, option_map, string_bytes};
+ghost use Rattle.clap.specs.Words.{FailsBy, app_of, first_of, first_value, found_of, kind_of, rows_of};
+ghost use Rattle.bt_script.specs.Options.{ComesOf, HasFault, betable, kinds_of_words, rows_of_words};
+
+use bt_rowtype::Texts;
+use clap::error::ErrorKind;
+use clap::{Arg, ArgAction, ArgMatches, Command, Error};
+use std::alloc::{AllocError, Global};
+
+/// What the words say.
+#[derive(Debug, Drop)]
+pub struct Words {
+    /// The file of the script, where one is named. Otherwise the script is the standard input.
+    pub script: Option<String>,
+}
+
+/// Why the words say nothing to run.
+#[derive(Debug, Drop)]
+pub enum WordsError {
+    /// An unknown option, an option twice or without its value, or a word too many.
+    Faulty,
+    /// The words ask for help, with the text to print.
+    Help(String),
+    /// A request for memory was refused.
+    OutOfMemory,
+}
+
+// The program's command line.
+fn command<'a>(alloc: Global) -> Result<Command<'a>, AllocError>
+    ensures { IfOk result (λ command. app_of command ≡ betable) }
+{
+    let script = Arg::new(alloc, "script")
+        .long("script")
+        .action(ArgAction::Set)
+        .value_name("FILE")
+        .help("Reads the script from FILE and not from standard input");
+    Command::new(alloc, "betable")
+        .about("Runs a script of table commands")
+        .arg(script)
+}
+
+// What clap finds in the words.
+#[tactic(auto, unfolding(crate::specs::Options::kinds_of_words))]
+fn parse<'a>(alloc: Global, words: &'a [String]) -> Result<ArgMatches<'a>, Error>
+    ensures rows { IfOk result (λ matches. rows_of (found_of matches) ≡ rows_of_words (map string_bytes words.entry.now)) }
+    ensures kinds { FailsBy (kinds_of_words (map string_bytes words.entry.now)) result }
+{
+    command(alloc)?.try_get_matches_from(words)
+}
+
+// The text of an option, where it is given.
+fn text_of(
+    alloc: Global,
+    matches: &ArgMatches<'_>,
+    name: &str,
+) -> Result<Option<String>, AllocError>
+    ensures { IfOk result (λ text. option_map string_bytes text ≡ first_value (found_of matches.now) name.now) }
+{
+    match matches.get_str(name) {
+        Some(text) => Ok(Some(String::from_str(alloc, text)?)),
+        None => Ok(None),
+    }
+}
+
+// What an error of clap says.
+fn fault_of(alloc: Global, error: &Error) -> WordsError
+    ensures { ComesOf (kind_of error.now) result }
+{
+    match error.kind() {
+        ErrorKind::OutOfMemory => WordsError::OutOfMemory,
+        ErrorKind::DisplayHelp => match format!(in alloc; "{error}") {
+            Ok(text) => WordsError::Help(text),
+            Err(_) => WordsError::OutOfMemory,
+        },
+        _ => WordsError::Faulty,
+    }
+}
+
+/// What the words of the command line say, the program's name first.
+pub fn read_words(alloc: Global, words: &Texts) -> Result<Words, WordsError>
+    ensures script { IfOk result (λ said. option_map string_bytes said.script ≡ first_of (codes "script") (rows_of_words words.now)) }
+    ensures ok { OnOk result (kinds_of_words words.now ≡ []) }
+    ensures err { IfErr result (λ error. HasFault words.now error) }
+{
+    let matches = match parse(alloc, words.as_slice()) {
+        Ok(matches) => matches,
+        Err(error) => return Err(fault_of(alloc, &error)),
+    };
+    let Ok(script) = text_of(alloc, &matches, "script") else {
+        return Err(WordsError::OutOfMemory);
+    };
+    Ok(Words { script })
+}

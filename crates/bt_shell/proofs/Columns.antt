@@ -1,7 +1,0 @@
--- Going over the words of columns one by one.
-use Rattle.std.proofs.Common.{List, ◌++◌, Option}
-use Rattle.std.specs.Prelude.{option_map}
-
--- those at the front and then others, where those are there
-abbrev pub behind : {A : Type 0} → List A → Option (List A) → Option (List A)
-behind front rest = option_map (λ xs. front ++ xs) rest

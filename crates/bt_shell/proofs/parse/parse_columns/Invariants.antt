@@ -1,8 +1,0 @@
-use Rattle.std.proofs.Common.{◌≡◌, map, drop}
-use Rattle.bt_shell.specs.Commands.{all_some, column_of}
-use Rattle.bt_shell.proofs.Columns.{behind}
-use Rattle.bt_shell.proofs.parse.parse_columns.Given as goal
-
--- the columns so far stand before those of the words from here on
-abbrev pub invariant-loop-word : goal.invariant-loop-word
-invariant-loop-word l = all_some (map column_of (map (λ w. w.now) l.words)) ≡ behind l.columns (all_some (map column_of (map (λ w. w.now) (drop l.word-index l.words))))
