@@ -1,13 +1,16 @@
 pub mod Deals
 pub mod DrainLaws
 pub mod Drains
+pub mod Falls
 pub mod Fits
 pub mod Flushes
 pub mod Keys
+pub mod Kinds
 pub mod Laws
 pub mod Lookups
 pub mod Loops
 pub mod Messages
+pub mod Parts
 pub mod Plans
 pub mod Shapes
 pub mod Shares

@@ -1,11 +1,11 @@
 //! Nodes made of parts: rows dealt into leaves, children gathered under inner nodes.
-ghost use Rattle.std.specs.Prelude.{◌≡◌, ◌++◌, ◌∷◌, [], IfOk, OnOk};
+ghost use Rattle.std.specs.Prelude.{◌≡◌, ◌≤◌, ◌++◌, ◌∷◌, [], IfOk, OnOk, length};
 ghost use Rattle.bt_messages.specs.Messages.{IsSorted};
 ghost use Rattle.bt_node.specs.Flushes.{first_key, gathered, grouped, leaves, pivot_first};
-ghost use Rattle.bt_node.specs.Views.{children_of, siblings_of, tree_of, none_pending_of, pending_of};
+ghost use Rattle.bt_node.specs.Views.{children_of, none_pending_of, pending_of};
 
 use crate::deal::deal;
-use crate::node::{Child, Node};
+use crate::node::{Child, Node, Siblings};
 use crate::rows::Rows;
 use crate::shape::Shape;
 use bt_keycode::Key;
@@ -27,69 +27,51 @@ pub(crate) fn leaves<V: Merge>(
     alloc: Global,
     shape: Shape,
     rows: Rows<V>,
-) -> Result<Vec<(Key, Node<V>)>, AllocError>
-    ensures { IfOk result (λ nodes. siblings_of nodes.items ≡ leaves shape rows) }
+) -> Result<Siblings<V>, AllocError>
+    ensures { IfOk result (λ siblings. siblings ≡ leaves shape rows) }
 {
-    let mut parts = rows.deal(alloc, shape.leaf())?.into_iter();
-    let mut nodes = Vec::new(alloc);
+    let dealt = rows.deal(alloc, shape.leaf())?;
+    let count = dealt.len();
+    let mut parts = dealt.into_iter();
     let Some(first) = parts.next() else {
-        return Ok(nodes);
+        unreachable!()
     };
-    nodes.push((Key::new(), Node::Leaf(first)))?;
+    let mut siblings = Siblings::with_capacity(alloc, Node::leaf(first), count)?;
     for part in parts {
         let pivot = least_key(alloc, &part)?;
-        nodes.push((pivot, Node::Leaf(part)))?;
+        siblings.push(pivot, Node::leaf(part))?;
     }
-    Ok(nodes)
+    Ok(siblings)
 }
 
-// Adds a child, and what is pending for it behind what is pending for those before it.
+// Adds what is pending for a child behind what is pending for those before it.
 #[tactic(auto, using(crate::proofs::Gathering::added_last))]
-fn add_child<V: Merge>(
-    children: &mut Vec<(Key, Node<V>)>,
-    buffer: &mut Buffer<V>,
-    child: Child<V>,
-) -> Result<(), AllocError>
-    requires { IsSorted (buffer.old ++ child.pending) }
-    ensures child { OnOk result (siblings_of children.new.items ≡ siblings_of children.old.items ++ (child.pivot, tree_of child.node) ∷ []) }
-    ensures pending { OnOk result (buffer.new ≡ buffer.old ++ child.pending) }
+fn add_last<V: Merge>(buffer: &mut Buffer<V>, pending: Packet<V>) -> Result<(), AllocError>
+    requires { IsSorted (buffer.old ++ pending) }
+    ensures { OnOk result (buffer.new ≡ buffer.old ++ pending) }
 {
-    let Child {
-        pivot,
-        node,
-        pending,
-    } = child;
-    children.push((pivot, node))?;
-    buffer.add(pending)?;
-    Ok(())
+    buffer.add(pending)
 }
 
 // Neighbouring children under one inner node, behind the pivot of the first.
 fn gather<V: Merge>(alloc: Global, part: Vec<Child<V>>) -> Result<(Key, Node<V>), AllocError>
+    requires some { 1 ≤ length part.items }
     requires sorted { IsSorted (pending_of part.items) }
-    ensures { IfOk result (λ node. (node.0, tree_of node.1) ≡ gathered (children_of part.items)) }
+    ensures { IfOk result (λ node. (node.0, node.1) ≡ gathered (children_of part.items)) }
 {
-    let mut children = Vec::with_capacity(alloc, part.len())?;
-    let mut buffer = Buffer::new(alloc);
+    let count = part.len();
     let mut part = part.into_iter();
     let Some(first) = part.next() else {
-        return Ok((Key::new(), Node::Inner { children, buffer }));
+        unreachable!()
     };
-    let Child {
-        pivot,
-        node,
-        pending,
-    } = first;
-    let first = Child {
-        pivot: Key::new(),
-        node,
-        pending,
-    };
-    add_child(&mut children, &mut buffer, first)?;
+    let mut children = Siblings::with_capacity(alloc, first.node, count)?;
+    let mut buffer = Buffer::new(alloc);
+    add_last(&mut buffer, first.pending)?;
     for child in part {
-        add_child(&mut children, &mut buffer, child)?;
+        children.push(child.pivot, child.node)?;
+        add_last(&mut buffer, child.pending)?;
     }
-    Ok((pivot, Node::Inner { children, buffer }))
+    Ok((first.pivot, Node::inner(children, buffer)))
 }
 
 /// The children dealt by the fanout, each part under an inner node.
@@ -97,39 +79,24 @@ pub(crate) fn group<V: Merge>(
     alloc: Global,
     shape: Shape,
     children: Vec<Child<V>>,
-) -> Result<Vec<(Key, Node<V>)>, AllocError>
-    requires { IsSorted (pending_of children.items) }
-    ensures { IfOk result (λ nodes. siblings_of nodes.items ≡ grouped shape (children_of children.items)) }
+) -> Result<Siblings<V>, AllocError>
+    requires some { 1 ≤ length children.items }
+    requires sorted { IsSorted (pending_of children.items) }
+    ensures { IfOk result (λ siblings. siblings ≡ grouped shape (children_of children.items)) }
 {
-    let mut parts = deal(alloc, children, shape.fanout())?.into_iter();
-    let mut nodes = Vec::new(alloc);
+    let dealt = deal(alloc, children, shape.fanout())?;
+    let count = dealt.len();
+    let mut parts = dealt.into_iter();
     let Some(first) = parts.next() else {
-        return Ok(nodes);
+        unreachable!()
     };
     let (_, node) = gather(alloc, first)?;
-    nodes.push((Key::new(), node))?;
+    let mut siblings = Siblings::with_capacity(alloc, node, count)?;
     for part in parts {
-        nodes.push(gather(alloc, part)?)?;
+        let (pivot, node) = gather(alloc, part)?;
+        siblings.push(pivot, node)?;
     }
-    Ok(nodes)
-}
-
-/// Adds a child for which nothing is pending.
-pub(crate) fn add_part<V: Merge>(
-    alloc: Global,
-    children: &mut Vec<Child<V>>,
-    pivot: Key,
-    node: Node<V>,
-) -> Result<(), AllocError>
-    ensures { OnOk result (children_of children.new.items ≡ children_of children.old.items ++ none_pending_of ((pivot, tree_of node) ∷ [])) }
-{
-    let pending = Packet::new(alloc);
-    children.push(Child {
-        pivot,
-        node,
-        pending,
-    })?;
-    Ok(())
+    Ok(siblings)
 }
 
 /// Adds the parts that a child became, the first of them behind its pivot. Nothing is pending for them.
@@ -137,17 +104,18 @@ pub(crate) fn add_parts<V: Merge>(
     alloc: Global,
     children: &mut Vec<Child<V>>,
     pivot: Key,
-    parts: Vec<(Key, Node<V>)>,
+    parts: Siblings<V>,
 ) -> Result<(), AllocError>
-    ensures { OnOk result (children_of children.new.items ≡ children_of children.old.items ++ none_pending_of (pivot_first pivot (siblings_of parts.items))) }
+    ensures { OnOk result (children_of children.new.items ≡ children_of children.old.items ++ none_pending_of (pivot_first pivot parts)) }
 {
-    let mut parts = parts.into_iter();
-    let Some((_, first)) = parts.next() else {
-        return Ok(());
-    };
-    add_part(alloc, children, pivot, first)?;
-    for (pivot, node) in parts {
-        add_part(alloc, children, pivot, node)?;
+    let mut parts = parts.into_pairs(pivot);
+    while let Some((pivot, node)) = parts.next() {
+        let pending = Packet::new(alloc);
+        children.push(Child {
+            pivot,
+            node,
+            pending,
+        })?;
     }
     Ok(())
 }

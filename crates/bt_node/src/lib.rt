@@ -37,8 +37,6 @@ mod lookup;
 mod node;
 mod planning;
 mod rows;
-#[cfg(test)]
-mod samples;
 mod shape;
 mod share;
 mod tree;
@@ -51,5 +49,6 @@ pub use laws::{
 };
 pub use planning::plan;
 pub use shape::Shape;
-pub use tree::{Siblings, Subtree as Node, Tree, absorb_alone, crown};
+pub use node::{Node, Parts, Siblings};
+pub use tree::{Tree, absorb_alone, crown};
 pub use walk::Walk;

@@ -84,29 +84,3 @@ pub(crate) fn flush_marks(
     }
     Ok(marks)
 }
-
-#[cfg(test)]
-mod tests {
-    use super::*;
-    use std::test::Fail;
-
-    #[test]
-    fn plans(rt: HostRuntime) -> Result<(), Fail> {
-        let alloc = rt.alloc();
-        let table: [(&[u64], u64, &[usize]); 6] = [
-            (&[4, 2, 2], 3, &[0, 1]),
-            (&[1, 3, 3, 2], 4, &[1, 2]),
-            (&[0, 0], 3, &[]),
-            (&[], 0, &[]),
-            (&[1, 0, 2], 0, &[2, 0]),
-            (&[u64::MAX, u64::MAX], u64::MAX, &[0]),
-        ];
-        for (counts, capacity, places) in table {
-            let planned = plan(alloc, counts, capacity)?;
-            assert_eq!(rt; planned.as_slice(), places);
-        }
-        let marks = flush_marks(alloc, &[1, 3, 3, 2], 4)?;
-        assert_eq!(rt; marks.as_slice(), [false, true, true, false].as_slice());
-        Ok(())
-    }
-}

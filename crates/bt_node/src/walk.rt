@@ -1,9 +1,8 @@
 //! What can be seen of a tree, node by node.
 ghost use Rattle.std.specs.Prelude.{◌≡◌, ◌<◌, Some, length, option_map, slice_get};
-ghost use Rattle.bt_node.specs.Views.{tree_of};
 ghost use Rattle.bt_node.specs.Walks as walk;
 
-use crate::node::Node;
+use crate::node::{Kind, Node};
 use bt_keycode::Key;
 use bt_messages::{Merge, Message};
 use std::marker::Model;
@@ -23,14 +22,12 @@ impl<'a, V: Merge> Model for Walk<'a, V> {
 
     ghost coded = { tree_code V.code (message_code V.code V.Delta.code) };
 
-    ghost use Rattle.bt_node.specs.Views.{tree_of};
-
-    ghost view = { λ w. tree_of w.node.now };
+    ghost view = { λ w. w.node.now };
 }
 
 impl<'a, V: Merge> Walk<'a, V> {
     pub(crate) fn new(node: &'a Node<V>) -> Self
-        ensures { result ≡ tree_of node.now }
+        ensures { result ≡ node.now }
     {
         Walk { node }
     }
@@ -39,9 +36,9 @@ impl<'a, V: Merge> Walk<'a, V> {
     pub fn is_leaf(&self) -> bool
         ensures { result ≡ walk.is_leaf self.now }
     {
-        match self.node {
-            Node::Leaf(_) => true,
-            Node::Inner { .. } => false,
+        match self.node.kind() {
+            Kind::Leaf(_) => true,
+            Kind::Inner { .. } => false,
         }
     }
 
@@ -49,9 +46,9 @@ impl<'a, V: Merge> Walk<'a, V> {
     pub fn row_count(&self) -> usize
         ensures { result ≡ length (walk.rows_of self.now) }
     {
-        match self.node {
-            Node::Leaf(rows) => rows.len(),
-            Node::Inner { .. } => 0,
+        match self.node.kind() {
+            Kind::Leaf(rows) => rows.len(),
+            Kind::Inner { .. } => 0,
         }
     }
 
@@ -60,9 +57,9 @@ impl<'a, V: Merge> Walk<'a, V> {
         requires { place < length (walk.rows_of self.now) }
         ensures { slice_get (walk.rows_of self.now) place ≡ Some (result.0.now, result.1.now) }
     {
-        match self.node {
-            Node::Leaf(rows) => rows.get(place),
-            Node::Inner { .. } => unreachable!(),
+        match self.node.kind() {
+            Kind::Leaf(rows) => rows.get(place),
+            Kind::Inner { .. } => unreachable!(),
         }
     }
 
@@ -70,9 +67,9 @@ impl<'a, V: Merge> Walk<'a, V> {
     pub fn message_count(&self) -> usize
         ensures { result ≡ length (walk.messages_of self.now) }
     {
-        match self.node {
-            Node::Leaf(_) => 0,
-            Node::Inner { buffer, .. } => buffer.count(),
+        match self.node.kind() {
+            Kind::Leaf(_) => 0,
+            Kind::Inner { buffer, .. } => buffer.count(),
         }
     }
 
@@ -81,9 +78,9 @@ impl<'a, V: Merge> Walk<'a, V> {
         requires { place < length (walk.messages_of self.now) }
         ensures { slice_get (walk.messages_of self.now) place ≡ Some (result.0.now, result.1.now) }
     {
-        match self.node {
-            Node::Leaf(_) => unreachable!(),
-            Node::Inner { buffer, .. } => buffer.get(place),
+        match self.node.kind() {
+            Kind::Leaf(_) => unreachable!(),
+            Kind::Inner { buffer, .. } => buffer.get(place),
         }
     }
 
@@ -91,9 +88,9 @@ impl<'a, V: Merge> Walk<'a, V> {
     pub fn child_count(&self) -> usize
         ensures { result ≡ length (walk.children_of self.now) }
     {
-        match self.node {
-            Node::Leaf(_) => 0,
-            Node::Inner { children, .. } => children.len(),
+        match self.node.kind() {
+            Kind::Leaf(_) => 0,
+            Kind::Inner { children, .. } => children.len(),
         }
     }
 
@@ -102,11 +99,10 @@ impl<'a, V: Merge> Walk<'a, V> {
         requires { place < length (walk.children_of self.now) }
         ensures { option_map (λ x. x.1) (slice_get (walk.children_of self.now) place) ≡ Some result }
     {
-        match self.node {
-            Node::Leaf(_) => unreachable!(),
-            Node::Inner { children, .. } => {
-                let child = &children[place];
-                Walk::new(&child.1)
+        match self.node.kind() {
+            Kind::Leaf(_) => unreachable!(),
+            Kind::Inner { children, .. } => {
+                Walk::new(&children.nodes()[place])
             }
         }
     }
@@ -116,9 +112,9 @@ impl<'a, V: Merge> Walk<'a, V> {
         requires { place < length (walk.children_of self.now) }
         ensures { option_map (λ x. x.0) (slice_get (walk.children_of self.now) place) ≡ Some result.now }
     {
-        match self.node {
-            Node::Leaf(_) => unreachable!(),
-            Node::Inner { children, .. } => {
+        match self.node.kind() {
+            Kind::Leaf(_) => unreachable!(),
+            Kind::Inner { children, .. } => {
                 let child = &children[place];
                 &child.0
             }
