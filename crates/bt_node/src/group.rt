@@ -44,7 +44,7 @@ pub(crate) fn leaves<V: Merge>(
 }
 
 // Adds a child, and what is pending for it behind what is pending for those before it.
-#[tactic(auto, using(crate::proofs::Gathering::added_last))]
+#[tactic(auto, using(crate::proofs::lemmas::code::GroupLoops::added_last))]
 fn add_child<V: Merge>(
     children: &mut Vec<(Key, Node<V>)>,
     buffer: &mut Buffer<V>,
