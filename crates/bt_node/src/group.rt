@@ -45,7 +45,7 @@ pub(crate) fn leaves<V: Merge>(
 }
 
 // Adds what is pending for a child behind what is pending for those before it.
-#[tactic(auto, using(crate::proofs::Gathering::added_last))]
+#[tactic(auto, using(crate::proofs::lemmas::code::GroupLoops::added_last))]
 fn add_last<V: Merge>(buffer: &mut Buffer<V>, pending: Packet<V>) -> Result<(), AllocError>
     requires { IsSorted (buffer.old ++ pending) }
     ensures { OnOk result (buffer.new ≡ buffer.old ++ pending) }

@@ -63,7 +63,7 @@ pub fn absorb_alone<V: Merge>(
 }
 
 /// The tree whose root stands above these siblings, and holds what they hold. An `Err` keeps nothing of them.
-#[tactic(auto, using(crate::proofs::ShapedTrees::crown_has_shape))]
+#[tactic(auto, using(crate::proofs::lemmas::crowns::ShapedTrees::crown_has_shape))]
 pub fn crown<V: Merge>(
     alloc: Global,
     shape: Shape,

@@ -10,9 +10,9 @@ use Rattle.bt_node.specs.Messages.{rows_after}
 use Rattle.bt_node.specs.Trees.{Shape}
 use Rattle.bt_rowtype.specs.Schemas.{Schema}
 use Rattle.bt_shell.specs.Tables.{RowMessages, RowTree, TableState, after_batch, row_effect}
-use Rattle.bt_node.proofs.Flushing.{sunk_fits, sunk_loses_nothing}
-use Rattle.bt_node.proofs.Held.{holds-lie}
-use Rattle.bt_node.proofs.RowsAfter.{rows-sorted}
+use Rattle.bt_node.proofs.lemmas.flushes.Laws.{sunk_fits, sunk_loses_nothing}
+use Rattle.bt_node.proofs.lemmas.flushes.RowsKept.{holds-lie}
+use Rattle.bt_node.proofs.lemmas.rows.RowsAfter.{rows-sorted}
 
 -- a tree that fits holds rows by rising key
 held_sorted : (shape : Shape) (t : RowTree) → IsFit shape t → T (is_sorted key_cmp (holds row_effect t))

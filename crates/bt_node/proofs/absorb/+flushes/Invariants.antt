@@ -4,7 +4,7 @@ use Rattle.std.specs.Vec.Iter.{into_iter_items}
 use Rattle.bt_node.specs.Shares.{with_shares}
 use Rattle.bt_node.specs.Trees.{height}
 use Rattle.bt_node.specs.Views.{children_of, tree_of}
-use Rattle.bt_node.proofs.Absorbing.{highest, pass}
+use Rattle.bt_node.proofs.lemmas.code.AbsorbStep.{highest, pass}
 use Rattle.bt_node.proofs.absorb.+flushes.Given as goal
 
 -- the children so far, and then what the pass makes of those that are left

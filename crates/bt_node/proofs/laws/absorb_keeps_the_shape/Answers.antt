@@ -1,5 +1,5 @@
 use Rattle.bt_messages.specs.Effects.{effect_of}
-use Rattle.bt_node.proofs.Flushing.{absorb_fits, absorb_keeps_height}
+use Rattle.bt_node.proofs.lemmas.flushes.Laws.{absorb_fits, absorb_keeps_height}
 use Rattle.bt_node.proofs.laws.absorb_keeps_the_shape.Goals as goal
 
 pub returns-clause-fits : goal.returns-clause-fits

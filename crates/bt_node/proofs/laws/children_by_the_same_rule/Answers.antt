@@ -1,5 +1,5 @@
 use Rattle.bt_messages.specs.Effects.{effect_of}
-use Rattle.bt_node.proofs.Recursion.{absorb_recurs, drain_recurs}
+use Rattle.bt_node.proofs.lemmas.flushes.Recursion.{absorb_recurs, drain_recurs}
 use Rattle.bt_node.proofs.laws.children_by_the_same_rule.Goals as goal
 
 pub returns-clause-absorbed : goal.returns-clause-absorbed

@@ -1,5 +1,5 @@
 use Rattle.bt_messages.specs.Effects.{effect_of}
-use Rattle.bt_node.proofs.Flushing.{crown_loses_nothing, crown_fits}
+use Rattle.bt_node.proofs.lemmas.flushes.Laws.{crown_loses_nothing, crown_fits}
 use Rattle.bt_node.proofs.laws.crown_keeps_all.Goals as goal
 
 pub returns-clause-same_rows : goal.returns-clause-same_rows

@@ -1,5 +1,5 @@
 use Rattle.bt_messages.specs.Effects.{effect_of}
-use Rattle.bt_node.proofs.Drains.{drained_keeps_all, drained_fits, drained_is_dry, tree_keeps_all, tree_fits, tree_is_dry}
+use Rattle.bt_node.proofs.lemmas.flushes.Drains.{drained_keeps_all, drained_fits, drained_is_dry, tree_keeps_all, tree_fits, tree_is_dry}
 use Rattle.bt_node.proofs.laws.drain_keeps_all.Goals as goal
 
 pub returns-clause-same_rows : goal.returns-clause-same_rows

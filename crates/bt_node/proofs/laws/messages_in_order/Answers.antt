@@ -1,5 +1,5 @@
 use Rattle.bt_messages.specs.Effects.{effect_of}
-use Rattle.bt_node.proofs.Packets.{messages_find_their_key, packet_comes_later}
+use Rattle.bt_node.proofs.lemmas.rows.Packets.{messages_find_their_key, packet_comes_later}
 use Rattle.bt_node.proofs.laws.messages_in_order.Goals as goal
 
 pub returns-clause-by_key : goal.returns-clause-by_key

@@ -1,5 +1,5 @@
 use Rattle.bt_messages.specs.Effects.{effect_of}
-use Rattle.bt_node.proofs.Drains.{packed_keeps_all, rebuilt_keeps_all, rebuilt_fits, packed_fits, packed_is_dry}
+use Rattle.bt_node.proofs.lemmas.flushes.Drains.{packed_keeps_all, rebuilt_keeps_all, rebuilt_fits, packed_fits, packed_is_dry}
 use Rattle.bt_node.proofs.laws.pack_keeps_all.Goals as goal
 
 pub returns-clause-same_rows : goal.returns-clause-same_rows

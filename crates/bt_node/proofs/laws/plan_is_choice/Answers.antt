@@ -1,5 +1,5 @@
-use Rattle.bt_node.proofs.Flushing.{chosen_are_planned, loop_is_one_pass}
-use Rattle.bt_node.proofs.Plans.{renewed-planned}
+use Rattle.bt_node.proofs.lemmas.flushes.Laws.{chosen_are_planned, loop_is_one_pass}
+use Rattle.bt_node.proofs.lemmas.plans.RenewedChoice.{renewed-planned}
 use Rattle.bt_node.proofs.laws.plan_is_choice.Goals as goal
 
 pub returns-clause-same_places : goal.returns-clause-same_places

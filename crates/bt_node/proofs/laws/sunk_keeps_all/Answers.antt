@@ -1,5 +1,5 @@
 use Rattle.bt_messages.specs.Effects.{effect_of}
-use Rattle.bt_node.proofs.Flushing.{sunk_loses_nothing, sunk_fits, sinks_nothing}
+use Rattle.bt_node.proofs.lemmas.flushes.Laws.{sunk_loses_nothing, sunk_fits, sinks_nothing}
 use Rattle.bt_node.proofs.laws.sunk_keeps_all.Goals as goal
 
 pub returns-clause-same_rows : goal.returns-clause-same_rows

@@ -3,8 +3,8 @@ use Rattle.bt_messages.specs.Effects.{effect_of}
 use Rattle.bt_messages.specs.Messages.{AllFrom}
 use Rattle.bt_node.specs.Keys.{key_cmp}
 use Rattle.bt_node.specs.Messages.{value_after}
-use Rattle.bt_node.proofs.Paths.{all_from, none_left, one_more, rest_from, rest_rising, rising-drop, value_after-from}
-use Rattle.bt_node.proofs.Pending.{sorted-rising}
+use Rattle.bt_node.proofs.lemmas.code.LookupPath.{all_from, none_left, one_more, rest_from, rest_rising, rising-drop, value_after-from}
+use Rattle.bt_node.proofs.lemmas.flushes.PendingOrder.{sorted-rising}
 use Rattle.bt_node.proofs.lookup.after_messages.Goals as goal
 
 pub loop-place-init : goal.loop-place-init

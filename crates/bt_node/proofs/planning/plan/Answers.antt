@@ -1,5 +1,5 @@
 use Rattle.std.proofs.Common.{sym, ◌∙◌, arith}
-use Rattle.bt_node.proofs.Choices.{planned-within}
+use Rattle.bt_node.proofs.lemmas.code.ChoiceLoop.{planned-within}
 use Rattle.bt_node.proofs.planning.plan.Goals as goal
 
 pub returns-then-pending-from : goal.returns-then-pending-from

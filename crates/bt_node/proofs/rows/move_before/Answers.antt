@@ -1,6 +1,6 @@
 use Rattle.std.proofs.Common.{◌≡◌, ◌∙◌, ◌++◌, false, append-nil, ap, sym, rules}
 use Rattle.bt_node.specs.Keys.{key_lt}
-use Rattle.bt_node.proofs.RowPass.{stops_at}
+use Rattle.bt_node.proofs.lemmas.code.RowPass.{stops_at}
 use Rattle.bt_node.proofs.rows.move_before.Goals as goal
 
 pub returns-then-ne-clause-moved : goal.returns-then-ne-clause-moved

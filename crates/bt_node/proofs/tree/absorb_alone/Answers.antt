@@ -3,7 +3,7 @@ use Rattle.bt_messages.specs.Effects.{effect_of}
 use Rattle.bt_node.specs.Fits.{AreHigh, SiblingsFit}
 use Rattle.bt_node.specs.Flushes.{absorb, all_hold}
 use Rattle.bt_node.specs.Trees.{height}
-use Rattle.bt_node.proofs.Flushing.{absorb_fits, absorb_keeps_height, absorb_loses_nothing}
+use Rattle.bt_node.proofs.lemmas.flushes.Laws.{absorb_fits, absorb_keeps_height, absorb_loses_nothing}
 use Rattle.bt_node.proofs.tree.absorb_alone.Goals as goal
 
 pub returns-clause-fits : goal.returns-clause-fits

@@ -3,8 +3,8 @@ use Rattle.std.specs.declared.option.Option.TheVariants.{None}
 use Rattle.bt_messages.specs.Effects.{effect_of}
 use Rattle.bt_node.specs.Fits.{IsRoomy}
 use Rattle.bt_node.specs.Flushes.{crown, holds}
-use Rattle.bt_node.proofs.Flushing.{crown_loses_nothing}
-use Rattle.bt_node.proofs.ShapedTrees.{has_room}
+use Rattle.bt_node.proofs.lemmas.flushes.Laws.{crown_loses_nothing}
+use Rattle.bt_node.proofs.lemmas.crowns.ShapedTrees.{has_room}
 use Rattle.bt_node.proofs.tree.crown.Goals as goal
 
 pub returns-clause-rows : goal.returns-clause-rows

@@ -1,0 +1,5 @@
+-- Rows and messages: values at keys, and what messages make of rows.
+pub mod Buffers
+pub mod Packets
+pub mod RowsAfter
+pub mod Values
