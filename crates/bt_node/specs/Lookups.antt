@@ -20,7 +20,7 @@ module _ {V M : Type 0} (effect : Option V → M → Option V) where
     value_below k (node p t none) = value_at k t
     value_below k (node p t (node q u ns)) = cond (key_lt k q) (value_at k t) (value_below k (node q u ns))
 
--- how many of the first siblings have a pivot that is at most a key
-abbrev pub pivots_up_to : {X : Type 0} → Key → List (Key × X) → ℕ
+-- how many of the first pivots are at most a key
+abbrev pub pivots_up_to : Key → List Key → ℕ
 pivots_up_to k [] = 0
-pivots_up_to k (x ∷ xs) = cond (key_lt k x.0) 0 (suc (pivots_up_to k xs))
+pivots_up_to k (p ∷ ps) = cond (key_lt k p) 0 (suc (pivots_up_to k ps))

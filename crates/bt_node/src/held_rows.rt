@@ -3,9 +3,8 @@ ghost use Rattle.std.specs.Prelude.{◌≡◌, IfOk};
 ghost use Rattle.bt_messages.specs.Effects.{effect_of};
 ghost use Rattle.bt_node.specs.Fits.{IsInOrder};
 ghost use Rattle.bt_node.specs.Flushes.{holds};
-ghost use Rattle.bt_node.specs.Views.{tree_of};
 
-use crate::node::Node;
+use crate::node::{Kind, Node};
 use crate::rows::Rows;
 use bt_messages::Merge;
 use std::alloc::{AllocError, Global};
@@ -14,14 +13,14 @@ use std::alloc::{AllocError, Global};
 ///
 /// Keys and values are copied once, from leaves or buffers; above that, they are moved.
 pub(crate) fn held_rows<V: Merge>(alloc: Global, node: &Node<V>) -> Result<Rows<V>, AllocError>
-    requires { IsInOrder (tree_of node.now) }
-    ensures { IfOk result (λ rows. rows ≡ holds (effect_of V.merged) (tree_of node.now)) }
+    requires { IsInOrder node.now }
+    ensures { IfOk result (λ rows. rows ≡ holds (effect_of V.merged) node.now) }
 {
-    match node {
-        Node::Leaf(rows) => rows.copy(alloc),
-        Node::Inner { children, buffer } => {
+    match node.kind() {
+        Kind::Leaf(rows) => rows.copy(alloc),
+        Kind::Inner { children, buffer } => {
             let mut below = Vec::new(alloc);
-            for (_, child) in children {
+            for child in children.nodes() {
                 let mut rows = held_rows(alloc, child)?.into_vec();
                 below.append(&mut rows)?;
             }

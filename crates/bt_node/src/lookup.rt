@@ -4,9 +4,8 @@ ghost use Rattle.std.specs.Option.{option_copied};
 ghost use Rattle.bt_messages.specs.Effects.{effect_of};
 ghost use Rattle.bt_node.specs.Lookups.{pivots_up_to, value_at};
 ghost use Rattle.bt_node.specs.Messages.{value_after};
-ghost use Rattle.bt_node.specs.Views.{tree_of};
 
-use crate::node::Node;
+use crate::node::{Kind, Node};
 use bt_keycode::Key;
 use bt_messages::{Buffer, Merge, effect};
 use std::alloc::{AllocError, Global};
@@ -22,17 +21,17 @@ fn copied<V: Merge>(alloc: Global, value: Option<&V>) -> Result<Option<V>, Alloc
     }
 }
 
-// How many of these children have a pivot that is at most the key.
-fn pivots_up_to<V: Merge>(children: &[(Key, Node<V>)], key: &Key) -> usize
-    ensures count { result ≡ pivots_up_to key.now children.now }
-    ensures bound { result ≤ length children.now }
+// How many of these pivots are at most the key.
+fn pivots_up_to(pivots: &[Key], key: &Key) -> usize
+    ensures count { result ≡ pivots_up_to key.now pivots.now }
+    ensures bound { result ≤ length pivots.now }
 {
-    for (place, (pivot, _)) in children.iter().enumerate() {
+    for (place, pivot) in pivots.iter().enumerate() {
         if key.compare(pivot) == Ordering::Less {
             return place;
         }
     }
-    children.len()
+    pivots.len()
 }
 
 // What the messages to a key make of the value there.
@@ -62,16 +61,13 @@ pub(crate) fn value_at<V: Merge>(
     node: &Node<V>,
     key: &Key,
 ) -> Result<Option<V>, AllocError>
-    ensures { IfOk result (λ value. value ≡ value_at (effect_of V.merged) key.now (tree_of node.now)) }
+    ensures { IfOk result (λ value. value ≡ value_at (effect_of V.merged) key.now node.now) }
 {
-    match node {
-        Node::Leaf(rows) => copied(alloc, rows.find(key)),
-        Node::Inner { children, buffer } => {
-            let [_, others @ ..] = children.as_slice() else {
-                return after_messages(alloc, buffer, key, None);
-            };
-            let child = &children[pivots_up_to(others, key)];
-            let old = value_at(alloc, &child.1, key)?;
+    match node.kind() {
+        Kind::Leaf(rows) => copied(alloc, rows.find(key)),
+        Kind::Inner { children, buffer } => {
+            let child = &children.nodes()[pivots_up_to(children.pivots(), key)];
+            let old = value_at(alloc, child, key)?;
             after_messages(alloc, buffer, key, old)
         }
     }

@@ -107,17 +107,15 @@ impl<'a, V: Merge> Walk<'a, V> {
         }
     }
 
-    /// The pivot before a child, counted from 0: of the first child the empty key.
+    /// The pivot before a child that is not the first, counted from 0.
     pub fn pivot(&self, place: usize) -> &'a Key
-        requires { place < length (walk.children_of self.now) }
+        requires not_first { 0 < place }
+        requires within { place < length (walk.children_of self.now) }
         ensures { option_map (λ x. x.0) (slice_get (walk.children_of self.now) place) ≡ Some result.now }
     {
         match self.node.kind() {
             Kind::Leaf(_) => unreachable!(),
-            Kind::Inner { children, .. } => {
-                let child = &children[place];
-                &child.0
-            }
+            Kind::Inner { children, .. } => &children.pivots()[place - 1],
         }
     }
 }

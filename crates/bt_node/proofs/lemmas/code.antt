@@ -10,4 +10,3 @@ pub mod RowPass
 pub mod RowSearch
 pub mod RowsOfChildren
 pub mod ShareLoop
-pub mod TreeOfNode

@@ -1,13 +1,14 @@
 use Rattle.std.proofs.Common.{◌≡◌, ◌++◌, map}
 use Rattle.bt_messages.specs.Messages.{IsSorted}
 use Rattle.bt_node.specs.Flushes.{gathered}
-use Rattle.bt_node.specs.Views.{children_of, siblings_of, pending_of}
-use Rattle.bt_node.proofs.lemmas.code.GroupLoops.{all_of}
+use Rattle.bt_node.specs.Views.{children_of, pending_of}
+use Rattle.bt_node.proofs.lemmas.code.GroupLoops.{all_of, parts_of}
+use Rattle.bt_node.proofs.lemmas.deals.Parts.{AllNonEmpty}
 use Rattle.bt_node.proofs.group.group.Given as goal
 
 abbrev pub invariant-loop-part : goal.invariant-loop-part
 invariant-loop-part g l = record {
-  nodes : siblings_of l.nodes.items ++ map (λ p. gathered (children_of p.items)) l.part-iterator.rest.items
-      ≡ siblings_of l.initial.nodes.items ++ map (λ p. gathered (children_of p.items)) l.initial.part-iterator.rest.items;
+  nodes : l.siblings ++ map (λ p. gathered (children_of p.items)) l.part-iterator.rest.items ≡ l.initial.siblings ++ map (λ p. gathered (children_of p.items)) l.initial.part-iterator.rest.items;
+  full : AllNonEmpty (parts_of l.part-iterator.rest.items);
   sorted : IsSorted (pending_of (all_of l.part-iterator.rest.items));
 }

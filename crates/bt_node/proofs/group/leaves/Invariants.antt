@@ -1,10 +1,9 @@
 use Rattle.std.proofs.Common.{◌≡◌, ◌++◌, map}
-use Rattle.bt_node.specs.Views.{siblings_of}
 use Rattle.bt_node.proofs.lemmas.flushes.Groups.{as_leaf}
 use Rattle.bt_messages.specs.declared.message.Message.{Message}
 use Rattle.bt_node.proofs.group.leaves.Given as goal
 
 abbrev pub invariant-loop-part : goal.invariant-loop-part
 invariant-loop-part g l =
-    siblings_of l.nodes.items ++ map (as_leaf (Message g.row.V.Denot g.row.V-Delta.Denot)) l.part-iterator.rest.items
-    ≡ siblings_of l.initial.nodes.items ++ map (as_leaf (Message g.row.V.Denot g.row.V-Delta.Denot)) l.initial.part-iterator.rest.items
+    l.siblings ++ map (as_leaf (Message g.row.V.Denot g.row.V-Delta.Denot)) l.part-iterator.rest.items
+    ≡ l.initial.siblings ++ map (as_leaf (Message g.row.V.Denot g.row.V-Delta.Denot)) l.initial.part-iterator.rest.items

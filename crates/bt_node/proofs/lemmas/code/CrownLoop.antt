@@ -1,17 +1,12 @@
 -- Siblings put under inner nodes, as the code does it: fewer, and with the same crown.
-use Rattle.std.proofs.Common.{◌≡◌, ◌<◌, ◌≤◌, List, [], ◌∷◌, ◌++◌, length, length-append, refl, sym, ap, subst, ◌∙◌, arith}
+use Rattle.std.proofs.Common.{◌≡◌, ◌<◌, ◌≤◌, List, [], ◌∷◌, length, refl, sym, ap, subst, ◌∙◌, arith}
 use Rattle.bt_messages.specs.Messages.{IsSorted}
 use Rattle.bt_messages.specs.declared.message.Message.{Message}
 use Rattle.bt_node.specs.declared.node.Child as code
-use Rattle.bt_node.specs.declared.node.Node.{Node}
-use Rattle.bt_node.specs.declared.node.Node.TheVariants as variants
-use Rattle.bt_node.specs.Keys.{Key}
-use Rattle.bt_node.specs.Messages.{Rows}
-use Rattle.bt_node.specs.Trees.{Shape, Siblings, leaf}
+use Rattle.bt_node.specs.Trees.{Shape, Siblings, Tree}
 use Rattle.bt_node.specs.Flushes.{crown, grouped}
-use Rattle.bt_node.specs.Views.{children_of, siblings_of, tree_of, none_pending_of, pending_of}
+use Rattle.bt_node.specs.Views.{children_of, none_pending_of, pending_of}
 use Rattle.bt_node.proofs.lemmas.flushes.Children.{all_pending}
-use Rattle.bt_node.proofs.lemmas.code.TreeOfNode.{tree_leaf}
 use Rattle.bt_node.proofs.lemmas.crowns.Levels.{crown-step, raised-shorter, shared-nothing}
 
 nothing-pending : {V M : Type 0} (xs : Siblings V M) → all_pending (none_pending_of xs) ≡ []
@@ -40,10 +35,6 @@ module _ {V D : Type 0} (cs : List (code.Child V D)) (xs : Siblings V (Message V
         shorter (z ∷ []) l = absurd (omega (arith, l))
         shorter (y ∷ z ∷ zs) l = subst (λ qs. length (grouped s qs) < length (y ∷ z ∷ zs)) (shared-nothing (y ∷ z ∷ zs)) (raised-shorter s two y z zs)
 
-module _ {V D : Type 0} (s : Shape) (level : List (Key × Node V D)) where
-  pub crown_one : (rest : List (Key × Node V D)) (k : Key) (n : Node V D) → level ≡ rest ++ (k, n) ∷ [] → length level ≤ 1 → tree_of n ≡ crown s (siblings_of level)
-  crown_one [] k n e few = sym (ap (λ ns. crown s (siblings_of ns)) e)
-  crown_one (r ∷ rest) k n e few = absurd (omega (arith, few, ap length e, length-append rest ((k, n) ∷ [])))
-
-  pub crown_none : (rows : Rows V) → rows ≡ [] → level ≡ [] → tree_of (variants.Leaf rows) ≡ crown s (siblings_of level)
-  crown_none rows none empty = tree_leaf rows ∙ ap leaf none ∙ sym (ap (λ ns. crown s (siblings_of ns)) empty)
+-- the crown of one node
+pub crown_one : {V M : Type 0} (s : Shape) (level : Siblings V M) (t : Tree V M) → level ≡ ([], t) ∷ [] → t ≡ crown s level
+crown_one s level t e = sym (ap (crown s) e)

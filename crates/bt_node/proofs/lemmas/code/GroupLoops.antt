@@ -1,21 +1,18 @@
 -- Children in parts, and what is pending for them.
-use Rattle.std.proofs.Common.{Vec, Global, ◌≡◌, ℕ, List, [], ◌∷◌, ◌++◌, length, map, take, drop, refl, sym, ap, subst, ◌∙◌, append-nil, append_assoc, arith}
+use Rattle.std.proofs.Common.{Vec, Global, ◌≡◌, ℕ, List, [], ◌∷◌, ◌++◌, length, map, take, drop, ◌<◌, ◌≤◌, refl, sym, ap, subst, ◌∙◌, append-nil, append_assoc, arith}
 use Rattle.std.specs.List.{flat_map}
 use Rattle.std.proofs.lemmas.List.{drop-map, length-map, take-map}
 use Rattle.bt_messages.specs.Messages.{IsSorted}
 use Rattle.bt_messages.specs.declared.message.Message.{Message}
 use Rattle.bt_node.specs.declared.node.Child as code
-use Rattle.bt_node.specs.declared.node.Node.{Node}
-use Rattle.bt_node.specs.declared.node.Node.TheVariants as variants
 use Rattle.bt_node.specs.Keys.{Key}
 use Rattle.bt_node.specs.Messages.{Messages, Rows, with_messages}
-use Rattle.bt_node.specs.Trees.{Shape, Siblings, Tree, inner, leaf, none, nodes}
+use Rattle.bt_node.specs.Trees.{Shape, Siblings, Tree, inner, leaf, nodes}
 use Rattle.bt_node.specs.Deals.{deal, parted, sizes}
 use Rattle.bt_node.specs.Flushes.{first_key, gathered, grouped, leaves, pivot_first}
-use Rattle.bt_node.specs.Views.{child_of, children_of, siblings_of, tree_of, pending_of}
-use Rattle.bt_node.proofs.lemmas.deals.Parts.{joined, joined-deal}
-use Rattle.bt_node.proofs.lemmas.flushes.Groups.{as_leaf, stripped}
-use Rattle.bt_node.proofs.lemmas.code.TreeOfNode.{tree_inner, tree_leaf}
+use Rattle.bt_node.specs.Views.{child_of, children_of, pending_of}
+use Rattle.bt_node.proofs.lemmas.deals.Parts.{AllNonEmpty, joined, joined-deal, full-deal}
+use Rattle.bt_node.proofs.lemmas.flushes.Groups.{as_leaf, some_length, stripped}
 use Rattle.bt_node.proofs.lemmas.flushes.PendingOrder.{added-behind, sorted-back, sorted-prefix}
 
 -- nothing is left
@@ -42,17 +39,10 @@ module _ {V D : Type 0} where
   pub first_fits : (part : List (code.Child V D)) (c : code.Child V D) (rest : List (code.Child V D)) → part ≡ c ∷ rest → IsSorted (pending_of part) → IsSorted (c.pending ++ pending_of rest)
   first_fits part c rest e h = subst (λ cs. IsSorted (pending_of cs)) e h
 
-  pub gather_done : (cs : Vec (Key × Node V D) Global) (buffer : Messages (Message V D)) (part : List (code.Child V D)) (c : code.Child V D) (rest : List (code.Child V D)) →
-      part ≡ c ∷ rest → siblings_of cs.items ≡ ([], tree_of c.node) ∷ stripped (children_of rest) → buffer ≡ c.pending ++ pending_of rest →
-      (c.pivot, tree_of (variants.Inner cs buffer)) ≡ gathered (children_of part)
-  gather_done cs buffer part c rest e s b =
-      ap (λ t. (c.pivot, t)) (tree_inner cs buffer ∙ ap (λ xs. inner (nodes xs) buffer) s ∙ ap (inner (nodes (([], tree_of c.node) ∷ stripped (children_of rest)))) b)
-      ∙ sym (ap (λ ps. gathered (children_of ps)) e)
-
-  pub gather_none : (cs : Vec (Key × Node V D) Global) (buffer : Messages (Message V D)) (part : List (code.Child V D)) → part ≡ [] → cs.items ≡ [] → buffer ≡ [] →
-      ([], tree_of (variants.Inner cs buffer)) ≡ gathered (children_of part)
-  gather_none cs buffer part e s b =
-      ap (λ t. ([], t)) (tree_inner cs buffer ∙ ap (λ xs. inner (nodes (siblings_of xs)) buffer) s ∙ ap (inner none) b) ∙ sym (ap (λ ps. gathered (children_of ps)) e)
+  pub gather_done : (xs : Siblings V (Message V D)) (buffer : Messages (Message V D)) (part : List (code.Child V D)) (c : code.Child V D) (rest : List (code.Child V D)) →
+      part ≡ c ∷ rest → xs ≡ ([], c.node) ∷ stripped (children_of rest) → buffer ≡ c.pending ++ pending_of rest → (c.pivot, inner (nodes xs) buffer) ≡ gathered (children_of part)
+  gather_done xs buffer part c rest e s b =
+      ap (λ t. (c.pivot, t)) (ap (λ ys. inner (nodes ys) buffer) s ∙ ap (inner (nodes (([], c.node) ∷ stripped (children_of rest)))) b) ∙ sym (ap (λ ps. gathered (children_of ps)) e)
 
 -- ---- all groups
 
@@ -97,37 +87,36 @@ module _ {V D : Type 0} where
       fused [] = refl
       fused (p ∷ ps) = ap (λ z. gathered (children_of p.items) ∷ z) (fused ps)
 
+  -- the parts of some children, none of them empty
+  pub parts_full : (most : ℕ) (parts : List (Vec (code.Child V D) Global)) (cs : List (code.Child V D)) → parts_of parts ≡ deal most cs → 0 < most → 1 ≤ length cs → AllNonEmpty (parts_of parts)
+  parts_full most parts [] e l some = absurd (omega (arith, some))
+  parts_full most parts (c ∷ cs) e l some = subst AllNonEmpty (sym e) (full-deal most c cs l)
+
   pub group_done : (s : Shape) (parts : List (Vec (code.Child V D) Global)) (cs : List (code.Child V D)) (first : Vec (code.Child V D) Global) (rest left : List (Vec (code.Child V D) Global))
-      (k : Key) (node : Node V D) (start nodes : List (Key × Node V D)) → parts_of parts ≡ deal s.fanout cs → parts ≡ first ∷ rest → (k, tree_of node) ≡ gathered (children_of first.items) →
-      siblings_of start ≡ ([], tree_of node) ∷ [] → siblings_of nodes ++ groups_of left ≡ siblings_of start ++ groups_of rest → left ≡ [] →
-      siblings_of nodes ≡ grouped s (children_of cs)
+      (k : Key) (node : Tree V (Message V D)) (start made : Siblings V (Message V D)) → parts_of parts ≡ deal s.fanout cs → parts ≡ first ∷ rest → (k, node) ≡ gathered (children_of first.items) →
+      start ≡ ([], node) ∷ [] → made ++ groups_of left ≡ start ++ groups_of rest → left ≡ [] → made ≡ grouped s (children_of cs)
   group_done s parts cs first rest left k node start made dealt split is begun kept empty =
-      sym (append-nil (siblings_of made)) ∙ ap (λ ps. siblings_of made ++ groups_of ps) (sym empty) ∙ kept ∙ ap (λ xs. xs ++ groups_of rest) begun
+      sym (append-nil made) ∙ ap (λ ps. made ++ groups_of ps) (sym empty) ∙ kept ∙ ap (λ xs. xs ++ groups_of rest) begun
       ∙ ap (λ (x : Key × Tree V (Message V D)). ([], x.1) ∷ groups_of rest) is
       ∙ sym (grouped_is s parts cs dealt ∙ ap (λ ps. pivot_first [] (groups_of ps)) split)
 
-  pub group_none : (s : Shape) (parts : List (Vec (code.Child V D) Global)) (cs : List (code.Child V D)) → parts_of parts ≡ deal s.fanout cs → parts ≡ [] → [] ≡ grouped s (children_of cs)
-  group_none s parts cs dealt empty = sym (grouped_is s parts cs dealt ∙ ap (λ ps. pivot_first [] (groups_of ps)) empty)
-
   -- one more group
-  pub more : (nodes : List (Key × Node V D)) (node : Key × Node V D) (part : Vec (code.Child V D) Global) (left : List (Vec (code.Child V D) Global)) →
-      (node.0, tree_of node.1) ≡ gathered (children_of part.items) → siblings_of (nodes ++ node ∷ []) ++ groups_of left ≡ siblings_of nodes ++ groups_of (part ∷ left)
-  more [] node part left e = ap (λ x. x ∷ groups_of left) e
-  more (n ∷ nodes) node part left e = ap (λ xs. (n.0, tree_of n.1) ∷ xs) (more nodes node part left e)
+  pub more : (made : Siblings V (Message V D)) (k : Key) (node : Tree V (Message V D)) (part : Vec (code.Child V D) Global) (left : List (Vec (code.Child V D) Global)) →
+      (k, node) ≡ gathered (children_of part.items) → (made ++ (k, node) ∷ []) ++ groups_of left ≡ made ++ groups_of (part ∷ left)
+  more made k node part left e = append_assoc made ((k, node) ∷ []) (groups_of left) ∙ ap (λ x. made ++ x ∷ groups_of left) e
 
 -- ---- leaves
 
 module _ {V D : Type 0} where
   -- one more leaf
-  pub more_leaves : (nodes : List (Key × Node V D)) (k : Key) (part : Rows V) (left : List (Rows V)) → k ≡ first_key (λ r. r.0) part →
-      siblings_of (nodes ++ (k, variants.Leaf part) ∷ []) ++ map (as_leaf (Message V D)) left ≡ siblings_of nodes ++ map (as_leaf (Message V D)) (part ∷ left)
-  more_leaves [] k part left e = ap (λ t. (k, t) ∷ map (as_leaf (Message V D)) left) (tree_leaf part) ∙ ap (λ j. (j, leaf part) ∷ map (as_leaf (Message V D)) left) e
-  more_leaves (n ∷ nodes) k part left e = ap (λ xs. (n.0, tree_of n.1) ∷ xs) (more_leaves nodes k part left e)
+  pub more_leaves : (made : Siblings V (Message V D)) (k : Key) (part : Rows V) (left : List (Rows V)) → k ≡ first_key (λ r. r.0) part →
+      (made ++ (k, leaf part) ∷ []) ++ map (as_leaf (Message V D)) left ≡ made ++ map (as_leaf (Message V D)) (part ∷ left)
+  more_leaves made k part left e =
+      append_assoc made ((k, leaf part) ∷ []) (map (as_leaf (Message V D)) left) ∙ ap (λ j. made ++ (j, leaf part) ∷ map (as_leaf (Message V D)) left) e
 
-  pub leaves_done : (s : Shape) (rows : Rows V) (parts : List (Rows V)) (first : Rows V) (rest left : List (Rows V)) (start made : List (Key × Node V D)) → parts ≡ deal s.leaf rows → parts ≡ first ∷ rest →
-      siblings_of start ≡ ([], leaf first) ∷ [] → siblings_of made ++ map (as_leaf (Message V D)) left ≡ siblings_of start ++ map (as_leaf (Message V D)) rest → left ≡ [] →
-      siblings_of made ≡ leaves s rows
+  pub leaves_done : (s : Shape) (rows : Rows V) (parts : List (Rows V)) (first : Rows V) (rest left : List (Rows V)) (start made : Siblings V (Message V D)) → parts ≡ deal s.leaf rows → parts ≡ first ∷ rest →
+      start ≡ ([], leaf first) ∷ [] → made ++ map (as_leaf (Message V D)) left ≡ start ++ map (as_leaf (Message V D)) rest → left ≡ [] → made ≡ leaves s rows
   leaves_done s rows parts first rest left start made dealt split begun kept empty =
-      sym (append-nil (siblings_of made)) ∙ ap (λ ps. siblings_of made ++ map (as_leaf (Message V D)) ps) (sym empty) ∙ kept
+      sym (append-nil made) ∙ ap (λ ps. made ++ map (as_leaf (Message V D)) ps) (sym empty) ∙ kept
       ∙ ap (λ xs. xs ++ map (as_leaf (Message V D)) rest) begun
       ∙ ap (λ ps. pivot_first [] (map (as_leaf (Message V D)) ps)) (sym split ∙ dealt)

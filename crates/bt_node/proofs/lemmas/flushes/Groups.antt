@@ -1,5 +1,5 @@
 -- Rows dealt into leaves, and children gathered under inner nodes: they lie where they lay, and hold what they held.
-use Rattle.std.proofs.Common.{◌≡◌, ℕ, zero, suc, ◌<◌, List, [], ◌∷◌, ◌++◌, map, refl, sym, ap, subst, ◌∙◌, append-nil}
+use Rattle.std.proofs.Common.{◌≡◌, ℕ, zero, suc, ◌<◌, ◌≤◌, length, arith, List, [], ◌∷◌, ◌++◌, map, refl, sym, ap, subst, ◌∙◌, append-nil}
 use Rattle.std.specs.FinMap.{find}
 use Rattle.std.specs.declared.option.Option.{Option}
 use Rattle.std.specs.declared.option.Option.TheVariants.{Some}
@@ -28,6 +28,16 @@ nodes-children (node k t ns) = ap (node k t) (nodes-children ns)
 pub some-of : {X : Type 0} (gs : List (List X)) (x : X) (xs : List X) → joined gs ≡ x ∷ xs → NonEmpty gs
 some-of [] x xs e = absurd (cc)
 some-of (g ∷ gs) x xs e = tt
+
+-- a list that isn't empty
+pub some_length : {X : Type 0} (xs : List X) → NonEmpty xs → 1 ≤ length xs
+some_length [] n = absurd n
+some_length (x ∷ xs) n = omega arith
+
+-- there is a part, also of nothing
+pub deal-some : {X : Type 0} (most : ℕ) (xs : List X) → 0 < most → NonEmpty (deal most xs)
+deal-some most [] l = subst NonEmpty (sym (deal-nothing most l)) tt
+deal-some most (x ∷ xs) l = some-of _ x xs (joined-deal most (x ∷ xs))
 
 pub led-map : {X Y : Type 0} (f : X → Key × Y) (xs : List X) → NonEmpty xs → IsLed (pivot_first [] (map f xs))
 led-map f [] n = absurd n

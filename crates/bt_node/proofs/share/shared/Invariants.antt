@@ -1,0 +1,12 @@
+use Rattle.std.proofs.Common.{◌≡◌, ◌++◌, length}
+use Rattle.std.specs.Vec.Iter.{into_iter_items}
+use Rattle.bt_node.specs.Views.{children_of}
+use Rattle.bt_node.proofs.lemmas.code.ShareLoop.{beside}
+use Rattle.bt_node.proofs.share.shared.Given as goal
+
+-- the children so far, and then the siblings that are left beside the packets that are left
+abbrev pub invariant-loop-pivot : goal.invariant-loop-pivot
+invariant-loop-pivot g l = children_of l.children.items ++ beside l.siblings (into_iter_items l.packets) ≡ beside l.initial.siblings (into_iter_items l.initial.packets)
+
+abbrev pub decreases-loop-pivot : goal.decreases-loop-pivot
+decreases-loop-pivot g l = length l.siblings
