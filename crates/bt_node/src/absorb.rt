@@ -1,5 +1,5 @@
 //! How a packet of messages goes down a node.
-ghost use Rattle.std.specs.Prelude.{◌≡◌, ◌≤◌, true, IfOk, length};
+ghost use Rattle.std.specs.Prelude.{◌≡◌, ◌≤◌, true, IfOk, length, vec_len};
 ghost use Rattle.std.specs.List.{zip};
 ghost use Rattle.bt_messages.specs.Effects.{effect_of};
 ghost use Rattle.bt_node.specs.Fits.{IsLed};
@@ -30,7 +30,8 @@ fn marks<V: Merge>(
     shape: Shape,
     children: &[Child<V>],
 ) -> Result<Vec<bool>, AllocError>
-    ensures { IfOk result (λ marks. marks.items ≡ marks_of (length (counts (children_of children.now))) (planned (counts (children_of children.now)) shape.buffer)) }
+    ensures length { IfOk result (λ marks. vec_len marks ≡ length children.now) }
+    ensures marks { IfOk result (λ marks. marks.items ≡ marks_of (length (counts (children_of children.now))) (planned (counts (children_of children.now)) shape.buffer)) }
 {
     let counts = counts(alloc, children)?;
     flush_marks(alloc, counts.as_slice(), shape.buffer() as u64)

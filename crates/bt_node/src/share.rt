@@ -1,5 +1,5 @@
 //! What is pending for each child of a node.
-ghost use Rattle.std.specs.Prelude.{◌≡◌, IfOk};
+ghost use Rattle.std.specs.Prelude.{◌≡◌, ◌≤◌, IfOk, length};
 ghost use Rattle.bt_node.specs.Flushes as flushes;
 ghost use Rattle.bt_node.specs.Shares.{divided};
 ghost use Rattle.bt_node.specs.Views.{children_of};
@@ -34,7 +34,8 @@ pub(crate) fn shared<V: Merge>(
     siblings: Siblings<V>,
     buffer: Buffer<V>,
 ) -> Result<Vec<Child<V>>, AllocError>
-    ensures { IfOk result (λ children. children_of children.items ≡ flushes.shared siblings buffer) }
+    ensures shares { IfOk result (λ children. children_of children.items ≡ flushes.shared siblings buffer) }
+    ensures some { IfOk result (λ children. 1 ≤ length children.items) }
 {
     let mut children = Vec::with_capacity(alloc, siblings.len())?;
     let mut packets = divide(alloc, siblings.pivots(), buffer)?.into_iter();

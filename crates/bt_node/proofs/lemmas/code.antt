@@ -10,3 +10,4 @@ pub mod RowPass
 pub mod RowSearch
 pub mod RowsOfChildren
 pub mod ShareLoop
+pub mod SiblingParts

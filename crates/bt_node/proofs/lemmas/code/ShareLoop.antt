@@ -1,8 +1,14 @@
 -- The shares of a buffer, as the code makes them, are those of the children.
-use Rattle.std.proofs.Common.{◌≡◌, List, [], ◌∷◌, drop, map, length, refl, sym, ap, ◌∙◌}
+use Rattle.std.proofs.Common.{◌≡◌, List, [], ◌∷◌, ◌++◌, append-nil, append_assoc, arith, ◌≤◌, drop, length, map, refl, sym, ap, ◌∙◌}
+use Rattle.std.proofs.lemmas.List.{length-map, map-append}
+use Rattle.bt_messages.specs.declared.message.Message.{Message}
+use Rattle.bt_node.specs.declared.node.Child as code
+use Rattle.bt_node.specs.Keys.{Key}
+use Rattle.bt_node.specs.Views.{child_of, children_of}
+use Rattle.bt_node.proofs.lemmas.flushes.NodeSizes.{length-shared}
 use Rattle.bt_node.specs.Messages.{Messages, before, from}
 use Rattle.bt_node.specs.Trees.{Siblings}
-use Rattle.bt_node.specs.Flushes.{Child, counts, shared}
+use Rattle.bt_node.specs.Flushes.{Child, shared}
 use Rattle.bt_node.specs.Shares.{divided}
 
 module _ {V M : Type 0} where
@@ -17,3 +23,24 @@ module _ {V M : Type 0} where
   beside-shared [] b = refl
   beside-shared (x ∷ []) b = refl
   beside-shared (x ∷ y ∷ ys) b = ap (λ z. record { pivot = x.0; tree = x.1; pending = before y.0 b } ∷ z) (beside-shared (y ∷ ys) (from y.0 b))
+
+  pub beside-none : (xs : Siblings V M) → beside xs [] ≡ []
+  beside-none [] = refl
+  beside-none (x ∷ xs) = refl
+
+module _ {V D : Type 0} where
+  -- one more child
+  pub child_added : (cs ds : List (code.Child V D)) (c : code.Child V D) (xs ys : Siblings V (Message V D)) (ps qs : List (Messages (Message V D))) →
+      ds ≡ cs ++ c ∷ [] → xs ≡ (c.pivot, c.node) ∷ ys → ps ≡ c.pending ∷ qs → children_of ds ++ beside ys qs ≡ children_of cs ++ beside xs ps
+  child_added cs ds c xs ys ps qs d x p =
+      ap (λ es. children_of es ++ beside ys qs) d ∙ ap (λ es. es ++ beside ys qs) (map-append child_of cs (c ∷ []))
+      ∙ append_assoc (children_of cs) (child_of c ∷ []) (beside ys qs) ∙ sym (ap (λ zs. children_of cs ++ beside zs ps) x ∙ ap (λ zs. children_of cs ++ beside ((c.pivot, c.node) ∷ ys) zs) p)
+
+  -- nothing is left
+  pub all_shared : (cs : List (code.Child V D)) (xs ys : Siblings V (Message V D)) (b : Messages (Message V D)) (ps qs : List (Messages (Message V D))) (ks : List Key) →
+      children_of cs ++ beside ys qs ≡ beside xs ps → ps ≡ divided ks b → ks ≡ map (λ x. x.0) (drop 1 xs) → beside ys qs ≡ [] → children_of cs ≡ shared xs b
+  all_shared cs xs ys b ps qs ks kept parts pivots none =
+      sym (append-nil (children_of cs)) ∙ ap (λ zs. children_of cs ++ zs) (sym none) ∙ kept ∙ ap (beside xs) (parts ∙ ap (λ js. divided js b) pivots) ∙ beside-shared xs b
+
+  pub shared_some : (cs : List (code.Child V D)) (xs : Siblings V (Message V D)) (b : Messages (Message V D)) → children_of cs ≡ shared xs b → 1 ≤ length xs → 1 ≤ length cs
+  shared_some cs xs b e some = omega (arith, some, ap length e, length-map cs child_of, length-shared xs b)

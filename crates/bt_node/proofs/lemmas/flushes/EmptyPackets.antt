@@ -39,7 +39,7 @@ module _ {M : Type 0} where
   from-rising : (k : Key) (ms : Messages M) → IsRising ms → IsRising (from k ms)
   from-rising k ms r = rising-where (λ x. not (key_lt x k)) ms r
 
-led-first : {X : Type 0} (xs : List (Key × X)) → IsLed xs → pivot_first [] xs ≡ xs
+pub led-first : {X : Type 0} (xs : List (Key × X)) → IsLed xs → pivot_first [] xs ≡ xs
 led-first [] l = absurd l
 led-first (x ∷ xs) l = ap (λ k. (k, x.1) ∷ xs) (sym l)
 
