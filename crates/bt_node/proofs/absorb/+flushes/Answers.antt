@@ -1,8 +1,8 @@
-use Rattle.std.proofs.Common.{◌≡◌, ◌≤◌, ◌∙◌, ◌∷◌, [], ap, arith, length, rules, sym}
+use Rattle.std.proofs.Common.{◌≡◌, ◌≤◌, ◌∙◌, ◌∷◌, [], ap, arith, length, refl, rules, sym}
 use Rattle.bt_messages.specs.Effects.{effect_of}
 use Rattle.bt_messages.specs.Messages.{IsSorted}
 use Rattle.bt_node.specs.Flushes.{absorb, leaves}
-use Rattle.bt_node.proofs.lemmas.code.AbsorbStep.{grouped_anew, if_ok, parts_some, parts_sorted, stays_here}
+use Rattle.bt_node.proofs.lemmas.code.AbsorbStep.{grouped_anew, if_ok, lower, parts_some, parts_sorted, stays_here}
 use Rattle.bt_node.proofs.absorb.+flushes.Goals as goal
 
 pub absorb-returns-then-stays : goal.absorb-returns-then-stays
@@ -46,3 +46,14 @@ absorb-returns-in_ok-parts-in-Inner g t c =
     if_ok _ _ c.group.result (λ siblings e. e
     ∙ grouped_anew (effect_of g.V.Merge.merged) c.args.shape c.in-Inner.children c.in-Inner.buffer c.args.packet after c.args.node c.in-Inner.ensures c.in_ok-add-in-Inner.ensures.ok sorted
     cs c.in_ok-children-in-Inner.ensures.shares c.in_ok-marks-in-Inner.marks.items (search rules) c.in_ok-parts-in-Inner.parts.items c.in_ok-parts-in-Inner.ensures) c.group.ensures
+
+pub absorb-same-children : goal.absorb-same-children
+absorb-same-children g t c = refl
+
+pub absorb-same-buffer : goal.absorb-same-buffer
+absorb-same-buffer g t c = refl
+
+pub absorb-flush-requires : goal.absorb-flush-requires
+absorb-flush-requires g t c κs within =
+    let less = lower c.args.node c.in-Inner.children c.in-Inner.buffer c.add.new.self c.in_ok-children-in-Inner.children.items c.in-Inner.ensures c.in_ok-children-in-Inner.ensures.shares in
+    (omega (arith, less, c.decreases), (within.0, within.1))

@@ -5,7 +5,7 @@ use Rattle.bt_messages.specs.Messages.{IsSorted}
 use Rattle.bt_messages.specs.declared.message.Message.{Message}
 use Rattle.bt_node.specs.declared.node.Child as code
 use Rattle.bt_node.specs.Trees.{Shape, Siblings, Tree}
-use Rattle.bt_node.specs.Flushes.{crown, grouped}
+use Rattle.bt_node.specs.Flushes.{Child, crown, grouped}
 use Rattle.bt_node.specs.Views.{child_of, children_of, none_pending_of, pending_of}
 use Rattle.bt_node.proofs.lemmas.flushes.Children.{all_pending}
 use Rattle.bt_node.proofs.lemmas.crowns.Levels.{crown-step, raised-shorter, shared-nothing}
@@ -20,7 +20,7 @@ module _ {V D : Type 0} (cs : List (code.Child V D)) (xs : Siblings V (Message V
   none_sorted = subst IsSorted (sym (ap all_pending is ∙ nothing-pending xs)) tt
 
   pub children_some : 1 ≤ length xs → 1 ≤ length cs
-  children_some some = omega (arith, some, ap length is, length-map cs child_of, length-map xs (λ x. record { pivot = x.0; tree = x.1; pending = [] }))
+  children_some some = omega (arith, some, ap length is, length-map cs child_of, length-map {B = Child V (Message V D)} xs (λ x. record { pivot = x.0; tree = x.1; pending = [] }))
 
   module _ (s : Shape) (two : 2 ≤ s.fanout) (several : 1 < length xs) (ys : Siblings V (Message V D)) (made : ys ≡ grouped s (children_of cs)) where
     pub crown_kept : crown s ys ≡ crown s xs

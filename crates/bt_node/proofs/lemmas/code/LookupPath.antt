@@ -1,6 +1,5 @@
 -- The path to a key, and what the messages on it make of the value there.
-use Rattle.std.proofs.Common.{Vec, Global, ◌≡◌, ◌+◌, ◌-◌, ◌<◌, ℕ, zero, suc, true, false, cond, not, List, [], ◌∷◌, get_or, length, drop, take, refl, sym, ap, subst, ◌∙◌, true≢false, arith}
-use Rattle.std.proofs.Math.Seq.{take-length}
+use Rattle.std.proofs.Common.{◌≡◌, ◌≤◌, ◌+◌, ◌-◌, ◌<◌, map, ℕ, zero, suc, true, false, cond, not, List, [], ◌∷◌, get_or, length, drop, take, refl, sym, ap, subst, ◌∙◌, true≢false, arith}
 use Rattle.std.proofs.lemmas.List.{drop_more}
 use Rattle.std.proofs.lemmas.Option.{get_or_from_slice_get, slice_get_within}
 use Rattle.std.specs.Bool.{◌==◌}
@@ -12,24 +11,16 @@ use Rattle.std.specs.declared.option.Option.{Option}
 use Rattle.std.specs.declared.option.Option.TheVariants.{None, Some}
 use Rattle.bt_messages.specs.Messages.{AllFrom}
 use Rattle.bt_messages.specs.declared.message.Message.{Message}
-use Rattle.bt_node.specs.declared.node.Node.{Node}
-use Rattle.bt_node.specs.declared.node.Node.TheVariants as variants
 use Rattle.bt_node.specs.Keys.{Key, key_cmp, key_lt, IsRising}
 use Rattle.bt_node.specs.Messages.{Messages, from, value_after}
-use Rattle.bt_node.specs.Trees.{nodes}
+use Rattle.bt_node.specs.Trees.{Siblings, Tree, inner, nodes}
 use Rattle.bt_node.specs.Lookups.{pivots_up_to, value_at, value_below}
-use Rattle.bt_node.specs.Views.{siblings_of, tree_of}
 use Rattle.bt_node.proofs.lemmas.keys.Order.{apart_back, not_below_itself, total_keys}
 use Rattle.bt_node.proofs.lemmas.rows.Values.{value-above}
-use Rattle.bt_node.proofs.lemmas.code.TreeOfNode.{tree_inner}
 
 -- what is left of a list from a place on
 pub left_from : {X : Type 0} (xs : List X) (i : ℕ) (x : X) → slice_get xs i ≡ Some x → drop i xs ≡ x ∷ drop (i + 1) xs
 left_from xs i x e = drop_more xs i x (slice_get_within xs i x e) ∙ ap (λ y. y ∷ drop (i + 1) xs) (get_or_from_slice_get xs i x x e)
-
-all_behind : {X : Type 0} (xs : List X) → take (length xs - 1) (drop 1 xs) ≡ drop 1 xs
-all_behind [] = refl
-all_behind (x ∷ xs) = ap (λ n. take n xs) (omega arith) ∙ take-length xs
 
 -- what a comparison says of the keys the other way round
 tied : (k at : Key) (o : Ordering) → o ≡ key_cmp at k → false ≡ not (ordering_index o == 1) → eq_by_cmp key_cmp k at ≡ true
@@ -46,29 +37,29 @@ module _ {V D : Type 0} (effect : Option V → Message V D → Option V) where
   -- ---- children
 
   -- what is below a node is found in the child with the last pivot that is at most the key
-  one_child : (k : Key) (x : Key × Node V D) (xs : List (Key × Node V D)) (d : Key × Node V D) →
-      value_below effect k (nodes (siblings_of (x ∷ xs))) ≡ value_at effect k (tree_of (get_or (x ∷ xs) (pivots_up_to k xs) d).1)
+  one_child : (k : Key) (x : Key × Tree V (Message V D)) (xs : Siblings V (Message V D)) (d : Tree V (Message V D)) →
+      value_below effect k (nodes (x ∷ xs)) ≡ value_at effect k (get_or (map (λ y. y.1) (x ∷ xs)) (pivots_up_to k (map (λ y. y.0) xs)) d)
   one_child k x [] d = refl
   one_child k x (y ∷ ys) d = elim (key_lt k y.0) as (λ b.
-      cond b (value_at effect k (tree_of x.1)) (value_below effect k (nodes (siblings_of (y ∷ ys)))) ≡ value_at effect k (tree_of (get_or (x ∷ y ∷ ys) (cond b 0 (suc (pivots_up_to k ys))) d).1)) [
+      cond b (value_at effect k x.1) (value_below effect k (nodes (y ∷ ys))) ≡ value_at effect k (get_or (map (λ z. z.1) (x ∷ y ∷ ys)) (cond b 0 (suc (pivots_up_to k (map (λ z. z.0) ys)))) d)) [
         | true ↦ refl
         | false ↦ one_child k y ys d
       ]
 
-  child_at : (k : Key) (xs : List (Key × Node V D)) (d : Key × Node V D) → 0 < length xs →
-      value_below effect k (nodes (siblings_of xs)) ≡ value_at effect k (tree_of (get_or xs (pivots_up_to k (drop 1 xs)) d).1)
-  child_at k [] d some = absurd (omega arith)
+  child_at : (k : Key) (xs : Siblings V (Message V D)) (d : Tree V (Message V D)) → 1 ≤ length xs →
+      value_below effect k (nodes xs) ≡ value_at effect k (get_or (map (λ y. y.1) xs) (pivots_up_to k (map (λ y. y.0) (drop 1 xs))) d)
+  child_at k [] d some = absurd (omega (arith, some))
   child_at k (x ∷ xs) d some = one_child k x xs d
 
   -- the value at a key in an inner node, from the one in that child
-  pub along : (k : Key) (cs : Vec (Key × Node V D) Global) (buffer : Messages (Message V D)) (xs : List (Key × Node V D)) (place : ℕ) (child : Key × Node V D) (old : Option V) →
-      xs ≡ cs.items → 0 < length xs → place ≡ pivots_up_to k (take (length xs - 1) (drop 1 xs)) → child ≡ get_or cs.items place child → old ≡ value_at effect k (tree_of child.1) →
-      value_after effect k buffer old ≡ value_at effect k (tree_of (variants.Inner cs buffer))
-  along k cs buffer xs place child old same some is at below =
+  pub along : (k : Key) (xs : Siblings V (Message V D)) (buffer : Messages (Message V D)) (node : Tree V (Message V D)) (ts : List (Tree V (Message V D))) (ps : List Key) (place : ℕ) (child : Tree V (Message V D)) (old : Option V) →
+      node ≡ inner (nodes xs) buffer → ts ≡ map (λ y. y.1) xs → ps ≡ map (λ y. y.0) (drop 1 xs) → 1 ≤ length xs → place ≡ pivots_up_to k ps → child ≡ get_or ts place child → old ≡ value_at effect k child →
+      value_after effect k buffer old ≡ value_at effect k node
+  along k xs buffer node ts ps place child old here items pivots some is at below =
       ap (value_after effect k buffer)
-      (below ∙ ap (λ x. value_at effect k (tree_of x.1)) (at ∙ ap (λ ys. get_or ys place child) (sym same) ∙ ap (λ i. get_or xs i child) (is ∙ ap (pivots_up_to k) (all_behind xs)))
-      ∙ sym (child_at k xs child some) ∙ ap (λ ys. value_below effect k (nodes (siblings_of ys))) same)
-      ∙ sym (ap (value_at effect k) (tree_inner cs buffer))
+      (below ∙ ap (value_at effect k) (at ∙ ap (λ ys. get_or ys place child) items ∙ ap (λ i. get_or (map (λ y. y.1) xs) i child) (is ∙ ap (pivots_up_to k) pivots))
+      ∙ sym (child_at k xs child some))
+      ∙ sym (ap (value_at effect k) here)
 
   -- ---- messages
 

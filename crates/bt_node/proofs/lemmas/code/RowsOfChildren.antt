@@ -1,22 +1,18 @@
 -- The rows that a node holds, from those of its children.
-use Rattle.std.proofs.Common.{Vec, Global, ◌≡◌, ◌+◌, ◌<◌, ◌≤◌, ℕ, zero, suc, true, List, [], ◌∷◌, ◌++◌, get_or, length, drop, Option, refl, sym, ap, subst, ◌∙◌, arith, append_assoc, append-nil}
-use Rattle.std.proofs.lemmas.List.{drop_all, drop_more}
+use Rattle.std.proofs.Common.{map, ◌≡◌, ◌+◌, ◌<◌, ◌≤◌, ℕ, zero, suc, true, List, [], ◌∷◌, ◌++◌, get_or, length, drop, Option, refl, sym, ap, subst, ◌∙◌, arith, append_assoc, append-nil}
+use Rattle.std.proofs.lemmas.List.{drop_all, drop_more, length-map}
+use Rattle.std.specs.List.{flat_map}
 use Rattle.std.specs.FinMap.{is_sorted}
 use Rattle.std.specs.declared.option.Option.TheVariants.{None, Some}
-use Rattle.bt_messages.specs.declared.message.Message.{Message}
-use Rattle.bt_node.specs.declared.node.Node.{Node}
-use Rattle.bt_node.specs.declared.node.Node.TheVariants as variants
 use Rattle.bt_node.specs.Fits.{HasShape, IsInOrder, Lies, SiblingsLie}
 use Rattle.bt_node.specs.Flushes.{all_hold, holds}
 use Rattle.bt_node.specs.Keys.{Key, SideBySide, key_cmp}
 use Rattle.bt_node.specs.Messages.{Messages, Rows, rows_after}
-use Rattle.bt_node.specs.Trees.{Nodes, Shape, Tree, children, height, height_below, inner, nodes}
-use Rattle.bt_node.specs.Views.{siblings_of, tree_of}
+use Rattle.bt_node.specs.Trees.{Nodes, Shape, Siblings, Tree, children, height, height_below, inner, nodes}
 use Rattle.bt_node.proofs.lemmas.flushes.Groups.{children-nodes}
 use Rattle.bt_node.proofs.lemmas.flushes.RowsKept.{all_hold-lie}
 use Rattle.bt_node.proofs.lemmas.lookups.Outside.{nodes_hold-children}
 use Rattle.bt_node.proofs.lemmas.rows.RowsAfter.{rows-sorted, true_t}
-use Rattle.bt_node.proofs.lemmas.code.TreeOfNode.{length-siblings, tree_inner}
 
 -- what stands side by side reaches from some key to some key
 side_at : {X : Type 0} (key : X → Key) (Reaches : Option Key → Option Key → X → Type 0) (low high : Option Key) (xs : List X) (i : ℕ) (x : X) →
@@ -37,62 +33,68 @@ module _ {V M : Type 0} where
   pub shape_in_order : (shape : Shape) (t : Tree V M) → HasShape shape t → IsInOrder t
   shape_in_order shape t has = (has.levels, None, None, has.fits.lies)
 
-module _ {V D : Type 0} where
-  sibling_at : (xs : List (Key × Node V D)) (i : ℕ) (x : Key × Node V D) → x ≡ get_or xs i x → (x.0, tree_of x.1) ≡ get_or (siblings_of xs) i (x.0, tree_of x.1)
-  sibling_at [] i x is = refl
-  sibling_at (y ∷ ys) zero x is = ap (λ (p : Key × Node V D). (p.0, tree_of p.1)) is
-  sibling_at (y ∷ ys) (suc i) x is = sibling_at ys i x is
+  -- a tree of siblings
+  tree_at : (xs : Siblings V M) (i : ℕ) (t : Tree V M) → i < length xs → t ≡ get_or (map (λ x. x.1) xs) i t → (x : Key × Tree V M) × (x.1 ≡ t) × (x ≡ get_or xs i x)
+  tree_at [] i t within is = absurd (omega (arith, within))
+  tree_at (x ∷ xs) zero t within is = (x, sym is, refl)
+  tree_at (x ∷ xs) (suc i) t within is = tree_at xs i t (omega (arith, within)) is
 
-  no_higher : (xs : List (Key × Node V D)) (i : ℕ) (x : Key × Node V D) → i < length xs → x ≡ get_or xs i x → height (tree_of x.1) ≤ height_below (nodes (siblings_of xs))
-  no_higher [] i x within is = absurd (omega arith)
-  no_higher (y ∷ ys) zero x within is = let same = ap (λ (p : Key × Node V D). height (tree_of p.1)) is in omega (arith, same)
-  no_higher (y ∷ ys) (suc i) x within is = omega (arith, no_higher ys i x (omega (arith, within)) is)
+  no_higher : (xs : Siblings V M) (i : ℕ) (t : Tree V M) → i < length xs → t ≡ get_or (map (λ x. x.1) xs) i t → height t ≤ height_below (nodes xs)
+  no_higher [] i t within is = absurd (omega (arith, within))
+  no_higher (x ∷ xs) zero t within is = omega (arith, ap height is)
+  no_higher (x ∷ xs) (suc i) t within is = omega (arith, no_higher xs i t (omega (arith, within)) is)
 
-  module _ (node : Node V D) (cs : Vec (Key × Node V D) Global) (buffer : Messages (Message V D)) (here : node ≡ variants.Inner cs buffer) where
-    siblings_lie : IsInOrder (tree_of node) → (levels : ℕ) × (low : Option Key) × (high : Option Key) × SiblingsLie levels low high (siblings_of cs.items)
+  -- what nodes hold, from left to right
+  abbrev pub each_holds : (Option V → M → Option V) → List (Tree V M) → Rows V
+  each_holds effect = flat_map (holds effect)
+
+  each_holds-all : (effect : Option V → M → Option V) (xs : Siblings V M) → each_holds effect (map (λ x. x.1) xs) ≡ all_hold effect xs
+  each_holds-all effect [] = refl
+  each_holds-all effect (x ∷ xs) = ap (λ z. holds effect x.1 ++ z) (each_holds-all effect xs)
+
+  module _ (t : Tree V M) (xs : Siblings V M) (buffer : Messages M) (here : t ≡ inner (nodes xs) buffer) where
+    siblings_lie : IsInOrder t → (levels : ℕ) × (low : Option Key) × (high : Option Key) × SiblingsLie levels low high xs
     siblings_lie order =
-        let xs = siblings_of cs.items in
-        let lies = subst (Lies order.0 order.1 order.2) (ap tree_of here ∙ tree_inner cs buffer) order.3 in
+        let lies = subst (Lies order.0 order.1 order.2) here order.3 in
         let below = children_lie order.0 order.1 order.2 (nodes xs) buffer lies in
         (below.0, order.1, order.2, subst (SiblingsLie below.0 order.1 order.2) (children-nodes xs) below.1)
 
-    -- a child is lower than its node
-    pub child_lower : (xs : List (Key × Node V D)) (i : ℕ) (child : Key × Node V D) → xs ≡ cs.items → i < length xs → child ≡ get_or xs i child → height (tree_of child.1) < height (tree_of node)
-    child_lower xs i child same within is =
-        omega (arith, no_higher xs i child within is, ap (λ ys. height_below (nodes (siblings_of ys))) same, ap height (ap tree_of here ∙ tree_inner cs buffer))
+    module _ (ts : List (Tree V M)) (items : ts ≡ map (λ x. x.1) xs) (i : ℕ) where
+      -- a child is lower than its node
+      pub child_lower : (child : Tree V M) → i < length ts → child ≡ get_or ts i child → height child < height t
+      child_lower child within is =
+          omega (arith, no_higher xs i child (omega (arith, within, ap length items, length-map xs (λ x. x.1))) (is ∙ ap (λ ys. get_or ys i child) items), ap height here)
 
-    -- a child of a node in order is in order
-    pub child_in_order : (xs : List (Key × Node V D)) (i : ℕ) (child : Key × Node V D) → xs ≡ cs.items → i < length xs → child ≡ get_or xs i child → IsInOrder (tree_of node) → IsInOrder (tree_of child.1)
-    child_in_order xs i child same within is order =
-        let side = siblings_lie order in
-        let lie = subst (λ ys. SiblingsLie side.0 side.1 side.2 (siblings_of ys)) (sym same) side.3 in
-        let at = side_at (λ x. x.0) (λ l h x. Lies side.0 l h x.1) side.1 side.2 (siblings_of xs) i (child.0, tree_of child.1) (omega (arith, within, length-siblings xs)) (sibling_at xs i child is) lie in
-        (side.0, at.0, at.1, at.2)
-
-    module _ (effect : Option V → Message V D → Option V) (xs : List (Key × Node V D)) (same : xs ≡ cs.items) (i : ℕ) (below : Rows V)
-        (so_far : all_hold effect (siblings_of xs) ≡ below ++ all_hold effect (siblings_of (drop i xs))) (past : length xs ≤ i) where
-      -- the rows below all children
-      all_below : below ≡ all_hold effect (siblings_of cs.items)
-      all_below =
-          sym (append-nil below) ∙ ap (λ ys. below ++ all_hold effect (siblings_of ys)) (sym (drop_all i xs past)) ∙ sym so_far ∙ ap (λ ys. all_hold effect (siblings_of ys)) same
-
-      pub below_sorted : IsInOrder (tree_of node) → is_sorted key_cmp below ≡ true
-      below_sorted order =
+      -- a child of a node in order is in order
+      pub child_in_order : (child : Tree V M) → i < length ts → child ≡ get_or ts i child → IsInOrder t → IsInOrder child
+      child_in_order child within is order =
           let side = siblings_lie order in
-          ap (is_sorted key_cmp) all_below ∙ true_t _ (rows-sorted side.1 side.2 _ (all_hold-lie effect side.0 side.1 side.2 (siblings_of cs.items) side.3))
+          let inside : i < length xs = omega (arith, within, ap length items, length-map xs (λ x. x.1)) in
+          let one = tree_at xs i child inside (is ∙ ap (λ ys. get_or ys i child) items) in
+          let at = side_at (λ x. x.0) (λ l h x. Lies side.0 l h x.1) side.1 side.2 xs i one.0 inside one.2 side.3 in
+          (side.0, at.0, at.1, subst (Lies side.0 at.0 at.1) one.1 at.2)
 
-      -- what the messages make of them is what the node holds
-      pub held_above : rows_after effect buffer below ≡ holds effect (tree_of node)
-      held_above =
-          ap (rows_after effect buffer)
-          (all_below ∙ sym (nodes_hold-children effect (nodes (siblings_of cs.items)) ∙ ap (all_hold effect) (children-nodes (siblings_of cs.items))))
-          ∙ sym (ap (holds effect) (ap tree_of here ∙ tree_inner cs buffer))
+      module _ (effect : Option V → M → Option V) (below : Rows V) (so_far : each_holds effect ts ≡ below ++ each_holds effect (drop i ts)) (past : length ts ≤ i) where
+        -- the rows below all children
+        all_below : below ≡ all_hold effect xs
+        all_below =
+            sym (append-nil below) ∙ ap (λ ys. below ++ each_holds effect ys) (sym (drop_all i ts past)) ∙ sym so_far ∙ ap (each_holds effect) items ∙ each_holds-all effect xs
+
+        pub below_sorted : IsInOrder t → is_sorted key_cmp below ≡ true
+        below_sorted order =
+            let side = siblings_lie order in
+            ap (is_sorted key_cmp) all_below ∙ true_t _ (rows-sorted side.1 side.2 _ (all_hold-lie effect side.0 side.1 side.2 xs side.3))
+
+        -- what the messages make of them is what the node holds
+        pub held_above : rows_after effect buffer below ≡ holds effect t
+        held_above =
+            ap (rows_after effect buffer) (all_below ∙ sym (nodes_hold-children effect (nodes xs) ∙ ap (all_hold effect) (children-nodes xs)))
+            ∙ sym (ap (holds effect) here)
 
   -- the rows of one more child
-  pub one_more_child : (effect : Option V → Message V D → Option V) (xs : List (Key × Node V D)) (i : ℕ) (x : Key × Node V D) (below after rows : Rows V) → i < length xs → x ≡ get_or xs i x →
-      all_hold effect (siblings_of xs) ≡ below ++ all_hold effect (siblings_of (drop i xs)) → rows ≡ holds effect (tree_of x.1) → after ≡ below ++ rows →
-      all_hold effect (siblings_of xs) ≡ after ++ all_hold effect (siblings_of (drop (i + 1) xs))
-  one_more_child effect xs i x below after rows within is so_far held more =
-      let left = all_hold effect (siblings_of (drop (i + 1) xs)) in
-      let next : drop i xs ≡ x ∷ drop (i + 1) xs = drop_more xs i x within ∙ ap (λ y. y ∷ drop (i + 1) xs) (sym is) in
-      so_far ∙ ap (λ ys. below ++ all_hold effect (siblings_of ys)) next ∙ ap (λ r. below ++ (r ++ left)) (sym held) ∙ sym (append_assoc below rows left) ∙ ap (λ r. r ++ left) (sym more)
+  pub one_more_child : (effect : Option V → M → Option V) (ts : List (Tree V M)) (i : ℕ) (t : Tree V M) (below after rows : Rows V) → i < length ts → t ≡ get_or ts i t →
+      each_holds effect ts ≡ below ++ each_holds effect (drop i ts) → rows ≡ holds effect t → after ≡ below ++ rows → each_holds effect ts ≡ after ++ each_holds effect (drop (i + 1) ts)
+  one_more_child effect ts i t below after rows within is so_far held more =
+      let left = each_holds effect (drop (i + 1) ts) in
+      so_far ∙ ap (λ ys. below ++ each_holds effect ys) (drop_more ts i t within ∙ ap (λ y. y ∷ drop (i + 1) ts) (sym is))
+      ∙ ap (λ rs. below ++ (rs ++ left)) (sym held) ∙ sym (append_assoc below rows left) ∙ ap (λ rs. rs ++ left) (sym more)

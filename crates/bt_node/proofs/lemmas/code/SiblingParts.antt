@@ -1,10 +1,18 @@
 -- Siblings are their nodes behind their pivots.
-use Rattle.std.proofs.Common.{◌≡◌, ◌≤◌, ◌+◌, List, [], ◌∷◌, ◌++◌, length, map, drop, length-append, refl, sym, ap, ◌∙◌, arith}
+use Rattle.std.proofs.Common.{◌≡◌, ◌≤◌, ◌<◌, ◌+◌, ◌-◌, ℕ, zero, suc, Some, option_map, slice_get, get_or, List, [], ◌∷◌, ◌++◌, length, map, drop, length-append, refl, sym, ap, ◌∙◌, arith}
+use Rattle.std.proofs.lemmas.List.{length-map}
 use Rattle.std.specs.List.{zip}
 use Rattle.bt_node.specs.Fits.{IsLed}
 use Rattle.bt_node.specs.Flushes.{pivot_first}
 use Rattle.bt_node.specs.Keys.{Key}
-use Rattle.bt_node.specs.Trees.{behind}
+use Rattle.bt_node.specs.Kinds.{tree_of}
+use Rattle.bt_node.specs.Messages.{Messages}
+use Rattle.bt_node.specs.Trees.{Siblings, Tree, behind}
+use Rattle.bt_node.specs.Walks.{children_of}
+use Rattle.bt_node.specs.declared.node.Kind.{Kind}
+use Rattle.bt_node.specs.declared.node.Kind.TheVariants.{Inner}
+use Rattle.bt_messages.specs.declared.message.Message.{Message}
+use Rattle.bt_node.proofs.lemmas.flushes.Groups.{children-nodes}
 
 module _ {X : Type 0} where
   zip-items : (ks : List Key) (xs : List X) → length xs ≤ length ks → map (λ x. x.1) (zip ks xs) ≡ xs
@@ -64,3 +72,32 @@ module _ {X : Type 0} where
 
   pub one-more : (ks js : List Key) (xs ys : List X) (k : Key) (x : X) → length xs ≡ length ks + 1 → js ≡ ks ++ k ∷ [] → ys ≡ xs ++ x ∷ [] → behind js ys ≡ behind ks xs ++ (k, x) ∷ []
   one-more ks js xs ys k x fewer e f = ap (λ ls. behind ls ys) e ∙ ap (behind (ks ++ k ∷ [])) f ∙ behind-more ks xs fewer k x
+
+-- the children that are seen of an inner node
+pub children_seen : {V D : Type 0} (t n : Tree V (Message V D)) (k : Kind V D) (xs : Siblings V (Message V D)) (b : Messages (Message V D)) →
+    n ≡ t → n ≡ tree_of k → k ≡ Inner xs b → children_of t ≡ xs
+children_seen t n k xs b view is kind = ap children_of (sym view ∙ is ∙ ap tree_of kind) ∙ children-nodes xs
+
+-- an item that is read at a place
+pub read_at : {X Y : Type 0} (f : X → Y) (xs : List X) (ys : List Y) (i : ℕ) (y : Y) → ys ≡ map f xs → i < length ys → y ≡ get_or ys i y → option_map f (slice_get xs i) ≡ Some y
+read_at f [] ys i y e within is = absurd (omega (arith, within, ap length e))
+read_at f (x ∷ xs) ys zero y e within is = ap Some (sym (is ∙ ap (λ zs. get_or zs 0 y) e))
+read_at f (x ∷ xs) ys (suc i) y e within is =
+    read_at f xs (map f xs) i y refl (omega (arith, within, ap length e)) (is ∙ ap (λ zs. get_or zs (suc i) y) e)
+
+-- a pivot that is read at a place
+pub pivot_at : {X : Type 0} (xs : List (Key × X)) (ks : List Key) (i : ℕ) (k : Key) → ks ≡ map (λ x. x.0) (drop 1 xs) → 0 < i → i < length xs → k ≡ get_or ks (i - 1) k → option_map (λ x. x.0) (slice_get xs i) ≡ Some k
+pivot_at xs ks zero k e some within is = absurd (omega (arith, some))
+pivot_at [] ks (suc i) k e some within is = absurd (omega (arith, within))
+pivot_at (x ∷ xs) ks (suc i) k e some within is =
+    let before : suc i - 1 ≡ i = omega arith in
+    let count : length (map (λ y. y.0) xs) ≡ length xs = length-map xs (λ y. y.0) in
+    read_at (λ y. y.0) xs ks i k e (omega (arith, within, ap length e, count)) (is ∙ ap (λ j. get_or ks j k) before)
+
+pub pivots_length : {X : Type 0} (xs : List (Key × X)) (ks : List Key) → ks ≡ map (λ x. x.0) (drop 1 xs) → 1 ≤ length xs → length ks + 1 ≡ length xs
+pivots_length [] ks e some = absurd (omega (arith, some))
+pivots_length (x ∷ xs) ks e some = omega (arith, ap length e, length-map xs (λ y. y.0))
+
+-- a place among the pivots, or behind them, is one of a node
+pub pivot_within : {X : Type 0} (xs : List (Key × X)) (ts : List X) (ks : List Key) (i : ℕ) → ts ≡ map (λ x. x.1) xs → ks ≡ map (λ x. x.0) (drop 1 xs) → 1 ≤ length xs → i ≤ length ks → i < length ts
+pivot_within xs ts ks i items pivots some few = omega (arith, few, pivots_length xs ks pivots some, ap length items, length-map xs (λ x. x.1))

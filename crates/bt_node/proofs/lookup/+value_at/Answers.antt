@@ -1,16 +1,25 @@
-use Rattle.std.proofs.Common.{◌<◌, ◌∙◌, ap, arith, length, sym}
+use Rattle.std.proofs.Common.{◌∙◌, ap, arith}
+use Rattle.std.proofs.lemmas.List.{length-map}
 use Rattle.bt_messages.specs.Effects.{effect_of}
+use Rattle.bt_node.specs.Kinds.{tree_of}
 use Rattle.bt_node.specs.Lookups.{value_at}
-use Rattle.bt_node.specs.Views.{tree_of}
 use Rattle.bt_node.proofs.lemmas.code.AbsorbStep.{if_ok}
 use Rattle.bt_node.proofs.lemmas.code.LookupPath.{along}
+use Rattle.bt_node.proofs.lemmas.code.RowsOfChildren.{child_lower}
+use Rattle.bt_node.proofs.lemmas.code.SiblingParts.{pivot_within}
 use Rattle.bt_node.proofs.lookup.+value_at.Goals as goal
+
+pub value_at-requires : goal.value_at-requires
+value_at-requires g t c κs within =
+    let here = c.kind.ensures ∙ ap tree_of c.in-Inner.is in
+    let below = pivot_within c.in-Inner.children c.nodes.result.now c.pivots.result.now c.pivots_up_to.result c.nodes.ensures c.pivots.ensures.pivots c.pivots.ensures.some c.pivots_up_to.ensures.bound in
+    let less = child_lower c.args.node.now c.in-Inner.children c.in-Inner.buffer here c.nodes.result.now c.nodes.ensures c.pivots_up_to.result c.index-nodes-pivots_up_to.result below c.index-nodes-pivots_up_to.is in
+    (omega (arith, less, c.decreases), (within.0, within.1))
 
 pub returns-in_ok-old-in-Inner : goal.returns-in_ok-old-in-Inner
 returns-in_ok-old-in-Inner g t c =
     let k = c.args.key.now in
-    let some : 0 < length c.as_slice.result.now = omega (arith, c.in-len1-up.len_at_least) in
-    if_ok _ _ c.after_messages-in-Inner.result (λ value e. e
-    ∙ along (effect_of g.V.Merge.merged) k c.in-Inner.children c.in-Inner.buffer c.as_slice.result.now c.pivots_up_to.result c.index-child.result.now c.in_ok-old-in-Inner.old
-    c.as_slice.ensures.value some c.pivots_up_to.ensures.count c.index-child.ensures c.in_ok-old-in-Inner.ensures
-    ∙ sym (ap (λ n. value_at (effect_of g.V.Merge.merged) k (tree_of n)) c.in-Inner.is)) c.after_messages-in-Inner.ensures
+    let here = c.kind.ensures ∙ ap tree_of c.in-Inner.is in
+    if_ok _ _ c.after_messages.result (λ value e. e
+    ∙ along (effect_of g.V.Merge.merged) k c.in-Inner.children c.in-Inner.buffer c.args.node.now c.nodes.result.now c.pivots.result.now c.pivots_up_to.result c.index-nodes-pivots_up_to.result c.in_ok-old-in-Inner.old
+    here c.nodes.ensures c.pivots.ensures.pivots c.pivots.ensures.some c.pivots_up_to.ensures.count c.index-nodes-pivots_up_to.is c.in_ok-old-in-Inner.ensures) c.after_messages.ensures
