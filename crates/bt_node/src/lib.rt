@@ -50,5 +50,5 @@ pub use laws::{
 pub use planning::plan;
 pub use shape::Shape;
 pub use node::{Node, Parts, Siblings};
-pub use tree::{Tree, absorb_alone, crown};
+pub use tree::{Tree, absorb_alone, crown, regroup};
 pub use walk::Walk;

@@ -1,8 +1,9 @@
 //! What is pending for each child of a node.
 ghost use Rattle.std.specs.Prelude.{◌≡◌, ◌≤◌, IfOk, length};
+ghost use Rattle.bt_messages.specs.Messages.{IsSorted};
 ghost use Rattle.bt_node.specs.Flushes as flushes;
 ghost use Rattle.bt_node.specs.Shares.{divided};
-ghost use Rattle.bt_node.specs.Views.{children_of};
+ghost use Rattle.bt_node.specs.Views.{children_of, pending_of};
 
 use crate::node::{Child, Siblings};
 use bt_keycode::Key;
@@ -36,6 +37,7 @@ pub(crate) fn shared<V: Merge>(
 ) -> Result<Vec<Child<V>>, AllocError>
     ensures shares { IfOk result (λ children. children_of children.items ≡ flushes.shared siblings buffer) }
     ensures some { IfOk result (λ children. 1 ≤ length children.items) }
+    ensures sorted { IfOk result (λ children. IsSorted (pending_of children.items)) }
 {
     let mut children = Vec::with_capacity(alloc, siblings.len())?;
     let mut packets = divide(alloc, siblings.pivots(), buffer)?.into_iter();

@@ -1,24 +1,26 @@
 //! Trees, and what becomes of them under a packet.
-ghost use Rattle.std.specs.Prelude.{◌≡◌, ℕ, [], IfOk};
+ghost use Rattle.std.specs.Prelude.{◌≡◌, ◌≤◌, ℕ, [], IfOk, length};
 ghost use Rattle.std.specs.FinMap.{find};
 ghost use Rattle.std.specs.declared.option.Option.TheVariants.{None};
 ghost use Rattle.bt_messages.specs.Effects.{effect_of};
 ghost use Rattle.bt_node.specs.Fits.{AreHigh, HasShape, SiblingsFit, WhereFits};
-ghost use Rattle.bt_node.specs.Flushes.{absorb, all_hold, crown, holds, sunk};
+ghost use Rattle.bt_node.specs.Flushes.{absorb, all_hold, crown, grouped, holds, shared, sunk};
 ghost use Rattle.bt_node.specs.Keys.{key_cmp};
 ghost use Rattle.bt_node.specs.Messages.{rows_after};
 ghost use Rattle.bt_node.specs.Trees.{height, leaf};
 
 use crate::absorb::absorb;
 use crate::crowned::crowned;
+use crate::group::group;
 use crate::held_rows::held_rows;
 use crate::lookup::value_at;
 use crate::node::{Node, Siblings};
 use crate::rows::Rows;
 use crate::shape::Shape;
+use crate::share::shared;
 use crate::walk::Walk;
 use bt_keycode::Key;
-use bt_messages::{Merge, Packet};
+use bt_messages::{Buffer, Merge, Packet};
 use std::alloc::{AllocError, Global};
 use std::marker::Model;
 
@@ -60,6 +62,22 @@ pub fn absorb_alone<V: Merge>(
     ensures rows { IfOk result (λ siblings. WhereFits shape node packet (λ levels low high. all_hold (effect_of V.merged) siblings ≡ rows_after (effect_of V.merged) packet (holds (effect_of V.merged) node))) }
 {
     absorb(alloc, shape, node, packet)
+}
+
+/// Siblings as children of inner nodes, each part with its share of a buffer: the deal that ends what becomes of an inner node.
+/// An `Err` keeps neither.
+pub fn regroup<V: Merge>(
+    alloc: Global,
+    shape: Shape,
+    siblings: Siblings<V>,
+    buffer: Buffer<V>,
+) -> Result<Siblings<V>, AllocError>
+    requires several { 2 ≤ length siblings }
+    requires capacity { length buffer ≤ shape.buffer }
+    ensures { IfOk result (λ nodes. nodes ≡ grouped shape (shared siblings buffer)) }
+{
+    let children = shared(alloc, siblings, buffer)?;
+    group(alloc, shape, children)
 }
 
 /// The tree whose root stands above these siblings, and holds what they hold. An `Err` keeps nothing of them.

@@ -1,10 +1,13 @@
 -- The shares of a buffer, as the code makes them, are those of the children.
-use Rattle.std.proofs.Common.{◌≡◌, List, [], ◌∷◌, ◌++◌, append-nil, append_assoc, arith, ◌≤◌, drop, length, map, refl, sym, ap, ◌∙◌}
+use Rattle.std.proofs.Common.{◌≡◌, List, [], ◌∷◌, ◌++◌, append-nil, append_assoc, arith, ◌≤◌, drop, length, map, refl, subst, sym, ap, ◌∙◌}
 use Rattle.std.proofs.lemmas.List.{length-map, map-append}
 use Rattle.bt_messages.specs.declared.message.Message.{Message}
 use Rattle.bt_node.specs.declared.node.Child as code
 use Rattle.bt_node.specs.Keys.{Key}
-use Rattle.bt_node.specs.Views.{child_of, children_of}
+use Rattle.bt_node.specs.Views.{child_of, children_of, pending_of}
+use Rattle.bt_messages.specs.Messages.{IsSorted}
+use Rattle.bt_node.proofs.lemmas.flushes.Children.{all_pending}
+use Rattle.bt_node.proofs.lemmas.flushes.PendingOrder.{all_pending-of-shared}
 use Rattle.bt_node.proofs.lemmas.flushes.NodeSizes.{length-shared}
 use Rattle.bt_node.specs.Messages.{Messages, before, from}
 use Rattle.bt_node.specs.Trees.{Siblings}
@@ -44,3 +47,8 @@ module _ {V D : Type 0} where
 
   pub shared_some : (cs : List (code.Child V D)) (xs : Siblings V (Message V D)) (b : Messages (Message V D)) → children_of cs ≡ shared xs b → 1 ≤ length xs → 1 ≤ length cs
   shared_some cs xs b e some = omega (arith, some, ap length e, length-map cs child_of, length-shared xs b)
+
+  -- what is pending for the children is in order
+  pub shared_sorted : (cs : List (code.Child V D)) (xs : Siblings V (Message V D)) (b : Messages (Message V D)) → children_of cs ≡ shared xs b → IsSorted b → IsSorted (pending_of cs)
+  shared_sorted cs [] b e h = subst IsSorted (sym (ap all_pending e)) tt
+  shared_sorted cs (x ∷ xs) b e h = subst IsSorted (sym (ap all_pending e ∙ all_pending-of-shared (x ∷ xs) b tt h)) h

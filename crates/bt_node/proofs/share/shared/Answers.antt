@@ -1,9 +1,10 @@
-use Rattle.std.proofs.Common.{◌≡◌, ◌∙◌, ◌++◌, [], ap, arith, length, refl, rules, sym}
+use Rattle.std.proofs.Common.{◌≡◌, ◌∙◌, ◌++◌, [], ap, arith, length, refl, rules, subst, sym}
 use Rattle.std.specs.Vec.Iter.{into_iter_items}
+use Rattle.bt_messages.specs.Messages.{IsSorted}
 use Rattle.bt_node.specs.Flushes.{shared}
 use Rattle.bt_node.specs.Views.{children_of}
 use Rattle.bt_node.proofs.lemmas.code.GroupLoops.{nothing_left}
-use Rattle.bt_node.proofs.lemmas.code.ShareLoop.{all_shared, beside, beside-none, child_added, shared_some}
+use Rattle.bt_node.proofs.lemmas.code.ShareLoop.{all_shared, beside, beside-none, child_added, shared_some, shared_sorted}
 use Rattle.bt_node.proofs.share.shared.Goals as goal
 
 pub same-buffer : goal.same-buffer
@@ -32,6 +33,16 @@ returns-in_default-next-clause-some g c =
       (c.loop-pivot.invariant ∙ ap (λ xs. beside xs (into_iter_items c.into_iter-packets.result)) whole) (c.into_iter-packets.ensures.rest ∙ c.in_ok-divide.ensures) c.pivots.ensures.pivots
       (ap (beside c.loop-pivot.siblings) empty ∙ beside-none c.loop-pivot.siblings)
     ) c.pivots.ensures.some
+
+pub returns-in_default-next-clause-sorted : goal.returns-in_default-next-clause-sorted
+returns-in_default-next-clause-sorted g c =
+    let whole = c.into_pairs-siblings.ensures.same c.new.ensures in
+    let empty : into_iter_items c.loop-pivot.packets ≡ [] = nothing_left _ (search rules) in
+    shared_sorted c.loop-pivot.children.items c.args.siblings c.args.buffer (
+      all_shared c.loop-pivot.children.items c.args.siblings c.loop-pivot.siblings c.args.buffer _ (into_iter_items c.loop-pivot.packets) _
+      (c.loop-pivot.invariant ∙ ap (λ xs. beside xs (into_iter_items c.into_iter-packets.result)) whole) (c.into_iter-packets.ensures.rest ∙ c.in_ok-divide.ensures) c.pivots.ensures.pivots
+      (ap (beside c.loop-pivot.siblings) empty ∙ beside-none c.loop-pivot.siblings)
+    ) (subst IsSorted c.buffer.view_is c.buffer.invariant)
 
 pub same-pivot : goal.same-pivot
 same-pivot g c = refl
@@ -66,3 +77,13 @@ returns-clause-some g c =
       (c.loop-pivot.invariant ∙ ap (λ xs. beside xs (into_iter_items c.into_iter-packets.result)) whole) (c.into_iter-packets.ensures.rest ∙ c.in_ok-divide.ensures) c.pivots.ensures.pivots
       (ap (λ xs. beside xs (into_iter_items c.loop-pivot.packets)) empty)
     ) c.pivots.ensures.some
+
+pub returns-clause-sorted : goal.returns-clause-sorted
+returns-clause-sorted g c =
+    let whole = c.into_pairs-siblings.ensures.same c.new.ensures in
+    let empty : c.loop-pivot.siblings ≡ [] = search rules in
+    shared_sorted c.loop-pivot.children.items c.args.siblings c.args.buffer (
+      all_shared c.loop-pivot.children.items c.args.siblings c.loop-pivot.siblings c.args.buffer _ (into_iter_items c.loop-pivot.packets) _
+      (c.loop-pivot.invariant ∙ ap (λ xs. beside xs (into_iter_items c.into_iter-packets.result)) whole) (c.into_iter-packets.ensures.rest ∙ c.in_ok-divide.ensures) c.pivots.ensures.pivots
+      (ap (λ xs. beside xs (into_iter_items c.loop-pivot.packets)) empty)
+    ) (subst IsSorted c.buffer.view_is c.buffer.invariant)
