@@ -1,8 +1,9 @@
 -- What nodes consist of.
-use Rattle.std.specs.Prelude.{◌≡◌, true}
+use Rattle.std.specs.Prelude.{◌≡◌, true, List, [], ◌∷◌}
 use Rattle.bt_messages.specs.declared.message.Message.{Message}
 use Rattle.bt_node.specs.declared.node.Parts.{Parts}
 use Rattle.bt_node.specs.declared.node.Parts.TheVariants.{Leaf, Inner}
+use Rattle.bt_node.specs.Keys.{Key, key_lt}
 use Rattle.bt_node.specs.Trees.{Tree, inner, nodes}
 use Rattle.bt_node.specs.Walks.{is_leaf}
 
@@ -10,3 +11,9 @@ use Rattle.bt_node.specs.Walks.{is_leaf}
 abbrev pub IsApart : {V D : Type 0} → Tree V (Message V D) → Parts V D → Type 0
 IsApart t (Leaf node) = (node ≡ t) × (is_leaf t ≡ true)
 IsApart t (Inner children buffer) = t ≡ inner (nodes children) buffer
+
+-- keys, each before the next
+abbrev pub AreRising : List Key → Type 0
+AreRising [] = Unit {0}
+AreRising (k ∷ []) = Unit {0}
+AreRising (k ∷ l ∷ ks) = (key_lt k l ≡ true) × AreRising (l ∷ ks)

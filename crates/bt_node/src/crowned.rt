@@ -11,10 +11,7 @@ use bt_messages::Merge;
 use std::alloc::{AllocError, Global};
 
 // Siblings as children for which nothing is pending.
-fn none_pending<V: Merge>(
-    alloc: Global,
-    siblings: Siblings<V>,
-) -> Result<Vec<Child<V>>, AllocError>
+fn none_pending<V: Merge>(alloc: Global, siblings: Siblings<V>) -> Result<Vec<Child<V>>, AllocError>
     ensures { IfOk result (λ children. children_of children.items ≡ none_pending_of siblings) }
 {
     let mut children = Vec::with_capacity(alloc, siblings.len())?;

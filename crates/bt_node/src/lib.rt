@@ -47,8 +47,8 @@ pub use laws::{
     drain_keeps_all, lookup_finds_held, messages_in_order, pack_keeps_all, plan_is_choice,
     sunk_keeps_all,
 };
+pub use node::{Node, Parts, Siblings};
 pub use planning::plan;
 pub use shape::Shape;
-pub use node::{Node, Parts, Siblings};
 pub use tree::{Tree, absorb_alone, crown, regroup};
 pub use walk::Walk;

@@ -14,7 +14,7 @@
 ghost use Rattle.std.specs.Prelude.{◌≡◌, ◌∷◌, ◌++◌, ◌+◌, ◌≤◌, [], IfOk, OnOk, MatchOption, length, map, drop};
 ghost use Rattle.bt_node.specs.Fits.{IsLed};
 ghost use Rattle.bt_node.specs.Flushes.{pivot_first};
-ghost use Rattle.bt_node.specs.Parts.{IsApart};
+ghost use Rattle.bt_node.specs.Parts.{AreRising, IsApart};
 ghost use Rattle.bt_node.specs.Trees.{behind};
 ghost use Rattle.bt_node.specs.Trees as trees;
 ghost use Rattle.bt_node.specs.Kinds.{tree_of};
@@ -152,6 +152,7 @@ impl<V: Merge> Siblings<V> {
     /// Nodes with a pivot between each two neighbours.
     pub fn new(nodes: Vec<Node<V>>, pivots: Vec<Key>) -> Self
         requires one_fewer { length nodes.items ≡ length pivots.items + 1 }
+        requires rising { AreRising pivots.items }
         ensures { result ≡ behind pivots.items nodes.items }
     {
         Siblings { nodes, pivots }
@@ -217,7 +218,10 @@ impl<V: Merge> Siblings<V> {
         requires { length self ≡ 1 }
         ensures { self ≡ ([], result) ∷ [] }
     {
-        let Siblings { mut nodes, pivots: _pivots } = self;
+        let Siblings {
+            mut nodes,
+            pivots: _pivots,
+        } = self;
         match nodes.pop() {
             Some(node) => node,
             None => unreachable!(),

@@ -56,10 +56,7 @@ pub(crate) fn shared<V: Merge>(
 }
 
 /// How many messages are pending for each child.
-pub(crate) fn counts<V: Merge>(
-    alloc: Global,
-    children: &[Child<V>],
-) -> Result<Vec<u64>, AllocError>
+pub(crate) fn counts<V: Merge>(alloc: Global, children: &[Child<V>]) -> Result<Vec<u64>, AllocError>
     ensures { IfOk result (λ counts. counts.items ≡ flushes.counts (children_of children.now)) }
 {
     let mut counts = Vec::with_capacity(alloc, children.len())?;

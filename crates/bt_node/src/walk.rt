@@ -101,9 +101,7 @@ impl<'a, V: Merge> Walk<'a, V> {
     {
         match self.node.kind() {
             Kind::Leaf(_) => unreachable!(),
-            Kind::Inner { children, .. } => {
-                Walk::new(&children.nodes()[place])
-            }
+            Kind::Inner { children, .. } => { Walk::new(&children.nodes()[place]) }
         }
     }
 

@@ -29,9 +29,9 @@ returns-in_default-next-clause-some g c =
     let whole = c.into_pairs-siblings.ensures.same c.new.ensures in
     let empty : into_iter_items c.loop-pivot.packets ≡ [] = nothing_left _ (search rules) in
     shared_some c.loop-pivot.children.items c.args.siblings c.args.buffer (
-      all_shared c.loop-pivot.children.items c.args.siblings c.loop-pivot.siblings c.args.buffer _ (into_iter_items c.loop-pivot.packets) _
-      (c.loop-pivot.invariant ∙ ap (λ xs. beside xs (into_iter_items c.into_iter-packets.result)) whole) (c.into_iter-packets.ensures.rest ∙ c.in_ok-divide.ensures) c.pivots.ensures.pivots
-      (ap (beside c.loop-pivot.siblings) empty ∙ beside-none c.loop-pivot.siblings)
+    all_shared c.loop-pivot.children.items c.args.siblings c.loop-pivot.siblings c.args.buffer _ (into_iter_items c.loop-pivot.packets) _
+    (c.loop-pivot.invariant ∙ ap (λ xs. beside xs (into_iter_items c.into_iter-packets.result)) whole) (c.into_iter-packets.ensures.rest ∙ c.in_ok-divide.ensures) c.pivots.ensures.pivots
+    (ap (beside c.loop-pivot.siblings) empty ∙ beside-none c.loop-pivot.siblings)
     ) c.pivots.ensures.some
 
 pub returns-in_default-next-clause-sorted : goal.returns-in_default-next-clause-sorted
@@ -39,9 +39,9 @@ returns-in_default-next-clause-sorted g c =
     let whole = c.into_pairs-siblings.ensures.same c.new.ensures in
     let empty : into_iter_items c.loop-pivot.packets ≡ [] = nothing_left _ (search rules) in
     shared_sorted c.loop-pivot.children.items c.args.siblings c.args.buffer (
-      all_shared c.loop-pivot.children.items c.args.siblings c.loop-pivot.siblings c.args.buffer _ (into_iter_items c.loop-pivot.packets) _
-      (c.loop-pivot.invariant ∙ ap (λ xs. beside xs (into_iter_items c.into_iter-packets.result)) whole) (c.into_iter-packets.ensures.rest ∙ c.in_ok-divide.ensures) c.pivots.ensures.pivots
-      (ap (beside c.loop-pivot.siblings) empty ∙ beside-none c.loop-pivot.siblings)
+    all_shared c.loop-pivot.children.items c.args.siblings c.loop-pivot.siblings c.args.buffer _ (into_iter_items c.loop-pivot.packets) _
+    (c.loop-pivot.invariant ∙ ap (λ xs. beside xs (into_iter_items c.into_iter-packets.result)) whole) (c.into_iter-packets.ensures.rest ∙ c.in_ok-divide.ensures) c.pivots.ensures.pivots
+    (ap (beside c.loop-pivot.siblings) empty ∙ beside-none c.loop-pivot.siblings)
     ) (subst IsSorted c.buffer.view_is c.buffer.invariant)
 
 pub same-pivot : goal.same-pivot
@@ -73,9 +73,9 @@ returns-clause-some g c =
     let whole = c.into_pairs-siblings.ensures.same c.new.ensures in
     let empty : c.loop-pivot.siblings ≡ [] = search rules in
     shared_some c.loop-pivot.children.items c.args.siblings c.args.buffer (
-      all_shared c.loop-pivot.children.items c.args.siblings c.loop-pivot.siblings c.args.buffer _ (into_iter_items c.loop-pivot.packets) _
-      (c.loop-pivot.invariant ∙ ap (λ xs. beside xs (into_iter_items c.into_iter-packets.result)) whole) (c.into_iter-packets.ensures.rest ∙ c.in_ok-divide.ensures) c.pivots.ensures.pivots
-      (ap (λ xs. beside xs (into_iter_items c.loop-pivot.packets)) empty)
+    all_shared c.loop-pivot.children.items c.args.siblings c.loop-pivot.siblings c.args.buffer _ (into_iter_items c.loop-pivot.packets) _
+    (c.loop-pivot.invariant ∙ ap (λ xs. beside xs (into_iter_items c.into_iter-packets.result)) whole) (c.into_iter-packets.ensures.rest ∙ c.in_ok-divide.ensures) c.pivots.ensures.pivots
+    (ap (λ xs. beside xs (into_iter_items c.loop-pivot.packets)) empty)
     ) c.pivots.ensures.some
 
 pub returns-clause-sorted : goal.returns-clause-sorted
@@ -83,7 +83,7 @@ returns-clause-sorted g c =
     let whole = c.into_pairs-siblings.ensures.same c.new.ensures in
     let empty : c.loop-pivot.siblings ≡ [] = search rules in
     shared_sorted c.loop-pivot.children.items c.args.siblings c.args.buffer (
-      all_shared c.loop-pivot.children.items c.args.siblings c.loop-pivot.siblings c.args.buffer _ (into_iter_items c.loop-pivot.packets) _
-      (c.loop-pivot.invariant ∙ ap (λ xs. beside xs (into_iter_items c.into_iter-packets.result)) whole) (c.into_iter-packets.ensures.rest ∙ c.in_ok-divide.ensures) c.pivots.ensures.pivots
-      (ap (λ xs. beside xs (into_iter_items c.loop-pivot.packets)) empty)
+    all_shared c.loop-pivot.children.items c.args.siblings c.loop-pivot.siblings c.args.buffer _ (into_iter_items c.loop-pivot.packets) _
+    (c.loop-pivot.invariant ∙ ap (λ xs. beside xs (into_iter_items c.into_iter-packets.result)) whole) (c.into_iter-packets.ensures.rest ∙ c.in_ok-divide.ensures) c.pivots.ensures.pivots
+    (ap (λ xs. beside xs (into_iter_items c.loop-pivot.packets)) empty)
     ) (subst IsSorted c.buffer.view_is c.buffer.invariant)
