@@ -3,7 +3,7 @@ use Rattle.std.specs.Prelude.{◌≡◌, ℕ}
 use Rattle.std.specs.List.{flat_map}
 use Rattle.std.specs.declared.option.Option.{Option}
 use Rattle.std.specs.declared.option.Option.TheVariants.{None}
-use Rattle.bt_node.specs.Keys.{Key, AllWithin}
+use Rattle.bt_keycode.specs.Keys.{Key, AllWithin}
 use Rattle.bt_node.specs.Messages.{Rows, Messages, rows_after, with_messages}
 use Rattle.bt_node.specs.Trees.{Shape, Tree, inner, Nodes, children, nodes}
 use Rattle.bt_node.specs.Flushes.{shared, flushed, grouped, holds, all_hold}

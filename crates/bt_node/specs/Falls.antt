@@ -7,7 +7,7 @@ use Rattle.bt_messages.specs.declared.message.Merge.{Ghosts}
 use Rattle.bt_node.specs.declared.node.Kind.{Kind}
 use Rattle.bt_node.specs.declared.node.Kind.TheVariants.{Leaf, Inner}
 use Rattle.bt_node.specs.declared.node.Node.TheDeep.{deep-Kind}
-use Rattle.bt_node.specs.Keys.{Key}
+use Rattle.bt_keycode.specs.Keys.{Key}
 use Rattle.bt_node.specs.Trees.{Tree, behind, height, height_below, nodes}
 use Rattle.bt_node.specs.Kinds.{tree_of}
 

@@ -3,10 +3,11 @@ use Rattle.std.specs.Prelude.{◌≡◌, ℕ, ◌≤◌, List, [], ◌∷◌, le
 use Rattle.std.specs.FinMap.{find}
 use Rattle.std.specs.declared.option.Option.{Option}
 use Rattle.std.specs.declared.option.Option.TheVariants.{None}
-use Rattle.bt_node.specs.Keys.{Key, key_cmp, AllWithin, IsRising}
+use Rattle.bt_keycode.specs.Keys.{Key, key_cmp, AllWithin, IsSorted}
 use Rattle.bt_node.specs.Messages.{Rows, Messages, rows_after, value_after, with_messages}
 use Rattle.bt_node.specs.Plans.{total, planned, renewed}
-use Rattle.bt_node.specs.Loops.{replaced, passed, marked_all, unmarked, items_at}
+use Rattle.bt_node.specs.Loops.{replaced, items_at}
+use Rattle.bt_node.specs.inside.Marks.{passed, marked_all, unmarked}
 use Rattle.bt_node.specs.Trees.{Shape, Tree, inner, Nodes, Siblings, children, height}
 use Rattle.bt_node.specs.Flushes.{Child, Flush, counts, shared, flushed, flushed_over, grouped, absorb, crown, sunk, holds, all_hold}
 use Rattle.bt_node.specs.Lookups.{value_at}
@@ -37,7 +38,7 @@ module _ {V M : Type 0} (effect : Option V → M → Option V) where
 
   -- A buffer that took a packet has the effect of what it had before, and then of the packet.
   abbrev pub PacketComesLater : Type 0
-  PacketComesLater = (packet buffer : Messages M) (rows : Rows V) → IsRising buffer → RowsLie None None rows →
+  PacketComesLater = (packet buffer : Messages M) (rows : Rows V) → IsSorted buffer → RowsLie None None rows →
       rows_after effect (with_messages packet buffer) rows ≡ rows_after effect packet (rows_after effect buffer rows)
 
   -- ---- a node and a packet, between limits

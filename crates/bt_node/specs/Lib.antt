@@ -1,3 +1,4 @@
+pub mod inside
 pub mod Deals
 pub mod DrainLaws
 pub mod Drains
@@ -13,8 +14,5 @@ pub mod Messages
 pub mod Parts
 pub mod Plans
 pub mod Shapes
-pub mod Shares
-pub mod Stored
 pub mod Trees
-pub mod Views
 pub mod Walks

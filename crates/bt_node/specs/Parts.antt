@@ -3,7 +3,7 @@ use Rattle.std.specs.Prelude.{◌≡◌, true, List, [], ◌∷◌}
 use Rattle.bt_messages.specs.declared.message.Message.{Message}
 use Rattle.bt_node.specs.declared.node.Parts.{Parts}
 use Rattle.bt_node.specs.declared.node.Parts.TheVariants.{Leaf, Inner}
-use Rattle.bt_node.specs.Keys.{Key, key_lt}
+use Rattle.bt_keycode.specs.Keys.{Key, is_before}
 use Rattle.bt_node.specs.Trees.{Tree, inner, nodes}
 use Rattle.bt_node.specs.Walks.{is_leaf}
 
@@ -16,4 +16,4 @@ IsApart t (Inner children buffer) = t ≡ inner (nodes children) buffer
 abbrev pub AreRising : List Key → Type 0
 AreRising [] = Unit {0}
 AreRising (k ∷ []) = Unit {0}
-AreRising (k ∷ l ∷ ks) = (key_lt k l ≡ true) × AreRising (l ∷ ks)
+AreRising (k ∷ l ∷ ks) = (is_before k l ≡ true) × AreRising (l ∷ ks)

@@ -4,9 +4,9 @@ ghost use Rattle.std.specs.List.{zip};
 ghost use Rattle.bt_messages.specs.Effects.{effect_of};
 ghost use Rattle.bt_node.specs.Fits.{IsLed};
 ghost use Rattle.bt_node.specs.Flushes.{absorb, counts, flushed};
-ghost use Rattle.bt_node.specs.Loops.{passed};
-ghost use Rattle.bt_node.specs.Plans.{marks_of, planned};
-ghost use Rattle.bt_node.specs.Views.{children_of};
+ghost use Rattle.bt_node.specs.inside.Marks.{passed, marks_of};
+ghost use Rattle.bt_node.specs.Plans.{planned};
+ghost use Rattle.bt_node.specs.inside.Views.{children_of};
 
 use crate::group::{add_parts, group, leaves};
 use crate::node::{Child, Kind, Node, Siblings};

@@ -67,7 +67,7 @@ impl<V: Merge> Model for Node<V> {
     ghost use Rattle.std.specs.Prelude.{◌*◌, ℕ};
     ghost use Rattle.bt_messages.specs.declared.message.Message.{Message};
     ghost use Rattle.bt_node.specs.Trees as trees;
-    ghost use Rattle.bt_node.specs.Stored.{message_code, tree_code};
+    ghost use Rattle.bt_node.specs.inside.Stored.{message_code, tree_code};
 
     ghost Value = { trees.Tree V (Message V V.Delta) };
 
@@ -90,7 +90,7 @@ impl<V: Merge> Model for Siblings<V> {
     ghost use Rattle.bt_messages.specs.declared.message.Message.{Message};
     ghost use Rattle.bt_node.specs.Trees as trees;
     ghost use Rattle.bt_node.specs.Trees.{behind};
-    ghost use Rattle.bt_node.specs.Stored.{message_code, tree_code};
+    ghost use Rattle.bt_node.specs.inside.Stored.{message_code, tree_code};
 
     ghost Value = { trees.Siblings V (Message V V.Delta) };
 
@@ -258,7 +258,7 @@ impl<V: Merge> Model for Pairs<V> {
     ghost use Rattle.std.specs.Vec.Iter.{into_iter_items};
     ghost use Rattle.bt_messages.specs.declared.message.Message.{Message};
     ghost use Rattle.bt_node.specs.Trees as trees;
-    ghost use Rattle.bt_node.specs.Stored.{message_code, tree_code};
+    ghost use Rattle.bt_node.specs.inside.Stored.{message_code, tree_code};
 
     ghost Value = { trees.Siblings V (Message V V.Delta) };
 

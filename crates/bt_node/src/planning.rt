@@ -2,7 +2,8 @@
 //!
 //! Counts, sums and capacities are numbers of messages, and places are counted from 0, the leftmost child.
 ghost use Rattle.std.specs.Prelude.{◌≡◌, IfOk, length, vec_len};
-ghost use Rattle.bt_node.specs.Plans.{fullest, marks_of, planned, total};
+ghost use Rattle.bt_node.specs.Plans.{fullest, planned, total};
+ghost use Rattle.bt_node.specs.inside.Marks.{marks_of};
 
 use std::alloc::{AllocError, Global};
 

@@ -1,9 +1,9 @@
 //! What is pending for each child of a node.
 ghost use Rattle.std.specs.Prelude.{◌≡◌, ◌≤◌, IfOk, length};
-ghost use Rattle.bt_messages.specs.Messages.{IsSorted};
+ghost use Rattle.bt_keycode.specs.Keys.{IsSorted};
 ghost use Rattle.bt_node.specs.Flushes as flushes;
-ghost use Rattle.bt_node.specs.Shares.{divided};
-ghost use Rattle.bt_node.specs.Views.{children_of, pending_of};
+ghost use Rattle.bt_node.specs.inside.Shares.{divided};
+ghost use Rattle.bt_node.specs.inside.Views.{children_of, pending_of};
 
 use crate::node::{Child, Siblings};
 use bt_keycode::Key;

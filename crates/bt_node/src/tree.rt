@@ -5,7 +5,7 @@ ghost use Rattle.std.specs.declared.option.Option.TheVariants.{None};
 ghost use Rattle.bt_messages.specs.Effects.{effect_of};
 ghost use Rattle.bt_node.specs.Fits.{AreHigh, HasShape, SiblingsFit, WhereFits};
 ghost use Rattle.bt_node.specs.Flushes.{absorb, all_hold, crown, grouped, holds, shared, sunk};
-ghost use Rattle.bt_node.specs.Keys.{key_cmp};
+ghost use Rattle.bt_keycode.specs.Keys.{key_cmp};
 ghost use Rattle.bt_node.specs.Messages.{rows_after};
 ghost use Rattle.bt_node.specs.Trees.{height, leaf};
 
@@ -35,7 +35,7 @@ impl<V: Merge> Model for Tree<V> {
     ghost use Rattle.bt_messages.specs.declared.message.Message.{Message};
     ghost use Rattle.bt_node.specs.Trees as trees;
     ghost use Rattle.bt_node.specs.Fits.{HasShape};
-    ghost use Rattle.bt_node.specs.Stored.{message_code, shaped_tree_code};
+    ghost use Rattle.bt_node.specs.inside.Stored.{message_code, shaped_tree_code};
 
     ghost Value = { trees.Shape × trees.Tree V (Message V V.Delta) };
 

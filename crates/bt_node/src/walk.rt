@@ -16,7 +16,7 @@ pub struct Walk<'a, V: Merge> {
 impl<'a, V: Merge> Model for Walk<'a, V> {
     ghost use Rattle.bt_messages.specs.declared.message.Message.{Message};
     ghost use Rattle.bt_node.specs.Trees as trees;
-    ghost use Rattle.bt_node.specs.Stored.{message_code, tree_code};
+    ghost use Rattle.bt_node.specs.inside.Stored.{message_code, tree_code};
 
     ghost Value = { trees.Tree V (Message V V.Delta) };
 

@@ -5,7 +5,7 @@ use Rattle.bt_messages.specs.Messages.{sorted_batch}
 use Rattle.bt_messages.proofs.Rows.{rows_after-sorted_batch}
 use Rattle.bt_node.specs.Fits.{IsFit, IsRoomy}
 use Rattle.bt_node.specs.Flushes.{holds, sunk}
-use Rattle.bt_node.specs.Keys.{key_cmp}
+use Rattle.bt_keycode.specs.Keys.{key_cmp}
 use Rattle.bt_node.specs.Messages.{rows_after}
 use Rattle.bt_node.specs.Trees.{Shape}
 use Rattle.bt_rowtype.specs.Schemas.{Schema}

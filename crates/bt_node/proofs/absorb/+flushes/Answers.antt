@@ -1,6 +1,6 @@
 use Rattle.std.proofs.Common.{◌≡◌, ◌≤◌, ◌∙◌, ◌∷◌, [], ap, arith, length, refl, rules, sym}
 use Rattle.bt_messages.specs.Effects.{effect_of}
-use Rattle.bt_messages.specs.Messages.{IsSorted}
+use Rattle.bt_keycode.specs.Keys.{IsSorted}
 use Rattle.bt_node.specs.Flushes.{absorb, leaves}
 use Rattle.bt_node.proofs.lemmas.code.AbsorbStep.{grouped_anew, if_ok, lower, parts_some, parts_sorted, stays_here}
 use Rattle.bt_node.proofs.absorb.+flushes.Goals as goal

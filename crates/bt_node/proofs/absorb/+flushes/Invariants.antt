@@ -3,7 +3,7 @@ use Rattle.std.specs.List.{zip}
 use Rattle.std.specs.Vec.Iter.{into_iter_items}
 use Rattle.bt_messages.specs.Effects.{effect_of}
 use Rattle.bt_node.specs.Trees.{height}
-use Rattle.bt_node.specs.Views.{children_of}
+use Rattle.bt_node.specs.inside.Views.{children_of}
 use Rattle.bt_node.proofs.lemmas.code.AbsorbStep.{highest, pass}
 use Rattle.bt_node.proofs.absorb.+flushes.Given as goal
 

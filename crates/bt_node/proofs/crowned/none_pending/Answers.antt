@@ -1,6 +1,6 @@
 use Rattle.std.proofs.Common.{◌∙◌, ◌++◌, ap, refl}
 use Rattle.bt_node.specs.Flushes.{pivot_first}
-use Rattle.bt_node.specs.Views.{children_of, none_pending_of}
+use Rattle.bt_node.specs.inside.Views.{children_of, none_pending_of}
 use Rattle.bt_node.proofs.lemmas.flushes.EmptyPackets.{led-first}
 use Rattle.bt_node.proofs.crowned.none_pending.Goals as goal
 

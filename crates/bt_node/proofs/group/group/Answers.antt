@@ -1,7 +1,7 @@
 use Rattle.std.proofs.Common.{◌≡◌, ◌∷◌, ◌++◌, ◌∙◌, [], ap, arith, refl, rules, subst, sym}
-use Rattle.bt_messages.specs.Messages.{IsSorted}
+use Rattle.bt_keycode.specs.Keys.{IsSorted}
 use Rattle.bt_node.specs.Deals.{deal}
-use Rattle.bt_node.specs.Views.{pending_of}
+use Rattle.bt_node.specs.inside.Views.{pending_of}
 use Rattle.bt_node.proofs.lemmas.code.GroupLoops.{all_dealt, all_of, first_part, group_done, groups_of, more, nothing_left, other_parts, parts_full, parts_of}
 use Rattle.bt_node.proofs.lemmas.deals.Parts.{AllNonEmpty, NonEmpty}
 use Rattle.bt_node.proofs.lemmas.flushes.Groups.{deal-some, some_length}

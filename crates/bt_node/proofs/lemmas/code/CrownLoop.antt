@@ -1,12 +1,12 @@
 -- Siblings put under inner nodes, as the code does it: fewer, and with the same crown.
 use Rattle.std.proofs.Common.{◌≡◌, ◌<◌, ◌≤◌, List, [], ◌∷◌, length, refl, sym, ap, subst, ◌∙◌, arith}
 use Rattle.std.proofs.lemmas.List.{length-map}
-use Rattle.bt_messages.specs.Messages.{IsSorted}
+use Rattle.bt_keycode.specs.Keys.{IsSorted}
 use Rattle.bt_messages.specs.declared.message.Message.{Message}
 use Rattle.bt_node.specs.declared.node.Child as code
 use Rattle.bt_node.specs.Trees.{Shape, Siblings, Tree}
 use Rattle.bt_node.specs.Flushes.{Child, crown, grouped}
-use Rattle.bt_node.specs.Views.{child_of, children_of, none_pending_of, pending_of}
+use Rattle.bt_node.specs.inside.Views.{child_of, children_of, none_pending_of, pending_of}
 use Rattle.bt_node.proofs.lemmas.flushes.Children.{all_pending}
 use Rattle.bt_node.proofs.lemmas.crowns.Levels.{crown-step, raised-shorter, shared-nothing}
 

@@ -2,15 +2,14 @@
 use Rattle.std.proofs.Common.{Vec, Global, ◌≡◌, ℕ, List, [], ◌∷◌, ◌++◌, length, map, take, drop, ◌<◌, ◌≤◌, refl, sym, ap, subst, ◌∙◌, append-nil, append_assoc, arith}
 use Rattle.std.specs.List.{flat_map}
 use Rattle.std.proofs.lemmas.List.{drop-map, length-map, take-map}
-use Rattle.bt_messages.specs.Messages.{IsSorted}
+use Rattle.bt_keycode.specs.Keys.{IsSorted, Key}
 use Rattle.bt_messages.specs.declared.message.Message.{Message}
 use Rattle.bt_node.specs.declared.node.Child as code
-use Rattle.bt_node.specs.Keys.{Key}
 use Rattle.bt_node.specs.Messages.{Messages, Rows, with_messages}
 use Rattle.bt_node.specs.Trees.{Shape, Siblings, Tree, inner, leaf, nodes}
 use Rattle.bt_node.specs.Deals.{deal, parted, sizes}
 use Rattle.bt_node.specs.Flushes.{first_key, gathered, grouped, leaves, pivot_first}
-use Rattle.bt_node.specs.Views.{child_of, children_of, pending_of}
+use Rattle.bt_node.specs.inside.Views.{child_of, children_of, pending_of}
 use Rattle.bt_node.proofs.lemmas.deals.Parts.{AllNonEmpty, joined, joined-deal, full-deal}
 use Rattle.bt_node.proofs.lemmas.flushes.Groups.{as_leaf, some_length, stripped}
 use Rattle.bt_node.proofs.lemmas.flushes.PendingOrder.{added-behind, sorted-back, sorted-prefix}

@@ -6,7 +6,7 @@ use Rattle.std.specs.FinMap.{is_sorted}
 use Rattle.std.specs.declared.option.Option.TheVariants.{None, Some}
 use Rattle.bt_node.specs.Fits.{HasShape, IsInOrder, Lies, SiblingsLie}
 use Rattle.bt_node.specs.Flushes.{all_hold, holds}
-use Rattle.bt_node.specs.Keys.{Key, SideBySide, key_cmp}
+use Rattle.bt_keycode.specs.Keys.{Key, SideBySide, key_cmp}
 use Rattle.bt_node.specs.Messages.{Messages, Rows, rows_after}
 use Rattle.bt_node.specs.Trees.{Nodes, Shape, Siblings, Tree, children, height, height_below, inner, nodes}
 use Rattle.bt_node.proofs.lemmas.flushes.Groups.{children-nodes}

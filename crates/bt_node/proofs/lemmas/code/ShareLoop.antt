@@ -3,16 +3,15 @@ use Rattle.std.proofs.Common.{◌≡◌, List, [], ◌∷◌, ◌++◌, append-n
 use Rattle.std.proofs.lemmas.List.{length-map, map-append}
 use Rattle.bt_messages.specs.declared.message.Message.{Message}
 use Rattle.bt_node.specs.declared.node.Child as code
-use Rattle.bt_node.specs.Keys.{Key}
-use Rattle.bt_node.specs.Views.{child_of, children_of, pending_of}
-use Rattle.bt_messages.specs.Messages.{IsSorted}
+use Rattle.bt_keycode.specs.Keys.{Key, IsSorted}
+use Rattle.bt_node.specs.inside.Views.{child_of, children_of, pending_of}
 use Rattle.bt_node.proofs.lemmas.flushes.Children.{all_pending}
 use Rattle.bt_node.proofs.lemmas.flushes.PendingOrder.{all_pending-of-shared}
 use Rattle.bt_node.proofs.lemmas.flushes.NodeSizes.{length-shared}
 use Rattle.bt_node.specs.Messages.{Messages, before, from}
 use Rattle.bt_node.specs.Trees.{Siblings}
 use Rattle.bt_node.specs.Flushes.{Child, shared}
-use Rattle.bt_node.specs.Shares.{divided}
+use Rattle.bt_node.specs.inside.Shares.{divided}
 
 module _ {V M : Type 0} where
   -- siblings, each beside a packet

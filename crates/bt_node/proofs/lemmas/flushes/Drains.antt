@@ -3,10 +3,10 @@ use Rattle.std.proofs.Common.{◌≡◌, ℕ, zero, suc, ◌<◌, ◌≤◌, Boo
 use Rattle.std.specs.List.{flat_map}
 use Rattle.std.specs.declared.option.Option.{Option}
 use Rattle.std.specs.declared.option.Option.TheVariants.{None, Some}
-use Rattle.bt_node.specs.Keys.{Key, AllWithin}
+use Rattle.bt_keycode.specs.Keys.{Key, AllWithin}
 use Rattle.bt_node.specs.Messages.{Rows, Messages, rows_after, with_messages}
 use Rattle.bt_node.specs.Deals.{deal}
-use Rattle.bt_node.specs.Loops.{passed}
+use Rattle.bt_node.specs.inside.Marks.{passed}
 use Rattle.bt_node.specs.Trees.{Shape, Tree, leaf, inner, Siblings, children, nodes}
 use Rattle.bt_node.specs.Flushes.{Child, Flush, pivot_first, shared, flushed, gathered, grouped, leaves, crowned, holds, all_hold}
 use Rattle.bt_node.specs.Fits.{RowsLie, Lies, AreSized, NodeFits, SiblingsFit, IsRoomy}

@@ -2,7 +2,7 @@
 use Rattle.std.proofs.Common.{ℕ, suc, List, [], ◌∷◌, length, sym, ap, subst, ◌∙◌, arith, le_refl}
 use Rattle.std.specs.declared.option.Option.{Option}
 use Rattle.std.specs.declared.option.Option.TheVariants.{None, Some}
-use Rattle.bt_node.specs.Keys.{Key, AllWithin}
+use Rattle.bt_keycode.specs.Keys.{Key, AllWithin}
 use Rattle.bt_node.specs.Plans.{total}
 use Rattle.bt_node.specs.Trees.{Siblings, nodes}
 use Rattle.bt_node.specs.Flushes.{counts, flushed, absorb, crown}

@@ -2,11 +2,10 @@
 use Rattle.std.proofs.Common.{◌≡◌, Bool, true, false, List, [], ◌∷◌, ◌++◌, length, refl, sym, ap, subst, ◌∙◌}
 use Rattle.std.specs.List.{zip}
 use Rattle.std.specs.declared.option.Option.TheVariants.{None, Some}
-use Rattle.bt_messages.specs.Messages.{AllFrom, IsSorted}
+use Rattle.bt_keycode.specs.Keys.{AllFrom, IsSorted, Key, AllWithin}
 use Rattle.bt_messages.proofs.Placed.{first_stays, newer_last}
-use Rattle.bt_node.specs.Keys.{Key, AllWithin, IsRising}
 use Rattle.bt_node.specs.Messages.{Messages, with_messages}
-use Rattle.bt_node.specs.Loops.{passed}
+use Rattle.bt_node.specs.inside.Marks.{passed}
 use Rattle.bt_node.specs.Trees.{Siblings}
 use Rattle.bt_node.specs.Flushes.{Child, Flush, pivot_first, shared, flushed}
 use Rattle.bt_node.proofs.lemmas.deals.Parts.{NonEmpty}
@@ -25,11 +24,11 @@ module _ {M : Type 0} where
   within-from k [] h = tt
   within-from k (m ∷ ms) h = (h.0.from, within-from k ms h.1)
 
-  pub sorted-rising : (ms : Messages M) → IsSorted ms → IsRising ms
+  pub sorted-rising : (ms : Messages M) → IsSorted ms → IsSorted ms
   sorted-rising [] h = tt
   sorted-rising (m ∷ ms) h = (from-within m.0 ms h.0, sorted-rising ms h.1)
 
-  pub rising-sorted : (ms : Messages M) → IsRising ms → IsSorted ms
+  pub rising-sorted : (ms : Messages M) → IsSorted ms → IsSorted ms
   rising-sorted [] h = tt
   rising-sorted (m ∷ ms) h = (within-from m.0 ms h.0, rising-sorted ms h.1)
 

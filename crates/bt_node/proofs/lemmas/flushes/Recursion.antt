@@ -3,7 +3,7 @@ use Rattle.std.proofs.Common.{◌≡◌, ℕ, zero, suc, ◌≤◌, Bool, true, 
 use Rattle.std.specs.List.{flat_map}
 use Rattle.std.specs.declared.option.Option.{Option}
 use Rattle.bt_node.specs.Messages.{Messages, from}
-use Rattle.bt_node.specs.Loops.{passed}
+use Rattle.bt_node.specs.inside.Marks.{passed}
 use Rattle.bt_node.specs.Trees.{Shape, Tree, leaf, inner, Nodes, none, node, children, height, height_below}
 use Rattle.bt_node.specs.Flushes.{Child, Flush, pivot_first, shared, flushed, flushed_over, grouped, absorbed, absorb}
 use Rattle.bt_node.specs.Drains.{drained_at, drained}

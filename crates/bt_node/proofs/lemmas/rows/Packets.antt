@@ -4,10 +4,10 @@ use Rattle.std.specs.FinMap.{find, nat_cmp-IsAntisymmetric, slice_cmp-IsAntisymm
 use Rattle.std.specs.FinMap.Entries.{same_entries}
 use Rattle.std.specs.declared.option.Option.{Option}
 use Rattle.std.specs.declared.option.Option.TheVariants.{None}
-use Rattle.bt_node.specs.Keys.{key_cmp}
+use Rattle.bt_keycode.specs.Keys.{key_cmp}
 use Rattle.bt_node.specs.Messages.{rows_after, value_after, with_messages}
 use Rattle.bt_node.specs.Laws.{MessagesFindTheirKey, PacketComesLater}
-use Rattle.bt_node.proofs.lemmas.keys.Order.{total_keys}
+use Rattle.bt_keycode.proofs.offered.Order.{total_keys}
 use Rattle.bt_node.proofs.lemmas.rows.Values.{find-rows}
 use Rattle.bt_node.proofs.lemmas.rows.Buffers.{value-with_messages}
 use Rattle.bt_node.proofs.lemmas.rows.RowsAfter.{rows-sorted, rows_after-sorted}

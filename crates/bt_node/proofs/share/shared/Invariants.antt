@@ -1,6 +1,6 @@
 use Rattle.std.proofs.Common.{◌≡◌, ◌++◌, length}
 use Rattle.std.specs.Vec.Iter.{into_iter_items}
-use Rattle.bt_node.specs.Views.{children_of}
+use Rattle.bt_node.specs.inside.Views.{children_of}
 use Rattle.bt_node.proofs.lemmas.code.ShareLoop.{beside}
 use Rattle.bt_node.proofs.share.shared.Given as goal
 

@@ -1,7 +1,7 @@
 use Rattle.std.proofs.Common.{◌<◌, ◌∙◌, Some, ap, arith, length, option_map, slice_get, sym}
 use Rattle.std.proofs.lemmas.List.{length-map}
 use Rattle.bt_messages.specs.declared.message.Message.{Message}
-use Rattle.bt_node.specs.Keys.{Key}
+use Rattle.bt_keycode.specs.Keys.{Key}
 use Rattle.bt_node.specs.Trees.{Tree}
 use Rattle.bt_node.proofs.lemmas.code.SiblingParts.{children_seen, read_at}
 use Rattle.bt_node.proofs.walk.Walk.child.Goals as goal

@@ -1,6 +1,6 @@
 use Rattle.std.proofs.Common.{◌<◌, ◌-◌, ◌∙◌, ap, arith, length, option_map, slice_get}
 use Rattle.bt_messages.specs.declared.message.Message.{Message}
-use Rattle.bt_node.specs.Keys.{Key}
+use Rattle.bt_keycode.specs.Keys.{Key}
 use Rattle.bt_node.specs.Trees.{Tree}
 use Rattle.bt_node.proofs.lemmas.code.SiblingParts.{children_seen, pivot_at, pivots_length}
 use Rattle.bt_node.proofs.walk.Walk.pivot.Goals as goal

@@ -1,6 +1,6 @@
 -- A buffer divided at pivots.
 use Rattle.std.specs.Prelude.{List, [], ◌∷◌}
-use Rattle.bt_node.specs.Keys.{Key}
+use Rattle.bt_keycode.specs.Keys.{Key}
 use Rattle.bt_node.specs.Messages.{Messages, before, from}
 
 -- the messages before each of these pivots, from the one before it on, and those from the last pivot on
