@@ -1,6 +1,4 @@
 pub mod Deals
-pub mod DrainLaws
-pub mod Drains
 pub mod Fits
 pub mod Flushes
 pub mod Keys

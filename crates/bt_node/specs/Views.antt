@@ -1,5 +1,5 @@
 -- The tree that a node stands for.
-use Rattle.std.specs.Prelude.{List, [], map}
+use Rattle.std.specs.Prelude.{List, map}
 use Rattle.std.specs.List.{flat_map}
 use Rattle.bt_node.specs.declared.node.Node.{Node}
 use Rattle.bt_node.specs.declared.node.Node.TheOpen.{Node-F, Leaf, Inner}
@@ -10,6 +10,7 @@ use Rattle.bt_node.specs.Keys.{Key}
 use Rattle.bt_node.specs.Messages.{Messages}
 use Rattle.bt_node.specs.Trees.{Tree, leaf, inner, Siblings, nodes}
 use Rattle.bt_node.specs.Flushes.{Child}
+pub use Rattle.bt_node.specs.Flushes.{none_pending as none_pending_of}
 
 -- one layer of it
 abbrev pub tree_step : {V D : Type 0} → Node-F V D (Tree V (Message V D)) → Tree V (Message V D)
@@ -35,6 +36,3 @@ children_of = map child_of
 abbrev pub pending_of : {V D : Type 0} → List (code.Child V D) → Messages (Message V D)
 pending_of cs = flat_map (λ c. c.pending) (children_of cs)
 
--- siblings as children for which nothing is pending
-abbrev pub none_pending_of : {V M : Type 0} → Siblings V M → List (Child V M)
-none_pending_of = map (λ x. record { pivot = x.0; tree = x.1; pending = [] })

@@ -8,10 +8,9 @@ use Rattle.bt_node.specs.Keys.{Key, AllWithin, IsRising}
 use Rattle.bt_node.specs.Messages.{Messages, with_messages}
 use Rattle.bt_node.specs.Loops.{passed}
 use Rattle.bt_node.specs.Trees.{Siblings}
-use Rattle.bt_node.specs.Flushes.{Child, Flush, pivot_first, shared, flushed}
+use Rattle.bt_node.specs.Flushes.{Child, Flush, pivot_first, shared, flushed, none_pending}
 use Rattle.bt_node.proofs.lemmas.deals.Parts.{NonEmpty}
 use Rattle.bt_node.proofs.lemmas.flushes.Children.{all_pending}
-use Rattle.bt_node.proofs.lemmas.flushes.Passes.{none_pending}
 use Rattle.bt_node.proofs.lemmas.flushes.EmptyPackets.{all_pending-shared}
 
 module _ {M : Type 0} where
