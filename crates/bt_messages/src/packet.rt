@@ -1,6 +1,7 @@
 //! Packets: what is sent on at one time.
 ghost use Rattle.std.specs.Prelude.{◌≡◌, ◌==◌, [], IfOk, length};
-ghost use Rattle.bt_messages.specs.Messages.{IsSorted, sorted_batch};
+ghost use Rattle.bt_keycode.specs.Keys.{IsSorted};
+ghost use Rattle.bt_messages.specs.Messages.{sorted_batch};
 
 use crate::message::{Merge, Message};
 use crate::sorted;
@@ -16,7 +17,7 @@ pub struct Packet<V: Merge> {
 
 impl<V: Merge> Model for Packet<V> {
     ghost use Rattle.std.specs.Prelude.{List, ℕ};
-    ghost use Rattle.bt_messages.specs.Messages.{IsSorted};
+    ghost use Rattle.bt_keycode.specs.Keys.{IsSorted};
     ghost use Rattle.bt_messages.specs.declared.message.Message.{Message};
 
     ghost Value = { List (List ℕ × Message V V.Delta) };
