@@ -107,13 +107,13 @@ from-past (Some low) a b l h = later_chain low a b (not_after low a h) l
 
 module _ {X : Type 0} where
   -- "no key before this one" as limits say it, and back
-  pub within-from : (k : Key) (xs : List (Key × X)) → AllFrom k xs → AllWithin (Some k) None xs
-  within-from k [] h = tt
-  within-from k (x ∷ xs) h = (record { from = h.0; below = refl }, within-from k xs h.1)
+  pub all_within-from : (k : Key) (xs : List (Key × X)) → AllFrom k xs → AllWithin (Some k) None xs
+  all_within-from k [] h = tt
+  all_within-from k (x ∷ xs) h = (record { from = h.0; below = refl }, all_within-from k xs h.1)
 
-  pub from-within : (k : Key) (xs : List (Key × X)) → AllWithin (Some k) None xs → AllFrom k xs
-  from-within k [] h = tt
-  from-within k (x ∷ xs) h = (h.0.from, from-within k xs h.1)
+  pub all_from-within : (k : Key) (xs : List (Key × X)) → AllWithin (Some k) None xs → AllFrom k xs
+  all_from-within k [] h = tt
+  all_from-within k (x ∷ xs) h = (h.0.from, all_from-within k xs h.1)
 
   -- what lies from one key on lies from an earlier one on
   pub from_earlier : (a b : Key) (xs : List (Key × X)) → is_before b a ≡ false → AllFrom b xs → AllFrom a xs
