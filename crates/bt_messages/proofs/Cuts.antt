@@ -1,5 +1,6 @@
 -- Sorted messages cut at keys.
-use Rattle.std.proofs.Common.{◌≡◌, ℕ, zero, suc, ◌<◌, ◌≤◌, Bool, true, false, not, ◌&&◌, cond, List, [], ◌∷◌, ◌++◌, length, take, drop, get_or, append_assoc, Option, Some, None, refl, sym, ap, subst, ◌∙◌, true≢false, arith}
+use Rattle.std.proofs.Common.{◌≡◌, ℕ, zero, suc, ◌<◌, ◌≤◌, Bool, true, false, not, ◌&&◌, cond, List, [], ◌∷◌, ◌++◌, ◌-◌, length, length-drop, take, drop, get_or, append_assoc, Option, Some, None, refl, sym, ap, subst, ◌∙◌, true≢false, arith}
+use Rattle.std.proofs.Math.Seq.{take-length}
 use Rattle.std.specs.List.{filter}
 use Rattle.std.specs.List.Sorted.{IsPartitionedBy, IsPartitionPoint}
 use Rattle.bt_keycode.specs.Keys.{AllFrom, IsSorted, is_before, is_before_lower, is_before_upper}
@@ -187,6 +188,12 @@ module _ {M : Type 0} where
     | true ↦ λ t. not_ahead_is k ms h.1
     | false ↦ λ t. ap (λ zs. m ∷ zs) (sym (none_before k m.0 ms t h.0).1)
   ] refl
+
+  -- the last of sorted messages
+  pub tail_sorted : (k : List ℕ) (ms xs : Messages M) (n : ℕ) → IsSorted ms → drop n xs ≡ messages_from k ms → IsSorted (take (length xs - n) (drop n xs))
+  tail_sorted k ms xs n h e =
+      let whole : take (length xs - n) (drop n xs) ≡ drop n xs = ap (λ j. take j (drop n xs)) (sym (length-drop n xs)) ∙ take-length (drop n xs) in
+      sorted_part (λ m. not (is_before m.0 k)) ms (take (length xs - n) (drop n xs)) h (whole ∙ e)
 
   pub before_sorted : (k : List ℕ) (ms : Messages M) → IsSorted ms → IsSorted (messages_before k ms)
   before_sorted k ms h = filter_sorted (λ m. is_before m.0 k) ms h

@@ -4,6 +4,7 @@ ghost use Rattle.bt_keycode.specs.Keys.{IsSorted};
 ghost use Rattle.bt_messages.specs.Messages.{messages_before, messages_between, messages_from, messages_outside, with_messages};
 ghost use Rattle.std.specs.Option.{option_copied};
 
+use crate::iter::Messages;
 use crate::message::{Merge, Message};
 use crate::packet::Packet;
 use crate::rest::Rest;
@@ -64,6 +65,23 @@ impl<V: Merge> Buffer<V> {
         ensures sorted { IsSorted self.now }
     {
         sorted::place_of(self.messages.as_slice(), key)
+    }
+
+    /// The messages and their keys, in order.
+    pub fn iter(&self) -> Messages<'_, V>
+        ensures messages { result ≡ self.now }
+        ensures sorted { IsSorted self.now }
+    {
+        Messages::of_sorted(self.messages.as_slice())
+    }
+
+    /// The messages with a key at or past this one, in order. The first of them is found by halving.
+    pub fn iter_from(&self, key: &Key) -> Messages<'_, V>
+        ensures messages { result ≡ messages_from key.now self.now }
+        ensures sorted { IsSorted self.now }
+    {
+        let place = sorted::place_of(self.messages.as_slice(), key);
+        Messages::of_sorted(&self.messages[place..])
     }
 
     /// A copy of the messages.

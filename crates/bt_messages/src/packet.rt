@@ -3,6 +3,7 @@ ghost use Rattle.std.specs.Prelude.{◌≡◌, ◌==◌, [], IfOk, length};
 ghost use Rattle.bt_keycode.specs.Keys.{IsSorted};
 ghost use Rattle.bt_messages.specs.Messages.{sorted_batch};
 
+use crate::iter::Messages;
 use crate::message::{Merge, Message};
 use crate::sorted;
 use bt_keycode::Key;
@@ -58,6 +59,14 @@ impl<V: Merge> Packet<V> {
         ensures { result ≡ (length self.now == 0) }
     {
         self.messages.is_empty()
+    }
+
+    /// The messages and their keys, in order.
+    pub fn iter(&self) -> Messages<'_, V>
+        ensures messages { result ≡ self.now }
+        ensures sorted { IsSorted self.now }
+    {
+        Messages::of_sorted(self.messages.as_slice())
     }
 
     // The packet of messages that are sorted by key.
