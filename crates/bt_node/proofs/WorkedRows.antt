@@ -11,7 +11,7 @@ use Rattle.bt_rowtype.specs.declared.op.Change as change
 use Rattle.bt_rowtype.specs.declared.op.Op.TheVariants.{Add}
 use Rattle.bt_rowtype.specs.declared.value.Value.{Value}
 use Rattle.bt_rowtype.specs.declared.value.Value.TheVariants.{Int}
-use Rattle.bt_node.specs.Keys.{Key}
+use Rattle.bt_keycode.specs.Keys.{Key}
 use Rattle.bt_node.specs.Messages.{rows_after}
 use Rattle.bt_node.specs.Deals.{sizes}
 use Rattle.bt_node.specs.Plans.{planned}

@@ -1,7 +1,7 @@
 -- What calls on trees promise beside the definitions, a named fact each.
 use Rattle.std.specs.Prelude.{◌≡◌, ℕ, ◌<◌, ◌≤◌, List, [], ◌∷◌, length}
 use Rattle.std.specs.declared.option.Option.{Option}
-use Rattle.bt_node.specs.Keys.{Key}
+use Rattle.bt_keycode.specs.Keys.{Key}
 use Rattle.bt_node.specs.Messages.{Messages, rows_after, with_messages}
 use Rattle.bt_node.specs.Plans.{total, planned}
 use Rattle.bt_node.specs.Loops.{replaced, items_at}

@@ -1,7 +1,6 @@
 pub mod Deals
 pub mod Fits
 pub mod Flushes
-pub mod Keys
 pub mod Laws
 pub mod Lookups
 pub mod Loops

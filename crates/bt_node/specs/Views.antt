@@ -6,7 +6,7 @@ use Rattle.bt_node.specs.declared.node.Node.TheOpen.{Node-F, Leaf, Inner}
 use Rattle.bt_node.specs.declared.node.Node.TheFolds.{fold-Node}
 use Rattle.bt_node.specs.declared.node.Child as code
 use Rattle.bt_messages.specs.declared.message.Message.{Message}
-use Rattle.bt_node.specs.Keys.{Key}
+use Rattle.bt_keycode.specs.Keys.{Key}
 use Rattle.bt_node.specs.Messages.{Messages}
 use Rattle.bt_node.specs.Trees.{Tree, leaf, inner, Siblings, nodes}
 use Rattle.bt_node.specs.Flushes.{Child}
@@ -35,4 +35,3 @@ children_of = map child_of
 -- what is pending for children, as one list
 abbrev pub pending_of : {V D : Type 0} → List (code.Child V D) → Messages (Message V D)
 pending_of cs = flat_map (λ c. c.pending) (children_of cs)
-

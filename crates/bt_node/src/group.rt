@@ -1,6 +1,6 @@
 //! Nodes made of parts: rows dealt into leaves, children gathered under inner nodes.
 ghost use Rattle.std.specs.Prelude.{◌≡◌, ◌++◌, ◌∷◌, [], IfOk, OnOk};
-ghost use Rattle.bt_messages.specs.Messages.{IsSorted};
+ghost use Rattle.bt_keycode.specs.Keys.{IsSorted};
 ghost use Rattle.bt_node.specs.Flushes.{first_key, gathered, grouped, leaves, pivot_first};
 ghost use Rattle.bt_node.specs.Views.{children_of, siblings_of, tree_of, none_pending_of, pending_of};
 

@@ -4,7 +4,7 @@ ghost use Rattle.std.specs.FinMap.{find, is_sorted};
 ghost use Rattle.std.specs.Option.{option_copied, option_to_list};
 ghost use Rattle.bt_messages.specs.Effects.{effect_of};
 ghost use Rattle.bt_node.specs.Deals.{deal};
-ghost use Rattle.bt_node.specs.Keys.{key_cmp};
+ghost use Rattle.bt_keycode.specs.Keys.{key_cmp};
 ghost use Rattle.bt_node.specs.Messages.{before, from, rows_after, with_value};
 
 use crate::deal;
@@ -24,7 +24,7 @@ pub struct Rows<V: Merge> {
 impl<V: Merge> Model for Rows<V> {
     ghost use Rattle.std.specs.Prelude.{IsTrue, List, ℕ};
     ghost use Rattle.std.specs.FinMap.{is_sorted};
-    ghost use Rattle.bt_node.specs.Keys.{key_cmp};
+    ghost use Rattle.bt_keycode.specs.Keys.{key_cmp};
 
     ghost Value = { List (List ℕ × V) };
 

@@ -5,7 +5,7 @@ ghost use Rattle.bt_messages.specs.Effects.{effect_of};
 ghost use Rattle.bt_messages.specs.declared.message.Message.{Message};
 ghost use Rattle.bt_node.specs.Fits.{AreFit, HasShape};
 ghost use Rattle.bt_node.specs.Flushes.{absorb, all_hold, crown, holds, sunk};
-ghost use Rattle.bt_node.specs.Keys.{key_cmp};
+ghost use Rattle.bt_keycode.specs.Keys.{key_cmp};
 ghost use Rattle.bt_node.specs.Laws.{ChosenArePlanned, ComeByOneRule, FitThere, FlushesInTurn, HoldRowsAfter, KeepHeight, StandsAbove, StayWithoutPacket};
 ghost use Rattle.bt_node.specs.Messages.{rows_after};
 ghost use Rattle.bt_node.specs.Trees.{leaf};

@@ -3,7 +3,7 @@ use Rattle.std.proofs.Common.{◌≡◌, ◌∙◌, T, refl, Option, None}
 use Rattle.std.specs.FinMap.{is_sorted}
 use Rattle.bt_node.specs.Fits.{HasShape, SiblingsFit}
 use Rattle.bt_node.specs.Flushes.{absorb, holds, sunk}
-use Rattle.bt_node.specs.Keys.{key_cmp}
+use Rattle.bt_keycode.specs.Keys.{key_cmp}
 use Rattle.bt_node.specs.Messages.{Messages, rows_after}
 use Rattle.bt_node.specs.Trees.{Shape, Tree}
 use Rattle.bt_node.proofs.lemmas.crowns.CrownedRows.{crown-fits, crown-holds}

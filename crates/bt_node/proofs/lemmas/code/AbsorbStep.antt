@@ -1,12 +1,11 @@
 -- What the code makes of an inner node is what becomes of it.
 use Rattle.std.proofs.Common.{Vec, Global, Result, Ok, Err, IfOk, ◌≡◌, ◌≤◌, ◌<◌, ◌+◌, ◌*◌, ℕ, Bool, List, [], ◌∷◌, length, sym, ap, subst, ◌∙◌, arith, Option}
-use Rattle.bt_messages.specs.Messages.{IsSorted}
+use Rattle.bt_keycode.specs.Keys.{IsSorted, Key}
 use Rattle.bt_messages.specs.declared.message.Message.{Message}
 use Rattle.bt_node.specs.declared.node.Child as code
 use Rattle.bt_node.specs.declared.node.Node.{Node}
 use Rattle.bt_node.specs.declared.node.Node.TheVariants as variants
 use Rattle.bt_node.specs.declared.share.Share.{Share}
-use Rattle.bt_node.specs.Keys.{Key}
 use Rattle.bt_node.specs.Messages.{Messages, with_messages}
 use Rattle.bt_node.specs.Plans.{marks_of, planned}
 use Rattle.bt_node.specs.Loops.{passed}
@@ -21,7 +20,7 @@ use Rattle.bt_node.proofs.lemmas.code.Marks.{flushed_over-marks}
 use Rattle.bt_node.proofs.lemmas.flushes.Recursion.{absorb_recurs}
 use Rattle.bt_node.proofs.lemmas.flushes.EmptyPackets.{still-here}
 use Rattle.bt_node.proofs.lemmas.code.TreeOfNode.{tree_inner}
-use Rattle.bt_node.proofs.lemmas.flushes.PendingOrder.{sorted-passed, sorted-rising, all_pending-of-shared}
+use Rattle.bt_node.proofs.lemmas.flushes.PendingOrder.{sorted-passed, all_pending-of-shared}
 
 -- the height of the highest of these nodes
 abbrev pub highest : {V D : Type 0} → List (Key × Node V D) → ℕ
@@ -46,7 +45,7 @@ module _ {V D : Type 0} (effect : Option V → Message V D → Option V) (s : Sh
       let ns = nodes (siblings_of cs.items) in
       let same = children-nodes (siblings_of cs.items) in
       ap (λ t. ([], t) ∷ []) (tree_inner cs after)
-      ∙ sym (still-here s ns after (subst IsLed (sym same) led) (sorted-rising after sorted) some (subst (λ xs. length xs ≤ s.fanout) (sym same) few) pending (absorb effect s))
+      ∙ sym (still-here s ns after (subst IsLed (sym same) led) sorted some (subst (λ xs. length xs ≤ s.fanout) (sym same) few) pending (absorb effect s))
       ∙ ap (λ xs. grouped s (flushed_over (absorb effect s) s.buffer (shared xs after))) same
       ∙ sym becomes
 

@@ -1,11 +1,10 @@
 -- Siblings put under inner nodes, as the code does it: fewer, and with the same crown.
 use Rattle.std.proofs.Common.{◌≡◌, ◌<◌, ◌≤◌, List, [], ◌∷◌, ◌++◌, length, length-append, refl, sym, ap, subst, ◌∙◌, arith}
-use Rattle.bt_messages.specs.Messages.{IsSorted}
+use Rattle.bt_keycode.specs.Keys.{IsSorted, Key}
 use Rattle.bt_messages.specs.declared.message.Message.{Message}
 use Rattle.bt_node.specs.declared.node.Child as code
 use Rattle.bt_node.specs.declared.node.Node.{Node}
 use Rattle.bt_node.specs.declared.node.Node.TheVariants as variants
-use Rattle.bt_node.specs.Keys.{Key}
 use Rattle.bt_node.specs.Messages.{Rows}
 use Rattle.bt_node.specs.Trees.{Shape, Siblings, leaf}
 use Rattle.bt_node.specs.Flushes.{crown, grouped}

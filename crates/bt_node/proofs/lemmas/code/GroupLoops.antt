@@ -2,12 +2,11 @@
 use Rattle.std.proofs.Common.{Vec, Global, ◌≡◌, ℕ, List, [], ◌∷◌, ◌++◌, length, map, take, drop, refl, sym, ap, subst, ◌∙◌, append-nil, append_assoc, arith}
 use Rattle.std.specs.List.{flat_map}
 use Rattle.std.proofs.lemmas.List.{drop-map, length-map, take-map}
-use Rattle.bt_messages.specs.Messages.{IsSorted}
+use Rattle.bt_keycode.specs.Keys.{IsSorted, Key}
 use Rattle.bt_messages.specs.declared.message.Message.{Message}
 use Rattle.bt_node.specs.declared.node.Child as code
 use Rattle.bt_node.specs.declared.node.Node.{Node}
 use Rattle.bt_node.specs.declared.node.Node.TheVariants as variants
-use Rattle.bt_node.specs.Keys.{Key}
 use Rattle.bt_node.specs.Messages.{Messages, Rows, with_messages}
 use Rattle.bt_node.specs.Trees.{Shape, Siblings, Tree, inner, leaf, none, nodes}
 use Rattle.bt_node.specs.Deals.{deal, parted, sizes}
@@ -16,7 +15,8 @@ use Rattle.bt_node.specs.Views.{child_of, children_of, siblings_of, tree_of, pen
 use Rattle.bt_node.proofs.lemmas.deals.Parts.{joined, joined-deal}
 use Rattle.bt_node.proofs.lemmas.flushes.Groups.{as_leaf, stripped}
 use Rattle.bt_node.proofs.lemmas.code.TreeOfNode.{tree_inner, tree_leaf}
-use Rattle.bt_node.proofs.lemmas.flushes.PendingOrder.{added-behind, sorted-back, sorted-prefix}
+use Rattle.bt_node.proofs.lemmas.flushes.PendingOrder.{added-behind}
+use Rattle.bt_node.proofs.lemmas.keys.SortedLists.{sorted-back, sorted-prefix}
 
 -- nothing is left
 pub nothing_left : {X : Type 0} (xs : List X) → length xs ≡ 0 → xs ≡ []

@@ -8,11 +8,10 @@ use Rattle.std.specs.declared.cmp.Ordering.{Ordering}
 use Rattle.std.specs.declared.cmp.Ordering.TheVariants.{Less, Equal, Greater}
 use Rattle.std.specs.declared.option.Option.{Option}
 use Rattle.std.specs.declared.option.Option.TheVariants.{None, Some}
-use Rattle.bt_messages.specs.Messages.{AllFrom, IsSorted}
+use Rattle.bt_keycode.specs.Keys.{AllFrom, IsSorted, Key, key_cmp, is_before}
 use Rattle.bt_node.specs.Deals.{deal, parted}
-use Rattle.bt_node.specs.Keys.{Key, key_cmp, key_lt}
 use Rattle.bt_node.specs.Messages.{Rows, Messages, before, from, rows_after, with_value}
-use Rattle.bt_node.proofs.lemmas.keys.Order.{total_keys, below_chain, below_from, from_chain, is_less, not_below, not_below_itself}
+use Rattle.bt_keycode.proofs.offered.Order.{total_keys, before_chain, before_later, later_chain, is_less, not_after, not_before_itself}
 use Rattle.bt_node.proofs.lemmas.rows.RowsAfter.{rows_after-sorted, true_t}
 
 both : (a b : Bool) → a ≡ true → b ≡ true → a && b ≡ true
@@ -26,11 +25,11 @@ at_end xs [] all e h = sym (append-nil xs) ∙ h
 at_end xs (y ∷ ys) all e h = absurd (omega arith)
 
 module _ {V : Type 0} where
-  all_above : (a b : Key) (rs : Rows V) → key_lt a b ≡ true → below_all key_cmp b rs ≡ true → below_all key_cmp a rs ≡ true
+  all_above : (a b : Key) (rs : Rows V) → is_before a b ≡ true → below_all key_cmp b rs ≡ true → below_all key_cmp a rs ≡ true
   all_above a b [] l h = refl
   all_above a b (r ∷ rs) l h =
       let parts = and_parts _ _ h in
-      both _ _ (below_chain a b r.0 l parts.0) (all_above a b rs l parts.1)
+      both _ _ (before_chain a b r.0 l parts.0) (all_above a b rs l parts.1)
 
   -- a key before all of the rows has no value there
   not_among : (k : Key) (rs : Rows V) → below_all key_cmp k rs ≡ true → (find key_cmp k rs ≡ None) × (with_value k None rs ≡ rs)
@@ -45,34 +44,34 @@ module _ {V : Type 0} where
 
   -- ---- rows before a key, and from it on
 
-  none_before : (k : Key) (r : Key × V) (rs : Rows V) → key_lt r.0 k ≡ false → below_all key_cmp r.0 rs ≡ true → (before k rs ≡ []) × (from k rs ≡ rs)
+  none_before : (k : Key) (r : Key × V) (rs : Rows V) → is_before r.0 k ≡ false → below_all key_cmp r.0 rs ≡ true → (before k rs ≡ []) × (from k rs ≡ rs)
   none_before k r [] e h = (refl, refl)
   none_before k r (s ∷ rs) e h =
       let parts = and_parts _ _ h in
-      let here = from_chain k r.0 s.0 e (not_below r.0 s.0 parts.0) in
+      let here = later_chain k r.0 s.0 e (not_after r.0 s.0 parts.0) in
       let others = none_before k r rs e parts.1 in (
         ap (λ b. cond b (s ∷ before k rs) (before k rs)) here ∙ others.0,
         ap (λ b. cond (not b) (s ∷ from k rs) (from k rs)) here ∙ ap (λ zs. s ∷ zs) others.1,
       )
 
   -- where the first row is not before the key, none is
-  stops : (k : Key) (r : Key × V) (rs : Rows V) → is_sorted key_cmp (r ∷ rs) ≡ true → key_lt r.0 k ≡ false → (before k (r ∷ rs) ≡ []) × (from k (r ∷ rs) ≡ r ∷ rs)
+  stops : (k : Key) (r : Key × V) (rs : Rows V) → is_sorted key_cmp (r ∷ rs) ≡ true → is_before r.0 k ≡ false → (before k (r ∷ rs) ≡ []) × (from k (r ∷ rs) ≡ r ∷ rs)
   stops k r rs h e =
       let others = none_before k r rs e (and_parts _ _ h).0 in (
         ap (λ b. cond b (r ∷ before k rs) (before k rs)) e ∙ others.0,
         ap (λ b. cond (not b) (r ∷ from k rs) (from k rs)) e ∙ ap (λ zs. r ∷ zs) others.1,
       )
 
-  pub stops_at : (k : Key) (first : Key × V) (rs : Rows V) → is_sorted key_cmp rs ≡ true → first ≡ get_or rs 0 first → key_lt first.0 k ≡ false → (before k rs ≡ []) × (from k rs ≡ rs)
+  pub stops_at : (k : Key) (first : Key × V) (rs : Rows V) → is_sorted key_cmp rs ≡ true → first ≡ get_or rs 0 first → is_before first.0 k ≡ false → (before k rs ≡ []) × (from k rs ≡ rs)
   stops_at k first [] h f e = (refl, refl)
-  stops_at k first (r ∷ rs) h f e = stops k r rs h (ap (λ (x : Key × V). key_lt x.0 k) (sym f) ∙ e)
+  stops_at k first (r ∷ rs) h f e = stops k r rs h (ap (λ (x : Key × V). is_before x.0 k) (sym f) ∙ e)
 
   pub sorted_from : (k : Key) (rs : Rows V) → is_sorted key_cmp rs ≡ true → is_sorted key_cmp (from k rs) ≡ true
-  sorted_from k rs h = true_t _ (is_sorted-where_key key_cmp (λ j. not (key_lt j k)) rs (subst T (sym h) tt))
+  sorted_from k rs h = true_t _ (is_sorted-where_key key_cmp (λ j. not (is_before j k)) rs (subst T (sym h) tt))
 
   none_before_from : (k : Key) (rs : Rows V) → before k (from k rs) ≡ []
   none_before_from k [] = refl
-  none_before_from k (r ∷ rs) = elim (key_lt r.0 k) as (λ b. key_lt r.0 k ≡ b → before k (cond (not b) (r ∷ from k rs) (from k rs)) ≡ []) [
+  none_before_from k (r ∷ rs) = elim (is_before r.0 k) as (λ b. is_before r.0 k ≡ b → before k (cond (not b) (r ∷ from k rs) (from k rs)) ≡ []) [
     | true ↦ λ e. none_before_from k rs
     | false ↦ λ e. ap (λ b. cond b (r ∷ before k (from k rs)) (before k (from k rs))) e ∙ none_before_from k rs
   ] refl
@@ -80,8 +79,8 @@ module _ {V : Type 0} where
   pub before_of : (k : Key) (rs later : Rows V) → later ≡ from k rs → before k later ≡ []
   before_of k rs later e = ap (before k) e ∙ none_before_from k rs
 
-  not_before_first : (k : Key) (r : Key × V) (rs : Rows V) → before k (r ∷ rs) ≡ [] → key_lt r.0 k ≡ false
-  not_before_first k r rs = elim (key_lt r.0 k) as (λ b. cond b (r ∷ before k rs) (before k rs) ≡ [] → b ≡ false) [
+  not_before_first : (k : Key) (r : Key × V) (rs : Rows V) → before k (r ∷ rs) ≡ [] → is_before r.0 k ≡ false
+  not_before_first k r rs = elim (is_before r.0 k) as (λ b. cond b (r ∷ before k rs) (before k rs) ≡ [] → b ≡ false) [
     | true ↦ λ e. absurd (cc e)
     | false ↦ λ e. refl
   ]
@@ -105,7 +104,7 @@ module _ {V : Type 0} where
       go : (o : Ordering) → key_cmp r.0 k ≡ o → below_all key_cmp k (r ∷ rs) ≡ true
       go Less e = absurd (true≢false (sym (ap is_lt e) ∙ not_before_first k r rs b))
       go Equal e = absurd (n e)
-      go Greater e = let l : key_lt k r.0 ≡ true = ap is_lt (turned r.0 k Greater e) in both _ _ l (all_above k r.0 rs l (and_parts _ _ h).0)
+      go Greater e = let l : is_before k r.0 ≡ true = ap is_lt (turned r.0 k Greater e) in both _ _ l (all_above k r.0 rs l (and_parts _ _ h).0)
 
   first_kept : (k : Key) (r : Key × V) (rs : Rows V) → is_sorted key_cmp (r ∷ rs) ≡ true → before k (r ∷ rs) ≡ [] → (key_cmp r.0 k ≡ Equal → ⊥) →
       (None ≡ find key_cmp k (r ∷ rs)) × (r ∷ rs ≡ with_value k None (r ∷ rs))
@@ -178,10 +177,10 @@ module _ {V M : Type 0} (effect : Option V → M → Option V) where
   change_later k (Some v) r rs e = ap (λ w. by_order w ((k, v) ∷ r ∷ rs) ((r.0, v) ∷ rs) (r ∷ put key_cmp k v rs)) e
 
   -- a row before all messages stays first
-  first_stays : (k : Key) (r : Key × V) (ms : Messages M) (rs : Rows V) → key_lt r.0 k ≡ true → AllFrom k ms → rows_after effect ms (r ∷ rs) ≡ r ∷ rows_after effect ms rs
+  first_stays : (k : Key) (r : Key × V) (ms : Messages M) (rs : Rows V) → is_before r.0 k ≡ true → AllFrom k ms → rows_after effect ms (r ∷ rs) ≡ r ∷ rows_after effect ms rs
   first_stays k r [] rs l h = refl
   first_stays k r (m ∷ ms) rs l h =
-      let order : key_cmp m.0 r.0 ≡ Greater = turned r.0 m.0 Less (is_less _ (below_from r.0 k m.0 l h.0)) in
+      let order : key_cmp m.0 r.0 ≡ Greater = turned r.0 m.0 Less (is_less _ (before_later r.0 k m.0 l h.0)) in
       let old = ap (λ o. cond (is_eq o) (Some r.1) (find key_cmp m.0 rs)) order in
       ap (λ o. rows_after effect ms (with_value m.0 (effect o m.1) (r ∷ rs))) old
       ∙ ap (rows_after effect ms) (change_later m.0 (effect (find key_cmp m.0 rs) m.1) r rs order)
@@ -190,7 +189,7 @@ module _ {V M : Type 0} (effect : Option V → M → Option V) where
   -- messages leave the rows before their keys as they are
   split_at : (k : Key) (ms : Messages M) (rs : Rows V) → AllFrom k ms → is_sorted key_cmp rs ≡ true → rows_after effect ms rs ≡ before k rs ++ rows_after effect ms (from k rs)
   split_at k ms [] h s = refl
-  split_at k ms (r ∷ rs) h s = elim (key_lt r.0 k) as (λ b. key_lt r.0 k ≡ b →
+  split_at k ms (r ∷ rs) h s = elim (is_before r.0 k) as (λ b. is_before r.0 k ≡ b →
       rows_after effect ms (r ∷ rs) ≡ cond b (r ∷ before k rs) (before k rs) ++ rows_after effect ms (cond (not b) (r ∷ from k rs) (from k rs))) [
         | true ↦ λ e. first_stays k r ms rs e h ∙ ap (λ zs. r ∷ zs) (split_at k ms rs h (and_parts _ _ s).1)
         | false ↦ λ e.
@@ -206,10 +205,10 @@ module _ {V M : Type 0} (effect : Option V → M → Option V) where
   pub pass_step : (m : Key × M) (ms rest : Messages M) (done more rs changed wanted : Rows V) → rest ≡ m ∷ ms → IsSorted rest → is_sorted key_cmp rs ≡ true →
       more ≡ done ++ before m.0 rs → changed ≡ changed_by m rs → done ++ rows_after effect rest rs ≡ wanted → more ++ rows_after effect ms changed ≡ wanted
   pass_step m ms rest done more rs changed wanted e h s d c w =
-      let sorted : IsSorted (m ∷ ms) = subst (IsSorted {M = M}) e h in
+      let sorted : IsSorted (m ∷ ms) = subst (IsSorted {X = M}) e h in
       ap (λ zs. zs ++ rows_after effect ms changed) d ∙ ap (λ zs. (done ++ before m.0 rs) ++ rows_after effect ms zs) c
       ∙ append_assoc done (before m.0 rs) _
-      ∙ ap (λ zs. done ++ zs) (sym (split_at m.0 (m ∷ ms) rs (not_below_itself m.0, sorted.0) s))
+      ∙ ap (λ zs. done ++ zs) (sym (split_at m.0 (m ∷ ms) rs (not_before_itself m.0, sorted.0) s))
       ∙ ap (λ zs. done ++ rows_after effect zs rs) (sym e) ∙ w
 
   effect_is : (m : Key × M) (rs later : Rows V) (old new : Option V) → later ≡ from m.0 rs → old ≡ find key_cmp m.0 later → new ≡ effect old m.1 → new ≡ effect (find key_cmp m.0 (from m.0 rs)) m.1

@@ -9,9 +9,9 @@ use Rattle.std.specs.FinMap.Entries.{below_all}
 use Rattle.std.specs.declared.cmp.Ordering.{Ordering}
 use Rattle.std.specs.declared.cmp.Ordering.TheVariants.{Less, Equal, Greater}
 use Rattle.std.specs.declared.option.Option.TheVariants.{None, Some}
-use Rattle.bt_node.specs.Keys.{Key, key_cmp}
+use Rattle.bt_keycode.specs.Keys.{Key, key_cmp}
 use Rattle.bt_node.specs.Messages.{Rows}
-use Rattle.bt_node.proofs.lemmas.keys.Order.{is_less, total_keys}
+use Rattle.bt_keycode.proofs.offered.Order.{is_less, total_keys}
 use Rattle.bt_node.proofs.lemmas.code.RowPass.{turned}
 
 index_rises : (k x y : Key) (o : Ordering) → key_cmp y k ≡ o → key_cmp x y ≡ Less → ordering_index (key_cmp x k) ≤ ordering_index o

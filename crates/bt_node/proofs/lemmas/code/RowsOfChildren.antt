@@ -8,7 +8,7 @@ use Rattle.bt_node.specs.declared.node.Node.{Node}
 use Rattle.bt_node.specs.declared.node.Node.TheVariants as variants
 use Rattle.bt_node.specs.Fits.{HasShape, IsInOrder, Lies, SiblingsLie}
 use Rattle.bt_node.specs.Flushes.{all_hold, holds}
-use Rattle.bt_node.specs.Keys.{Key, SideBySide, key_cmp}
+use Rattle.bt_keycode.specs.Keys.{Key, SideBySide, key_cmp}
 use Rattle.bt_node.specs.Messages.{Messages, Rows, rows_after}
 use Rattle.bt_node.specs.Trees.{Nodes, Shape, Tree, children, height, height_below, inner, nodes}
 use Rattle.bt_node.specs.Views.{siblings_of, tree_of}

@@ -6,7 +6,7 @@ use Rattle.std.specs.List.{zip}
 use Rattle.bt_messages.specs.declared.message.Message.{Message}
 use Rattle.bt_node.specs.declared.node.Node.{Node}
 use Rattle.bt_node.specs.declared.share.Share.{Share}
-use Rattle.bt_node.specs.Keys.{Key}
+use Rattle.bt_keycode.specs.Keys.{Key}
 use Rattle.bt_node.specs.Messages.{Messages, before, from}
 use Rattle.bt_node.specs.Plans.{marks_of, planned}
 use Rattle.bt_node.specs.Trees.{Siblings}

@@ -6,7 +6,7 @@ use Rattle.bt_node.specs.declared.node.Node.TheOpen.{Leaf, Inner}
 use Rattle.bt_node.specs.declared.node.Node.TheVariants.{rolls-Inner, rolls-Leaf}
 use Rattle.bt_node.specs.declared.node.Node.TheVariants as variants
 use Rattle.bt_node.specs.declared.node.Node.TheFolds.{fold-roll-Node}
-use Rattle.bt_node.specs.Keys.{Key}
+use Rattle.bt_keycode.specs.Keys.{Key}
 use Rattle.bt_node.specs.Messages.{Rows, Messages}
 use Rattle.bt_node.specs.Trees.{Tree, nodes, leaf, inner}
 use Rattle.bt_node.specs.Views.{tree_of, tree_step, siblings_of}

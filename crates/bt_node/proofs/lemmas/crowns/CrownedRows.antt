@@ -3,12 +3,12 @@ use Rattle.std.proofs.Common.{◌≡◌, ℕ, zero, suc, ◌<◌, ◌≤◌, Lis
 use Rattle.std.specs.FinMap.{find, nat_cmp-IsAntisymmetric, slice_cmp-IsAntisymmetric}
 use Rattle.std.specs.FinMap.Entries.{same_entries}
 use Rattle.std.specs.declared.option.Option.{Option}
-use Rattle.bt_node.specs.Keys.{Key, key_cmp}
+use Rattle.bt_keycode.specs.Keys.{Key, key_cmp}
 use Rattle.bt_node.specs.Deals.{deal}
 use Rattle.bt_node.specs.Trees.{Shape, Tree, Siblings, nodes}
 use Rattle.bt_node.specs.Flushes.{Child, shared, none_pending, gathered, grouped, crowned, crown, holds, all_hold}
 use Rattle.bt_node.specs.Fits.{AreSized, NodeFits, SiblingsFit, IsRoomy}
-use Rattle.bt_node.proofs.lemmas.keys.Order.{total_keys}
+use Rattle.bt_keycode.proofs.offered.Order.{total_keys}
 use Rattle.bt_node.proofs.lemmas.deals.Parts.{joined-deal}
 use Rattle.bt_node.proofs.lemmas.crowns.Levels.{raised-shorter, shared-nothing}
 use Rattle.bt_node.proofs.lemmas.rows.RowsAfter.{rows-sorted}

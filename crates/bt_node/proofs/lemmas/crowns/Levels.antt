@@ -1,7 +1,7 @@
 -- Siblings put under inner nodes are fewer, and the crown goes on from them.
 use Rattle.std.proofs.Common.{◌≡◌, ℕ, zero, suc, ◌<◌, ◌≤◌, [], ◌∷◌, map, length, refl, ap, ◌∙◌, arith}
 use Rattle.std.proofs.lemmas.List.{length-map}
-use Rattle.bt_node.specs.Keys.{Key}
+use Rattle.bt_keycode.specs.Keys.{Key}
 use Rattle.bt_node.specs.Deals.{deal}
 use Rattle.bt_node.specs.Trees.{Shape, Tree, Siblings}
 use Rattle.bt_node.specs.Flushes.{pivot_first, shared, none_pending, gathered, grouped, crowned, crown}

@@ -4,7 +4,7 @@ use Rattle.std.proofs.lemmas.Bool.Decides.{nat_tests}
 use Rattle.std.specs.FinMap.{find}
 use Rattle.std.specs.declared.option.Option.TheVariants.{None}
 use Rattle.bt_messages.specs.declared.message.Message.{Message}
-use Rattle.bt_node.specs.Keys.{Key, key_cmp}
+use Rattle.bt_keycode.specs.Keys.{Key, key_cmp}
 use Rattle.bt_node.specs.Trees.{Shape, Tree, Siblings, leaf}
 use Rattle.bt_node.specs.Flushes.{crown, holds, all_hold}
 use Rattle.bt_node.specs.Fits.{AreFit, HasShape, IsRoomy}

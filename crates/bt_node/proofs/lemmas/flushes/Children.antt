@@ -4,17 +4,17 @@ use Rattle.std.specs.List.{flat_map}
 use Rattle.std.specs.FinMap.{find}
 use Rattle.std.specs.declared.option.Option.{Option}
 use Rattle.std.specs.declared.option.Option.TheVariants.{None, Some}
-use Rattle.bt_node.specs.Keys.{Key, key_cmp, AllWithin, IsRising, SideBySide}
+use Rattle.bt_keycode.specs.Keys.{Key, key_cmp, AllWithin, IsSorted, SideBySide}
 use Rattle.bt_node.specs.Messages.{Rows, Messages, value_after}
 use Rattle.bt_node.specs.Flushes.{Child, holds}
 use Rattle.bt_node.specs.Fits.{Lies}
-use Rattle.bt_node.proofs.lemmas.keys.Order.{sides}
+use Rattle.bt_keycode.proofs.offered.Order.{sides}
 use Rattle.bt_node.proofs.lemmas.rows.Values.{find-append, value-append, or_else, or_else-None, or_else_assoc}
 use Rattle.bt_node.proofs.lemmas.lookups.Outside.{Outside, outside-first, outside-rest, value-outside, tree-outside}
 
 -- a child and what is pending for it, within limits
 abbrev pub ChildLies : {V M : Type 0} → ℕ → Option Key → Option Key → Child V M → Type 0
-ChildLies levels low high c = Lies levels low high c.tree × AllWithin low high c.pending × IsRising c.pending
+ChildLies levels low high c = Lies levels low high c.tree × AllWithin low high c.pending × IsSorted c.pending
 
 abbrev pub ChildrenLie : {V M : Type 0} → ℕ → Option Key → Option Key → List (Child V M) → Type 0
 ChildrenLie levels = SideBySide (λ c. c.pivot) (ChildLies levels)

@@ -3,14 +3,15 @@ use Rattle.std.proofs.Common.{◌≡◌, ℕ, zero, suc, ◌<◌, List, [], ◌�
 use Rattle.std.specs.FinMap.{find}
 use Rattle.std.specs.declared.option.Option.{Option}
 use Rattle.std.specs.declared.option.Option.TheVariants.{Some}
-use Rattle.bt_node.specs.Keys.{Key, key_cmp, Within, AllWithin, IsRising, SideBySide}
+use Rattle.bt_keycode.specs.Keys.{Key, key_cmp, Within, AllWithin, IsSorted, SideBySide}
 use Rattle.bt_node.specs.Messages.{Rows, value_after}
 use Rattle.bt_node.specs.Deals.{deal}
 use Rattle.bt_node.specs.Trees.{Shape, Tree, leaf, Nodes, none, node, Siblings, children, nodes}
 use Rattle.bt_node.specs.Flushes.{Child, pivot_first, first_key, gathered, grouped, leaves, holds, nodes_hold, all_hold}
 use Rattle.bt_node.specs.Fits.{RowsLie, IsLed, Lies, SiblingsLie}
 use Rattle.bt_node.proofs.lemmas.deals.Parts.{NonEmpty, joined, joined-deal, full-deal, deal-nothing}
-use Rattle.bt_node.proofs.lemmas.keys.Limits.{within-append, within-below, within-from, rising-append}
+use Rattle.bt_node.proofs.lemmas.keys.Limits.{within-append, within-below, within-from}
+use Rattle.bt_node.proofs.lemmas.keys.SortedLists.{sorted-append}
 use Rattle.bt_node.proofs.lemmas.keys.SideBySide.{side-groups, side-weaken, side-map, led-side}
 use Rattle.bt_node.proofs.lemmas.rows.Values.{find-append, find-rows, or_else}
 use Rattle.bt_node.proofs.lemmas.lookups.Outside.{nodes_hold-children}
@@ -68,11 +69,11 @@ module _ {V M : Type 0} where
       within-append low high c.pending _ (within-below low d.pivot high c.pending p.1 p.2.1)
       (within-from low d.pivot high _ p.0 (all_pending-within levels (Some d.pivot) high (d ∷ cs) p.3))
 
-  pub all_pending-rising : (levels : ℕ) (low high : Option Key) (cs : List (Child V M)) → ChildrenLie levels low high cs → IsRising (all_pending cs)
-  all_pending-rising levels low high [] p = tt
-  all_pending-rising levels low high (c ∷ []) p = subst IsRising (sym (append-nil c.pending)) p.2
-  all_pending-rising levels low high (c ∷ d ∷ cs) p =
-      rising-append low d.pivot high c.pending _ p.2.2 (all_pending-rising levels (Some d.pivot) high (d ∷ cs) p.3) p.2.1 (all_pending-within levels (Some d.pivot) high (d ∷ cs) p.3)
+  pub all_pending-sorted : (levels : ℕ) (low high : Option Key) (cs : List (Child V M)) → ChildrenLie levels low high cs → IsSorted (all_pending cs)
+  all_pending-sorted levels low high [] p = tt
+  all_pending-sorted levels low high (c ∷ []) p = subst IsSorted (sym (append-nil c.pending)) p.2
+  all_pending-sorted levels low high (c ∷ d ∷ cs) p =
+      sorted-append low d.pivot high c.pending _ p.2.2 (all_pending-sorted levels (Some d.pivot) high (d ∷ cs) p.3) p.2.1 (all_pending-within levels (Some d.pivot) high (d ∷ cs) p.3)
 
   stripped-led : (cs : List (Child V M)) → NonEmpty cs → IsLed (pivot_first [] (stripped cs))
   stripped-led [] n = absurd n
@@ -81,7 +82,7 @@ module _ {V M : Type 0} where
   pub gathered-lies : (levels : ℕ) (low high : Option Key) (g : List (Child V M)) → NonEmpty g → ChildrenLie levels low high g → Lies (suc levels) low high (gathered g).1
   gathered-lies levels low high g n p = (
     all_pending-within levels low high g p,
-    all_pending-rising levels low high g p,
+    all_pending-sorted levels low high g p,
     subst (SiblingsLie levels low high) (sym (children-nodes (pivot_first [] (stripped g))))
         (led-side (λ l h t. Lies levels l h t) [] low high (stripped g)
         (side-map (λ c. (c.pivot, c.tree)) (λ x. x.0) (λ l h x. Lies levels l h x.1) low high g

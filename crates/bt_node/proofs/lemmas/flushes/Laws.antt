@@ -1,8 +1,8 @@
 -- What is promised of a node and a packet, and of children that are flushed, from its parts.
-use Rattle.std.proofs.Common.{◌≡◌, ℕ, suc, List, [], ◌∷◌, length, sym, ap, subst, ◌∙◌, arith, le_refl}
+use Rattle.std.proofs.Common.{◌≡◌, ℕ, suc, List, [], ◌∷◌, length, refl, sym, ap, subst, ◌∙◌, arith, le_refl}
 use Rattle.std.specs.declared.option.Option.{Option}
 use Rattle.std.specs.declared.option.Option.TheVariants.{None, Some}
-use Rattle.bt_node.specs.Keys.{Key, AllWithin}
+use Rattle.bt_keycode.specs.Keys.{Key, AllWithin}
 use Rattle.bt_node.specs.Messages.{Messages}
 use Rattle.bt_node.specs.Plans.{total}
 use Rattle.bt_node.specs.Trees.{Shape, Tree, Siblings, nodes}
@@ -34,7 +34,7 @@ high-siblings levels low high (x ∷ y ∷ ys) b = (height-lies levels low (Some
 -- without limits any packet is within them
 pub anywhere : {X : Type 0} (xs : List (Key × X)) → AllWithin None None xs
 anywhere [] = tt
-anywhere (x ∷ xs) = (record { from = tt; below = tt }, anywhere xs)
+anywhere (x ∷ xs) = (record { from = refl; below = refl }, anywhere xs)
 
 module _ {V M : Type 0} (effect : Option V → M → Option V) (s : Shape) (roomy : IsRoomy s) (t : Tree V M) (p : Messages M) (xs : Siblings V M) (is : xs ≡ absorb effect s t p) where
   pub hold_rows_after : HoldRowsAfter effect s t p xs

@@ -2,7 +2,7 @@
 use Rattle.std.proofs.Common.{◌≡◌, ℕ, zero, suc, ◌+◌, ◌<◌, ◌≤◌, Bool, true, false, cond, List, [], ◌∷◌, ◌++◌, map, length, refl, sym, ap, subst, ◌∙◌, arith, length-append, le_refl}
 use Rattle.std.specs.declared.option.Option.{Option}
 use Rattle.std.specs.declared.option.Option.TheVariants.{Some}
-use Rattle.bt_node.specs.Keys.{Key, AllWithin}
+use Rattle.bt_keycode.specs.Keys.{Key, AllWithin}
 use Rattle.bt_node.specs.Messages.{Rows, Messages, rows_after, with_messages, from}
 use Rattle.bt_node.specs.Deals.{deal}
 use Rattle.bt_node.specs.Plans.{total}

@@ -4,12 +4,12 @@ use Rattle.std.specs.FinMap.{is_sorted, nat_cmp-IsAntisymmetric, slice_cmp-IsAnt
 use Rattle.std.specs.FinMap.Entries.{below_all, same_entries}
 use Rattle.std.specs.declared.option.Option.{Option}
 use Rattle.std.specs.declared.option.Option.TheVariants.{Some}
-use Rattle.bt_node.specs.Keys.{Key, key_cmp, IsPast, IsBelow, AllWithin}
+use Rattle.bt_keycode.specs.Keys.{Key, key_cmp, IsPast, IsBelow, AllWithin}
 use Rattle.bt_node.specs.Messages.{Rows, Messages, rows_after}
 use Rattle.bt_node.specs.Trees.{Shape, Tree, leaf, inner, Nodes, none, node, Siblings, children, height, height_below}
 use Rattle.bt_node.specs.Flushes.{absorbed, absorb, holds, nodes_hold, all_hold}
 use Rattle.bt_node.specs.Fits.{RowsLie, Lies, SiblingsLie}
-use Rattle.bt_node.proofs.lemmas.keys.Order.{total_keys}
+use Rattle.bt_keycode.proofs.offered.Order.{total_keys}
 use Rattle.bt_node.proofs.lemmas.keys.Limits.{within-append, within-below, within-from}
 use Rattle.bt_node.proofs.lemmas.rows.RowsAfter.{rows-within, rows-sorted, rows-lie, rows_after-lie, all_below, t_both, t_first, t_second}
 use Rattle.bt_node.proofs.lemmas.rows.Values.{find-rows}

@@ -2,7 +2,7 @@
 use Rattle.std.proofs.Common.{◌≡◌, ℕ, zero, suc, ◌<◌, Bool, List, [], ◌∷◌, length, sym, ap, subst, ◌∙◌}
 use Rattle.std.specs.FinMap.{find}
 use Rattle.std.specs.declared.option.Option.{Option}
-use Rattle.bt_node.specs.Keys.{Key, key_cmp, AllWithin}
+use Rattle.bt_keycode.specs.Keys.{Key, key_cmp, AllWithin}
 use Rattle.bt_node.specs.Messages.{Rows, Messages, rows_after, value_after, with_messages}
 use Rattle.bt_node.specs.Deals.{deal}
 use Rattle.bt_node.specs.Loops.{passed}
@@ -12,7 +12,7 @@ use Rattle.bt_node.specs.Fits.{IsLed, Lies, SiblingsLie}
 use Rattle.bt_node.proofs.lemmas.deals.Parts.{NonEmpty, joined-deal}
 use Rattle.bt_node.proofs.lemmas.rows.RowsAfter.{rows_after-lie}
 use Rattle.bt_node.proofs.lemmas.rows.Values.{find-rows}
-use Rattle.bt_node.proofs.lemmas.rows.Buffers.{within-with_messages, rising-with_messages, value-with_messages}
+use Rattle.bt_node.proofs.lemmas.rows.Buffers.{within-with_messages, sorted-with_messages, value-with_messages}
 use Rattle.bt_node.proofs.lemmas.plans.OnePass.{names}
 use Rattle.bt_node.proofs.lemmas.lookups.Outside.{nodes_hold-children}
 use Rattle.bt_node.proofs.lemmas.flushes.Children.{ChildrenLie, all_pending, seen_in, value-below-seen}
@@ -50,7 +50,7 @@ module _ {V M : Type 0} (effect : Option V → M → Option V) (s : Shape) (leaf
 
   pub start-lies : (levels : ℕ) (low high : Option Key) (ns : Nodes V M) (b p : Messages M) → Lies (suc levels) low high (inner ns b) → AllWithin low high p → ChildrenLie levels low high (start ns b p)
   start-lies levels low high ns b p lies within =
-      shared-lie levels low high (children ns) (with_messages p b) lies.2 (within-with_messages low high p b within lies.0) (rising-with_messages p b lies.1)
+      shared-lie levels low high (children ns) (with_messages p b) lies.2 (within-with_messages low high p b within lies.0) (sorted-with_messages p b lies.1)
 
   -- a leaf's rows after a packet, dealt
   pub leaf-keeps : (low high : Option Key) (rs : Rows V) (p : Messages M) → Lies {M = M} zero low high (leaf rs) → AllWithin low high p →

@@ -2,10 +2,10 @@
 use Rattle.std.proofs.Common.{List, [], ◌∷◌, ◌++◌, map, subst, append-nil}
 use Rattle.std.specs.declared.option.Option.{Option}
 use Rattle.std.specs.declared.option.Option.TheVariants.{Some}
-use Rattle.bt_node.specs.Keys.{Key, IsPast, IsBelow, SideBySide}
+use Rattle.bt_keycode.specs.Keys.{Key, IsPast, IsBelow, SideBySide}
 use Rattle.bt_node.specs.Flushes.{pivot_first, first_key}
 use Rattle.bt_node.proofs.lemmas.deals.Parts.{NonEmpty, AllNonEmpty, joined}
-use Rattle.bt_node.proofs.lemmas.keys.Order.{below-below, past-past}
+use Rattle.bt_keycode.proofs.offered.Order.{below-below, past-past}
 
 module _ {X : Type 0} (key : X → Key) (P : Option Key → Option Key → X → Type 0) where
   pub split : (low high : Option Key) (x : X) (xs : List X) (y : X) (ys : List X) → SideBySide key P low high ((x ∷ xs) ++ y ∷ ys) →

@@ -4,21 +4,21 @@ use Rattle.std.specs.Ordering.{eq_by_cmp}
 use Rattle.std.specs.FinMap.{find}
 use Rattle.std.specs.declared.option.Option.{Option}
 use Rattle.std.specs.declared.option.Option.TheVariants.{None, Some}
-use Rattle.bt_node.specs.Keys.{Key, key_cmp, key_lt, IsPast, IsBelow, Within, AllWithin}
+use Rattle.bt_keycode.specs.Keys.{Key, key_cmp, is_before, IsPast, IsBelow, Within, AllWithin}
 use Rattle.bt_node.specs.Messages.{Rows, Messages, value_after}
 use Rattle.bt_node.specs.Trees.{Tree, leaf, inner, Nodes, none, node, Siblings, children}
 use Rattle.bt_node.specs.Flushes.{holds, nodes_hold, all_hold}
 use Rattle.bt_node.specs.Fits.{RowsLie, Lies, SiblingsLie}
-use Rattle.bt_node.proofs.lemmas.keys.Order.{below_chain, below_from, not_below, apart, apart_back}
+use Rattle.bt_keycode.proofs.offered.Order.{before_chain, before_later, not_after, apart, apart_back}
 use Rattle.bt_node.proofs.lemmas.rows.Values.{find-append, find-rows, value-above, value-below, or_else}
 
 abbrev IsUnder : Option Key → Key → Type 0
 IsUnder None q = ⊥
-IsUnder (Some low) q = key_lt q low ≡ true
+IsUnder (Some low) q = is_before q low ≡ true
 
 abbrev IsOver : Option Key → Key → Type 0
 IsOver None q = ⊥
-IsOver (Some high) q = key_lt q high ≡ false
+IsOver (Some high) q = is_before q high ≡ false
 
 abbrev pub Outside : Option Key → Option Key → Key → Type 0
 Outside low high q = IsUnder low q ⊎ IsOver high q
@@ -27,11 +27,11 @@ Outside low high q = IsUnder low q ⊎ IsOver high q
 pub outside-first : (low : Option Key) (k q : Key) (high : Option Key) → IsBelow high k → Outside low high q → Outside low (Some k) q
 outside-first low k q high b (inl o) = inl o
 outside-first low k q None b (inr o) = absurd o
-outside-first low k q (Some high) b (inr o) = inr (not_below k q (below_from k high q b o))
+outside-first low k q (Some high) b (inr o) = inr (not_after k q (before_later k high q b o))
 
 pub outside-rest : (low : Option Key) (k q : Key) (high : Option Key) → IsPast low k → Outside low high q → Outside (Some k) high q
 outside-rest None k q high l (inl o) = absurd o
-outside-rest (Some low) k q high l (inl o) = inl (below_chain q low k o l)
+outside-rest (Some low) k q high l (inl o) = inl (before_chain q low k o l)
 outside-rest low k q high l (inr o) = inr o
 
 not_found : (q k : Key) (low high : Option Key) → Outside low high q → Within low high k → eq_by_cmp key_cmp q k ≡ false

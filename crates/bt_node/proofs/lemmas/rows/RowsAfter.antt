@@ -5,10 +5,10 @@ use Rattle.std.specs.FinMap.Entries.{below_all, is_sorted-put, is_sorted-where_k
 use Rattle.std.specs.declared.cmp.Ordering.TheVariants.{Less, Equal, Greater}
 use Rattle.std.specs.declared.option.Option.{Option}
 use Rattle.std.specs.declared.option.Option.TheVariants.{None, Some}
-use Rattle.bt_node.specs.Keys.{Key, key_cmp, key_lt, Within, AllWithin}
+use Rattle.bt_keycode.specs.Keys.{Key, key_cmp, is_before, Within, AllWithin}
 use Rattle.bt_node.specs.Messages.{Rows, Messages, with_value, rows_after}
 use Rattle.bt_node.specs.Fits.{RowsLie}
-use Rattle.bt_node.proofs.lemmas.keys.Order.{total_keys, below_from, not_below, not_below_itself, below-below, past-from}
+use Rattle.bt_keycode.proofs.offered.Order.{total_keys, before_later, not_after, not_before_itself, below-below, past-from}
 use Rattle.bt_node.proofs.lemmas.keys.Limits.{within-from, within-where}
 
 pub t_both : (a b : Bool) → T a → T b → T (a && b)
@@ -36,9 +36,9 @@ rows-within low high (r ∷ []) b = (b, tt)
 rows-within low high (r ∷ s ∷ rs) b =
     (record { from = b.2.from; below = below-below high r.0 s.0 b.2.below b.1 }, within-from low s.0 high (s ∷ rs) b.0 (rows-within (Some s.0) high (s ∷ rs) b.3))
 
-pub all_below : {V : Type 0} (k low : Key) (high : Option Key) (rs : Rows V) → key_lt k low ≡ true → AllWithin (Some low) high rs → T (below_all key_cmp k rs)
+pub all_below : {V : Type 0} (k low : Key) (high : Option Key) (rs : Rows V) → is_before k low ≡ true → AllWithin (Some low) high rs → T (below_all key_cmp k rs)
 all_below k low high [] l w = tt
-all_below k low high (r ∷ rs) l w = t_both _ _ (t_true _ (below_from k low r.0 l w.0.from)) (all_below k low high rs l w.1)
+all_below k low high (r ∷ rs) l w = t_both _ _ (t_true _ (before_later k low r.0 l w.0.from)) (all_below k low high rs l w.1)
 
 pub rows-sorted : {V : Type 0} (low high : Option Key) (rs : Rows V) → RowsLie low high rs → T (is_sorted key_cmp rs)
 rows-sorted low high [] b = tt
@@ -48,18 +48,18 @@ rows-sorted low high (r ∷ s ∷ rs) b =
 
 raised : {V : Type 0} (k : Key) (low high : Option Key) (rs : Rows V) → T (below_all key_cmp k rs) → AllWithin low high rs → AllWithin (Some k) high rs
 raised k low high [] b w = tt
-raised k low high (r ∷ rs) b w = (record { from = not_below k r.0 (true_t _ (t_first _ _ b)); below = w.0.below }, raised k low high rs (t_second _ _ b) w.1)
+raised k low high (r ∷ rs) b w = (record { from = not_after k r.0 (true_t _ (t_first _ _ b)); below = w.0.below }, raised k low high rs (t_second _ _ b) w.1)
 
 pub rows-lie : {V : Type 0} (low high : Option Key) (rs : Rows V) → AllWithin low high rs → T (is_sorted key_cmp rs) → RowsLie low high rs
 rows-lie low high [] w o = tt
 rows-lie low high (r ∷ []) w o = w.0
 rows-lie low high (r ∷ s ∷ rs) w o =
-    let above : key_lt r.0 s.0 ≡ true = true_t _ (t_first _ _ (t_first _ _ o)) in
+    let above : is_before r.0 s.0 ≡ true = true_t _ (t_first _ _ (t_first _ _ o)) in
     let rest = t_second _ _ o in (
       past-from low r.0 s.0 above w.0.from,
       w.1.0.below,
       record { from = w.0.from; below = above },
-      rows-lie (Some s.0) high (s ∷ rs) (record { from = not_below_itself s.0; below = w.1.0.below }, raised s.0 low high rs (t_first _ _ rest) w.1.1) rest,
+      rows-lie (Some s.0) high (s ∷ rs) (record { from = not_before_itself s.0; below = w.1.0.below }, raised s.0 low high rs (t_first _ _ rest) w.1.1) rest,
     )
 
 module _ {V M : Type 0} (effect : Option V → M → Option V) where

@@ -6,9 +6,9 @@ use Rattle.std.specs.FinMap.Entries.{find-put, find-where_key}
 use Rattle.std.specs.Cmp.{alike_right, eq_by_cmp_equiv}
 use Rattle.std.specs.declared.option.Option.{Option}
 use Rattle.std.specs.declared.option.Option.TheVariants.{None, Some}
-use Rattle.bt_node.specs.Keys.{Key, key_cmp, key_lt, AllWithin}
+use Rattle.bt_keycode.specs.Keys.{Key, key_cmp, is_before, AllWithin}
 use Rattle.bt_node.specs.Messages.{Rows, Messages, with_value, rows_after, value_after}
-use Rattle.bt_node.proofs.lemmas.keys.Order.{total_keys, same_key, apart, apart_back}
+use Rattle.bt_keycode.proofs.offered.Order.{total_keys, same_key, apart, apart_back}
 
 abbrev pub or_else : {V : Type 0} → Option V → Option V → Option V
 or_else None y = y
@@ -55,12 +55,12 @@ module _ {V M : Type 0} (effect : Option V → M → Option V) where
   value-append q (m ∷ ms) ns o = value-append q ms ns _
 
   -- messages elsewhere change nothing
-  pub value-above : (q k : Key) (high : Option Key) (ms : Messages M) (o : Option V) → key_lt q k ≡ true → AllWithin (Some k) high ms → value_after effect q ms o ≡ o
+  pub value-above : (q k : Key) (high : Option Key) (ms : Messages M) (o : Option V) → is_before q k ≡ true → AllWithin (Some k) high ms → value_after effect q ms o ≡ o
   value-above q k high [] o l h = refl
   value-above q k high (m ∷ ms) o l h =
       ap (λ b. value_after effect q ms (cond b (effect o m.1) o)) (apart q k m.0 l h.0.from) ∙ value-above q k high ms o l h.1
 
-  pub value-below : (q k : Key) (low : Option Key) (ms : Messages M) (o : Option V) → key_lt q k ≡ false → AllWithin low (Some k) ms → value_after effect q ms o ≡ o
+  pub value-below : (q k : Key) (low : Option Key) (ms : Messages M) (o : Option V) → is_before q k ≡ false → AllWithin low (Some k) ms → value_after effect q ms o ≡ o
   value-below q k low [] o l h = refl
   value-below q k low (m ∷ ms) o l h =
       ap (λ b. value_after effect q ms (cond b (effect o m.1) o)) (apart_back m.0 k q h.0.below l) ∙ value-below q k low ms o l h.1
