@@ -1,14 +1,12 @@
 pub mod Deals
 pub mod Fits
 pub mod Flushes
+pub mod inside
 pub mod Laws
 pub mod Lookups
 pub mod Loops
 pub mod Messages
 pub mod Plans
 pub mod Shapes
-pub mod Shares
-pub mod Stored
 pub mod Trees
-pub mod Views
 pub mod Walks

@@ -2,7 +2,7 @@
 ghost use Rattle.std.specs.Prelude.{◌≡◌, ◌++◌, ◌∷◌, [], IfOk, OnOk};
 ghost use Rattle.bt_keycode.specs.Keys.{IsSorted};
 ghost use Rattle.bt_node.specs.Flushes.{first_key, gathered, grouped, leaves, pivot_first};
-ghost use Rattle.bt_node.specs.Views.{children_of, siblings_of, tree_of, none_pending_of, pending_of};
+ghost use Rattle.bt_node.specs.inside.Views.{children_of, siblings_of, tree_of, none_pending_of, pending_of};
 
 use crate::deal::deal;
 use crate::node::{Child, Node};

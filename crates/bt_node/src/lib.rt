@@ -35,8 +35,6 @@ mod lookup;
 mod node;
 mod planning;
 mod rows;
-#[cfg(test)]
-mod samples;
 mod shape;
 mod share;
 mod tree;

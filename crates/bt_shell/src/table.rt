@@ -26,7 +26,7 @@ impl Model for Table {
     ghost use Rattle.bt_node.specs.Flushes.{holds};
     ghost use Rattle.bt_shell.specs.Tables.{TableState, row_effect};
     ghost use Rattle.std.specs.Coded.{codes};
-    ghost use Rattle.bt_node.specs.Stored.{message_code, tree_code};
+    ghost use Rattle.bt_node.specs.inside.Stored.{message_code, tree_code};
 
     ghost Value = { TableState };
 

@@ -3,8 +3,8 @@ use Rattle.bt_messages.specs.Effects.{effect_of}
 use Rattle.bt_keycode.specs.Keys.{IsSorted}
 use Rattle.bt_node.specs.Fits.{IsLed}
 use Rattle.bt_node.specs.Flushes.{absorb, leaves}
-use Rattle.bt_node.specs.Shares.{marked_children, with_shares}
-use Rattle.bt_node.specs.Views.{siblings_of, tree_of}
+use Rattle.bt_node.specs.inside.Shares.{marked_children, with_shares}
+use Rattle.bt_node.specs.inside.Views.{siblings_of, tree_of}
 use Rattle.bt_node.proofs.lemmas.code.AbsorbStep.{grouped_anew, if_ok, parts_sorted, stays_here}
 use Rattle.bt_node.proofs.lemmas.code.TreeOfNode.{length-siblings, tree_leaf}
 use Rattle.bt_node.proofs.absorb.+flushes.Goals as goal

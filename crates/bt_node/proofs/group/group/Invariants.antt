@@ -1,7 +1,7 @@
 use Rattle.std.proofs.Common.{◌≡◌, ◌++◌, map}
 use Rattle.bt_keycode.specs.Keys.{IsSorted}
 use Rattle.bt_node.specs.Flushes.{gathered}
-use Rattle.bt_node.specs.Views.{children_of, siblings_of, pending_of}
+use Rattle.bt_node.specs.inside.Views.{children_of, siblings_of, pending_of}
 use Rattle.bt_node.proofs.lemmas.code.GroupLoops.{all_of}
 use Rattle.bt_node.proofs.group.group.Given as goal
 

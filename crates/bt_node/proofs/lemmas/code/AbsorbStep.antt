@@ -7,13 +7,13 @@ use Rattle.bt_node.specs.declared.node.Node.{Node}
 use Rattle.bt_node.specs.declared.node.Node.TheVariants as variants
 use Rattle.bt_node.specs.declared.share.Share.{Share}
 use Rattle.bt_node.specs.Messages.{Messages, with_messages}
-use Rattle.bt_node.specs.Plans.{marks_of, planned}
-use Rattle.bt_node.specs.Loops.{passed}
+use Rattle.bt_node.specs.Plans.{planned}
+use Rattle.bt_node.specs.inside.Marks.{marks_of, passed}
 use Rattle.bt_node.specs.Trees.{Shape, Siblings, height, height_below, nodes}
 use Rattle.bt_node.specs.Fits.{IsLed}
 use Rattle.bt_node.specs.Flushes.{Child, absorb, counts, flushed, flushed_over, grouped, shared}
-use Rattle.bt_node.specs.Shares.{marked_children, with_shares}
-use Rattle.bt_node.specs.Views.{children_of, siblings_of, tree_of, pending_of}
+use Rattle.bt_node.specs.inside.Shares.{marked_children, with_shares}
+use Rattle.bt_node.specs.inside.Views.{children_of, siblings_of, tree_of, pending_of}
 use Rattle.bt_node.proofs.lemmas.flushes.Children.{all_pending}
 use Rattle.bt_node.proofs.lemmas.flushes.Groups.{children-nodes}
 use Rattle.bt_node.proofs.lemmas.code.Marks.{flushed_over-marks}

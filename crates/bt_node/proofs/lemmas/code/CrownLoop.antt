@@ -8,7 +8,7 @@ use Rattle.bt_node.specs.declared.node.Node.TheVariants as variants
 use Rattle.bt_node.specs.Messages.{Rows}
 use Rattle.bt_node.specs.Trees.{Shape, Siblings, leaf}
 use Rattle.bt_node.specs.Flushes.{crown, grouped}
-use Rattle.bt_node.specs.Views.{children_of, siblings_of, tree_of, none_pending_of, pending_of}
+use Rattle.bt_node.specs.inside.Views.{children_of, siblings_of, tree_of, none_pending_of, pending_of}
 use Rattle.bt_node.proofs.lemmas.flushes.Children.{all_pending}
 use Rattle.bt_node.proofs.lemmas.code.TreeOfNode.{tree_leaf}
 use Rattle.bt_node.proofs.lemmas.crowns.Levels.{crown-again, raised-shorter}

@@ -11,7 +11,7 @@ use Rattle.bt_node.specs.Messages.{Messages, Rows, with_messages}
 use Rattle.bt_node.specs.Trees.{Shape, Siblings, Tree, inner, leaf, none, nodes}
 use Rattle.bt_node.specs.Deals.{deal, parted, sizes}
 use Rattle.bt_node.specs.Flushes.{first_key, gathered, grouped, leaves, pivot_first}
-use Rattle.bt_node.specs.Views.{child_of, children_of, siblings_of, tree_of, pending_of}
+use Rattle.bt_node.specs.inside.Views.{child_of, children_of, siblings_of, tree_of, pending_of}
 use Rattle.bt_node.proofs.lemmas.deals.Parts.{joined, joined-deal}
 use Rattle.bt_node.proofs.lemmas.flushes.Groups.{as_leaf, stripped}
 use Rattle.bt_node.proofs.lemmas.code.TreeOfNode.{tree_inner, tree_leaf}

@@ -17,7 +17,7 @@ use Rattle.bt_node.specs.declared.node.Node.TheVariants as variants
 use Rattle.bt_node.specs.Messages.{Messages, from, value_after}
 use Rattle.bt_node.specs.Trees.{nodes}
 use Rattle.bt_node.specs.Lookups.{pivots_up_to, value_at, value_below}
-use Rattle.bt_node.specs.Views.{siblings_of, tree_of}
+use Rattle.bt_node.specs.inside.Views.{siblings_of, tree_of}
 use Rattle.bt_keycode.proofs.offered.Order.{all_within-from, apart_back, not_before_itself, total_keys}
 use Rattle.bt_node.proofs.lemmas.rows.Values.{value-above}
 use Rattle.bt_node.proofs.lemmas.code.TreeOfNode.{tree_inner}

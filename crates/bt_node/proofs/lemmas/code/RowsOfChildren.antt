@@ -11,7 +11,7 @@ use Rattle.bt_node.specs.Flushes.{all_hold, holds}
 use Rattle.bt_keycode.specs.Keys.{Key, SideBySide, key_cmp}
 use Rattle.bt_node.specs.Messages.{Messages, Rows, rows_after}
 use Rattle.bt_node.specs.Trees.{Nodes, Shape, Tree, children, height, height_below, inner, nodes}
-use Rattle.bt_node.specs.Views.{siblings_of, tree_of}
+use Rattle.bt_node.specs.inside.Views.{siblings_of, tree_of}
 use Rattle.bt_node.proofs.lemmas.flushes.Groups.{children-nodes}
 use Rattle.bt_node.proofs.lemmas.flushes.RowsKept.{all_hold-lie}
 use Rattle.bt_node.proofs.lemmas.lookups.Outside.{nodes_hold-children}

@@ -8,11 +8,12 @@ use Rattle.bt_node.specs.declared.node.Node.{Node}
 use Rattle.bt_node.specs.declared.share.Share.{Share}
 use Rattle.bt_keycode.specs.Keys.{Key}
 use Rattle.bt_node.specs.Messages.{Messages, before, from}
-use Rattle.bt_node.specs.Plans.{marks_of, planned}
+use Rattle.bt_node.specs.Plans.{planned}
+use Rattle.bt_node.specs.inside.Marks.{marks_of}
 use Rattle.bt_node.specs.Trees.{Siblings}
 use Rattle.bt_node.specs.Flushes.{Child, counts, shared}
-use Rattle.bt_node.specs.Shares.{divided, marked_children, with_shares}
-use Rattle.bt_node.specs.Views.{siblings_of, tree_of}
+use Rattle.bt_node.specs.inside.Shares.{divided, marked_children, with_shares}
+use Rattle.bt_node.specs.inside.Views.{siblings_of, tree_of}
 use Rattle.bt_node.proofs.lemmas.flushes.Groups.{stripped}
 use Rattle.bt_node.proofs.lemmas.flushes.EmptyPackets.{stripped-shared}
 

@@ -9,7 +9,7 @@ use Rattle.bt_node.specs.declared.node.Node.TheFolds.{fold-roll-Node}
 use Rattle.bt_keycode.specs.Keys.{Key}
 use Rattle.bt_node.specs.Messages.{Rows, Messages}
 use Rattle.bt_node.specs.Trees.{Tree, nodes, leaf, inner}
-use Rattle.bt_node.specs.Views.{tree_of, tree_step, siblings_of}
+use Rattle.bt_node.specs.inside.Views.{tree_of, tree_step, siblings_of}
 use Rattle.bt_node.specs.Walks.{children_of}
 use Rattle.bt_node.proofs.lemmas.flushes.Groups.{children-nodes}
 

@@ -4,7 +4,7 @@ use Rattle.std.specs.List.{zip}
 use Rattle.bt_keycode.specs.Keys.{AllFrom, IsSorted, Key}
 use Rattle.bt_messages.proofs.Placed.{first_stays, newer_last}
 use Rattle.bt_node.specs.Messages.{Messages, with_messages}
-use Rattle.bt_node.specs.Loops.{passed}
+use Rattle.bt_node.specs.inside.Marks.{passed}
 use Rattle.bt_node.specs.Trees.{Siblings}
 use Rattle.bt_node.specs.Flushes.{Child, Flush, pivot_first, shared, flushed, none_pending}
 use Rattle.bt_node.proofs.lemmas.keys.SortedLists.{from-back, from-joined, from-prefix, sorted-back, sorted-instead}

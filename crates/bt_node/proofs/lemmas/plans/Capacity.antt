@@ -2,7 +2,8 @@
 use Rattle.std.proofs.Common.{◌≡◌, ℕ, zero, suc, ◌+◌, ◌<◌, ◌≤◌, true, false, cond, eqb, List, [], ◌∷◌, ◌++◌, map, refl, sym, subst, ◌∙◌, arith, inl, inr, le_refl}
 use Rattle.std.proofs.lemmas.Bool.{le-leb, lt-leb, cond-true, cond-false, eqb-true, eqb-false}
 use Rattle.bt_node.specs.Plans.{total, most, place_of, fullest}
-use Rattle.bt_node.specs.Loops.{opened_at, settled, IsLight}
+use Rattle.bt_node.specs.Loops.{opened_at, settled}
+use Rattle.bt_node.specs.inside.Marks.{IsLight}
 use Rattle.bt_node.proofs.lemmas.plans.RenewedChoice.{le_or_lt, nothing}
 use Rattle.bt_node.proofs.lemmas.plans.OnePass.{settled-planned}
 

@@ -2,7 +2,8 @@
 use Rattle.std.proofs.Common.{◌≡◌, ℕ, zero, suc, ◌<◌, ◌≤◌, Bool, true, false, cond, eqb, List, [], ◌∷◌, ◌++◌, set, map, take, drop, refl, sym, ap, ◌∙◌, arith, inl, inr, ne_eqb}
 use Rattle.std.proofs.lemmas.Bool.{le-leb, lt-leb, cond-true, cond-false}
 use Rattle.bt_node.specs.Plans.{total, most, place_of, fullest, planned, renewed}
-use Rattle.bt_node.specs.Loops.{opened_at, settled, replaced, passed, IsLight, marked, marked_all, unmarked, items_at}
+use Rattle.bt_node.specs.Loops.{opened_at, settled, replaced, items_at}
+use Rattle.bt_node.specs.inside.Marks.{passed, IsLight, marked, marked_all, unmarked}
 use Rattle.bt_node.proofs.lemmas.plans.RenewedChoice.{le_or_lt, nothing, renewed-planned}
 
 -- the items without their marks

@@ -1,7 +1,7 @@
 use Rattle.std.proofs.Common.{◌<◌, ◌∙◌, ap, arith, length, sym}
 use Rattle.bt_messages.specs.Effects.{effect_of}
 use Rattle.bt_node.specs.Lookups.{value_at}
-use Rattle.bt_node.specs.Views.{tree_of}
+use Rattle.bt_node.specs.inside.Views.{tree_of}
 use Rattle.bt_node.proofs.lemmas.code.AbsorbStep.{if_ok}
 use Rattle.bt_node.proofs.lemmas.code.LookupPath.{along}
 use Rattle.bt_node.proofs.lookup.+value_at.Goals as goal

@@ -6,10 +6,11 @@ use Rattle.bt_node.specs.declared.node.Node.{Node}
 use Rattle.bt_messages.specs.declared.message.Message.{Message}
 use Rattle.bt_keycode.specs.Keys.{Key}
 use Rattle.bt_node.specs.Messages.{Messages, before, from}
-use Rattle.bt_node.specs.Plans.{marks_of, planned}
+use Rattle.bt_node.specs.Plans.{planned}
+use Rattle.bt_node.specs.inside.Marks.{marks_of}
 use Rattle.bt_node.specs.Trees.{Siblings}
 use Rattle.bt_node.specs.Flushes.{Child, counts, shared}
-use Rattle.bt_node.specs.Views.{tree_of}
+use Rattle.bt_node.specs.inside.Views.{tree_of}
 
 -- the messages before each of these pivots, from the one before it on, and those from the last pivot on
 abbrev pub divided : {M : Type 0} → List Key → Messages M → List (Messages M)
