@@ -5,7 +5,7 @@ use Rattle.bt_rowtype.specs.declared.value.Kind.TheVariants as kind
 use Rattle.bt_rowtype.specs.declared.value.Value.{Value}
 use Rattle.bt_rowtype.specs.declared.value.Value.TheVariants as value
 use Rattle.bt_keycode.specs.Codes.{AreInRange, IsCodeOf, code_of, code_of_value, escaped, kind_of, raised}
-use Rattle.bt_keycode.specs.Keys.{eight_bytes, first_eight}
+use Rattle.bt_keycode.specs.Prefixes.{eight_bytes, first_eight}
 use Rattle.bt_rowtype.specs.Values.{is_text}
 use Rattle.std.proofs.lemmas.Int.{to_z-of_z}
 use Rattle.std.proofs.lemmas.List.{map-append, take-append-drop, take_more}
@@ -35,12 +35,12 @@ same_value (value.Text s) (value.Flag b) q r k f g e = cc
 same_value (value.Flag a) (value.Int b) q r k f g e = cc
 same_value (value.Flag a) (value.Text t) q r k f g e = cc
 
-first_in_range : (v : Value) (vs : List Value) → AreInRange (v ∷ vs) → AreInRange (v ∷ [])
+pub first_in_range : (v : Value) (vs : List Value) → AreInRange (v ∷ vs) → AreInRange (v ∷ [])
 first_in_range (value.Int n) vs f = (f.0, tt)
 first_in_range (value.Text bytes) vs f = (f.0, tt)
 first_in_range (value.Flag flag) vs f = tt
 
-others_in_range : (v : Value) (vs : List Value) → AreInRange (v ∷ vs) → AreInRange vs
+pub others_in_range : (v : Value) (vs : List Value) → AreInRange (v ∷ vs) → AreInRange vs
 others_in_range (value.Int n) vs f = f.1
 others_in_range (value.Text bytes) vs f = f.1
 others_in_range (value.Flag flag) vs f = f
@@ -70,7 +70,7 @@ next_value (v ∷ values) (w ∷ others) kind kinds rest more f g k e =
     next_value values others kind kinds rest more (others_in_range v values f) (others_in_range w others g) both.1 same.1
 
 -- two lists of values of the same kinds, and what comes after their codes
-same_values : (values others : List Value) (rest more : List ℕ) → AreInRange values → AreInRange others → map kind_of values ≡ map kind_of others →
+pub same_values : (values others : List Value) (rest more : List ℕ) → AreInRange values → AreInRange others → map kind_of values ≡ map kind_of others →
     code_of values ++ rest ≡ code_of others ++ more → (values ≡ others) × (rest ≡ more)
 same_values [] [] rest more f g k e = (refl, e)
 same_values [] (w ∷ others) rest more f g k e = cc

@@ -3,9 +3,10 @@ pub mod Decoding
 pub mod DecodingInts
 pub mod DecodingTexts
 pub mod Escapes
-pub mod Heads
 pub mod Lengths
 pub mod Numbers
 pub mod Paddings
+pub mod Prefixes
+pub mod offered
 pub mod Texts
 pub mod WorkedRows

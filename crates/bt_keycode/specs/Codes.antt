@@ -6,7 +6,7 @@ use Rattle.bt_rowtype.specs.declared.value.Kind.{Kind}
 use Rattle.bt_rowtype.specs.declared.value.Kind.TheVariants as kind
 use Rattle.bt_rowtype.specs.declared.value.Value.{Value}
 use Rattle.bt_rowtype.specs.declared.value.Value.TheVariants as value
-use Rattle.bt_keycode.specs.Keys.{eight_bytes}
+use Rattle.bt_keycode.specs.Prefixes.{eight_bytes}
 
 -- an int moved up by 2^63, which inverts the sign bit of its 64 bits
 abbrev pub raised : ℤ → ℕ

@@ -1,16 +1,75 @@
--- The first eight bytes of a key, which are kept as a number.
-use Rattle.std.specs.Prelude.{ℕ, zero, suc, List, [], ◌∷◌}
-use Rattle.std.specs.Int.{bytes_high_first}
+-- Keys, their order, limits, and lists sorted by key.
+use Rattle.std.specs.Cmp.Lexicographic.{slice_cmp}
+use Rattle.std.specs.Ordering.{is_lt, nat_cmp}
+use Rattle.std.specs.Prelude.{ℕ, ◌≡◌, Bool, true, false, not, ◌&&◌, List, [], ◌∷◌, Option, Some, None}
+use Rattle.std.specs.declared.cmp.Ordering.{Ordering}
 
--- the eight bytes of a number, the highest first
-unfoldable pub eight_bytes : ℕ → List ℕ
-eight_bytes n = bytes_high_first 8 n
+-- a key is a list of bytes
+abbrev pub Key : Type 0
+Key = List ℕ
 
--- the first n bytes of a list, with zeros in place of those that it hasn't
-abbrev pub padded : ℕ → List ℕ → List ℕ
-padded zero bytes = []
-padded (suc n) [] = 0 ∷ padded n []
-padded (suc n) (b ∷ bs) = b ∷ padded n bs
+-- keys are ordered byte by byte, a prefix before what it begins
+abbrev pub key_cmp : Key → Key → Ordering
+key_cmp = slice_cmp nat_cmp
 
-unfoldable pub first_eight : List ℕ → List ℕ
-first_eight bytes = padded 8 bytes
+-- whether one key comes before another
+abbrev pub is_before : Key → Key → Bool
+is_before a b = is_lt (key_cmp a b)
+
+-- ---- limits
+
+-- whether a key comes before a lower limit; none does where the limit is absent
+abbrev pub is_before_lower : Option Key → Key → Bool
+is_before_lower None k = false
+is_before_lower (Some low) k = is_before k low
+
+-- whether a key comes before an upper limit; each does where the limit is absent
+abbrev pub is_before_upper : Option Key → Key → Bool
+is_before_upper None k = true
+is_before_upper (Some high) k = is_before k high
+
+-- whether a key lies at or past the lower limit and before the upper one
+abbrev pub is_between : Option Key → Option Key → Key → Bool
+is_between low high k = not (is_before_lower low k) && is_before_upper high k
+
+-- a key lies at or past a lower limit
+abbrev pub IsFrom : Option Key → Key → Type 0
+IsFrom low k = is_before_lower low k ≡ false
+
+-- a key lies before an upper limit
+abbrev pub IsBelow : Option Key → Key → Type 0
+IsBelow high k = is_before_upper high k ≡ true
+
+-- a key lies past a lower limit, where there is one
+abbrev pub IsPast : Option Key → Key → Type 0
+IsPast None k = Unit {0}
+IsPast (Some low) k = is_before low k ≡ true
+
+-- a key lies at or past the lower limit and before the upper one
+pub record Within (low high : Option Key) (k : Key) : Type 0 where
+  pub from : IsFrom low k
+  pub below : IsBelow high k
+
+-- ---- lists of pairs of a key and something else
+
+-- each key lies within the limits
+abbrev pub AllWithin : {X : Type 0} → Option Key → Option Key → List (Key × X) → Type 0
+AllWithin low high [] = Unit {0}
+AllWithin low high (x ∷ xs) = Within low high x.0 × AllWithin low high xs
+
+-- no key comes before this one
+abbrev pub AllFrom : {X : Type 0} → Key → List (Key × X) → Type 0
+AllFrom k [] = Unit {0}
+AllFrom k (x ∷ xs) = (is_before x.0 k ≡ false) × AllFrom k xs
+
+-- sorted by key, equal keys allowed: no key comes before an earlier one
+abbrev pub IsSorted : {X : Type 0} → List (Key × X) → Type 0
+IsSorted [] = Unit {0}
+IsSorted (x ∷ xs) = AllFrom x.0 xs × IsSorted xs
+
+-- Items side by side between two limits: each reaches from its key to the next one's, the first from the lower limit, the last to the upper one.
+abbrev pub SideBySide : {X : Type 0} → (X → Key) → (Option Key → Option Key → X → Type 0) → Option Key → Option Key → List X → Type 0
+SideBySide key Reaches low high [] = Unit {0}
+SideBySide key Reaches low high (x ∷ []) = Reaches low high x
+SideBySide key Reaches low high (x ∷ y ∷ ys) =
+    IsPast low (key y) × IsBelow high (key y) × Reaches low (Some (key y)) x × SideBySide key Reaches (Some (key y)) high (y ∷ ys)

@@ -2,3 +2,4 @@ pub mod Codes
 pub mod Decoding
 pub mod Hex
 pub mod Keys
+pub mod Prefixes

@@ -5,7 +5,7 @@ ghost use Rattle.bt_keycode.specs.Decoding.{BeginsWith, BeginsWithAll, after_byt
 ghost use Rattle.bt_rowtype.specs.Values.{is_text};
 ghost use Rattle.bt_rowtype.specs.declared.value.Value.{Value as value};
 
-use crate::key::head_of;
+use crate::key::prefix_of;
 use bt_rowtype::{Kind, LONGEST_TEXT, Row, Text, Value};
 use std::alloc::{AllocError, Global};
 use std::str;
@@ -46,7 +46,7 @@ fn read_int(bytes: &[u8]) -> Result<(Value, &[u8]), DecodeError>
     if bytes.len() < 8 {
         return Err(DecodeError::NotACode);
     }
-    Ok((Value::Int(lower(head_of(bytes))), &bytes[8..]))
+    Ok((Value::Int(lower(prefix_of(bytes))), &bytes[8..]))
 }
 
 // The flag whose code the bytes begin with, and what comes after it.
@@ -160,80 +160,4 @@ pub fn decode(alloc: Global, kinds: &[Kind], bytes: &[u8]) -> Result<Row, Decode
         return Err(DecodeError::NotACode);
     }
     Ok(Row::new(values))
-}
-
-#[cfg(test)]
-mod tests {
-    use super::*;
-    use std::test::Fail;
-
-    fn is_no_code(alloc: Global, kinds: &[Kind], bytes: &[u8]) -> bool {
-        matches!(decode(alloc, kinds, bytes), Err(DecodeError::NotACode))
-    }
-
-    #[test]
-    fn values_of_codes(rt: HostRuntime) -> Result<(), Fail> {
-        let alloc = rt.alloc();
-        let row = decode(alloc, &[Kind::Text], b"a\0\x01")?;
-        assert!(rt;
-            matches!(row.as_slice(), [Value::Text(text)] if text.as_bytes() == b"a".as_slice())
-        );
-        let row = decode(
-            alloc,
-            &[Kind::Int, Kind::Text, Kind::Flag, Kind::Int],
-            b"\x80\0\0\0\0\0\0\x03a\0\xFFb\0\x01\x01\0\0\0\0\0\0\0\0",
-        )?;
-        let [
-            Value::Int(number),
-            Value::Text(text),
-            Value::Flag(flag),
-            Value::Int(least),
-        ] = row.as_slice()
-        else {
-            assert!(rt; false);
-            return Ok(());
-        };
-        assert_eq!(rt; *number, 3);
-        assert_eq!(rt; text.as_bytes(), b"a\0b".as_slice());
-        assert!(rt; *flag);
-        assert_eq!(rt; *least, i64::MIN);
-        let none = decode(alloc, &[], &[])?;
-        assert!(rt; none.as_slice().is_empty());
-        Ok(())
-    }
-
-    #[test]
-    fn bytes_that_are_no_code(rt: HostRuntime) {
-        let alloc = rt.alloc();
-        let texts: [&[u8]; 7] = [
-            b"",
-            b"a",
-            b"a\0",
-            b"a\0\0\x01",
-            b"a\0\xFF",
-            b"\xFF\0\x01",
-            b"a\0\x01\0",
-        ];
-        for text in texts {
-            assert!(rt; is_no_code(alloc, &[Kind::Text], text));
-        }
-        assert!(rt; is_no_code(alloc, &[Kind::Flag], &[2]));
-        assert!(rt; is_no_code(alloc, &[Kind::Flag], &[0, 0]));
-        assert!(rt; is_no_code(alloc, &[Kind::Flag], &[]));
-        assert!(rt; is_no_code(alloc, &[Kind::Int], &[0x80, 0, 0, 0, 0, 0, 3]));
-        assert!(rt; is_no_code(alloc, &[Kind::Int], &[0x80, 0, 0, 0, 0, 0, 0, 3, 0]));
-        assert!(rt; is_no_code(alloc, &[], &[0]));
-    }
-
-    #[test]
-    fn texts_of_255_bytes_at_most(rt: HostRuntime) -> Result<(), Fail> {
-        let alloc = rt.alloc();
-        let mut code = Vec::new(alloc);
-        code.extend_from_slice(&[b'a'; 256])?;
-        code.extend_from_slice(&[0, 1])?;
-        assert!(rt; is_no_code(alloc, &[Kind::Text], code.as_slice()));
-        let row = decode(alloc, &[Kind::Text], &code[1..])?;
-        assert!(rt; matches!(row.as_slice(), [Value::Text(text)] if text.as_bytes().len() == 255));
-        Ok(())
-    }
 }

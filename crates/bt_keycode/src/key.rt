@@ -1,9 +1,8 @@
 //! Keys: lists of bytes in the order of bytes.
 ghost use Rattle.std.specs.Prelude.{◌≡◌, ◌++◌, ◌≤◌, [], IfOk, OnOk, OnErr, drop, length, slice_index};
-ghost use Rattle.std.specs.Cmp.Lexicographic.{slice_cmp};
-ghost use Rattle.std.specs.Ordering.{nat_cmp};
 ghost use Rattle.bt_keycode.specs.Hex.{hex_text};
-ghost use Rattle.bt_keycode.specs.Keys.{eight_bytes, first_eight};
+ghost use Rattle.bt_keycode.specs.Keys.{key_cmp};
+ghost use Rattle.bt_keycode.specs.Prefixes.{eight_bytes, first_eight};
 
 use crate::hex;
 use bt_rowtype::Bytes;
@@ -17,7 +16,7 @@ use std::marker::Model;
 #[derive(Debug, Drop)]
 pub struct Key {
     // the first eight bytes, big endian, with zeros after a shorter key
-    head: u64,
+    prefix: u64,
     // the next eight, in the same way
     next: u64,
     bytes: Bytes,
@@ -25,14 +24,14 @@ pub struct Key {
 
 impl Model for Key {
     ghost use Rattle.std.specs.Prelude.{◌≡◌, List, drop, ℕ};
-    ghost use Rattle.bt_keycode.specs.Keys.{eight_bytes, first_eight};
+    ghost use Rattle.bt_keycode.specs.Prefixes.{eight_bytes, first_eight};
 
     ghost Value = { List ℕ };
 
     ghost view = { λ k. k.bytes };
 
     ghost invariant = { λ k. record {
-      head : eight_bytes k.head ≡ first_eight k.bytes;
+      prefix : eight_bytes k.prefix ≡ first_eight k.bytes;
       next : eight_bytes k.next ≡ first_eight (drop 8 k.bytes);
     } };
 }
@@ -44,7 +43,7 @@ fn byte_at(bytes: &[u8], place: usize) -> u8
 }
 
 // The number that the first eight bytes are kept as, with zeros after fewer.
-fn padded_head(bytes: &[u8]) -> u64
+fn padded_prefix(bytes: &[u8]) -> u64
     ensures { eight_bytes result ≡ first_eight bytes.now }
 {
     u64::from_be_bytes([
@@ -60,22 +59,22 @@ fn padded_head(bytes: &[u8]) -> u64
 }
 
 // The number that the first eight bytes are kept as.
-pub(crate) fn head_of(bytes: &[u8]) -> u64
+pub(crate) fn prefix_of(bytes: &[u8]) -> u64
     ensures { eight_bytes result ≡ first_eight bytes.now }
 {
     match bytes {
         [a, b, c, d, e, f, g, h, ..] => u64::from_be_bytes([*a, *b, *c, *d, *e, *f, *g, *h]),
-        _ => padded_head(bytes),
+        _ => padded_prefix(bytes),
     }
 }
 
 // The number that the next eight bytes are kept as.
-#[tactic(auto, using(crate::proofs::Heads::no_next))]
+#[tactic(auto, using(crate::proofs::Prefixes::no_next))]
 fn next_of(bytes: &[u8]) -> u64
     ensures { eight_bytes result ≡ first_eight (drop 8 bytes.now) }
 {
     if bytes.len() > 8 {
-        head_of(&bytes[8..])
+        prefix_of(&bytes[8..])
     } else {
         0
     }
@@ -87,7 +86,7 @@ impl Key {
         ensures { result ≡ [] }
     {
         Key {
-            head: 0,
+            prefix: 0,
             next: 0,
             bytes: Bytes::new(),
         }
@@ -98,7 +97,7 @@ impl Key {
         ensures { IfOk result (λ key. key ≡ bytes.now) }
     {
         Ok(Key {
-            head: head_of(bytes),
+            prefix: prefix_of(bytes),
             next: next_of(bytes),
             bytes: Bytes::from_slice(alloc, bytes)?,
         })
@@ -109,7 +108,7 @@ impl Key {
         ensures { IfOk result (λ key. key ≡ bytes.items) }
     {
         Ok(Key {
-            head: head_of(bytes.as_slice()),
+            prefix: prefix_of(bytes.as_slice()),
             next: next_of(bytes.as_slice()),
             bytes: Bytes::from_vec(alloc, bytes)?,
         })
@@ -120,7 +119,7 @@ impl Key {
         ensures { IfOk result (λ copy. copy ≡ self.now) }
     {
         Ok(Key {
-            head: self.head,
+            prefix: self.prefix,
             next: self.next,
             bytes: self.bytes.copy(alloc)?,
         })
@@ -141,10 +140,10 @@ impl Key {
 
     /// How the key stands to another one, byte by byte.
     pub fn compare(&self, other: &Key) -> Ordering
-        ensures { result ≡ slice_cmp nat_cmp self.now other.now }
+        ensures { result ≡ key_cmp self.now other.now }
     {
-        if self.head != other.head {
-            return self.head.cmp(&other.head);
+        if self.prefix != other.prefix {
+            return self.prefix.cmp(&other.prefix);
         }
         if self.next != other.next {
             return self.next.cmp(&other.next);

@@ -1,11 +1,13 @@
 -- Sorted messages cut at keys.
-use Rattle.std.proofs.Common.{◌≡◌, ℕ, zero, suc, ◌<◌, ◌≤◌, Bool, true, false, not, ◌&&◌, cond, List, [], ◌∷◌, ◌++◌, length, take, drop, get_or, append_assoc, Option, Some, None, refl, sym, ap, subst, ◌∙◌, true≢false, arith}
+use Rattle.std.proofs.Common.{◌≡◌, ℕ, zero, suc, ◌<◌, ◌≤◌, Bool, true, false, not, ◌&&◌, cond, List, [], ◌∷◌, ◌++◌, ◌-◌, length, length-drop, take, drop, get_or, append_assoc, Option, Some, None, refl, sym, ap, subst, ◌∙◌, true≢false, arith}
+use Rattle.std.proofs.Math.Seq.{take-length}
 use Rattle.std.specs.List.{filter}
 use Rattle.std.specs.List.Sorted.{IsPartitionedBy, IsPartitionPoint}
-use Rattle.bt_messages.specs.Messages.{AllFrom, IsSorted, Messages, is_at_or_past, is_before, is_short_of, messages_before, messages_between, messages_from, messages_outside, with_messages}
+use Rattle.bt_keycode.specs.Keys.{AllFrom, IsSorted, is_before, is_before_lower, is_before_upper}
+use Rattle.bt_messages.specs.Messages.{Messages, messages_before, messages_between, messages_from, messages_outside, with_messages}
 use Rattle.bt_messages.specs.Merges.{messages_ahead, messages_not_ahead}
-use Rattle.bt_messages.proofs.Order.{later_chain, not_after, not_before_itself}
-use Rattle.bt_messages.proofs.Placed.{first_stays, from_earlier}
+use Rattle.bt_keycode.proofs.offered.Order.{from_earlier, later_chain, not_after, not_before_itself}
+use Rattle.bt_messages.proofs.Placed.{first_stays}
 
 module _ {M : Type 0} where
   -- ---- a search for a key
@@ -72,13 +74,6 @@ module _ {X : Type 0} (p : X → Bool) where
   filter_none [] h = refl
   filter_none (x ∷ xs) h = ap (λ b. cond b (x ∷ filter p xs) (filter p xs)) (h x) ∙ filter_none xs h
 
-  pub filter_not_not : (xs : List X) → filter (λ x. not (not (p x))) xs ≡ filter p xs
-  filter_not_not [] = refl
-  filter_not_not (x ∷ xs) = elim (p x) as (λ b. cond (not (not b)) (x ∷ filter (λ y. not (not (p y))) xs) (filter (λ y. not (not (p y))) xs) ≡ cond b (x ∷ filter p xs) (filter p xs)) [
-    | true ↦ ap (λ ys. x ∷ ys) (filter_not_not xs)
-    | false ↦ filter_not_not xs
-  ]
-
 module _ {M : Type 0} where
   -- ---- a part of sorted messages
 
@@ -98,7 +93,7 @@ module _ {M : Type 0} where
 
   -- ---- the messages outside a range
 
-  past_the_end : (to : Option (List ℕ)) (k : List ℕ) (ms : Messages M) → is_short_of to k ≡ false → AllFrom k ms → filter (λ (m : List ℕ × M). is_short_of to m.0) ms ≡ []
+  past_the_end : (to : Option (List ℕ)) (k : List ℕ) (ms : Messages M) → is_before_upper to k ≡ false → AllFrom k ms → filter (λ (m : List ℕ × M). is_before_upper to m.0) ms ≡ []
   past_the_end to k [] e h = refl
   past_the_end None k (m ∷ ms) e h = absurd (true≢false e)
   past_the_end (Some bound) k (m ∷ ms) e h =
@@ -107,49 +102,49 @@ module _ {M : Type 0} where
 
   -- they are those before its first bound, and those from its second one on
   pub outside_is : (from to : Option (List ℕ)) (ms : Messages M) → IsSorted ms →
-      messages_outside from to ms ≡ filter (λ (m : List ℕ × M). not (is_at_or_past from m.0)) (filter (λ (m : List ℕ × M). is_short_of to m.0) ms) ++ filter (λ (m : List ℕ × M). not (is_short_of to m.0)) ms
+      messages_outside from to ms ≡ filter (λ (m : List ℕ × M). is_before_lower from m.0) (filter (λ (m : List ℕ × M). is_before_upper to m.0) ms) ++ filter (λ (m : List ℕ × M). not (is_before_upper to m.0)) ms
   outside_is from to [] h = refl
   outside_is from to (m ∷ ms) h =
       let others = outside_is from to ms h.1 in
-      elim (is_short_of to m.0) as (λ s. is_short_of to m.0 ≡ s →
-      cond (not (is_at_or_past from m.0 && s)) (m ∷ messages_outside from to ms) (messages_outside from to ms)
-      ≡ filter (λ (n : List ℕ × M). not (is_at_or_past from n.0)) (cond s (m ∷ filter (λ (n : List ℕ × M). is_short_of to n.0) ms) (filter (λ (n : List ℕ × M). is_short_of to n.0) ms))
-      ++ cond (not s) (m ∷ filter (λ (n : List ℕ × M). not (is_short_of to n.0)) ms) (filter (λ (n : List ℕ × M). not (is_short_of to n.0)) ms)) [
-        | true ↦ λ e. elim (is_at_or_past from m.0) as (λ a.
-            cond (not (a && true)) (m ∷ messages_outside from to ms) (messages_outside from to ms)
-            ≡ cond (not a) (m ∷ filter (λ (n : List ℕ × M). not (is_at_or_past from n.0)) (filter (λ (n : List ℕ × M). is_short_of to n.0) ms)) (filter (λ (n : List ℕ × M). not (is_at_or_past from n.0)) (filter (λ (n : List ℕ × M). is_short_of to n.0) ms))
-            ++ filter (λ (n : List ℕ × M). not (is_short_of to n.0)) ms) [
-              | true ↦ others
-              | false ↦ ap (λ zs. m ∷ zs) others
+      elim (is_before_upper to m.0) as (λ s. is_before_upper to m.0 ≡ s →
+      cond (not (not (is_before_lower from m.0) && s)) (m ∷ messages_outside from to ms) (messages_outside from to ms)
+      ≡ filter (λ (n : List ℕ × M). is_before_lower from n.0) (cond s (m ∷ filter (λ (n : List ℕ × M). is_before_upper to n.0) ms) (filter (λ (n : List ℕ × M). is_before_upper to n.0) ms))
+      ++ cond (not s) (m ∷ filter (λ (n : List ℕ × M). not (is_before_upper to n.0)) ms) (filter (λ (n : List ℕ × M). not (is_before_upper to n.0)) ms)) [
+        | true ↦ λ e. elim (is_before_lower from m.0) as (λ b.
+            cond (not (not b && true)) (m ∷ messages_outside from to ms) (messages_outside from to ms)
+            ≡ cond b (m ∷ filter (λ (n : List ℕ × M). is_before_lower from n.0) (filter (λ (n : List ℕ × M). is_before_upper to n.0) ms)) (filter (λ (n : List ℕ × M). is_before_lower from n.0) (filter (λ (n : List ℕ × M). is_before_upper to n.0) ms))
+            ++ filter (λ (n : List ℕ × M). not (is_before_upper to n.0)) ms) [
+              | true ↦ ap (λ zs. m ∷ zs) others
+              | false ↦ others
             ]
         | false ↦ λ e.
             let none = past_the_end to m.0 ms e h.0 in
-            let rest = ap (λ zs. m ∷ zs) (others ∙ ap (λ zs. filter (λ (n : List ℕ × M). not (is_at_or_past from n.0)) zs ++ filter (λ (n : List ℕ × M). not (is_short_of to n.0)) ms) none)
-            ∙ sym (ap (λ zs. filter (λ (n : List ℕ × M). not (is_at_or_past from n.0)) zs ++ m ∷ filter (λ (n : List ℕ × M). not (is_short_of to n.0)) ms) none) in
-            elim (is_at_or_past from m.0) as (λ a.
-            cond (not (a && false)) (m ∷ messages_outside from to ms) (messages_outside from to ms)
-            ≡ filter (λ (n : List ℕ × M). not (is_at_or_past from n.0)) (filter (λ (n : List ℕ × M). is_short_of to n.0) ms) ++ m ∷ filter (λ (n : List ℕ × M). not (is_short_of to n.0)) ms) [
+            let rest = ap (λ zs. m ∷ zs) (others ∙ ap (λ zs. filter (λ (n : List ℕ × M). is_before_lower from n.0) zs ++ filter (λ (n : List ℕ × M). not (is_before_upper to n.0)) ms) none)
+            ∙ sym (ap (λ zs. filter (λ (n : List ℕ × M). is_before_lower from n.0) zs ++ m ∷ filter (λ (n : List ℕ × M). not (is_before_upper to n.0)) ms) none) in
+            elim (is_before_lower from m.0) as (λ b.
+            cond (not (not b && false)) (m ∷ messages_outside from to ms) (messages_outside from to ms)
+            ≡ filter (λ (n : List ℕ × M). is_before_lower from n.0) (filter (λ (n : List ℕ × M). is_before_upper to n.0) ms) ++ m ∷ filter (λ (n : List ℕ × M). not (is_before_upper to n.0)) ms) [
               | true ↦ rest
               | false ↦ rest
             ]
       ] refl
 
   pub between_is : (from to : Option (List ℕ)) (ms : Messages M) →
-      messages_between from to ms ≡ filter (λ (m : List ℕ × M). is_at_or_past from m.0) (filter (λ (m : List ℕ × M). is_short_of to m.0) ms)
-  between_is from to ms = filter_both (λ (m : List ℕ × M). is_short_of to m.0) (λ (m : List ℕ × M). is_at_or_past from m.0) ms
+      messages_between from to ms ≡ filter (λ (m : List ℕ × M). not (is_before_lower from m.0)) (filter (λ (m : List ℕ × M). is_before_upper to m.0) ms)
+  between_is from to ms = filter_both (λ (m : List ℕ × M). is_before_upper to m.0) (λ (m : List ℕ × M). not (is_before_lower from m.0)) ms
 
   -- what is left and what was taken, step by step
   pub left_is : (from to : Option (List ℕ)) (ms first later left : Messages M) → IsSorted ms →
-      first ≡ filter (λ (m : List ℕ × M). is_short_of to m.0) ms → later ≡ filter (λ (m : List ℕ × M). not (is_short_of to m.0)) ms →
-      left ≡ filter (λ (m : List ℕ × M). not (is_at_or_past from m.0)) first → left ++ later ≡ messages_outside from to ms
+      first ≡ filter (λ (m : List ℕ × M). is_before_upper to m.0) ms → later ≡ filter (λ (m : List ℕ × M). not (is_before_upper to m.0)) ms →
+      left ≡ filter (λ (m : List ℕ × M). is_before_lower from m.0) first → left ++ later ≡ messages_outside from to ms
   left_is from to ms first later left h e f g =
-      ap (λ zs. zs ++ later) g ∙ ap (λ zs. filter (λ (m : List ℕ × M). not (is_at_or_past from m.0)) zs ++ later) e
-      ∙ ap (λ zs. filter (λ (m : List ℕ × M). not (is_at_or_past from m.0)) (filter (λ (m : List ℕ × M). is_short_of to m.0) ms) ++ zs) f
+      ap (λ zs. zs ++ later) g ∙ ap (λ zs. filter (λ (m : List ℕ × M). is_before_lower from m.0) zs ++ later) e
+      ∙ ap (λ zs. filter (λ (m : List ℕ × M). is_before_lower from m.0) (filter (λ (m : List ℕ × M). is_before_upper to m.0) ms) ++ zs) f
       ∙ sym (outside_is from to ms h)
 
   pub taken_is : (from to : Option (List ℕ)) (ms first taken : Messages M) →
-      first ≡ filter (λ (m : List ℕ × M). is_short_of to m.0) ms → taken ≡ filter (λ (m : List ℕ × M). is_at_or_past from m.0) first → taken ≡ messages_between from to ms
-  taken_is from to ms first taken e f = f ∙ ap (filter (λ (m : List ℕ × M). is_at_or_past from m.0)) e ∙ sym (between_is from to ms)
+      first ≡ filter (λ (m : List ℕ × M). is_before_upper to m.0) ms → taken ≡ filter (λ (m : List ℕ × M). not (is_before_lower from m.0)) first → taken ≡ messages_between from to ms
+  taken_is from to ms first taken e f = f ∙ ap (filter (λ (m : List ℕ × M). not (is_before_lower from m.0))) e ∙ sym (between_is from to ms)
 
   pub sorted_part : (p : (List ℕ × M) → Bool) (ms part : Messages M) → IsSorted ms → part ≡ filter p ms → IsSorted part
   sorted_part p ms part h e = subst IsSorted (sym e) (filter_sorted p ms h)
@@ -194,6 +189,12 @@ module _ {M : Type 0} where
     | false ↦ λ t. ap (λ zs. m ∷ zs) (sym (none_before k m.0 ms t h.0).1)
   ] refl
 
+  -- the last of sorted messages
+  pub tail_sorted : (k : List ℕ) (ms xs : Messages M) (n : ℕ) → IsSorted ms → drop n xs ≡ messages_from k ms → IsSorted (take (length xs - n) (drop n xs))
+  tail_sorted k ms xs n h e =
+      let whole : take (length xs - n) (drop n xs) ≡ drop n xs = ap (λ j. take j (drop n xs)) (sym (length-drop n xs)) ∙ take-length (drop n xs) in
+      sorted_part (λ m. not (is_before m.0 k)) ms (take (length xs - n) (drop n xs)) h (whole ∙ e)
+
   pub before_sorted : (k : List ℕ) (ms : Messages M) → IsSorted ms → IsSorted (messages_before k ms)
   before_sorted k ms h = filter_sorted (λ m. is_before m.0 k) ms h
 
@@ -209,4 +210,4 @@ module _ {M : Type 0} where
   one_not_ahead k m ms rest behind e t h = h ∙ ap (messages_not_ahead k) e ∙ ap (λ b. cond b (messages_not_ahead k rest) (m ∷ rest)) t
 
   pub rest_sorted : (m : List ℕ × M) (ms rest : Messages M) → ms ≡ m ∷ rest → IsSorted ms → IsSorted rest
-  rest_sorted m ms rest e h = (subst (IsSorted {M = M}) e h).1
+  rest_sorted m ms rest e h = (subst (IsSorted {X = M}) e h).1

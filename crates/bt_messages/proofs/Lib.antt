@@ -1,6 +1,5 @@
 pub mod Cuts
 pub mod Merging
-pub mod Order
 pub mod Placed
 pub mod Rows
 pub mod Stable

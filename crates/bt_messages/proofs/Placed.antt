@@ -1,14 +1,10 @@
 -- Messages placed among sorted ones.
 use Rattle.std.proofs.Common.{◌≡◌, ℕ, true, false, List, [], ◌∷◌, length, refl, ap, ◌∙◌, if◌then◌else◌, arith}
-use Rattle.bt_messages.specs.Messages.{AllFrom, IsSorted, Messages, is_before, with_message, with_messages}
-use Rattle.bt_messages.proofs.Order.{later_chain, not_after}
+use Rattle.bt_keycode.specs.Keys.{AllFrom, IsSorted, is_before}
+use Rattle.bt_messages.specs.Messages.{Messages, with_message, with_messages}
+use Rattle.bt_keycode.proofs.offered.Order.{from_earlier, not_after}
 
 module _ {M : Type 0} where
-  -- what lies from one key on lies from an earlier one on
-  pub from_earlier : (a b : List ℕ) (ms : Messages M) → is_before b a ≡ false → AllFrom b ms → AllFrom a ms
-  from_earlier a b [] p h = tt
-  from_earlier a b (m ∷ ms) p h = (later_chain a b m.0 p h.0, from_earlier a b ms p h.1)
-
   all_from-with_message : (k : List ℕ) (m : List ℕ × M) (es : Messages M) → is_before m.0 k ≡ false → AllFrom k es → AllFrom k (with_message m es)
   all_from-with_message k m [] p h = (p, tt)
   all_from-with_message k m (e ∷ es) p h = elim (is_before m.0 e.0) as (λ t. AllFrom k (if t then m ∷ e ∷ es else e ∷ with_message m es)) [

@@ -5,8 +5,9 @@ use Rattle.std.specs.FinMap.{find, nat_cmp-IsAntisymmetric, slice_cmp-IsAntisymm
 use Rattle.std.specs.FinMap.Entries.{find-put, find-where_key, is_sorted, is_sorted-put, is_sorted-where_key, same_entries}
 use Rattle.std.specs.Cmp.{alike_right, eq_by_cmp_equiv}
 use Rattle.bt_messages.specs.Effects.{Rows, rows_after, value_after, with_value}
-use Rattle.bt_messages.specs.Messages.{AllFrom, IsSorted, Messages, is_before, key_cmp, sorted_batch, with_message, with_messages}
-use Rattle.bt_messages.proofs.Order.{apart, not_before_itself, same_key, total_keys}
+use Rattle.bt_keycode.specs.Keys.{AllFrom, IsSorted, is_before, key_cmp}
+use Rattle.bt_messages.specs.Messages.{Messages, sorted_batch, with_message, with_messages}
+use Rattle.bt_keycode.proofs.offered.Order.{apart, not_before_itself, same_key, total_keys}
 use Rattle.bt_messages.proofs.Placed.{sorted-with_messages}
 
 module _ {V M : Type 0} (effect : Option V → M → Option V) where

@@ -3,7 +3,8 @@ use Rattle.std.specs.Prelude.{ℕ, cond, not, List, [], ◌∷◌, Option, Some,
 use Rattle.std.specs.FinMap.{find, put}
 use Rattle.std.specs.FinMap.Entries.{where_key}
 use Rattle.std.specs.Ordering.{eq_by_cmp}
-use Rattle.bt_messages.specs.Messages.{Messages, key_cmp}
+use Rattle.bt_keycode.specs.Keys.{key_cmp}
+use Rattle.bt_messages.specs.Messages.{Messages}
 use Rattle.bt_messages.specs.declared.message.Message.{Message}
 use Rattle.bt_messages.specs.declared.message.Message.TheVariants.{Put, Del, Ups}
 

@@ -1,8 +1,10 @@
 //! Buffers: what is pending at a node.
 ghost use Rattle.std.specs.Prelude.{◌≡◌, ◌==◌, ◌<◌, ◌≤◌, [], Some, IfOk, OnOk, OnErr, drop, length, slice_get, take};
-ghost use Rattle.bt_messages.specs.Messages.{IsSorted, messages_before, messages_between, messages_from, messages_outside, with_messages};
+ghost use Rattle.bt_keycode.specs.Keys.{IsSorted};
+ghost use Rattle.bt_messages.specs.Messages.{messages_before, messages_between, messages_from, messages_outside, with_messages};
 ghost use Rattle.std.specs.Option.{option_copied};
 
+use crate::iter::Messages;
 use crate::message::{Merge, Message};
 use crate::packet::Packet;
 use crate::rest::Rest;
@@ -19,7 +21,7 @@ pub struct Buffer<V: Merge> {
 
 impl<V: Merge> Model for Buffer<V> {
     ghost use Rattle.std.specs.Prelude.{List, ℕ};
-    ghost use Rattle.bt_messages.specs.Messages.{IsSorted};
+    ghost use Rattle.bt_keycode.specs.Keys.{IsSorted};
     ghost use Rattle.bt_messages.specs.declared.message.Message.{Message};
 
     ghost Value = { List (List ℕ × Message V V.Delta) };
@@ -65,6 +67,23 @@ impl<V: Merge> Buffer<V> {
         sorted::place_of(self.messages.as_slice(), key)
     }
 
+    /// The messages and their keys, in order.
+    pub fn iter(&self) -> Messages<'_, V>
+        ensures messages { result ≡ self.now }
+        ensures sorted { IsSorted self.now }
+    {
+        Messages::of_sorted(self.messages.as_slice())
+    }
+
+    /// The messages with a key at or past this one, in order. The first of them is found by halving.
+    pub fn iter_from(&self, key: &Key) -> Messages<'_, V>
+        ensures messages { result ≡ messages_from key.now self.now }
+        ensures sorted { IsSorted self.now }
+    {
+        let place = sorted::place_of(self.messages.as_slice(), key);
+        Messages::of_sorted(&self.messages[place..])
+    }
+
     /// A copy of the messages.
     pub fn copy_messages(&self, alloc: Global) -> Result<Packet<V>, AllocError>
         ensures { IfOk result (λ packet. packet ≡ self.now) }
@@ -105,187 +124,5 @@ impl<V: Merge> Buffer<V> {
         }
         let taken = sorted::take_between(&mut self.messages, from, to)?;
         Ok(Packet::from_sorted(taken))
-    }
-}
-
-#[cfg(test)]
-mod tests {
-    use super::*;
-    use crate::message::effect;
-    use bt_keycode::encode;
-    use bt_rowtype::{Row, Value, copy_row};
-    use std::cmp::Ordering;
-    use std::test::Fail;
-
-    fn key_of(alloc: Global, number: i64) -> Result<Key, AllocError> {
-        encode(alloc, &[Value::Int(number)])
-    }
-
-    fn row_of(alloc: Global, number: i64, other: i64) -> Result<Row, AllocError> {
-        Ok(Row::new(vec![in alloc; Value::Int(number), Value::Int(other)]?))
-    }
-
-    fn put(alloc: Global, number: i64) -> Result<(Key, Message<Row>), AllocError> {
-        let row = row_of(alloc, number, number)?;
-        Ok((key_of(alloc, number)?, Message::Put(row)))
-    }
-
-    fn del(alloc: Global, number: i64) -> Result<(Key, Message<Row>), AllocError> {
-        Ok((key_of(alloc, number)?, Message::Del))
-    }
-
-    fn is_put(
-        alloc: Global,
-        buffer: &Buffer<Row>,
-        place: usize,
-        number: i64,
-    ) -> Result<bool, AllocError> {
-        if buffer.count() <= place {
-            return Ok(false);
-        }
-        let (key, message) = buffer.get(place);
-        Ok(
-            key.compare(&key_of(alloc, number)?) == Ordering::Equal
-                && matches!(message, Message::Put(_)),
-        )
-    }
-
-    fn is_del(
-        alloc: Global,
-        buffer: &Buffer<Row>,
-        place: usize,
-        number: i64,
-    ) -> Result<bool, AllocError> {
-        if buffer.count() <= place {
-            return Ok(false);
-        }
-        let (key, message) = buffer.get(place);
-        Ok(
-            key.compare(&key_of(alloc, number)?) == Ordering::Equal
-                && matches!(message, Message::Del),
-        )
-    }
-
-    fn buffer_of(
-        alloc: Global,
-        batch: Vec<(Key, Message<Row>)>,
-    ) -> Result<Buffer<Row>, AllocError> {
-        let mut buffer = Buffer::new(alloc);
-        buffer.add(Packet::from_batch(alloc, batch)?)?;
-        Ok(buffer)
-    }
-
-    #[test]
-    fn a_batch_is_sorted_by_key(rt: HostRuntime) -> Result<(), Fail> {
-        let alloc = rt.alloc();
-        let batch = vec![in alloc; put(alloc, 2)?, del(alloc, 1)?, del(alloc, 2)?]?;
-        let packet = Packet::from_batch(alloc, batch)?;
-        assert_eq!(rt; packet.len(), 3);
-        let mut buffer = Buffer::new(alloc);
-        buffer.add(packet)?;
-        assert!(rt; is_del(alloc, &buffer, 0, 1)?);
-        assert!(rt; is_put(alloc, &buffer, 1, 2)?);
-        assert!(rt; is_del(alloc, &buffer, 2, 2)?);
-        assert_eq!(rt; buffer.copy_messages(alloc)?.len(), 3);
-        Ok(())
-    }
-
-    #[test]
-    fn newer_messages_come_after_older_ones(rt: HostRuntime) -> Result<(), Fail> {
-        let alloc = rt.alloc();
-        let mut buffer = buffer_of(alloc, vec![in alloc; put(alloc, 1)?]?)?;
-        let batch = vec![in alloc; put(alloc, 0)?, del(alloc, 1)?]?;
-        buffer.add(Packet::from_batch(alloc, batch)?)?;
-        assert_eq!(rt; buffer.count(), 3);
-        assert!(rt; is_put(alloc, &buffer, 0, 0)?);
-        assert!(rt; is_put(alloc, &buffer, 1, 1)?);
-        assert!(rt; is_del(alloc, &buffer, 2, 1)?);
-        for (number, place) in [(-1, 0), (0, 0), (1, 1), (2, 3)] {
-            assert_eq!(rt; buffer.first_from(&key_of(alloc, number)?), place);
-        }
-
-        let one = key_of(alloc, 1)?;
-        let taken = buffer.take_range(alloc, Some(&one), None)?;
-        assert_eq!(rt; buffer.count(), 1);
-        let mut other = Buffer::new(alloc);
-        other.add(taken)?;
-        assert!(rt; is_put(alloc, &other, 0, 1)?);
-        assert!(rt; is_del(alloc, &other, 1, 1)?);
-        Ok(())
-    }
-
-    // A buffer of puts to 1, 3 and 5, and a newer del to 3.
-    fn puts_and_del(alloc: Global) -> Result<Buffer<Row>, AllocError> {
-        let mut batch = Vec::new(alloc);
-        for number in [5, 1, 3] {
-            batch.push(put(alloc, number)?)?;
-        }
-        batch.push(del(alloc, 3)?)?;
-        buffer_of(alloc, batch)
-    }
-
-    fn take_between(
-        alloc: Global,
-        buffer: &mut Buffer<Row>,
-        from: i64,
-        to: i64,
-    ) -> Result<Packet<Row>, AllocError> {
-        let from = key_of(alloc, from)?;
-        let to = key_of(alloc, to)?;
-        buffer.take_range(alloc, Some(&from), Some(&to))
-    }
-
-    #[test]
-    fn a_range_between_two_keys(rt: HostRuntime) -> Result<(), Fail> {
-        let alloc = rt.alloc();
-        let mut buffer = puts_and_del(alloc)?;
-        assert!(rt; take_between(alloc, &mut buffer, 5, 3)?.is_empty());
-        assert_eq!(rt; take_between(alloc, &mut buffer, 3, 5)?.len(), 2);
-        assert_eq!(rt; buffer.count(), 2);
-        assert!(rt; is_put(alloc, &buffer, 1, 5)?);
-        assert_eq!(rt; buffer.take_range(alloc, None, None)?.len(), 2);
-        assert!(rt; buffer.take_range(alloc, None, None)?.is_empty());
-        Ok(())
-    }
-
-    // Whether there is a row after a message.
-    fn has_row_after(
-        alloc: Global,
-        old: Option<Row>,
-        message: Message<Row>,
-    ) -> Result<bool, AllocError> {
-        Ok(effect(alloc, old, message)?.is_some())
-    }
-
-    // Whether there is a row after a message to a row of sevens.
-    fn has_row_after_sevens(alloc: Global, message: Message<Row>) -> Result<bool, AllocError> {
-        let old = row_of(alloc, 7, 7)?;
-        has_row_after(alloc, Some(old), message)
-    }
-
-    #[test]
-    fn copies_of_rows(rt: HostRuntime) -> Result<(), Fail> {
-        let alloc = rt.alloc();
-        let copy = copy_row(alloc, &row_of(alloc, 1, 2)?)?;
-        assert!(rt; matches!(copy.as_slice(), [Value::Int(1), Value::Int(2)]));
-        Ok(())
-    }
-
-    #[test]
-    fn what_messages_make_of_no_row(rt: HostRuntime) -> Result<(), Fail> {
-        let alloc = rt.alloc();
-        assert!(rt; !has_row_after(alloc, None, Message::Del)?);
-        let row = row_of(alloc, 1, 2)?;
-        assert!(rt; has_row_after(alloc, None, Message::Put(copy_row(alloc, &row)?))?);
-        Ok(())
-    }
-
-    #[test]
-    fn what_messages_make_of_rows(rt: HostRuntime) -> Result<(), Fail> {
-        let alloc = rt.alloc();
-        let message = Message::Put(row_of(alloc, 1, 2)?);
-        assert!(rt; has_row_after_sevens(alloc, message.copy(alloc)?)?);
-        assert!(rt; !has_row_after_sevens(alloc, Message::Del)?);
-        Ok(())
     }
 }

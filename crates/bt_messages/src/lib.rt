@@ -16,12 +16,14 @@
 #![tactic(auto)]
 
 mod buffer;
+mod iter;
 mod message;
 mod packet;
 mod rest;
 mod sorted;
 
 pub use buffer::Buffer;
-pub use message::{Merge, Message, effect};
+pub use iter::Messages;
+pub use message::{Merge, Message, effect, effect_borrowed};
 pub use packet::Packet;
 pub use rest::Rest;

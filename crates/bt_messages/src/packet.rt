@@ -1,7 +1,9 @@
 //! Packets: what is sent on at one time.
 ghost use Rattle.std.specs.Prelude.{◌≡◌, ◌==◌, [], IfOk, length};
-ghost use Rattle.bt_messages.specs.Messages.{IsSorted, sorted_batch};
+ghost use Rattle.bt_keycode.specs.Keys.{IsSorted};
+ghost use Rattle.bt_messages.specs.Messages.{sorted_batch};
 
+use crate::iter::Messages;
 use crate::message::{Merge, Message};
 use crate::sorted;
 use bt_keycode::Key;
@@ -16,7 +18,7 @@ pub struct Packet<V: Merge> {
 
 impl<V: Merge> Model for Packet<V> {
     ghost use Rattle.std.specs.Prelude.{List, ℕ};
-    ghost use Rattle.bt_messages.specs.Messages.{IsSorted};
+    ghost use Rattle.bt_keycode.specs.Keys.{IsSorted};
     ghost use Rattle.bt_messages.specs.declared.message.Message.{Message};
 
     ghost Value = { List (List ℕ × Message V V.Delta) };
@@ -57,6 +59,14 @@ impl<V: Merge> Packet<V> {
         ensures { result ≡ (length self.now == 0) }
     {
         self.messages.is_empty()
+    }
+
+    /// The messages and their keys, in order.
+    pub fn iter(&self) -> Messages<'_, V>
+        ensures messages { result ≡ self.now }
+        ensures sorted { IsSorted self.now }
+    {
+        Messages::of_sorted(self.messages.as_slice())
     }
 
     // The packet of messages that are sorted by key.

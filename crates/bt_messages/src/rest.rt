@@ -1,6 +1,7 @@
 //! What is left of a buffer, as its messages are taken off in order.
 ghost use Rattle.std.specs.Prelude.{◌≡◌, IfOk, OnOk};
-ghost use Rattle.bt_messages.specs.Messages.{IsSorted, messages_before, messages_from};
+ghost use Rattle.bt_keycode.specs.Keys.{IsSorted};
+ghost use Rattle.bt_messages.specs.Messages.{messages_before, messages_from};
 
 use crate::message::{Merge, Message};
 use crate::packet::Packet;
@@ -18,7 +19,7 @@ pub struct Rest<V: Merge> {
 
 impl<V: Merge> Model for Rest<V> {
     ghost use Rattle.std.specs.Prelude.{List, ℕ};
-    ghost use Rattle.bt_messages.specs.Messages.{IsSorted};
+    ghost use Rattle.bt_keycode.specs.Keys.{IsSorted};
     ghost use Rattle.bt_messages.specs.declared.message.Message.{Message};
 
     ghost Value = { List (List ℕ × Message V V.Delta) };

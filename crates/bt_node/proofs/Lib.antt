@@ -1,2 +1,3 @@
 pub mod lemmas
+pub mod offered
 pub mod WorkedRows

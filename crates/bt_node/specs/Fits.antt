@@ -74,7 +74,11 @@ pub record HasShape {V M : Type 0} (shape : Shape) (t : Tree V M) : Type 0 where
   pub levels : ℕ
   pub fits : NodeFits shape levels None None t
 
--- a fact of a node and a packet, wherever the node fits between two limits, the packet lies between them, and the shape has room
+-- siblings of a whole tree that fit
+abbrev pub AreFit : {V M : Type 0} → Shape → Siblings V M → Type 0
+AreFit shape xs = (levels : ℕ) × SiblingsFit shape levels None None xs
+
+-- a fact of a node and a packet, wherever the node fits between two limits and the packet lies between them
 abbrev pub WhereFits : {V M : Type 0} → Shape → Tree V M → Messages M → (ℕ → Option Key → Option Key → Type 0) → Type 0
 WhereFits shape t packet Fact =
-    (levels : ℕ) (low high : Option Key) → IsRoomy shape → NodeFits shape levels low high t → AllWithin low high packet → Fact levels low high
+    (levels : ℕ) (low high : Option Key) → NodeFits shape levels low high t → AllWithin low high packet → Fact levels low high

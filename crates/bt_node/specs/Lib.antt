@@ -1,11 +1,8 @@
 pub mod inside
 pub mod Deals
-pub mod DrainLaws
-pub mod Drains
 pub mod Falls
 pub mod Fits
 pub mod Flushes
-pub mod Keys
 pub mod Kinds
 pub mod Laws
 pub mod Lookups

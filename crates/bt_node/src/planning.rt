@@ -2,7 +2,7 @@
 //!
 //! Counts, sums and capacities are numbers of messages, and places are counted from 0, the leftmost child.
 ghost use Rattle.std.specs.Prelude.{◌≡◌, IfOk, length, vec_len};
-ghost use Rattle.bt_node.specs.Plans.{fullest, planned, total};
+ghost use Rattle.bt_node.specs.Plans.{fullest, planned, renewed, total};
 ghost use Rattle.bt_node.specs.inside.Marks.{marks_of};
 
 use std::alloc::{AllocError, Global};
@@ -60,7 +60,8 @@ fn choose(
 /// leftmost, and no more of them than it takes until at most the capacity is pending for the others. Takes no memory where no
 /// child is flushed.
 pub fn plan(alloc: Global, counts: &[u64], capacity: u64) -> Result<Vec<usize>, AllocError>
-    ensures { IfOk result (λ places. places.items ≡ planned counts.now capacity) }
+    ensures places { IfOk result (λ places. places.items ≡ planned counts.now capacity) }
+    ensures renewed { IfOk result (λ places. places.items ≡ renewed capacity (total counts.now) counts.now) }
 {
     let pending = sum_of(counts);
     if pending <= u128::from(capacity) {

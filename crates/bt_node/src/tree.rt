@@ -1,13 +1,14 @@
 //! Trees, and what becomes of them under a packet.
-ghost use Rattle.std.specs.Prelude.{◌≡◌, ◌≤◌, ℕ, [], IfOk, length};
-ghost use Rattle.std.specs.FinMap.{find};
-ghost use Rattle.std.specs.declared.option.Option.TheVariants.{None};
-ghost use Rattle.bt_messages.specs.Effects.{effect_of};
-ghost use Rattle.bt_node.specs.Fits.{AreHigh, HasShape, SiblingsFit, WhereFits};
-ghost use Rattle.bt_node.specs.Flushes.{absorb, all_hold, crown, grouped, holds, shared, sunk};
+ghost use Rattle.std.specs.Prelude.{◌≡◌, ◌≤◌, [], IfOk, IsTrue, length};
+ghost use Rattle.std.specs.FinMap.{find, is_sorted};
 ghost use Rattle.bt_keycode.specs.Keys.{key_cmp};
+ghost use Rattle.bt_messages.specs.Effects.{effect_of};
+ghost use Rattle.bt_messages.specs.declared.message.Message.{Message};
+ghost use Rattle.bt_node.specs.Fits.{AreFit, HasShape};
+ghost use Rattle.bt_node.specs.Flushes.{absorb, all_hold, crown, grouped, holds, shared, sunk};
+ghost use Rattle.bt_node.specs.Laws.{ChosenArePlanned, ComeByOneRule, FitThere, FlushesInTurn, HoldRowsAfter, KeepHeight, StandsAbove, StayWithoutPacket};
 ghost use Rattle.bt_node.specs.Messages.{rows_after};
-ghost use Rattle.bt_node.specs.Trees.{height, leaf};
+ghost use Rattle.bt_node.specs.Trees.{leaf};
 
 use crate::absorb::absorb;
 use crate::crowned::crowned;
@@ -47,9 +48,6 @@ impl<V: Merge> Model for Tree<V> {
 }
 
 /// What becomes of a node and a packet, on the caller's thread. An `Err` keeps neither.
-///
-/// Where the node fits between two limits and the packet lies between them, the siblings fit there at the node's height, and
-/// hold its rows after the packet.
 pub fn absorb_alone<V: Merge>(
     alloc: Global,
     shape: Shape,
@@ -57,11 +55,16 @@ pub fn absorb_alone<V: Merge>(
     packet: Packet<V>,
 ) -> Result<Siblings<V>, AllocError>
     ensures siblings { IfOk result (λ siblings. siblings ≡ absorb (effect_of V.merged) shape node packet) }
-    ensures fits { IfOk result (λ siblings. WhereFits shape node packet (λ levels low high. SiblingsFit shape levels low high siblings)) }
-    ensures height { IfOk result (λ siblings. WhereFits shape node packet (λ levels low high. AreHigh (height node) siblings)) }
-    ensures rows { IfOk result (λ siblings. WhereFits shape node packet (λ levels low high. all_hold (effect_of V.merged) siblings ≡ rows_after (effect_of V.merged) packet (holds (effect_of V.merged) node))) }
+    ensures fits { IfOk result (FitThere shape node packet) }
+    ensures height { IfOk result (KeepHeight shape node packet) }
+    ensures rows { IfOk result (HoldRowsAfter (effect_of V.merged) shape node packet) }
+    ensures unchanged { IfOk result (StayWithoutPacket shape node packet) }
+    ensures one_rule { IfOk result (ComeByOneRule (effect_of V.merged) shape node packet) }
+    ensures in_turn { FlushesInTurn V (Message V V.Delta) }
+    ensures planned { ChosenArePlanned V (Message V V.Delta) }
 {
-    absorb(alloc, shape, node, packet)
+    let nodes = absorb(alloc, shape, node, packet)?;
+    Ok(nodes)
 }
 
 /// Siblings as children of inner nodes, each part with its share of a buffer: the deal that ends what becomes of an inner node.
@@ -87,10 +90,11 @@ pub fn crown<V: Merge>(
     shape: Shape,
     siblings: Siblings<V>,
 ) -> Result<Tree<V>, AllocError>
-    requires { (levels : ℕ) × SiblingsFit shape levels None None siblings }
+    requires { AreFit shape siblings }
     ensures tree { IfOk result (λ tree. tree ≡ (shape, crown shape siblings)) }
     ensures fits { IfOk result (λ tree. HasShape tree.0 tree.1) }
     ensures rows { IfOk result (λ tree. holds (effect_of V.merged) tree.1 ≡ all_hold (effect_of V.merged) siblings) }
+    ensures stands { IfOk result (λ tree. StandsAbove shape siblings tree.1) }
 {
     let root = crowned(alloc, shape, siblings)?;
     Ok(Tree { shape, root })
@@ -123,7 +127,8 @@ impl<V: Merge> Tree<V> {
 
     /// The pairs that it holds when all messages have had their effect, by rising key.
     pub fn rows(&self, alloc: Global) -> Result<Vec<(Key, V)>, AllocError>
-        ensures { IfOk result (λ rows. rows.items ≡ holds (effect_of V.merged) self.now.1) }
+        ensures held { IfOk result (λ rows. rows.items ≡ holds (effect_of V.merged) self.now.1) }
+        ensures sorted { IfOk result (λ rows. IsTrue (is_sorted key_cmp rows.items)) }
     {
         Ok(held_rows(alloc, &self.root)?.into_vec())
     }
@@ -143,6 +148,7 @@ impl<V: Merge> Tree<V> {
         ensures tree { IfOk result (λ tree. tree ≡ (self.0, sunk (effect_of V.merged) self.0 self.1 packet)) }
         ensures fits { IfOk result (λ tree. HasShape tree.0 tree.1) }
         ensures rows { IfOk result (λ tree. holds (effect_of V.merged) tree.1 ≡ rows_after (effect_of V.merged) packet (holds (effect_of V.merged) self.1)) }
+        ensures unchanged { packet ≡ [] → IfOk result (λ tree. tree ≡ self) }
     {
         let (shape, root) = self.apart();
         let siblings = absorb_alone(alloc, shape, root, packet)?;

@@ -8,4 +8,4 @@ returns-then-bytes-lt8-clause-none c = λ _ other rest b. no_int c.args.bytes.no
 pub returns-clause-found : goal.returns-clause-found
 returns-clause-found c =
     let fits : SFits w64 c.lower.result = search rules in
-    int_found c.lower.result c.head_of.result c.args.bytes.now fits c.lower.ensures c.head_of.ensures c.if-bytes-lt8.false
+    int_found c.lower.result c.prefix_of.result c.args.bytes.now fits c.lower.ensures c.prefix_of.ensures c.if-bytes-lt8.false

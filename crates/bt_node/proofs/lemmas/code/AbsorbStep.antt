@@ -18,7 +18,7 @@ use Rattle.bt_node.proofs.lemmas.flushes.Groups.{children-nodes, deal-some, leav
 use Rattle.bt_node.proofs.lemmas.code.Marks.{flushed_over-marks}
 use Rattle.bt_node.proofs.lemmas.flushes.Recursion.{absorb_recurs}
 use Rattle.bt_node.proofs.lemmas.flushes.EmptyPackets.{still-here, stripped-shared}
-use Rattle.bt_node.proofs.lemmas.flushes.PendingOrder.{sorted-passed, sorted-rising, all_pending-of-shared}
+use Rattle.bt_node.proofs.lemmas.flushes.PendingOrder.{sorted-passed, all_pending-of-shared}
 
 -- the height of the highest of these children
 abbrev pub highest : {V D : Type 0} → List (code.Child V D) → ℕ
@@ -61,7 +61,7 @@ module _ {V D : Type 0} (effect : Option V → Message V D → Option V) (s : Sh
   stays_here led some few pending =
       let ns = nodes xs in
       let same = children-nodes xs in
-      sym (still-here s ns after (subst IsLed (sym same) led) (sorted-rising after sorted) some (subst (λ ys. length ys ≤ s.fanout) (sym same) few) pending (absorb effect s))
+      sym (still-here s ns after (subst IsLed (sym same) led) sorted some (subst (λ ys. length ys ≤ s.fanout) (sym same) few) pending (absorb effect s))
       ∙ ap (λ ys. grouped s (flushed_over (absorb effect s) s.buffer (shared ys after))) same
       ∙ sym becomes
 

@@ -8,7 +8,7 @@ use Rattle.bt_node.specs.Trees.{Shape, Siblings, Tree}
 use Rattle.bt_node.specs.Flushes.{Child, crown, grouped}
 use Rattle.bt_node.specs.inside.Views.{child_of, children_of, none_pending_of, pending_of}
 use Rattle.bt_node.proofs.lemmas.flushes.Children.{all_pending}
-use Rattle.bt_node.proofs.lemmas.crowns.Levels.{crown-step, raised-shorter, shared-nothing}
+use Rattle.bt_node.proofs.lemmas.crowns.Levels.{crown-again, raised-shorter}
 
 nothing-pending : {V M : Type 0} (xs : Siblings V M) → all_pending (none_pending_of xs) ≡ []
 nothing-pending [] = refl
@@ -24,20 +24,10 @@ module _ {V D : Type 0} (cs : List (code.Child V D)) (xs : Siblings V (Message V
 
   module _ (s : Shape) (two : 2 ≤ s.fanout) (several : 1 < length xs) (ys : Siblings V (Message V D)) (made : ys ≡ grouped s (children_of cs)) where
     pub crown_kept : crown s ys ≡ crown s xs
-    crown_kept = ap (crown s) (made ∙ ap (grouped s) is) ∙ again xs several
-      where
-        again : (zs : Siblings V (Message V D)) → 1 < length zs → crown s (grouped s (none_pending_of zs)) ≡ crown s zs
-        again [] l = absurd (omega (arith, l))
-        again (z ∷ []) l = absurd (omega (arith, l))
-        again (y ∷ z ∷ zs) l = ap (λ qs. crown s (grouped s qs)) (sym (shared-nothing (y ∷ z ∷ zs))) ∙ sym (crown-step s two y z zs)
+    crown_kept = ap (crown s) (made ∙ ap (grouped s) is) ∙ sym (crown-again s two xs (omega (arith, several)))
 
     pub fewer : length ys < length xs
-    fewer = omega (arith, ap length (made ∙ ap (grouped s) is), shorter xs several)
-      where
-        shorter : (zs : Siblings V (Message V D)) → 1 < length zs → length (grouped s (none_pending_of zs)) < length zs
-        shorter [] l = absurd (omega (arith, l))
-        shorter (z ∷ []) l = absurd (omega (arith, l))
-        shorter (y ∷ z ∷ zs) l = subst (λ qs. length (grouped s qs) < length (y ∷ z ∷ zs)) (shared-nothing (y ∷ z ∷ zs)) (raised-shorter s two y z zs)
+    fewer = omega (arith, ap length (made ∙ ap (grouped s) is), raised-shorter s two xs (omega (arith, several)))
 
 -- the crown of one node
 pub crown_one : {V M : Type 0} (s : Shape) (level : Siblings V M) (t : Tree V M) → level ≡ ([], t) ∷ [] → t ≡ crown s level

@@ -14,7 +14,7 @@ use Rattle.bt_messages.specs.declared.message.Message.{Message}
 use Rattle.bt_node.specs.Messages.{Messages, from, value_after}
 use Rattle.bt_node.specs.Trees.{Siblings, Tree, inner, nodes}
 use Rattle.bt_node.specs.Lookups.{pivots_up_to, value_at, value_below}
-use Rattle.bt_keycode.proofs.offered.Order.{apart_back, not_before_itself, total_keys}
+use Rattle.bt_keycode.proofs.offered.Order.{all_within-from, apart_back, not_before_itself, total_keys}
 use Rattle.bt_node.proofs.lemmas.rows.Values.{value-above}
 
 -- what is left of a list from a place on
@@ -91,7 +91,7 @@ module _ {V D : Type 0} (effect : Option V → Message V D → Option V) where
         let low = (subst (AllFrom k) rest all).0 in
         let up = (subst IsSorted rest rising).0 in
         sym (ap (λ xs. value_after effect k xs value) rest
-        ∙ value-above effect k at None ((at, m) ∷ drop (place + 1) ms) value (past k at o compared test low) (record { from = not_before_itself at; below = tt }, up))
+        ∙ value-above effect k at None ((at, m) ∷ drop (place + 1) ms) value (past k at o compared test low) (record { from = not_before_itself at; below = refl }, all_within-from at (drop (place + 1) ms) up))
 
     -- a message to the key has its effect
     pub one_more : false ≡ not (ordering_index o == 1) → (value changed : Option V) → changed ≡ effect value m →

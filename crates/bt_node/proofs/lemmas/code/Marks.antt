@@ -4,7 +4,7 @@ use Rattle.std.specs.List.{zip}
 use Rattle.bt_node.specs.Plans.{planned}
 use Rattle.bt_node.specs.inside.Marks.{set_all, marks_of, passed, marked, marked_all, unmarked}
 use Rattle.bt_node.specs.Flushes.{Child, Flush, counts, flushed, flushed_over}
-use Rattle.bt_node.proofs.lemmas.flushes.Laws.{loop_is_one_pass}
+use Rattle.bt_node.proofs.lemmas.flushes.Passes.{flushed-planned}
 
 zip-set : {X : Type 0} (cs : List X) (i : ℕ) (marks : List Bool) → zip cs (set marks i true) ≡ marked i (zip cs marks)
 zip-set [] i marks = refl
@@ -28,4 +28,4 @@ marked-zip cs places = sym (zip-set_all cs places (replicate (length cs) false) 
 pub flushed_over-marks : {V M : Type 0} (flush : Flush V M) (capacity : ℕ) (cs : List (Child V M)) →
     flushed_over flush capacity cs ≡ passed (λ c. length c.pending) (flushed flush) (zip cs (marks_of (length cs) (planned (counts cs) capacity)))
 flushed_over-marks flush capacity cs =
-    loop_is_one_pass flush capacity cs ∙ ap (passed (λ c. length c.pending) (flushed flush)) (marked-zip cs (planned (counts cs) capacity))
+    flushed-planned flush capacity cs ∙ ap (passed (λ c. length c.pending) (flushed flush)) (marked-zip cs (planned (counts cs) capacity))

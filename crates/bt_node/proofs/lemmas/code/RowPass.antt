@@ -205,7 +205,7 @@ module _ {V M : Type 0} (effect : Option V → M → Option V) where
   pub pass_step : (m : Key × M) (ms rest : Messages M) (done more rs changed wanted : Rows V) → rest ≡ m ∷ ms → IsSorted rest → is_sorted key_cmp rs ≡ true →
       more ≡ done ++ before m.0 rs → changed ≡ changed_by m rs → done ++ rows_after effect rest rs ≡ wanted → more ++ rows_after effect ms changed ≡ wanted
   pass_step m ms rest done more rs changed wanted e h s d c w =
-      let sorted : IsSorted (m ∷ ms) = subst (IsSorted {M = M}) e h in
+      let sorted : IsSorted (m ∷ ms) = subst (IsSorted {X = M}) e h in
       ap (λ zs. zs ++ rows_after effect ms changed) d ∙ ap (λ zs. (done ++ before m.0 rs) ++ rows_after effect ms zs) c
       ∙ append_assoc done (before m.0 rs) _
       ∙ ap (λ zs. done ++ zs) (sym (split_at m.0 (m ∷ ms) rs (not_before_itself m.0, sorted.0) s))

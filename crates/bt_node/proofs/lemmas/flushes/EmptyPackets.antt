@@ -1,14 +1,14 @@
 -- A node that fits is left as it is by an empty packet.
 use Rattle.std.proofs.Common.{◌≡◌, ℕ, zero, suc, ◌≤◌, true, false, cond, not, List, [], ◌∷◌, ◌++◌, map, length, refl, sym, ap, ◌∙◌, arith, append-nil}
 use Rattle.std.specs.declared.option.Option.{Option}
-use Rattle.std.specs.declared.option.Option.TheVariants.{None, Some}
-use Rattle.bt_keycode.specs.Keys.{Key, is_before, AllWithin, IsSorted}
+use Rattle.bt_keycode.specs.Keys.{Key, is_before, AllFrom, IsSorted}
 use Rattle.bt_node.specs.Messages.{Messages, before, from}
 use Rattle.bt_node.specs.Plans.{total}
 use Rattle.bt_node.specs.Trees.{Shape, Tree, leaf, inner, Nodes, Siblings, children, nodes}
 use Rattle.bt_node.specs.Flushes.{Child, Flush, pivot_first, counts, shared, flushed, flushed_over, gathered, grouped, absorbed, absorb}
 use Rattle.bt_node.specs.Fits.{IsLed, Lies, IsSized, NodeFits, IsRoomy}
-use Rattle.bt_node.proofs.lemmas.keys.Limits.{sorted-where, from-lower}
+use Rattle.bt_keycode.proofs.offered.Order.{from_earlier}
+use Rattle.bt_node.proofs.lemmas.keys.SortedLists.{sorted-where}
 use Rattle.bt_node.proofs.lemmas.deals.PartSizes.{deal-one}
 use Rattle.bt_node.proofs.lemmas.plans.Capacity.{settled-still}
 use Rattle.bt_node.proofs.lemmas.flushes.Children.{all_pending}
@@ -18,13 +18,13 @@ use Rattle.bt_node.proofs.lemmas.flushes.NodeSizes.{length-shared, total-counts}
 use Rattle.bt_node.proofs.lemmas.flushes.RowsKept.{absorb-at}
 
 module _ {M : Type 0} where
-  before-none : (k : Key) (ms : Messages M) → AllWithin (Some k) None ms → before k ms ≡ []
+  before-none : (k : Key) (ms : Messages M) → AllFrom k ms → before k ms ≡ []
   before-none k [] w = refl
-  before-none k (m ∷ ms) w = ap (λ b. cond b (m ∷ before k ms) (before k ms)) w.0.from ∙ before-none k ms w.1
+  before-none k (m ∷ ms) w = ap (λ b. cond b (m ∷ before k ms) (before k ms)) w.0 ∙ before-none k ms w.1
 
-  from-all : (k : Key) (ms : Messages M) → AllWithin (Some k) None ms → from k ms ≡ ms
+  from-all : (k : Key) (ms : Messages M) → AllFrom k ms → from k ms ≡ ms
   from-all k [] w = refl
-  from-all k (m ∷ ms) w = ap (λ b. cond (not b) (m ∷ from k ms) (from k ms)) w.0.from ∙ ap (λ z. m ∷ z) (from-all k ms w.1)
+  from-all k (m ∷ ms) w = ap (λ b. cond (not b) (m ∷ from k ms) (from k ms)) w.0 ∙ ap (λ z. m ∷ z) (from-all k ms w.1)
 
   -- a sorted buffer is its two sides joined
   divided : (k : Key) (ms : Messages M) → IsSorted ms → before k ms ++ from k ms ≡ ms
@@ -32,7 +32,7 @@ module _ {M : Type 0} where
   divided k (m ∷ ms) r = elim (is_before m.0 k) as (λ b. is_before m.0 k ≡ b → cond b (m ∷ before k ms) (before k ms) ++ cond (not b) (m ∷ from k ms) (from k ms) ≡ m ∷ ms) [
     | true ↦ λ e. ap (λ z. m ∷ z) (divided k ms r.1)
     | false ↦ λ e.
-        let rest = from-lower k m.0 ms e r.0 in
+        let rest = from_earlier k m.0 ms e r.0 in
         ap (λ z. z ++ m ∷ from k ms) (before-none k ms rest) ∙ ap (λ z. m ∷ z) (from-all k ms rest)
   ] refl
 

@@ -10,7 +10,8 @@ use Rattle.bt_node.specs.Trees.{Shape, Tree, leaf, Nodes, none, node, Siblings, 
 use Rattle.bt_node.specs.Flushes.{Child, pivot_first, first_key, gathered, grouped, leaves, holds, nodes_hold, all_hold}
 use Rattle.bt_node.specs.Fits.{RowsLie, IsLed, Lies, SiblingsLie}
 use Rattle.bt_node.proofs.lemmas.deals.Parts.{NonEmpty, joined, joined-deal, full-deal, deal-nothing}
-use Rattle.bt_node.proofs.lemmas.keys.Limits.{within-append, within-below, within-from, sorted-append}
+use Rattle.bt_node.proofs.lemmas.keys.Limits.{within-append, within-below, within-from}
+use Rattle.bt_node.proofs.lemmas.keys.SortedLists.{sorted-append}
 use Rattle.bt_node.proofs.lemmas.keys.SideBySide.{side-groups, side-weaken, side-map, led-side}
 use Rattle.bt_node.proofs.lemmas.rows.Values.{find-append, find-rows, or_else}
 use Rattle.bt_node.proofs.lemmas.lookups.Outside.{nodes_hold-children}

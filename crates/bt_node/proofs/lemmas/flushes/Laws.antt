@@ -1,28 +1,30 @@
--- The laws of flushes and crowns, from their parts.
-use Rattle.std.proofs.Common.{ℕ, suc, List, [], ◌∷◌, length, sym, ap, subst, ◌∙◌, arith, le_refl}
+-- What is promised of a node and a packet, and of children that are flushed, from its parts.
+use Rattle.std.proofs.Common.{◌≡◌, ℕ, suc, List, [], ◌∷◌, length, refl, sym, ap, subst, ◌∙◌, arith, le_refl}
 use Rattle.std.specs.declared.option.Option.{Option}
 use Rattle.std.specs.declared.option.Option.TheVariants.{None, Some}
 use Rattle.bt_keycode.specs.Keys.{Key, AllWithin}
+use Rattle.bt_node.specs.Messages.{Messages}
 use Rattle.bt_node.specs.Plans.{total}
-use Rattle.bt_node.specs.Trees.{Siblings, nodes}
-use Rattle.bt_node.specs.Flushes.{counts, flushed, absorb, crown}
-use Rattle.bt_node.specs.Fits.{SiblingsLie, AreSized, AreHigh}
-use Rattle.bt_node.specs.Laws.{ChosenArePlanned, LoopIsOnePass, AbsorbLosesNothing, AbsorbFits, AbsorbKeepsHeight, AbsorbsNothing, CrownLosesNothing, CrownFits, SunkLosesNothing, SunkFits, SinksNothing}
+use Rattle.bt_node.specs.Trees.{Shape, Tree, Siblings, nodes}
+use Rattle.bt_node.specs.Flushes.{counts, flushed, absorb, all_hold}
+use Rattle.bt_node.specs.Fits.{SiblingsLie, SiblingsFit, AreSized, AreHigh, IsRoomy}
+use Rattle.bt_node.specs.Laws.{FlushesInTurn, ChosenArePlanned, FitThere, KeepHeight, StayWithoutPacket, HoldRowsAfter, ComeByOneRule}
 use Rattle.bt_node.proofs.lemmas.plans.OnePass.{replaced-planned}
-use Rattle.bt_node.proofs.lemmas.flushes.Passes.{flushed-light, flushed-planned}
+use Rattle.bt_node.proofs.lemmas.plans.Capacity.{settled-on, settled-still}
+use Rattle.bt_node.proofs.lemmas.flushes.Passes.{flushed-light}
 use Rattle.bt_node.proofs.lemmas.flushes.RowsKept.{height-lies, absorb-at, absorb-keeps, absorb-holds}
 use Rattle.bt_node.proofs.lemmas.flushes.NodeSizes.{absorbed-sized}
-use Rattle.bt_node.proofs.lemmas.crowns.CrownedRows.{crown-fits, crown-holds}
 use Rattle.bt_node.proofs.lemmas.flushes.EmptyPackets.{absorb-still}
+use Rattle.bt_node.proofs.lemmas.flushes.Recursion.{absorb_recurs}
+
+pub flushes_in_turn : {V M : Type 0} → FlushesInTurn V M
+flushes_in_turn = record {
+  within = λ f capacity cs few. settled-still (λ c. length c.pending) (flushed f) (flushed-light f) capacity (total (counts cs)) cs few;
+  over = λ f capacity cs many. settled-on (λ c. length c.pending) (flushed f) (flushed-light f) capacity (total (counts cs)) cs many (le_refl (total (counts cs)));
+}
 
 pub chosen_are_planned : {V M : Type 0} → ChosenArePlanned V M
 chosen_are_planned f capacity cs = replaced-planned (λ c. length c.pending) (flushed f) (flushed-light f) capacity (total (counts cs)) cs (le_refl (total (counts cs)))
-
-pub loop_is_one_pass : {V M : Type 0} → LoopIsOnePass V M
-loop_is_one_pass f capacity cs = flushed-planned f capacity cs
-
-pub crown_fits : {V M : Type 0} → CrownFits V M
-crown_fits s levels low high xs roomy fit = crown-fits s roomy levels low high xs fit
 
 high-siblings : {V M : Type 0} (levels : ℕ) (low high : Option Key) (xs : Siblings V M) → SiblingsLie levels low high xs → AreHigh (suc levels) xs
 high-siblings levels low high [] b = tt
@@ -32,41 +34,29 @@ high-siblings levels low high (x ∷ y ∷ ys) b = (height-lies levels low (Some
 -- without limits any packet is within them
 pub anywhere : {X : Type 0} (xs : List (Key × X)) → AllWithin None None xs
 anywhere [] = tt
-anywhere (x ∷ xs) = (record { from = tt; below = tt }, anywhere xs)
+anywhere (x ∷ xs) = (record { from = refl; below = refl }, anywhere xs)
 
-module _ {V M : Type 0} (effect : Option V → M → Option V) where
-  pub absorb_loses_nothing : AbsorbLosesNothing effect
-  absorb_loses_nothing s levels low high t p roomy fits within =
-      absorb-holds effect s (omega (arith, roomy.leaf)) (omega (arith, roomy.fanout)) levels low high t p fits.lies within
+module _ {V M : Type 0} (effect : Option V → M → Option V) (s : Shape) (roomy : IsRoomy s) (t : Tree V M) (p : Messages M) (xs : Siblings V M) (is : xs ≡ absorb effect s t p) where
+  pub hold_rows_after : HoldRowsAfter effect s t p xs
+  hold_rows_after levels low high fits within = ap (λ ys. all_hold effect ys) is
+      ∙ absorb-holds effect s (omega (arith, roomy.leaf)) (omega (arith, roomy.fanout)) levels low high t p fits.lies within
 
-  pub absorb_fits : AbsorbFits effect
-  absorb_fits s levels low high t p roomy fits within =
+  pub fit_there : FitThere s t p xs
+  fit_there levels low high fits within =
       let k = absorb-keeps effect s (omega (arith, roomy.leaf)) (omega (arith, roomy.fanout)) levels low high t p fits.lies within in
-      record {
+      subst (SiblingsFit s levels low high) (sym is) (record {
         lie = k.lie;
         led = k.led;
-        sized = subst (λ xs. AreSized s (nodes xs)) (sym (absorb-at effect s levels low high t p fits.lies))
+        sized = subst (λ ys. AreSized s (nodes ys)) (sym (absorb-at effect s levels low high t p fits.lies))
             (absorbed-sized effect s (omega (arith, roomy.leaf)) roomy.fanout levels low high t p fits.lies within fits.sized);
-      }
+      })
 
-  pub absorb_keeps_height : AbsorbKeepsHeight effect
-  absorb_keeps_height s levels low high t p roomy fits within =
-      let k = absorb_fits s levels low high t p roomy fits within in
-      subst (λ h. AreHigh h (absorb effect s t p)) (sym (height-lies levels low high t fits.lies)) (high-siblings levels low high (absorb effect s t p) k.lie)
+  pub keep_height : KeepHeight s t p xs
+  keep_height levels low high fits within =
+      subst (λ h. AreHigh h xs) (sym (height-lies levels low high t fits.lies)) (high-siblings levels low high xs (fit_there levels low high fits within).lie)
 
-  pub absorbs_nothing : AbsorbsNothing effect
-  absorbs_nothing s levels low high t roomy fits = absorb-still effect s roomy levels low high t fits
+  pub stay_without_packet : StayWithoutPacket s t p xs
+  stay_without_packet none levels low high fits within = is ∙ ap (absorb effect s t) none ∙ absorb-still effect s roomy levels low high t fits
 
-  pub crown_loses_nothing : CrownLosesNothing effect
-  crown_loses_nothing s levels low high xs roomy fit = crown-holds s roomy effect levels low high xs fit
-
-  pub sunk_loses_nothing : SunkLosesNothing effect
-  sunk_loses_nothing s t p roomy fit =
-      crown_loses_nothing s fit.0 None None (absorb effect s t p) roomy (absorb_fits s fit.0 None None t p roomy fit.1 (anywhere p))
-      ∙ absorb_loses_nothing s fit.0 None None t p roomy fit.1 (anywhere p)
-
-  pub sunk_fits : SunkFits effect
-  sunk_fits s t p roomy fit = crown-fits s roomy fit.0 None None (absorb effect s t p) (absorb_fits s fit.0 None None t p roomy fit.1 (anywhere p))
-
-  pub sinks_nothing : SinksNothing effect
-  sinks_nothing s t roomy fit = ap (crown s) (absorbs_nothing s fit.0 None None t roomy fit.1)
+  pub come_by_one_rule : ComeByOneRule effect s t p xs
+  come_by_one_rule ns buffer inside = is ∙ ap (λ u. absorb effect s u p) inside ∙ absorb_recurs effect s ns buffer p

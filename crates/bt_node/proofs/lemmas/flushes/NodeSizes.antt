@@ -8,7 +8,7 @@ use Rattle.bt_node.specs.Deals.{deal}
 use Rattle.bt_node.specs.Plans.{total}
 use Rattle.bt_node.specs.inside.Marks.{passed}
 use Rattle.bt_node.specs.Trees.{Shape, Tree, leaf, inner, Nodes, none, node, Siblings, children, nodes}
-use Rattle.bt_node.specs.Flushes.{Child, Flush, pivot_first, counts, shared, flushed, flushed_over, gathered, grouped, leaves, absorbed}
+use Rattle.bt_node.specs.Flushes.{Child, Flush, pivot_first, counts, shared, flushed, flushed_over, gathered, grouped, leaves, absorbed, none_pending}
 use Rattle.bt_node.specs.Fits.{Lies, IsSized, AreSized}
 use Rattle.bt_node.proofs.lemmas.deals.Parts.{NonEmpty, joined, joined-deal}
 use Rattle.bt_node.proofs.lemmas.deals.PartSizes.{Each, sizes-at_most, sizes-two, lengths-deal}
@@ -16,7 +16,7 @@ use Rattle.bt_node.proofs.lemmas.plans.Capacity.{settled-fits}
 use Rattle.bt_node.proofs.lemmas.plans.OnePass.{names}
 use Rattle.bt_node.proofs.lemmas.flushes.Children.{ChildLies, ChildrenLie, all_pending}
 use Rattle.bt_node.proofs.lemmas.flushes.Groups.{led-full, stripped, children-nodes, as_leaf}
-use Rattle.bt_node.proofs.lemmas.flushes.Passes.{Keeps, none_pending, flushed-light, slots, flushed-planned, names-slots}
+use Rattle.bt_node.proofs.lemmas.flushes.Passes.{Keeps, flushed-light, slots, flushed-planned, names-slots}
 use Rattle.bt_node.proofs.lemmas.flushes.ValuesKept.{start-lies, absorbed-keeps}
 
 pub sized-pivot_first : {V M : Type 0} (s : Shape) (k : Key) (xs : Siblings V M) → AreSized s (nodes xs) → AreSized s (nodes (pivot_first k xs))

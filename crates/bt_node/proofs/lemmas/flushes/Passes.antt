@@ -1,5 +1,5 @@
 -- One pass over the children, of which some are flushed: they lie where they lay, and what one finds among them stays.
-use Rattle.std.proofs.Common.{◌≡◌, ℕ, Bool, true, false, cond, List, [], ◌∷◌, ◌++◌, map, length, refl, sym, ap, subst, ◌∙◌, append-nil, le_refl}
+use Rattle.std.proofs.Common.{◌≡◌, ℕ, Bool, true, false, cond, List, [], ◌∷◌, ◌++◌, length, refl, sym, ap, subst, ◌∙◌, append-nil, le_refl}
 use Rattle.std.specs.FinMap.{find}
 use Rattle.std.specs.declared.option.Option.{Option}
 use Rattle.std.specs.declared.option.Option.TheVariants.{Some}
@@ -8,7 +8,7 @@ use Rattle.bt_node.specs.Messages.{Messages, value_after}
 use Rattle.bt_node.specs.Plans.{total, planned}
 use Rattle.bt_node.specs.inside.Marks.{passed, IsLight, marked_all, unmarked}
 use Rattle.bt_node.specs.Trees.{Tree, Siblings}
-use Rattle.bt_node.specs.Flushes.{Child, Flush, pivot_first, counts, flushed, flushed_over, holds, all_hold}
+use Rattle.bt_node.specs.Flushes.{Child, Flush, pivot_first, counts, none_pending, flushed, flushed_over, holds, all_hold}
 use Rattle.bt_node.specs.Fits.{IsLed, Lies, SiblingsLie}
 use Rattle.bt_node.proofs.lemmas.deals.Parts.{NonEmpty}
 use Rattle.bt_node.proofs.lemmas.keys.SideBySide.{join, side-weaken, side-map, led-side}
@@ -25,10 +25,6 @@ pub record Kept {V M : Type 0} (effect : Option V → M → Option V) (levels : 
 
 abbrev pub Keeps : {V M : Type 0} → (Option V → M → Option V) → ℕ → Flush V M → Type 0
 Keeps {V} {M} effect levels f = (low high : Option Key) (t : Tree V M) (p : Messages M) → Lies levels low high t → AllWithin low high p → Kept effect levels low high t p (f t p)
-
--- siblings as children for which nothing is pending
-abbrev pub none_pending : {V M : Type 0} → Siblings V M → List (Child V M)
-none_pending = map (λ x. record { pivot = x.0; tree = x.1; pending = [] })
 
 -- begins with a child at this pivot
 record Heads {V M : Type 0} (k : Key) (cs : List (Child V M)) : Type 0 where

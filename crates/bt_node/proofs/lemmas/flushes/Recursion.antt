@@ -1,16 +1,12 @@
 -- A flush of a node flushes its children by the same rule, with no bound on heights.
 use Rattle.std.proofs.Common.{◌≡◌, ℕ, zero, suc, ◌≤◌, Bool, true, false, cond, List, [], ◌∷◌, ◌++◌, length, refl, sym, ap, subst, ◌∙◌, arith, le_refl}
-use Rattle.std.specs.List.{flat_map}
 use Rattle.std.specs.declared.option.Option.{Option}
-use Rattle.bt_node.specs.Messages.{Messages, from}
+use Rattle.bt_node.specs.Messages.{Messages, from, with_messages}
 use Rattle.bt_node.specs.inside.Marks.{passed}
 use Rattle.bt_node.specs.Trees.{Shape, Tree, leaf, inner, Nodes, none, node, children, height, height_below}
-use Rattle.bt_node.specs.Flushes.{Child, Flush, pivot_first, shared, flushed, flushed_over, grouped, absorbed, absorb}
-use Rattle.bt_node.specs.Drains.{drained_at, drained}
-use Rattle.bt_node.specs.Laws.{AbsorbRecurs}
-use Rattle.bt_node.specs.DrainLaws.{DrainRecurs}
+use Rattle.bt_node.specs.Flushes.{Child, Flush, pivot_first, shared, flushed, flushed_over, grouped, absorbed, absorb, none_pending}
 use Rattle.bt_node.proofs.lemmas.plans.OnePass.{names}
-use Rattle.bt_node.proofs.lemmas.flushes.Passes.{none_pending, slots, flushed-planned, names-slots}
+use Rattle.bt_node.proofs.lemmas.flushes.Passes.{slots, flushed-planned, names-slots}
 
 -- none of these children is higher than this
 abbrev AreWithin : {V M : Type 0} → ℕ → List (Child V M) → Type 0
@@ -45,10 +41,6 @@ module _ {V M : Type 0} (most : ℕ) (f g : Flush V M) (agree : (t : Tree V M) (
       ∙ pass-same (slots capacity cs) (subst (AreWithin most) (sym (names-slots capacity cs)) l)
       ∙ sym (flushed-planned g capacity cs)
 
-  pub all-same : (cs : List (Child V M)) → AreWithin most cs → flat_map (flushed f) cs ≡ flat_map (flushed g) cs
-  all-same [] l = refl
-  all-same (c ∷ cs) l = ap (λ z. z ++ flat_map (flushed f) cs) (flushed-same c l.0) ∙ ap (λ z. flushed g c ++ z) (all-same cs l.1)
-
 module _ {V M : Type 0} (effect : Option V → M → Option V) where
   -- any two bounds that are at least the node's height give the same
   pub absorbed-same : (s : Shape) (h j : ℕ) (t : Tree V M) (p : Messages M) → height t ≤ h → height t ≤ j → absorbed effect h s t p ≡ absorbed effect j s t p
@@ -59,20 +51,9 @@ module _ {V M : Type 0} (effect : Option V → M → Option V) where
       ap (grouped s) (loop-same (height_below ns) (absorbed effect h s) (absorbed effect j s) (λ t p k. absorbed-same s h j t p (omega (arith, k, l)) (omega (arith, k, m))) s.buffer _
       (shared-within (height_below ns) ns _ (le_refl (height_below ns))))
 
-  drained-same : (s : Shape) (h j : ℕ) (t : Tree V M) (p : Messages M) → height t ≤ h → height t ≤ j → drained_at effect h s t p ≡ drained_at effect j s t p
-  drained-same s h j (leaf rows) p l m = refl
-  drained-same s zero j (inner ns b) p l m = absurd (omega (arith, l))
-  drained-same s (suc h) zero (inner ns b) p l m = absurd (omega (arith, m))
-  drained-same s (suc h) (suc j) (inner ns b) p l m =
-      ap (grouped s) (all-same (height_below ns) (drained_at effect h s) (drained_at effect j s) (λ t p k. drained-same s h j t p (omega (arith, k, l)) (omega (arith, k, m))) _
-      (shared-within (height_below ns) ns _ (le_refl (height_below ns))))
-
-  pub absorb_recurs : AbsorbRecurs effect
+  -- an inner node flushes its children by the same rule as itself
+  pub absorb_recurs : (s : Shape) (ns : Nodes V M) (b p : Messages M) →
+      absorb effect s (inner ns b) p ≡ grouped s (flushed_over (absorb effect s) s.buffer (shared (children ns) (with_messages p b)))
   absorb_recurs s ns b p =
       ap (grouped s) (loop-same (height_below ns) (absorbed effect (height_below ns) s) (absorb effect s) (λ t p l. absorbed-same s (height_below ns) (height t) t p l (le_refl (height t))) s.buffer _
-      (shared-within (height_below ns) ns _ (le_refl (height_below ns))))
-
-  pub drain_recurs : DrainRecurs effect
-  drain_recurs s levels low high ns b p fits within =
-      ap (grouped s) (all-same (height_below ns) (drained_at effect (height_below ns) s) (drained effect s) (λ t p l. drained-same s (height_below ns) (height t) t p l (le_refl (height t))) _
       (shared-within (height_below ns) ns _ (le_refl (height_below ns))))

@@ -10,7 +10,7 @@ use Rattle.bt_node.specs.Trees.{Tree, Siblings}
 use Rattle.bt_node.specs.Flushes.{shared, holds, all_hold}
 use Rattle.bt_node.specs.Fits.{SiblingsLie}
 use Rattle.bt_keycode.proofs.offered.Order.{same_key}
-use Rattle.bt_node.proofs.lemmas.keys.Limits.{sorted-where}
+use Rattle.bt_node.proofs.lemmas.keys.SortedLists.{sorted-where}
 use Rattle.bt_node.proofs.lemmas.rows.Values.{value-append}
 use Rattle.bt_node.proofs.lemmas.flushes.Children.{ChildrenLie, all_pending, below}
 

@@ -9,7 +9,6 @@ use Rattle.bt_node.specs.Trees.{Tree, leaf, inner, Nodes, none, node, children}
 use Rattle.bt_node.specs.Flushes.{holds, nodes_hold, all_hold}
 use Rattle.bt_node.specs.Fits.{Lies, SiblingsLie}
 use Rattle.bt_node.specs.Lookups.{value_at, value_below}
-use Rattle.bt_node.specs.Laws.{LookupFindsHeld}
 use Rattle.bt_keycode.proofs.offered.Order.{sides}
 use Rattle.bt_node.proofs.lemmas.rows.Values.{find-append, find-rows, or_else, or_else-None}
 use Rattle.bt_node.proofs.lemmas.lookups.Outside.{Outside, nodes_hold-children, tree-outside, all-outside}
@@ -47,5 +46,7 @@ module _ {V M : Type 0} (effect : Option V → M → Option V) (q : Key) where
       ∙ ap (λ rows. value_after effect q b (find key_cmp q rows)) (sym (nodes_hold-children effect ns))
       ∙ sym (find-rows effect q b (nodes_hold effect ns))
 
-pub lookup_finds_held : {V M : Type 0} (effect : Option V → M → Option V) → LookupFindsHeld effect
-lookup_finds_held effect s levels low high t k fits = found effect k levels low high t fits.lies
+-- the value along one path is the one in the map that the tree holds
+pub value_at-held : {V M : Type 0} (effect : Option V → M → Option V) (levels : ℕ) (low high : Option Key) (t : Tree V M) (k : Key) → Lies levels low high t →
+    value_at effect k t ≡ find key_cmp k (holds effect t)
+value_at-held effect levels low high t k lies = found effect k levels low high t lies

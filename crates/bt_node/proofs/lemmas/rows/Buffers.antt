@@ -3,10 +3,9 @@ use Rattle.std.proofs.Common.{◌≡◌, true, false, cond, [], ◌∷◌, refl,
 use Rattle.std.specs.Ordering.{eq_by_cmp}
 use Rattle.std.specs.declared.option.Option.{Option}
 use Rattle.std.specs.declared.option.Option.TheVariants.{None, Some}
-use Rattle.bt_keycode.specs.Keys.{Key, key_cmp, is_before, Within, AllWithin, IsSorted}
+use Rattle.bt_keycode.specs.Keys.{Key, key_cmp, is_before, Within, AllFrom, AllWithin, IsSorted}
 use Rattle.bt_node.specs.Messages.{Messages, value_after, with_message, with_messages}
-use Rattle.bt_keycode.proofs.offered.Order.{same_key, not_after, not_before_itself}
-use Rattle.bt_node.proofs.lemmas.keys.Limits.{from-lower}
+use Rattle.bt_keycode.proofs.offered.Order.{all_within-from, from_earlier, same_key, not_after, not_before_itself}
 use Rattle.bt_node.proofs.lemmas.rows.Values.{value-above}
 
 module _ {M : Type 0} where
@@ -21,11 +20,18 @@ module _ {M : Type 0} where
   within-with_messages low high [] b p h = h
   within-with_messages low high (m ∷ ms) b p h = within-with_messages low high ms (with_message m b) p.1 (within-with_message low high m b p.0 h)
 
+  from-with_message : (k : Key) (m : Key × M) (b : Messages M) → is_before m.0 k ≡ false → AllFrom k b → AllFrom k (with_message m b)
+  from-with_message k m [] l h = (l, tt)
+  from-with_message k m (e ∷ es) l h = elim (is_before m.0 e.0) as (λ t. AllFrom k (cond t (m ∷ e ∷ es) (e ∷ with_message m es))) [
+    | true ↦ (l, h)
+    | false ↦ (h.0, from-with_message k m es l h.1)
+  ]
+
   sorted-with_message : (m : Key × M) (b : Messages M) → IsSorted b → IsSorted (with_message m b)
   sorted-with_message m [] r = (tt, tt)
   sorted-with_message m (e ∷ es) r = elim (is_before m.0 e.0) as (λ t. is_before m.0 e.0 ≡ t → IsSorted (cond t (m ∷ e ∷ es) (e ∷ with_message m es))) [
-    | true ↦ λ t. let low = not_after m.0 e.0 t in ((record { from = low; below = tt }, from-lower m.0 e.0 es low r.0), r)
-    | false ↦ λ t. (within-with_message (Some e.0) None m es (record { from = t; below = tt }) r.0, sorted-with_message m es r.1)
+    | true ↦ λ t. let low = not_after m.0 e.0 t in ((low, from_earlier m.0 e.0 es low r.0), r)
+    | false ↦ λ t. (from-with_message e.0 m es t r.0, sorted-with_message m es r.1)
   ] refl
 
   pub sorted-with_messages : (p b : Messages M) → IsSorted b → IsSorted (with_messages p b)
@@ -41,7 +47,7 @@ module _ {V M : Type 0} (effect : Option V → M → Option V) where
         value_after effect q (e ∷ es) (cond b (effect o m.1) o) ≡ cond b (effect (value_after effect q (e ∷ es) o) m.1) (value_after effect q (e ∷ es) o)) [
           | true ↦ λ is.
               let low = ap (λ k. is_before k e.0) (same_key q m.0 is) ∙ t in
-              let all : AllWithin (Some e.0) None (e ∷ es) = (record { from = not_before_itself e.0; below = tt }, r.0) in
+              let all : AllWithin (Some e.0) None (e ∷ es) = (record { from = not_before_itself e.0; below = refl }, all_within-from e.0 es r.0) in
               value-above effect q e.0 None (e ∷ es) _ low all ∙ ap (λ x. effect x m.1) (sym (value-above effect q e.0 None (e ∷ es) o low all))
           | false ↦ λ is. refl
         ] refl

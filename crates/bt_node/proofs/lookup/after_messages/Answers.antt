@@ -3,7 +3,6 @@ use Rattle.bt_messages.specs.Effects.{effect_of}
 use Rattle.bt_keycode.specs.Keys.{AllFrom, key_cmp}
 use Rattle.bt_node.specs.Messages.{value_after}
 use Rattle.bt_node.proofs.lemmas.code.LookupPath.{all_from, none_left, one_more, rest_from, rest_sorted, sorted-drop, value_after-from}
-use Rattle.bt_node.proofs.lemmas.flushes.PendingOrder.{sorted-rising}
 use Rattle.bt_node.proofs.lookup.after_messages.Goals as goal
 
 pub loop-place-init : goal.loop-place-init
@@ -14,7 +13,7 @@ loop-place-init g c =
     record {
       value = sym (ap (λ ms. value_after (effect_of g.V.Merge.merged) k ms c.args.old) from ∙ value_after-from (effect_of g.V.Merge.merged) k c.args.buffer.now c.args.old);
       from = subst (AllFrom k) (sym from) (all_from (effect_of g.V.Merge.merged) k c.args.buffer.now);
-      rising = sorted-drop (effect_of g.V.Merge.merged) c.first_from-place.result c.args.buffer.now (sorted-rising c.args.buffer.now sorted);
+      rising = sorted-drop (effect_of g.V.Merge.merged) c.first_from-place.result c.args.buffer.now sorted;
     }
 
 pub returns-then-ne : goal.returns-then-ne

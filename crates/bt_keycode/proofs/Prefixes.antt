@@ -6,7 +6,7 @@ use Rattle.std.specs.Cmp.Lexicographic.{slice_cmp}
 use Rattle.std.specs.Ordering.{nat_cmp, MatchOrdering}
 use Rattle.std.specs.declared.cmp.Ordering.{Ordering}
 use Rattle.std.specs.declared.cmp.Ordering.TheVariants.{Less, Equal, Greater}
-use Rattle.bt_keycode.specs.Keys.{eight_bytes, first_eight}
+use Rattle.bt_keycode.specs.Prefixes.{eight_bytes, first_eight}
 use Rattle.bt_keycode.proofs.Numbers.{slice_cmp-eight_bytes}
 use Rattle.bt_keycode.proofs.Paddings.{slice_cmp-next, slice_cmp-padded}
 
@@ -21,16 +21,16 @@ decided : (o p q : Ordering) → o ≡ p → o ≢ Equal → (p ≡ Equal) ⊎ (
 decided o p q e n (inl f) = absurd (n (e ∙ f))
 decided o p q e n (inr f) = e ∙ f
 
--- keys with different heads are ordered as those are
-pub heads_decide : (h k : ℕ) (xs ys : List ℕ) → h < 2 ^ 64 → k < 2 ^ 64 → eight_bytes h ≡ first_eight xs → eight_bytes k ≡ first_eight ys → h ≢ k → nat_cmp h k ≡ slice_cmp nat_cmp xs ys
+-- keys with different prefixes are ordered as those are
+pub prefixes_decide : (h k : ℕ) (xs ys : List ℕ) → h < 2 ^ 64 → k < 2 ^ 64 → eight_bytes h ≡ first_eight xs → eight_bytes k ≡ first_eight ys → h ≢ k → nat_cmp h k ≡ slice_cmp nat_cmp xs ys
 unfolding first_eight
-heads_decide h k xs ys low under a b apart =
+prefixes_decide h k xs ys low under a b apart =
     decided (nat_cmp h k) (slice_cmp nat_cmp (first_eight xs) (first_eight ys)) (slice_cmp nat_cmp xs ys)
     (sym (slice_cmp-eight_bytes h k low under) ∙ ap (λ zs. slice_cmp nat_cmp zs (eight_bytes k)) a ∙ ap (λ zs. slice_cmp nat_cmp (first_eight xs) zs) b)
     (unequal h k (nat_cmp h k) (ranks h k) apart)
     (slice_cmp-padded 8 xs ys)
 
--- keys with the same heads and different next numbers are ordered as the latter are
+-- keys with the same prefixes and different next numbers are ordered as the latter are
 pub nexts_decide : (h k : ℕ) (xs ys : List ℕ) → h < 2 ^ 64 → k < 2 ^ 64 → first_eight xs ≡ first_eight ys →
     eight_bytes h ≡ first_eight (drop 8 xs) → eight_bytes k ≡ first_eight (drop 8 ys) → h ≢ k → nat_cmp h k ≡ slice_cmp nat_cmp xs ys
 unfolding first_eight

@@ -1,0 +1,50 @@
+//! Messages gone through in order.
+ghost use Rattle.std.specs.Prelude.{◌≡◌};
+ghost use Rattle.std.specs.Iterator.{YieldsFirstBy, item_count};
+ghost use Rattle.bt_keycode.specs.Keys.{IsSorted};
+
+use crate::message::{Merge, Message};
+use bt_keycode::Key;
+use std::marker::Model;
+
+/// Messages and their keys, in order. A contract sees the list of those that are left.
+#[derive(Drop)]
+pub struct Messages<'a, V: Merge> {
+    left: &'a [(Key, Message<V>)],
+}
+
+impl<'a, V: Merge> Model for Messages<'a, V> {
+    ghost use Rattle.std.specs.Prelude.{List, ℕ};
+    ghost use Rattle.bt_keycode.specs.Keys.{IsSorted};
+    ghost use Rattle.bt_messages.specs.declared.message.Message.{Message};
+
+    ghost Value = { List (List ℕ × Message V V.Delta) };
+
+    ghost view = { λ m. m.left.now };
+
+    ghost invariant = { λ m. IsSorted m.left.now };
+}
+
+impl<'a, V: Merge> Messages<'a, V> {
+    // The messages of a list that is sorted by key.
+    pub(crate) fn of_sorted(messages: &'a [(Key, Message<V>)]) -> Self
+        requires { IsSorted messages.now }
+        ensures { result ≡ messages.now }
+    {
+        Messages { left: messages }
+    }
+}
+
+impl<'a, V: Merge> Iterator for Messages<'a, V> {
+    type Item = (&'a Key, &'a Message<V>);
+
+    ghost next_gives = { YieldsFirstBy (λ m. (m.0.now, m.1.now)) (λ left. left) };
+
+    ghost remaining = { item_count (λ left. left) };
+
+    fn next(&mut self) -> Option<(&'a Key, &'a Message<V>)> {
+        let (first, others) = self.left.split_first()?;
+        self.left = others;
+        Some((&first.0, &first.1))
+    }
+}
