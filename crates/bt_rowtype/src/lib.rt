@@ -25,6 +25,7 @@ mod bytes;
 mod field;
 mod fields;
 mod op;
+mod reader;
 mod record;
 mod refusal;
 mod row;
