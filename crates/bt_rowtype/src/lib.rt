@@ -24,6 +24,7 @@
 mod bytes;
 mod field;
 mod fields;
+mod int;
 mod op;
 mod reader;
 mod record;
