@@ -7,6 +7,7 @@ pub mod Pieces
 pub mod Plain
 pub mod Utf8
 pub mod Quotes
+pub mod ReaderSteps
 pub mod RecordTexts
 pub mod Upserts
 pub mod WorkedOps

@@ -1,6 +1,7 @@
 pub mod Ints
 pub mod Ops
 pub mod Pieces
+pub mod Reader
 pub mod Records
 pub mod Refusals
 pub mod Schemas

@@ -1,8 +1,8 @@
 //! Reading one field.
-ghost use Rattle.std.specs.Prelude.{◌≡◌, ◌≢◌, ◌==◌, false, Some, None, Ok, Err, IfOk, IfErr, if◌then◌else◌, slice_index};
-ghost use Rattle.bt_rowtype.specs.Ints.{int_of};
+ghost use Rattle.std.specs.Prelude.{◌≡◌, ◌≢◌, false, Some, None, Ok, Err, IfOk, IfErr, if◌then◌else◌};
 ghost use Rattle.bt_rowtype.specs.Values.{flag_of, is_text, or_refused, value_of};
 
+use crate::int::read_int;
 use crate::refusal::Refusal;
 use crate::text::Text;
 use crate::value::{Kind, Value};
@@ -11,28 +11,6 @@ use std::str;
 
 /// The most bytes of a text.
 pub const LONGEST_TEXT: usize = 255;
-
-fn has_plus(field: &[u8]) -> bool
-    ensures { result ≡ (slice_index field.now 0 == 43) }
-{
-    match field {
-        [first, ..] => *first == b'+',
-        [] => false,
-    }
-}
-
-// The whole number that a field spells.
-pub(crate) fn read_int(field: &[u8]) -> Option<i64>
-    ensures { result ≡ int_of field.now }
-{
-    if has_plus(field) {
-        return None;
-    }
-    match str::from_utf8(field) {
-        Ok(text) => text.parse::<i64>().ok(),
-        Err(_) => None,
-    }
-}
 
 // Whether bytes are a text of a column.
 pub(crate) fn is_text(bytes: &[u8]) -> bool

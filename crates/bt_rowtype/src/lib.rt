@@ -24,7 +24,9 @@
 mod bytes;
 mod field;
 mod fields;
+mod int;
 mod op;
+mod reader;
 mod record;
 mod refusal;
 mod row;

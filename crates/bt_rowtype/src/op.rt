@@ -9,8 +9,8 @@ ghost use Rattle.bt_rowtype.specs.Refusals.{least, least_from};
 ghost use Rattle.bt_rowtype.specs.Values.{default_of, or_refused};
 ghost use Rattle.bt_rowtype.specs.declared.value.Value.{Value};
 
-use crate::field::read_int;
 use crate::fields::Fields;
+use crate::int::read_int;
 use crate::refusal::{Refusal, least_with};
 use crate::row::read_at;
 use crate::schema::{Column, Schema, is_of_kind};
