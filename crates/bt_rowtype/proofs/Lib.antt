@@ -3,6 +3,7 @@ pub mod Exits
 pub mod IntTexts
 pub mod Marks
 pub mod OnLiterals
+pub mod Paddings
 pub mod Pieces
 pub mod Plain
 pub mod Utf8
