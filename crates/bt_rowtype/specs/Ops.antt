@@ -1,5 +1,5 @@
 -- The operations of an upsert, and what they make of a row.
-use Rattle.std.specs.Prelude.{ℕ, suc, ◌+◌, ◌-◌, ◌%◌, ◌==◌, ◌&&◌, Bool, List, [], ◌∷◌, ◌++◌, codes, drop, take, length, map, get_or, set, slice_get, nat_le, Option, Some, None, option_map, Result, Ok, Err, if◌then◌else◌, ℤ, pos, ◌+ℤ◌}
+use Rattle.std.specs.Prelude.{◌≡◌, ℕ, suc, ◌+◌, ◌-◌, ◌%◌, ◌==◌, ◌&&◌, Bool, List, [], ◌∷◌, ◌++◌, codes, drop, take, length, map, get_or, set, slice_get, nat_le, Option, Some, None, option_map, Result, Ok, Err, if◌then◌else◌, ℤ, pos, ◌+ℤ◌}
 use Rattle.std.specs.Cmp.Lexicographic.{pointwise}
 use Rattle.std.specs.Int.{saturate_to_bits}
 use Rattle.std.specs.List.{filter_map}
@@ -139,6 +139,14 @@ add_fault (Some other) = Some NotInt
 abbrev pub fault_of : Schema → ℕ → Op → Option Refusal
 fault_of schema item (Set place new) = set_fault item new (open_kind schema place)
 fault_of schema item (Add place n) = add_fault (open_kind schema place)
+
+-- an operation that has no fault in a schema, whichever item it is
+abbrev pub OpFits : Schema → Op → Type 0
+OpFits schema op = (item : ℕ) → fault_of schema item op ≡ None
+
+abbrev pub OpsFit : Schema → List Op → Type 0
+OpsFit schema [] = Unit {0}
+OpsFit schema (op ∷ ops) = OpFits schema op × OpsFit schema ops
 
 -- whether these are 1 to 16 operations of a schema, or their least refusal as this item
 abbrev pub checked_ops : Schema → ℕ → List Op → Result (Unit {0}) Refusal
