@@ -3,7 +3,7 @@ ghost use Rattle.std.specs.List.{list_any};
 ghost use Rattle.std.specs.Prelude.{◌≡◌, ◌≤◌, ◌+◌, ◌++◌, ◌∷◌, [], IfOk, OnOk, false, length, nat_eq, take};
 ghost use Rattle.std.specs.Cmp.Lexicographic.{slice_cmp};
 ghost use Rattle.std.specs.Ordering.{int_cmp, nat_cmp};
-ghost use Rattle.bt_rowtype.specs.Values.{key_cmp, value_cmp};
+ghost use Rattle.bt_rowtype.specs.Values.{value_cmp, values_cmp};
 ghost use Rattle.bt_keycode.specs.Codes.{HaveSameKinds, IsNoProperPrefix, code_of, code_of_value, escaped, kind_of, raised};
 ghost use Rattle.bt_keycode.specs.Keys.{eight_bytes};
 
@@ -210,7 +210,7 @@ fn cmp_values(left: &Value, right: &Value) -> Ordering
 #[tactic(auto, using(crate::proofs::Codes::codes_compare, crate::proofs::Codes::no_prefix))]
 pub fn cmp_rows(left: &[Value], right: &[Value]) -> Ordering
     requires { HaveSameKinds left.now right.now }
-    ensures values { result ≡ key_cmp left.now right.now }
+    ensures values { result ≡ values_cmp left.now right.now }
     ensures codes { result ≡ slice_cmp nat_cmp (code_of left.now) (code_of right.now) }
     ensures no_prefix { IsNoProperPrefix (code_of left.now) (code_of right.now) }
 {

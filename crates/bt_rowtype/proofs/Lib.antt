@@ -1,15 +1,13 @@
 pub mod Columnwise
 pub mod Exits
+pub mod Groups
 pub mod IntTexts
 pub mod Marks
 pub mod offered
-pub mod OnLiterals
 pub mod Pieces
 pub mod Plain
 pub mod Quotes
 pub mod ReadFits
 pub mod RecordTexts
 pub mod RowFits
-pub mod Upserts
-pub mod Utf8
 pub mod WorkedOps

@@ -5,10 +5,11 @@ use Rattle.std.specs.Cmp.Lexicographic.{pointwise}
 use Rattle.std.specs.List.{filter_map}
 use Rattle.std.specs.Prelude.{option_map}
 use Rattle.std.specs.Result.{result_ok}
+use Rattle.bt_rowtype.proofs.Columnwise.{some_read}
 use Rattle.bt_rowtype.specs.Ints.{int_of}
 use Rattle.bt_rowtype.specs.Ops.{OpFits, OpsFit, add_of, add_of_kind, at_column, both_read, named_from, op_of, open_column, open_kind, ops_of, set_of, unless}
 use Rattle.bt_rowtype.specs.Schemas.{Schema, fit_columns, fits_kind}
-use Rattle.bt_rowtype.specs.Values.{flag_of, is_text, or_refused, value_of, with_first}
+use Rattle.bt_rowtype.specs.Values.{flag_of, is_text, value_of, with_first}
 use Rattle.bt_rowtype.specs.declared.op.Op.{Op}
 use Rattle.bt_rowtype.specs.declared.op.Op.TheVariants.{Set, Add}
 use Rattle.bt_rowtype.specs.declared.refusal.Refusal.{Refusal}
@@ -92,10 +93,6 @@ open_kind_at schema name found is =
 column_read : {T : Type 0} (read : ℕ × Kind → Result T Refusal) (found : Option (ℕ × Kind)) (value : T) → at_column read found ≡ Ok value → (column : ℕ × Kind) × (found ≡ Some column) × (read column ≡ Ok value)
 column_read read None value is = absurd cc
 column_read read (Some column) value is = (column, refl, is)
-
-pub some_read : {T : Type 0} (refusal : Refusal) (o : Option T) (value : T) → or_refused refusal o ≡ Ok value → o ≡ Some value
-some_read refusal None value is = absurd cc
-some_read refusal (Some v) value is = let e : v ≡ value = cc in ap Some e
 
 set_fits : (schema : Schema) (item : ℕ) (argument : List ℕ) (column : ℕ × Kind) (op : Op) → open_kind schema column.0 ≡ Some column.1 → set_of item argument column ≡ Ok op → OpFits schema op
 set_fits schema item argument column op at is =

@@ -1,3 +1,4 @@
+pub mod Answers
 pub mod Ints
 pub mod Ops
 pub mod Pieces

@@ -69,6 +69,6 @@ value_cmp (value.Text a) (value.Text b) = slice_cmp nat_cmp a b
 value_cmp (value.Flag a) (value.Flag b) = bool_cmp a b
 value_cmp a b = Equal
 
--- the order of keys, value by value
-abbrev pub key_cmp : List Value → List Value → Ordering
-key_cmp = slice_cmp value_cmp
+-- the order of lists of values, value by value
+abbrev pub values_cmp : List Value → List Value → Ordering
+values_cmp = slice_cmp value_cmp

@@ -1,4 +1,4 @@
--- Texts of columns.
+-- Whether bytes are a text of a column. Serves readers of texts.
 use Rattle.std.proofs.Common.{◌≡◌, ◌∙◌, sym, ap, List, ℕ, length, true, false, Bool, ◌&&◌, nat_le, inl, inr, refl, ◌≤◌, ◌<◌}
 use Rattle.std.proofs.lemmas.Bool.{cases_Bool, le-leb, lt-leb}
 use Rattle.std.specs.Prelude.{IsUtf8}

@@ -6,16 +6,16 @@ use Rattle.bt_rowtype.specs.Ops.{ops_of}
 use Rattle.bt_rowtype.specs.Refusals.{least_from}
 use Rattle.bt_rowtype.specs.declared.op.Op.{Op}
 use Rattle.bt_rowtype.specs.declared.refusal.Refusal.{Refusal}
-use Rattle.bt_rowtype.proofs.Upserts.{is_read, op_of_fields, ops_end, ops_more, with_ops, with_refusals}
-use Rattle.bt_rowtype.proofs.op.read_groups.Goals as goal
+use Rattle.bt_rowtype.proofs.offered.Readings.{is_answer, with_refusal, with_value}
+use Rattle.bt_rowtype.proofs.Groups.{op_of_fields, ops_end, ops_more}
+use Rattle.bt_rowtype.proofs.upsert.read_groups.Goals as goal
 
 pub loop-group-init : goal.loop-group-init
 loop-group-init c =
     let keys : c.args.schema.now.keys ≡ c.keys-keys.result + 0 = omega (arith, c.keys-keys.ensures.value) in
-    let none = c.in_ok-with_capacity.ensures in
     record {
-      ops = rw (none, ← keys) refl;
-      refusal = rw (← keys) refl;
+      values = rw (c.in_ok-reading.ensures.values, ← keys) refl;
+      refusal = rw (c.in_ok-reading.ensures.refusal, ← keys) refl;
     }
 
 pub loop-group-preserved : goal.loop-group-preserved
@@ -29,24 +29,24 @@ loop-group-preserved c =
     let in_fields : place + 2 < length fields = omega arith in
     let three : place + 3 ≡ next = omega arith in
     let spelled = op_of_fields schema item fields place c.get-word.result.now c.get-name.result.now c.get-argument.result.now c.get-word.ensures c.get-name.ensures c.get-argument.ensures
-    ∙ is_read _ read c.read_op-read.ensures.ok c.read_op-read.ensures.refused c.in_ok-reading.ensures.memory in
+    ∙ is_answer _ read c.read_op-read.ensures.answer c.in_ok-add.ensures.memory in
     let more : ops_of schema item (drop place fields) ≡ read ∷ ops_of schema item (drop next fields) =
     ops_more schema item fields place in_fields ∙ ap (λ (o : Result Op Refusal). o ∷ ops_of schema item (drop (place + 3) fields)) spelled ∙ ap (λ n. read ∷ ops_of schema item (drop n fields)) three in
     record {
-      ops = c.loop-group.invariant.ops ∙ ap (λ (l : List (Result Op Refusal)). c.loop-group.reading.ops ++ filter_map result_ok l) more
-          ∙ with_ops c.loop-group.reading.ops c.in_ok-reading.reading.ops read (ops_of schema item (drop next fields)) c.in_ok-reading.ensures.ops;
+      values = c.loop-group.invariant.values ∙ ap (λ (l : List (Result Op Refusal)). c.loop-group.reading.values ++ filter_map result_ok l) more
+          ∙ with_value c.loop-group.reading.values c.add.new.self.values read (ops_of schema item (drop next fields)) c.in_ok-add.ensures.values;
       refusal = c.loop-group.invariant.refusal ∙ ap (λ (l : List (Result Op Refusal)). least_from c.loop-group.reading.refusal (filter_map result_err l)) more
-          ∙ with_refusals c.loop-group.reading.refusal c.in_ok-reading.reading.refusal read (ops_of schema item (drop next fields)) c.in_ok-reading.ensures.refusal;
+          ∙ with_refusal c.loop-group.reading.refusal c.add.new.self.refusal read (ops_of schema item (drop next fields)) c.in_ok-add.ensures.refusal;
     }
 
-pub returns-clause-ops : goal.returns-clause-ops
-returns-clause-ops c =
+pub returns-clause-values : goal.returns-clause-values
+returns-clause-values c =
     let schema = c.args.schema.now in
     let fields = c.args.fields.now in
     let place = c.keys-keys.result + 3 * c.loop-group.group in
     let short : length fields < place + 3 = omega arith in
     let none = ops_end schema c.args.item fields place short in
-    sym (c.loop-group.invariant.ops ∙ ap (λ (l : List (Result Op Refusal)). c.loop-group.reading.ops ++ filter_map result_ok l) none ∙ append-nil c.loop-group.reading.ops)
+    sym (c.loop-group.invariant.values ∙ ap (λ (l : List (Result Op Refusal)). c.loop-group.reading.values ++ filter_map result_ok l) none ∙ append-nil c.loop-group.reading.values)
 
 pub returns-clause-refusal : goal.returns-clause-refusal
 returns-clause-refusal c =

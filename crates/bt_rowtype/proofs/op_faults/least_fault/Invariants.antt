@@ -2,7 +2,7 @@ use Rattle.std.proofs.Common.{◌≡◌, drop}
 use Rattle.std.specs.List.{filter_map}
 use Rattle.bt_rowtype.specs.Ops.{fault_of}
 use Rattle.bt_rowtype.specs.Refusals.{least, least_from}
-use Rattle.bt_rowtype.proofs.op.least_fault.Given as goal
+use Rattle.bt_rowtype.proofs.op_faults.least_fault.Given as goal
 
 -- the least fault so far stands for the operations before this one
 abbrev pub invariant-loop-op : goal.invariant-loop-op
