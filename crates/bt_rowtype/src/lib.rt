@@ -22,6 +22,7 @@
 #![tactic(auto)]
 
 mod bytes;
+mod copies;
 mod field;
 mod fields;
 mod op;
@@ -37,6 +38,7 @@ mod upsert;
 mod value;
 
 pub use bytes::Bytes;
+pub use copies::{TryClone, clone_all};
 pub use field::{LONGEST_TEXT, read_field};
 pub use fields::Fields;
 pub use op::{Change, MOST_OPS, Op, Ops, apply_ops, copy_change, default_row};
@@ -49,4 +51,4 @@ pub use schema::{Column, Columns, MOST_COLUMNS, MOST_KEYS, Schema};
 pub use sequence::Sequence;
 pub use text::{Text, Texts};
 pub use upsert::{Upsert, read_ops, read_upsert};
-pub use value::{Kind, Row, Value, copy_row, copy_value};
+pub use value::{Kind, Row, Value, copy_row};

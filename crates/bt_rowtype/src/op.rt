@@ -3,10 +3,11 @@ ghost use Rattle.std.specs.Prelude.{◌≡◌, IfOk, OnOk, drop};
 ghost use Rattle.bt_rowtype.specs.Ops as spec;
 ghost use Rattle.bt_rowtype.specs.Values.{default_of};
 
+use crate::copies::{TryClone, clone_all};
 use crate::schema::{Column, Schema};
 use crate::sequence::Sequence;
 use crate::text::Text;
-use crate::value::{Kind, Row, Value, copy_row, copy_value};
+use crate::value::{Kind, Row, Value, copy_row};
 use std::alloc::{AllocError, Global};
 
 /// The most operations of an upsert.
@@ -74,7 +75,7 @@ fn set_value(
     ensures { OnOk result (values.new.items ≡ spec.after_op values.old.items (Op.Set place value.now)) }
 {
     if place < values.len() {
-        values[place] = copy_value(alloc, value)?;
+        values[place] = value.try_clone(alloc)?;
     }
     Ok(())
 }
@@ -115,23 +116,13 @@ pub fn apply_ops(alloc: Global, row: Row, ops: &[Op]) -> Result<Row, AllocError>
     Ok(Row::new(values))
 }
 
-fn copy_op(alloc: Global, op: &Op) -> Result<Op, AllocError>
-    ensures { IfOk result (λ copy. copy ≡ op.now) }
-{
-    match op {
-        Op::Set(place, value) => Ok(Op::Set(*place, copy_value(alloc, value)?)),
-        Op::Add(place, number) => Ok(Op::Add(*place, *number)),
+impl TryClone for Op {
+    fn try_clone(&self, alloc: Global) -> Result<Self, AllocError> {
+        match self {
+            Op::Set(place, value) => Ok(Op::Set(*place, value.try_clone(alloc)?)),
+            Op::Add(place, number) => Ok(Op::Add(*place, *number)),
+        }
     }
-}
-
-fn copy_ops(alloc: Global, ops: &[Op]) -> Result<Ops, AllocError>
-    ensures { IfOk result (λ copy. copy ≡ ops.now) }
-{
-    let mut copies = Ops::with_capacity(alloc, ops.len())?;
-    for op in ops {
-        copies.push(copy_op(alloc, op)?)?;
-    }
-    Ok(copies)
 }
 
 /// A copy of a change.
@@ -140,6 +131,6 @@ pub fn copy_change(alloc: Global, change: &Change) -> Result<Change, AllocError>
 {
     Ok(Change {
         base: copy_row(alloc, &change.base)?,
-        ops: copy_ops(alloc, change.ops.as_slice())?,
+        ops: Sequence::from_vec(clone_all(alloc, change.ops.as_slice())?),
     })
 }
