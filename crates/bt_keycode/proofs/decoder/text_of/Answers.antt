@@ -1,5 +1,5 @@
 use Rattle.std.proofs.Common.{◌∙◌, sym, le-leb}
-use Rattle.bt_rowtype.proofs.Utf8.{no_text, text_by_length}
+use Rattle.bt_rowtype.proofs.offered.Texts.{no_text, text_by_length}
 use Rattle.bt_keycode.proofs.decoder.text_of.Goals as goal
 
 pub returns-in_ok-new-in-Ok-clause-in_range : goal.returns-in_ok-new-in-Ok-clause-in_range
