@@ -145,6 +145,7 @@ fault_of schema item (Add place n) = add_fault (open_kind schema place)
 abbrev pub OpFits : Schema → Op → Type 0
 OpFits schema op = (item : ℕ) → fault_of schema item op ≡ None
 
+-- each of them
 abbrev pub OpsFit : Schema → List Op → Type 0
 OpsFit schema [] = Unit {0}
 OpsFit schema (op ∷ ops) = OpFits schema op × OpsFit schema ops
