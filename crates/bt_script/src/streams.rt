@@ -56,16 +56,12 @@ pub fn read_script<R: Read>(alloc: Global, reader: &mut Counted<R>) -> Result<Ve
     'pieces: loop {
         let left = SCRIPT_LIMIT - script.len();
         let room = piece.len().min(left + 1);
-        let Ok(given) = reader.read(&mut piece[..room]) else {
-            return Err(RunFault::Read);
-        };
-        if given == 0 {
-            return Ok(script);
+        match reader.read(&mut piece[..room]) {
+            Ok(0) => return Ok(script),
+            Ok(given) if given > left => return Err(RunFault::Read),
+            Ok(given) => script.extend_from_slice(&piece[..given])?,
+            Err(_) => return Err(RunFault::Read),
         }
-        if given > left {
-            return Err(RunFault::Read);
-        }
-        script.extend_from_slice(&piece[..given])?;
     }
 }
 

@@ -13,8 +13,8 @@ with_last remaining a b c kept last given before bytes long count =
     Gave-trans remaining a b c kept last before (bytes, counted)
 
 -- the last read gave a byte over the limit
-pub returns-then-given-left-clause-at_most : goal.returns-then-given-left-clause-at_most
-returns-then-given-left-clause-at_most g c =
+pub returns-in-Ok-clause-at_most : goal.returns-in-Ok-clause-at_most
+returns-in-Ok-clause-at_most g c =
     let kept = c.pieces.script.items in
     let last = take c.in-Ok.given c.read.new.buf in
     let read = c.in-Ok.ensures in (
@@ -23,8 +23,8 @@ returns-then-given-left-clause-at_most g c =
       with_last g.R.Read.remaining c.args.reader.now c.pieces.reader c.read.new.self kept last c.in-Ok.given c.pieces.invariant.so_far read.bytes.0 read.bound.1 read.count,
     )
 
-pub returns-then-given-left-clause-read : goal.returns-then-given-left-clause-read
-returns-then-given-left-clause-read g c =
+pub returns-in-Ok-clause-read : goal.returns-in-Ok-clause-read
+returns-in-Ok-clause-read g c =
     let kept = c.pieces.script.items in
     let last = take c.in-Ok.given c.read.new.buf in
     let read = c.in-Ok.ensures in
@@ -35,26 +35,26 @@ returns-then-given-left-clause-read g c =
     )
 
 -- what was read and not yet kept counts too
-pub returns-in_err-extend_from_slice-clause-at_most : goal.returns-in_err-extend_from_slice-clause-at_most
-returns-in_err-extend_from_slice-clause-at_most g c =
+pub returns-in_err-extend_from_slice-in-Ok-2-clause-at_most : goal.returns-in_err-extend_from_slice-in-Ok-2-clause-at_most
+returns-in_err-extend_from_slice-in-Ok-2-clause-at_most g c =
     let kept = c.pieces.script.items in
-    let last = take c.in-Ok.given c.read.new.buf in
-    let read = c.in-Ok.ensures in (
+    let last = take c.in-Ok-2.given c.read.new.buf in
+    let read = c.in-Ok-2.ensures in (
       kept ++ last,
-      grind (arith, length-append {A = ℕ}, c.in-Ok.ensures),
-      with_last g.R.Read.remaining c.args.reader.now c.pieces.reader c.read.new.self kept last c.in-Ok.given c.pieces.invariant.so_far read.bytes.0 read.bound.1 read.count,
+      grind (arith, length-append {A = ℕ}, c.in-Ok-2.ensures),
+      with_last g.R.Read.remaining c.args.reader.now c.pieces.reader c.read.new.self kept last c.in-Ok-2.given c.pieces.invariant.so_far read.bytes.0 read.bound.1 read.count,
     )
 
-pub returns-in_err-extend_from_slice-clause-memory : goal.returns-in_err-extend_from_slice-clause-memory
-returns-in_err-extend_from_slice-clause-memory g c =
+pub returns-in_err-extend_from_slice-in-Ok-2-clause-memory : goal.returns-in_err-extend_from_slice-in-Ok-2-clause-memory
+returns-in_err-extend_from_slice-in-Ok-2-clause-memory g c =
     let kept = c.pieces.script.items in
-    let last = take c.in-Ok.given c.read.new.buf in
-    let read = c.in-Ok.ensures in
+    let last = take c.in-Ok-2.given c.read.new.buf in
+    let read = c.in-Ok-2.ensures in
     λ _. (
       search rules,
       (
         kept ++ last,
-        grind (arith, length-append {A = ℕ}, c.in-Ok.ensures),
-        with_last g.R.Read.remaining c.args.reader.now c.pieces.reader c.read.new.self kept last c.in-Ok.given c.pieces.invariant.so_far read.bytes.0 read.bound.1 read.count,
+        grind (arith, length-append {A = ℕ}, c.in-Ok-2.ensures),
+        with_last g.R.Read.remaining c.args.reader.now c.pieces.reader c.read.new.self kept last c.in-Ok-2.given c.pieces.invariant.so_far read.bytes.0 read.bound.1 read.count,
       ),
     )
