@@ -1,9 +1,10 @@
 -- What the parts of the parser find, in the words of the commands.
-use Rattle.std.specs.Prelude.{ℕ, ◌≡◌, Bool, true, false, List, [], ◌∷◌, ◌++◌, Option, Some, None, if◌then◌else◌, drop}
-use Rattle.bt_script.specs.Commands.{Answer, Inside, closing_of, command_of, commands, commands_from, item_from, opened, or_syntax, unfinished}
+use Rattle.std.specs.Prelude.{ℕ, ◌<◌, ◌≡◌, Bool, true, false, List, [], ◌∷◌, ◌++◌, Option, Some, None, if◌then◌else◌, drop}
+use Rattle.bt_script.specs.Commands.{Answer, Finds, Inside, NextPast, closing_of, command_of, commands, commands_from, item_from, opened, or_syntax, unfinished}
 use Rattle.bt_script.specs.Lines.{is_blank, lines, without_spaces, words}
 use Rattle.bt_script.specs.declared.command.Command.{Command}
 use Rattle.bt_script.specs.declared.command.Item.{Item}
+use Rattle.bt_script.specs.declared.command.Parsed.{Parsed}
 
 -- some messages and one more, where all are there
 abbrev pub with_last : {A : Type 0} → Option (List A) → Option A → Option (List A)
@@ -28,3 +29,11 @@ IsBlock script at closing block closed next = (head : List ℕ)
 -- the commands of a head line and the lines behind it
 abbrev pub headed : List ℕ → List (List ℕ) → List Answer
 headed head more = (opened head (closing_of (words head))).1 ++ commands_from (opened head (closing_of (words head))).0 more
+
+-- what was found is the command of a head line and of the script from a place on, behind the head line
+abbrev pub FindsHeaded : Parsed → List ℕ → List ℕ → ℕ → Type 0
+FindsHeaded parsed script head at = Finds parsed script (headed head (lines (drop at script)))
+
+-- the next place is past each place before this one, and in the script or at its end
+abbrev pub NextBehind : Parsed → List ℕ → ℕ → Type 0
+NextBehind parsed script at = (before : ℕ) → before < at → NextPast parsed before script

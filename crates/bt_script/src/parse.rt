@@ -1,7 +1,7 @@
 //! The parser of commands.
 ghost use Rattle.std.specs.Prelude.{◌≡◌, ◌==◌, ◌∷◌, ◌<◌, ◌≤◌, [], IfOk, List, None, Some, codes, drop, false, length, map, not, option_map, true, ℕ};
 ghost use Rattle.std.specs.List.{list_all};
-ghost use Rattle.bt_script.specs.Blocks.{IsBlock, and_line, ended, headed};
+ghost use Rattle.bt_script.specs.Blocks.{FindsHeaded, IsBlock, NextBehind, and_line, ended};
 ghost use Rattle.bt_script.specs.Commands as spec;
 ghost use Rattle.bt_script.specs.Lines as text;
 
@@ -298,8 +298,8 @@ fn parse_batch(
     requires within { at ≤ length script.now }
     requires words { map (λ w. w.now) words.now ≡ text.words head.now }
     requires batch { spec.begins (map (λ w. w.now) words.now) (codes "batch") ≡ true }
-    ensures found { IfOk result (λ parsed. spec.Finds parsed script.now (headed head.now (text.lines (drop at script.now)))) }
-    ensures past { IfOk result (λ parsed. (before : ℕ) → before < at → spec.NextPast parsed before script.now) }
+    ensures found { IfOk result (λ parsed. FindsHeaded parsed script.now head.now at) }
+    ensures past { IfOk result (λ parsed. NextBehind parsed script.now at) }
 {
     let Block {
         content,
@@ -320,8 +320,8 @@ fn parse_scan(
     requires words { map (λ w. w.now) words.now ≡ text.words head.now }
     requires no_batch { spec.begins (map (λ w. w.now) words.now) (codes "batch") ≡ false }
     requires scan { spec.begins (map (λ w. w.now) words.now) (codes "scan") ≡ true }
-    ensures found { IfOk result (λ parsed. spec.Finds parsed script.now (headed head.now (text.lines (drop at script.now)))) }
-    ensures past { IfOk result (λ parsed. (before : ℕ) → before < at → spec.NextPast parsed before script.now) }
+    ensures found { IfOk result (λ parsed. FindsHeaded parsed script.now head.now at) }
+    ensures past { IfOk result (λ parsed. NextBehind parsed script.now at) }
 {
     let Block {
         content,
@@ -356,7 +356,7 @@ fn parse_line(alloc: Global, head: &[u8], words: &[&[u8]], at: usize) -> Result<
     requires words { map (λ w. w.now) words.now ≡ text.words head.now }
     requires no_batch { spec.begins (map (λ w. w.now) words.now) (codes "batch") ≡ false }
     requires no_scan { spec.begins (map (λ w. w.now) words.now) (codes "scan") ≡ false }
-    ensures found { IfOk result (λ parsed. (script : List ℕ) → spec.Finds parsed script (headed head.now (text.lines (drop at script)))) }
+    ensures found { IfOk result (λ parsed. (script : List ℕ) → FindsHeaded parsed script head.now at) }
     ensures past { IfOk result (λ parsed. (before : ℕ) (script : List ℕ) → before < at → at ≤ length script → spec.NextPast parsed before script) }
 {
     let command = line_command(alloc, head, words)?;
@@ -366,8 +366,8 @@ fn parse_line(alloc: Global, head: &[u8], words: &[&[u8]], at: usize) -> Result<
 // The command of a head line, behind which its block starts at a place.
 fn parse_headed(alloc: Global, script: &[u8], head: &[u8], at: usize) -> Result<Parsed, AllocError>
     requires { at ≤ length script.now }
-    ensures found { IfOk result (λ parsed. spec.Finds parsed script.now (headed head.now (text.lines (drop at script.now)))) }
-    ensures past { IfOk result (λ parsed. (before : ℕ) → before < at → spec.NextPast parsed before script.now) }
+    ensures found { IfOk result (λ parsed. FindsHeaded parsed script.now head.now at) }
+    ensures past { IfOk result (λ parsed. NextBehind parsed script.now at) }
 {
     let words = words(alloc, head)?;
     if begins(&words, b"batch") {
