@@ -3,7 +3,7 @@ use Rattle.std.proofs.Common.{◌≡◌, ℕ, true, false, List, [], ◌∷◌, 
 use Rattle.bt_messages.specs.Merges.{messages_past, messages_up_to}
 use Rattle.bt_keycode.specs.Keys.{AllFrom, IsSorted, is_before}
 use Rattle.bt_messages.specs.Messages.{Messages, with_messages}
-use Rattle.bt_messages.proofs.Placed.{first_stays, newer_first, newer_last}
+use Rattle.bt_messages.proofs.offered.Placed.{first_stays, newer_first, newer_last}
 use Rattle.bt_keycode.proofs.offered.Order.{from_earlier}
 
 -- the older messages up to the key of the first new one, that one, and then the others

@@ -1,6 +1,6 @@
 -- What messages make of rows.
-use Rattle.std.specs.Prelude.{ℕ, cond, not, List, [], ◌∷◌, Option, Some, None}
-use Rattle.std.specs.FinMap.{find, put}
+use Rattle.std.specs.Prelude.{ℕ, ◌≡◌, cond, not, IsTrue, List, [], ◌∷◌, Option, Some, None}
+use Rattle.std.specs.FinMap.{find, is_sorted, put}
 use Rattle.std.specs.FinMap.Entries.{where_key}
 use Rattle.std.specs.Ordering.{eq_by_cmp}
 use Rattle.bt_keycode.specs.Keys.{key_cmp}
@@ -13,6 +13,10 @@ abbrev pub effect_of : {V D : Type 0} → (Option V → D → V) → Option V �
 effect_of merged old (Put value) = Some value
 effect_of merged old Del = None
 effect_of merged old (Ups delta) = Some (merged old delta)
+
+-- what an upsert of an index value makes: the new value, whatever was there
+abbrev pub merged_entry : {E : Type 0} → Option E → E → E
+merged_entry old new = new
 
 -- a map: keys, rising, with their values
 abbrev pub Rows : Type 0 → Type 0
@@ -34,3 +38,7 @@ module _ {V M : Type 0} (effect : Option V → M → Option V) where
   abbrev pub value_after : List ℕ → Messages M → Option V → Option V
   value_after k [] old = old
   value_after k (m ∷ ms) old = value_after k ms (cond (eq_by_cmp key_cmp k m.0) (effect old m.1) old)
+
+  -- one order of messages does to every map, sorted by key, what another one does
+  abbrev pub DoTheSame : Messages M → Messages M → Type 0
+  DoTheSame messages others = (rows : Rows V) → IsTrue (is_sorted key_cmp rows) → rows_after messages rows ≡ rows_after others rows

@@ -16,6 +16,7 @@
 #![tactic(auto)]
 
 mod buffer;
+mod entry;
 mod iter;
 mod message;
 mod packet;
@@ -23,6 +24,7 @@ mod rest;
 mod sorted;
 
 pub use buffer::Buffer;
+pub use entry::Entry;
 pub use iter::Messages;
 pub use message::{Merge, Message, effect, effect_borrowed};
 pub use packet::Packet;

@@ -1,4 +1,4 @@
--- What messages make of rows, key by key.
+-- What messages make of rows, key by key: older messages before newer ones, and a batch sorted by key as the batch itself.
 use Rattle.std.proofs.Common.{◌≡◌, ℕ, Bool, true, false, cond, not, T, List, [], ◌∷◌, ◌++◌, refl, sym, ap, ◌∙◌, Option, Some, None, if◌then◌else◌}
 use Rattle.std.specs.Ordering.{eq_by_cmp, is_eq}
 use Rattle.std.specs.FinMap.{find, nat_cmp-IsAntisymmetric, slice_cmp-IsAntisymmetric}
@@ -8,7 +8,7 @@ use Rattle.bt_messages.specs.Effects.{Rows, rows_after, value_after, with_value}
 use Rattle.bt_keycode.specs.Keys.{AllFrom, IsSorted, is_before, key_cmp}
 use Rattle.bt_messages.specs.Messages.{Messages, sorted_batch, with_message, with_messages}
 use Rattle.bt_keycode.proofs.offered.Order.{apart, not_before_itself, same_key, total_keys}
-use Rattle.bt_messages.proofs.Placed.{sorted-with_messages}
+use Rattle.bt_messages.proofs.offered.Placed.{sorted-with_messages}
 
 module _ {V M : Type 0} (effect : Option V → M → Option V) where
   turned : (b : Bool) (x y : Option V) → cond (not b) x y ≡ cond b y x
