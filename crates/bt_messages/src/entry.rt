@@ -63,6 +63,6 @@ impl Merge for Entry {
     }
 
     fn copy_delta(alloc: Global, delta: &Entry) -> Result<Entry, AllocError> {
-        copy_entry(alloc, delta)
+        delta.copy(alloc)
     }
 }
