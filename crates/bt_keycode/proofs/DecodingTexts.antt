@@ -1,4 +1,4 @@
--- The code of a text is read as the text, and nothing else is.
+-- The code of a text is read as the text, and nothing else is, for `unescape` and for one code of one list.
 use Rattle.std.proofs.Common.{◌≡◌, ℕ, zero, suc, ◌==◌, List, [], ◌∷◌, ◌++◌, Option, Some, None, false, if◌then◌else◌, append_assoc, refl, sym, ap, ◌∙◌, inl, inr, arith, length, length-append, ◌<◌}
 use Rattle.std.proofs.lemmas.Bool.{cases_Bool, eqb-true}
 use Rattle.bt_keycode.specs.Codes.{escaped}

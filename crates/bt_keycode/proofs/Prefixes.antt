@@ -1,4 +1,4 @@
--- Keys are ordered by their first eight bytes, where these differ, and else by the next eight, where these do.
+-- Keys are ordered by their first eight bytes, where these differ, and else by the next eight, where these do: what `Key::compare` stands on.
 use Rattle.std.proofs.Common.{◌≡◌, ◌≢◌, ℕ, ◌^◌, ◌<◌, ◌≤◌, List, [], drop, length, refl, sym, ap, ◌∙◌, ◌⊎◌, inl, inr}
 use Rattle.std.proofs.Math.ListN.{drop_of_length-le}
 use Rattle.std.specs.Cmp.{ranks}

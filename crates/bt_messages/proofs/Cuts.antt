@@ -1,4 +1,4 @@
--- Sorted messages cut at keys.
+-- Sorted messages cut at keys: what `take_range`, `Rest`, `iter_from` and `add` stand on.
 use Rattle.std.proofs.Common.{◌≡◌, ℕ, zero, suc, ◌<◌, ◌≤◌, Bool, true, false, not, ◌&&◌, cond, List, [], ◌∷◌, ◌++◌, ◌-◌, length, length-drop, take, drop, get_or, append_assoc, Option, Some, None, refl, sym, ap, subst, ◌∙◌, true≢false, arith}
 use Rattle.std.proofs.Math.Seq.{take-length}
 use Rattle.std.specs.List.{filter}

@@ -1,4 +1,4 @@
--- One pass over older and newer messages.
+-- One pass over older and newer messages, for the loop of `merge`.
 use Rattle.std.proofs.Common.{◌≡◌, ℕ, true, false, List, [], ◌∷◌, ◌++◌, append_assoc, refl, sym, ap, subst, ◌∙◌, if◌then◌else◌}
 use Rattle.bt_messages.specs.Merges.{messages_past, messages_up_to}
 use Rattle.bt_keycode.specs.Keys.{AllFrom, IsSorted, is_before}

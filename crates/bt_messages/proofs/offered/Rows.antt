@@ -35,10 +35,6 @@ module _ {V M : Type 0} (effect : Option V → M → Option V) where
       ∙ under_test (eq_by_cmp key_cmp q m.0) (effect (find key_cmp m.0 rows) m.1) (effect (find key_cmp q rows) m.1) (find key_cmp q rows)
       (λ e. ap (λ k. effect (find key_cmp k rows) m.1) (sym (same_key q m.0 e))))
 
-  pub value_after-append : (q : List ℕ) (ms ns : Messages M) (o : Option V) → value_after effect q (ms ++ ns) o ≡ value_after effect q ns (value_after effect q ms o)
-  value_after-append q [] ns o = refl
-  value_after-append q (m ∷ ms) ns o = value_after-append q ms ns (cond (eq_by_cmp key_cmp q m.0) (effect o m.1) o)
-
   -- messages of later keys change nothing
   pub value_before : (q k : List ℕ) (ms : Messages M) (o : Option V) → is_before q k ≡ true → AllFrom k ms → value_after effect q ms o ≡ o
   value_before q k [] o e h = refl
