@@ -1,4 +1,4 @@
--- Lists and their first bytes with zeros after them.
+-- Lists and their first bytes with zeros after them, for the prefixes of keys.
 use Rattle.std.proofs.Common.{◌≡◌, ℕ, zero, suc, ◌<◌, List, [], ◌∷◌, drop, get_or, refl, subst, sym, ◌⊎◌, inl, inr, arith}
 use Rattle.std.specs.Cmp.{nat_cmp_is, ranks, tied_itself}
 use Rattle.std.specs.Cmp.Lexicographic.{nat_list_cmp_total, slice_cmp}

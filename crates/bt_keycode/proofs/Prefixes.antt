@@ -1,4 +1,4 @@
--- Keys are ordered by eight of their bytes as a number, where those before are the same, and short keys at last by their length.
+-- Keys are ordered by eight of their bytes as a number, where those before are the same, and short keys at last by their length: what `Key::compare` stands on.
 use Rattle.std.proofs.Common.{◌≡◌, ◌≢◌, ℕ, zero, suc, ◌+◌, ◌++◌, ◌^◌, ◌<◌, ◌≤◌, List, [], ◌∷◌, drop, length, refl, sym, ap, ◌∙◌, ◌⊎◌, inl, inr, arith, zero-add, suc-add, lit≤}
 use Rattle.std.proofs.Math.Seq.{drop-nil}
 use Rattle.std.specs.Cmp.{nat_cmp_is, ranks}

@@ -3,7 +3,7 @@ use Rattle.std.proofs.Common.{◌≡◌, Bool, true, false, List, [], ◌∷◌,
 use Rattle.std.specs.List.{zip}
 use Rattle.std.specs.declared.option.Option.TheVariants.{None, Some}
 use Rattle.bt_messages.specs.Messages.{AllFrom, IsSorted}
-use Rattle.bt_messages.proofs.Placed.{first_stays, newer_last}
+use Rattle.bt_messages.proofs.offered.Placed.{first_stays, newer_last}
 use Rattle.bt_node.specs.Keys.{Key, AllWithin, IsRising}
 use Rattle.bt_node.specs.Messages.{Messages, with_messages}
 use Rattle.bt_node.specs.Loops.{passed}

@@ -2,7 +2,7 @@
 use Rattle.std.proofs.Common.{◌≡◌, ◌∙◌, T, None}
 use Rattle.std.specs.FinMap.{is_sorted}
 use Rattle.bt_messages.specs.Messages.{sorted_batch}
-use Rattle.bt_messages.proofs.Rows.{rows_after-sorted_batch}
+use Rattle.bt_messages.proofs.offered.Rows.{rows_after-sorted_batch}
 use Rattle.bt_node.specs.Fits.{IsFit, IsRoomy}
 use Rattle.bt_node.specs.Flushes.{holds, sunk}
 use Rattle.bt_node.specs.Keys.{key_cmp}

@@ -1,5 +1,5 @@
--- Messages placed among sorted ones.
-use Rattle.std.proofs.Common.{◌≡◌, ℕ, true, false, List, [], ◌∷◌, length, refl, ap, ◌∙◌, if◌then◌else◌, arith}
+-- Messages placed among sorted ones: they stay sorted, and what comes first stays first. Proofs on lists of pending messages stand on these.
+use Rattle.std.proofs.Common.{◌≡◌, ℕ, true, false, List, [], ◌∷◌, refl, ap, ◌∙◌, if◌then◌else◌}
 use Rattle.bt_keycode.specs.Keys.{AllFrom, IsSorted, is_before}
 use Rattle.bt_messages.specs.Messages.{Messages, with_message, with_messages}
 use Rattle.bt_keycode.proofs.offered.Order.{from_earlier, not_after}
@@ -46,7 +46,3 @@ module _ {M : Type 0} where
   pub alone : (ms : Messages M) → IsSorted ms → with_messages ms [] ≡ ms
   alone [] h = refl
   alone (m ∷ ms) h = newer_last m ms h.0 ∙ ap (λ zs. m ∷ zs) (alone ms h.1)
-
-pub nothing : {X : Type 0} (xs : List X) → length xs ≡ 0 → xs ≡ []
-nothing [] e = refl
-nothing (x ∷ xs) e = absurd (omega (arith, e))

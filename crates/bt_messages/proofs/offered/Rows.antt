@@ -1,5 +1,5 @@
--- What messages make of rows, key by key.
-use Rattle.std.proofs.Common.{◌≡◌, ℕ, Bool, true, false, cond, not, T, List, [], ◌∷◌, ◌++◌, refl, sym, ap, ◌∙◌, Option, Some, None, if◌then◌else◌}
+-- What messages make of rows, key by key: older messages before newer ones, and a batch sorted by key as the batch itself.
+use Rattle.std.proofs.Common.{◌≡◌, ℕ, Bool, true, false, cond, not, T, List, [], ◌∷◌, refl, sym, ap, ◌∙◌, Option, Some, None, if◌then◌else◌}
 use Rattle.std.specs.Ordering.{eq_by_cmp, is_eq}
 use Rattle.std.specs.FinMap.{find, nat_cmp-IsAntisymmetric, slice_cmp-IsAntisymmetric}
 use Rattle.std.specs.FinMap.Entries.{find-put, find-where_key, is_sorted, is_sorted-put, is_sorted-where_key, same_entries}
@@ -8,7 +8,7 @@ use Rattle.bt_messages.specs.Effects.{Rows, rows_after, value_after, with_value}
 use Rattle.bt_keycode.specs.Keys.{AllFrom, IsSorted, is_before, key_cmp}
 use Rattle.bt_messages.specs.Messages.{Messages, sorted_batch, with_message, with_messages}
 use Rattle.bt_keycode.proofs.offered.Order.{apart, not_before_itself, same_key, total_keys}
-use Rattle.bt_messages.proofs.Placed.{sorted-with_messages}
+use Rattle.bt_messages.proofs.offered.Placed.{sorted-with_messages}
 
 module _ {V M : Type 0} (effect : Option V → M → Option V) where
   turned : (b : Bool) (x y : Option V) → cond (not b) x y ≡ cond b y x
@@ -34,10 +34,6 @@ module _ {V M : Type 0} (effect : Option V → M → Option V) where
       (find-with_value q m.0 (effect (find key_cmp m.0 rows) m.1) rows
       ∙ under_test (eq_by_cmp key_cmp q m.0) (effect (find key_cmp m.0 rows) m.1) (effect (find key_cmp q rows) m.1) (find key_cmp q rows)
       (λ e. ap (λ k. effect (find key_cmp k rows) m.1) (sym (same_key q m.0 e))))
-
-  pub value_after-append : (q : List ℕ) (ms ns : Messages M) (o : Option V) → value_after effect q (ms ++ ns) o ≡ value_after effect q ns (value_after effect q ms o)
-  value_after-append q [] ns o = refl
-  value_after-append q (m ∷ ms) ns o = value_after-append q ms ns (cond (eq_by_cmp key_cmp q m.0) (effect o m.1) o)
 
   -- messages of later keys change nothing
   pub value_before : (q k : List ℕ) (ms : Messages M) (o : Option V) → is_before q k ≡ true → AllFrom k ms → value_after effect q ms o ≡ o
