@@ -1,4 +1,4 @@
--- The ints that std's `parse` reads are those that fields spell.
+-- The ints that std's `parse` reads are those that fields spell. Serves reading an int.
 use Rattle.std.proofs.Common.{◌-◌, ℕ, ℤ, List, [], ◌∷◌, ◌<◌, ◌≤◌, ◌^◌, ◌≡◌, ◌≢◌, ◌∙◌, refl, sym, true, false, ◌==◌, ◌&&◌, length, drop, get_or, pos, neg_ℤ, Some, None, Result, Ok, Err, arith, rules, inl, inr, nat_le, eq-eqb, ap}
 use Rattle.std.proofs.lemmas.Bool.{cases_Bool, eqb-true}
 use Rattle.std.proofs.lemmas.Bool.Decides.{nat_tests}

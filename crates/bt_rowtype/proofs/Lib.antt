@@ -1,12 +1,13 @@
 pub mod Columnwise
 pub mod Exits
+pub mod Groups
 pub mod IntTexts
 pub mod Marks
-pub mod OnLiterals
+pub mod offered
 pub mod Pieces
 pub mod Plain
-pub mod Utf8
 pub mod Quotes
+pub mod ReadFits
 pub mod RecordTexts
-pub mod Upserts
+pub mod RowFits
 pub mod WorkedOps

@@ -1,4 +1,6 @@
+pub mod Answers
 pub mod Ints
+pub mod Limits
 pub mod Ops
 pub mod Pieces
 pub mod Records

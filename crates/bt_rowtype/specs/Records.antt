@@ -1,9 +1,11 @@
 -- One record in a line: its fields, and its text.
-use Rattle.std.specs.Prelude.{ℕ, ◌≡◌, ◌==◌, ◌||◌, ◌++◌, ◌∷◌, [], Bool, false, List, length, Option, None, option_map, if◌then◌else◌}
+use Rattle.std.specs.Prelude.{ℕ, ◌≡◌, ◌==◌, ◌||◌, ◌++◌, ◌∷◌, [], Bool, false, true, List, length, Option, None, option_map, if◌then◌else◌}
 use Rattle.std.specs.List.{list_any, slice_split}
 use Rattle.csv.specs.Machine.{next_record}
 use Rattle.csv.specs.Reading.{default_config, is_bom, strip_bom}
 use Rattle.csv.specs.Writing.{default_writer, is_blank, row_body}
+use Rattle.csv.specs.declared.error.ErrorKind.{ErrorKind}
+use Rattle.csv.specs.declared.error.ErrorKind.TheVariants as kind
 use Rattle.csv.specs.declared.parser.State.TheVariants as state
 
 -- the fields of the first record of a text, as csv reads it
@@ -40,3 +42,12 @@ parts_of text = slice_split (λ b. b == 44) text
 -- a text with something added at its end
 abbrev pub Grows : List ℕ → List ℕ → Type 0
 Grows old new = (added : List ℕ) × (new ≡ old ++ added)
+
+-- an error of memory, or of the reader underneath
+abbrev pub comes_of_reading : ErrorKind → Bool
+comes_of_reading kind.OutOfMemory = true
+comes_of_reading (kind.Io e) = true
+comes_of_reading (kind.Utf8 pos err) = false
+comes_of_reading (kind.UnequalLengths pos expected len) = false
+comes_of_reading (kind.Serialize why) = false
+comes_of_reading (kind.Deserialize pos err) = false

@@ -2,15 +2,15 @@
 ghost use Rattle.std.specs.Prelude.{◌≡◌, ◌==◌, ◌++◌, ◌∷◌, [], IfOk, OnOk, OnErr, List, codes, if◌then◌else◌, length, map, option_map, ℕ};
 ghost use Rattle.std.specs.Fmt.{signed_decimal};
 ghost use Rattle.std.specs.List.{list_any};
-ghost use Rattle.csv.specs.Reading.{strip_bom};
+ghost use Rattle.csv.specs.Reading.{error_kind, strip_bom};
 ghost use Rattle.csv.specs.Records.{fields_of};
 ghost use Rattle.csv.specs.Writing.{default_writer, escaped, field_text, needs_quotes as text_needs_quotes, next_sep, quoted};
-ghost use Rattle.bt_rowtype.specs.Records.{Grows, csv_record, has_mark as is_behind_mark, is_refused, is_special, parts_of, record_of, record_text};
+ghost use Rattle.bt_rowtype.specs.Records.{Grows, comes_of_reading, csv_record, has_mark as is_behind_mark, is_refused, is_special, parts_of, record_of, record_text};
 ghost use Rattle.bt_rowtype.specs.Values.{text_of};
 
 use crate::fields::Fields;
 use crate::value::Value;
-use csv::{ByteRecord, ReaderBuilder};
+use csv::{ByteRecord, Error, ErrorKind, ReaderBuilder};
 use itoa::Buffer;
 use std::alloc::{AllocError, Global};
 
@@ -27,6 +27,13 @@ fn fields_from(alloc: Global, found: &ByteRecord) -> Result<Fields, AllocError>
     Ok(fields)
 }
 
+// Whether an error is one of memory or of the reader underneath.
+fn is_of_reading(error: &Error) -> bool
+    ensures { result ≡ comes_of_reading (error_kind error.now) }
+{
+    matches!(error.kind(), ErrorKind::OutOfMemory | ErrorKind::Io(_))
+}
+
 // The first record of a text, as csv reads it.
 fn read_csv(alloc: Global, text: &[u8]) -> Result<Option<ByteRecord>, AllocError>
     ensures { IfOk result (λ found. option_map fields_of found ≡ csv_record (strip_bom text.now)) }
@@ -38,8 +45,12 @@ fn read_csv(alloc: Global, text: &[u8]) -> Result<Option<ByteRecord>, AllocError
     match reader.read_byte_record(&mut record) {
         Ok(true) => Ok(Some(record)),
         Ok(false) => Ok(None),
-        // a slice in memory is read without a fault, so only memory can be wanting
-        Err(_) => Err(AllocError),
+        // a slice is read without a fault, so that only memory can be wanting
+        Err(error) => {
+            let is_of_reading = is_of_reading(&error);
+            prove!(is_of_reading);
+            Err(AllocError)
+        }
     }
 }
 

@@ -1,5 +1,5 @@
 use Rattle.std.proofs.Common.{◌≡◌, rules, subst, sym, take}
-use Rattle.bt_rowtype.proofs.Utf8.{no_text, short_text}
+use Rattle.bt_rowtype.proofs.offered.Texts.{no_text, short_text}
 use Rattle.bt_rowtype.specs.declared.value.Kind.TheVariants as kind
 use Rattle.bt_rowtype.specs.declared.value.Value.TheVariants as value
 use Rattle.bt_keycode.specs.Decoding.{BeginsWith}

@@ -1,5 +1,5 @@
 use Rattle.std.proofs.Common.{sym, take}
-use Rattle.bt_rowtype.proofs.Utf8.{no_text, short_text}
+use Rattle.bt_rowtype.proofs.offered.Texts.{no_text, short_text}
 use Rattle.bt_rowtype.specs.declared.value.Value.TheVariants as value
 use Rattle.bt_keycode.proofs.Decoding.{no_code, no_text_code, part_bound, text_found}
 use Rattle.bt_keycode.proofs.decoder.skip_text.Goals as goal
