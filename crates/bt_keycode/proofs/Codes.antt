@@ -1,4 +1,4 @@
--- Codes are ordered as what they are the codes of.
+-- Codes are ordered as what they are the codes of, value by value: what `cmp_rows` and offered/Codes stand on.
 use Rattle.std.proofs.Common.{◌≡◌, ℕ, ◌^◌, ◌<◌, Bool, true, false, List, [], ◌∷◌, ◌++◌, append_assoc, length, refl, sym, ap, ◌∙◌, arith, ℤ}
 use Rattle.std.specs.Cmp.{int_ranks, nat_cmp_is}
 use Rattle.std.specs.Cmp.Lexicographic.{slice_cmp}

@@ -1,5 +1,5 @@
--- One code stands for one list of values of given kinds.
-use Rattle.std.proofs.Common.{◌≡◌, ℕ, List, [], ◌∷◌, ◌++◌, map, take, drop, length, ◌-◌, ◌<◌, ◌≤◌, append_assoc, append-nil, get_or, ◌+◌, refl, sym, ap, subst, ◌∙◌, Bool, true, false, Some, None, Result, Err, ℤ, SFits, w64, to_z, of_z, arith}
+-- One code stands for one list of values of given kinds: what `decode` stands on.
+use Rattle.std.proofs.Common.{◌≡◌, ℕ, List, [], ◌∷◌, ◌++◌, map, take, drop, length, ◌-◌, ◌<◌, ◌≤◌, append_assoc, append-nil, get_or, ◌+◌, refl, sym, ap, subst, ◌∙◌, Bool, true, false, Some, Result, Err, ℤ, SFits, w64, to_z, of_z, arith}
 use Rattle.bt_rowtype.specs.declared.value.Kind.{Kind}
 use Rattle.bt_rowtype.specs.declared.value.Kind.TheVariants as kind
 use Rattle.bt_rowtype.specs.declared.value.Value.{Value}
@@ -7,9 +7,11 @@ use Rattle.bt_rowtype.specs.declared.value.Value.TheVariants as value
 use Rattle.bt_keycode.specs.Codes.{AreInRange, IsCodeOf, code_of, code_of_value, escaped, kind_of, raised}
 use Rattle.bt_keycode.specs.Prefixes.{eight_bytes, first_eight}
 use Rattle.bt_rowtype.specs.Values.{is_text}
+use Rattle.bt_rowtype.proofs.offered.Texts.{long_text}
 use Rattle.std.proofs.lemmas.Int.{to_z-of_z}
-use Rattle.std.proofs.lemmas.List.{map-append, take-append-drop, take_more}
-use Rattle.bt_keycode.specs.Decoding.{BeginsWith, BeginsWithAll, unescaped}
+use Rattle.std.proofs.Math.Seq.{take-length}
+use Rattle.std.proofs.lemmas.List.{length-take, map-append, take-append-drop, take_more}
+use Rattle.bt_keycode.specs.Decoding.{BeginsWith, BeginsWithAll, BeginsWithNo, BeginsWithNone, IsCode, IsNoCode, unescaped}
 use Rattle.bt_keycode.proofs.DecodingInts.{eight_and_others, eight_long, same_int}
 use Rattle.bt_keycode.proofs.DecodingTexts.{both_read, read_again, spelled, split_end}
 
@@ -112,6 +114,10 @@ int_found z number bytes fits up same long = rw (to_z-of_z w64 z fits) (int_begi
 
 -- ---- texts
 
+-- a first part is as long as it says, at most
+pub part_bound : (n most : ℕ) (xs : List ℕ) → n ≤ most → length (take n xs) ≤ most
+part_bound n most xs h = omega (arith, length-take n xs)
+
 -- what is read as a text within range is one
 pub text_found : (bytes text rest : List ℕ) → unescaped bytes ≡ Some (text, rest) → is_text text ≡ true → BeginsWith kind.Text bytes (value.Text text) rest
 text_found bytes text rest read fits = record {
@@ -123,21 +129,23 @@ text_found bytes text rest read fits = record {
 text_read : (bytes text rest : List ℕ) → BeginsWith kind.Text bytes (value.Text text) rest → unescaped bytes ≡ Some (text, rest)
 text_read bytes text rest b = ap unescaped (sym b.code ∙ split_end text rest) ∙ read_again text rest
 
--- where nothing is read, no text is there, and none where what is read is out of range
-pub no_code : (bytes : List ℕ) (other : Value) (rest : List ℕ) → unescaped bytes ≡ None → BeginsWith kind.Text bytes other rest → ⊥
-no_code bytes (value.Text text) rest none b = let read = text_read bytes text rest b in cc
-no_code bytes (value.Int n) rest none b = let k = b.of_kind in cc
-no_code bytes (value.Flag flag) rest none b = let k = b.of_kind in cc
+-- where no text of at most 255 bytes is read, none is there, nor where what is read is out of range
+pub no_code : (bytes : List ℕ) → ((text rest : List ℕ) → unescaped bytes ≡ Some (text, rest) → 255 < length text) → BeginsWithNo kind.Text bytes
+no_code bytes long (value.Text text) rest b =
+    let fits : is_text text ≡ true = b.in_range.0 in
+    let past : is_text text ≡ false = long_text text (long text rest (text_read bytes text rest b)) in
+    cc
+no_code bytes long (value.Int n) rest b = let k = b.of_kind in cc
+no_code bytes long (value.Flag flag) rest b = let k = b.of_kind in cc
 
-pub no_text_code : (bytes text rest : List ℕ) (other : Value) (more : List ℕ) → unescaped bytes ≡ Some (text, rest) → is_text text ≡ false →
-    BeginsWith kind.Text bytes other more → ⊥
-no_text_code bytes text rest (value.Text s) more read long b =
+pub no_text_code : (bytes text rest : List ℕ) → unescaped bytes ≡ Some (text, rest) → is_text text ≡ false → BeginsWithNo kind.Text bytes
+no_text_code bytes text rest read long (value.Text s) more b =
     let both = both_read text rest s more (sym read ∙ text_read bytes s more b) in
     let fits : is_text s ≡ true = b.in_range.0 in
     let same : is_text text ≡ is_text s = ap is_text both.0 in
     cc
-no_text_code bytes text rest (value.Int n) more read long b = let k = b.of_kind in cc
-no_text_code bytes text rest (value.Flag flag) more read long b = let k = b.of_kind in cc
+no_text_code bytes text rest read long (value.Int n) more b = let k = b.of_kind in cc
+no_text_code bytes text rest read long (value.Flag flag) more b = let k = b.of_kind in cc
 
 -- ---- lists
 
@@ -173,12 +181,15 @@ goes_on kinds i d bytes values new value code rest below pushed a b =
 
 -- where no further value is begun, no list of values is
 pub none_begins : (kinds : List Kind) (i : ℕ) (d : Kind) (bytes : List ℕ) (values : List Value) (code : List ℕ) → i < length kinds →
-    BeginsWithAll (take i kinds) bytes values code → ((other : Value) (rest : List ℕ) → BeginsWith (get_or kinds i d) code other rest → ⊥) →
-    (others : List Value) (rest : List ℕ) → BeginsWithAll kinds bytes others rest → ⊥
+    BeginsWithAll (take i kinds) bytes values code → BeginsWithNo (get_or kinds i d) code → BeginsWithNone kinds bytes
 none_begins kinds i d bytes values code below a none others rest b =
     let next = next_value values others (get_or kinds i d) (drop (i + 1) kinds) code rest a.in_range b.in_range
     (b.of_kinds ∙ split_at kinds i d below ∙ ap (λ ks. ks ++ (get_or kinds i d ∷ drop (i + 1) kinds)) (sym a.of_kinds)) (a.code ∙ sym b.code) in
     none next.0 next.1 next.2
+
+-- what holds of all first kinds holds of all
+pub of_all : (kinds : List Kind) (i : ℕ) (bytes : List ℕ) (values : List Value) (code : List ℕ) → i ≡ length kinds → BeginsWithAll (take i kinds) bytes values code → BeginsWithAll kinds bytes values code
+of_all kinds i bytes values code past a = subst (λ ks. BeginsWithAll ks bytes values code) (ap (λ n. take n kinds) past ∙ take-length kinds) a
 
 -- ---- whole codes
 
@@ -186,8 +197,7 @@ none_begins kinds i d bytes values code below a none others rest b =
 whole : (kinds : List Kind) (bytes : List ℕ) (values : List Value) → IsCodeOf kinds bytes values → BeginsWithAll kinds bytes values []
 whole kinds bytes values h = record { of_kinds = h.of_kinds; in_range = h.in_range; code = append-nil (code_of values) ∙ h.code }
 
-pub no_values : (kinds : List Kind) (bytes : List ℕ) → ((others : List Value) (rest : List ℕ) → BeginsWithAll kinds bytes others rest → ⊥) →
-    (values : List Value) → IsCodeOf kinds bytes values → ⊥
+pub no_values : (kinds : List Kind) (bytes : List ℕ) → BeginsWithNone kinds bytes → IsNoCode kinds bytes
 no_values kinds bytes none values h = none values [] (whole kinds bytes values h)
 
 -- the values that bytes begin with are the only ones whose code they can be, and only where nothing is left
@@ -197,3 +207,26 @@ one_list kinds bytes values rest a other h =
     let b = whole kinds bytes other h in
     let same = same_values values other rest [] a.in_range b.in_range (a.of_kinds ∙ sym b.of_kinds) (a.code ∙ sym b.code) in
     (sym same.0, same.1)
+
+-- values that bytes begin with, where the bytes are some code, have it
+pub all_there : (kinds : List Kind) (bytes : List ℕ) (values : List Value) (rest : List ℕ) → BeginsWithAll kinds bytes values rest → IsCode kinds bytes → IsCodeOf kinds bytes values
+all_there kinds bytes values rest a code = subst (IsCodeOf kinds bytes) (one_list kinds bytes values rest a code.0 code.1).0 code.1
+
+-- bytes that begin with values and go on are no code
+pub goes_past : (kinds : List Kind) (bytes : List ℕ) (values : List Value) (rest : List ℕ) → BeginsWithAll kinds bytes values rest → (rest ≡ [] → ⊥) → IsNoCode kinds bytes
+goes_past kinds bytes values rest a more other h = more (one_list kinds bytes values rest a other h).1
+
+-- bytes that are those of values with nothing behind are a code
+pub nothing_past : (kinds : List Kind) (bytes : List ℕ) (values : List Value) (rest : List ℕ) → BeginsWithAll kinds bytes values rest → rest ≡ [] → IsCode kinds bytes
+nothing_past kinds bytes values rest a none = (
+  values,
+  record {
+    of_kinds = a.of_kinds;
+    in_range = a.in_range;
+    code = sym (append-nil (code_of values)) ∙ ap (λ zs. code_of values ++ zs) (sym none) ∙ a.code;
+  },
+)
+
+pub nothing : {A : Type 0} (xs : List A) → length xs ≡ 0 → xs ≡ []
+nothing [] e = refl
+nothing (x ∷ xs) e = absurd (omega (arith, e))

@@ -1,5 +1,5 @@
--- The code of a text is read as the text, and nothing else is.
-use Rattle.std.proofs.Common.{◌≡◌, ℕ, zero, suc, ◌==◌, List, [], ◌∷◌, ◌++◌, Option, Some, None, false, if◌then◌else◌, append_assoc, refl, sym, ap, ◌∙◌, inl, inr}
+-- The code of a text is read as the text, and nothing else is, for `unescape` and for one code of one list.
+use Rattle.std.proofs.Common.{◌≡◌, ℕ, zero, suc, ◌==◌, List, [], ◌∷◌, ◌++◌, Option, Some, None, false, if◌then◌else◌, append_assoc, refl, sym, ap, ◌∙◌, inl, inr, arith, length, length-append, ◌<◌}
 use Rattle.std.proofs.lemmas.Bool.{cases_Bool, eqb-true}
 use Rattle.bt_keycode.specs.Codes.{escaped}
 use Rattle.bt_keycode.specs.Decoding.{after_bytes, unescaped}
@@ -32,7 +32,7 @@ read_again (suc n ∷ text) rest =
     ap (λ code. unescaped (code ++ (0 ∷ 1 ∷ rest))) (escaped-suc n text) ∙ ap (after_bytes (suc n ∷ [])) (read_again text rest)
 
 -- what was read with bytes before it
-read_after : (prefix : List ℕ) (read : Option (List ℕ × List ℕ)) (text rest : List ℕ) → after_bytes prefix read ≡ Some (text, rest) →
+pub read_after : (prefix : List ℕ) (read : Option (List ℕ × List ℕ)) (text rest : List ℕ) → after_bytes prefix read ≡ Some (text, rest) →
     (more : List ℕ) × (read ≡ Some (more, rest)) × (text ≡ prefix ++ more)
 read_after prefix None text rest e = cc
 read_after prefix (Some read) text rest e =
@@ -68,3 +68,12 @@ spelled (zero ∷ b ∷ bytes) text rest e = behind_zero b bytes text rest e (λ
 -- the end in two parts
 pub split_end : (text rest : List ℕ) → (escaped text ++ (0 ∷ 1 ∷ [])) ++ rest ≡ escaped text ++ (0 ∷ 1 ∷ rest)
 split_end text rest = append_assoc (escaped text) (0 ∷ 1 ∷ []) rest
+
+-- where one byte more follows the first n, the text is longer than these
+pub too_long : (bytes first code more : List ℕ) (byte : ℕ) → unescaped bytes ≡ after_bytes first (unescaped code) → unescaped code ≡ after_bytes (byte ∷ []) (unescaped more) →
+    (text rest : List ℕ) → unescaped bytes ≡ Some (text, rest) → length first < length text
+too_long bytes first code more byte e f text rest read =
+    let behind = read_after first (unescaped code) text rest (sym e ∙ read) in
+    let next = read_after (byte ∷ []) (unescaped more) behind.0 rest (sym f ∙ behind.1) in
+    let whole : text ≡ first ++ (byte ∷ next.0) = behind.2 ∙ ap (λ zs. first ++ zs) next.2 in
+    omega (arith, ap length whole, length-append first (byte ∷ next.0))

@@ -8,5 +8,4 @@ pub mod Numbers
 pub mod Paddings
 pub mod Prefixes
 pub mod offered
-pub mod Texts
 pub mod WorkedRows

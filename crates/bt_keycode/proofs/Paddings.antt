@@ -1,4 +1,4 @@
--- Lists and their first bytes with zeros after them.
+-- Lists and their first bytes with zeros after them, for the prefixes of keys.
 use Rattle.std.proofs.Common.{◌≡◌, ℕ, zero, suc, ◌<◌, List, [], ◌∷◌, drop, get_or, refl, subst, sym, ◌⊎◌, inl, inr, arith}
 use Rattle.std.specs.Cmp.{nat_cmp_is, ranks, tied_itself}
 use Rattle.std.specs.Cmp.Lexicographic.{nat_list_cmp_total, slice_cmp}
@@ -6,7 +6,8 @@ use Rattle.std.specs.Ordering.{nat_cmp, ordering_then, MatchOrdering}
 use Rattle.std.specs.declared.cmp.Ordering.{Ordering}
 use Rattle.std.specs.declared.cmp.Ordering.TheVariants.{Less, Equal, Greater}
 use Rattle.std.proofs.Math.Seq.{drop-nil}
-use Rattle.bt_keycode.specs.Prefixes.{first_eight, padded}
+use Rattle.bt_rowtype.specs.Shorts.{padded}
+use Rattle.bt_keycode.specs.Prefixes.{first_eight}
 
 -- the eight places, written out
 pub first_eight-places : (xs : List ℕ) → first_eight xs ≡

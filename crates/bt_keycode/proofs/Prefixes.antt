@@ -1,14 +1,15 @@
--- Keys are ordered by their first eight bytes, where these differ, and else by the next eight, where these do.
-use Rattle.std.proofs.Common.{◌≡◌, ◌≢◌, ℕ, ◌^◌, ◌<◌, ◌≤◌, List, [], drop, length, refl, sym, ap, ◌∙◌, ◌⊎◌, inl, inr}
-use Rattle.std.proofs.Math.ListN.{drop_of_length-le}
-use Rattle.std.specs.Cmp.{ranks}
+-- Keys are ordered by eight of their bytes as a number, where those before are the same, and short keys at last by their length: what `Key::compare` stands on.
+use Rattle.std.proofs.Common.{◌≡◌, ◌≢◌, ℕ, zero, suc, ◌+◌, ◌++◌, ◌^◌, ◌<◌, ◌≤◌, List, [], ◌∷◌, drop, length, refl, sym, ap, ◌∙◌, ◌⊎◌, inl, inr, arith, zero-add, suc-add, lit≤}
+use Rattle.std.proofs.Math.Seq.{drop-nil}
+use Rattle.std.specs.Cmp.{nat_cmp_is, ranks}
 use Rattle.std.specs.Cmp.Lexicographic.{slice_cmp}
 use Rattle.std.specs.Ordering.{nat_cmp, MatchOrdering}
 use Rattle.std.specs.declared.cmp.Ordering.{Ordering}
 use Rattle.std.specs.declared.cmp.Ordering.TheVariants.{Less, Equal, Greater}
+use Rattle.bt_rowtype.specs.Shorts.{padded}
 use Rattle.bt_keycode.specs.Prefixes.{eight_bytes, first_eight}
 use Rattle.bt_keycode.proofs.Numbers.{slice_cmp-eight_bytes}
-use Rattle.bt_keycode.proofs.Paddings.{slice_cmp-next, slice_cmp-padded}
+use Rattle.bt_keycode.proofs.Paddings.{slice_cmp-next}
 
 -- ---- the order of two keys
 
@@ -21,29 +22,80 @@ decided : (o p q : Ordering) → o ≡ p → o ≢ Equal → (p ≡ Equal) ⊎ (
 decided o p q e n (inl f) = absurd (n (e ∙ f))
 decided o p q e n (inr f) = e ∙ f
 
--- keys with different prefixes are ordered as those are
-pub prefixes_decide : (h k : ℕ) (xs ys : List ℕ) → h < 2 ^ 64 → k < 2 ^ 64 → eight_bytes h ≡ first_eight xs → eight_bytes k ≡ first_eight ys → h ≢ k → nat_cmp h k ≡ slice_cmp nat_cmp xs ys
+-- Where all bytes before a place are the same, and the eight from there on write different numbers, the numbers decide.
+pub numbers_decide : (m h k : ℕ) (xs ys : List ℕ) → h < 2 ^ 64 → k < 2 ^ 64 → padded m xs ≡ padded m ys →
+    eight_bytes h ≡ first_eight (drop m xs) → eight_bytes k ≡ first_eight (drop m ys) → h ≢ k → nat_cmp h k ≡ slice_cmp nat_cmp xs ys
 unfolding first_eight
-prefixes_decide h k xs ys low under a b apart =
-    decided (nat_cmp h k) (slice_cmp nat_cmp (first_eight xs) (first_eight ys)) (slice_cmp nat_cmp xs ys)
-    (sym (slice_cmp-eight_bytes h k low under) ∙ ap (λ zs. slice_cmp nat_cmp zs (eight_bytes k)) a ∙ ap (λ zs. slice_cmp nat_cmp (first_eight xs) zs) b)
+numbers_decide m h k xs ys low under same a b apart =
+    decided (nat_cmp h k) (slice_cmp nat_cmp (first_eight (drop m xs)) (first_eight (drop m ys))) (slice_cmp nat_cmp xs ys)
+    (sym (slice_cmp-eight_bytes h k low under) ∙ ap (λ zs. slice_cmp nat_cmp zs (eight_bytes k)) a ∙ ap (λ zs. slice_cmp nat_cmp (first_eight (drop m xs)) zs) b)
     (unequal h k (nat_cmp h k) (ranks h k) apart)
-    (slice_cmp-padded 8 xs ys)
+    (slice_cmp-next m 8 xs ys same)
 
--- keys with the same prefixes and different next numbers are ordered as the latter are
-pub nexts_decide : (h k : ℕ) (xs ys : List ℕ) → h < 2 ^ 64 → k < 2 ^ 64 → first_eight xs ≡ first_eight ys →
-    eight_bytes h ≡ first_eight (drop 8 xs) → eight_bytes k ≡ first_eight (drop 8 ys) → h ≢ k → nat_cmp h k ≡ slice_cmp nat_cmp xs ys
+-- ---- bytes with zeros behind them
+
+-- the first of them
+padded-first : (m n : ℕ) (xs : List ℕ) → m ≤ n → padded m (padded n xs) ≡ padded m xs
+padded-first zero n xs few = refl
+padded-first (suc m) zero xs few = absurd (omega arith)
+padded-first (suc m) (suc n) [] few = ap (λ ys. 0 ∷ ys) (padded-first m n [] (omega arith))
+padded-first (suc m) (suc n) (x ∷ xs) few = ap (λ ys. x ∷ ys) (padded-first m n xs (omega arith))
+
+-- some behind the first
+padded-behind : (m k n : ℕ) (xs : List ℕ) → m + k ≤ n → padded k (drop m (padded n xs)) ≡ padded k (drop m xs)
+padded-behind zero k n xs few = padded-first k n xs (omega arith)
+padded-behind (suc m) k zero xs few = absurd (omega arith)
+padded-behind (suc m) k (suc n) [] few = padded-behind m k n [] (omega arith) ∙ ap (padded k) (drop-nil m)
+padded-behind (suc m) k (suc n) (x ∷ xs) few = padded-behind m k n xs (omega arith)
+
+-- the eight bytes from a place on
+pub eight_of_padded : (place n : ℕ) (seen xs : List ℕ) → seen ≡ padded n xs → place + 8 ≤ n → first_eight (drop place seen) ≡ first_eight (drop place xs)
 unfolding first_eight
-nexts_decide h k xs ys low under same a b apart =
-    decided (nat_cmp h k) (slice_cmp nat_cmp (first_eight (drop 8 xs)) (first_eight (drop 8 ys))) (slice_cmp nat_cmp xs ys)
-    (sym (slice_cmp-eight_bytes h k low under) ∙ ap (λ zs. slice_cmp nat_cmp zs (eight_bytes k)) a ∙ ap (λ zs. slice_cmp nat_cmp (first_eight (drop 8 xs)) zs) b)
-    (unequal h k (nat_cmp h k) (ranks h k) apart)
-    (slice_cmp-next 8 8 xs ys same)
+eight_of_padded place n seen xs is few = ap (λ ys. padded 8 (drop place ys)) is ∙ padded-behind place 8 n xs few
 
-pub none_first : eight_bytes 0 ≡ first_eight []
-unfolding eight_bytes first_eight
-none_first = refl
+-- fewer of the same bytes
+padded-fewer : (m n : ℕ) (xs ys : List ℕ) → m ≤ n → padded n xs ≡ padded n ys → padded m xs ≡ padded m ys
+padded-fewer m n xs ys few same = sym (padded-first m n xs few) ∙ ap (padded m) same ∙ padded-first m n ys few
 
--- no byte is behind the first eight of at most eight
-pub no_next : (xs : List ℕ) → length xs ≤ 8 → eight_bytes 0 ≡ first_eight (drop 8 xs)
-no_next xs few = none_first ∙ ap first_eight (sym (drop_of_length-le xs few))
+-- bytes in two parts
+padded-parts : (m n : ℕ) (xs : List ℕ) → padded (m + n) xs ≡ padded m xs ++ padded n (drop m xs)
+padded-parts zero n xs = ap (λ k. padded k xs) (zero-add n)
+padded-parts (suc m) n [] = ap (λ k. padded k []) (suc-add m n) ∙ ap (λ ys. 0 ∷ ys) (padded-parts m n [] ∙ ap (λ ys. padded m [] ++ padded n ys) (drop-nil m))
+padded-parts (suc m) n (x ∷ xs) = ap (λ k. padded k (x ∷ xs)) (suc-add m n) ∙ ap (λ ys. x ∷ ys) (padded-parts m n xs)
+
+-- the same eight bytes
+pub first_same : (xs ys : List ℕ) → first_eight xs ≡ first_eight ys → padded 8 xs ≡ padded 8 ys
+unfolding first_eight
+first_same xs ys same = same
+
+-- the same sixteen bytes
+pub same_sixteen : (xs ys : List ℕ) → first_eight xs ≡ first_eight ys → first_eight (drop 8 xs) ≡ first_eight (drop 8 ys) → padded 16 xs ≡ padded 16 ys
+unfolding first_eight
+same_sixteen xs ys first next = padded-parts 8 8 xs ∙ ap (λ zs. zs ++ padded 8 (drop 8 xs)) first ∙ ap (λ zs. padded 8 ys ++ zs) next ∙ sym (padded-parts 8 8 ys)
+
+pub same_fourteen : (xs ys : List ℕ) → padded 16 xs ≡ padded 16 ys → padded 14 xs ≡ padded 14 ys
+same_fourteen xs ys same = padded-fewer 14 16 xs ys (lit≤ tt) same
+
+-- the same fourteen bytes and the same eight behind them
+pub all_same : (xs ys : List ℕ) → padded 14 xs ≡ padded 14 ys → first_eight (drop 14 xs) ≡ first_eight (drop 14 ys) → padded 22 xs ≡ padded 22 ys
+unfolding first_eight
+all_same xs ys first next = padded-parts 14 8 xs ∙ ap (λ zs. zs ++ padded 8 (drop 14 xs)) first ∙ ap (λ zs. padded 14 ys ++ zs) next ∙ sym (padded-parts 14 8 ys)
+
+counted : (m n : ℕ) (o : Ordering) → MatchOrdering o (m < n) (m ≡ n) (n < m) → MatchOrdering o (suc m < suc n) (suc m ≡ suc n) (suc n < suc m)
+counted m n Less h = omega arith
+counted m n Equal h = omega arith
+counted m n Greater h = omega arith
+
+-- Lists that are the same with zeros behind them are ordered by their length.
+pub lengths_decide : (n : ℕ) (xs ys : List ℕ) → length xs ≤ n → length ys ≤ n → padded n xs ≡ padded n ys → nat_cmp (length xs) (length ys) ≡ slice_cmp nat_cmp xs ys
+lengths_decide n [] [] few less same = refl
+lengths_decide zero (x ∷ xs) ys few less same = absurd (omega arith)
+lengths_decide zero [] (y ∷ ys) few less same = absurd (omega arith)
+lengths_decide (suc n) (x ∷ xs) [] few less same = sym (nat_cmp_is (length (x ∷ xs)) 0 Greater (omega arith))
+lengths_decide (suc n) [] (y ∷ ys) few less same = sym (nat_cmp_is 0 (length (y ∷ ys)) Less (omega arith))
+lengths_decide (suc n) (x ∷ xs) (y ∷ ys) few less same =
+    let first : x ≡ y = cc in
+    let rest : padded n xs ≡ padded n ys = cc in
+    let tied : nat_cmp x y ≡ Equal = sym (nat_cmp_is x y Equal first) in
+    let lengths : nat_cmp (length (x ∷ xs)) (length (y ∷ ys)) ≡ nat_cmp (length xs) (length ys) = sym (nat_cmp_is _ _ _ (counted (length xs) (length ys) (nat_cmp (length xs) (length ys)) (ranks (length xs) (length ys)))) in
+    rw tied (lengths ∙ lengths_decide n xs ys (omega arith) (omega arith) rest)

@@ -1,4 +1,4 @@
--- Codes, computed.
+-- Codes of worked values, computed from the definitions.
 use Rattle.std.proofs.Common.{◌≡◌, true, false, [], ◌∷◌, pos, negsuc, refl, codes}
 use Rattle.bt_rowtype.specs.declared.value.Value.TheVariants as value
 use Rattle.bt_keycode.specs.Codes.{code_of}

@@ -2,7 +2,7 @@
 use Rattle.std.specs.Prelude.{ℕ, zero, suc, ◌≡◌, ◌==◌, ◌++◌, List, [], ◌∷◌, map, Option, Some, None, if◌then◌else◌}
 use Rattle.bt_rowtype.specs.declared.value.Kind.{Kind}
 use Rattle.bt_rowtype.specs.declared.value.Value.{Value}
-use Rattle.bt_keycode.specs.Codes.{AreInRange, code_of, code_of_value, kind_of}
+use Rattle.bt_keycode.specs.Codes.{AreInRange, IsCodeOf, code_of, code_of_value, kind_of}
 
 -- bytes begin with the code of a value of this kind, within range, and these come after it
 pub record BeginsWith (kind : Kind) (bytes : List ℕ) (value : Value) (rest : List ℕ) : Type 0 where
@@ -15,6 +15,22 @@ pub record BeginsWithAll (kinds : List Kind) (bytes : List ℕ) (values : List V
   pub of_kinds : map kind_of values ≡ kinds
   pub in_range : AreInRange values
   pub code : code_of values ++ rest ≡ bytes
+
+-- bytes begin with the code of no value of this kind
+abbrev pub BeginsWithNo : Kind → List ℕ → Type 0
+BeginsWithNo kind bytes = (value : Value) (rest : List ℕ) → BeginsWith kind bytes value rest → ⊥
+
+-- bytes begin with the code of no values of these kinds
+abbrev pub BeginsWithNone : List Kind → List ℕ → Type 0
+BeginsWithNone kinds bytes = (values : List Value) (rest : List ℕ) → BeginsWithAll kinds bytes values rest → ⊥
+
+-- bytes are the code of values of these kinds
+abbrev pub IsCode : List Kind → List ℕ → Type 0
+IsCode kinds bytes = (values : List Value) × IsCodeOf kinds bytes values
+
+-- bytes are the code of no values of these kinds
+abbrev pub IsNoCode : List Kind → List ℕ → Type 0
+IsNoCode kinds bytes = (values : List Value) → IsCodeOf kinds bytes values → ⊥
 
 -- what is read of a text, with these bytes before it
 abbrev pub after_bytes : List ℕ → Option (List ℕ × List ℕ) → Option (List ℕ × List ℕ)

@@ -2,7 +2,7 @@
 ghost use Rattle.std.specs.List.{list_any};
 ghost use Rattle.std.specs.Prelude.{◌≡◌, ◌≤◌, ◌+◌, ◌++◌, ◌∷◌, [], IfOk, OnOk, false, length, nat_eq, take};
 ghost use Rattle.std.specs.Ordering.{int_cmp};
-ghost use Rattle.bt_rowtype.specs.Values.{key_cmp as values_cmp, value_cmp};
+ghost use Rattle.bt_rowtype.specs.Values.{value_cmp, values_cmp};
 ghost use Rattle.bt_keycode.specs.Codes.{HaveSameKinds, IsNoProperPrefix, code_of, code_of_value, escaped, kind_of, raised};
 ghost use Rattle.bt_keycode.specs.Keys.{key_cmp};
 ghost use Rattle.bt_keycode.specs.Prefixes.{eight_bytes};

@@ -1,7 +1,7 @@
 //! Values from their key code.
-ghost use Rattle.std.specs.Prelude.{◌≡◌, ◌<◌, ◌∷◌, [], IfErr, IfOk, IfSome, IfNone, IsErrOf, List, None, Some, false, true, length, ℕ};
+ghost use Rattle.std.specs.Prelude.{◌≡◌, ◌<◌, ◌≤◌, ◌∷◌, [], IfErr, IfOk, IfSome, IfNone, IsErrOf, List, None, Some, false, true, length, take, ℕ};
 ghost use Rattle.bt_keycode.specs.Codes.{IsCodeOf, raised};
-ghost use Rattle.bt_keycode.specs.Decoding.{BeginsWith, BeginsWithAll, after_bytes, ended, unescaped};
+ghost use Rattle.bt_keycode.specs.Decoding.{BeginsWith, BeginsWithAll, BeginsWithNo, BeginsWithNone, IsCode, IsNoCode, after_bytes, ended, unescaped};
 ghost use Rattle.bt_rowtype.specs.Values.{is_text};
 ghost use Rattle.bt_rowtype.specs.declared.value.Value.{Value as value};
 
@@ -40,7 +40,7 @@ fn lower(number: u64) -> i64
 // The int whose code the bytes begin with, and what comes after it.
 fn read_int(bytes: &[u8]) -> Result<(Value, &[u8]), DecodeError>
     ensures found { IfOk result (λ read. BeginsWith Kind.Int bytes.now read.0 read.1.now) }
-    ensures none { IsErrOf result DecodeError.NotACode → (other : value) (rest : List ℕ) → BeginsWith Kind.Int bytes.now other rest → ⊥ }
+    ensures none { IsErrOf result DecodeError.NotACode → BeginsWithNo Kind.Int bytes.now }
     ensures memory { IfErr result (λ e. e ≡ DecodeError.NotACode) }
 {
     if bytes.len() < 8 {
@@ -52,7 +52,7 @@ fn read_int(bytes: &[u8]) -> Result<(Value, &[u8]), DecodeError>
 // The flag whose code the bytes begin with, and what comes after it.
 fn read_flag(bytes: &[u8]) -> Result<(Value, &[u8]), DecodeError>
     ensures found { IfOk result (λ read. BeginsWith Kind.Flag bytes.now read.0 read.1.now) }
-    ensures none { IsErrOf result DecodeError.NotACode → (other : value) (rest : List ℕ) → BeginsWith Kind.Flag bytes.now other rest → ⊥ }
+    ensures none { IsErrOf result DecodeError.NotACode → BeginsWithNo Kind.Flag bytes.now }
     ensures memory { IfErr result (λ e. e ≡ DecodeError.NotACode) }
 {
     match bytes {
@@ -76,51 +76,81 @@ fn next_byte(code: &[u8]) -> Option<(u8, &[u8])>
     }
 }
 
-// The bytes of the text whose code the bytes begin with, and what comes after it.
-fn unescape(alloc: Global, bytes: &[u8]) -> Result<(Vec<u8>, &[u8]), DecodeError>
-    ensures found { IfOk result (λ read. unescaped bytes.now ≡ Some (read.0.items, read.1.now)) }
-    ensures none { IsErrOf result DecodeError.NotACode → unescaped bytes.now ≡ None }
+// The bytes of the text whose code the bytes begin with: how many they are, and what comes after the code. They are written
+// into `text`, so that no memory is asked for. There are none where the code breaks off, or where the text is too long.
+fn unescape<'a>(bytes: &'a [u8], text: &mut [u8; LONGEST_TEXT]) -> Option<(usize, &'a [u8])>
+    ensures bound { IfSome result (λ read. read.0 ≤ LONGEST_TEXT) }
+    ensures found { IfSome result (λ read. unescaped bytes.now ≡ Some (take read.0 text.new, read.1.now)) }
+    ensures none { IfNone result ((other rest : List ℕ) → unescaped bytes.now ≡ Some (other, rest) → LONGEST_TEXT < length other) }
 {
-    let mut text = Vec::new(alloc);
+    let mut len = 0;
     let mut code = bytes;
     while let Some((byte, rest)) = next_byte(code) {
-        text.push(byte).map_err(AllocError::from)?;
+        if len == LONGEST_TEXT {
+            return None;
+        }
+        text[len] = byte;
+        len += 1;
         code = rest;
     }
     match code {
-        [0, 1, rest @ ..] => Ok((text, rest)),
-        _ => Err(DecodeError::NotACode),
+        [0, 1, rest @ ..] => Some((len, rest)),
+        _ => None,
     }
 }
 
-// The text of these bytes.
-fn text_of(alloc: Global, bytes: &[u8]) -> Result<Text, DecodeError>
-    ensures same { IfOk result (λ text. text ≡ bytes.now) }
-    ensures in_range { IfOk result (λ text. is_text bytes.now ≡ true) }
-    ensures none { IsErrOf result DecodeError.NotACode → is_text bytes.now ≡ false }
+// What comes after the code of the text with which the bytes begin.
+fn skip_text(bytes: &[u8]) -> Option<&[u8]>
+    ensures found { IfSome result (λ rest. (text : value) × BeginsWith Kind.Text bytes.now text rest.now) }
+    ensures none { IfNone result (BeginsWithNo Kind.Text bytes.now) }
 {
-    if bytes.len() > LONGEST_TEXT {
-        return Err(DecodeError::NotACode);
+    let mut text = [0; LONGEST_TEXT];
+    let Some((len, rest)) = unescape(bytes, &mut text) else {
+        return None;
+    };
+    match str::from_utf8(&text[..len]) {
+        Ok(_) => Some(rest),
+        Err(_) => None,
     }
-    match str::from_utf8(bytes) {
-        Ok(text) => Ok(Text::new(alloc, text)?),
+}
+
+// The text with whose code the bytes begin, and what comes after it.
+fn read_text(alloc: Global, bytes: &[u8]) -> Result<(Value, &[u8]), DecodeError>
+    ensures found { IfOk result (λ read. BeginsWith Kind.Text bytes.now read.0 read.1.now) }
+    ensures none { IsErrOf result DecodeError.NotACode → BeginsWithNo Kind.Text bytes.now }
+{
+    let mut text = [0; LONGEST_TEXT];
+    let Some((len, rest)) = unescape(bytes, &mut text) else {
+        return Err(DecodeError::NotACode);
+    };
+    match str::from_utf8(&text[..len]) {
+        Ok(text) => Ok((Value::Text(Text::new(alloc, text)?), rest)),
         Err(_) => Err(DecodeError::NotACode),
     }
 }
 
-// The text whose code the bytes begin with, and what comes after it.
-fn read_text(alloc: Global, bytes: &[u8]) -> Result<(Value, &[u8]), DecodeError>
-    ensures found { IfOk result (λ read. BeginsWith Kind.Text bytes.now read.0 read.1.now) }
-    ensures none { IsErrOf result DecodeError.NotACode → (other : value) (rest : List ℕ) → BeginsWith Kind.Text bytes.now other rest → ⊥ }
+// What comes after the code of the value of this kind with which the bytes begin.
+fn skip_value(kind: Kind, bytes: &[u8]) -> Option<&[u8]>
+    ensures found { IfSome result (λ rest. (skipped : value) × BeginsWith kind bytes.now skipped rest.now) }
+    ensures none { IfNone result (BeginsWithNo kind bytes.now) }
 {
-    let (text, rest) = unescape(alloc, bytes)?;
-    Ok((Value::Text(text_of(alloc, text.as_slice())?), rest))
+    match kind {
+        Kind::Int => {
+            let (_, rest) = read_int(bytes).ok()?;
+            Some(rest)
+        }
+        Kind::Text => skip_text(bytes),
+        Kind::Flag => {
+            let (_, rest) = read_flag(bytes).ok()?;
+            Some(rest)
+        }
+    }
 }
 
-// The value of this kind whose code the bytes begin with, and what comes after it.
+// The value of this kind with whose code the bytes begin, and what comes after it.
 fn read_value(alloc: Global, kind: Kind, bytes: &[u8]) -> Result<(Value, &[u8]), DecodeError>
     ensures found { IfOk result (λ read. BeginsWith kind bytes.now read.0 read.1.now) }
-    ensures none { IsErrOf result DecodeError.NotACode → (other : value) (rest : List ℕ) → BeginsWith kind bytes.now other rest → ⊥ }
+    ensures none { IsErrOf result DecodeError.NotACode → BeginsWithNo kind bytes.now }
 {
     match kind {
         Kind::Int => read_int(bytes),
@@ -129,14 +159,29 @@ fn read_value(alloc: Global, kind: Kind, bytes: &[u8]) -> Result<(Value, &[u8]),
     }
 }
 
-// The values of these kinds whose code the bytes begin with, and what comes after it.
+// Whether the bytes are the code of values of these kinds. No memory is asked for.
+fn is_code(kinds: &[Kind], bytes: &[u8]) -> bool
+    ensures yes { result ≡ true → IsCode kinds.now bytes.now }
+    ensures no { result ≡ false → IsNoCode kinds.now bytes.now }
+{
+    let mut code = bytes;
+    for kind in kinds {
+        let Some(rest) = skip_value(*kind, code) else {
+            return false;
+        };
+        code = rest;
+    }
+    code.is_empty()
+}
+
+// The values of these kinds with whose code the bytes begin, and what comes after it.
 fn read_values<'a>(
     alloc: Global,
     kinds: &[Kind],
     bytes: &'a [u8],
 ) -> Result<(Vec<Value>, &'a [u8]), DecodeError>
     ensures found { IfOk result (λ read. BeginsWithAll kinds.now bytes.now read.0.items read.1.now) }
-    ensures none { IsErrOf result DecodeError.NotACode → (others : List value) (rest : List ℕ) → BeginsWithAll kinds.now bytes.now others rest → ⊥ }
+    ensures none { IsErrOf result DecodeError.NotACode → BeginsWithNone kinds.now bytes.now }
 {
     let mut values = Vec::new(alloc);
     let mut code = bytes;
@@ -148,16 +193,17 @@ fn read_values<'a>(
     Ok((values, code))
 }
 
-/// The values of these kinds whose code the bytes are. No other list of values of these kinds has it, and `NotACode` is answered
-/// just where none has.
+/// The values of these kinds whose code the bytes are. No other list of values of these kinds has it. Bytes that are no code
+/// are found out before memory is asked for.
 pub fn decode(alloc: Global, kinds: &[Kind], bytes: &[u8]) -> Result<Row, DecodeError>
     ensures code { IfOk result (λ row. IsCodeOf kinds.now bytes.now row) }
     ensures only { IfOk result (λ row. (other : List value) → IsCodeOf kinds.now bytes.now other → other ≡ row) }
-    ensures none { IsErrOf result DecodeError.NotACode → (values : List value) → IsCodeOf kinds.now bytes.now values → ⊥ }
+    ensures none { IsErrOf result DecodeError.NotACode → IsNoCode kinds.now bytes.now }
+    ensures memory { IsErrOf result DecodeError.OutOfMemory → IsCode kinds.now bytes.now }
 {
-    let (values, rest) = read_values(alloc, kinds, bytes)?;
-    if !rest.is_empty() {
+    if !is_code(kinds, bytes) {
         return Err(DecodeError::NotACode);
     }
+    let (values, _rest) = read_values(alloc, kinds, bytes)?;
     Ok(Row::new(values))
 }

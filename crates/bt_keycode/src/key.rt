@@ -1,5 +1,5 @@
 //! Keys: lists of bytes in the order of bytes.
-ghost use Rattle.std.specs.Prelude.{◌≡◌, ◌++◌, ◌≤◌, [], IfOk, OnOk, OnErr, drop, length, slice_index};
+ghost use Rattle.std.specs.Prelude.{◌≡◌, ◌++◌, ◌≤◌, [], IfOk, OnOk, OnErr, drop, length};
 ghost use Rattle.bt_keycode.specs.Hex.{hex_text};
 ghost use Rattle.bt_keycode.specs.Keys.{key_cmp};
 ghost use Rattle.bt_keycode.specs.Prefixes.{eight_bytes, first_eight};
@@ -10,74 +10,38 @@ use std::alloc::{AllocError, Global};
 use std::cmp::Ordering;
 use std::marker::Model;
 
+// A key of so many bytes is kept in the value itself.
+const SHORT_KEY: usize = 22;
+
+// The last place of eight bytes in a short key.
+const LAST_EIGHT: usize = 14;
+
 /// A key: bytes, ordered byte by byte, a prefix before what it begins. A contract sees the list of its bytes.
 ///
-/// The first sixteen bytes are kept as two numbers too, so that most comparisons compare numbers.
+/// Up to 22 bytes are kept in the value itself, which has 24; most comparisons compare eight bytes at once, as numbers.
 #[derive(Debug, Drop)]
 pub struct Key {
-    // the first eight bytes, big endian, with zeros after a shorter key
-    prefix: u64,
-    // the next eight, in the same way
-    next: u64,
     bytes: Bytes,
 }
 
+const _: () = prove!(size_of::<Key>() == 24);
+
 impl Model for Key {
-    ghost use Rattle.std.specs.Prelude.{◌≡◌, List, drop, ℕ};
-    ghost use Rattle.bt_keycode.specs.Prefixes.{eight_bytes, first_eight};
+    ghost use Rattle.std.specs.Prelude.{List, ℕ};
 
     ghost Value = { List ℕ };
 
     ghost view = { λ k. k.bytes };
-
-    ghost invariant = { λ k. record {
-      prefix : eight_bytes k.prefix ≡ first_eight k.bytes;
-      next : eight_bytes k.next ≡ first_eight (drop 8 k.bytes);
-    } };
 }
 
-fn byte_at(bytes: &[u8], place: usize) -> u8
-    ensures { result ≡ slice_index bytes.now place }
-{
-    if place < bytes.len() { bytes[place] } else { 0 }
-}
-
-// The number that the first eight bytes are kept as, with zeros after fewer.
-fn padded_prefix(bytes: &[u8]) -> u64
+// The number that the first eight bytes write, the highest first.
+pub(crate) fn prefix_of(bytes: &[u8]) -> u64
+    requires { 8 ≤ length bytes.now }
     ensures { eight_bytes result ≡ first_eight bytes.now }
 {
     u64::from_be_bytes([
-        byte_at(bytes, 0),
-        byte_at(bytes, 1),
-        byte_at(bytes, 2),
-        byte_at(bytes, 3),
-        byte_at(bytes, 4),
-        byte_at(bytes, 5),
-        byte_at(bytes, 6),
-        byte_at(bytes, 7),
+        bytes[0], bytes[1], bytes[2], bytes[3], bytes[4], bytes[5], bytes[6], bytes[7],
     ])
-}
-
-// The number that the first eight bytes are kept as.
-pub(crate) fn prefix_of(bytes: &[u8]) -> u64
-    ensures { eight_bytes result ≡ first_eight bytes.now }
-{
-    match bytes {
-        [a, b, c, d, e, f, g, h, ..] => u64::from_be_bytes([*a, *b, *c, *d, *e, *f, *g, *h]),
-        _ => padded_prefix(bytes),
-    }
-}
-
-// The number that the next eight bytes are kept as.
-#[tactic(auto, using(crate::proofs::Prefixes::no_next))]
-fn next_of(bytes: &[u8]) -> u64
-    ensures { eight_bytes result ≡ first_eight (drop 8 bytes.now) }
-{
-    if bytes.len() > 8 {
-        prefix_of(&bytes[8..])
-    } else {
-        0
-    }
 }
 
 impl Key {
@@ -86,8 +50,6 @@ impl Key {
         ensures { result ≡ [] }
     {
         Key {
-            prefix: 0,
-            next: 0,
             bytes: Bytes::new(),
         }
     }
@@ -97,8 +59,6 @@ impl Key {
         ensures { IfOk result (λ key. key ≡ bytes.now) }
     {
         Ok(Key {
-            prefix: prefix_of(bytes),
-            next: next_of(bytes),
             bytes: Bytes::from_slice(alloc, bytes)?,
         })
     }
@@ -108,8 +68,6 @@ impl Key {
         ensures { IfOk result (λ key. key ≡ bytes.items) }
     {
         Ok(Key {
-            prefix: prefix_of(bytes.as_slice()),
-            next: next_of(bytes.as_slice()),
             bytes: Bytes::from_vec(alloc, bytes)?,
         })
     }
@@ -119,8 +77,6 @@ impl Key {
         ensures { IfOk result (λ copy. copy ≡ self.now) }
     {
         Ok(Key {
-            prefix: self.prefix,
-            next: self.next,
             bytes: self.bytes.copy(alloc)?,
         })
     }
@@ -138,15 +94,43 @@ impl Key {
         self.bytes.as_slice()
     }
 
+    // The number that the eight bytes from a place on write, with zeros in place of those that the key hasn't.
+    fn number_at(&self, place: usize) -> u64
+        requires { place ≤ LAST_EIGHT }
+        ensures { eight_bytes result ≡ first_eight (drop place self.now) }
+    {
+        prefix_of(&self.bytes.padded()[place..])
+    }
+
+    // The order of two short keys that have the same first sixteen bytes, zeros behind the last one counted in.
+    fn compare_tails(&self, other: &Key) -> Ordering
+        requires short { length self.now ≤ SHORT_KEY }
+        requires other_short { length other.now ≤ SHORT_KEY }
+        requires first { first_eight self.now ≡ first_eight other.now }
+        requires next { first_eight (drop 8 self.now) ≡ first_eight (drop 8 other.now) }
+        ensures { result ≡ key_cmp self.now other.now }
+    {
+        let (left, right) = (self.number_at(LAST_EIGHT), other.number_at(LAST_EIGHT));
+        if left != right {
+            return left.cmp(&right);
+        }
+        self.len().cmp(&other.len())
+    }
+
     /// How the key stands to another one, byte by byte.
     pub fn compare(&self, other: &Key) -> Ordering
         ensures { result ≡ key_cmp self.now other.now }
     {
-        if self.prefix != other.prefix {
-            return self.prefix.cmp(&other.prefix);
+        let (left, right) = (self.number_at(0), other.number_at(0));
+        if left != right {
+            return left.cmp(&right);
         }
-        if self.next != other.next {
-            return self.next.cmp(&other.next);
+        let (left, right) = (self.number_at(8), other.number_at(8));
+        if left != right {
+            return left.cmp(&right);
+        }
+        if self.len() <= SHORT_KEY && other.len() <= SHORT_KEY {
+            return self.compare_tails(other);
         }
         self.as_slice().cmp(other.as_slice())
     }

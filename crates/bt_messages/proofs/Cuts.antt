@@ -1,4 +1,4 @@
--- Sorted messages cut at keys.
+-- Sorted messages cut at keys: what `take_range`, `Rest`, `iter_from` and `add` stand on.
 use Rattle.std.proofs.Common.{◌≡◌, ℕ, zero, suc, ◌<◌, ◌≤◌, Bool, true, false, not, ◌&&◌, cond, List, [], ◌∷◌, ◌++◌, ◌-◌, length, length-drop, take, drop, get_or, append_assoc, Option, Some, None, refl, sym, ap, subst, ◌∙◌, true≢false, arith}
 use Rattle.std.proofs.Math.Seq.{take-length}
 use Rattle.std.specs.List.{filter}
@@ -7,7 +7,7 @@ use Rattle.bt_keycode.specs.Keys.{AllFrom, IsSorted, is_before, is_before_lower,
 use Rattle.bt_messages.specs.Messages.{Messages, messages_before, messages_between, messages_from, messages_outside, with_messages}
 use Rattle.bt_messages.specs.Merges.{messages_ahead, messages_not_ahead}
 use Rattle.bt_keycode.proofs.offered.Order.{from_earlier, later_chain, not_after, not_before_itself}
-use Rattle.bt_messages.proofs.Placed.{first_stays}
+use Rattle.bt_messages.proofs.offered.Placed.{first_stays}
 
 module _ {M : Type 0} where
   -- ---- a search for a key
@@ -211,3 +211,7 @@ module _ {M : Type 0} where
 
   pub rest_sorted : (m : List ℕ × M) (ms rest : Messages M) → ms ≡ m ∷ rest → IsSorted ms → IsSorted rest
   rest_sorted m ms rest e h = (subst (IsSorted {X = M}) e h).1
+
+pub nothing : {X : Type 0} (xs : List X) → length xs ≡ 0 → xs ≡ []
+nothing [] e = refl
+nothing (x ∷ xs) e = absurd (omega (arith, e))

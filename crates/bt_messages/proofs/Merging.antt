@@ -1,9 +1,9 @@
--- One pass over older and newer messages.
+-- One pass over older and newer messages, for the loop of `merge`.
 use Rattle.std.proofs.Common.{◌≡◌, ℕ, true, false, List, [], ◌∷◌, ◌++◌, append_assoc, refl, sym, ap, subst, ◌∙◌, if◌then◌else◌}
 use Rattle.bt_messages.specs.Merges.{messages_past, messages_up_to}
 use Rattle.bt_keycode.specs.Keys.{AllFrom, IsSorted, is_before}
 use Rattle.bt_messages.specs.Messages.{Messages, with_messages}
-use Rattle.bt_messages.proofs.Placed.{first_stays, newer_first, newer_last}
+use Rattle.bt_messages.proofs.offered.Placed.{first_stays, newer_first, newer_last}
 use Rattle.bt_keycode.proofs.offered.Order.{from_earlier}
 
 -- the older messages up to the key of the first new one, that one, and then the others

@@ -1,4 +1,4 @@
--- Messages, computed.
+-- Messages of worked batches and what they make of rows, computed from the definitions.
 use Rattle.std.proofs.Common.{◌≡◌, ℕ, ◌+◌, List, [], ◌∷◌, Option, Some, None, refl}
 use Rattle.bt_messages.specs.Effects.{effect_of, rows_after}
 use Rattle.bt_messages.specs.Messages.{messages_between, messages_outside, sorted_batch, with_messages}

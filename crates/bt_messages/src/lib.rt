@@ -1,9 +1,9 @@
 //! Messages that are pending on their way to the rows of their keys: puts, dels and upserts, packets of them, and buffers.
 //!
 //! A message is sent to a key. What it makes of the value there, or of none, is its effect: a put gives its own value, a del
-//! gives none, an upsert what [`Merge::merge`] makes of the old value or of none. A [`Packet`] and a [`Buffer`] hold messages
-//! sorted by key, and those of one key in the order in which they came, so that the later one is the newer. Two upserts of a
-//! key stay two messages.
+//! gives none, an upsert what [`Merge::merge`] makes of the old value or of none. Values are rows, and the [`Entry`]s of an
+//! index. A [`Packet`] and a [`Buffer`] hold messages sorted by key, and those of one key in the order in which they came, so
+//! that the later one is the newer. Two upserts of a key stay two messages.
 //!
 //! ```text
 //! let mut batch = Vec::new(alloc);
@@ -11,11 +11,12 @@
 //! batch.push((encode(alloc, &[Value::Int(1)])?, Message::Del))?;
 //! let mut buffer = Buffer::new(alloc);
 //! buffer.add(Packet::from_batch(alloc, batch)?)?;
-//! let (key, message) = buffer.get(0);     // the del of 1
+//! for (key, message) in buffer.iter() { .. }      // the del of 1, then the put of 2
 //! ```
 #![tactic(auto)]
 
 mod buffer;
+mod entry;
 mod iter;
 mod message;
 mod packet;
@@ -23,6 +24,7 @@ mod rest;
 mod sorted;
 
 pub use buffer::Buffer;
+pub use entry::Entry;
 pub use iter::Messages;
 pub use message::{Merge, Message, effect, effect_borrowed};
 pub use packet::Packet;

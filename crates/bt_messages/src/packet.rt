@@ -1,6 +1,7 @@
 //! Packets: what is sent on at one time.
 ghost use Rattle.std.specs.Prelude.{◌≡◌, ◌==◌, [], IfOk, length};
 ghost use Rattle.bt_keycode.specs.Keys.{IsSorted};
+ghost use Rattle.bt_messages.specs.Effects.{DoTheSame, effect_of};
 ghost use Rattle.bt_messages.specs.Messages.{sorted_batch};
 
 use crate::iter::Messages;
@@ -40,7 +41,8 @@ impl<V: Merge> Packet<V> {
 
     /// The messages of a batch, in the order in which they came.
     pub fn from_batch(alloc: Global, batch: Vec<(Key, Message<V>)>) -> Result<Self, AllocError>
-        ensures { IfOk result (λ packet. packet ≡ sorted_batch batch.items) }
+        ensures messages { IfOk result (λ packet. packet ≡ sorted_batch batch.items) }
+        ensures same_rows { IfOk result (λ packet. DoTheSame (effect_of V.merged) packet batch.items) }
     {
         let mut messages = batch;
         sorted::sort(&mut messages)?;

@@ -1,10 +1,10 @@
--- Going over columns and what stands under each, one by one.
-use Rattle.std.proofs.Common.{ℕ, List, [], ◌∷◌, ◌++◌, ◌+◌, ◌<◌, ◌≡◌, refl, sym, ap, true, length, drop, get_or, Option, Some, None, Err, append_assoc, ◌==◌}
-use Rattle.std.proofs.lemmas.List.{drop_more}
+-- Going over columns and the fields under each, one by one. Serves the loop that reads values.
+use Rattle.std.proofs.Common.{ℕ, List, [], ◌∷◌, ◌++◌, ◌+◌, ◌<◌, ◌≤◌, ◌≡◌, refl, sym, ap, arith, length, length-take, take, drop, get_or, Option, Some, None, Ok, Err, append_assoc}
+use Rattle.std.proofs.lemmas.List.{drop_more, get_or-take}
 use Rattle.std.proofs.lemmas.Option.{get_or_from_slice_get}
 use Rattle.std.specs.Prelude.{option_map, slice_get}
-use Rattle.bt_rowtype.specs.Values.{read_as, value_of, values_of, with_first}
-use Rattle.bt_rowtype.specs.declared.refusal.Refusal.TheVariants.{BadField}
+use Rattle.bt_rowtype.specs.Values.{or_refused, value_of, values_of, with_first}
+use Rattle.bt_rowtype.specs.declared.refusal.Refusal.{Refusal}
 use Rattle.bt_rowtype.specs.declared.schema.Column.{Column}
 use Rattle.bt_rowtype.specs.declared.value.Value.{Value}
 
@@ -33,6 +33,35 @@ values-drop-none columns fields i c prefix in_columns in_fields not_spelled = rw
 pub at_place : (fields : List (List ℕ)) (i : ℕ) (field : List ℕ) → slice_get fields i ≡ Some field → get_or fields i [] ≡ field
 at_place fields i field at = get_or_from_slice_get fields i field [] at
 
--- a record of the right length in which a field is no value
-pub read_none : (columns : List Column) (item : ℕ) (fields : List (List ℕ)) → (length fields == length columns) ≡ true → values_of columns fields ≡ None → read_as columns item fields ≡ Err (BadField item)
-read_none columns item fields same none = rw (same, none) refl
+-- ---- the first fields, one for each column
+
+-- the value of the field at a place
+first_value : (columns : List Column) (fields : List (List ℕ)) (place : ℕ) (column : Column) (field : List ℕ) (found : Option Value) → place < length columns → get_or columns place column ≡ column
+    → slice_get fields place ≡ Some field → value_of column.kind field ≡ found → value_of (get_or columns place column).kind (get_or (take (length columns) fields) place []) ≡ found
+first_value columns fields place column field found within at_column at_field is = rw (at_column, get_or-take (length columns) fields place [] within, at_place fields place field at_field) is
+
+-- one more field that spells a value
+pub first_more : (columns : List Column) (fields : List (List ℕ)) (place : ℕ) (column : Column) (prefix : List Value) (v : Value) (field : List ℕ) → place < length columns → length columns ≤ length fields
+    → get_or columns place column ≡ column → slice_get fields place ≡ Some field → value_of column.kind field ≡ Some v
+    → behind prefix (values_of (drop place columns) (drop place (take (length columns) fields))) ≡ behind (prefix ++ v ∷ []) (values_of (drop (place + 1) columns) (drop (place + 1) (take (length columns) fields)))
+first_more columns fields place column prefix v field within long at_column at_field is =
+    let here : place < length (take (length columns) fields) = omega (arith, within, long, length-take (length columns) fields) in
+    values-drop-some columns (take (length columns) fields) place column prefix v within here (first_value columns fields place column field (Some v) within at_column at_field is)
+
+-- a field that spells none
+pub first_none : (columns : List Column) (fields : List (List ℕ)) (place : ℕ) (column : Column) (prefix : List Value) (field : List ℕ) → place < length columns → length columns ≤ length fields
+    → get_or columns place column ≡ column → slice_get fields place ≡ Some field → value_of column.kind field ≡ None
+    → behind prefix (values_of (drop place columns) (drop place (take (length columns) fields))) ≡ None
+first_none columns fields place column prefix field within long at_column at_field is =
+    let here : place < length (take (length columns) fields) = omega (arith, within, long, length-take (length columns) fields) in
+    values-drop-none columns (take (length columns) fields) place column prefix within here (first_value columns fields place column field None within at_column at_field is)
+
+-- ---- what a record is read as
+
+pub some_read : {T : Type 0} (refusal : Refusal) (o : Option T) (value : T) → or_refused refusal o ≡ Ok value → o ≡ Some value
+some_read refusal None value is = absurd cc
+some_read refusal (Some v) value is = let e : v ≡ value = cc in ap Some e
+
+pub none_read : {T : Type 0} (refusal e : Refusal) (o : Option T) → or_refused refusal o ≡ Err e → (o ≡ None) × (refusal ≡ e)
+none_read refusal e None is = (refl, (let same : refusal ≡ e = cc in same))
+none_read refusal e (Some v) is = absurd cc

@@ -1,5 +1,5 @@
--- The ints that std's `parse` reads are those that fields spell.
-use Rattle.std.proofs.Common.{◌-◌, ℕ, ℤ, List, [], ◌∷◌, ◌<◌, ◌≤◌, ◌^◌, ◌≡◌, ◌≢◌, ◌∙◌, refl, sym, true, false, ◌==◌, ◌&&◌, length, drop, get_or, pos, neg_ℤ, Some, None, Result, Ok, Err, arith, rules, inl, inr, nat_le, eq-eqb, ap}
+-- The ints that std's `parse` reads, and those of a few digits, are those that fields spell. Serves reading an int.
+use Rattle.std.proofs.Common.{◌-◌, ℕ, ℤ, List, [], ◌∷◌, ◌<◌, ◌≤◌, ◌^◌, ◌≡◌, ◌≢◌, ◌∙◌, refl, sym, true, false, ◌==◌, ◌&&◌, length, drop, get_or, pos, neg_ℤ, Some, None, Result, Ok, Err, arith, rules, inl, inr, nat_le, eq-eqb, ap, if◌then◌else◌}
 use Rattle.std.proofs.lemmas.Bool.{cases_Bool, eqb-true}
 use Rattle.std.proofs.lemmas.Bool.Decides.{nat_tests}
 use Rattle.std.proofs.lemmas.Str.Parse.{IsNumeralModel, numerals_by_fold, parse_signed_minus, parse_signed_plain}
@@ -110,3 +110,26 @@ int_utf8 (b ∷ bs) broken = elim (cases_Bool (b == 45)) [
     | inr test ↦ rw other (ap (option_map pos) (number_none (b ∷ bs) (2 ^ 63 - 1) test))
   ]
 ]
+
+-- where digits write a number that fits, the limit says nothing
+number_fits : (ds : List ℕ) (most : ℕ) → (is_numeral ds ≡ true → number_written ds ≤ most) → number_up_to most ds ≡ (if is_numeral ds then Some (number_written ds) else None)
+number_fits ds most fits = elim (cases_Bool (is_numeral ds)) [
+  | inl numeral ↦ let small : nat_le (number_written ds) most ≡ true = let within = fits numeral in grind (arith, nat_tests) in rw (numeral, small) refl
+  | inr other ↦ rw other refl
+]
+
+-- the int that is found where digits follow a minus
+pub minus_short : (field digits : List ℕ) → field ≡ 45 ∷ digits → (is_numeral digits ≡ true → number_written digits ≤ 2 ^ 63 - 1)
+    → int_of field ≡ (if is_numeral digits then Some (neg_ℤ (pos (number_written digits))) else None)
+unfolding int_of
+minus_short field digits is fits =
+    rw (is, number_fits digits (2 ^ 63) (λ n. omega (arith, fits n)))
+    (elim (is_numeral digits) as (λ b. option_map (λ n. neg_ℤ (pos n)) (if b then Some (number_written digits) else None) ≡ (if b then Some (neg_ℤ (pos (number_written digits))) else None)) [ true ↦ refl | false ↦ refl ])
+
+-- the int that is found where no minus comes first
+pub plain_short : (field : List ℕ) → (get_or field 0 0 == 45) ≡ false → (is_numeral field ≡ true → number_written field ≤ 2 ^ 63 - 1)
+    → int_of field ≡ (if is_numeral field then Some (pos (number_written field)) else None)
+unfolding int_of
+plain_short field other fits =
+    rw (other, number_fits field (2 ^ 63 - 1) fits)
+    (elim (is_numeral field) as (λ b. option_map pos (if b then Some (number_written field) else None) ≡ (if b then Some (pos (number_written field)) else None)) [ true ↦ refl | false ↦ refl ])

@@ -1,4 +1,4 @@
--- A byte order mark at the start of a text.
+-- A byte order mark at the start of a text. Serves dropping it.
 use Rattle.std.proofs.Common.{ℕ, List, [], ◌∷◌, ◌≡◌, refl, cond, drop}
 use Rattle.csv.specs.Reading.{strip_bom}
 use Rattle.bt_rowtype.specs.Records.{has_mark}

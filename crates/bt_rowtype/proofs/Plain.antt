@@ -1,4 +1,4 @@
--- A line with no quote and no line end is read as its parts between commas.
+-- A line with no quote and no line end is read as its parts between commas. Serves reading a record.
 use Rattle.std.proofs.Common.{ℕ, Bool, List, [], ◌∷◌, ◌++◌, ◌≡◌, ◌∙◌, refl, ap, true, false, ◌||◌, ◌==◌, append_assoc, inl, inr, Some}
 use Rattle.std.proofs.lemmas.List.{append-nil}
 use Rattle.std.proofs.lemmas.Bool.{cases_Bool}

@@ -1,4 +1,4 @@
--- A text between quotes, byte by byte.
+-- A text between quotes, byte by byte. Serves writing a record.
 use Rattle.std.proofs.Common.{ℕ, List, [], ◌∷◌, ◌++◌, ◌+◌, ◌<◌, ◌≡◌, ◌≢◌, ◌∙◌, refl, ap, length, take, get_or, append_assoc}
 use Rattle.csv.specs.Writing.{default_writer, escaped}
 use Rattle.csv.proofs.WriteFacts.{escaped-double, escaped-other, quoted-step}

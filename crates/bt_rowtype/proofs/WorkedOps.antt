@@ -1,6 +1,6 @@
--- Operations, computed.
+-- Operations, computed. Serves whoever reads their definitions.
 use Rattle.std.proofs.Common.{◌≡◌, List, ℕ, [], ◌∷◌, pos, negsuc, refl, codes, true, false, Ok, Err, Some, None}
-use Rattle.bt_rowtype.proofs.OnLiterals.{rowtype_on_literals}
+use Rattle.bt_rowtype.proofs.offered.OnLiterals.{rowtype_on_literals}
 use Rattle.bt_rowtype.specs.Ops.{after_ops, checked_ops, default_row, merged, ops_as, upsert_as}
 use Rattle.bt_rowtype.specs.Schemas.{Schema}
 use Rattle.bt_rowtype.specs.declared.op.Op.TheVariants.{Set, Add}

@@ -1,6 +1,9 @@
+pub mod Answers
 pub mod Ints
+pub mod Limits
 pub mod Ops
 pub mod Pieces
+pub mod Reader
 pub mod Records
 pub mod Refusals
 pub mod Schemas

@@ -1,10 +1,11 @@
 -- The operations of an upsert, and what they make of a row.
-use Rattle.std.specs.Prelude.{ℕ, suc, ◌+◌, ◌-◌, ◌%◌, ◌==◌, ◌&&◌, Bool, List, [], ◌∷◌, ◌++◌, codes, drop, take, length, map, get_or, set, slice_get, nat_le, Option, Some, None, option_map, Result, Ok, Err, if◌then◌else◌, ℤ, pos, ◌+ℤ◌}
+use Rattle.std.specs.Prelude.{◌≡◌, ℕ, suc, ◌+◌, ◌-◌, ◌*◌, ◌%◌, ◌==◌, ◌&&◌, Bool, List, [], ◌∷◌, ◌++◌, codes, drop, take, length, map, get_or, set, slice_get, nat_le, Option, Some, None, option_map, Result, Ok, Err, if◌then◌else◌, ℤ, pos, ◌+ℤ◌}
 use Rattle.std.specs.Cmp.Lexicographic.{pointwise}
 use Rattle.std.specs.Int.{saturate_to_bits}
 use Rattle.std.specs.List.{filter_map}
 use Rattle.std.specs.Result.{result_err, result_ok}
 use Rattle.bt_rowtype.specs.Ints.{int_of}
+use Rattle.bt_rowtype.specs.Limits.{most_ops}
 use Rattle.bt_rowtype.specs.Refusals.{least, lesser}
 use Rattle.bt_rowtype.specs.Schemas.{Schema, fits_kind}
 use Rattle.bt_rowtype.specs.Values.{default_of, or_refused, value_of, values_of}
@@ -88,7 +89,7 @@ ops_of schema item (word ∷ name ∷ argument ∷ fields) = op_of schema item w
 
 -- whether a record has the fields of a key and of 1 to 16 operations
 abbrev pub is_upsert : ℕ → ℕ → Bool
-is_upsert keys fields = (nat_le (keys + 3) fields && nat_le fields (keys + 48)) && ((fields - keys) % 3 == 0)
+is_upsert keys fields = (nat_le (keys + 3) fields && nat_le fields (keys + 3 * most_ops)) && ((fields - keys) % 3 == 0)
 
 -- a value, unless there is a refusal
 abbrev pub unless : {T : Type 0} → Option Refusal → T → Result T Refusal
@@ -140,7 +141,16 @@ abbrev pub fault_of : Schema → ℕ → Op → Option Refusal
 fault_of schema item (Set place new) = set_fault item new (open_kind schema place)
 fault_of schema item (Add place n) = add_fault (open_kind schema place)
 
+-- an operation that has no fault in a schema, whichever item it is
+abbrev pub OpFits : Schema → Op → Type 0
+OpFits schema op = (item : ℕ) → fault_of schema item op ≡ None
+
+-- each of them
+abbrev pub OpsFit : Schema → List Op → Type 0
+OpsFit schema [] = Unit {0}
+OpsFit schema (op ∷ ops) = OpFits schema op × OpsFit schema ops
+
 -- whether these are 1 to 16 operations of a schema, or their least refusal as this item
 abbrev pub checked_ops : Schema → ℕ → List Op → Result (Unit {0}) Refusal
 checked_ops schema item ops =
-    if nat_le 1 (length ops) && nat_le (length ops) 16 then unless (least (filter_map (fault_of schema item) ops)) tt else Err (BadLength item)
+    if nat_le 1 (length ops) && nat_le (length ops) most_ops then unless (least (filter_map (fault_of schema item) ops)) tt else Err (BadLength item)

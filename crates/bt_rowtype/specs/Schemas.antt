@@ -9,6 +9,7 @@ use Rattle.bt_rowtype.specs.declared.value.Kind.{Kind}
 use Rattle.bt_rowtype.specs.declared.value.Kind.TheVariants as kind
 use Rattle.bt_rowtype.specs.declared.value.Value.{Value}
 use Rattle.bt_rowtype.specs.declared.value.Value.TheVariants as value
+use Rattle.bt_rowtype.specs.Limits.{most_columns, most_keys}
 use Rattle.bt_rowtype.specs.Values.{is_text}
 
 -- what a contract sees of a schema: its columns, of which the first `keys` are the key
@@ -27,7 +28,7 @@ are_apart (column ∷ columns) = not (has_column column.name columns) && are_apa
 
 -- 1 to 16 columns with different names, of which 1 to 4 are the key
 abbrev pub is_schema : List Column → ℕ → Bool
-is_schema columns keys = (nat_le 1 (length columns) && nat_le (length columns) 16) && (nat_le 1 keys && nat_le keys 4 && nat_le keys (length columns)) && are_apart columns
+is_schema columns keys = (nat_le 1 (length columns) && nat_le (length columns) most_columns) && (nat_le 1 keys && nat_le keys most_keys && nat_le keys (length columns)) && are_apart columns
 
 abbrev pub IsSchema : List Column → ℕ → Type 0
 IsSchema columns keys = is_schema columns keys ≡ true

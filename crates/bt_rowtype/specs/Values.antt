@@ -7,6 +7,7 @@ use Rattle.std.specs.declared.cmp.Ordering.{Ordering}
 use Rattle.std.specs.declared.cmp.Ordering.TheVariants.{Equal}
 use Rattle.std.specs.Cmp.Lexicographic.{slice_cmp}
 use Rattle.bt_rowtype.specs.Ints.{int_of}
+use Rattle.bt_rowtype.specs.Limits.{longest_text}
 use Rattle.bt_rowtype.specs.declared.refusal.Refusal.{Refusal}
 use Rattle.bt_rowtype.specs.declared.refusal.Refusal.TheVariants.{BadField, BadLength}
 use Rattle.bt_rowtype.specs.declared.schema.Column.{Column}
@@ -15,9 +16,9 @@ use Rattle.bt_rowtype.specs.declared.value.Kind.TheVariants as kind
 use Rattle.bt_rowtype.specs.declared.value.Value.{Value}
 use Rattle.bt_rowtype.specs.declared.value.Value.TheVariants as value
 
--- whether bytes are a text of a column: UTF-8, and at most 255 bytes
+-- whether bytes are a text of a column: UTF-8, and not too long
 abbrev pub is_text : List ℕ → Bool
-is_text bytes = nat_le (length bytes) 255 && is_utf8 bytes
+is_text bytes = nat_le (length bytes) longest_text && is_utf8 bytes
 
 -- the flag that a field spells: true or false, in letters of either case
 abbrev pub flag_of : List ℕ → Option Bool
@@ -69,6 +70,6 @@ value_cmp (value.Text a) (value.Text b) = slice_cmp nat_cmp a b
 value_cmp (value.Flag a) (value.Flag b) = bool_cmp a b
 value_cmp a b = Equal
 
--- the order of keys, value by value
-abbrev pub key_cmp : List Value → List Value → Ordering
-key_cmp = slice_cmp value_cmp
+-- the order of lists of values, value by value
+abbrev pub values_cmp : List Value → List Value → Ordering
+values_cmp = slice_cmp value_cmp

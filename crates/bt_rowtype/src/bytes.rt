@@ -1,6 +1,6 @@
 //! Bytes, of which a few take no memory of their own.
 ghost use Rattle.std.specs.Prelude.{◌≡◌, ◌≤◌, [], IfOk, IsOk, length, take};
-ghost use Rattle.bt_rowtype.specs.Shorts.{FitsInside, bytes_of};
+ghost use Rattle.bt_rowtype.specs.Shorts.{FitsInside, bytes_of, padded as padded_to};
 
 use std::alloc::{AllocError, Global};
 use std::marker::Model;
@@ -34,10 +34,10 @@ impl Model for Bytes {
     ghost invariant = { λ b. FitsInside b.kept };
 }
 
-// The bytes with zeros behind them.
+// The bytes, with zeros behind them.
 fn padded(bytes: &[u8]) -> [u8; SHORT]
     requires { length bytes.now ≤ SHORT }
-    ensures { take (length bytes.now) result ≡ bytes.now }
+    ensures { result ≡ padded_to SHORT bytes.now }
 {
     let mut padded = [0; SHORT];
     padded[..bytes.len()].copy_from_slice(bytes);
@@ -96,6 +96,17 @@ impl Bytes {
         ensures { IfOk result (λ copy. copy ≡ self.now) }
     {
         Bytes::from_slice(alloc, self.as_slice())
+    }
+
+    /// The bytes, and behind fewer than 22 of them so many zeros.
+    pub fn padded(&self) -> &[u8]
+        ensures bytes { result.now ≡ padded_to (length result.now) self.now }
+        ensures room { SHORT ≤ length result.now }
+    {
+        match &self.kept {
+            Kept::Short(_, bytes) => bytes.as_slice(),
+            Kept::Long(bytes) => bytes.as_slice(),
+        }
     }
 
     pub fn as_slice(&self) -> &[u8]

@@ -1,8 +1,9 @@
 //! Reading one field.
-ghost use Rattle.std.specs.Prelude.{◌≡◌, ◌≢◌, ◌==◌, false, Some, None, Ok, Err, IfOk, IfErr, if◌then◌else◌, slice_index};
-ghost use Rattle.bt_rowtype.specs.Ints.{int_of};
+ghost use Rattle.std.specs.Prelude.{◌≡◌, false, Some, None, Ok, Err, IfOk, if◌then◌else◌};
+ghost use Rattle.bt_rowtype.specs.Answers.{Answers};
 ghost use Rattle.bt_rowtype.specs.Values.{flag_of, is_text, or_refused, value_of};
 
+use crate::int::read_int;
 use crate::refusal::Refusal;
 use crate::text::Text;
 use crate::value::{Kind, Value};
@@ -11,28 +12,6 @@ use std::str;
 
 /// The most bytes of a text.
 pub const LONGEST_TEXT: usize = 255;
-
-fn has_plus(field: &[u8]) -> bool
-    ensures { result ≡ (slice_index field.now 0 == 43) }
-{
-    match field {
-        [first, ..] => *first == b'+',
-        [] => false,
-    }
-}
-
-// The whole number that a field spells.
-pub(crate) fn read_int(field: &[u8]) -> Option<i64>
-    ensures { result ≡ int_of field.now }
-{
-    if has_plus(field) {
-        return None;
-    }
-    match str::from_utf8(field) {
-        Ok(text) => text.parse::<i64>().ok(),
-        Err(_) => None,
-    }
-}
 
 // Whether bytes are a text of a column.
 pub(crate) fn is_text(bytes: &[u8]) -> bool
@@ -45,7 +24,7 @@ pub(crate) fn is_text(bytes: &[u8]) -> bool
 }
 
 // The text that a field is.
-#[tactic(auto, using(crate::proofs::Utf8::short_text, crate::proofs::Utf8::long_text, crate::proofs::Utf8::no_text))]
+#[tactic(auto, using(crate::proofs::offered::Texts::short_text, crate::proofs::offered::Texts::long_text, crate::proofs::offered::Texts::no_text))]
 fn read_text(alloc: Global, field: &[u8]) -> Result<Option<Text>, AllocError>
     ensures text { IfOk result (λ text. text ≡ (if is_text field.now then Some field.now else None)) }
     ensures none { is_text field.now ≡ false → result ≡ Ok None }
@@ -89,8 +68,7 @@ fn read_value(alloc: Global, kind: Kind, field: &[u8]) -> Result<Option<Value>, 
 /// An int is an optional `-` and one or more digits, leading zeros included, whose number has 64 bits. A text is UTF-8 of at
 /// most 255 bytes. A flag is `true` or `false`, in letters of either case.
 pub fn read_field(alloc: Global, kind: Kind, field: &[u8]) -> Result<Value, Refusal>
-    ensures ok { IfOk result (λ value. or_refused (Refusal.BadField 1) (value_of kind field.now) ≡ Ok value) }
-    ensures refused { IfErr result (λ e. e ≢ Refusal.OutOfMemory → or_refused (Refusal.BadField 1) (value_of kind field.now) ≡ Err e) }
+    ensures answer { Answers (or_refused (Refusal.BadField 1) (value_of kind field.now)) result }
     ensures certain { value_of kind field.now ≡ None → result ≡ Err (Refusal.BadField 1) }
 {
     match read_value(alloc, kind, field)? {

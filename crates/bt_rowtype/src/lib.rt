@@ -22,31 +22,35 @@
 #![tactic(auto)]
 
 mod bytes;
+mod copies;
 mod field;
 mod fields;
+mod int;
 mod op;
+mod op_faults;
+mod reader;
+mod reading;
 mod record;
 mod refusal;
 mod row;
 mod schema;
 mod sequence;
 mod text;
+mod upsert;
 mod value;
 
 pub use bytes::Bytes;
+pub use copies::{TryClone, clone_all};
 pub use field::{LONGEST_TEXT, read_field};
 pub use fields::Fields;
-pub use op::{
-    Change, MOST_OPS, Op, Ops, Upsert, apply_ops, check_ops, copy_change, default_row, read_ops,
-    read_upsert,
-};
+pub use op::{Change, MOST_OPS, Op, Ops, apply_ops, copy_change, default_row};
+pub use op_faults::check_ops;
+pub use reading::Reading;
 pub use record::{read_record, write_record};
 pub use refusal::{Refusal, least_with};
 pub use row::{read_key, read_row};
 pub use schema::{Column, Columns, MOST_COLUMNS, MOST_KEYS, Schema};
 pub use sequence::Sequence;
 pub use text::{Text, Texts};
-pub use value::{Kind, Row, Value, copy_row, copy_value};
-
-#[cfg(test)]
-mod tests;
+pub use upsert::{Upsert, read_ops, read_upsert};
+pub use value::{Kind, Row, Value, copy_row};

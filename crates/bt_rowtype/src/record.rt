@@ -1,47 +1,17 @@
 //! Reading the record that stands in a line, and writing the text of one.
-ghost use Rattle.std.specs.Prelude.{◌≡◌, ◌==◌, ◌++◌, ◌∷◌, [], IfOk, OnOk, OnErr, List, codes, if◌then◌else◌, length, map, option_map, ℕ};
+ghost use Rattle.std.specs.Prelude.{◌≡◌, ◌==◌, ◌++◌, ◌∷◌, [], IfOk, OnOk, OnErr, List, codes, if◌then◌else◌, length, map, ℕ};
 ghost use Rattle.std.specs.Fmt.{signed_decimal};
 ghost use Rattle.std.specs.List.{list_any};
 ghost use Rattle.csv.specs.Reading.{strip_bom};
-ghost use Rattle.csv.specs.Records.{fields_of};
 ghost use Rattle.csv.specs.Writing.{default_writer, escaped, field_text, needs_quotes as text_needs_quotes, next_sep, quoted};
-ghost use Rattle.bt_rowtype.specs.Records.{Grows, csv_record, has_mark as is_behind_mark, is_refused, is_special, parts_of, record_of, record_text};
+ghost use Rattle.bt_rowtype.specs.Records.{Grows, has_mark as is_behind_mark, is_refused, is_special, parts_of, record_of, record_text};
 ghost use Rattle.bt_rowtype.specs.Values.{text_of};
 
 use crate::fields::Fields;
+use crate::reader::read_quoted;
 use crate::value::Value;
-use csv::{ByteRecord, ReaderBuilder};
 use itoa::Buffer;
 use std::alloc::{AllocError, Global};
-
-// The fields of a record that csv has read.
-fn fields_from(alloc: Global, found: &ByteRecord) -> Result<Fields, AllocError>
-    ensures { IfOk result (λ fields. fields ≡ fields_of found.now) }
-{
-    let mut fields = Fields::new(alloc);
-    for place in 0..found.len() {
-        if let Some(field) = found.get(place) {
-            fields.push(field)?;
-        }
-    }
-    Ok(fields)
-}
-
-// The first record of a text, as csv reads it.
-fn read_csv(alloc: Global, text: &[u8]) -> Result<Option<ByteRecord>, AllocError>
-    ensures { IfOk result (λ found. option_map fields_of found ≡ csv_record (strip_bom text.now)) }
-{
-    let mut reader = ReaderBuilder::new()
-        .has_headers(false)
-        .from_reader(alloc, text);
-    let mut record = ByteRecord::new(alloc);
-    match reader.read_byte_record(&mut record) {
-        Ok(true) => Ok(Some(record)),
-        Ok(false) => Ok(None),
-        // a slice in memory is read without a fault, so only memory can be wanting
-        Err(_) => Err(AllocError),
-    }
-}
 
 fn has_mark(text: &[u8]) -> bool
     ensures { result ≡ is_behind_mark text.now }
@@ -93,7 +63,8 @@ fn fields_of_plain(alloc: Global, text: &[u8]) -> Result<Fields, AllocError>
 /// The fields of the record that stands in a line, or `None` where none does: the line is empty, holds a CR, or begins with
 /// a byte order mark after one that is dropped.
 ///
-/// A line that needs it is read by `csv`; any other one, which is cheaper by far, is cut at its commas.
+/// A line that needs it is read byte by byte, by the states of csv's reader; any other one, which is cheaper, is cut at its
+/// commas.
 pub fn read_record(alloc: Global, line: &[u8]) -> Result<Option<Fields>, AllocError>
     ensures { IfOk result (λ fields. fields ≡ record_of line.now) }
 {
@@ -104,10 +75,7 @@ pub fn read_record(alloc: Global, line: &[u8]) -> Result<Option<Fields>, AllocEr
     if !has_special(text) {
         return Ok(Some(fields_of_plain(alloc, text)?));
     }
-    match read_csv(alloc, line)? {
-        Some(record) => Ok(Some(fields_from(alloc, &record)?)),
-        None => Ok(None),
-    }
+    read_quoted(alloc, text)
 }
 
 fn write_int(out: &mut Vec<u8>, number: i64) -> Result<(), AllocError>

@@ -37,6 +37,13 @@ impl<T> Sequence<T> {
         })
     }
 
+    /// These items.
+    pub fn from_vec(items: Vec<T>) -> Self
+        ensures { result ≡ items.items }
+    {
+        Sequence { items }
+    }
+
     pub fn len(&self) -> usize
         ensures { result ≡ length self.now }
     {

@@ -1,6 +1,7 @@
 //! Kinds, values and rows.
 ghost use Rattle.std.specs.Prelude.{◌≡◌, IfOk};
 
+use crate::copies::{TryClone, clone_all};
 use crate::text::Text;
 use std::alloc::{AllocError, Global};
 use std::marker::Model;
@@ -64,14 +65,13 @@ impl Row {
     }
 }
 
-/// A copy of the value.
-pub fn copy_value(alloc: Global, value: &Value) -> Result<Value, AllocError>
-    ensures { IfOk result (λ copy. copy ≡ value.now) }
-{
-    match value {
-        Value::Int(number) => Ok(Value::Int(*number)),
-        Value::Text(text) => Ok(Value::Text(text.copy(alloc)?)),
-        Value::Flag(flag) => Ok(Value::Flag(*flag)),
+impl TryClone for Value {
+    fn try_clone(&self, alloc: Global) -> Result<Self, AllocError> {
+        match self {
+            Value::Int(number) => Ok(Value::Int(*number)),
+            Value::Text(text) => Ok(Value::Text(text.copy(alloc)?)),
+            Value::Flag(flag) => Ok(Value::Flag(*flag)),
+        }
     }
 }
 
@@ -79,10 +79,5 @@ pub fn copy_value(alloc: Global, value: &Value) -> Result<Value, AllocError>
 pub fn copy_row(alloc: Global, row: &Row) -> Result<Row, AllocError>
     ensures { IfOk result (λ copy. copy ≡ row.now) }
 {
-    let values = row.as_slice();
-    let mut copies = Vec::with_capacity(alloc, values.len())?;
-    for value in values {
-        copies.push(copy_value(alloc, value)?)?;
-    }
-    Ok(Row::new(copies))
+    Ok(Row::new(clone_all(alloc, row.as_slice())?))
 }

@@ -1,4 +1,6 @@
+pub mod Blanks
 pub mod Columns
 pub mod Cuts
 pub mod Machine
 pub mod Names
+pub mod offered

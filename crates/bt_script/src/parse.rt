@@ -1,7 +1,7 @@
 //! The parser of commands.
 ghost use Rattle.std.specs.Prelude.{◌≡◌, ◌==◌, ◌∷◌, ◌<◌, ◌≤◌, [], IfOk, List, None, Some, codes, drop, false, length, map, not, option_map, true, ℕ};
 ghost use Rattle.std.specs.List.{list_all};
-ghost use Rattle.bt_script.specs.Blocks.{IsBlock, and_line, ended, headed};
+ghost use Rattle.bt_script.specs.Blocks.{FindsHeaded, IsBlock, NextBehind, and_line, ended};
 ghost use Rattle.bt_script.specs.Commands as spec;
 ghost use Rattle.bt_script.specs.Lines as text;
 
@@ -35,12 +35,6 @@ fn begins(words: &[&[u8]], word: &[u8]) -> bool
     is_word(word_at(words, 0), word)
 }
 
-fn is_blank_line(line: &[u8]) -> bool
-    ensures { result ≡ spec.is_blank_line line.now }
-{
-    is_blank(without_return(line))
-}
-
 // What stands behind a prefix, where the line begins with it.
 fn behind_prefix<'a>(prefix: &[u8], line: &'a [u8]) -> Option<&'a [u8]>
     ensures { option_map (λ s. s.now) result ≡ spec.behind_prefix prefix.now line.now }
@@ -57,32 +51,34 @@ fn record_behind(alloc: Global, prefix: &[u8], line: &[u8]) -> Result<Option<Fie
     }
 }
 
-// The message of a line of a batch.
-#[tactic(auto, unfolding(crate::specs::Commands::item_of))]
-fn parse_item(alloc: Global, line: &[u8]) -> Result<Option<Item>, AllocError>
-    ensures { IfOk result (λ item. item ≡ spec.item_of line.now) }
+// The message of a line of a batch, which begins with its word.
+fn parse_item(alloc: Global, text: &[u8]) -> Result<Option<Item>, AllocError>
+    ensures { IfOk result (λ item. item ≡ spec.item_from text.now) }
 {
-    let line = without_spaces(without_return(line));
-    if behind_prefix(b"put ", line).is_some() {
-        return Ok(record_behind(alloc, b"put ", line)?.map(Item::Put));
+    if let Some(record) = behind_prefix(b"put ", text) {
+        return Ok(read_record(alloc, record)?.map(Item::Put));
     }
-    if behind_prefix(b"del ", line).is_some() {
-        return Ok(record_behind(alloc, b"del ", line)?.map(Item::Del));
+    if let Some(record) = behind_prefix(b"del ", text) {
+        return Ok(read_record(alloc, record)?.map(Item::Del));
     }
-    Ok(record_behind(alloc, b"ups ", line)?.map(Item::Ups))
+    if let Some(record) = behind_prefix(b"ups ", text) {
+        return Ok(read_record(alloc, record)?.map(Item::Ups));
+    }
+    Ok(None)
 }
 
-// The messages of some lines, and that of one more.
+// The messages of some lines, and that of one more, which has no carriage return at its end.
 fn and_item(alloc: Global, items: Option<Items>, line: &[u8]) -> Result<Option<Items>, AllocError>
     ensures { IfOk result (λ all. all ≡ and_line items line.now) }
 {
-    if is_blank_line(line) {
+    let text = without_spaces(line);
+    if text.is_empty() {
         return Ok(items);
     }
     let Some(mut items) = items else {
         return Ok(None);
     };
-    let Some(item) = parse_item(alloc, line)? else {
+    let Some(item) = parse_item(alloc, text)? else {
         return Ok(None);
     };
     items.push(item)?;
@@ -110,8 +106,9 @@ fn read_items(
     let mut items = Some(Items::new(alloc));
     let mut at = start;
     while at < script.len() {
-        let (line, next) = next_line(script, at);
-        if is_word(without_return(line), b"end") {
+        let (bytes, next) = next_line(script, at);
+        let line = without_return(bytes);
+        if is_word(line, b"end") {
             return Ok(Block {
                 content: items,
                 next,
@@ -138,15 +135,16 @@ fn read_bounds(script: &[u8], start: usize) -> Block<bool>
     let mut blank = true;
     let mut at = start;
     while at < script.len() {
-        let (line, next) = next_line(script, at);
-        if is_word(without_return(line), b"go") {
+        let (bytes, next) = next_line(script, at);
+        let line = without_return(bytes);
+        if is_word(line, b"go") {
             return Block {
                 content: blank,
                 next,
                 closed: true,
             };
         }
-        blank &= is_blank_line(line);
+        blank &= is_blank(line);
         at = next;
     }
     Block {
@@ -300,8 +298,8 @@ fn parse_batch(
     requires within { at ≤ length script.now }
     requires words { map (λ w. w.now) words.now ≡ text.words head.now }
     requires batch { spec.begins (map (λ w. w.now) words.now) (codes "batch") ≡ true }
-    ensures found { IfOk result (λ parsed. spec.Finds parsed script.now (headed head.now (text.lines (drop at script.now)))) }
-    ensures past { IfOk result (λ parsed. (before : ℕ) → before < at → spec.NextPast parsed before script.now) }
+    ensures found { IfOk result (λ parsed. FindsHeaded parsed script.now head.now at) }
+    ensures past { IfOk result (λ parsed. NextBehind parsed script.now at) }
 {
     let Block {
         content,
@@ -322,8 +320,8 @@ fn parse_scan(
     requires words { map (λ w. w.now) words.now ≡ text.words head.now }
     requires no_batch { spec.begins (map (λ w. w.now) words.now) (codes "batch") ≡ false }
     requires scan { spec.begins (map (λ w. w.now) words.now) (codes "scan") ≡ true }
-    ensures found { IfOk result (λ parsed. spec.Finds parsed script.now (headed head.now (text.lines (drop at script.now)))) }
-    ensures past { IfOk result (λ parsed. (before : ℕ) → before < at → spec.NextPast parsed before script.now) }
+    ensures found { IfOk result (λ parsed. FindsHeaded parsed script.now head.now at) }
+    ensures past { IfOk result (λ parsed. NextBehind parsed script.now at) }
 {
     let Block {
         content,
@@ -358,7 +356,7 @@ fn parse_line(alloc: Global, head: &[u8], words: &[&[u8]], at: usize) -> Result<
     requires words { map (λ w. w.now) words.now ≡ text.words head.now }
     requires no_batch { spec.begins (map (λ w. w.now) words.now) (codes "batch") ≡ false }
     requires no_scan { spec.begins (map (λ w. w.now) words.now) (codes "scan") ≡ false }
-    ensures found { IfOk result (λ parsed. (script : List ℕ) → spec.Finds parsed script (headed head.now (text.lines (drop at script)))) }
+    ensures found { IfOk result (λ parsed. (script : List ℕ) → FindsHeaded parsed script head.now at) }
     ensures past { IfOk result (λ parsed. (before : ℕ) (script : List ℕ) → before < at → at ≤ length script → spec.NextPast parsed before script) }
 {
     let command = line_command(alloc, head, words)?;
@@ -368,8 +366,8 @@ fn parse_line(alloc: Global, head: &[u8], words: &[&[u8]], at: usize) -> Result<
 // The command of a head line, behind which its block starts at a place.
 fn parse_headed(alloc: Global, script: &[u8], head: &[u8], at: usize) -> Result<Parsed, AllocError>
     requires { at ≤ length script.now }
-    ensures found { IfOk result (λ parsed. spec.Finds parsed script.now (headed head.now (text.lines (drop at script.now)))) }
-    ensures past { IfOk result (λ parsed. (before : ℕ) → before < at → spec.NextPast parsed before script.now) }
+    ensures found { IfOk result (λ parsed. FindsHeaded parsed script.now head.now at) }
+    ensures past { IfOk result (λ parsed. NextBehind parsed script.now at) }
 {
     let words = words(alloc, head)?;
     if begins(&words, b"batch") {

@@ -11,7 +11,7 @@ use crate::reply::write_number;
 use bt_keycode::Key;
 use bt_messages::Message;
 use bt_node::Walk;
-use bt_rowtype::{Change, Column, Op, Row, Text, Value, copy_value, write_record};
+use bt_rowtype::{Change, Column, Op, Row, Text, TryClone, Value, write_record};
 use std::alloc::{AllocError, Global};
 
 // Adds two spaces for each level.
@@ -103,7 +103,7 @@ fn add_op(
     match op {
         Op::Set(place, new) => {
             let name = name_at(alloc, columns, *place)?;
-            let argument = copy_value(alloc, new)?;
+            let argument = new.try_clone(alloc)?;
             push_op(alloc, values, "set", name, argument)
         }
         Op::Add(place, number) => {

@@ -1,7 +1,7 @@
 -- Codes of values of the same kinds: their order, and that none begins another. The order of a table's rows stands on these.
-use Rattle.std.proofs.Common.{◌≡◌, List, [], ◌∷◌, ◌++◌, append-nil, refl, sym, ap, ◌∙◌}
+use Rattle.std.proofs.Common.{◌≡◌, List, [], ◌∷◌, ◌++◌, refl, ap, ◌∙◌}
 use Rattle.std.specs.Ordering.{ordering_then}
-use Rattle.bt_rowtype.specs.Values.{key_cmp as values_cmp, value_cmp}
+use Rattle.bt_rowtype.specs.Values.{value_cmp, values_cmp}
 use Rattle.bt_rowtype.specs.declared.value.Value.{Value}
 use Rattle.bt_rowtype.specs.declared.value.Value.TheVariants as value
 use Rattle.bt_keycode.specs.Codes.{AreInRange, HaveSameKinds, IsNoProperPrefix, code_of, code_of_value, kind_of}

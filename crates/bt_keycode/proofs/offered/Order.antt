@@ -1,12 +1,12 @@
 -- The order of keys, keys and limits, and sorted lists: what the crates above cite of it.
-use Rattle.std.proofs.Common.{◌≡◌, ℕ, Bool, true, false, List, [], ◌∷◌, Option, Some, None, refl, sym, ap, ◌∙◌, true≢false, ◌⊎◌, inl, inr}
+use Rattle.std.proofs.Common.{◌≡◌, Bool, true, false, List, [], ◌∷◌, Option, Some, None, refl, sym, ap, ◌∙◌, true≢false, ◌⊎◌, inl, inr}
 use Rattle.std.specs.Cmp.{IsTotalOrder, alike_right, tied_itself}
 use Rattle.std.specs.Cmp.Lexicographic.{nat_list_cmp_total}
 use Rattle.std.specs.FinMap.{nat_cmp-IsAntisymmetric, slice_cmp-IsAntisymmetric}
 use Rattle.std.specs.Ordering.{is_lt, is_eq, eq_by_cmp, ordering_reverse}
 use Rattle.std.specs.declared.cmp.Ordering.{Ordering}
 use Rattle.std.specs.declared.cmp.Ordering.TheVariants.{Less, Equal, Greater}
-use Rattle.bt_keycode.specs.Keys.{Key, key_cmp, is_before, IsFrom, IsPast, IsBelow, Within, AllWithin, AllFrom, IsSorted}
+use Rattle.bt_keycode.specs.Keys.{Key, key_cmp, is_before, IsFrom, IsPast, IsBelow, AllWithin, AllFrom}
 
 pub total_keys : IsTotalOrder key_cmp
 total_keys = nat_list_cmp_total

@@ -1,25 +1,23 @@
-use Rattle.std.proofs.Common.{◌∙◌, sym, ap, subst}
-use Rattle.std.proofs.lemmas.Result.{err_from_is_err_and}
-use Rattle.bt_rowtype.specs.Values.{is_text}
+use Rattle.std.proofs.Common.{◌≡◌, rules, subst, sym, take}
+use Rattle.bt_rowtype.proofs.offered.Texts.{no_text, short_text}
 use Rattle.bt_rowtype.specs.declared.value.Kind.TheVariants as kind
 use Rattle.bt_rowtype.specs.declared.value.Value.TheVariants as value
 use Rattle.bt_keycode.specs.Decoding.{BeginsWith}
-use Rattle.bt_keycode.proofs.Decoding.{no_code, no_text_code, passed_on, text_found}
+use Rattle.bt_keycode.proofs.Decoding.{no_code, no_text_code, part_bound, text_found}
 use Rattle.bt_keycode.proofs.decoder.read_text.Goals as goal
 
-pub returns-in_err-text-clause-none : goal.returns-in_err-text-clause-none
-returns-in_err-text-clause-none c =
-    let p = err_from_is_err_and c.from_residual.result c.from_residual.ensures.1 in
-    rw (p.1, p.2) (λ e other rest b. no_code c.args.bytes.now other rest (c.in_err-text.ensures.none (passed_on _ _ e)) b)
+pub returns-in_default-clause-none : goal.returns-in_default-clause-none
+returns-in_default-clause-none c = λ _. no_code c.args.bytes.now c.in_default.ensures.none
 
-pub returns-in_err-text_of-clause-none : goal.returns-in_err-text_of-clause-none
-returns-in_err-text_of-clause-none c =
-    let p = err_from_is_err_and c.from_residual-in_err-text_of.result c.from_residual-in_err-text_of.ensures.1 in
-    rw (p.1, p.2) (λ e other rest b. no_text_code c.args.bytes.now c.in_ok-text.text.items c.in_ok-text.rest.now other rest c.in_ok-text.ensures.found
-    (ap is_text (sym c.as_slice.ensures.value) ∙ c.in_err-text_of.ensures.none (passed_on _ _ e)) b)
+pub returns-in_ok-new-in-Ok-clause-found : goal.returns-in_ok-new-in-Ok-clause-found
+returns-in_ok-new-in-Ok-clause-found c =
+    let text = take c.in-Some.len c.unescape.new.text in
+    let short = part_bound c.in-Some.len 255 c.unescape.new.text c.in-Some.ensures.bound in
+    let same : c.in_ok-new-in-Ok.field-0 ≡ text = search rules in
+    subst (λ t. BeginsWith kind.Text c.args.bytes.now (value.Text t) c.in-Some.rest.now) (sym same)
+    (text_found c.args.bytes.now text c.in-Some.rest.now c.in-Some.ensures.found (short_text text short c.in-Ok.ensures.cases.1))
 
-pub returns-clause-found : goal.returns-clause-found
-returns-clause-found c =
-    let same = c.in_ok-text_of.ensures.same ∙ c.as_slice.ensures.value in
-    subst (λ t. BeginsWith kind.Text c.args.bytes.now (value.Text t) c.in_ok-text.rest.now) (sym same)
-    (text_found c.args.bytes.now c.in_ok-text.text.items c.in_ok-text.rest.now c.in_ok-text.ensures.found (ap is_text (sym c.as_slice.ensures.value) ∙ c.in_ok-text_of.ensures.in_range))
+pub returns-in-Err-clause-none : goal.returns-in-Err-clause-none
+returns-in-Err-clause-none c = λ _.
+    let text = take c.in-Some.len c.unescape.new.text in
+    no_text_code c.args.bytes.now text c.in-Some.rest.now c.in-Some.ensures.found (sym (no_text text c.in-Err.ensures.cases.0))

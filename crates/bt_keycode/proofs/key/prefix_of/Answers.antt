@@ -4,9 +4,9 @@ use Rattle.bt_keycode.specs.Prefixes.{eight_bytes}
 use Rattle.bt_keycode.proofs.Paddings.{are_small, first_eight-places}
 use Rattle.bt_keycode.proofs.key.prefix_of.Goals as goal
 
-pub returns-in-len8-up : goal.returns-in-len8-up
+pub returns : goal.returns
 unfolding eight_bytes
-returns-in-len8-up c =
+returns c =
     let xs = c.args.bytes.now in
     let bytes : List ℕ = get_or xs 0 0 ∷ get_or xs 1 0 ∷ get_or xs 2 0 ∷ get_or xs 3 0 ∷ get_or xs 4 0 ∷ get_or xs 5 0 ∷ get_or xs 6 0 ∷ get_or xs 7 0 ∷ [] in
     let small : (i : ℕ) → get_or bytes i 0 < 256 =

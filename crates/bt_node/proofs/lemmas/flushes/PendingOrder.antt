@@ -2,7 +2,7 @@
 use Rattle.std.proofs.Common.{◌≡◌, Bool, true, false, List, [], ◌∷◌, ◌++◌, length, refl, sym, ap, subst, ◌∙◌}
 use Rattle.std.specs.List.{zip}
 use Rattle.bt_keycode.specs.Keys.{AllFrom, IsSorted, Key}
-use Rattle.bt_messages.proofs.Placed.{first_stays, newer_last}
+use Rattle.bt_messages.proofs.offered.Placed.{first_stays, newer_last}
 use Rattle.bt_node.specs.Messages.{Messages, with_messages}
 use Rattle.bt_node.specs.inside.Marks.{passed}
 use Rattle.bt_node.specs.Trees.{Siblings}

@@ -1,4 +1,4 @@
-use Rattle.bt_rowtype.proofs.Utf8.{no_text, text_by_length}
+use Rattle.bt_rowtype.proofs.offered.Texts.{no_text, text_by_length}
 use Rattle.bt_rowtype.proofs.field.is_text.Goals as goal
 
 pub returns-in-Ok : goal.returns-in-Ok

@@ -1,20 +1,24 @@
-use Rattle.std.proofs.Common.{◌∙◌, ◌<◌, ◌^◌, ◌≡◌, ap, rules, sym}
+use Rattle.std.proofs.Common.{◌∙◌, ◌<◌, ◌^◌, ◌≡◌, ap, refl, rules, sym}
 use Rattle.bt_keycode.specs.Prefixes.{eight_bytes, first_eight}
-use Rattle.bt_keycode.proofs.Prefixes.{prefixes_decide, nexts_decide}
+use Rattle.bt_keycode.proofs.Prefixes.{first_same, numbers_decide}
 use Rattle.bt_keycode.proofs.key.Key.compare.Goals as goal
 
-pub returns-then-self-other : goal.returns-then-self-other
-returns-then-self-other c =
-    let low : c.self.inside.prefix < 2 ^ 64 = search rules in
-    let under : c.other.inside.prefix < 2 ^ 64 = search rules in
-    let decided = prefixes_decide _ _ _ _ low under c.self.invariant.prefix c.other.invariant.prefix c.if-self-other.true in
+pub returns-then-left-right : goal.returns-then-left-right
+returns-then-left-right c =
+    let left = c.number_at-left.result in
+    let right = c.number_at-right.result in
+    let low : left < 2 ^ 64 = search rules in
+    let under : right < 2 ^ 64 = search rules in
+    let decided = numbers_decide 0 left right c.args.self.now c.args.other.now low under refl c.number_at-left.ensures c.number_at-right.ensures c.if-left-right.true in
     cc
 
-pub returns-then-self-other-2 : goal.returns-then-self-other-2
-returns-then-self-other-2 c =
-    let low : c.self.inside.next < 2 ^ 64 = search rules in
-    let under : c.other.inside.next < 2 ^ 64 = search rules in
-    let same : first_eight c.self.inside.bytes ≡ first_eight c.other.inside.bytes =
-    sym c.self.invariant.prefix ∙ ap eight_bytes c.if-self-other.false ∙ c.other.invariant.prefix in
-    let decided = nexts_decide _ _ _ _ low under same c.self.invariant.next c.other.invariant.next c.if-self-other-2.true in
+pub returns-then-left-right-2 : goal.returns-then-left-right-2
+returns-then-left-right-2 c =
+    let left = c.number_at-left-2.result in
+    let right = c.number_at-right-2.result in
+    let low : left < 2 ^ 64 = search rules in
+    let under : right < 2 ^ 64 = search rules in
+    let first : first_eight c.args.self.now ≡ first_eight c.args.other.now =
+    sym c.number_at-left.ensures ∙ ap eight_bytes c.if-left-right.false ∙ c.number_at-right.ensures in
+    let decided = numbers_decide 8 left right c.args.self.now c.args.other.now low under (first_same _ _ first) c.number_at-left-2.ensures c.number_at-right-2.ensures c.if-left-right-2.true in
     cc

@@ -1,0 +1,3 @@
+-- What the crates above cite of the proofs of this one.
+pub mod Placed
+pub mod Rows

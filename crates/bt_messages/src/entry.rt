@@ -1,0 +1,68 @@
+//! Index values.
+ghost use Rattle.std.specs.Prelude.{◌≡◌, IfOk};
+ghost use Rattle.bt_messages.specs.Effects.{merged_entry};
+
+use crate::message::Merge;
+use bt_rowtype::{Row, Value, copy_row};
+use std::alloc::{AllocError, Global};
+use std::marker::Model;
+
+/// What an index keeps at a key: the included columns of a row. A contract sees the list of their values.
+#[derive(Debug, Drop)]
+pub struct Entry {
+    values: Row,
+}
+
+impl Model for Entry {
+    ghost use Rattle.std.specs.Prelude.{List};
+    ghost use Rattle.bt_rowtype.specs.declared.value.Value.{Value as value};
+
+    ghost Value = { List value };
+
+    ghost view = { λ e. e.values };
+}
+
+impl Entry {
+    /// The index value of these values.
+    pub fn new(values: Vec<Value>) -> Self
+        ensures { result ≡ values.items }
+    {
+        Entry {
+            values: Row::new(values),
+        }
+    }
+
+    pub fn as_slice(&self) -> &[Value]
+        ensures { result.now ≡ self.now }
+    {
+        self.values.as_slice()
+    }
+}
+
+fn copy_entry(alloc: Global, entry: &Entry) -> Result<Entry, AllocError>
+    ensures { IfOk result (λ copy. copy ≡ entry.now) }
+{
+    Ok(Entry {
+        values: copy_row(alloc, &entry.values)?,
+    })
+}
+
+impl Merge for Entry {
+    type Delta = Entry;
+
+    ghost merged = { merged_entry };
+
+    fn merge(alloc: Global, _old: Option<Entry>, delta: &Entry) -> Result<Entry, AllocError>
+        ensures { IfOk result (λ new. new ≡ delta.now) }
+    {
+        copy_entry(alloc, delta)
+    }
+
+    fn copy(&self, alloc: Global) -> Result<Entry, AllocError> {
+        copy_entry(alloc, self)
+    }
+
+    fn copy_delta(alloc: Global, delta: &Entry) -> Result<Entry, AllocError> {
+        delta.copy(alloc)
+    }
+}

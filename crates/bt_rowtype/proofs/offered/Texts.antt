@@ -1,0 +1,31 @@
+-- Whether bytes are a text of a column. Serves readers of texts.
+use Rattle.std.proofs.Common.{◌≡◌, ◌∙◌, sym, ap, List, ℕ, length, true, false, Bool, ◌&&◌, nat_le, inl, inr, refl, ◌≤◌, ◌<◌}
+use Rattle.std.proofs.lemmas.Bool.{cases_Bool, le-leb, lt-leb}
+use Rattle.std.specs.Prelude.{IsUtf8}
+use Rattle.std.specs.Str.{is_utf8}
+use Rattle.std.proofs.lemmas.Str.{is_utf8-from_IsUtf8, IsUtf8-from_is_utf8}
+use Rattle.bt_rowtype.specs.Limits.{longest_text}
+use Rattle.bt_rowtype.specs.Values.{is_text}
+
+and_true : (b : Bool) → b ≡ (b && true)
+and_true true = refl
+and_true false = refl
+
+and_false : (b : Bool) → false ≡ (b && false)
+and_false true = refl
+and_false false = refl
+
+pub text_by_length : (bytes : List ℕ) → IsUtf8 bytes → nat_le (length bytes) longest_text ≡ is_text bytes
+text_by_length bytes utf8 = and_true (nat_le (length bytes) longest_text) ∙ ap (λ u. nat_le (length bytes) longest_text && u) (sym (is_utf8-from_IsUtf8 bytes utf8))
+
+pub no_text : (bytes : List ℕ) → (IsUtf8 bytes → ⊥) → false ≡ is_text bytes
+no_text bytes broken = elim (cases_Bool (is_utf8 bytes)) [
+  | inl utf8 ↦ absurd (broken (IsUtf8-from_is_utf8 bytes utf8))
+  | inr not ↦ and_false (nat_le (length bytes) longest_text) ∙ ap (λ u. nat_le (length bytes) longest_text && u) (sym not)
+]
+
+pub short_text : (bytes : List ℕ) → length bytes ≤ longest_text → IsUtf8 bytes → is_text bytes ≡ true
+short_text bytes short utf8 = sym (text_by_length bytes utf8) ∙ le-leb (length bytes) longest_text short
+
+pub long_text : (bytes : List ℕ) → longest_text < length bytes → is_text bytes ≡ false
+long_text bytes long = rw (lt-leb (length bytes) longest_text long) refl

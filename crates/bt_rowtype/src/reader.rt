@@ -1,0 +1,107 @@
+//! The first record of a text, read byte by byte by the states that `csv` defines.
+//!
+//! The library's own reader has a buffer of 8 KiB, which makes it dear for one line; these are its states with its default
+//! settings, without the buffer.
+ghost use Rattle.std.specs.Prelude.{◌≡◌, false, IfOk};
+ghost use Rattle.csv.specs.Machine.{is_end, step as csv_step};
+ghost use Rattle.csv.specs.Reading.{default_config};
+ghost use Rattle.bt_rowtype.specs.Reader.{csv_action, csv_state};
+ghost use Rattle.bt_rowtype.specs.Records.{csv_record};
+
+use crate::fields::Fields;
+use crate::schema::MOST_COLUMNS;
+use std::alloc::{AllocError, Global};
+
+// Where the reader stands in a record.
+#[derive(Clone, Copy)]
+enum State {
+    // before its first byte
+    Record,
+    // before the first byte of a field
+    Field,
+    // in a field, behind a byte that is no quote
+    Plain,
+    // between quotes
+    Quoted,
+    // behind a quote that ends the quoted part, or is the first of two
+    Quote,
+}
+
+// What is done with a byte.
+#[derive(Clone, Copy)]
+enum Action {
+    Skip,
+    Copy,
+    EndField,
+    EndRecord,
+}
+
+// What a byte does in a field, outside quotes. The state after the end of a record is of no use.
+fn in_field(byte: u8) -> (State, Action)
+    ensures action { csv_action result.1 ≡ (csv_step default_config (csv_state State.Plain) byte).1 }
+    ensures state { is_end (csv_action result.1) ≡ false → csv_state result.0 ≡ (csv_step default_config (csv_state State.Plain) byte).0 }
+{
+    match byte {
+        b',' => (State::Field, Action::EndField),
+        b'\r' | b'\n' => (State::Record, Action::EndRecord),
+        _ => (State::Plain, Action::Copy),
+    }
+}
+
+// What a byte does at the start of a field.
+fn start_field(byte: u8) -> (State, Action)
+    ensures action { csv_action result.1 ≡ (csv_step default_config (csv_state State.Field) byte).1 }
+    ensures state { is_end (csv_action result.1) ≡ false → csv_state result.0 ≡ (csv_step default_config (csv_state State.Field) byte).0 }
+{
+    if byte == b'"' {
+        (State::Quoted, Action::Skip)
+    } else {
+        in_field(byte)
+    }
+}
+
+// What a byte does in a state, and the state behind it, but for that after the end of a record.
+fn step(state: State, byte: u8) -> (State, Action)
+    ensures action { csv_action result.1 ≡ (csv_step default_config (csv_state state) byte).1 }
+    ensures state { is_end (csv_action result.1) ≡ false → csv_state result.0 ≡ (csv_step default_config (csv_state state) byte).0 }
+{
+    match (state, byte) {
+        (State::Record, b'\r' | b'\n') => (State::Record, Action::Skip),
+        (State::Record | State::Field, _) => start_field(byte),
+        (State::Plain, _) => in_field(byte),
+        (State::Quoted, b'"') => (State::Quote, Action::Skip),
+        (State::Quoted, _) => (State::Quoted, Action::Copy),
+        (State::Quote, b'"') => (State::Quoted, Action::Copy),
+        (State::Quote, _) => in_field(byte),
+    }
+}
+
+/// The fields of the first record of a text, as `csv` reads it, or `None` where the text has line ends alone.
+pub(crate) fn read_quoted(alloc: Global, text: &[u8]) -> Result<Option<Fields>, AllocError>
+    ensures { IfOk result (λ found. found ≡ csv_record text.now) }
+{
+    let mut fields = Fields::with_room(alloc, MOST_COLUMNS, text.len())?;
+    let mut field = Vec::with_capacity(alloc, text.len())?;
+    let mut state = State::Record;
+    for byte in text {
+        let (next, action) = step(state, *byte);
+        match action {
+            Action::Skip => {}
+            Action::Copy => field.push(*byte)?,
+            Action::EndField => {
+                fields.push(field.as_slice())?;
+                field.clear();
+            }
+            Action::EndRecord => {
+                fields.push(field.as_slice())?;
+                return Ok(Some(fields));
+            }
+        }
+        state = next;
+    }
+    if let State::Record = state {
+        return Ok(None);
+    }
+    fields.push(field.as_slice())?;
+    Ok(Some(fields))
+}

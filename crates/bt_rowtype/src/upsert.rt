@@ -1,0 +1,219 @@
+//! Reading the record of an upsert.
+ghost use Rattle.std.specs.Prelude.{◌≡◌, ◌≢◌, ◌≤◌, Err, IfErr, IfOk, List, Ok, drop, false, length};
+ghost use Rattle.std.specs.List.{filter_map};
+ghost use Rattle.std.specs.Result.{result_err, result_map_both, result_ok};
+ghost use Rattle.bt_rowtype.specs.Answers.{Answers};
+ghost use Rattle.bt_rowtype.specs.Ints.{int_of};
+ghost use Rattle.bt_rowtype.specs.Ops as spec;
+ghost use Rattle.bt_rowtype.specs.Refusals.{least};
+ghost use Rattle.bt_rowtype.specs.Values.{or_refused};
+ghost use Rattle.bt_rowtype.specs.declared.value.Value.{Value};
+
+use crate::int::read_int;
+use crate::fields::Fields;
+use crate::op::{MOST_OPS, Op, Ops};
+use crate::reading::Reading;
+use crate::refusal::Refusal;
+use crate::row::{read_at, read_fields};
+use crate::schema::Schema;
+use crate::value::{Kind, Row};
+use std::alloc::{AllocError, Global};
+
+/// The key and the operations of an upsert.
+#[derive(Debug, Drop)]
+pub struct Upsert {
+    /// The values of the key.
+    pub key: Row,
+    /// What is done to its row.
+    pub ops: Ops,
+}
+
+// The column with this name that operations may change, and its kind.
+fn find_column(schema: &Schema, name: &[u8]) -> Option<(usize, Kind)>
+    ensures { result ≡ spec.open_column schema.now name.now }
+{
+    let columns = schema.columns();
+    for place in schema.keys()..columns.len() {
+        let column = &columns[place];
+        if column.name.as_bytes() == name {
+            return Some((place, column.kind));
+        }
+    }
+    None
+}
+
+// The number that a field spells, or its refusal as this item.
+fn read_number(item: u64, field: &[u8]) -> Result<i64, Refusal>
+    ensures { result ≡ or_refused (Refusal.BadField item) (int_of field.now) }
+{
+    match read_int(field) {
+        Some(number) => Ok(number),
+        None => Err(Refusal::BadField(item)),
+    }
+}
+
+// The operation `set` with a column's name and an argument, or its refusal.
+fn read_set(
+    alloc: Global,
+    schema: &Schema,
+    item: u64,
+    name: &[u8],
+    argument: &[u8],
+) -> Result<Op, Refusal>
+    ensures answer { Answers (spec.at_column (spec.set_of item argument.now) (spec.open_column schema.now name.now)) result }
+    ensures certain { IfErr (spec.at_column (spec.set_of item argument.now) (spec.open_column schema.now name.now)) (λ e. result ≡ Err e) }
+{
+    let Some((place, kind)) = find_column(schema, name) else {
+        return Err(Refusal::NoSuchColumn);
+    };
+    Ok(Op::Set(place, read_at(alloc, kind, item, argument)?))
+}
+
+// The operation `add` with a column's name and an argument, or its refusal.
+fn read_add(schema: &Schema, item: u64, name: &[u8], argument: &[u8]) -> Result<Op, Refusal>
+    ensures { result ≡ spec.at_column (spec.add_of item argument.now) (spec.open_column schema.now name.now) }
+{
+    let Some((place, kind)) = find_column(schema, name) else {
+        return Err(Refusal::NoSuchColumn);
+    };
+    if kind != Kind::Int {
+        return Err(Refusal::NotInt);
+    }
+    Ok(Op::Add(place, read_number(item, argument)?))
+}
+
+// The operation of a word, a column's name and an argument, or its one fault.
+fn read_op(
+    alloc: Global,
+    schema: &Schema,
+    item: u64,
+    word: &[u8],
+    name: &[u8],
+    argument: &[u8],
+) -> Result<Op, Refusal>
+    ensures answer { Answers (spec.op_of schema.now item word.now name.now argument.now) result }
+    ensures certain { IfErr (spec.op_of schema.now item word.now name.now argument.now) (λ e. result ≡ Err e) }
+{
+    if word == b"set".as_slice() {
+        return read_set(alloc, schema, item, name, argument);
+    }
+    if word == b"add".as_slice() {
+        return read_add(schema, item, name, argument);
+    }
+    Err(Refusal::BadField(item))
+}
+
+// Whether a record has the fields of a key and of 1 to 16 operations.
+fn is_upsert(keys: usize, fields: usize) -> bool
+    ensures { result ≡ spec.is_upsert keys fields }
+{
+    if fields < keys {
+        return false;
+    }
+    let rest = fields - keys;
+    rest >= 3 && rest <= 3 * MOST_OPS && rest % 3 == 0
+}
+
+// What the fields behind the key spell, in groups of three.
+fn read_groups(
+    alloc: Global,
+    schema: &Schema,
+    item: u64,
+    fields: &Fields,
+) -> Result<Reading<Op>, AllocError>
+    requires { schema.now.keys ≤ length fields.now }
+    ensures values { IfOk result (λ read. read.values ≡ filter_map result_ok (spec.ops_of schema.now item (drop schema.now.keys fields.now))) }
+    ensures refusal { IfOk result (λ read. read.refusal ≡ least (filter_map result_err (spec.ops_of schema.now item (drop schema.now.keys fields.now)))) }
+{
+    let keys = schema.keys();
+    let groups = (fields.len() - keys) / 3;
+    let mut reading = Reading::with_capacity(alloc, groups)?;
+    for group in 0..groups {
+        let place = keys + 3 * group;
+        let (word, name, argument) = (
+            fields.get(place),
+            fields.get(place + 1),
+            fields.get(place + 2),
+        );
+        let read = read_op(alloc, schema, item, word, name, argument);
+        reading.add(read)?;
+    }
+    Ok(reading)
+}
+
+/// The operations that the record of an upsert spells: the fields of the key, then 1 to 16 groups of a word, `set` or `add`, the
+/// name of a column and an argument.
+///
+/// `BadLength` where the number of fields is another. An operation's one fault is the first of: the word (`BadField`), a column
+/// that is not there or is one of the key (`NoSuchColumn`), `add` to a column that is not int (`NotInt`), the argument
+/// (`BadField`). Of several operations the least is answered.
+pub fn read_ops(alloc: Global, schema: &Schema, item: u64, fields: &Fields) -> Result<Ops, Refusal>
+    ensures answer { Answers (spec.ops_as schema.now item fields.now) result }
+    ensures certain { spec.is_upsert schema.now.keys (length fields.now) ≡ false → result ≡ Err (Refusal.BadLength item) }
+{
+    if !is_upsert(schema.keys(), fields.len()) {
+        return Err(Refusal::BadLength(item));
+    }
+    let reading = read_groups(alloc, schema, item, fields)?;
+    reading.finish()
+}
+
+// The values of the key that the first fields spell, or their refusal as this item. There is room for a row.
+fn read_key_fields(
+    alloc: Global,
+    schema: &Schema,
+    item: u64,
+    fields: &Fields,
+) -> Result<Row, Refusal>
+    requires { schema.now.keys ≤ length fields.now }
+    ensures { Answers (spec.key_as schema.now item fields.now) result }
+{
+    read_fields(
+        alloc,
+        schema.key_columns(),
+        schema.columns().len(),
+        item,
+        fields,
+    )
+}
+
+// The lesser of the key's refusal and that of the operations, if they have one.
+fn refusal_with_ops(
+    alloc: Global,
+    schema: &Schema,
+    item: u64,
+    fields: &Fields,
+    refusal: Refusal,
+) -> Refusal
+    ensures { result ≢ Refusal.OutOfMemory → spec.both_read {S = List Value} (Err refusal) (spec.ops_as schema.now item fields.now) ≡ Err result }
+{
+    match read_ops(alloc, schema, item, fields) {
+        Ok(_) => refusal,
+        Err(Refusal::OutOfMemory) => Refusal::OutOfMemory,
+        Err(other) => refusal.lesser(other),
+    }
+}
+
+/// The key and the operations that the record of an upsert spells, refused as in [`read_ops`], or as `BadField` for a field of
+/// the key, whichever is less.
+pub fn read_upsert(
+    alloc: Global,
+    schema: &Schema,
+    item: u64,
+    fields: &Fields,
+) -> Result<Upsert, Refusal>
+    ensures answer { Answers (spec.upsert_as schema.now item fields.now) (result_map_both (λ upsert. (upsert.key, upsert.ops)) (λ e. e) result) }
+    ensures certain { spec.is_upsert schema.now.keys (length fields.now) ≡ false → result ≡ Err (Refusal.BadLength item) }
+{
+    if !is_upsert(schema.keys(), fields.len()) {
+        return Err(Refusal::BadLength(item));
+    }
+    match read_key_fields(alloc, schema, item, fields) {
+        Ok(key) => {
+            let ops = read_ops(alloc, schema, item, fields)?;
+            Ok(Upsert { key, ops })
+        }
+        Err(Refusal::OutOfMemory) => Err(Refusal::OutOfMemory),
+        Err(refusal) => Err(refusal_with_ops(alloc, schema, item, fields, refusal)),
+    }
+}
