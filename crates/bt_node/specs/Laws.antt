@@ -48,6 +48,17 @@ module _ {V M : Type 0} (effect : Option V → M → Option V) (shape : Shape) (
   ComeByOneRule xs = (ns : Nodes V M) (buffer : Messages M) → t ≡ inner ns buffer →
       xs ≡ grouped shape (flushed_over (absorb effect shape) shape.buffer (shared (children ns) (with_messages packet buffer)))
 
+-- ---- what trees hold
+
+module _ {V M : Type 0} (effect : Option V → M → Option V) where
+  -- the tree holds what the siblings hold
+  abbrev pub HoldsAll : Siblings V M → Tree V M → Type 0
+  HoldsAll xs t = holds effect t ≡ all_hold effect xs
+
+  -- the second tree holds what the first one held, after the packet
+  abbrev pub HoldsAfter : Tree V M → Messages M → Tree V M → Type 0
+  HoldsAfter t packet u = holds effect u ≡ rows_after effect packet (holds effect t)
+
 -- ---- one node above siblings
 
 -- One node stands for itself. More have the crown of the nodes under which they are dealt, with empty buffers.

@@ -5,9 +5,8 @@ ghost use Rattle.bt_keycode.specs.Keys.{key_cmp};
 ghost use Rattle.bt_messages.specs.Effects.{effect_of};
 ghost use Rattle.bt_messages.specs.declared.message.Message.{Message};
 ghost use Rattle.bt_node.specs.Fits.{AreFit, HasShape};
-ghost use Rattle.bt_node.specs.Flushes.{absorb, all_hold, crown, grouped, holds, shared, sunk};
-ghost use Rattle.bt_node.specs.Laws.{ChosenArePlanned, ComeByOneRule, FitThere, FlushesInTurn, HoldRowsAfter, KeepHeight, StandsAbove, StayWithoutPacket};
-ghost use Rattle.bt_node.specs.Messages.{rows_after};
+ghost use Rattle.bt_node.specs.Flushes.{absorb, crown, grouped, holds, shared, sunk};
+ghost use Rattle.bt_node.specs.Laws.{ChosenArePlanned, ComeByOneRule, FitThere, FlushesInTurn, HoldRowsAfter, HoldsAfter, HoldsAll, KeepHeight, StandsAbove, StayWithoutPacket};
 ghost use Rattle.bt_node.specs.Trees.{leaf};
 
 use crate::absorb::absorb;
@@ -93,7 +92,7 @@ pub fn crown<V: Merge>(
     requires { AreFit shape siblings }
     ensures tree { IfOk result (λ tree. tree ≡ (shape, crown shape siblings)) }
     ensures fits { IfOk result (λ tree. HasShape tree.0 tree.1) }
-    ensures rows { IfOk result (λ tree. holds (effect_of V.merged) tree.1 ≡ all_hold (effect_of V.merged) siblings) }
+    ensures rows { IfOk result (λ tree. HoldsAll (effect_of V.merged) siblings tree.1) }
     ensures stands { IfOk result (λ tree. StandsAbove shape siblings tree.1) }
 {
     let root = crowned(alloc, shape, siblings)?;
@@ -147,7 +146,7 @@ impl<V: Merge> Tree<V> {
     pub fn sink(self, alloc: Global, packet: Packet<V>) -> Result<Self, AllocError>
         ensures tree { IfOk result (λ tree. tree ≡ (self.0, sunk (effect_of V.merged) self.0 self.1 packet)) }
         ensures fits { IfOk result (λ tree. HasShape tree.0 tree.1) }
-        ensures rows { IfOk result (λ tree. holds (effect_of V.merged) tree.1 ≡ rows_after (effect_of V.merged) packet (holds (effect_of V.merged) self.1)) }
+        ensures rows { IfOk result (λ tree. HoldsAfter (effect_of V.merged) self.1 packet tree.1) }
         ensures unchanged { packet ≡ [] → IfOk result (λ tree. tree ≡ self) }
     {
         let (shape, root) = self.apart();

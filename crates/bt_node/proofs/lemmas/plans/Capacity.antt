@@ -1,21 +1,17 @@
 -- The loop turn by turn: it ends with no more than its capacity, leaves as it is what is within capacity, and has turns enough.
-use Rattle.std.proofs.Common.{◌≡◌, ℕ, zero, suc, ◌+◌, ◌<◌, ◌≤◌, true, false, cond, eqb, List, [], ◌∷◌, ◌++◌, map, refl, sym, subst, ◌∙◌, arith, inl, inr, le_refl}
+use Rattle.std.proofs.Common.{◌≡◌, ℕ, zero, suc, ◌+◌, ◌<◌, ◌≤◌, true, false, cond, eqb, List, [], ◌∷◌, map, refl, sym, subst, ◌∙◌, arith, inl, inr, le_refl}
 use Rattle.std.proofs.lemmas.Bool.{le-leb, lt-leb, cond-true, cond-false, eqb-true, eqb-false}
 use Rattle.bt_node.specs.Plans.{total, most, place_of, fullest}
 use Rattle.bt_node.specs.Loops.{opened_at, settled}
 use Rattle.bt_node.specs.inside.Marks.{IsLight}
 use Rattle.bt_node.proofs.lemmas.plans.RenewedChoice.{le_or_lt, nothing}
-use Rattle.bt_node.proofs.lemmas.plans.OnePass.{settled-planned}
+use Rattle.bt_node.proofs.lemmas.plans.OnePass.{settled-planned, total-light}
 
 module _ {X : Type 0} (weight : X → ℕ) (parts : X → List X) (light : (x : X) → IsLight weight parts (parts x)) where
-  total-light : (xs ys : List X) → IsLight weight parts xs → total (map weight (xs ++ ys)) ≡ total (map weight ys)
-  total-light [] ys l = refl
-  total-light (x ∷ xs) ys l = omega (arith, l.0, total-light xs ys l.1)
-
   total-opened : (m : ℕ) (xs : List X) → m ≤ most (map weight xs) → 0 < m → most (map weight xs) ≤ m → total (map weight (opened_at weight parts (place_of m (map weight xs)) xs)) + m ≡ total (map weight xs)
   total-opened m [] a b c = absurd (omega arith)
   total-opened m (x ∷ xs) a b c = elim (eqb (weight x) m) as (λ t. eqb (weight x) m ≡ t → total (map weight (opened_at weight parts (cond t 0 (suc (place_of m (map weight xs)))) (x ∷ xs))) + m ≡ weight x + total (map weight xs)) [
-    | true ↦ λ t. omega (arith, eqb-true (weight x) m t, total-light (parts x) xs (light x))
+    | true ↦ λ t. omega (arith, eqb-true (weight x) m t, total-light weight parts light (parts x) xs (light x))
     | false ↦ λ t. omega (arith, total-opened m xs (later t) b (omega arith))
   ] refl
     where

@@ -28,7 +28,7 @@ module _ {X : Type 0} (weight : X → ℕ) (parts : X → List X) (light : (x : 
   abbrev left : X × Bool → ℕ
   left s = cond s.1 0 (weight s.0)
 
-  total-light : (xs ys : List X) → IsLight weight parts xs → total (map weight (xs ++ ys)) ≡ total (map weight ys)
+  pub total-light : (xs ys : List X) → IsLight weight parts xs → total (map weight (xs ++ ys)) ≡ total (map weight ys)
   total-light [] ys l = refl
   total-light (x ∷ xs) ys l = omega (arith, l.0, total-light xs ys l.1)
 
