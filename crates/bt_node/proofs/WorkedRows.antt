@@ -11,14 +11,13 @@ use Rattle.bt_rowtype.specs.declared.op.Change as change
 use Rattle.bt_rowtype.specs.declared.op.Op.TheVariants.{Add}
 use Rattle.bt_rowtype.specs.declared.value.Value.{Value}
 use Rattle.bt_rowtype.specs.declared.value.Value.TheVariants.{Int}
-use Rattle.bt_node.specs.Keys.{Key}
+use Rattle.bt_keycode.specs.Keys.{Key}
 use Rattle.bt_node.specs.Messages.{rows_after}
 use Rattle.bt_node.specs.Deals.{sizes}
 use Rattle.bt_node.specs.Plans.{planned}
 use Rattle.bt_node.specs.Trees.{Shape, Tree, leaf, inner, Nodes, none, node}
 use Rattle.bt_node.specs.Flushes.{sunk, holds}
 use Rattle.bt_node.specs.Lookups.{value_at}
-use Rattle.bt_node.specs.Drains.{drained_tree, packed, rebuilt}
 
 -- an upsert adds to the value, or to none
 abbrev merged : Option ℤ → ℤ → ℤ
@@ -199,17 +198,3 @@ looked_up = refl
 
 not_there : value_at effect (k 9) three_high ≡ None
 not_there = refl
-
--- ---- draining and packing
-
-packs_four : packed shape (entry 1 10 ∷ entry 2 20 ∷ entry 3 30 ∷ entry 4 40 ∷ []) ≡ split_leaf
-packs_four = refl
-
--- a leaf without rows stays
-keeps_an_empty_leaf : drained_tree effect shape (inner (node [] (two 10 20 20 40) (node (k 30) (leaf (entry 30 20 ∷ [])) none)) (puts 15 21 ∷ (k 30, Del) ∷ []))
-    ≡ inner (node [] (two 10 20 15 21) (node (k 20) (leaf (entry 20 40 ∷ [])) (node (k 30) (leaf []) none))) []
-keeps_an_empty_leaf = refl
-
-rebuilds : rebuilt effect shape four_leaves ≡ inner
-    (node [] (two 1 11 2 20) (node (k 3) (two 3 30 4 40) (node (k 5) (two 5 50 6 60) (node (k 7) (leaf (entry 7 70 ∷ [])) none)))) []
-rebuilds = refl

@@ -2,7 +2,7 @@
 use Rattle.std.specs.Prelude.{◌≡◌, ℕ, zero, suc, ◌≤◌, List, [], ◌∷◌, length}
 use Rattle.std.specs.declared.option.Option.{Option}
 use Rattle.std.specs.declared.option.Option.TheVariants.{None}
-use Rattle.bt_node.specs.Keys.{Key, Within, AllWithin, IsRising, SideBySide}
+use Rattle.bt_keycode.specs.Keys.{Key, Within, AllWithin, IsSorted, SideBySide}
 use Rattle.bt_node.specs.Messages.{Rows, Messages}
 use Rattle.bt_node.specs.Trees.{Shape, Tree, leaf, inner, Nodes, none, node, Siblings, children, nodes, height}
 
@@ -22,7 +22,7 @@ Lies zero low high (leaf rows) = RowsLie low high rows
 Lies zero low high (inner ns buffer) = ⊥
 Lies (suc levels) low high (leaf rows) = ⊥
 Lies (suc levels) low high (inner ns buffer) =
-    AllWithin low high buffer × IsRising buffer × SideBySide (λ x. x.0) (λ l h x. Lies levels l h x.1) low high (children ns) × IsLed (children ns)
+    AllWithin low high buffer × IsSorted buffer × SideBySide (λ x. x.0) (λ l h x. Lies levels l h x.1) low high (children ns) × IsLed (children ns)
 
 -- siblings, each with this many levels below it, between the limits
 abbrev pub SiblingsLie : {V M : Type 0} → ℕ → Option Key → Option Key → Siblings V M → Type 0
@@ -74,7 +74,11 @@ pub record HasShape {V M : Type 0} (shape : Shape) (t : Tree V M) : Type 0 where
   pub levels : ℕ
   pub fits : NodeFits shape levels None None t
 
--- a fact of a node and a packet, wherever the node fits between two limits, the packet lies between them, and the shape has room
+-- siblings of a whole tree that fit
+abbrev pub AreFit : {V M : Type 0} → Shape → Siblings V M → Type 0
+AreFit shape xs = (levels : ℕ) × SiblingsFit shape levels None None xs
+
+-- a fact of a node and a packet, wherever the node fits between two limits and the packet lies between them
 abbrev pub WhereFits : {V M : Type 0} → Shape → Tree V M → Messages M → (ℕ → Option Key → Option Key → Type 0) → Type 0
 WhereFits shape t packet Fact =
-    (levels : ℕ) (low high : Option Key) → IsRoomy shape → NodeFits shape levels low high t → AllWithin low high packet → Fact levels low high
+    (levels : ℕ) (low high : Option Key) → NodeFits shape levels low high t → AllWithin low high packet → Fact levels low high

@@ -2,11 +2,11 @@
 use Rattle.std.specs.Prelude.{ℕ, zero, suc, List, [], ◌∷◌, ◌++◌, map, length}
 use Rattle.std.specs.List.{flat_map}
 use Rattle.std.specs.declared.option.Option.{Option}
-use Rattle.bt_node.specs.Keys.{Key}
+use Rattle.bt_keycode.specs.Keys.{Key}
 use Rattle.bt_node.specs.Messages.{Rows, Messages, rows_after, with_messages, before, from}
 use Rattle.bt_node.specs.Deals.{deal}
-use Rattle.bt_node.specs.Plans.{total}
-use Rattle.bt_node.specs.Loops.{settled}
+use Rattle.bt_node.specs.Plans.{total, fullest}
+use Rattle.bt_node.specs.Loops.{opened_at, settled}
 use Rattle.bt_node.specs.Trees.{Shape, Tree, leaf, inner, Nodes, none, node, Siblings, children, nodes, height}
 
 -- a child with the messages of its parent's buffer that are pending for it
@@ -40,14 +40,22 @@ module _ {V M : Type 0} where
   abbrev pub counts : List (Child V M) → List ℕ
   counts = map (λ c. length c.pending)
 
+  -- siblings as children for which no message is pending
+  abbrev pub none_pending : Siblings V M → List (Child V M)
+  none_pending = map (λ x. record { pivot = x.0; tree = x.1; pending = [] })
+
   -- what becomes of a child when the messages that are pending for it go down, behind its pivot; no messages are pending for the parts
   abbrev pub flushed : Flush V M → Child V M → List (Child V M)
-  flushed flush c = map (λ x. record { pivot = x.0; tree = x.1; pending = [] }) (pivot_first c.pivot (flush c.tree c.pending))
+  flushed flush c = none_pending (pivot_first c.pivot (flush c.tree c.pending))
 
   -- While more than the capacity is pending, the fullest child is flushed, and the choice is made anew. Each turn sends a message down at least, so there
   -- are no more turns than messages.
   abbrev pub flushed_over : Flush V M → ℕ → List (Child V M) → List (Child V M)
   flushed_over flush capacity cs = settled (λ c. length c.pending) (flushed flush) capacity (total (counts cs)) cs
+
+  -- the children after the fullest of them was flushed
+  abbrev pub fullest_flushed : Flush V M → List (Child V M) → List (Child V M)
+  fullest_flushed flush cs = opened_at (λ c. length c.pending) (flushed flush) (fullest (counts cs)) cs
 
   -- neighbouring children under one inner node, what is pending for them in its buffer, behind the pivot of the first
   abbrev pub gathered : List (Child V M) → Key × Tree V M
@@ -67,7 +75,7 @@ module _ {V M : Type 0} where
   crowned levels shape [] = leaf []
   crowned levels shape (x ∷ []) = x.1
   crowned zero shape (x ∷ y ∷ xs) = x.1
-  crowned (suc levels) shape (x ∷ y ∷ xs) = crowned levels shape (grouped shape (shared (x ∷ y ∷ xs) []))
+  crowned (suc levels) shape (x ∷ y ∷ xs) = crowned levels shape (grouped shape (none_pending (x ∷ y ∷ xs)))
 
   -- One node stands for itself. More are dealt by the fanout under inner nodes with empty buffers, again until one is left.
   abbrev pub crown : Shape → Siblings V M → Tree V M

@@ -3,7 +3,7 @@ use Rattle.std.specs.Prelude.{ℕ, suc, cond, List, [], ◌∷◌}
 use Rattle.std.specs.FinMap.{find}
 use Rattle.std.specs.declared.option.Option.{Option}
 use Rattle.std.specs.declared.option.Option.TheVariants.{None}
-use Rattle.bt_node.specs.Keys.{Key, key_cmp, key_lt}
+use Rattle.bt_keycode.specs.Keys.{Key, key_cmp, is_before}
 use Rattle.bt_node.specs.Messages.{value_after}
 use Rattle.bt_node.specs.Trees.{Tree, leaf, inner, Nodes, none, node}
 
@@ -18,9 +18,9 @@ module _ {V M : Type 0} (effect : Option V → M → Option V) where
     pub value_below : Key → Nodes V M → Option V
     value_below k none = None
     value_below k (node p t none) = value_at k t
-    value_below k (node p t (node q u ns)) = cond (key_lt k q) (value_at k t) (value_below k (node q u ns))
+    value_below k (node p t (node q u ns)) = cond (is_before k q) (value_at k t) (value_below k (node q u ns))
 
 -- how many of the first siblings have a pivot that is at most a key
 abbrev pub pivots_up_to : {X : Type 0} → Key → List (Key × X) → ℕ
 pivots_up_to k [] = 0
-pivots_up_to k (x ∷ xs) = cond (key_lt k x.0) 0 (suc (pivots_up_to k xs))
+pivots_up_to k (x ∷ xs) = cond (is_before k x.0) 0 (suc (pivots_up_to k xs))

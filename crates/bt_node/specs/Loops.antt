@@ -1,5 +1,5 @@
 -- A list in which the heaviest item is replaced by its parts, again and again.
-use Rattle.std.specs.Prelude.{◌≡◌, ℕ, zero, suc, Bool, true, false, cond, nat_le, List, [], ◌∷◌, ◌++◌, map, take, drop}
+use Rattle.std.specs.Prelude.{ℕ, zero, suc, cond, nat_le, List, [], ◌∷◌, ◌++◌, map, take, drop}
 use Rattle.std.specs.List.{flat_map}
 use Rattle.bt_node.specs.Plans.{total, fullest}
 
@@ -23,30 +23,6 @@ module _ {X : Type 0} (weight : X → ℕ) (parts : X → List X) where
   replaced capacity (suc turns) xs =
       let i = fullest (map weight xs) in
       cond (nat_le (total (map weight xs)) capacity) [] (take 1 (drop i xs) ++ replaced capacity turns (opened_at i xs))
-
-  -- the list after one pass that replaces each item with a mark
-  abbrev pub passed : List (X × Bool) → List X
-  passed = flat_map (λ s. cond s.1 (parts s.0) (s.0 ∷ []))
-
-  -- each of these weighs nothing
-  abbrev pub IsLight : List X → Type 0
-  IsLight [] = Unit {0}
-  IsLight (x ∷ xs) = (weight x ≡ 0) × IsLight xs
-
--- the list with a mark at a place
-abbrev pub marked : {X : Type 0} → ℕ → List (X × Bool) → List (X × Bool)
-marked i [] = []
-marked zero (s ∷ ss) = (s.0, true) ∷ ss
-marked (suc i) (s ∷ ss) = s ∷ marked i ss
-
--- the list with a mark at each of these places
-abbrev pub marked_all : {X : Type 0} → List ℕ → List (X × Bool) → List (X × Bool)
-marked_all [] ss = ss
-marked_all (i ∷ is) ss = marked_all is (marked i ss)
-
--- the list without a mark
-abbrev pub unmarked : {X : Type 0} → List X → List (X × Bool)
-unmarked = map (λ x. (x, false))
 
 -- the items at these places, in this order
 abbrev pub items_at : {X : Type 0} → List ℕ → List X → List X

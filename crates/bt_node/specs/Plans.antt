@@ -1,5 +1,5 @@
 -- Which children are flushed, by the numbers of messages that are pending for them.
-use Rattle.std.specs.Prelude.{ℕ, zero, suc, ◌+◌, max, Bool, true, false, cond, nat_le, nat_eq, List, [], ◌∷◌, set, replicate}
+use Rattle.std.specs.Prelude.{ℕ, zero, suc, ◌+◌, max, cond, nat_le, nat_eq, List, [], ◌∷◌, set}
 
 -- the counts together
 abbrev pub total : List ℕ → ℕ
@@ -54,12 +54,3 @@ abbrev pub renewed : ℕ → ℕ → List ℕ → List ℕ
 renewed capacity zero counts = []
 renewed capacity (suc turns) counts =
     cond (nat_le (total counts) capacity) [] (fullest counts ∷ renewed capacity turns (set counts (fullest counts) 0))
-
--- true at each of these places
-abbrev pub set_all : List ℕ → List Bool → List Bool
-set_all [] marks = marks
-set_all (i ∷ is) marks = set_all is (set marks i true)
-
--- for each of n children, whether its place is among these
-abbrev pub marks_of : ℕ → List ℕ → List Bool
-marks_of n places = set_all places (replicate n false)

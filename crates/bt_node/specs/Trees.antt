@@ -1,6 +1,6 @@
 -- Bε-trees: rows in the leaves, pivots, children and a buffer of messages in the inner nodes.
 use Rattle.std.specs.Prelude.{ℕ, suc, max, List, [], ◌∷◌}
-use Rattle.bt_node.specs.Keys.{Key}
+use Rattle.bt_keycode.specs.Keys.{Key}
 use Rattle.bt_node.specs.Messages.{Rows, Messages}
 
 -- how large nodes may be: the children of an inner node, the messages of its buffer, the rows of a leaf

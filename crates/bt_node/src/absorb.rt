@@ -3,9 +3,9 @@ ghost use Rattle.std.specs.Prelude.{◌≡◌, ◌∷◌, ◌≤◌, [], true, I
 ghost use Rattle.bt_messages.specs.Effects.{effect_of};
 ghost use Rattle.bt_node.specs.Fits.{IsLed};
 ghost use Rattle.bt_node.specs.Flushes.{absorb, flushed};
-ghost use Rattle.bt_node.specs.Loops.{passed};
-ghost use Rattle.bt_node.specs.Shares.{with_shares};
-ghost use Rattle.bt_node.specs.Views.{children_of, siblings_of, tree_of};
+ghost use Rattle.bt_node.specs.inside.Marks.{passed};
+ghost use Rattle.bt_node.specs.inside.Shares.{with_shares};
+ghost use Rattle.bt_node.specs.inside.Views.{children_of, siblings_of, tree_of};
 
 use crate::group::{add_parts, group, leaves};
 use crate::node::{Child, Node};

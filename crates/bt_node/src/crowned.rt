@@ -1,7 +1,7 @@
 //! One node above siblings.
 ghost use Rattle.std.specs.Prelude.{◌≡◌, IfOk};
 ghost use Rattle.bt_node.specs.Flushes.{crown};
-ghost use Rattle.bt_node.specs.Views.{children_of, siblings_of, tree_of, none_pending_of};
+ghost use Rattle.bt_node.specs.inside.Views.{children_of, siblings_of, tree_of, none_pending_of};
 
 use crate::group::{add_part, group};
 use crate::node::{Child, Node};

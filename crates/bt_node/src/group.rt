@@ -1,8 +1,8 @@
 //! Nodes made of parts: rows dealt into leaves, children gathered under inner nodes.
 ghost use Rattle.std.specs.Prelude.{◌≡◌, ◌++◌, ◌∷◌, [], IfOk, OnOk};
-ghost use Rattle.bt_messages.specs.Messages.{IsSorted};
+ghost use Rattle.bt_keycode.specs.Keys.{IsSorted};
 ghost use Rattle.bt_node.specs.Flushes.{first_key, gathered, grouped, leaves, pivot_first};
-ghost use Rattle.bt_node.specs.Views.{children_of, siblings_of, tree_of, none_pending_of, pending_of};
+ghost use Rattle.bt_node.specs.inside.Views.{children_of, siblings_of, tree_of, none_pending_of, pending_of};
 
 use crate::deal::deal;
 use crate::node::{Child, Node};
@@ -44,7 +44,7 @@ pub(crate) fn leaves<V: Merge>(
 }
 
 // Adds a child, and what is pending for it behind what is pending for those before it.
-#[tactic(auto, using(crate::proofs::Gathering::added_last))]
+#[tactic(auto, using(crate::proofs::lemmas::code::GroupLoops::added_last))]
 fn add_child<V: Merge>(
     children: &mut Vec<(Key, Node<V>)>,
     buffer: &mut Buffer<V>,

@@ -22,9 +22,8 @@
 //! ```
 //!
 //! `specs` has the definitions. `Trees` are the nodes, `Flushes` says what becomes of a node and a packet of messages, and `Fits` which trees are in
-//! order. `Lookups` reads one key, `Drains` works all messages off. `Plans` and `Loops` say which children are flushed. `Laws` and `DrainLaws` are
-//! what is promised of all this; the functions here carry these laws. `proofs` has small trees worked
-//! out, in `WorkedRows`.
+//! order. `Lookups` reads one key. `Plans` and `Loops` say which children are flushed. `Laws` are the facts that calls promise beside these
+//! definitions; what private code cites stands in `inside`. `proofs` has small trees worked out, in `WorkedRows`.
 #![tactic(auto)]
 
 mod absorb;
@@ -32,23 +31,15 @@ mod crowned;
 mod deal;
 mod group;
 mod held_rows;
-mod laws;
 mod lookup;
 mod node;
 mod planning;
 mod rows;
-#[cfg(test)]
-mod samples;
 mod shape;
 mod share;
 mod tree;
 mod walk;
 
-pub use laws::{
-    absorb_keeps_the_map, absorb_keeps_the_shape, children_by_the_same_rule, crown_keeps_all,
-    drain_keeps_all, lookup_finds_held, messages_in_order, pack_keeps_all, plan_is_choice,
-    sunk_keeps_all,
-};
 pub use planning::plan;
 pub use shape::Shape;
 pub use tree::{Siblings, Subtree as Node, Tree, absorb_alone, crown};

@@ -4,7 +4,7 @@ ghost use Rattle.std.specs.Option.{option_copied};
 ghost use Rattle.bt_messages.specs.Effects.{effect_of};
 ghost use Rattle.bt_node.specs.Lookups.{pivots_up_to, value_at};
 ghost use Rattle.bt_node.specs.Messages.{value_after};
-ghost use Rattle.bt_node.specs.Views.{tree_of};
+ghost use Rattle.bt_node.specs.inside.Views.{tree_of};
 
 use crate::node::Node;
 use bt_keycode::Key;
@@ -74,57 +74,5 @@ pub(crate) fn value_at<V: Merge>(
             let old = value_at(alloc, &child.1, key)?;
             after_messages(alloc, buffer, key, old)
         }
-    }
-}
-
-#[cfg(test)]
-mod tests {
-    use super::*;
-    use crate::absorb::absorb;
-    use crate::rows::Rows;
-    use crate::samples::{Sent, is_row, key_of, packet_of, small_shape};
-    use bt_rowtype::Row;
-    use std::test::Fail;
-
-    // The node that a leaf of four rows becomes: two leaves of two rows each, and no messages.
-    fn two_leaves(alloc: Global) -> Result<Node<Row>, AllocError> {
-        let batch = [
-            (1, Sent::Put(10)),
-            (2, Sent::Put(20)),
-            (3, Sent::Put(30)),
-            (4, Sent::Put(40)),
-        ];
-        let leaf = Node::Leaf(Rows::new(alloc));
-        let children = absorb(alloc, small_shape()?, leaf, packet_of(alloc, &batch)?)?;
-        let buffer = Buffer::new(alloc);
-        Ok(Node::Inner { children, buffer })
-    }
-
-    // Whether a key has a row of this quantity.
-    fn has(
-        alloc: Global,
-        node: &Node<Row>,
-        number: i64,
-        quantity: i64,
-    ) -> Result<bool, AllocError> {
-        let row = value_at(alloc, node, &key_of(alloc, number)?)?;
-        Ok(row.is_some_and(|row| is_row(&row, number, quantity)))
-    }
-
-    #[test]
-    fn lookups_in_two_levels(rt: HostRuntime) -> Result<(), Fail> {
-        let alloc = rt.alloc();
-        let batch = [(5, Sent::Put(50)), (4, Sent::Del), (5, Sent::Add(1))];
-        let packet = packet_of(alloc, &batch)?;
-        let nodes = absorb(alloc, small_shape()?, two_leaves(alloc)?, packet)?;
-        assert_eq!(rt; nodes.len(), 1);
-        let node = &nodes[0].1;
-        for (number, quantity) in [(1, 10), (2, 20), (3, 30), (5, 51)] {
-            assert!(rt; has(alloc, node, number, quantity)?);
-        }
-        for number in [-1, 0, 4, 6] {
-            assert!(rt; value_at(alloc, node, &key_of(alloc, number)?)?.is_none());
-        }
-        Ok(())
     }
 }

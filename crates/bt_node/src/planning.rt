@@ -2,7 +2,8 @@
 //!
 //! Counts, sums and capacities are numbers of messages, and places are counted from 0, the leftmost child.
 ghost use Rattle.std.specs.Prelude.{◌≡◌, IfOk, length, vec_len};
-ghost use Rattle.bt_node.specs.Plans.{fullest, marks_of, planned, total};
+ghost use Rattle.bt_node.specs.Plans.{fullest, planned, renewed, total};
+ghost use Rattle.bt_node.specs.inside.Marks.{marks_of};
 
 use std::alloc::{AllocError, Global};
 
@@ -59,7 +60,8 @@ fn choose(
 /// leftmost, and no more of them than it takes until at most the capacity is pending for the others. Takes no memory where no
 /// child is flushed.
 pub fn plan(alloc: Global, counts: &[u64], capacity: u64) -> Result<Vec<usize>, AllocError>
-    ensures { IfOk result (λ places. places.items ≡ planned counts.now capacity) }
+    ensures places { IfOk result (λ places. places.items ≡ planned counts.now capacity) }
+    ensures renewed { IfOk result (λ places. places.items ≡ renewed capacity (total counts.now) counts.now) }
 {
     let pending = sum_of(counts);
     if pending <= u128::from(capacity) {
@@ -83,30 +85,4 @@ pub(crate) fn flush_marks(
         marks[*place] = true;
     }
     Ok(marks)
-}
-
-#[cfg(test)]
-mod tests {
-    use super::*;
-    use std::test::Fail;
-
-    #[test]
-    fn plans(rt: HostRuntime) -> Result<(), Fail> {
-        let alloc = rt.alloc();
-        let table: [(&[u64], u64, &[usize]); 6] = [
-            (&[4, 2, 2], 3, &[0, 1]),
-            (&[1, 3, 3, 2], 4, &[1, 2]),
-            (&[0, 0], 3, &[]),
-            (&[], 0, &[]),
-            (&[1, 0, 2], 0, &[2, 0]),
-            (&[u64::MAX, u64::MAX], u64::MAX, &[0]),
-        ];
-        for (counts, capacity, places) in table {
-            let planned = plan(alloc, counts, capacity)?;
-            assert_eq!(rt; planned.as_slice(), places);
-        }
-        let marks = flush_marks(alloc, &[1, 3, 3, 2], 4)?;
-        assert_eq!(rt; marks.as_slice(), [false, true, true, false].as_slice());
-        Ok(())
-    }
 }

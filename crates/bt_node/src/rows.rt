@@ -4,7 +4,7 @@ ghost use Rattle.std.specs.FinMap.{find, is_sorted};
 ghost use Rattle.std.specs.Option.{option_copied, option_to_list};
 ghost use Rattle.bt_messages.specs.Effects.{effect_of};
 ghost use Rattle.bt_node.specs.Deals.{deal};
-ghost use Rattle.bt_node.specs.Keys.{key_cmp};
+ghost use Rattle.bt_keycode.specs.Keys.{key_cmp};
 ghost use Rattle.bt_node.specs.Messages.{before, from, rows_after, with_value};
 
 use crate::deal;
@@ -24,7 +24,7 @@ pub struct Rows<V: Merge> {
 impl<V: Merge> Model for Rows<V> {
     ghost use Rattle.std.specs.Prelude.{IsTrue, List, ℕ};
     ghost use Rattle.std.specs.FinMap.{is_sorted};
-    ghost use Rattle.bt_node.specs.Keys.{key_cmp};
+    ghost use Rattle.bt_keycode.specs.Keys.{key_cmp};
 
     ghost Value = { List (List ℕ × V) };
 
@@ -192,81 +192,5 @@ impl<V: Merge> Rows<V> {
             parts.push_reserved(Rows { rows });
         }
         Ok(parts)
-    }
-}
-
-#[cfg(test)]
-mod tests {
-    use super::*;
-    use crate::samples::{Sent, is_key, is_row, key_of, packet_of};
-    use bt_rowtype::Row;
-    use std::test::Fail;
-
-    // The rows of three numbers.
-    fn three_rows(alloc: Global) -> Result<Rows<Row>, AllocError> {
-        let batch = [(5, Sent::Put(50)), (1, Sent::Put(10)), (3, Sent::Put(30))];
-        Rows::new(alloc).after(alloc, packet_of(alloc, &batch)?)
-    }
-
-    // Whether a key is found with this quantity.
-    fn finds(
-        alloc: Global,
-        rows: &Rows<Row>,
-        number: i64,
-        quantity: i64,
-    ) -> Result<bool, AllocError> {
-        let key = key_of(alloc, number)?;
-        Ok(
-            rows.find(&key)
-                .is_some_and(|row| is_row(row, number, quantity)),
-        )
-    }
-
-    #[test]
-    fn messages_change_rows(rt: HostRuntime) -> Result<(), Fail> {
-        let alloc = rt.alloc();
-        let batch = [
-            (5, Sent::Put(51)),
-            (1, Sent::Del),
-            (4, Sent::Add(40)),
-            (7, Sent::Put(70)),
-            (5, Sent::Add(1)),
-            (7, Sent::Del),
-            (9, Sent::Del),
-            (0, Sent::Put(0)),
-        ];
-        let rows = three_rows(alloc)?.after(alloc, packet_of(alloc, &batch)?)?;
-        let wanted = [(0, 0), (3, 30), (4, 40), (5, 52)];
-        assert_eq!(rt; rows.len(), wanted.len());
-        for (place, (number, quantity)) in wanted.into_iter().enumerate() {
-            let (key, row) = rows.get(place);
-            assert!(rt; is_key(alloc, key, number)?);
-            assert!(rt; is_row(row, number, quantity));
-            assert!(rt; finds(alloc, &rows, number, quantity)?);
-        }
-        Ok(())
-    }
-
-    #[test]
-    fn keys_without_rows(rt: HostRuntime) -> Result<(), Fail> {
-        let alloc = rt.alloc();
-        let rows = three_rows(alloc)?.after(alloc, Packet::new(alloc))?;
-        assert_eq!(rt; rows.len(), 3);
-        assert!(rt; rows.find(&key_of(alloc, 2)?).is_none());
-        assert!(rt; rows.find(&key_of(alloc, 9)?).is_none());
-        Ok(())
-    }
-
-    #[test]
-    fn rows_are_dealt(rt: HostRuntime) -> Result<(), Fail> {
-        let alloc = rt.alloc();
-        let batch = [(4, Sent::Put(40))];
-        let rows = three_rows(alloc)?.after(alloc, packet_of(alloc, &batch)?)?;
-        let parts = rows.deal(alloc, 3)?;
-        assert_eq!(rt; parts.len(), 2);
-        for part in &parts {
-            assert_eq!(rt; part.len(), 2);
-        }
-        Ok(())
     }
 }

@@ -1,8 +1,8 @@
 //! What is pending for each child of a node, and which children are flushed.
 ghost use Rattle.std.specs.Prelude.{◌≡◌, [], IfOk, length, map};
 ghost use Rattle.std.specs.List.{zip};
-ghost use Rattle.bt_node.specs.Shares.{divided, marked_children, with_shares};
-ghost use Rattle.bt_node.specs.Views.{siblings_of};
+ghost use Rattle.bt_node.specs.inside.Shares.{divided, marked_children, with_shares};
+ghost use Rattle.bt_node.specs.inside.Views.{siblings_of};
 
 use crate::node::Node;
 use crate::planning::flush_marks;

@@ -1,13 +1,14 @@
 //! Trees, and what becomes of them under a packet.
-ghost use Rattle.std.specs.Prelude.{◌≡◌, ℕ, [], IfOk};
-ghost use Rattle.std.specs.FinMap.{find};
-ghost use Rattle.std.specs.declared.option.Option.TheVariants.{None};
+ghost use Rattle.std.specs.Prelude.{◌≡◌, [], IfOk, IsTrue};
+ghost use Rattle.std.specs.FinMap.{find, is_sorted};
 ghost use Rattle.bt_messages.specs.Effects.{effect_of};
-ghost use Rattle.bt_node.specs.Fits.{AreHigh, HasShape, SiblingsFit, WhereFits};
+ghost use Rattle.bt_messages.specs.declared.message.Message.{Message};
+ghost use Rattle.bt_node.specs.Fits.{AreFit, HasShape};
 ghost use Rattle.bt_node.specs.Flushes.{absorb, all_hold, crown, holds, sunk};
-ghost use Rattle.bt_node.specs.Keys.{key_cmp};
+ghost use Rattle.bt_keycode.specs.Keys.{key_cmp};
+ghost use Rattle.bt_node.specs.Laws.{ChosenArePlanned, ComeByOneRule, FitThere, FlushesInTurn, HoldRowsAfter, KeepHeight, StandsAbove, StayWithoutPacket};
 ghost use Rattle.bt_node.specs.Messages.{rows_after};
-ghost use Rattle.bt_node.specs.Trees.{height, leaf};
+ghost use Rattle.bt_node.specs.Trees.{leaf};
 
 use crate::absorb::absorb;
 use crate::crowned::crowned;
@@ -33,13 +34,13 @@ impl<V: Merge> Model for Tree<V> {
     ghost use Rattle.bt_messages.specs.declared.message.Message.{Message};
     ghost use Rattle.bt_node.specs.Trees as trees;
     ghost use Rattle.bt_node.specs.Fits.{HasShape};
-    ghost use Rattle.bt_node.specs.Stored.{message_code, shaped_tree_code};
+    ghost use Rattle.bt_node.specs.inside.Stored.{message_code, shaped_tree_code};
 
     ghost Value = { trees.Shape × trees.Tree V (Message V V.Delta) };
 
     ghost coded = { shaped_tree_code V.code (message_code V.code V.Delta.code) };
 
-    ghost use Rattle.bt_node.specs.Views.{tree_of};
+    ghost use Rattle.bt_node.specs.inside.Views.{tree_of};
 
     ghost view = { λ t. (t.shape, tree_of t.root) };
 
@@ -55,13 +56,13 @@ pub struct Subtree<V: Merge> {
 impl<V: Merge> Model for Subtree<V> {
     ghost use Rattle.bt_messages.specs.declared.message.Message.{Message};
     ghost use Rattle.bt_node.specs.Trees as trees;
-    ghost use Rattle.bt_node.specs.Stored.{message_code, tree_code};
+    ghost use Rattle.bt_node.specs.inside.Stored.{message_code, tree_code};
 
     ghost Value = { trees.Tree V (Message V V.Delta) };
 
     ghost coded = { tree_code V.code (message_code V.code V.Delta.code) };
 
-    ghost use Rattle.bt_node.specs.Views.{tree_of};
+    ghost use Rattle.bt_node.specs.inside.Views.{tree_of};
 
     ghost view = { λ n. tree_of n.node };
 }
@@ -76,21 +77,18 @@ impl<V: Merge> Model for Siblings<V> {
     ghost use Rattle.std.specs.Coded.{coded×, coded_list, coded_ℕ};
     ghost use Rattle.bt_messages.specs.declared.message.Message.{Message};
     ghost use Rattle.bt_node.specs.Trees as trees;
-    ghost use Rattle.bt_node.specs.Stored.{message_code, tree_code};
+    ghost use Rattle.bt_node.specs.inside.Stored.{message_code, tree_code};
 
     ghost Value = { trees.Siblings V (Message V V.Delta) };
 
     ghost coded = { coded_list (coded× (coded_list coded_ℕ) (tree_code V.code (message_code V.code V.Delta.code))) };
 
-    ghost use Rattle.bt_node.specs.Views.{siblings_of};
+    ghost use Rattle.bt_node.specs.inside.Views.{siblings_of};
 
     ghost view = { λ s. siblings_of s.nodes.items };
 }
 
 /// What becomes of a node and a packet, on the caller's thread. An `Err` keeps neither.
-///
-/// Where the node fits between two limits and the packet lies between them, the siblings fit there at the node's height, and
-/// hold its rows after the packet.
 pub fn absorb_alone<V: Merge>(
     alloc: Global,
     shape: Shape,
@@ -98,9 +96,13 @@ pub fn absorb_alone<V: Merge>(
     packet: Packet<V>,
 ) -> Result<Siblings<V>, AllocError>
     ensures siblings { IfOk result (λ siblings. siblings ≡ absorb (effect_of V.merged) shape node packet) }
-    ensures fits { IfOk result (λ siblings. WhereFits shape node packet (λ levels low high. SiblingsFit shape levels low high siblings)) }
-    ensures height { IfOk result (λ siblings. WhereFits shape node packet (λ levels low high. AreHigh (height node) siblings)) }
-    ensures rows { IfOk result (λ siblings. WhereFits shape node packet (λ levels low high. all_hold (effect_of V.merged) siblings ≡ rows_after (effect_of V.merged) packet (holds (effect_of V.merged) node))) }
+    ensures fits { IfOk result (FitThere shape node packet) }
+    ensures height { IfOk result (KeepHeight shape node packet) }
+    ensures rows { IfOk result (HoldRowsAfter (effect_of V.merged) shape node packet) }
+    ensures unchanged { IfOk result (StayWithoutPacket shape node packet) }
+    ensures one_rule { IfOk result (ComeByOneRule (effect_of V.merged) shape node packet) }
+    ensures in_turn { FlushesInTurn V (Message V V.Delta) }
+    ensures planned { ChosenArePlanned V (Message V V.Delta) }
 {
     let Subtree { node } = node;
     let nodes = absorb(alloc, shape, node, packet)?;
@@ -108,16 +110,17 @@ pub fn absorb_alone<V: Merge>(
 }
 
 /// The tree whose root stands above these siblings, and holds what they hold. An `Err` keeps nothing of them.
-#[tactic(auto, using(crate::proofs::ShapedTrees::crown_has_shape))]
+#[tactic(auto, using(crate::proofs::lemmas::crowns::ShapedTrees::crown_has_shape))]
 pub fn crown<V: Merge>(
     alloc: Global,
     shape: Shape,
     siblings: Siblings<V>,
 ) -> Result<Tree<V>, AllocError>
-    requires { (levels : ℕ) × SiblingsFit shape levels None None siblings }
+    requires { AreFit shape siblings }
     ensures tree { IfOk result (λ tree. tree ≡ (shape, crown shape siblings)) }
     ensures fits { IfOk result (λ tree. HasShape tree.0 tree.1) }
     ensures rows { IfOk result (λ tree. holds (effect_of V.merged) tree.1 ≡ all_hold (effect_of V.merged) siblings) }
+    ensures stands { IfOk result (λ tree. StandsAbove shape siblings tree.1) }
 {
     let Siblings { nodes } = siblings;
     let root = crowned(alloc, shape, nodes)?;
@@ -151,7 +154,8 @@ impl<V: Merge> Tree<V> {
 
     /// The pairs that it holds when all messages have had their effect, by rising key.
     pub fn rows(&self, alloc: Global) -> Result<Vec<(Key, V)>, AllocError>
-        ensures { IfOk result (λ rows. rows.items ≡ holds (effect_of V.merged) self.now.1) }
+        ensures held { IfOk result (λ rows. rows.items ≡ holds (effect_of V.merged) self.now.1) }
+        ensures sorted { IfOk result (λ rows. IsTrue (is_sorted key_cmp rows.items)) }
     {
         Ok(held_rows(alloc, &self.root)?.into_vec())
     }
@@ -171,6 +175,7 @@ impl<V: Merge> Tree<V> {
         ensures tree { IfOk result (λ tree. tree ≡ (self.0, sunk (effect_of V.merged) self.0 self.1 packet)) }
         ensures fits { IfOk result (λ tree. HasShape tree.0 tree.1) }
         ensures rows { IfOk result (λ tree. holds (effect_of V.merged) tree.1 ≡ rows_after (effect_of V.merged) packet (holds (effect_of V.merged) self.1)) }
+        ensures unchanged { packet ≡ [] → IfOk result (λ tree. tree ≡ self) }
     {
         let (shape, root) = self.apart();
         let siblings = absorb_alone(alloc, shape, root, packet)?;
@@ -183,158 +188,5 @@ impl<V: Merge> Tree<V> {
         ensures fits { HasShape self.now.0 self.now.1 }
     {
         Walk::new(&self.root)
-    }
-}
-
-#[cfg(test)]
-mod tests {
-    use super::*;
-    use crate::samples::{Sent, is_key, is_row, key_of, packet_of, small_shape};
-    use bt_messages::Message;
-    use bt_rowtype::Row;
-    use std::test::Fail;
-
-    // The rows of four numbers, of each a quantity of ten times the number: two leaves of two rows each.
-    fn two_leaves(alloc: Global) -> Result<Tree<Row>, AllocError> {
-        let batch = [
-            (1, Sent::Put(10)),
-            (2, Sent::Put(20)),
-            (3, Sent::Put(30)),
-            (4, Sent::Put(40)),
-        ];
-        Tree::empty(alloc, small_shape()?).sink(alloc, packet_of(alloc, &batch)?)
-    }
-
-    // The numbers of rows of the children, from left to right.
-    fn rows_of_children(alloc: Global, walk: &Walk<Row>) -> Result<Vec<usize>, AllocError> {
-        let mut counts = Vec::new(alloc);
-        for place in 0..walk.child_count() {
-            counts.push(walk.child(place).row_count())?;
-        }
-        Ok(counts)
-    }
-
-    // The numbers of children of the children, from left to right.
-    fn children_of_children(alloc: Global, walk: &Walk<Row>) -> Result<Vec<usize>, AllocError> {
-        let mut counts = Vec::new(alloc);
-        for place in 0..walk.child_count() {
-            counts.push(walk.child(place).child_count())?;
-        }
-        Ok(counts)
-    }
-
-    // Whether a tree holds just these numbers with these quantities.
-    fn holds(alloc: Global, tree: &Tree<Row>, wanted: &[(i64, i64)]) -> Result<bool, AllocError> {
-        let rows = tree.rows(alloc)?;
-        if rows.len() != wanted.len() {
-            return Ok(false);
-        }
-        for (place, (key, row)) in rows.iter().enumerate() {
-            if place >= wanted.len() {
-                return Ok(false);
-            }
-            let (number, quantity) = wanted[place];
-            if !is_key(alloc, key, number)? || !is_row(row, number, quantity) {
-                return Ok(false);
-            }
-        }
-        Ok(true)
-    }
-
-    #[test]
-    fn a_leaf_splits(rt: HostRuntime) -> Result<(), Fail> {
-        let alloc = rt.alloc();
-        let tree = Tree::<Row>::empty(alloc, small_shape()?);
-        assert!(rt; tree.walk().is_leaf());
-        assert_eq!(rt; tree.shape().fanout(), 4);
-        let tree = two_leaves(alloc)?;
-        assert_eq!(rt;
-            rows_of_children(alloc, &tree.walk())?.as_slice(),
-            [2, 2].as_slice()
-        );
-        assert_eq!(rt; tree.walk().message_count(), 0);
-        Ok(())
-    }
-
-    #[test]
-    fn ties_flush_left(rt: HostRuntime) -> Result<(), Fail> {
-        let alloc = rt.alloc();
-        let batch = [
-            (1, Sent::Put(11)),
-            (2, Sent::Put(21)),
-            (3, Sent::Put(31)),
-            (4, Sent::Put(41)),
-        ];
-        let tree = two_leaves(alloc)?.sink(alloc, packet_of(alloc, &batch)?)?;
-        let root = tree.walk();
-        assert_eq!(rt; root.message_count(), 2);
-        let (key, message) = root.message(0);
-        assert!(rt; is_key(alloc, key, 3)?);
-        assert!(rt; matches!(message, Message::Put(_)));
-        assert_eq!(rt; root.child_count(), 2);
-        assert!(rt; is_key(alloc, root.pivot(1), 3)?);
-        Ok(())
-    }
-
-    #[test]
-    fn children_are_dealt_under_a_new_root(rt: HostRuntime) -> Result<(), Fail> {
-        let alloc = rt.alloc();
-        let batch = [
-            (5, Sent::Put(50)),
-            (6, Sent::Put(60)),
-            (7, Sent::Put(70)),
-            (8, Sent::Put(80)),
-            (9, Sent::Put(90)),
-            (10, Sent::Put(100)),
-        ];
-        let tree = two_leaves(alloc)?.sink(alloc, packet_of(alloc, &batch)?)?;
-        assert_eq!(rt;
-            children_of_children(alloc, &tree.walk())?.as_slice(),
-            [3, 2].as_slice()
-        );
-        Ok(())
-    }
-
-    #[test]
-    fn rows_are_looked_up(rt: HostRuntime) -> Result<(), Fail> {
-        let alloc = rt.alloc();
-        let tree = two_leaves(alloc)?;
-        assert!(rt;
-            tree.get(alloc, &key_of(alloc, 3)?)?
-                .is_some_and(|row| is_row(&row, 3, 30))
-        );
-        assert!(rt; tree.get(alloc, &key_of(alloc, 5)?)?.is_none());
-        Ok(())
-    }
-
-    #[test]
-    fn upserts_wait_one_by_one(rt: HostRuntime) -> Result<(), Fail> {
-        let alloc = rt.alloc();
-        let batch = [(1, Sent::Add(5)), (4, Sent::Put(0)), (1, Sent::Add(5))];
-        let tree = two_leaves(alloc)?.sink(alloc, packet_of(alloc, &batch)?)?;
-        let root = tree.walk();
-        assert_eq!(rt; root.message_count(), 3);
-        for place in 0..2 {
-            let (key, message) = root.message(place);
-            assert!(rt; is_key(alloc, key, 1)?);
-            assert!(rt; matches!(message, Message::Ups(_)));
-        }
-        assert!(rt; holds(alloc, &tree, &[(1, 20), (2, 20), (3, 30), (4, 0)])?);
-        Ok(())
-    }
-
-    #[test]
-    fn upserts_go_down_in_order(rt: HostRuntime) -> Result<(), Fail> {
-        let alloc = rt.alloc();
-        let batch = [
-            (1, Sent::Add(5)),
-            (1, Sent::Put(7)),
-            (1, Sent::Add(6)),
-            (0, Sent::Add(9)),
-        ];
-        let tree = two_leaves(alloc)?.sink(alloc, packet_of(alloc, &batch)?)?;
-        assert_eq!(rt; tree.walk().message_count(), 0);
-        assert!(rt; holds(alloc, &tree, &[(0, 9), (1, 13), (2, 20), (3, 30), (4, 40)])?);
-        Ok(())
     }
 }

@@ -1,6 +1,6 @@
 //! What can be seen of a tree, node by node.
 ghost use Rattle.std.specs.Prelude.{◌≡◌, ◌<◌, Some, length, option_map, slice_get};
-ghost use Rattle.bt_node.specs.Views.{tree_of};
+ghost use Rattle.bt_node.specs.inside.Views.{tree_of};
 ghost use Rattle.bt_node.specs.Walks as walk;
 
 use crate::node::Node;
@@ -17,13 +17,13 @@ pub struct Walk<'a, V: Merge> {
 impl<'a, V: Merge> Model for Walk<'a, V> {
     ghost use Rattle.bt_messages.specs.declared.message.Message.{Message};
     ghost use Rattle.bt_node.specs.Trees as trees;
-    ghost use Rattle.bt_node.specs.Stored.{message_code, tree_code};
+    ghost use Rattle.bt_node.specs.inside.Stored.{message_code, tree_code};
 
     ghost Value = { trees.Tree V (Message V V.Delta) };
 
     ghost coded = { tree_code V.code (message_code V.code V.Delta.code) };
 
-    ghost use Rattle.bt_node.specs.Views.{tree_of};
+    ghost use Rattle.bt_node.specs.inside.Views.{tree_of};
 
     ghost view = { λ w. tree_of w.node.now };
 }

@@ -5,7 +5,7 @@ use Rattle.bt_rowtype.specs.declared.op.Change.{Change}
 use Rattle.bt_rowtype.specs.declared.schema.Column.{Column}
 use Rattle.bt_rowtype.specs.declared.value.Value.{Value}
 use Rattle.bt_messages.specs.declared.message.Message.{Message}
-use Rattle.bt_node.specs.Keys.{Key}
+use Rattle.bt_keycode.specs.Keys.{Key}
 use Rattle.bt_node.specs.Trees.{Tree, leaf, inner, Nodes, none, node, Siblings, children, height, height_below}
 use Rattle.bt_node.specs.Walks.{children_of}
 use Rattle.bt_shell.specs.Drawings.{child_text, highest, own_text, pivot_text, siblings_text}

@@ -10,7 +10,7 @@ use Rattle.bt_rowtype.specs.declared.value.Value.TheVariants as value
 use Rattle.bt_rowtype.proofs.offered.OnLiterals.{rowtype_on_literals}
 use Rattle.bt_messages.specs.declared.message.Message.TheVariants as message
 use Rattle.bt_script.specs.Commands.{closing_of, column_of, command_of, commands_from, form_of, item_of, items_of, step, table_of}
-use Rattle.bt_keycode.specs.Keys.{eight_bytes}
+use Rattle.bt_keycode.specs.Prefixes.{eight_bytes}
 use Rattle.bt_shell.specs.Images.{message_line}
 use Rattle.bt_shell.specs.Runs.{replies, run}
 use Rattle.bt_shell.specs.Steps.{read_message}

@@ -1,7 +1,7 @@
 -- The lines of a node by its parts, as they are written.
 use Rattle.std.specs.Prelude.{ℕ, zero, suc, max, List, [], ◌∷◌, ◌++◌, length, flat_map, Option, Some, None, if◌then◌else◌}
 use Rattle.bt_rowtype.specs.declared.schema.Column.{Column}
-use Rattle.bt_node.specs.Keys.{Key}
+use Rattle.bt_keycode.specs.Keys.{Key}
 use Rattle.bt_node.specs.Trees.{Siblings, height}
 use Rattle.bt_node.specs.Walks.{children_of, is_leaf, messages_of, rows_of}
 use Rattle.bt_shell.specs.Images.{inner_line, leaf_line, message_line, node_text, pivot_line, row_line}

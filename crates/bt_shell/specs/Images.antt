@@ -11,7 +11,7 @@ use Rattle.bt_rowtype.specs.declared.value.Value.TheVariants as value
 use Rattle.bt_keycode.specs.Hex.{hex_text}
 use Rattle.bt_messages.specs.declared.message.Message.{Message}
 use Rattle.bt_messages.specs.declared.message.Message.TheVariants as message
-use Rattle.bt_node.specs.Keys.{Key}
+use Rattle.bt_keycode.specs.Keys.{Key}
 use Rattle.bt_node.specs.Trees.{leaf, inner, Nodes, none, node, children, height}
 use Rattle.bt_shell.specs.Tables.{RowMessage, RowTree}
 

@@ -14,7 +14,7 @@ use Rattle.bt_rowtype.specs.declared.refusal.Refusal.TheVariants.{BadSchema, Bad
 use Rattle.bt_rowtype.specs.declared.value.Value.{Value}
 use Rattle.bt_keycode.specs.Codes.{code_of}
 use Rattle.bt_messages.specs.declared.message.Message.TheVariants as message
-use Rattle.bt_node.specs.Keys.{key_cmp}
+use Rattle.bt_keycode.specs.Keys.{key_cmp}
 use Rattle.bt_node.specs.Messages.{Rows}
 use Rattle.bt_node.specs.Shapes.{is_shape}
 use Rattle.bt_script.specs.Commands.{Answer, is_word}

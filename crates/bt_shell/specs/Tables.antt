@@ -8,7 +8,7 @@ use Rattle.bt_messages.specs.Effects.{effect_of}
 use Rattle.bt_messages.specs.Messages.{sorted_batch}
 use Rattle.bt_messages.specs.declared.message.Message.{Message}
 use Rattle.bt_node.specs.Flushes.{sunk}
-use Rattle.bt_node.specs.Keys.{Key}
+use Rattle.bt_keycode.specs.Keys.{Key}
 use Rattle.bt_node.specs.Messages.{Rows, rows_after}
 use Rattle.bt_node.specs.Trees.{Shape, Tree, leaf}
 

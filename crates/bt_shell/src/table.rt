@@ -3,7 +3,7 @@ ghost use Rattle.std.specs.Prelude.{◌≡◌, IfOk, OnOk};
 ghost use Rattle.std.specs.FinMap.{find};
 ghost use Rattle.bt_keycode.specs.Codes.{code_of};
 ghost use Rattle.bt_node.specs.Fits.{IsRoomy};
-ghost use Rattle.bt_node.specs.Keys.{key_cmp};
+ghost use Rattle.bt_keycode.specs.Keys.{key_cmp};
 ghost use Rattle.bt_shell.specs.Tables.{after_batch, empty_table};
 
 use bt_keycode::{Key, encode};
@@ -26,7 +26,7 @@ impl Model for Table {
     ghost use Rattle.bt_node.specs.Flushes.{holds};
     ghost use Rattle.bt_shell.specs.Tables.{TableState, row_effect};
     ghost use Rattle.std.specs.Coded.{codes};
-    ghost use Rattle.bt_node.specs.Stored.{message_code, tree_code};
+    ghost use Rattle.bt_node.specs.inside.Stored.{message_code, tree_code};
 
     ghost Value = { TableState };
 

@@ -1,12 +1,12 @@
 use Rattle.std.proofs.Common.{◌≡◌, ◌≤◌, ◌∙◌, ap, arith, length, rules, subst, sym}
 use Rattle.bt_messages.specs.Effects.{effect_of}
-use Rattle.bt_messages.specs.Messages.{IsSorted}
+use Rattle.bt_keycode.specs.Keys.{IsSorted}
 use Rattle.bt_node.specs.Fits.{IsLed}
 use Rattle.bt_node.specs.Flushes.{absorb, leaves}
-use Rattle.bt_node.specs.Shares.{marked_children, with_shares}
-use Rattle.bt_node.specs.Views.{siblings_of, tree_of}
-use Rattle.bt_node.proofs.Absorbing.{grouped_anew, if_ok, parts_sorted, stays_here}
-use Rattle.bt_node.proofs.Views.{length-siblings, tree_leaf}
+use Rattle.bt_node.specs.inside.Shares.{marked_children, with_shares}
+use Rattle.bt_node.specs.inside.Views.{siblings_of, tree_of}
+use Rattle.bt_node.proofs.lemmas.code.AbsorbStep.{grouped_anew, if_ok, parts_sorted, stays_here}
+use Rattle.bt_node.proofs.lemmas.code.TreeOfNode.{length-siblings, tree_leaf}
 use Rattle.bt_node.proofs.absorb.+flushes.Goals as goal
 
 pub absorb-returns-then-stays : goal.absorb-returns-then-stays

@@ -1,10 +1,10 @@
 use Rattle.std.proofs.Common.{◌≡◌, ◌≤◌, ◌+◌, ◌*◌, ◌++◌}
 use Rattle.bt_messages.specs.Effects.{effect_of}
 use Rattle.std.specs.Vec.Iter.{into_iter_items}
-use Rattle.bt_node.specs.Shares.{with_shares}
+use Rattle.bt_node.specs.inside.Shares.{with_shares}
 use Rattle.bt_node.specs.Trees.{height}
-use Rattle.bt_node.specs.Views.{children_of, tree_of}
-use Rattle.bt_node.proofs.Absorbing.{highest, pass}
+use Rattle.bt_node.specs.inside.Views.{children_of, tree_of}
+use Rattle.bt_node.proofs.lemmas.code.AbsorbStep.{highest, pass}
 use Rattle.bt_node.proofs.absorb.+flushes.Given as goal
 
 -- the children so far, and then what the pass makes of those that are left

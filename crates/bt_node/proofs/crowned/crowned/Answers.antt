@@ -1,7 +1,7 @@
 use Rattle.std.proofs.Common.{◌≡◌, ◌<◌, ◌≤◌, ◌∙◌, [], arith, length, rules}
-use Rattle.bt_node.specs.Views.{siblings_of}
-use Rattle.bt_node.proofs.Crowning.{crown_kept, crown_none, crown_one, fewer, none_sorted}
-use Rattle.bt_node.proofs.Views.{length-siblings}
+use Rattle.bt_node.specs.inside.Views.{siblings_of}
+use Rattle.bt_node.proofs.lemmas.code.CrownLoop.{crown_kept, crown_none, crown_one, fewer, none_sorted}
+use Rattle.bt_node.proofs.lemmas.code.TreeOfNode.{length-siblings}
 use Rattle.bt_node.proofs.crowned.crowned.Goals as goal
 
 pub group-requires : goal.group-requires

@@ -1,6 +1,6 @@
 use Rattle.std.proofs.Common.{◌≡◌, length}
 use Rattle.bt_node.specs.Flushes.{crown}
-use Rattle.bt_node.specs.Views.{siblings_of}
+use Rattle.bt_node.specs.inside.Views.{siblings_of}
 use Rattle.bt_node.proofs.crowned.crowned.Given as goal
 
 -- the same crown, from fewer nodes each time

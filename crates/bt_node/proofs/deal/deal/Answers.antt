@@ -2,8 +2,8 @@ use Rattle.std.proofs.Common.{◌∙◌, map, ap, sym, arith}
 use Rattle.std.proofs.lemmas.Grind.{common_steps}
 use Rattle.std.proofs.lemmas.List.{map-append}
 use Rattle.bt_node.specs.Deals.{even}
-use Rattle.bt_node.proofs.DealPass.{all_dealt, none_dealt, part_dealt}
-use Rattle.bt_node.proofs.Sizes.{deal-one}
+use Rattle.bt_node.proofs.lemmas.code.DealLoop.{all_dealt, none_dealt, part_dealt}
+use Rattle.bt_node.proofs.lemmas.deals.PartSizes.{deal-one}
 use Rattle.bt_node.proofs.deal.deal.Goals as goal
 
 pub returns-then-count-most : goal.returns-then-count-most

@@ -1,5 +1,5 @@
 use Rattle.std.proofs.Common.{◌≡◌, ◌++◌}
-use Rattle.bt_node.specs.Views.{children_of, siblings_of, none_pending_of}
+use Rattle.bt_node.specs.inside.Views.{children_of, siblings_of, none_pending_of}
 use Rattle.bt_node.proofs.group.add_parts.Given as goal
 
 abbrev pub invariant-loop-pivot : goal.invariant-loop-pivot

@@ -1,8 +1,8 @@
 use Rattle.std.proofs.Common.{◌≡◌, ◌∷◌, ◌++◌, ◌∙◌, [], append-nil, ap, arith, refl, rules, subst, sym}
-use Rattle.bt_messages.specs.Messages.{IsSorted}
-use Rattle.bt_node.specs.Views.{children_of, siblings_of, tree_of, pending_of}
-use Rattle.bt_node.proofs.Gathering.{first_fits, gather_done, nothing_left, sorted_through}
-use Rattle.bt_node.proofs.Groups.{stripped}
+use Rattle.bt_keycode.specs.Keys.{IsSorted}
+use Rattle.bt_node.specs.inside.Views.{children_of, siblings_of, tree_of, pending_of}
+use Rattle.bt_node.proofs.lemmas.code.GroupLoops.{first_fits, gather_done, nothing_left, sorted_through}
+use Rattle.bt_node.proofs.lemmas.flushes.Groups.{stripped}
 use Rattle.bt_node.proofs.group.gather.Goals as goal
 
 pub add_child-requires : goal.add_child-requires

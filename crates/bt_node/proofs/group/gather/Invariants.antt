@@ -1,7 +1,7 @@
 use Rattle.std.proofs.Common.{◌≡◌, ◌++◌}
-use Rattle.bt_messages.specs.Messages.{IsSorted}
-use Rattle.bt_node.specs.Views.{children_of, siblings_of, pending_of}
-use Rattle.bt_node.proofs.Groups.{stripped}
+use Rattle.bt_keycode.specs.Keys.{IsSorted}
+use Rattle.bt_node.specs.inside.Views.{children_of, siblings_of, pending_of}
+use Rattle.bt_node.proofs.lemmas.flushes.Groups.{stripped}
 use Rattle.bt_node.proofs.group.gather.Given as goal
 
 abbrev pub invariant-loop-child : goal.invariant-loop-child

@@ -1,8 +1,8 @@
 use Rattle.std.proofs.Common.{◌≡◌, ◌∷◌, ◌++◌, ◌∙◌, [], ap, arith, refl, rules, subst, sym}
-use Rattle.bt_messages.specs.Messages.{IsSorted}
+use Rattle.bt_keycode.specs.Keys.{IsSorted}
 use Rattle.bt_node.specs.Deals.{deal}
-use Rattle.bt_node.specs.Views.{siblings_of, tree_of, pending_of}
-use Rattle.bt_node.proofs.Gathering.{all_dealt, all_of, first_part, group_done, group_none, groups_of, more, nothing_left, other_parts}
+use Rattle.bt_node.specs.inside.Views.{siblings_of, tree_of, pending_of}
+use Rattle.bt_node.proofs.lemmas.code.GroupLoops.{all_dealt, all_of, first_part, group_done, group_none, groups_of, more, nothing_left, other_parts}
 use Rattle.bt_node.proofs.group.group.Goals as goal
 
 pub returns-in_default : goal.returns-in_default

@@ -1,8 +1,8 @@
 use Rattle.std.proofs.Common.{◌≡◌, ◌++◌, map}
-use Rattle.bt_messages.specs.Messages.{IsSorted}
+use Rattle.bt_keycode.specs.Keys.{IsSorted}
 use Rattle.bt_node.specs.Flushes.{gathered}
-use Rattle.bt_node.specs.Views.{children_of, siblings_of, pending_of}
-use Rattle.bt_node.proofs.Gathering.{all_of}
+use Rattle.bt_node.specs.inside.Views.{children_of, siblings_of, pending_of}
+use Rattle.bt_node.proofs.lemmas.code.GroupLoops.{all_of}
 use Rattle.bt_node.proofs.group.group.Given as goal
 
 abbrev pub invariant-loop-part : goal.invariant-loop-part

@@ -3,10 +3,10 @@ use Rattle.bt_messages.specs.declared.message.Message.{Message}
 use Rattle.bt_node.specs.Deals.{deal}
 use Rattle.bt_node.specs.declared.node.Node.TheVariants as variants
 use Rattle.bt_node.specs.Flushes.{pivot_first}
-use Rattle.bt_node.specs.Views.{siblings_of}
-use Rattle.bt_node.proofs.Gathering.{leaves_done, more_leaves, nothing_left}
-use Rattle.bt_node.proofs.Groups.{as_leaf}
-use Rattle.bt_node.proofs.Views.{tree_leaf}
+use Rattle.bt_node.specs.inside.Views.{siblings_of}
+use Rattle.bt_node.proofs.lemmas.code.GroupLoops.{leaves_done, more_leaves, nothing_left}
+use Rattle.bt_node.proofs.lemmas.flushes.Groups.{as_leaf}
+use Rattle.bt_node.proofs.lemmas.code.TreeOfNode.{tree_leaf}
 use Rattle.bt_node.proofs.group.leaves.Goals as goal
 
 pub loop-part-preserved : goal.loop-part-preserved

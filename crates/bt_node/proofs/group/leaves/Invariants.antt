@@ -1,6 +1,6 @@
 use Rattle.std.proofs.Common.{◌≡◌, ◌++◌, map}
-use Rattle.bt_node.specs.Views.{siblings_of}
-use Rattle.bt_node.proofs.Groups.{as_leaf}
+use Rattle.bt_node.specs.inside.Views.{siblings_of}
+use Rattle.bt_node.proofs.lemmas.flushes.Groups.{as_leaf}
 use Rattle.bt_messages.specs.declared.message.Message.{Message}
 use Rattle.bt_node.proofs.group.leaves.Given as goal
 

@@ -1,8 +1,8 @@
 use Rattle.std.proofs.Common.{◌∙◌, ap, arith}
 use Rattle.bt_messages.specs.Effects.{effect_of}
 use Rattle.bt_node.specs.Messages.{rows_after}
-use Rattle.bt_node.proofs.Absorbing.{if_ok}
-use Rattle.bt_node.proofs.Scans.{below_sorted, child_in_order, child_lower, held_above, one_more_child}
+use Rattle.bt_node.proofs.lemmas.code.AbsorbStep.{if_ok}
+use Rattle.bt_node.proofs.lemmas.code.RowsOfChildren.{below_sorted, child_in_order, child_lower, held_above, one_more_child}
 use Rattle.bt_node.proofs.held_rows.+held_rows.Goals as goal
 
 pub held_rows-requires : goal.held_rows-requires

@@ -2,7 +2,7 @@ use Rattle.std.proofs.Common.{◌≡◌, ◌++◌, drop}
 use Rattle.bt_messages.specs.Effects.{effect_of}
 use Rattle.bt_node.specs.Flushes.{all_hold}
 use Rattle.bt_node.specs.Trees.{height}
-use Rattle.bt_node.specs.Views.{siblings_of, tree_of}
+use Rattle.bt_node.specs.inside.Views.{siblings_of, tree_of}
 use Rattle.bt_node.proofs.held_rows.+held_rows.Given as goal
 
 -- the rows below the children so far, and then those below the children that are left

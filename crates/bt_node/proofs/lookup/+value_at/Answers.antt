@@ -1,9 +1,9 @@
 use Rattle.std.proofs.Common.{◌<◌, ◌∙◌, ap, arith, length, sym}
 use Rattle.bt_messages.specs.Effects.{effect_of}
 use Rattle.bt_node.specs.Lookups.{value_at}
-use Rattle.bt_node.specs.Views.{tree_of}
-use Rattle.bt_node.proofs.Absorbing.{if_ok}
-use Rattle.bt_node.proofs.Paths.{along}
+use Rattle.bt_node.specs.inside.Views.{tree_of}
+use Rattle.bt_node.proofs.lemmas.code.AbsorbStep.{if_ok}
+use Rattle.bt_node.proofs.lemmas.code.LookupPath.{along}
 use Rattle.bt_node.proofs.lookup.+value_at.Goals as goal
 
 pub returns-in_ok-old-in-Inner : goal.returns-in_ok-old-in-Inner

@@ -1,10 +1,8 @@
 use Rattle.std.proofs.Common.{rules, ◌≡◌, ap, subst, sym, ◌∙◌}
 use Rattle.bt_messages.specs.Effects.{effect_of}
-use Rattle.bt_messages.specs.Messages.{AllFrom}
-use Rattle.bt_node.specs.Keys.{key_cmp}
+use Rattle.bt_keycode.specs.Keys.{AllFrom, key_cmp}
 use Rattle.bt_node.specs.Messages.{value_after}
-use Rattle.bt_node.proofs.Paths.{all_from, none_left, one_more, rest_from, rest_rising, rising-drop, value_after-from}
-use Rattle.bt_node.proofs.Pending.{sorted-rising}
+use Rattle.bt_node.proofs.lemmas.code.LookupPath.{all_from, none_left, one_more, rest_from, rest_sorted, sorted-drop, value_after-from}
 use Rattle.bt_node.proofs.lookup.after_messages.Goals as goal
 
 pub loop-place-init : goal.loop-place-init
@@ -15,7 +13,7 @@ loop-place-init g c =
     record {
       value = sym (ap (λ ms. value_after (effect_of g.V.Merge.merged) k ms c.args.old) from ∙ value_after-from (effect_of g.V.Merge.merged) k c.args.buffer.now c.args.old);
       from = subst (AllFrom k) (sym from) (all_from (effect_of g.V.Merge.merged) k c.args.buffer.now);
-      rising = rising-drop (effect_of g.V.Merge.merged) c.first_from-place.result c.args.buffer.now (sorted-rising c.args.buffer.now sorted);
+      rising = sorted-drop (effect_of g.V.Merge.merged) c.first_from-place.result c.args.buffer.now sorted;
     }
 
 pub returns-then-ne : goal.returns-then-ne
@@ -35,5 +33,5 @@ loop-place-preserved g c =
     record {
       value = so_far.value ∙ one_more (effect_of g.V.Merge.merged) c.args.key.now buffer place _ _ c.get.ensures c.compare.result compared c.if-ne.ensures c.loop-place.value c.in_ok-value.value changed;
       from = rest_from (effect_of g.V.Merge.merged) c.args.key.now buffer place _ _ c.get.ensures c.compare.result compared so_far.from;
-      rising = rest_rising (effect_of g.V.Merge.merged) c.args.key.now buffer place _ _ c.get.ensures c.compare.result compared so_far.rising;
+      rising = rest_sorted (effect_of g.V.Merge.merged) c.args.key.now buffer place _ _ c.get.ensures c.compare.result compared so_far.rising;
     }

@@ -1,6 +1,6 @@
 use Rattle.std.proofs.Common.{◌≡◌, ◌∙◌, ◌++◌, ◌∷◌, [], ap, length, set, append-nil, sym, arith, rules}
 use Rattle.bt_node.specs.Plans.{planned}
-use Rattle.bt_node.proofs.Choices.{Turn, planned-within, turn-below, turn-left, turn-planned, turn-some}
+use Rattle.bt_node.proofs.lemmas.code.ChoiceLoop.{Turn, planned-within, turn-below, turn-left, turn-planned, turn-some}
 use Rattle.bt_node.proofs.planning.choose.Goals as goal
 
 pub index-requires : goal.index-requires

@@ -1,6 +1,6 @@
 use Rattle.std.proofs.Common.{◌<◌, length, arith}
 use Rattle.std.specs.List.{All}
-use Rattle.bt_node.proofs.Choices.{planned-below}
+use Rattle.bt_node.proofs.lemmas.code.ChoiceLoop.{planned-below}
 use Rattle.bt_node.proofs.planning.flush_marks.Goals as goal
 
 pub index_mut-requires : goal.index_mut-requires

@@ -1,4 +1,4 @@
-use Rattle.bt_node.proofs.Choices.{fullest_from-start}
+use Rattle.bt_node.proofs.lemmas.code.ChoiceLoop.{fullest_from-start}
 use Rattle.bt_node.proofs.planning.fullest_place.Goals as goal
 
 pub loop-place-init : goal.loop-place-init

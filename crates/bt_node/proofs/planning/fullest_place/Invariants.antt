@@ -1,6 +1,6 @@
 use Rattle.std.proofs.Common.{◌≡◌, drop}
 use Rattle.bt_node.specs.Plans.{fullest}
-use Rattle.bt_node.proofs.Choices.{fullest_from}
+use Rattle.bt_node.proofs.lemmas.code.ChoiceLoop.{fullest_from}
 use Rattle.bt_node.proofs.planning.fullest_place.Given as goal
 
 -- the fullest is still to be found from this place on

@@ -1,16 +1,16 @@
 use Rattle.std.proofs.Common.{◌≡◌, ◌∙◌, ◌++◌, false, append-nil, ap, sym, rules}
-use Rattle.bt_node.specs.Keys.{key_lt}
-use Rattle.bt_node.proofs.RowPass.{stops_at}
+use Rattle.bt_keycode.specs.Keys.{is_before}
+use Rattle.bt_node.proofs.lemmas.code.RowPass.{stops_at}
 use Rattle.bt_node.proofs.rows.move_before.Goals as goal
 
 pub returns-then-ne-clause-moved : goal.returns-then-ne-clause-moved
 returns-then-ne-clause-moved g c =
-    let stop : key_lt c.in-Some.first.now.0 c.args.key.now ≡ false = search rules in
+    let stop : is_before c.in-Some.first.now.0 c.args.key.now ≡ false = search rules in
     let none = stops_at c.args.key.now c.in-Some.first.now c.loop-first.older.items c.loop-first.invariant.sorted c.in-Some.ensures.lookup stop in
     sym (append-nil c.loop-first.moved.items) ∙ sym (ap (λ rows. c.loop-first.moved.items ++ rows) none.0) ∙ c.loop-first.invariant.moved
 
 pub returns-then-ne-clause-left : goal.returns-then-ne-clause-left
 returns-then-ne-clause-left g c =
-    let stop : key_lt c.in-Some.first.now.0 c.args.key.now ≡ false = search rules in
+    let stop : is_before c.in-Some.first.now.0 c.args.key.now ≡ false = search rules in
     let none = stops_at c.args.key.now c.in-Some.first.now c.loop-first.older.items c.loop-first.invariant.sorted c.in-Some.ensures.lookup stop in
     sym none.1 ∙ c.loop-first.invariant.left

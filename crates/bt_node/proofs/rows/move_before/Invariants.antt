@@ -1,6 +1,6 @@
 use Rattle.std.proofs.Common.{◌≡◌, ◌+◌, ◌++◌, true, length, vec_len, vec_capacity}
 use Rattle.std.specs.FinMap.{is_sorted}
-use Rattle.bt_node.specs.Keys.{key_cmp}
+use Rattle.bt_keycode.specs.Keys.{key_cmp}
 use Rattle.bt_node.specs.Messages.{before, from}
 use Rattle.bt_node.proofs.rows.move_before.Given as goal
 

@@ -1,5 +1,5 @@
 use Rattle.std.proofs.Common.{◌≡◌, ◌++◌, drop, map}
-use Rattle.bt_node.specs.Shares.{divided}
+use Rattle.bt_node.specs.inside.Shares.{divided}
 use Rattle.bt_node.proofs.share.divide.Given as goal
 
 -- what was divided so far, and then the rest divided at the pivots that are left

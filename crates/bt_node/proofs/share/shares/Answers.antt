@@ -1,6 +1,7 @@
 use Rattle.std.proofs.Common.{◌∙◌, ap, length, map}
-use Rattle.bt_node.specs.Plans.{marks_of, planned}
-use Rattle.bt_node.proofs.Dividing.{shares_from}
+use Rattle.bt_node.specs.Plans.{planned}
+use Rattle.bt_node.specs.inside.Marks.{marks_of}
+use Rattle.bt_node.proofs.lemmas.code.ShareLoop.{shares_from}
 use Rattle.bt_node.proofs.share.shares.Goals as goal
 
 pub returns : goal.returns

@@ -1,22 +1,29 @@
-use Rattle.std.proofs.Common.{◌∙◌, ap, subst, sym}
+use Rattle.std.proofs.Common.{◌∙◌, ap, rules}
 use Rattle.bt_messages.specs.Effects.{effect_of}
-use Rattle.bt_node.specs.Fits.{AreHigh, SiblingsFit}
-use Rattle.bt_node.specs.Flushes.{absorb, all_hold}
-use Rattle.bt_node.specs.Trees.{height}
-use Rattle.bt_node.proofs.Flushing.{absorb_fits, absorb_keeps_height, absorb_loses_nothing}
+use Rattle.bt_node.specs.Fits.{IsRoomy}
+use Rattle.bt_node.specs.Flushes.{absorb}
+use Rattle.bt_node.proofs.lemmas.crowns.ShapedTrees.{has_room}
+use Rattle.bt_node.proofs.lemmas.flushes.Laws.{chosen_are_planned, come_by_one_rule, fit_there, flushes_in_turn, hold_rows_after, keep_height, stay_without_packet}
 use Rattle.bt_node.proofs.tree.absorb_alone.Goals as goal
 
-pub returns-clause-fits : goal.returns-clause-fits
-returns-clause-fits g c =
-    let is = c.in_ok-nodes.ensures ∙ ap (λ t. absorb (effect_of g.V.Merge.merged) c.args.shape t c.args.packet) c.node.view_is in
-    λ levels low high roomy fits within. subst (SiblingsFit c.args.shape levels low high) (sym is) (absorb_fits (effect_of g.V.Merge.merged) c.args.shape levels low high c.args.node c.args.packet roomy fits within)
+pub returns : goal.returns
+returns g c =
+    let effect = effect_of g.V.Merge.merged in
+    let roomy : IsRoomy c.args.shape = search (has_room, rules) in
+    let is = c.in_ok-nodes.ensures ∙ ap (λ t. absorb effect c.args.shape t c.args.packet) c.node.view_is in
+    record {
+      siblings = is;
+      fits = fit_there effect c.args.shape roomy c.args.node c.args.packet _ is;
+      height = keep_height effect c.args.shape roomy c.args.node c.args.packet _ is;
+      rows = hold_rows_after effect c.args.shape roomy c.args.node c.args.packet _ is;
+      unchanged = stay_without_packet effect c.args.shape roomy c.args.node c.args.packet _ is;
+      one_rule = come_by_one_rule effect c.args.shape roomy c.args.node c.args.packet _ is;
+      in_turn = flushes_in_turn;
+      planned = chosen_are_planned;
+    }
 
-pub returns-clause-height : goal.returns-clause-height
-returns-clause-height g c =
-    let is = c.in_ok-nodes.ensures ∙ ap (λ t. absorb (effect_of g.V.Merge.merged) c.args.shape t c.args.packet) c.node.view_is in
-    λ levels low high roomy fits within. subst (AreHigh (height c.args.node)) (sym is) (absorb_keeps_height (effect_of g.V.Merge.merged) c.args.shape levels low high c.args.node c.args.packet roomy fits within)
+pub returns-in_err-nodes-clause-in_turn : goal.returns-in_err-nodes-clause-in_turn
+returns-in_err-nodes-clause-in_turn g c = flushes_in_turn
 
-pub returns-clause-rows : goal.returns-clause-rows
-returns-clause-rows g c =
-    let is = c.in_ok-nodes.ensures ∙ ap (λ t. absorb (effect_of g.V.Merge.merged) c.args.shape t c.args.packet) c.node.view_is in
-    λ levels low high roomy fits within. ap (all_hold (effect_of g.V.Merge.merged)) is ∙ absorb_loses_nothing (effect_of g.V.Merge.merged) c.args.shape levels low high c.args.node c.args.packet roomy fits within
+pub returns-in_err-nodes-clause-planned : goal.returns-in_err-nodes-clause-planned
+returns-in_err-nodes-clause-planned g c = chosen_are_planned

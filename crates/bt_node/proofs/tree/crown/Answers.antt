@@ -1,14 +1,17 @@
-use Rattle.std.proofs.Common.{◌∙◌, ap, rules}
-use Rattle.std.specs.declared.option.Option.TheVariants.{None}
+use Rattle.std.proofs.Common.{◌∙◌, ap, arith, rules}
 use Rattle.bt_messages.specs.Effects.{effect_of}
 use Rattle.bt_node.specs.Fits.{IsRoomy}
-use Rattle.bt_node.specs.Flushes.{crown, holds}
-use Rattle.bt_node.proofs.Flushing.{crown_loses_nothing}
-use Rattle.bt_node.proofs.ShapedTrees.{has_room}
+use Rattle.bt_node.specs.Flushes.{crown}
+use Rattle.bt_node.proofs.lemmas.crowns.Levels.{stands_above}
+use Rattle.bt_node.proofs.lemmas.crowns.ShapedTrees.{crown_holds, has_room}
 use Rattle.bt_node.proofs.tree.crown.Goals as goal
 
 pub returns-clause-rows : goal.returns-clause-rows
 returns-clause-rows g c =
     let roomy : IsRoomy c.args.shape = search (has_room, rules) in
-    ap (holds (effect_of g.V.Merge.merged)) (c.in_ok-root.ensures ∙ ap (crown c.args.shape) c.siblings.view_is)
-    ∙ crown_loses_nothing (effect_of g.V.Merge.merged) c.args.shape c.requires.0 None None c.args.siblings roomy c.requires.1
+    crown_holds c.args.shape (effect_of g.V.Merge.merged) _ c.args.siblings roomy c.requires (c.in_ok-root.ensures ∙ ap (crown c.args.shape) c.siblings.view_is)
+
+pub returns-clause-stands : goal.returns-clause-stands
+returns-clause-stands g c =
+    let roomy : IsRoomy c.args.shape = search (has_room, rules) in
+    stands_above c.args.shape (omega (arith, roomy.fanout)) c.args.siblings _ (c.in_ok-root.ensures ∙ ap (crown c.args.shape) c.siblings.view_is)

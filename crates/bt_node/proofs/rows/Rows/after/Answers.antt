@@ -3,8 +3,8 @@ use Rattle.std.proofs.lemmas.Grind.{common_steps}
 use Rattle.std.specs.FinMap.{is_sorted}
 use Rattle.bt_messages.specs.Effects.{effect_of}
 use Rattle.bt_messages.specs.declared.message.Message.{Message}
-use Rattle.bt_node.specs.Keys.{Key, key_cmp}
-use Rattle.bt_node.proofs.RowPass.{at_end, before_of, changed_sorted, pass_step, put_in_front, result_sorted, sorted_from}
+use Rattle.bt_keycode.specs.Keys.{Key, key_cmp}
+use Rattle.bt_node.proofs.lemmas.code.RowPass.{at_end, before_of, changed_sorted, pass_step, put_in_front, result_sorted, sorted_from}
 use Rattle.bt_node.proofs.rows.Rows.after.Goals as goal
 
 pub take_first-old-requires-clause-sorted : goal.take_first-old-requires-clause-sorted

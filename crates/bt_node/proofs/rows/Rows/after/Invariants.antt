@@ -1,8 +1,7 @@
 use Rattle.std.proofs.Common.{◌≡◌, ◌+◌, ◌≤◌, ◌++◌, true, length, vec_len, vec_capacity}
 use Rattle.std.specs.FinMap.{is_sorted}
 use Rattle.bt_messages.specs.Effects.{effect_of}
-use Rattle.bt_messages.specs.Messages.{IsSorted}
-use Rattle.bt_node.specs.Keys.{key_cmp}
+use Rattle.bt_keycode.specs.Keys.{IsSorted, key_cmp}
 use Rattle.bt_node.specs.Messages.{rows_after}
 use Rattle.bt_node.proofs.rows.Rows.after.Given as goal
 

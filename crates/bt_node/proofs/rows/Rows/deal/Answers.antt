@@ -1,6 +1,6 @@
 use Rattle.std.proofs.Common.{◌≡◌, ◌∙◌, ◌++◌, ap, map, subst, sym, rules, arith}
 use Rattle.std.proofs.lemmas.Grind.{common_steps}
-use Rattle.bt_node.proofs.RowPass.{AllSorted, sorted_deal}
+use Rattle.bt_node.proofs.lemmas.code.RowPass.{AllSorted, sorted_deal}
 use Rattle.bt_node.proofs.rows.Rows.deal.Goals as goal
 
 pub loop-rows-init : goal.loop-rows-init

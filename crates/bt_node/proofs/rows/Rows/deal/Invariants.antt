@@ -1,6 +1,6 @@
 use Rattle.std.proofs.Common.{◌≡◌, ◌+◌, ◌≤◌, ◌++◌, length, map, vec_len, vec_capacity}
 use Rattle.bt_node.specs.Deals.{deal}
-use Rattle.bt_node.proofs.RowPass.{AllSorted}
+use Rattle.bt_node.proofs.lemmas.code.RowPass.{AllSorted}
 use Rattle.bt_node.proofs.rows.Rows.deal.Given as goal
 
 abbrev pub invariant-loop-rows : goal.invariant-loop-rows

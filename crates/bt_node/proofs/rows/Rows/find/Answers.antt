@@ -1,8 +1,8 @@
 use Rattle.std.proofs.Common.{◌≡◌, ◌∙◌, true, Some, ap, rules}
 use Rattle.std.proofs.lemmas.Fn.{always_returns_same}
 use Rattle.std.specs.FinMap.{is_sorted}
-use Rattle.bt_node.specs.Keys.{key_cmp}
-use Rattle.bt_node.proofs.RowSearch.{searched}
+use Rattle.bt_keycode.specs.Keys.{key_cmp}
+use Rattle.bt_node.proofs.lemmas.code.RowSearch.{searched}
 use Rattle.bt_node.proofs.rows.Rows.find.Goals as goal
 
 pub returns-in-Ok : goal.returns-in-Ok

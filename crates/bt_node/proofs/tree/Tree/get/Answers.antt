@@ -2,10 +2,10 @@ use Rattle.std.proofs.Common.{◌∙◌, ap}
 use Rattle.std.specs.FinMap.{find}
 use Rattle.bt_messages.specs.Effects.{effect_of}
 use Rattle.bt_node.specs.Flushes.{holds}
-use Rattle.bt_node.specs.Keys.{key_cmp}
-use Rattle.bt_node.specs.Views.{tree_of}
-use Rattle.bt_node.proofs.Absorbing.{if_ok}
-use Rattle.bt_node.proofs.ShapedTrees.{found_held}
+use Rattle.bt_keycode.specs.Keys.{key_cmp}
+use Rattle.bt_node.specs.inside.Views.{tree_of}
+use Rattle.bt_node.proofs.lemmas.code.AbsorbStep.{if_ok}
+use Rattle.bt_node.proofs.lemmas.crowns.ShapedTrees.{found_held}
 use Rattle.bt_node.proofs.tree.Tree.get.Goals as goal
 
 pub returns : goal.returns

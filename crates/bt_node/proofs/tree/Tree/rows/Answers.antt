@@ -1,5 +1,5 @@
-use Rattle.bt_node.specs.Views.{tree_of}
-use Rattle.bt_node.proofs.Scans.{shape_in_order}
+use Rattle.bt_node.specs.inside.Views.{tree_of}
+use Rattle.bt_node.proofs.lemmas.code.RowsOfChildren.{shape_in_order}
 use Rattle.bt_node.proofs.tree.Tree.rows.Goals as goal
 
 pub held_rows-requires : goal.held_rows-requires

@@ -3,16 +3,16 @@ use Rattle.std.specs.declared.option.Option.TheVariants.{None}
 use Rattle.bt_messages.specs.Effects.{effect_of}
 use Rattle.bt_node.specs.Flushes.{holds}
 use Rattle.bt_node.specs.Messages.{rows_after}
-use Rattle.bt_node.proofs.Flushing.{anywhere}
+use Rattle.bt_node.proofs.lemmas.flushes.Laws.{anywhere}
 use Rattle.bt_node.proofs.tree.Tree.sink.Goals as goal
 
 pub crown-requires : goal.crown-requires
 crown-requires g c =
     let has = c.apart-shape.ensures.fits in
-    (has.levels, c.in_ok-siblings.ensures.fits has.levels None None has.roomy has.fits (anywhere c.args.packet))
+    (has.levels, c.in_ok-siblings.ensures.fits has.levels None None has.fits (anywhere c.args.packet))
 
 pub returns-clause-rows : goal.returns-clause-rows
 returns-clause-rows g c =
     let has = c.apart-shape.ensures.fits in
-    c.in_ok-crown.ensures.rows ∙ c.in_ok-siblings.ensures.rows has.levels None None has.roomy has.fits (anywhere c.args.packet)
+    c.in_ok-crown.ensures.rows ∙ c.in_ok-siblings.ensures.rows has.levels None None has.fits (anywhere c.args.packet)
     ∙ ap (λ t. rows_after (effect_of g.V.Merge.merged) c.args.packet (holds (effect_of g.V.Merge.merged) t)) c.apart-shape.ensures.root

@@ -1,5 +1,5 @@
 use Rattle.std.proofs.Common.{ap, arith, length}
-use Rattle.bt_node.proofs.Views.{children_seen, length-siblings}
+use Rattle.bt_node.proofs.lemmas.code.TreeOfNode.{children_seen, length-siblings}
 use Rattle.bt_node.proofs.walk.Walk.child_count.Goals as goal
 
 pub returns-in-Inner : goal.returns-in-Inner

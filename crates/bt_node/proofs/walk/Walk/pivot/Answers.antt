@@ -1,10 +1,10 @@
 use Rattle.std.proofs.Common.{◌∙◌, ap, arith, length, option_map, slice_get}
 use Rattle.std.proofs.lemmas.Option.{slice_get-map, slice_get_read}
 use Rattle.bt_messages.specs.declared.message.Message.{Message}
-use Rattle.bt_node.specs.Keys.{Key}
+use Rattle.bt_keycode.specs.Keys.{Key}
 use Rattle.bt_node.specs.Trees.{Tree}
-use Rattle.bt_node.specs.Views.{tree_of}
-use Rattle.bt_node.proofs.Views.{children_seen, length-siblings}
+use Rattle.bt_node.specs.inside.Views.{tree_of}
+use Rattle.bt_node.proofs.lemmas.code.TreeOfNode.{children_seen, length-siblings}
 use Rattle.bt_node.proofs.walk.Walk.pivot.Goals as goal
 
 pub index-child-requires : goal.index-child-requires

@@ -1,0 +1,13 @@
+-- What the code makes is what the definitions say: one file for the steps of one loop or type.
+pub mod AbsorbStep
+pub mod ChoiceLoop
+pub mod CrownLoop
+pub mod DealLoop
+pub mod GroupLoops
+pub mod LookupPath
+pub mod Marks
+pub mod RowPass
+pub mod RowSearch
+pub mod RowsOfChildren
+pub mod ShareLoop
+pub mod TreeOfNode

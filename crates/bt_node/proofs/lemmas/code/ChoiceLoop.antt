@@ -1,0 +1,159 @@
+-- To empty the fullest in turn is to take the plan.
+use Rattle.std.proofs.Common.{◌≡◌, ℕ, zero, suc, ◌+◌, ◌<◌, ◌≤◌, ◌≢◌, cond, ltb, eqb, List, [], ◌∷◌, ◌++◌, length, get_or, set, refl, sym, ap, ◌∙◌, subst, arith, inl, inr, append_assoc, ne_eqb}
+use Rattle.std.proofs.lemmas.Bool.{le-leb, lt-leb, cond-true, cond-false, lt-ltb, le-ltb}
+use Rattle.std.proofs.lemmas.List.{get_or_default, get_or_past}
+use Rattle.std.specs.List.{All, AllByRecursion, IsDistinct}
+use Rattle.bt_node.specs.Plans.{total, most, fullest, planned}
+use Rattle.bt_node.proofs.lemmas.plans.RenewedChoice.{le_or_lt, nothing, most-here, most-later, fullest-here, fullest-later, total-rest, renewed-planned}
+
+-- ---- the fullest
+
+-- the fullest from place k on, where so far n is the most, at the place `best`
+abbrev pub fullest_from : ℕ → ℕ → ℕ → List ℕ → ℕ
+fullest_from best n k [] = best
+fullest_from best n k (m ∷ ms) = cond (ltb n m) (fullest_from k m (suc k) ms) (fullest_from best n (suc k) ms)
+
+from-under : (best n k : ℕ) (ms : List ℕ) → most ms ≤ n → fullest_from best n k ms ≡ best
+from-under best n k [] l = refl
+from-under best n k (m ∷ ms) l = cond-false _ _ _ (le-ltb n m (omega arith)) ∙ from-under best n (suc k) ms (omega arith)
+
+from-over : (best n k : ℕ) (ms : List ℕ) → n < most ms → fullest_from best n k ms ≡ k + fullest ms
+from-over best n k [] l = absurd (omega arith)
+from-over best n k (m ∷ ms) l = elim (le_or_lt m n) [
+  | inl low ↦ cond-false _ _ _ (le-ltb n m low) ∙ from-over best n (suc k) ms (omega arith) ∙ omega (arith, fullest-later m ms (omega arith))
+  | inr high ↦ cond-true _ _ _ (lt-ltb n m high) ∙ elim (le_or_lt (most ms) m) [
+    | inl here ↦ from-under k m (suc k) ms here ∙ omega (arith, fullest-here m ms here)
+    | inr later ↦ from-over k m (suc k) ms later ∙ omega (arith, fullest-later m ms later)
+  ]
+]
+
+fullest-none : (ms : List ℕ) → most ms ≤ 0 → fullest ms ≡ 0
+fullest-none [] l = refl
+fullest-none (m ∷ ms) l = fullest-here m ms (omega arith)
+
+pub fullest_from-start : (ms : List ℕ) → fullest ms ≡ fullest_from 0 0 0 ms
+fullest_from-start ms = elim (le_or_lt (most ms) 0) [
+  | inl none ↦ fullest-none ms none ∙ sym (from-under 0 0 0 ms none)
+  | inr some ↦ sym (from-over 0 0 0 ms some ∙ omega arith)
+]
+
+-- the fullest has the most
+pub get_or-fullest : (ns : List ℕ) → get_or ns (fullest ns) 0 ≡ most ns
+get_or-fullest [] = refl
+get_or-fullest (n ∷ ns) = elim (le_or_lt (most ns) n) [
+  | inl here ↦ ap (λ i. get_or (n ∷ ns) i 0) (fullest-here n ns here) ∙ sym (most-here n ns here)
+  | inr later ↦ ap (λ i. get_or (n ∷ ns) i 0) (fullest-later n ns later) ∙ get_or-fullest ns ∙ sym (most-later n ns later)
+]
+
+-- no count above 0 is past the end
+place-below : (ns : List ℕ) (i : ℕ) → 0 < get_or ns i 0 → i < length ns
+place-below ns i l = elim (le_or_lt (length ns) i) [ inl past ↦ absurd (omega (arith, get_or_past ns i 0 past)) | inr h ↦ h ]
+
+-- ---- one turn
+
+heavy : (ns : List ℕ) (capacity : ℕ) → capacity < total ns → 0 < most ns
+heavy ns capacity over = elim (le_or_lt (most ns) 0) [ inl none ↦ omega (arith, nothing ns (omega arith)) | inr h ↦ h ]
+
+pub fullest-below : (ns : List ℕ) (capacity : ℕ) → capacity < total ns → fullest ns < length ns
+fullest-below ns capacity over = place-below ns (fullest ns) (omega (arith, get_or-fullest ns, heavy ns capacity over))
+
+pub fullest-some : (ns : List ℕ) (capacity : ℕ) → capacity < total ns → 0 < get_or ns (fullest ns) 0
+fullest-some ns capacity over = omega (arith, get_or-fullest ns, heavy ns capacity over)
+
+-- when the fullest is emptied, the others are left
+pub total-emptied : (ns : List ℕ) (capacity : ℕ) → capacity < total ns → get_or ns (fullest ns) 0 + total (set ns (fullest ns) 0) ≡ total ns
+total-emptied ns capacity over = omega (arith, get_or-fullest ns, total-rest ns (heavy ns capacity over))
+
+-- nothing is planned within capacity
+pub planned-within : (ns : List ℕ) (capacity : ℕ) → total ns ≤ capacity → planned ns capacity ≡ []
+planned-within ns capacity within = sym (renewed-planned capacity (suc (total ns)) ns (omega arith)) ∙ cond-true _ _ _ (le-leb _ _ within)
+
+-- over capacity the fullest is planned, and then what is planned without it
+pub planned-over : (ns : List ℕ) (capacity : ℕ) → capacity < total ns → planned ns capacity ≡ fullest ns ∷ planned (set ns (fullest ns) 0) capacity
+planned-over ns capacity over =
+    sym (renewed-planned capacity (suc (total ns)) ns (omega arith))
+    ∙ cond-false _ _ _ (lt-leb _ _ over)
+    ∙ ap (λ is. fullest ns ∷ is) (renewed-planned capacity (total ns) (set ns (fullest ns) 0) (omega (arith, total-emptied ns capacity over)))
+
+-- A turn while n are pending in all, at place i.
+pub record Turn (ns : List ℕ) (capacity n i : ℕ) : Type 0 where
+  pub over : capacity < n
+  pub all : n ≡ total ns
+  pub place : i ≡ fullest ns
+
+module _ (ns : List ℕ) (capacity left place : ℕ) (turn : Turn ns capacity left place) where
+  -- its place is one of a child
+  pub turn-below : place < length ns
+  turn-below = omega (arith, turn.place, fullest-below ns capacity (omega (arith, turn.over, turn.all)))
+
+  -- for the child some are pending
+  pub turn-some : (n : ℕ) → n ≡ get_or ns place n → 0 < n
+  turn-some n is =
+      let some : 0 < get_or ns place 0 = rw turn.place (fullest-some ns capacity (omega (arith, turn.over, turn.all))) in
+      omega (arith, is, some, get_or_default ns place n 0 turn-below)
+
+  -- and then no more do
+  pub turn-left : (n : ℕ) → n ≡ get_or ns place n → n + total (set ns place 0) ≡ left
+  turn-left n is =
+      let less : get_or ns place 0 + total (set ns place 0) ≡ total ns = rw turn.place (total-emptied ns capacity (omega (arith, turn.over, turn.all))) in
+      omega (arith, is, less, turn.all, get_or_default ns place n 0 turn-below)
+
+  -- the place comes before those that are planned without it
+  pub turn-planned : (done : List ℕ) → (done ++ place ∷ []) ++ planned (set ns place 0) capacity ≡ done ++ planned ns capacity
+  turn-planned done =
+      append_assoc done (place ∷ []) (planned (set ns place 0) capacity)
+      ∙ ap (λ z. done ++ z) (rw turn.place (sym (planned-over ns capacity (omega (arith, turn.over, turn.all)))))
+
+-- ---- what is planned
+
+all-map : (P Q : ℕ → Type 0) → ((i : ℕ) → P i → Q i) → (is : List ℕ) → AllByRecursion P is → AllByRecursion Q is
+all-map P Q f [] all = tt
+all-map P Q f (i ∷ is) all = (f i all.0, all-map P Q f is all.1)
+
+-- what still has a count is not the place that was emptied, and had the count before
+still-some : (ns : List ℕ) (i j : ℕ) → 0 < get_or (set ns i 0) j 0 → (i ≢ j) × (0 < get_or ns j 0)
+still-some [] i j l = absurd (omega arith)
+still-some (n ∷ ns) zero zero l = absurd (omega arith)
+still-some (n ∷ ns) zero (suc j) l = (omega arith, l)
+still-some (n ∷ ns) (suc i) zero l = (omega arith, l)
+still-some (n ∷ ns) (suc i) (suc j) l = let h = still-some ns i j l in (omega (arith, h.0), h.1)
+
+-- each planned place has a count above 0
+planned-some : (turns : ℕ) (ns : List ℕ) (capacity : ℕ) → total ns ≤ turns → AllByRecursion (λ i. 0 < get_or ns i 0) (planned ns capacity)
+planned-some zero ns capacity l = subst (AllByRecursion (λ i. 0 < get_or ns i 0)) (sym (planned-within ns capacity (omega arith))) tt
+planned-some (suc turns) ns capacity l = elim (le_or_lt (total ns) capacity) [
+  | inl within ↦ subst (AllByRecursion (λ i. 0 < get_or ns i 0)) (sym (planned-within ns capacity within)) tt
+  | inr over ↦
+      let rest = set ns (fullest ns) 0 in
+      let some = fullest-some ns capacity over in
+      let later = planned-some turns rest capacity (omega (arith, total-emptied ns capacity over)) in
+      subst (AllByRecursion (λ i. 0 < get_or ns i 0)) (sym (planned-over ns capacity over))
+      (some, all-map _ _ (λ j h. (still-some ns (fullest ns) j h).1) (planned rest capacity) later)
+]
+
+planned-distinct_in : (turns : ℕ) (ns : List ℕ) (capacity : ℕ) → total ns ≤ turns → IsDistinct eqb (planned ns capacity)
+unfolding IsDistinct
+planned-distinct_in zero ns capacity l = subst (IsDistinct eqb) (sym (planned-within ns capacity (omega arith))) tt
+planned-distinct_in (suc turns) ns capacity l = elim (le_or_lt (total ns) capacity) [
+  | inl within ↦ subst (IsDistinct eqb) (sym (planned-within ns capacity within)) tt
+  | inr over ↦
+      let rest = set ns (fullest ns) 0 in
+      let some = fullest-some ns capacity over in
+      let less : total rest ≤ turns = omega (arith, total-emptied ns capacity over) in
+      subst (IsDistinct eqb) (sym (planned-over ns capacity over))
+      (all-map _ _ (λ j h. ne_eqb (fullest ns) j (still-some ns (fullest ns) j h).0) (planned rest capacity) (planned-some (total rest) rest capacity (omega arith)), planned-distinct_in turns rest capacity less)
+]
+
+all-at : (P : ℕ → Type 0) (is : List ℕ) → AllByRecursion P is → (k d : ℕ) → k < length is → P (get_or is k d)
+all-at P [] all k d l = absurd (omega arith)
+all-at P (i ∷ is) all zero d l = all.0
+all-at P (i ∷ is) all (suc k) d l = all-at P is all.1 k d (omega arith)
+
+-- Each planned place is one of a count.
+pub planned-below : (counts : List ℕ) (capacity : ℕ) → All (λ i. i < length counts) (planned counts capacity)
+planned-below counts capacity k d l =
+    place-below counts _ (all-at _ (planned counts capacity) (planned-some (total counts) counts capacity (omega arith)) k d l)
+
+-- No place is planned twice.
+pub planned-distinct : (counts : List ℕ) (capacity : ℕ) → IsDistinct eqb (planned counts capacity)
+planned-distinct counts capacity = planned-distinct_in (total counts) counts capacity (omega arith)

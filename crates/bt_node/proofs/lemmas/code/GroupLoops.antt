@@ -1,0 +1,133 @@
+-- Children in parts, and what is pending for them.
+use Rattle.std.proofs.Common.{Vec, Global, ◌≡◌, ℕ, List, [], ◌∷◌, ◌++◌, length, map, take, drop, refl, sym, ap, subst, ◌∙◌, append-nil, append_assoc, arith}
+use Rattle.std.specs.List.{flat_map}
+use Rattle.std.proofs.lemmas.List.{drop-map, length-map, take-map}
+use Rattle.bt_keycode.specs.Keys.{IsSorted, Key}
+use Rattle.bt_messages.specs.declared.message.Message.{Message}
+use Rattle.bt_node.specs.declared.node.Child as code
+use Rattle.bt_node.specs.declared.node.Node.{Node}
+use Rattle.bt_node.specs.declared.node.Node.TheVariants as variants
+use Rattle.bt_node.specs.Messages.{Messages, Rows, with_messages}
+use Rattle.bt_node.specs.Trees.{Shape, Siblings, Tree, inner, leaf, none, nodes}
+use Rattle.bt_node.specs.Deals.{deal, parted, sizes}
+use Rattle.bt_node.specs.Flushes.{first_key, gathered, grouped, leaves, pivot_first}
+use Rattle.bt_node.specs.inside.Views.{child_of, children_of, siblings_of, tree_of, pending_of}
+use Rattle.bt_node.proofs.lemmas.deals.Parts.{joined, joined-deal}
+use Rattle.bt_node.proofs.lemmas.flushes.Groups.{as_leaf, stripped}
+use Rattle.bt_node.proofs.lemmas.code.TreeOfNode.{tree_inner, tree_leaf}
+use Rattle.bt_node.proofs.lemmas.flushes.PendingOrder.{added-behind}
+use Rattle.bt_node.proofs.lemmas.keys.SortedLists.{sorted-back, sorted-prefix}
+
+-- nothing is left
+pub nothing_left : {X : Type 0} (xs : List X) → length xs ≡ 0 → xs ≡ []
+nothing_left [] e = refl
+nothing_left (x ∷ xs) e = absurd (omega (arith, e))
+
+-- the items of all parts
+abbrev pub all_of : {X : Type 0} → List (Vec X Global) → List X
+all_of = flat_map (λ part. part.items)
+
+module _ {M : Type 0} where
+  -- the first of what is added keeps the order
+  pub sorted_through : (b w r : Messages M) → IsSorted (b ++ (w ++ r)) → IsSorted (b ++ w)
+  sorted_through b w r h = sorted-prefix (b ++ w) r (subst IsSorted (sym (append_assoc b w r)) h)
+
+  pub added_last : (b w : Messages M) → IsSorted (b ++ w) → with_messages w b ≡ b ++ w
+  added_last b w h = added-behind w b h
+
+-- ---- one group
+
+module _ {V D : Type 0} where
+  -- the first of children is added to none
+  pub first_fits : (part : List (code.Child V D)) (c : code.Child V D) (rest : List (code.Child V D)) → part ≡ c ∷ rest → IsSorted (pending_of part) → IsSorted (c.pending ++ pending_of rest)
+  first_fits part c rest e h = subst (λ cs. IsSorted (pending_of cs)) e h
+
+  pub gather_done : (cs : Vec (Key × Node V D) Global) (buffer : Messages (Message V D)) (part : List (code.Child V D)) (c : code.Child V D) (rest : List (code.Child V D)) →
+      part ≡ c ∷ rest → siblings_of cs.items ≡ ([], tree_of c.node) ∷ stripped (children_of rest) → buffer ≡ c.pending ++ pending_of rest →
+      (c.pivot, tree_of (variants.Inner cs buffer)) ≡ gathered (children_of part)
+  gather_done cs buffer part c rest e s b =
+      ap (λ t. (c.pivot, t)) (tree_inner cs buffer ∙ ap (λ xs. inner (nodes xs) buffer) s ∙ ap (inner (nodes (([], tree_of c.node) ∷ stripped (children_of rest)))) b)
+      ∙ sym (ap (λ ps. gathered (children_of ps)) e)
+
+  pub gather_none : (cs : Vec (Key × Node V D) Global) (buffer : Messages (Message V D)) (part : List (code.Child V D)) → part ≡ [] → cs.items ≡ [] → buffer ≡ [] →
+      ([], tree_of (variants.Inner cs buffer)) ≡ gathered (children_of part)
+  gather_none cs buffer part e s b =
+      ap (λ t. ([], t)) (tree_inner cs buffer ∙ ap (λ xs. inner (nodes (siblings_of xs)) buffer) s ∙ ap (inner none) b) ∙ sym (ap (λ ps. gathered (children_of ps)) e)
+
+-- ---- all groups
+
+parted-map : {X Y : Type 0} (f : X → Y) (ns : List ℕ) (xs : List X) → parted ns (map f xs) ≡ map (map f) (parted ns xs)
+parted-map f [] xs = refl
+parted-map f (n ∷ ns) xs = ap (λ z. z ∷ parted ns (drop n (map f xs))) (take-map f n xs) ∙ ap (λ z. map f (take n xs) ∷ parted ns z) (drop-map f n xs) ∙ ap (λ z. map f (take n xs) ∷ z) (parted-map f ns (drop n xs))
+
+module _ {V D : Type 0} where
+  -- the children of a dealt list are dealt
+  abbrev pub parts_of : List (Vec (code.Child V D) Global) → List (List (code.Child V D))
+  parts_of = map (λ p. p.items)
+
+  pub all_dealt : (most : ℕ) (parts : List (Vec (code.Child V D) Global)) (cs : List (code.Child V D)) → parts_of parts ≡ deal most cs → all_of parts ≡ cs
+  all_dealt most parts cs e = all_items parts ∙ ap joined e ∙ joined-deal most cs
+    where
+      all_items : (ps : List (Vec (code.Child V D) Global)) → all_of ps ≡ joined (parts_of ps)
+      all_items [] = refl
+      all_items (p ∷ ps) = ap (λ z. p.items ++ z) (all_items ps)
+
+  pending_append : (xs ys : List (code.Child V D)) → pending_of (xs ++ ys) ≡ pending_of xs ++ pending_of ys
+  pending_append [] ys = refl
+  pending_append (x ∷ xs) ys = ap (λ z. x.pending ++ z) (pending_append xs ys) ∙ sym (append_assoc x.pending (pending_of xs) (pending_of ys))
+
+  pub first_part : (p : Vec (code.Child V D) Global) (ps : List (Vec (code.Child V D) Global)) → IsSorted (pending_of (all_of (p ∷ ps))) → IsSorted (pending_of p.items)
+  first_part p ps h = sorted-prefix (pending_of p.items) (pending_of (all_of ps)) (subst IsSorted (pending_append p.items (all_of ps)) h)
+
+  pub other_parts : (p : Vec (code.Child V D) Global) (ps : List (Vec (code.Child V D) Global)) → IsSorted (pending_of (all_of (p ∷ ps))) → IsSorted (pending_of (all_of ps))
+  other_parts p ps h = sorted-back (pending_of p.items) (pending_of (all_of ps)) (subst IsSorted (pending_append p.items (all_of ps)) h)
+
+  -- the groups, the first behind the empty key
+  abbrev pub groups_of : List (Vec (code.Child V D) Global) → Siblings V (Message V D)
+  groups_of = map (λ p. gathered (children_of p.items))
+
+  pub grouped_is : (s : Shape) (parts : List (Vec (code.Child V D) Global)) (cs : List (code.Child V D)) → parts_of parts ≡ deal s.fanout cs → grouped s (children_of cs) ≡ pivot_first [] (groups_of parts)
+  grouped_is s parts cs e =
+      ap (λ n. pivot_first [] (map gathered (parted (sizes n s.fanout) (children_of cs)))) (length-map cs child_of)
+      ∙ ap (λ gs. pivot_first [] (map gathered gs)) (parted-map child_of (sizes (length cs) s.fanout) cs)
+      ∙ ap (λ gs. pivot_first [] (map gathered (map children_of gs))) (sym e)
+      ∙ ap (pivot_first []) (fused parts)
+    where
+      fused : (ps : List (Vec (code.Child V D) Global)) → map gathered (map children_of (parts_of ps)) ≡ groups_of ps
+      fused [] = refl
+      fused (p ∷ ps) = ap (λ z. gathered (children_of p.items) ∷ z) (fused ps)
+
+  pub group_done : (s : Shape) (parts : List (Vec (code.Child V D) Global)) (cs : List (code.Child V D)) (first : Vec (code.Child V D) Global) (rest left : List (Vec (code.Child V D) Global))
+      (k : Key) (node : Node V D) (start nodes : List (Key × Node V D)) → parts_of parts ≡ deal s.fanout cs → parts ≡ first ∷ rest → (k, tree_of node) ≡ gathered (children_of first.items) →
+      siblings_of start ≡ ([], tree_of node) ∷ [] → siblings_of nodes ++ groups_of left ≡ siblings_of start ++ groups_of rest → left ≡ [] →
+      siblings_of nodes ≡ grouped s (children_of cs)
+  group_done s parts cs first rest left k node start made dealt split is begun kept empty =
+      sym (append-nil (siblings_of made)) ∙ ap (λ ps. siblings_of made ++ groups_of ps) (sym empty) ∙ kept ∙ ap (λ xs. xs ++ groups_of rest) begun
+      ∙ ap (λ (x : Key × Tree V (Message V D)). ([], x.1) ∷ groups_of rest) is
+      ∙ sym (grouped_is s parts cs dealt ∙ ap (λ ps. pivot_first [] (groups_of ps)) split)
+
+  pub group_none : (s : Shape) (parts : List (Vec (code.Child V D) Global)) (cs : List (code.Child V D)) → parts_of parts ≡ deal s.fanout cs → parts ≡ [] → [] ≡ grouped s (children_of cs)
+  group_none s parts cs dealt empty = sym (grouped_is s parts cs dealt ∙ ap (λ ps. pivot_first [] (groups_of ps)) empty)
+
+  -- one more group
+  pub more : (nodes : List (Key × Node V D)) (node : Key × Node V D) (part : Vec (code.Child V D) Global) (left : List (Vec (code.Child V D) Global)) →
+      (node.0, tree_of node.1) ≡ gathered (children_of part.items) → siblings_of (nodes ++ node ∷ []) ++ groups_of left ≡ siblings_of nodes ++ groups_of (part ∷ left)
+  more [] node part left e = ap (λ x. x ∷ groups_of left) e
+  more (n ∷ nodes) node part left e = ap (λ xs. (n.0, tree_of n.1) ∷ xs) (more nodes node part left e)
+
+-- ---- leaves
+
+module _ {V D : Type 0} where
+  -- one more leaf
+  pub more_leaves : (nodes : List (Key × Node V D)) (k : Key) (part : Rows V) (left : List (Rows V)) → k ≡ first_key (λ r. r.0) part →
+      siblings_of (nodes ++ (k, variants.Leaf part) ∷ []) ++ map (as_leaf (Message V D)) left ≡ siblings_of nodes ++ map (as_leaf (Message V D)) (part ∷ left)
+  more_leaves [] k part left e = ap (λ t. (k, t) ∷ map (as_leaf (Message V D)) left) (tree_leaf part) ∙ ap (λ j. (j, leaf part) ∷ map (as_leaf (Message V D)) left) e
+  more_leaves (n ∷ nodes) k part left e = ap (λ xs. (n.0, tree_of n.1) ∷ xs) (more_leaves nodes k part left e)
+
+  pub leaves_done : (s : Shape) (rows : Rows V) (parts : List (Rows V)) (first : Rows V) (rest left : List (Rows V)) (start made : List (Key × Node V D)) → parts ≡ deal s.leaf rows → parts ≡ first ∷ rest →
+      siblings_of start ≡ ([], leaf first) ∷ [] → siblings_of made ++ map (as_leaf (Message V D)) left ≡ siblings_of start ++ map (as_leaf (Message V D)) rest → left ≡ [] →
+      siblings_of made ≡ leaves s rows
+  leaves_done s rows parts first rest left start made dealt split begun kept empty =
+      sym (append-nil (siblings_of made)) ∙ ap (λ ps. siblings_of made ++ map (as_leaf (Message V D)) ps) (sym empty) ∙ kept
+      ∙ ap (λ xs. xs ++ map (as_leaf (Message V D)) rest) begun
+      ∙ ap (λ ps. pivot_first [] (map (as_leaf (Message V D)) ps)) (sym split ∙ dealt)

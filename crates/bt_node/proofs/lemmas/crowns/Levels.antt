@@ -1,0 +1,54 @@
+-- Siblings put under inner nodes are fewer, and the crown goes on from them.
+use Rattle.std.proofs.Common.{◌≡◌, ℕ, zero, suc, ◌<◌, ◌≤◌, [], ◌∷◌, map, length, refl, ap, ◌∙◌, arith}
+use Rattle.std.proofs.lemmas.List.{length-map}
+use Rattle.bt_keycode.specs.Keys.{Key}
+use Rattle.bt_node.specs.Deals.{deal}
+use Rattle.bt_node.specs.Trees.{Shape, Tree, Siblings}
+use Rattle.bt_node.specs.Flushes.{pivot_first, shared, none_pending, gathered, grouped, crowned, crown}
+use Rattle.bt_node.specs.Laws.{StandsAbove}
+use Rattle.bt_node.proofs.lemmas.deals.PartSizes.{fewer-parts}
+
+module _ {V M : Type 0} where
+  -- of no messages, none are pending
+  pub shared-nothing : (xs : Siblings V M) → shared xs [] ≡ none_pending xs
+  shared-nothing [] = refl
+  shared-nothing (x ∷ []) = refl
+  shared-nothing (x ∷ y ∷ xs) = ap (λ z. record { pivot = x.0; tree = x.1; pending = [] } ∷ z) (shared-nothing (y ∷ xs))
+
+  length-pivot_first : (k : Key) (xs : Siblings V M) → length (pivot_first k xs) ≡ length xs
+  length-pivot_first k [] = refl
+  length-pivot_first k (x ∷ xs) = refl
+
+  length-none_pending : (xs : Siblings V M) → length (none_pending xs) ≡ length xs
+  length-none_pending [] = refl
+  length-none_pending (x ∷ xs) = ap suc (length-none_pending xs)
+
+  module _ (s : Shape) (two : 2 ≤ s.fanout) where
+    pub raised-shorter : (xs : Siblings V M) → 2 ≤ length xs → length (grouped s (none_pending xs)) < length xs
+    raised-shorter xs several =
+        let cs = none_pending xs in
+        let many = length-none_pending xs in
+        omega (arith, length-pivot_first [] (map gathered (deal s.fanout cs)), length-map (deal s.fanout cs) gathered, many, fewer-parts s.fanout cs two (omega (arith, many, several)))
+
+    -- Any two bounds on the levels that the siblings can't exceed give the same: each level has fewer nodes than the one below it.
+    crowned-same : (h j : ℕ) (xs : Siblings V M) → length xs ≤ suc h → length xs ≤ suc j → crowned h s xs ≡ crowned j s xs
+    crowned-same h j [] l m = refl
+    crowned-same h j (x ∷ []) l m = refl
+    crowned-same zero j (x ∷ y ∷ xs) l m = absurd (omega (arith, l))
+    crowned-same (suc h) zero (x ∷ y ∷ xs) l m = absurd (omega (arith, m))
+    crowned-same (suc h) (suc j) (x ∷ y ∷ xs) l m =
+        let shorter = raised-shorter (x ∷ y ∷ xs) (omega arith) in
+        crowned-same h j (grouped s (none_pending (x ∷ y ∷ xs))) (omega (arith, shorter, l)) (omega (arith, shorter, m))
+
+    pub crown-again : (xs : Siblings V M) → 2 ≤ length xs → crown s xs ≡ crown s (grouped s (none_pending xs))
+    crown-again [] several = absurd (omega arith)
+    crown-again (x ∷ []) several = absurd (omega arith)
+    crown-again (x ∷ y ∷ xs) several =
+        let ys = grouped s (none_pending (x ∷ y ∷ xs)) in
+        crowned-same (suc (length xs)) (length ys) ys (omega (arith, raised-shorter (x ∷ y ∷ xs) several)) (omega arith)
+
+    pub stands_above : (xs : Siblings V M) (t : Tree V M) → t ≡ crown s xs → StandsAbove s xs t
+    stands_above xs t is = record {
+      one = λ x lone. is ∙ ap (crown s) lone;
+      several = λ many. is ∙ crown-again xs many;
+    }

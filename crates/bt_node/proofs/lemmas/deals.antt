@@ -1,0 +1,3 @@
+-- Dealing items into parts.
+pub mod PartSizes
+pub mod Parts

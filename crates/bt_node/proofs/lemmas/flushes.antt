@@ -1,0 +1,12 @@
+-- What becomes of a node and a packet: order, sizes, height and rows.
+pub mod Children
+pub mod EmptyPackets
+pub mod Groups
+pub mod Laws
+pub mod NodeSizes
+pub mod Passes
+pub mod PendingOrder
+pub mod Recursion
+pub mod RowsKept
+pub mod Shares
+pub mod ValuesKept

@@ -1,0 +1,92 @@
+-- A node that fits is left as it is by an empty packet.
+use Rattle.std.proofs.Common.{◌≡◌, ℕ, zero, suc, ◌≤◌, true, false, cond, not, List, [], ◌∷◌, ◌++◌, map, length, refl, sym, ap, ◌∙◌, arith, append-nil}
+use Rattle.std.specs.declared.option.Option.{Option}
+use Rattle.bt_keycode.specs.Keys.{Key, is_before, AllFrom, IsSorted}
+use Rattle.bt_node.specs.Messages.{Messages, before, from}
+use Rattle.bt_node.specs.Plans.{total}
+use Rattle.bt_node.specs.Trees.{Shape, Tree, leaf, inner, Nodes, Siblings, children, nodes}
+use Rattle.bt_node.specs.Flushes.{Child, Flush, pivot_first, counts, shared, flushed, flushed_over, gathered, grouped, absorbed, absorb}
+use Rattle.bt_node.specs.Fits.{IsLed, Lies, IsSized, NodeFits, IsRoomy}
+use Rattle.bt_keycode.proofs.offered.Order.{from_earlier}
+use Rattle.bt_node.proofs.lemmas.keys.SortedLists.{sorted-where}
+use Rattle.bt_node.proofs.lemmas.deals.PartSizes.{deal-one}
+use Rattle.bt_node.proofs.lemmas.plans.Capacity.{settled-still}
+use Rattle.bt_node.proofs.lemmas.flushes.Children.{all_pending}
+use Rattle.bt_node.proofs.lemmas.flushes.Groups.{stripped, as_leaf, nodes-children}
+use Rattle.bt_node.proofs.lemmas.flushes.Passes.{flushed-light}
+use Rattle.bt_node.proofs.lemmas.flushes.NodeSizes.{length-shared, total-counts}
+use Rattle.bt_node.proofs.lemmas.flushes.RowsKept.{absorb-at}
+
+module _ {M : Type 0} where
+  before-none : (k : Key) (ms : Messages M) → AllFrom k ms → before k ms ≡ []
+  before-none k [] w = refl
+  before-none k (m ∷ ms) w = ap (λ b. cond b (m ∷ before k ms) (before k ms)) w.0 ∙ before-none k ms w.1
+
+  from-all : (k : Key) (ms : Messages M) → AllFrom k ms → from k ms ≡ ms
+  from-all k [] w = refl
+  from-all k (m ∷ ms) w = ap (λ b. cond (not b) (m ∷ from k ms) (from k ms)) w.0 ∙ ap (λ z. m ∷ z) (from-all k ms w.1)
+
+  -- a sorted buffer is its two sides joined
+  divided : (k : Key) (ms : Messages M) → IsSorted ms → before k ms ++ from k ms ≡ ms
+  divided k [] r = refl
+  divided k (m ∷ ms) r = elim (is_before m.0 k) as (λ b. is_before m.0 k ≡ b → cond b (m ∷ before k ms) (before k ms) ++ cond (not b) (m ∷ from k ms) (from k ms) ≡ m ∷ ms) [
+    | true ↦ λ e. ap (λ z. m ∷ z) (divided k ms r.1)
+    | false ↦ λ e.
+        let rest = from_earlier k m.0 ms e r.0 in
+        ap (λ z. z ++ m ∷ from k ms) (before-none k ms rest) ∙ ap (λ z. m ∷ z) (from-all k ms rest)
+  ] refl
+
+  from-sorted : (k : Key) (ms : Messages M) → IsSorted ms → IsSorted (from k ms)
+  from-sorted k ms r = sorted-where (λ x. not (is_before x k)) ms r
+
+led-first : {X : Type 0} (xs : List (Key × X)) → IsLed xs → pivot_first [] xs ≡ xs
+led-first [] l = absurd l
+led-first (x ∷ xs) l = ap (λ k. (k, x.1) ∷ xs) (sym l)
+
+module _ {V M : Type 0} where
+  -- a sorted buffer is its shares joined
+  pub all_pending-shared : (x : Key × Tree V M) (xs : Siblings V M) (b : Messages M) → IsSorted b → all_pending (shared (x ∷ xs) b) ≡ b
+  all_pending-shared x [] b r = append-nil b
+  all_pending-shared x (y ∷ ys) b r = ap (λ z. before y.0 b ++ z) (all_pending-shared y ys (from y.0 b) (from-sorted y.0 b r)) ∙ divided y.0 b r
+
+  all_pending-shared-all : (xs : Siblings V M) (b : Messages M) → IsLed xs → IsSorted b → all_pending (shared xs b) ≡ b
+  all_pending-shared-all [] b l r = absurd l
+  all_pending-shared-all (x ∷ xs) b l r = all_pending-shared x xs b r
+
+  pub stripped-shared : (xs : Siblings V M) (b : Messages M) → stripped (shared xs b) ≡ xs
+  stripped-shared [] b = refl
+  stripped-shared (x ∷ []) b = refl
+  stripped-shared (x ∷ y ∷ ys) b = ap (λ z. x ∷ z) (stripped-shared (y ∷ ys) (from y.0 b))
+
+  -- one group of children, with their shares of a buffer, is the node that they came from
+  gathered-shared : (ns : Nodes V M) (b : Messages M) → IsLed (children ns) → IsSorted b → (gathered (shared (children ns) b)).1 ≡ inner ns b
+  gathered-shared ns b l r =
+      ap (λ xs. inner (nodes (pivot_first [] xs)) (all_pending (shared (children ns) b))) (stripped-shared (children ns) b)
+      ∙ ap (λ xs. inner (nodes xs) (all_pending (shared (children ns) b))) (led-first (children ns) l)
+      ∙ ap (λ ms. inner ms (all_pending (shared (children ns) b))) (nodes-children ns)
+      ∙ ap (inner ns) (all_pending-shared-all (children ns) b l r)
+
+  -- children within the fanout are one group
+  grouped-one : (s : Shape) (cs : List (Child V M)) → 1 ≤ s.fanout → length cs ≤ s.fanout → grouped s cs ≡ ([], (gathered cs).1) ∷ []
+  grouped-one s cs some fits = ap (λ gs. pivot_first [] (map gathered gs)) (deal-one s.fanout cs some fits)
+
+  -- what becomes of a node whose children and messages are within its shape is the node
+  pub still-here : (s : Shape) (ns : Nodes V M) (b : Messages M) → IsLed (children ns) → IsSorted b → 1 ≤ s.fanout → length (children ns) ≤ s.fanout → length b ≤ s.buffer → (flush : Flush V M) →
+      grouped s (flushed_over flush s.buffer (shared (children ns) b)) ≡ ([], inner ns b) ∷ []
+  still-here s ns b l r some few fits flush =
+      let cs = shared (children ns) b in
+      let pending : total (counts cs) ≤ s.buffer = omega (arith, total-counts cs, ap length (all_pending-shared-all (children ns) b l r), fits) in
+      ap (grouped s) (settled-still (λ c. length c.pending) (flushed flush) (flushed-light flush) s.buffer (total (counts cs)) cs pending)
+      ∙ grouped-one s cs some (omega (arith, length-shared (children ns) b, few))
+      ∙ ap (λ t. ([], t) ∷ []) (gathered-shared ns b l r)
+
+module _ {V M : Type 0} (effect : Option V → M → Option V) (s : Shape) (roomy : IsRoomy s) where
+  absorbed-still : (levels : ℕ) (low high : Option Key) (t : Tree V M) → Lies levels low high t → IsSized s t → absorbed effect (suc levels) s t [] ≡ ([], t) ∷ []
+  absorbed-still zero low high (leaf rs) lies z = ap (λ gs. pivot_first [] (map (as_leaf M) gs)) (deal-one s.leaf rs roomy.leaf z)
+  absorbed-still zero low high (inner ns b) lies z = absurd lies
+  absorbed-still (suc levels) low high (leaf rs) lies z = absurd lies
+  absorbed-still (suc levels) low high (inner ns b) lies z =
+      still-here s ns b lies.3 lies.1 (omega (arith, roomy.fanout)) z.1 z.2 (absorbed effect (suc levels) s)
+
+  pub absorb-still : (levels : ℕ) (low high : Option Key) (t : Tree V M) → NodeFits s levels low high t → absorb effect s t [] ≡ ([], t) ∷ []
+  absorb-still levels low high t fits = absorb-at effect s levels low high t [] fits.lies ∙ absorbed-still levels low high t fits.lies fits.sized

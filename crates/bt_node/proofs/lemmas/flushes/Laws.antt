@@ -1,0 +1,62 @@
+-- What is promised of a node and a packet, and of children that are flushed, from its parts.
+use Rattle.std.proofs.Common.{◌≡◌, ℕ, suc, List, [], ◌∷◌, length, refl, sym, ap, subst, ◌∙◌, arith, le_refl}
+use Rattle.std.specs.declared.option.Option.{Option}
+use Rattle.std.specs.declared.option.Option.TheVariants.{None, Some}
+use Rattle.bt_keycode.specs.Keys.{Key, AllWithin}
+use Rattle.bt_node.specs.Messages.{Messages}
+use Rattle.bt_node.specs.Plans.{total}
+use Rattle.bt_node.specs.Trees.{Shape, Tree, Siblings, nodes}
+use Rattle.bt_node.specs.Flushes.{counts, flushed, absorb, all_hold}
+use Rattle.bt_node.specs.Fits.{SiblingsLie, SiblingsFit, AreSized, AreHigh, IsRoomy}
+use Rattle.bt_node.specs.Laws.{FlushesInTurn, ChosenArePlanned, FitThere, KeepHeight, StayWithoutPacket, HoldRowsAfter, ComeByOneRule}
+use Rattle.bt_node.proofs.lemmas.plans.OnePass.{replaced-planned}
+use Rattle.bt_node.proofs.lemmas.plans.Capacity.{settled-on, settled-still}
+use Rattle.bt_node.proofs.lemmas.flushes.Passes.{flushed-light}
+use Rattle.bt_node.proofs.lemmas.flushes.RowsKept.{height-lies, absorb-at, absorb-keeps, absorb-holds}
+use Rattle.bt_node.proofs.lemmas.flushes.NodeSizes.{absorbed-sized}
+use Rattle.bt_node.proofs.lemmas.flushes.EmptyPackets.{absorb-still}
+use Rattle.bt_node.proofs.lemmas.flushes.Recursion.{absorb_recurs}
+
+pub flushes_in_turn : {V M : Type 0} → FlushesInTurn V M
+flushes_in_turn = record {
+  within = λ f capacity cs few. settled-still (λ c. length c.pending) (flushed f) (flushed-light f) capacity (total (counts cs)) cs few;
+  over = λ f capacity cs many. settled-on (λ c. length c.pending) (flushed f) (flushed-light f) capacity (total (counts cs)) cs many (le_refl (total (counts cs)));
+}
+
+pub chosen_are_planned : {V M : Type 0} → ChosenArePlanned V M
+chosen_are_planned f capacity cs = replaced-planned (λ c. length c.pending) (flushed f) (flushed-light f) capacity (total (counts cs)) cs (le_refl (total (counts cs)))
+
+high-siblings : {V M : Type 0} (levels : ℕ) (low high : Option Key) (xs : Siblings V M) → SiblingsLie levels low high xs → AreHigh (suc levels) xs
+high-siblings levels low high [] b = tt
+high-siblings levels low high (x ∷ []) b = (height-lies levels low high x.1 b, tt)
+high-siblings levels low high (x ∷ y ∷ ys) b = (height-lies levels low (Some y.0) x.1 b.2, high-siblings levels (Some y.0) high (y ∷ ys) b.3)
+
+-- without limits any packet is within them
+pub anywhere : {X : Type 0} (xs : List (Key × X)) → AllWithin None None xs
+anywhere [] = tt
+anywhere (x ∷ xs) = (record { from = refl; below = refl }, anywhere xs)
+
+module _ {V M : Type 0} (effect : Option V → M → Option V) (s : Shape) (roomy : IsRoomy s) (t : Tree V M) (p : Messages M) (xs : Siblings V M) (is : xs ≡ absorb effect s t p) where
+  pub hold_rows_after : HoldRowsAfter effect s t p xs
+  hold_rows_after levels low high fits within = ap (λ ys. all_hold effect ys) is
+      ∙ absorb-holds effect s (omega (arith, roomy.leaf)) (omega (arith, roomy.fanout)) levels low high t p fits.lies within
+
+  pub fit_there : FitThere s t p xs
+  fit_there levels low high fits within =
+      let k = absorb-keeps effect s (omega (arith, roomy.leaf)) (omega (arith, roomy.fanout)) levels low high t p fits.lies within in
+      subst (SiblingsFit s levels low high) (sym is) (record {
+        lie = k.lie;
+        led = k.led;
+        sized = subst (λ ys. AreSized s (nodes ys)) (sym (absorb-at effect s levels low high t p fits.lies))
+            (absorbed-sized effect s (omega (arith, roomy.leaf)) roomy.fanout levels low high t p fits.lies within fits.sized);
+      })
+
+  pub keep_height : KeepHeight s t p xs
+  keep_height levels low high fits within =
+      subst (λ h. AreHigh h xs) (sym (height-lies levels low high t fits.lies)) (high-siblings levels low high xs (fit_there levels low high fits within).lie)
+
+  pub stay_without_packet : StayWithoutPacket s t p xs
+  stay_without_packet none levels low high fits within = is ∙ ap (absorb effect s t) none ∙ absorb-still effect s roomy levels low high t fits
+
+  pub come_by_one_rule : ComeByOneRule effect s t p xs
+  come_by_one_rule ns buffer inside = is ∙ ap (λ u. absorb effect s u p) inside ∙ absorb_recurs effect s ns buffer p

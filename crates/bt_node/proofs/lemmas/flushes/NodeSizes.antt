@@ -1,0 +1,188 @@
+-- No node that comes of a flush is larger than its shape allows.
+use Rattle.std.proofs.Common.{◌≡◌, ℕ, zero, suc, ◌+◌, ◌<◌, ◌≤◌, Bool, true, false, cond, List, [], ◌∷◌, ◌++◌, map, length, refl, sym, ap, subst, ◌∙◌, arith, length-append, le_refl}
+use Rattle.std.specs.declared.option.Option.{Option}
+use Rattle.std.specs.declared.option.Option.TheVariants.{Some}
+use Rattle.bt_keycode.specs.Keys.{Key, AllWithin}
+use Rattle.bt_node.specs.Messages.{Rows, Messages, rows_after, with_messages, from}
+use Rattle.bt_node.specs.Deals.{deal}
+use Rattle.bt_node.specs.Plans.{total}
+use Rattle.bt_node.specs.inside.Marks.{passed}
+use Rattle.bt_node.specs.Trees.{Shape, Tree, leaf, inner, Nodes, none, node, Siblings, children, nodes}
+use Rattle.bt_node.specs.Flushes.{Child, Flush, pivot_first, counts, shared, flushed, flushed_over, gathered, grouped, leaves, absorbed, none_pending}
+use Rattle.bt_node.specs.Fits.{Lies, IsSized, AreSized}
+use Rattle.bt_node.proofs.lemmas.deals.Parts.{NonEmpty, joined, joined-deal}
+use Rattle.bt_node.proofs.lemmas.deals.PartSizes.{Each, sizes-at_most, sizes-two, lengths-deal}
+use Rattle.bt_node.proofs.lemmas.plans.Capacity.{settled-fits}
+use Rattle.bt_node.proofs.lemmas.plans.OnePass.{names}
+use Rattle.bt_node.proofs.lemmas.flushes.Children.{ChildLies, ChildrenLie, all_pending}
+use Rattle.bt_node.proofs.lemmas.flushes.Groups.{led-full, stripped, children-nodes, as_leaf}
+use Rattle.bt_node.proofs.lemmas.flushes.Passes.{Keeps, flushed-light, slots, flushed-planned, names-slots}
+use Rattle.bt_node.proofs.lemmas.flushes.ValuesKept.{start-lies, absorbed-keeps}
+
+pub sized-pivot_first : {V M : Type 0} (s : Shape) (k : Key) (xs : Siblings V M) → AreSized s (nodes xs) → AreSized s (nodes (pivot_first k xs))
+sized-pivot_first s k [] z = z
+sized-pivot_first s k (x ∷ xs) z = z
+
+-- ---- leaves
+
+parts-sized : {V : Type 0} (M : Type 0) (s : Shape) (gs : List (Rows V)) → Each (λ n. n ≤ s.leaf) (map length gs) → AreSized s (nodes (map (as_leaf M) gs))
+parts-sized M s [] e = tt
+parts-sized M s (g ∷ gs) e = (e.0, parts-sized M s gs e.1)
+
+pub leaves-sized : {V : Type 0} (M : Type 0) (s : Shape) (rs : Rows V) → 0 < s.leaf → AreSized s (nodes (leaves {M = M} s rs))
+leaves-sized M s rs some =
+    sized-pivot_first s [] (map (as_leaf M) (deal s.leaf rs))
+    (parts-sized M s (deal s.leaf rs) (subst (Each (λ n. n ≤ s.leaf)) (sym (lengths-deal s.leaf rs)) (sizes-at_most (length rs) s.leaf some)))
+
+-- ---- groups of children
+
+module _ {V M : Type 0} (s : Shape) where
+  abbrev pub ChildrenSized : List (Child V M) → Type 0
+  ChildrenSized [] = Unit {0}
+  ChildrenSized (c ∷ cs) = IsSized s c.tree × ChildrenSized cs
+
+  first-sized : (cs ds : List (Child V M)) → ChildrenSized (cs ++ ds) → ChildrenSized cs
+  first-sized [] ds z = tt
+  first-sized (c ∷ cs) ds z = (z.0, first-sized cs ds z.1)
+
+  rest-sized : (cs ds : List (Child V M)) → ChildrenSized (cs ++ ds) → ChildrenSized ds
+  rest-sized [] ds z = z
+  rest-sized (c ∷ cs) ds z = rest-sized cs ds z.1
+
+  both-sized : (cs ds : List (Child V M)) → ChildrenSized cs → ChildrenSized ds → ChildrenSized (cs ++ ds)
+  both-sized [] ds y z = z
+  both-sized (c ∷ cs) ds y z = (y.0, both-sized cs ds y.1 z)
+
+  stripped-sized : (cs : List (Child V M)) → ChildrenSized cs → AreSized s (nodes (stripped cs))
+  stripped-sized [] z = tt
+  stripped-sized (c ∷ cs) z = (z.0, stripped-sized cs z.1)
+
+  length-stripped : (cs : List (Child V M)) → length (children (nodes (pivot_first [] (stripped cs)))) ≡ length cs
+  length-stripped [] = refl
+  length-stripped (c ∷ cs) = ap suc (ap length (children-nodes (stripped cs)) ∙ names-many cs)
+    where
+      names-many : (cs : List (Child V M)) → length (stripped cs) ≡ length cs
+      names-many [] = refl
+      names-many (c ∷ cs) = ap suc (names-many cs)
+
+  all_pending-append : (cs ds : List (Child V M)) → length (all_pending (cs ++ ds)) ≡ length (all_pending cs) + length (all_pending ds)
+  all_pending-append [] ds = omega arith
+  all_pending-append (c ∷ cs) ds = omega (arith, length-append c.pending (all_pending (cs ++ ds)), length-append c.pending (all_pending cs), all_pending-append cs ds)
+
+  groups-sized : (gs : List (List (Child V M))) → Each (λ n. 2 ≤ n) (map length gs) → Each (λ n. n ≤ s.fanout) (map length gs) → length (all_pending (joined gs)) ≤ s.buffer → ChildrenSized (joined gs) →
+      AreSized s (nodes (map gathered gs))
+  groups-sized [] two most fits z = tt
+  groups-sized (g ∷ gs) two most fits z =
+      let n = length-stripped g in
+      let w = all_pending-append g (joined gs) in (
+        (
+          subst (λ n. 2 ≤ n) (sym n) two.0,
+          subst (λ n. n ≤ s.fanout) (sym n) most.0,
+          omega arith,
+          sized-pivot_first s [] (stripped g) (stripped-sized g (first-sized g (joined gs) z)),
+        ),
+        groups-sized gs two.1 most.1 (omega arith) (rest-sized g (joined gs) z),
+      )
+
+  -- two children or more, with no more than a buffer of messages
+  pub grouped-sized : (cs : List (Child V M)) → 3 ≤ s.fanout → 2 ≤ length cs → length (all_pending cs) ≤ s.buffer → ChildrenSized cs → AreSized s (nodes (grouped s cs))
+  grouped-sized cs three two fits z =
+      let gs = deal s.fanout cs in
+      let lengths = lengths-deal s.fanout cs in
+      let all = joined-deal s.fanout cs in
+      sized-pivot_first s [] (map gathered gs)
+      (groups-sized gs
+      (subst (Each (λ n. 2 ≤ n)) (sym lengths) (sizes-two (length cs) s.fanout two three))
+      (subst (Each (λ n. n ≤ s.fanout)) (sym lengths) (sizes-at_most (length cs) s.fanout (omega arith)))
+      (subst (λ cs. length (all_pending cs) ≤ s.buffer) (sym all) fits)
+      (subst ChildrenSized (sym all) z))
+
+  -- ---- sharing
+
+  pub shared-sized : (ns : Nodes V M) (b : Messages M) → AreSized s ns → ChildrenSized (shared (children ns) b)
+  shared-sized none b z = tt
+  shared-sized (node k t none) b z = (z.0, tt)
+  shared-sized (node k t (node j u ns)) b z = (z.0, shared-sized (node j u ns) (from j b) z.1)
+
+pub length-shared : {V M : Type 0} (xs : Siblings V M) (b : Messages M) → length (shared xs b) ≡ length xs
+length-shared [] b = refl
+length-shared (x ∷ []) b = refl
+length-shared (x ∷ y ∷ ys) b = ap suc (length-shared (y ∷ ys) (from y.0 b))
+
+pub total-counts : {V M : Type 0} (cs : List (Child V M)) → total (counts cs) ≡ length (all_pending cs)
+total-counts [] = refl
+total-counts (c ∷ cs) = omega (arith, length-append c.pending (all_pending cs), total-counts cs)
+
+-- ---- one pass over the children
+
+-- what becomes of a node is no larger than the shape allows
+abbrev pub KeepsSized : {V M : Type 0} → Shape → ℕ → Flush V M → Type 0
+KeepsSized {V} {M} s levels f = (low high : Option Key) (t : Tree V M) (p : Messages M) → Lies levels low high t → AllWithin low high p → IsSized s t → AreSized s (nodes (f t p))
+
+module _ {V M : Type 0} (effect : Option V → M → Option V) (s : Shape) (levels : ℕ) (f : Flush V M) (keeps : Keeps effect levels f) (sizes : KeepsSized s levels f) where
+  none_pending-sized : (xs : Siblings V M) → AreSized s (nodes xs) → ChildrenSized s (none_pending xs)
+  none_pending-sized [] z = tt
+  none_pending-sized (x ∷ xs) z = (z.0, none_pending-sized xs z.1)
+
+  abbrev block : Child V M × Bool → List (Child V M)
+  block c = cond c.1 (flushed f c.0) (c.0 ∷ [])
+
+  abbrev pass : List (Child V M × Bool) → List (Child V M)
+  pass = passed (λ c. length c.pending) (flushed f)
+
+  block-sized : (low high : Option Key) (c : Child V M × Bool) → ChildLies levels low high c.0 → IsSized s c.0.tree → ChildrenSized s (block c)
+  block-sized low high (c, true) l z =
+      none_pending-sized (pivot_first c.pivot (f c.tree c.pending)) (sized-pivot_first s c.pivot (f c.tree c.pending) (sizes low high c.tree c.pending l.0 l.1 z))
+  block-sized low high (c, false) l z = (z, tt)
+
+  pass-sized : (low high : Option Key) (ss : List (Child V M × Bool)) → ChildrenLie levels low high (names ss) → ChildrenSized s (names ss) → ChildrenSized s (pass ss)
+  pass-sized low high [] p z = tt
+  pass-sized low high (c ∷ []) p z = both-sized s (block c) [] (block-sized low high c p z.0) tt
+  pass-sized low high (c ∷ d ∷ ss) p z = both-sized s (block c) (pass (d ∷ ss)) (block-sized low (Some d.0.pivot) c p.2 z.0) (pass-sized (Some d.0.pivot) high (d ∷ ss) p.3 z.1)
+
+  -- no child becomes none
+  some-none_pending : (k : Key) (xs : Siblings V M) → NonEmpty xs → 1 ≤ length (none_pending (pivot_first k xs))
+  some-none_pending k [] n = absurd n
+  some-none_pending k (x ∷ xs) n = omega arith
+
+  block-some : (low high : Option Key) (c : Child V M × Bool) → ChildLies levels low high c.0 → 1 ≤ length (block c)
+  block-some low high (c, true) l = let k = keeps low high c.tree c.pending l.0 l.1 in some-none_pending c.pivot (f c.tree c.pending) (led-full _ k.led)
+  block-some low high (c, false) l = omega arith
+
+  pass-longer : (low high : Option Key) (ss : List (Child V M × Bool)) → ChildrenLie levels low high (names ss) → length (names ss) ≤ length (pass ss)
+  pass-longer low high [] p = omega arith
+  pass-longer low high (c ∷ []) p = omega (arith, block-some low high c p, length-append (block c) [])
+  pass-longer low high (c ∷ d ∷ ss) p = omega (arith, block-some low (Some d.0.pivot) c p.2, pass-longer (Some d.0.pivot) high (d ∷ ss) p.3, length-append (block c) (pass (d ∷ ss)))
+
+module _ {V M : Type 0} (effect : Option V → M → Option V) (s : Shape) (leaf_some : 0 < s.leaf) (three : 3 ≤ s.fanout) where
+  -- an inner node's children, of which so many are flushed that the messages for the others fit in a buffer
+  pub node-sized : (levels : ℕ) (f : Flush V M) → Keeps effect levels f → KeepsSized s levels f → (low high : Option Key) (ns : Nodes V M) (b p : Messages M) →
+      Lies (suc levels) low high (inner ns b) → AllWithin low high p → IsSized s (inner ns b) →
+      (ss : List (Child V M × Bool)) → names ss ≡ shared (children ns) (with_messages p b) → length (all_pending (passed (λ c. length c.pending) (flushed f) ss)) ≤ s.buffer →
+      AreSized s (nodes (grouped s (passed (λ c. length c.pending) (flushed f) ss)))
+  node-sized levels f keeps sizes low high ns b p lies within z ss same fits = grouped-sized s _ three two fits sized
+    where
+      all : Messages M
+      all = with_messages p b
+
+      placed : ChildrenLie levels low high (names ss)
+      placed = subst (ChildrenLie levels low high) (sym same) (start-lies effect s leaf_some (omega arith) levels low high ns b p lies within)
+
+      two : 2 ≤ length (passed (λ c. length c.pending) (flushed f) ss)
+      two = omega (arith, pass-longer effect s levels f keeps sizes low high ss placed, ap length same, length-shared (children ns) all, z.0)
+
+      sized : ChildrenSized s (passed (λ c. length c.pending) (flushed f) ss)
+      sized = pass-sized effect s levels f keeps sizes low high ss placed (subst (ChildrenSized s) (sym same) (shared-sized s ns all z.3))
+
+  pub absorbed-sized : (levels : ℕ) → KeepsSized s levels (absorbed effect (suc levels) s)
+  absorbed-sized zero low high (leaf rs) p lies within z = leaves-sized M s (rows_after effect p rs) leaf_some
+  absorbed-sized zero low high (inner ns b) p lies within z = absurd lies
+  absorbed-sized (suc levels) low high (leaf rs) p lies within z = absurd lies
+  absorbed-sized (suc levels) low high (inner ns b) p lies within z =
+      let f = absorbed effect (suc levels) s in
+      let cs = shared (children ns) (with_messages p b) in
+      let eq = flushed-planned f s.buffer cs in
+      let fits = settled-fits (λ c. length c.pending) (flushed f) (flushed-light f) s.buffer (total (counts cs)) cs (le_refl (total (counts cs))) in
+      subst (λ cs. AreSized s (nodes (grouped s cs))) (sym eq)
+      (node-sized levels f (absorbed-keeps effect s leaf_some (omega arith) levels) (absorbed-sized levels) low high ns b p lies within z (slots s.buffer cs) (names-slots s.buffer cs)
+      (omega (arith, fits, total-counts (flushed_over f s.buffer cs), ap (λ cs. length (all_pending cs)) eq)))

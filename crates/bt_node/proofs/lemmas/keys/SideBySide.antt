@@ -1,0 +1,52 @@
+-- Items side by side, cut and joined.
+use Rattle.std.proofs.Common.{List, [], ◌∷◌, ◌++◌, map, subst, append-nil}
+use Rattle.std.specs.declared.option.Option.{Option}
+use Rattle.std.specs.declared.option.Option.TheVariants.{Some}
+use Rattle.bt_keycode.specs.Keys.{Key, IsPast, IsBelow, SideBySide}
+use Rattle.bt_node.specs.Flushes.{pivot_first, first_key}
+use Rattle.bt_node.proofs.lemmas.deals.Parts.{NonEmpty, AllNonEmpty, joined}
+use Rattle.bt_keycode.proofs.offered.Order.{below-below, past-past}
+
+module _ {X : Type 0} (key : X → Key) (P : Option Key → Option Key → X → Type 0) where
+  pub split : (low high : Option Key) (x : X) (xs : List X) (y : X) (ys : List X) → SideBySide key P low high ((x ∷ xs) ++ y ∷ ys) →
+      IsPast low (key y) × IsBelow high (key y) × SideBySide key P low (Some (key y)) (x ∷ xs) × SideBySide key P (Some (key y)) high (y ∷ ys)
+  split low high x [] y ys b = b
+  split low high x (z ∷ zs) y ys b =
+      let s = split (Some (key z)) high z zs y ys b.3 in
+      (past-past low (key z) (key y) s.0 b.0, s.1, (b.0, s.0, b.2, s.2), s.3)
+
+  pub join : (low high : Option Key) (x : X) (xs : List X) (y : X) (ys : List X) → IsPast low (key y) → IsBelow high (key y) →
+      SideBySide key P low (Some (key y)) (x ∷ xs) → SideBySide key P (Some (key y)) high (y ∷ ys) → SideBySide key P low high ((x ∷ xs) ++ y ∷ ys)
+  join low high x [] y ys l h a b = (l, h, a, b)
+  join low high x (z ∷ zs) y ys l h a b = (a.0, below-below high (key z) (key y) a.1 h, a.2, join (Some (key z)) high z zs y ys a.1 h a.3 b)
+
+  -- what holds of groups, if it holds of a list that is bounded
+  pub side-groups : (Q : Option Key → Option Key → List X → Type 0) → ((low high : Option Key) (g : List X) → NonEmpty g → SideBySide key P low high g → Q low high g) →
+      (low high : Option Key) (gs : List (List X)) → AllNonEmpty gs → SideBySide key P low high (joined gs) → SideBySide (first_key key) Q low high gs
+  side-groups Q each low high [] n b = tt
+  side-groups Q each low high (g ∷ []) n b = each low high g n.0 (subst (SideBySide key P low high) (append-nil g) b)
+  side-groups Q each low high ([] ∷ h ∷ gs) n b = absurd n.0
+  side-groups Q each low high ((x ∷ xs) ∷ [] ∷ gs) n b = absurd n.1.0
+  side-groups Q each low high ((x ∷ xs) ∷ (y ∷ ys) ∷ gs) n b =
+      let s = split low high x xs y (ys ++ joined gs) b in
+      (s.0, s.1, each low (Some (key y)) (x ∷ xs) tt s.2, side-groups Q each (Some (key y)) high ((y ∷ ys) ∷ gs) n.1 s.3)
+
+pub side-weaken : {X : Type 0} (key : X → Key) (P Q : Option Key → Option Key → X → Type 0) → ((low high : Option Key) (x : X) → P low high x → Q low high x) →
+    (low high : Option Key) (xs : List X) → SideBySide key P low high xs → SideBySide key Q low high xs
+side-weaken key P Q h low high [] b = tt
+side-weaken key P Q h low high (x ∷ []) b = h low high x b
+side-weaken key P Q h low high (x ∷ y ∷ ys) b = (b.0, b.1, h low (Some (key y)) x b.2, side-weaken key P Q h (Some (key y)) high (y ∷ ys) b.3)
+
+-- through a map
+pub side-map : {X Y : Type 0} (f : X → Y) (key : Y → Key) (P : Option Key → Option Key → Y → Type 0) (low high : Option Key) (xs : List X) →
+    SideBySide (λ x. key (f x)) (λ l h x. P l h (f x)) low high xs → SideBySide key P low high (map f xs)
+side-map f key P low high [] b = tt
+side-map f key P low high (x ∷ []) b = b
+side-map f key P low high (x ∷ y ∷ ys) b = (b.0, b.1, b.2, side-map f key P (Some (key (f y))) high (y ∷ ys) b.3)
+
+-- the first one's pivot says nothing
+pub led-side : {X : Type 0} (P : Option Key → Option Key → X → Type 0) (k : Key) (low high : Option Key) (xs : List (Key × X)) →
+    SideBySide (λ x. x.0) (λ l h x. P l h x.1) low high xs → SideBySide (λ x. x.0) (λ l h x. P l h x.1) low high (pivot_first k xs)
+led-side P k low high [] b = b
+led-side P k low high (x ∷ []) b = b
+led-side P k low high (x ∷ y ∷ ys) b = b

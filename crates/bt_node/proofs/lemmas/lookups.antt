@@ -1,0 +1,3 @@
+-- What is found at a key.
+pub mod HeldValues
+pub mod Outside

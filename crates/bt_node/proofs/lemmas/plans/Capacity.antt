@@ -1,0 +1,61 @@
+-- The loop turn by turn: it ends with no more than its capacity, leaves as it is what is within capacity, and has turns enough.
+use Rattle.std.proofs.Common.{◌≡◌, ℕ, zero, suc, ◌+◌, ◌<◌, ◌≤◌, true, false, cond, eqb, List, [], ◌∷◌, ◌++◌, map, refl, sym, subst, ◌∙◌, arith, inl, inr, le_refl}
+use Rattle.std.proofs.lemmas.Bool.{le-leb, lt-leb, cond-true, cond-false, eqb-true, eqb-false}
+use Rattle.bt_node.specs.Plans.{total, most, place_of, fullest}
+use Rattle.bt_node.specs.Loops.{opened_at, settled}
+use Rattle.bt_node.specs.inside.Marks.{IsLight}
+use Rattle.bt_node.proofs.lemmas.plans.RenewedChoice.{le_or_lt, nothing}
+use Rattle.bt_node.proofs.lemmas.plans.OnePass.{settled-planned}
+
+module _ {X : Type 0} (weight : X → ℕ) (parts : X → List X) (light : (x : X) → IsLight weight parts (parts x)) where
+  total-light : (xs ys : List X) → IsLight weight parts xs → total (map weight (xs ++ ys)) ≡ total (map weight ys)
+  total-light [] ys l = refl
+  total-light (x ∷ xs) ys l = omega (arith, l.0, total-light xs ys l.1)
+
+  total-opened : (m : ℕ) (xs : List X) → m ≤ most (map weight xs) → 0 < m → most (map weight xs) ≤ m → total (map weight (opened_at weight parts (place_of m (map weight xs)) xs)) + m ≡ total (map weight xs)
+  total-opened m [] a b c = absurd (omega arith)
+  total-opened m (x ∷ xs) a b c = elim (eqb (weight x) m) as (λ t. eqb (weight x) m ≡ t → total (map weight (opened_at weight parts (cond t 0 (suc (place_of m (map weight xs)))) (x ∷ xs))) + m ≡ weight x + total (map weight xs)) [
+    | true ↦ λ t. omega (arith, eqb-true (weight x) m t, total-light (parts x) xs (light x))
+    | false ↦ λ t. omega (arith, total-opened m xs (later t) b (omega arith))
+  ] refl
+    where
+      later : eqb (weight x) m ≡ false → m ≤ most (map weight xs)
+      later t = omega (arith, eqb-false (weight x) m t)
+
+  -- where the weights are over capacity, some are heavier than nothing, and to open the heaviest leaves less
+  opened-less : (capacity : ℕ) (xs : List X) → capacity < total (map weight xs) →
+      total (map weight (opened_at weight parts (fullest (map weight xs)) xs)) < total (map weight xs)
+  opened-less capacity xs over =
+      let ns = map weight xs in
+      let some : 0 < most ns = elim (le_or_lt (most ns) 0) [ inl none ↦ omega (arith, nothing ns (omega arith)) | inr h ↦ h ] in
+      omega (arith, total-opened (most ns) xs (omega arith) some (omega arith))
+
+  -- in the end no more than capacity is left
+  pub settled-fits : (capacity turns : ℕ) (xs : List X) → total (map weight xs) ≤ turns → total (map weight (settled weight parts capacity turns xs)) ≤ capacity
+  settled-fits capacity zero xs l = omega (arith, l)
+  settled-fits capacity (suc turns) xs l = elim (le_or_lt (total (map weight xs)) capacity) [
+    | inl fits ↦ subst (λ ys. total (map weight ys) ≤ capacity) (sym (cond-true _ _ _ (le-leb _ capacity fits))) fits
+    | inr over ↦
+        subst (λ ys. total (map weight ys) ≤ capacity) (sym (cond-false _ _ _ (lt-leb (total (map weight xs)) capacity over)))
+        (settled-fits capacity turns (opened_at weight parts (fullest (map weight xs)) xs) (omega (arith, opened-less capacity xs over)))
+  ]
+
+  -- what is within capacity stays as it is
+  pub settled-still : (capacity turns : ℕ) (xs : List X) → total (map weight xs) ≤ capacity → settled weight parts capacity turns xs ≡ xs
+  settled-still capacity zero xs fits = refl
+  settled-still capacity (suc turns) xs fits = cond-true _ _ _ (le-leb _ capacity fits)
+
+  -- any two bounds on the turns that the weights don't exceed give the same
+  settled-same : (capacity turns more : ℕ) (xs : List X) → total (map weight xs) ≤ turns → total (map weight xs) ≤ more →
+      settled weight parts capacity turns xs ≡ settled weight parts capacity more xs
+  settled-same capacity turns more xs l m = settled-planned weight parts light capacity turns xs l ∙ sym (settled-planned weight parts light capacity more xs m)
+
+  -- what is over capacity goes on from the list with the heaviest replaced, as if the loop began there
+  pub settled-on : (capacity turns : ℕ) (xs : List X) → capacity < total (map weight xs) → total (map weight xs) ≤ turns →
+      let ys = opened_at weight parts (fullest (map weight xs)) xs in
+      settled weight parts capacity turns xs ≡ settled weight parts capacity (total (map weight ys)) ys
+  settled-on capacity zero xs over l = absurd (omega (arith, over, l))
+  settled-on capacity (suc turns) xs over l =
+      let ys = opened_at weight parts (fullest (map weight xs)) xs in
+      cond-false _ _ _ (lt-leb (total (map weight xs)) capacity over)
+      ∙ settled-same capacity turns (total (map weight ys)) ys (omega (arith, opened-less capacity xs over, l)) (le_refl (total (map weight ys)))

@@ -1,0 +1,4 @@
+-- Rows and messages: values at keys, and what messages make of rows.
+pub mod Buffers
+pub mod RowsAfter
+pub mod Values

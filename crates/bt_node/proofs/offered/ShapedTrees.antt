@@ -1,0 +1,33 @@
+-- Trees that fit a shape with room: they stay so under a packet, and what they hold rises by its keys.
+use Rattle.std.proofs.Common.{◌≡◌, ◌∙◌, T, refl, Option, None}
+use Rattle.std.specs.FinMap.{is_sorted}
+use Rattle.bt_node.specs.Fits.{HasShape, SiblingsFit}
+use Rattle.bt_node.specs.Flushes.{absorb, holds, sunk}
+use Rattle.bt_keycode.specs.Keys.{key_cmp}
+use Rattle.bt_node.specs.Messages.{Messages, rows_after}
+use Rattle.bt_node.specs.Trees.{Shape, Tree}
+use Rattle.bt_node.proofs.lemmas.crowns.CrownedRows.{crown-fits, crown-holds}
+use Rattle.bt_node.proofs.lemmas.flushes.Laws.{anywhere, fit_there, hold_rows_after}
+use Rattle.bt_node.proofs.lemmas.flushes.RowsKept.{holds-lie}
+use Rattle.bt_node.proofs.lemmas.rows.RowsAfter.{rows-sorted}
+
+module _ {V M : Type 0} (effect : Option V → M → Option V) (shape : Shape) (t : Tree V M) (has : HasShape shape t) where
+  -- its keys strictly rise
+  pub holds-sorted : T (is_sorted key_cmp (holds effect t))
+  holds-sorted = rows-sorted None None (holds effect t) (holds-lie effect has.levels None None t has.fits.lies)
+
+  module _ (packet : Messages M) where
+    absorbed-fit : SiblingsFit shape has.levels None None (absorb effect shape t packet)
+    absorbed-fit = fit_there effect shape has.roomy t packet _ refl has.levels None None has.fits (anywhere packet)
+
+    -- a tree after a packet fits
+    pub sunk-has_shape : HasShape shape (sunk effect shape t packet)
+    sunk-has_shape =
+        let top = crown-fits shape has.roomy has.levels None None _ absorbed-fit in
+        record { roomy = has.roomy; levels = top.0; fits = top.1 }
+
+    -- a tree after a packet holds what it held, after the packet
+    pub sunk-holds : holds effect (sunk effect shape t packet) ≡ rows_after effect packet (holds effect t)
+    sunk-holds =
+        crown-holds shape has.roomy effect has.levels None None _ absorbed-fit
+        ∙ hold_rows_after effect shape has.roomy t packet _ refl has.levels None None has.fits (anywhere packet)

@@ -1,0 +1,5 @@
+-- Definitions that only private clauses cite: how the code's values are seen, and the steps of its loops.
+pub mod Marks
+pub mod Shares
+pub mod Stored
+pub mod Views
