@@ -1,7 +1,7 @@
 -- A tree after a batch holds its rows after the batch.
 use Rattle.std.proofs.Common.{◌≡◌, ◌∙◌}
 use Rattle.bt_messages.specs.Messages.{sorted_batch}
-use Rattle.bt_messages.proofs.Rows.{rows_after-sorted_batch}
+use Rattle.bt_messages.proofs.offered.Rows.{rows_after-sorted_batch}
 use Rattle.bt_node.specs.Fits.{HasShape, IsFit, IsRoomy}
 use Rattle.bt_node.specs.Flushes.{holds, sunk}
 use Rattle.bt_keycode.specs.Keys.{key_cmp}
