@@ -1,8 +1,10 @@
 //! Codes of values, and keys.
 use crate::samples::{fields, row_text};
-use bt_keycode::{DecodeError, Key, decode, encode, encode_prefix};
+use bt_keycode::{DecodeError, Key, cmp_rows, decode, encode, encode_prefix};
 use bt_rowtype::{Kind, Refusal, Value, read_field};
 use std::alloc::{AllocError, Global};
+use std::cmp::Ordering;
+use std::slice;
 use std::test::Fail;
 
 fn hex_of(alloc: Global, key: &Key) -> Result<Vec<u8>, AllocError> {
@@ -121,4 +123,11 @@ fn keys_are_copied(rt: HostRuntime) -> Result<(), Fail> {
         b"a key of more than 22 bytes".as_slice()
     );
     Ok(())
+}
+
+#[test]
+fn values_are_ordered(rt: HostRuntime) {
+    let (least, greatest) = (Value::Int(-1), Value::Int(1));
+    let order = cmp_rows(slice::from_ref(&least), slice::from_ref(&greatest));
+    assert!(rt; order == Ordering::Less);
 }
