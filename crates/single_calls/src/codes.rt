@@ -1,0 +1,133 @@
+//! Codes of values, and keys.
+use crate::samples::{fields, row_text};
+use bt_keycode::{DecodeError, Key, cmp_rows, decode, encode, encode_prefix};
+use bt_rowtype::{Kind, Refusal, Value, read_field};
+use std::alloc::{AllocError, Global};
+use std::cmp::Ordering;
+use std::slice;
+use std::test::Fail;
+
+fn hex_of(alloc: Global, key: &Key) -> Result<Vec<u8>, AllocError> {
+    let mut out = Vec::new(alloc);
+    key.write_hex(&mut out)?;
+    Ok(out)
+}
+
+// The values of the fields of a line, of these kinds.
+fn values_of(alloc: Global, kinds: &[Kind], line: &str) -> Result<Vec<Value>, Refusal> {
+    let fields = fields(alloc, line)?;
+    let mut values = Vec::new(alloc);
+    for (place, kind) in kinds.iter().enumerate() {
+        if place < fields.len() {
+            values.push(read_field(alloc, *kind, fields.get(place))?)?;
+        }
+    }
+    Ok(values)
+}
+
+// The code of the fields of a line, of these kinds.
+fn code_of(alloc: Global, kinds: &[Kind], line: &str) -> Result<Vec<u8>, Refusal> {
+    let values = values_of(alloc, kinds, line)?;
+    Ok(hex_of(alloc, &encode(alloc, values.as_slice())?)?)
+}
+
+#[test]
+fn codes_of_values(rt: HostRuntime) -> Result<(), Fail> {
+    let lines: [(&[Kind], &str, &str); 9] = [
+        (&[Kind::Text, Kind::Int], "a,1", "6100018000000000000001"),
+        (
+            &[Kind::Text, Kind::Int],
+            "a\0,0",
+            "6100ff00018000000000000000",
+        ),
+        (&[Kind::Text, Kind::Int], ",-1", "00017fffffffffffffff"),
+        (&[Kind::Flag, Kind::Flag], "true,false", "0100"),
+        (&[Kind::Int], "3", "8000000000000003"),
+        (&[Kind::Text], "a\0b", "6100ff620001"),
+        // without memory of its own the code of a text has at most 22 bytes
+        (
+            &[Kind::Text],
+            "aaaaaaaaaaaaaaaaaaaa",
+            "61616161616161616161616161616161616161610001",
+        ),
+        (
+            &[Kind::Text],
+            "aaaaaaaaaaaaaaaaaaaaa",
+            "6161616161616161616161616161616161616161610001",
+        ),
+        (
+            &[Kind::Text],
+            "aaaaaaaaaaaaaaaaaaa\0",
+            "6161616161616161616161616161616161616100ff0001",
+        ),
+    ];
+    for (kinds, line, expected) in lines {
+        assert_eq!(rt;
+            code_of(rt.alloc(), kinds, line)?.as_slice(),
+            expected.as_bytes()
+        );
+    }
+    Ok(())
+}
+
+// The code of the first of the fields of a line, of these kinds.
+fn prefix_of(alloc: Global, kinds: &[Kind], line: &str) -> Result<Vec<u8>, Refusal> {
+    let values = values_of(alloc, kinds, line)?;
+    let count = values.len().min(1);
+    Ok(hex_of(alloc, &encode_prefix(alloc, values.as_slice(), count)?)?)
+}
+
+#[test]
+fn codes_of_first_values(rt: HostRuntime) -> Result<(), Fail> {
+    let text = prefix_of(rt.alloc(), &[Kind::Text, Kind::Int], "a,1")?;
+    assert_eq!(rt; text.as_slice(), b"610001".as_slice());
+    Ok(())
+}
+
+// The values of a code, or that it is none.
+fn decoded_text(alloc: Global, kinds: &[Kind], code: &[u8]) -> Result<Vec<u8>, AllocError> {
+    match decode(alloc, kinds, code) {
+        Ok(values) => row_text(alloc, Ok(values)),
+        Err(DecodeError::NotACode) => Vec::from_slice(alloc, b"no code"),
+        Err(DecodeError::OutOfMemory) => Err(AllocError),
+    }
+}
+
+#[test]
+fn codes_are_decoded(rt: HostRuntime) -> Result<(), Fail> {
+    let alloc = rt.alloc();
+    let codes: [(&[Kind], &[u8], &[u8]); 7] = [
+        (&[Kind::Text], b"a\0\x01", b"a"),
+        (&[Kind::Text], b"a\0", b"no code"),
+        (&[Kind::Text], b"\xFF\0\x01", b"no code"),
+        (&[Kind::Flag], b"\x02", b"no code"),
+        (&[Kind::Int], b"\x80\0\0\0\0\0\0\x03\0", b"no code"),
+        (
+            &[Kind::Text, Kind::Flag, Kind::Int],
+            b"a\0\xFF\0\x01\x01\x80\0\0\0\0\0\0\x07",
+            b"a\0,true,7",
+        ),
+        (&[], b"\0", b"no code"),
+    ];
+    for (kinds, code, expected) in codes {
+        assert_eq!(rt; decoded_text(alloc, kinds, code)?.as_slice(), expected);
+    }
+    Ok(())
+}
+
+#[test]
+fn keys_are_copied(rt: HostRuntime) -> Result<(), Fail> {
+    let key = Key::from_bytes(rt.alloc(), b"a key of more than 22 bytes")?;
+    assert_eq!(rt;
+        key.copy(rt.alloc())?.as_slice(),
+        b"a key of more than 22 bytes".as_slice()
+    );
+    Ok(())
+}
+
+#[test]
+fn values_are_ordered(rt: HostRuntime) {
+    let (least, greatest) = (Value::Int(-1), Value::Int(1));
+    let order = cmp_rows(slice::from_ref(&least), slice::from_ref(&greatest));
+    assert!(rt; order == Ordering::Less);
+}

@@ -1,0 +1,151 @@
+//! The operations of upserts.
+use crate::samples::{fields, refusal_text, row_text, shops};
+use bt_rowtype::{
+    Change, Op, Ops, Refusal, Upsert, Value, apply_ops, check_ops, copy_change, default_row,
+    read_ops, read_upsert, write_record,
+};
+use std::alloc::{AllocError, Global};
+use std::test::Fail;
+
+// Operations, each with a bar behind: `set 1 x|` or `add 1 5|`.
+fn ops_text(alloc: Global, ops: Ops) -> Result<Vec<u8>, AllocError> {
+    let mut out = Vec::new(alloc);
+    for op in ops.into_vec() {
+        let (word, place, value) = match op {
+            Op::Set(place, value) => ("set", place, value),
+            Op::Add(place, number) => ("add", place, Value::Int(number)),
+        };
+        let words = format!(in alloc; "{word} {place} ")?;
+        out.extend_from_slice(words.as_bytes())?;
+        let mut values = Vec::new(alloc);
+        values.push(value)?;
+        write_record(&mut out, values.as_slice())?;
+        out.extend_from_slice(b"|")?;
+    }
+    Ok(out)
+}
+
+// The operations of a line of the shops, the fourth message of a batch, or why there are none.
+fn ops_of(alloc: Global, line: &str) -> Result<Vec<u8>, Refusal> {
+    let schema = shops(alloc)?;
+    match read_ops(alloc, &schema, 4, &fields(alloc, line)?) {
+        Ok(ops) => Ok(ops_text(alloc, ops)?),
+        Err(refusal) => Ok(refusal_text(alloc, refusal)?),
+    }
+}
+
+#[test]
+fn operations_are_read(rt: HostRuntime) -> Result<(), Fail> {
+    for (line, expected) in [
+        (
+            "9,set,city,Bonn,add,qty,-2,set,open,TRUE",
+            "set 2 Bonn|add 1 -2|set 3 true|",
+        ),
+        ("1,mul,nope,x", "BadField 4"),
+        ("1,add,nope,x", "NoSuchColumn 0"),
+        ("1,set,id,2", "NoSuchColumn 0"),
+        ("1,add,city,x", "NotInt 0"),
+        ("1,add,qty,x", "BadField 4"),
+        ("1,set,nope,1,mul,qty,1", "BadField 4"),
+        ("1,set,qty", "BadLength 4"),
+    ] {
+        assert_eq!(rt; ops_of(rt.alloc(), line)?.as_slice(), expected.as_bytes());
+    }
+    Ok(())
+}
+
+// The key and the operations of an upsert, or why there are none.
+fn upsert_text(alloc: Global, read: Result<Upsert, Refusal>) -> Result<Vec<u8>, AllocError> {
+    match read {
+        Ok(upsert) => {
+            let mut out = row_text(alloc, Ok(upsert.key))?;
+            out.extend_from_slice(b": ")?;
+            let ops = ops_text(alloc, upsert.ops)?;
+            out.extend_from_slice(ops.as_slice())?;
+            Ok(out)
+        }
+        Err(refusal) => refusal_text(alloc, refusal),
+    }
+}
+
+// The upsert of a line of the shops, the fourth message of a batch.
+fn upsert_of(alloc: Global, line: &str) -> Result<Vec<u8>, Refusal> {
+    let schema = shops(alloc)?;
+    let fields = fields(alloc, line)?;
+    Ok(upsert_text(alloc, read_upsert(alloc, &schema, 4, &fields))?)
+}
+
+#[test]
+fn upserts_are_read(rt: HostRuntime) -> Result<(), Fail> {
+    for (line, expected) in [
+        ("9,add,qty,-2", "9: add 1 -2|"),
+        ("x,add,nope,1", "BadField 4"),
+        ("9,add,city,1", "NotInt 0"),
+        ("x", "BadLength 4"),
+    ] {
+        assert_eq!(rt;
+            upsert_of(rt.alloc(), line)?.as_slice(),
+            expected.as_bytes()
+        );
+    }
+    Ok(())
+}
+
+// What an upsert does to the row of its key, which has none.
+fn change_of(alloc: Global, line: &str) -> Result<Change, Refusal> {
+    let schema = shops(alloc)?;
+    let upsert = read_upsert(alloc, &schema, 1, &fields(alloc, line)?)?;
+    let Upsert { key, ops } = upsert;
+    let base = default_row(alloc, &schema, key)?;
+    Ok(Change { base, ops })
+}
+
+// The row of a key that had none after the upsert of a line.
+fn row_after(alloc: Global, line: &str) -> Result<Vec<u8>, Refusal> {
+    let Change { base, ops } = change_of(alloc, line)?;
+    let row = apply_ops(alloc, base, ops.as_slice())?;
+    Ok(row_text(alloc, Ok(row))?)
+}
+
+#[test]
+fn operations_change_the_default_row(rt: HostRuntime) -> Result<(), Fail> {
+    let row = row_after(rt.alloc(), "9,set,qty,5,add,qty,-2,set,city,Bonn")?;
+    assert_eq!(rt; row.as_slice(), b"9,3,Bonn,false".as_slice());
+    Ok(())
+}
+
+// A copy of what the upsert of a line does.
+fn copy_of(alloc: Global, line: &str) -> Result<Vec<u8>, Refusal> {
+    let copy = copy_change(alloc, &change_of(alloc, line)?)?;
+    let Change { base, ops } = copy;
+    Ok(upsert_text(alloc, Ok(Upsert { key: base, ops }))?)
+}
+
+#[test]
+fn changes_are_copied(rt: HostRuntime) -> Result<(), Fail> {
+    let line = "9,add,qty,-2,set,city,a text of more than 22 bytes";
+    assert_eq!(rt;
+        copy_of(rt.alloc(), line)?.as_slice(),
+        b"9,0,,false: add 1 -2|set 2 a text of more than 22 bytes|".as_slice()
+    );
+    Ok(())
+}
+
+// How an addition to a column is checked.
+fn addition_checked(alloc: Global, place: usize) -> Result<(), Refusal> {
+    let mut ops = Ops::new(alloc);
+    ops.push(Op::Add(place, 1))?;
+    check_ops(&shops(alloc)?, 2, ops.as_slice())
+}
+
+#[test]
+fn operations_are_checked(rt: HostRuntime) {
+    for (place, expected) in [
+        (0, Err(Refusal::NoSuchColumn)),
+        (1, Ok(())),
+        (2, Err(Refusal::NotInt)),
+        (4, Err(Refusal::NoSuchColumn)),
+    ] {
+        assert_eq!(rt; addition_checked(rt.alloc(), place), expected);
+    }
+}

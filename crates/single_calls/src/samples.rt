@@ -1,0 +1,187 @@
+//! What tests are made of, and the texts by which they compare answers.
+use bt_keycode::Key;
+use bt_messages::{Buffer, Merge, Message, Packet};
+use bt_rowtype::{
+    Change, Column, Columns, Fields, Kind, Op, Ops, Refusal, Row, Schema, Text, Value, read_record,
+    write_record,
+};
+use std::alloc::{AllocError, Global};
+
+/// Shops by their id, which is the key.
+pub(crate) fn shops(alloc: Global) -> Result<Schema, Refusal> {
+    let mut columns = Columns::new(alloc);
+    for (name, kind) in [
+        ("id", Kind::Int),
+        ("qty", Kind::Int),
+        ("city", Kind::Text),
+        ("open", Kind::Flag),
+    ] {
+        let name = Text::new(alloc, name)?;
+        columns.push(Column { name, kind })?;
+    }
+    Schema::new(columns, 1)
+}
+
+/// The fields of a line, and none of a line that is no record.
+pub(crate) fn fields(alloc: Global, line: &str) -> Result<Fields, AllocError> {
+    match read_record(alloc, line.as_bytes())? {
+        Some(fields) => Ok(fields),
+        None => Ok(Fields::new(alloc)),
+    }
+}
+
+/// A refusal: its name, and its item or 0.
+pub(crate) fn refusal_text(alloc: Global, refusal: Refusal) -> Result<Vec<u8>, AllocError> {
+    let item = refusal.item().unwrap_or(0);
+    let text = format!(in alloc; "{} {item}", refusal.name())?;
+    Ok(text.into_bytes())
+}
+
+/// The record of the values that were read, or why there are none.
+pub(crate) fn row_text(alloc: Global, read: Result<Row, Refusal>) -> Result<Vec<u8>, AllocError> {
+    match read {
+        Ok(row) => {
+            let mut out = Vec::new(alloc);
+            write_record(&mut out, row.as_slice())?;
+            Ok(out)
+        }
+        Err(refusal) => refusal_text(alloc, refusal),
+    }
+}
+
+/// Values of a tree, each of which stands for a number.
+pub(crate) trait Sample: Merge {
+    fn of(alloc: Global, number: u32) -> Result<Self, AllocError>;
+
+    fn delta(alloc: Global, number: u32) -> Result<Self::Delta, AllocError>;
+
+    /// The number that the value stands for.
+    fn number(&self) -> i64;
+
+    /// The number that an upsert carries.
+    fn delta_number(delta: &Self::Delta) -> i64;
+}
+
+impl Sample for Row {
+    fn of(alloc: Global, number: u32) -> Result<Row, AllocError> {
+        let mut values = Vec::new(alloc);
+        values.push(Value::Int(i64::from(number)))?;
+        Ok(Row::new(values))
+    }
+
+    fn delta(alloc: Global, number: u32) -> Result<Change, AllocError> {
+        let mut ops = Ops::new(alloc);
+        ops.push(Op::Add(0, i64::from(number)))?;
+        Ok(Change {
+            base: Row::of(alloc, 0)?,
+            ops,
+        })
+    }
+
+    fn number(&self) -> i64 {
+        match self.as_slice() {
+            [Value::Int(number)] => *number,
+            _ => -1,
+        }
+    }
+
+    fn delta_number(delta: &Change) -> i64 {
+        match delta.ops.as_slice() {
+            [Op::Add(0, number)] => *number,
+            _ => -1,
+        }
+    }
+}
+
+/// What is sent to a key, with the number of its value or of its upsert.
+#[derive(Clone, Copy)]
+pub(crate) enum Sent {
+    Put(u32),
+    Del,
+    Ups(u32),
+}
+
+/// The key of these letters.
+pub(crate) fn key(alloc: Global, letters: &str) -> Result<Key, AllocError> {
+    Key::from_bytes(alloc, letters.as_bytes())
+}
+
+/// The message that is sent.
+pub(crate) fn message<V: Sample>(alloc: Global, sent: Sent) -> Result<Message<V>, AllocError> {
+    match sent {
+        Sent::Put(number) => Ok(Message::Put(V::of(alloc, number)?)),
+        Sent::Del => Ok(Message::Del),
+        Sent::Ups(number) => Ok(Message::Ups(V::delta(alloc, number)?)),
+    }
+}
+
+/// The packet of a batch.
+pub(crate) fn packet<V: Sample>(
+    alloc: Global,
+    batch: &[(&str, Sent)],
+) -> Result<Packet<V>, AllocError> {
+    let mut messages = Vec::new(alloc);
+    for (letters, sent) in batch {
+        let message = message::<V>(alloc, *sent)?;
+        messages.push((key(alloc, letters)?, message))?;
+    }
+    Packet::from_batch(alloc, messages)
+}
+
+// Adds a sign, a key and a number, with a space behind.
+fn add_item(
+    alloc: Global,
+    out: &mut Vec<u8>,
+    sign: &str,
+    key: &Key,
+    number: i64,
+) -> Result<(), AllocError> {
+    out.extend_from_slice(sign.as_bytes())?;
+    out.extend_from_slice(key.as_slice())?;
+    let text = format!(in alloc; "{number} ")?;
+    out.extend_from_slice(text.as_bytes())
+}
+
+/// Adds a message: `+a1 ` of a put, `-a0 ` of a del, `~a1 ` of an upsert.
+pub(crate) fn add_message<V: Sample>(
+    alloc: Global,
+    out: &mut Vec<u8>,
+    key: &Key,
+    message: &Message<V>,
+) -> Result<(), AllocError> {
+    match message {
+        Message::Put(value) => add_item(alloc, out, "+", key, value.number()),
+        Message::Del => add_item(alloc, out, "-", key, 0),
+        Message::Ups(delta) => add_item(alloc, out, "~", key, V::delta_number(delta)),
+    }
+}
+
+/// The messages of a packet, in order.
+pub(crate) fn packet_text<V: Sample>(
+    alloc: Global,
+    packet: Packet<V>,
+) -> Result<Vec<u8>, AllocError> {
+    let mut out = Vec::new(alloc);
+    for (key, message) in packet.into_messages() {
+        add_message(alloc, &mut out, &key, &message)?;
+    }
+    Ok(out)
+}
+
+/// The messages of a buffer, in order, by a copy of them.
+pub(crate) fn buffer_text<V: Sample>(
+    alloc: Global,
+    buffer: &Buffer<V>,
+) -> Result<Vec<u8>, AllocError> {
+    packet_text(alloc, buffer.copy_messages(alloc)?)
+}
+
+/// Adds a value and its key: `a1 `.
+pub(crate) fn add_value<V: Sample>(
+    alloc: Global,
+    out: &mut Vec<u8>,
+    key: &Key,
+    value: &V,
+) -> Result<(), AllocError> {
+    add_item(alloc, out, "", key, value.number())
+}

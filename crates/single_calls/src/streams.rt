@@ -1,0 +1,163 @@
+//! Streams that fail, that keep count of flushes, and a long script.
+ghost use Rattle.std.specs.Prelude.{Some};
+
+use bt_shell::{Counted, RunFault, run_script};
+use std::alloc::{AllocError, Global};
+use std::io;
+use std::io::{ErrorKind, Read, Write};
+use std::test::Fail;
+
+/// Gives one byte a call, and fails once so many calls were made.
+#[derive(Drop)]
+pub(crate) struct Failing<'a> {
+    pub rest: &'a [u8],
+    pub calls: u32,
+}
+
+impl Read for Failing<'_> {
+    ghost remaining = { λ r. Some r.rest.now };
+
+    fn read(&mut self, buf: &mut [u8]) -> io::Result<usize> {
+        if self.calls == 0 {
+            return Err(io::Error::from(ErrorKind::Interrupted));
+        }
+        self.calls -= 1;
+        let count = buf.len().min(1);
+        self.rest.read(&mut buf[..count])
+    }
+}
+
+/// Takes so many bytes, and then fails.
+#[derive(Drop)]
+pub(crate) struct Full<'a> {
+    pub taken: &'a mut Vec<u8>,
+    pub room: usize,
+}
+
+impl Write for Full<'_> {
+    ghost contents = { λ w. Some w.taken.now.items };
+
+    fn write(&mut self, buf: &[u8]) -> io::Result<usize> {
+        if self.room == 0 {
+            return Err(io::Error::from(ErrorKind::BrokenPipe));
+        }
+        let count = self.room.min(buf.len());
+        let taken = self.taken.write(&buf[..count])?;
+        self.room -= taken.min(self.room);
+        Ok(taken)
+    }
+
+    fn flush(&mut self) -> io::Result<()> {
+        Ok(())
+    }
+}
+
+// Keeps count of its flushes, of which each one fails where it is to.
+#[derive(Drop)]
+struct Flushes {
+    count: u32,
+    fails: bool,
+}
+
+impl Write for Flushes {
+    fn write(&mut self, buf: &[u8]) -> io::Result<usize> {
+        Ok(buf.len())
+    }
+
+    fn flush(&mut self) -> io::Result<()> {
+        self.count = self.count.wrapping_add(1);
+        if self.fails {
+            return Err(io::Error::from(ErrorKind::BrokenPipe));
+        }
+        Ok(())
+    }
+}
+
+// Runs a short script over a stream of flushes.
+fn run_over_flushes(alloc: Global, stream: &mut Flushes) -> Result<(), RunFault> {
+    let mut reader = Counted::new(b"scan primary\ngo\n".as_slice());
+    run_script(alloc, &mut reader, &mut Counted::new(stream))
+}
+
+#[test]
+fn a_flush_reaches_the_stream(rt: HostRuntime) {
+    let mut stream = Flushes {
+        count: 0,
+        fails: false,
+    };
+    assert!(rt; run_over_flushes(rt.alloc(), &mut stream).is_ok());
+    assert_eq!(rt; stream.count, 1);
+    let mut stream = Flushes {
+        count: 0,
+        fails: true,
+    };
+    let result = run_over_flushes(rt.alloc(), &mut stream);
+    assert!(rt; matches!(&result, Err(RunFault::Write)));
+}
+
+// What a run over such streams writes, and its fault.
+fn run_over(alloc: Global, calls: u32, room: usize) -> (Result<(), RunFault>, Vec<u8>) {
+    let mut reader = Counted::new(Failing {
+        rest: b"table 4 3 2 1 id:int qty:int\n",
+        calls,
+    });
+    let mut taken = Vec::new(alloc);
+    let mut writer = Counted::new(Full {
+        taken: &mut taken,
+        room,
+    });
+    let result = run_script(alloc, &mut reader, &mut writer);
+    (result, taken)
+}
+
+#[test]
+fn failing_streams(rt: HostRuntime) {
+    let (result, text) = run_over(rt.alloc(), 1, 100);
+    assert!(rt; matches!(&result, Err(RunFault::Read)));
+    assert!(rt; text.is_empty());
+    let (result, text) = run_over(rt.alloc(), 100, 5);
+    assert!(rt; matches!(&result, Err(RunFault::Write)));
+    assert_eq!(rt; text.as_slice(), b"table".as_slice());
+    let (result, text) = run_over(rt.alloc(), 100, 100);
+    assert!(rt; result.is_ok());
+    assert_eq!(rt; text.as_slice(), b"table 2\n".as_slice());
+}
+
+// A table and a batch of so many equal lines, and a look at key 1.
+fn long_script(alloc: Global, line: &[u8], count: u32) -> Result<Vec<u8>, AllocError> {
+    let mut script = Vec::from_slice(alloc, b"table 4 3 2 1 id:int note:text\nbatch\n")?;
+    for _ in 0..count {
+        script.extend_from_slice(line)?;
+    }
+    script.extend_from_slice(b"end\nget 1\n")?;
+    Ok(script)
+}
+
+// What a run over streams in memory writes.
+fn replies_to(alloc: Global, script: &[u8]) -> Result<Vec<u8>, RunFault> {
+    let mut text = Vec::new(alloc);
+    run_script(
+        alloc,
+        &mut Counted::new(script),
+        &mut Counted::new(&mut text),
+    )?;
+    Ok(text)
+}
+
+#[test]
+fn long_scripts(rt: HostRuntime) -> Result<(), Fail> {
+    let alloc = rt.alloc();
+    let line = b"put 1,a note that is a good deal longer than a value keeps\n";
+    let script = long_script(alloc, line, 20_000)?;
+    assert!(rt; script.len() > 1_100_000);
+    assert_eq!(rt;
+        replies_to(alloc, script.as_slice())?.as_slice(),
+        b"table 2\nbatch 20000\nrow 1,a note that is a good deal longer than a value keeps\n".as_slice()
+    );
+    let script = long_script(alloc, b"del 1\n", 65_537)?;
+    assert_eq!(rt;
+        replies_to(alloc, script.as_slice())?.as_slice(),
+        b"table 2\nrefused 10 TooMany\nnone\n".as_slice()
+    );
+    Ok(())
+}
