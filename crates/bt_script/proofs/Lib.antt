@@ -2,3 +2,4 @@ pub mod Columns
 pub mod Cuts
 pub mod Machine
 pub mod Names
+pub mod offered

@@ -1,6 +1,7 @@
--- Streams that keep whether a call failed, by the bytes that a reader has left and a writer holds.
-use Rattle.std.specs.Prelude.{◌≡◌, ◌==◌, ◌&&◌, ◌<◌, ◌⊎◌, IfSome, length, not, ℕ, Bool, true, List, take, Option, Result, Ok, Err}
-use Rattle.std.specs.Io.KnownBytes.{Appends}
+-- Streams that keep whether a call failed and how many bytes passed, by the bytes that a reader has left and a writer holds.
+use Rattle.std.specs.Prelude.{◌≡◌, ◌==◌, ◌&&◌, ◌+◌, ◌<◌, ◌≤◌, ◌⊎◌, length, not, ℕ, Bool, true, List, take, Option, Result, Ok, Err, MatchResult}
+use Rattle.std.specs.Io.KnownBytes.{Appends, Consumes}
+use Rattle.std.specs.Io.Iter.{u64_saturate}
 use Rattle.bt_script.specs.declared.counted.Counted.{Counted}
 
 -- the reader or writer within
@@ -11,13 +12,37 @@ source_of stream = stream.inner
 abbrev pub has_failed : {T : Type 0} → Counted T → Bool
 has_failed stream = stream.failed
 
--- a reader has failed, or its known bytes were more than a limit
-abbrev pub FailsToGive : Bool → Option (List ℕ) → ℕ → Type 0
-FailsToGive failed bytes limit = (failed ≡ true) ⊎ IfSome bytes (λ bs. limit < length bs)
+-- how many bytes it gave as a reader, or took as a writer; held at the greatest u64
+abbrev pub count_of : {T : Type 0} → Counted T → ℕ
+count_of stream = stream.count
 
--- known bytes grow by some prefix of the text
-abbrev pub AppendsPrefix : Option (List ℕ) → Option (List ℕ) → List ℕ → Type 0
-AppendsPrefix old new text = (count : ℕ) × Appends old new (take count text)
+-- a stream counted so many more bytes
+abbrev pub Counts : {T : Type 0} → Counted T → Counted T → ℕ → Type 0
+Counts old new more = count_of new ≡ u64_saturate (count_of old + more)
+
+-- a read or write counted the bytes that it passed on, and none where it failed
+abbrev pub CountsPassed : {T E : Type 0} → Counted T → Counted T → Result ℕ E → Type 0
+CountsPassed old new result = MatchResult result (λ passed. Counts old new passed) (λ _. count_of new ≡ count_of old)
+
+-- a reader gave these bytes: it counted them, and where its bytes are known, they began with them
+abbrev pub Gave : {R : Type 0} → (R → Option (List ℕ)) → Counted R → Counted R → List ℕ → Type 0
+Gave remaining old new bytes = Consumes (remaining (source_of old)) (remaining (source_of new)) bytes × Counts old new (length bytes)
+
+-- a reader gave some bytes, at most a limit of them
+abbrev pub GaveAtMost : {R : Type 0} → (R → Option (List ℕ)) → Counted R → Counted R → ℕ → Type 0
+GaveAtMost remaining old new limit = (bytes : List ℕ) × (length bytes ≤ limit) × Gave remaining old new bytes
+
+-- a reader failed, or gave more bytes than a limit
+abbrev pub FailsToGive : {R : Type 0} → (R → Option (List ℕ)) → Counted R → Counted R → ℕ → Type 0
+FailsToGive remaining old new limit = (has_failed new ≡ true) ⊎ ((bytes : List ℕ) × (limit < length bytes) × Gave remaining old new bytes)
+
+-- a writer took these bytes: it counted them, and where its bytes are known, they grew by them
+abbrev pub Took : {W : Type 0} → (W → Option (List ℕ)) → Counted W → Counted W → List ℕ → Type 0
+Took contents old new bytes = Appends (contents (source_of old)) (contents (source_of new)) bytes × Counts old new (length bytes)
+
+-- a writer took some prefix of a text
+abbrev pub TookPrefix : {W : Type 0} → (W → Option (List ℕ)) → Counted W → Counted W → List ℕ → Type 0
+TookPrefix contents old new text = (count : ℕ) × Took contents old new (take count text)
 
 -- a write of so many bytes failed: an error, or it took none of some
 abbrev pub write_failed : {E : Type 0} → Result ℕ E → ℕ → Bool

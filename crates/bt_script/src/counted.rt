@@ -1,28 +1,31 @@
-//! A reader or writer that keeps whether a call on it failed.
+//! A reader or writer that keeps whether a call on it failed, and how many bytes passed.
 ghost use Rattle.std.specs.Prelude.{◌≡◌, ◌||◌, length, false, is_err};
 ghost use Rattle.std.specs.Io.{ReadsAtMost, WritesAtMost};
 ghost use Rattle.std.specs.Io.KnownBytes.{Keeps, ReadConsumes, WriteAppends};
-ghost use Rattle.bt_script.specs.Streams.{has_failed, source_of, write_failed};
+ghost use Rattle.bt_script.specs.Streams.{CountsPassed, count_of, has_failed, source_of, write_failed};
 
 use std::io;
 use std::io::{Read, Write};
 
-/// A reader or writer that passes its calls on, and keeps whether one of them has failed.
+/// A reader or writer that passes its calls on, keeps whether one of them has failed, and counts its bytes.
 #[derive(Debug, Drop)]
 pub struct Counted<T> {
     inner: T,
     failed: bool,
+    count: u64,
 }
 
 impl<T> Counted<T> {
-    /// The stream, of which no call has failed.
+    /// The stream, of which no call has failed, and no byte is counted.
     pub fn new(inner: T) -> Self
         ensures inner { source_of result ≡ inner }
         ensures failed { has_failed result ≡ false }
+        ensures count { count_of result ≡ 0 }
     {
         Counted {
             inner,
             failed: false,
+            count: 0,
         }
     }
 
@@ -31,6 +34,13 @@ impl<T> Counted<T> {
         ensures { result ≡ has_failed self.now }
     {
         self.failed
+    }
+
+    /// How many bytes were read from it or written to it. The count holds at the greatest `u64`.
+    pub fn count(&self) -> u64
+        ensures { result ≡ count_of self.now }
+    {
+        self.count
     }
 }
 
@@ -41,10 +51,12 @@ impl<R: Read> Read for Counted<R> {
         ensures bound { ReadsAtMost result buf.new }
         ensures bytes { ReadConsumes (R.remaining (source_of self.old)) (R.remaining (source_of self.new)) result buf.new }
         ensures failed { has_failed self.new ≡ (has_failed self.old || is_err result) }
+        ensures count { CountsPassed self.old self.new result }
     {
         let result = self.inner.read(buf);
-        if result.is_err() {
-            self.failed = true;
+        match &result {
+            Ok(given) => self.count = self.count.saturating_add(*given as u64),
+            Err(_) => self.failed = true,
         }
         result
     }
@@ -57,10 +69,14 @@ impl<W: Write> Write for Counted<W> {
         ensures bound { WritesAtMost result buf.now }
         ensures bytes { WriteAppends (W.contents (source_of self.old)) (W.contents (source_of self.new)) result buf.now }
         ensures failed { has_failed self.new ≡ (has_failed self.old || write_failed result (length buf.now)) }
+        ensures count { CountsPassed self.old self.new result }
     {
         let result = self.inner.write(buf);
         let failed = match &result {
-            Ok(taken) => *taken == 0 && !buf.is_empty(),
+            Ok(taken) => {
+                self.count = self.count.saturating_add(*taken as u64);
+                *taken == 0 && !buf.is_empty()
+            }
             Err(_) => true,
         };
         if failed {
@@ -72,6 +88,7 @@ impl<W: Write> Write for Counted<W> {
     fn flush(&mut self) -> io::Result<()>
         ensures bytes { Keeps (W.contents (source_of self.old)) (W.contents (source_of self.new)) }
         ensures failed { has_failed self.new ≡ (has_failed self.old || is_err result) }
+        ensures count { count_of self.new ≡ count_of self.old }
     {
         let result = self.inner.flush();
         if result.is_err() {

@@ -1,7 +1,6 @@
 //! The reading of a whole script and the writing of text.
-ghost use Rattle.std.specs.Prelude.{◌≡◌, ◌≤◌, ◌+◌, true, length, IfOk, OnOk, OnErr, IfSome, IsErrOf, ℕ, List};
-ghost use Rattle.std.specs.Io.KnownBytes.{Appends, Consumes};
-ghost use Rattle.bt_script.specs.Streams.{AppendsPrefix, FailsToGive, has_failed, source_of};
+ghost use Rattle.std.specs.Prelude.{◌≡◌, ◌≤◌, ◌+◌, true, length, IfOk, OnOk, OnErr, IfSome, IsErrOf};
+ghost use Rattle.bt_script.specs.Streams.{FailsToGive, Gave, GaveAtMost, Took, TookPrefix, has_failed, source_of};
 
 use crate::counted::Counted;
 use std::alloc::{AllocError, Global};
@@ -42,36 +41,40 @@ impl From<AllocError> for RunFault {
 /// All bytes that the reader has left, at most [`SCRIPT_LIMIT`] of them. An error of the reader is not tried again,
 /// also not an interrupted read.
 pub fn read_script<R: Read>(alloc: Global, reader: &mut Counted<R>) -> Result<Vec<u8>, RunFault>
-    ensures ok { IfOk result (λ script. Consumes (R.remaining (source_of reader.old)) (R.remaining (source_of reader.new)) script.items) }
+    ensures ok { IfOk result (λ script. Gave R.remaining reader.old reader.new script.items) }
     ensures whole { IfOk result (λ script. IfSome (R.remaining (source_of reader.old)) (λ bytes. bytes ≡ script.items)) }
     ensures short { IfOk result (λ script. length script.items ≤ SCRIPT_LIMIT) }
+    ensures healthy { OnOk result (has_failed reader.new ≡ has_failed reader.old) }
     // No more than one byte past the limit is read, also before an error.
-    ensures at_most { (bytes : List ℕ) × (length bytes ≤ SCRIPT_LIMIT + 1) × Consumes (R.remaining (source_of reader.old)) (R.remaining (source_of reader.new)) bytes }
-    ensures read { IsErrOf result RunFault.Read → FailsToGive (has_failed reader.new) (R.remaining (source_of reader.old)) SCRIPT_LIMIT }
+    ensures at_most { GaveAtMost R.remaining reader.old reader.new (SCRIPT_LIMIT + 1) }
+    ensures read { IsErrOf result RunFault.Read → FailsToGive R.remaining reader.old reader.new SCRIPT_LIMIT }
+    ensures memory { IsErrOf result RunFault.OutOfMemory → (has_failed reader.new ≡ has_failed reader.old) × GaveAtMost R.remaining reader.old reader.new SCRIPT_LIMIT }
     ensures write { IsErrOf result RunFault.Write → ⊥ }
-    ensures failed { OnOk result (has_failed reader.new ≡ has_failed reader.old) }
 {
     let mut script = Vec::new(alloc);
     let mut piece = [0u8; PIECE_SIZE];
-    while script.len() <= SCRIPT_LIMIT {
-        let room = piece.len().min(SCRIPT_LIMIT + 1 - script.len());
-        let Ok(taken) = reader.read(&mut piece[..room]) else {
+    'pieces: loop {
+        let left = SCRIPT_LIMIT - script.len();
+        let room = piece.len().min(left + 1);
+        let Ok(given) = reader.read(&mut piece[..room]) else {
             return Err(RunFault::Read);
         };
-        if taken == 0 {
+        if given == 0 {
             return Ok(script);
         }
-        script.extend_from_slice(&piece[..taken])?;
+        if given > left {
+            return Err(RunFault::Read);
+        }
+        script.extend_from_slice(&piece[..given])?;
     }
-    Err(RunFault::Read)
 }
 
 /// Writes all of the text. After an error a prefix of it is written. A write that fails is not tried again.
 pub fn write_text<W: Write>(writer: &mut Counted<W>, text: &[u8]) -> Result<(), RunFault>
-    ensures ok { OnOk result (Appends (W.contents (source_of writer.old)) (W.contents (source_of writer.new)) text.now) }
-    ensures err { OnErr result (AppendsPrefix (W.contents (source_of writer.old)) (W.contents (source_of writer.new)) text.now) }
+    ensures ok { OnOk result (Took W.contents writer.old writer.new text.now) }
+    ensures healthy { OnOk result (has_failed writer.new ≡ has_failed writer.old) }
+    ensures err { OnErr result (TookPrefix W.contents writer.old writer.new text.now) }
     ensures fault { OnErr result (IsErrOf result RunFault.Write × (has_failed writer.new ≡ true)) }
-    ensures failed { OnOk result (has_failed writer.new ≡ has_failed writer.old) }
 {
     let mut at = 0;
     while at < text.len() {

@@ -1,7 +1,8 @@
-use Rattle.std.proofs.Common.{rules, arith, subst, sym, ap, ◌∙◌, take, drop, List, ℕ, ◌+◌, ◌++◌, ◌-◌, ◌≡◌, length, take_all, length-drop}
+use Rattle.std.proofs.Common.{rules, arith, subst, sym, ap, ◌∙◌, take, drop, List, ℕ, ◌+◌, ◌++◌, ◌-◌, ◌≡◌, ◌≤◌, length, take_all, length-drop, length-take}
 use Rattle.std.proofs.Math.Seq.{take-add}
-use Rattle.std.specs.Io.KnownBytes.{Appends}
-use Rattle.std.proofs.KnownBytes.{Appends-trans}
+use Rattle.bt_script.specs.Streams.{Counts, Took}
+use Rattle.bt_script.specs.declared.counted.Counted.{Counted}
+use Rattle.bt_script.proofs.offered.Streams.{Took-trans}
 use Rattle.bt_script.proofs.streams.write_text.Goals as goal
 
 -- the first at + taken bytes, where the taken ones come from what is left
@@ -10,17 +11,23 @@ prefix_more at taken text =
     let whole : take (length text - at) (drop at text) ≡ drop at text = take_all (length text - at) (drop at text) (omega (arith, length-drop at text)) in
     take-add at taken text ∙ ap (λ (l : List ℕ). take at text ++ take taken l) (sym whole)
 
+-- so many bytes of what is left
+taken_of : (at taken : ℕ) (text : List ℕ) → taken ≤ length (take (length text - at) (drop at text)) → length (take taken (take (length text - at) (drop at text))) ≡ taken
+taken_of at taken text within = omega (arith, length-take taken (take (length text - at) (drop at text)))
+
+counted : {W : Type 0} (a b : Counted W) (taken : ℕ) (last : List ℕ) → length last ≡ taken → Counts a b taken → Counts a b (length last)
+counted a b taken last long count = omega arith
+
 pub loop-at-preserved : goal.loop-at-preserved
 loop-at-preserved g c =
-    let held = g.W.Write.contents in
     let at = c.loop-at.at in
     let taken = c.in-Ok.taken in
     let text = c.args.text.now in
-    let from = held c.args.writer.now.inner in
-    let to = held c.write.new.self.inner in
-    let both = Appends-trans from (held c.loop-at.writer.inner) to (take at text) (take taken (take (length text - at) (drop at text))) c.loop-at.invariant.so_far c.in-Ok.ensures.bytes in
+    let last = take taken (take (length text - at) (drop at text)) in
+    let took : Took g.W.Write.contents c.loop-at.writer c.write.new.self last = (c.in-Ok.ensures.bytes, counted c.loop-at.writer c.write.new.self taken last (taken_of at taken text c.in-Ok.ensures.bound) c.in-Ok.ensures.count) in
+    let both = Took-trans g.W.Write.contents c.args.writer.now c.loop-at.writer c.write.new.self (take at text) last c.loop-at.invariant.so_far took in
     record {
       within = search rules;
-      so_far = subst (λ (b : List ℕ). Appends from to b) (sym (prefix_more at taken text)) both;
+      so_far = subst (λ (b : List ℕ). Took g.W.Write.contents c.args.writer.now c.write.new.self b) (sym (prefix_more at taken text)) both;
       failed = search rules;
     }
