@@ -2,7 +2,7 @@
 ghost use Rattle.std.specs.Prelude.{◌≡◌, ◌≢◌, ◌++◌, ◌<◌, ◌≤◌, Ok, Err, None, Some, IfErr, IfOk, IfNone, IfSome, OnOk, [], codes, drop, length};
 ghost use Rattle.bt_rowtype.specs.Refusals.{least};
 ghost use Rattle.bt_script.specs.Commands.{commands, is_word};
-ghost use Rattle.bt_shell.specs.Runs.{replies};
+ghost use Rattle.bt_shell.specs.Runs.{IsTurn};
 ghost use Rattle.bt_shell.specs.Steps as step;
 ghost use Rattle.bt_script.specs.declared.command.Command.TheVariants as command;
 
@@ -164,9 +164,8 @@ pub fn next_reply(
     table: &mut Option<Table>,
     at: usize,
 ) -> Result<Option<Step>, AllocError>
-    ensures step { IfOk result (λ found. IfSome found (λ step. replies table.old (commands (drop at script.now))
-        ≡ step.text.items ++ replies table.new (commands (drop step.next script.now)))) }
-    ensures end { IfOk result (λ found. IfNone found (replies table.old (commands (drop at script.now)) ≡ [])) }
+    ensures step { IfOk result (λ found. IfSome found (λ step. IsTurn table.old table.new (commands (drop at script.now)) (commands (drop step.next script.now)) step.text.items)) }
+    ensures end { IfOk result (λ found. IfNone found (commands (drop at script.now) ≡ [])) }
     ensures past { IfOk result (λ found. IfSome found (λ step. (at < step.next) × (step.next ≤ length script.now))) }
 {
     match parse_command(alloc, script, at)? {
