@@ -10,7 +10,7 @@ use Rattle.bt_script.specs.Lines.{lines}
 onto_cut : (b : ℕ) (ls : List (List ℕ)) (first : List ℕ) (rest : List (List ℕ)) → ls ≡ first ∷ rest → onto_first b ls ≡ (b ∷ first) ∷ rest
 onto_cut b ls first rest e = ap (onto_first b) e
 
-one_plus : (n : ℕ) → 1 + n ≡ suc n
+pub one_plus : (n : ℕ) → 1 + n ≡ suc n
 one_plus n = omega arith
 
 one_plus_one : (n : ℕ) → 1 + n + 1 ≡ suc (n + 1)

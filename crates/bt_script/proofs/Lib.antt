@@ -1,3 +1,4 @@
+pub mod Blanks
 pub mod Columns
 pub mod Cuts
 pub mod Machine

@@ -24,8 +24,8 @@ all_some-snoc (Some y ∷ os) o = ap (option_map (λ xs. y ∷ xs)) (all_some-sn
     behind_first y (Some xs) (Some x) = refl
 
 -- one more line of a batch
-pub items-more : (block : List (List ℕ)) (line : List ℕ) → items_of (block ++ line ∷ []) ≡ and_line (items_of block) line
-unfolding items_of
+pub items-more : (block : List (List ℕ)) (line : List ℕ) → items_of (block ++ line ∷ []) ≡ and_line (items_of block) (without_return line)
+unfolding items_of item_of
 items-more block line = elim (cases_Bool (is_blank_line line)) [
   | inl blank ↦ rw (filter-append (λ l. not (is_blank_line l)) block (line ∷ []), blank, append-nil (filter (λ l. not (is_blank_line l)) block)) refl
   | inr some ↦ rw (filter-append (λ l. not (is_blank_line l)) block (line ∷ []), some, map-append item_of (filter (λ l. not (is_blank_line l)) block) (line ∷ []))

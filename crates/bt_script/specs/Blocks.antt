@@ -1,7 +1,7 @@
 -- What the parts of the parser find, in the words of the commands.
 use Rattle.std.specs.Prelude.{ℕ, ◌≡◌, Bool, true, false, List, [], ◌∷◌, ◌++◌, Option, Some, None, if◌then◌else◌, drop}
-use Rattle.bt_script.specs.Commands.{Answer, Inside, closing_of, command_of, commands, commands_from, is_blank_line, item_of, opened, or_syntax, unfinished}
-use Rattle.bt_script.specs.Lines.{lines, words}
+use Rattle.bt_script.specs.Commands.{Answer, Inside, closing_of, command_of, commands, commands_from, item_from, opened, or_syntax, unfinished}
+use Rattle.bt_script.specs.Lines.{is_blank, lines, without_spaces, words}
 use Rattle.bt_script.specs.declared.command.Command.{Command}
 use Rattle.bt_script.specs.declared.command.Item.{Item}
 
@@ -11,9 +11,9 @@ with_last None last = None
 with_last (Some xs) None = None
 with_last (Some xs) (Some x) = Some (xs ++ x ∷ [])
 
--- the messages of some lines, and that of one more
+-- the messages of some lines, and that of one more, which has no carriage return at its end
 abbrev pub and_line : Option (List Item) → List ℕ → Option (List Item)
-and_line items line = if is_blank_line line then items else with_last items (item_of line)
+and_line items line = if is_blank line then items else with_last items (item_from (without_spaces line))
 
 -- the command of a block that is closed, or that the end of the script cuts off
 abbrev pub ended : Bool → Option Command → Answer

@@ -32,6 +32,10 @@ AsksHelp words = IsAmong DisplayHelp (kinds_of_words words)
 abbrev pub IsFaulty : List Text → Type 0
 IsFaulty words = (kind : ErrorKind) × IsAmong kind (kinds_of_words words) × (kind ≢ DisplayHelp)
 
+-- the words have a fault, and do not ask for help
+abbrev pub MustBeRefused : List Text → Type 0
+MustBeRefused words = IsFaulty words × (AsksHelp words → ⊥)
+
 -- the words are read, and name no file of a script
 abbrev pub IsToReadInput : List Text → Type 0
 IsToReadInput words = (kinds_of_words words ≡ []) × (first_of (codes "script") (rows_of_words words) ≡ None)

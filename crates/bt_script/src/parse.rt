@@ -35,12 +35,6 @@ fn begins(words: &[&[u8]], word: &[u8]) -> bool
     is_word(word_at(words, 0), word)
 }
 
-fn is_blank_line(line: &[u8]) -> bool
-    ensures { result ≡ spec.is_blank_line line.now }
-{
-    is_blank(without_return(line))
-}
-
 // What stands behind a prefix, where the line begins with it.
 fn behind_prefix<'a>(prefix: &[u8], line: &'a [u8]) -> Option<&'a [u8]>
     ensures { option_map (λ s. s.now) result ≡ spec.behind_prefix prefix.now line.now }
@@ -57,32 +51,34 @@ fn record_behind(alloc: Global, prefix: &[u8], line: &[u8]) -> Result<Option<Fie
     }
 }
 
-// The message of a line of a batch.
-#[tactic(auto, unfolding(crate::specs::Commands::item_of))]
-fn parse_item(alloc: Global, line: &[u8]) -> Result<Option<Item>, AllocError>
-    ensures { IfOk result (λ item. item ≡ spec.item_of line.now) }
+// The message of a line of a batch, which begins with its word.
+fn parse_item(alloc: Global, text: &[u8]) -> Result<Option<Item>, AllocError>
+    ensures { IfOk result (λ item. item ≡ spec.item_from text.now) }
 {
-    let line = without_spaces(without_return(line));
-    if behind_prefix(b"put ", line).is_some() {
-        return Ok(record_behind(alloc, b"put ", line)?.map(Item::Put));
+    if let Some(record) = behind_prefix(b"put ", text) {
+        return Ok(read_record(alloc, record)?.map(Item::Put));
     }
-    if behind_prefix(b"del ", line).is_some() {
-        return Ok(record_behind(alloc, b"del ", line)?.map(Item::Del));
+    if let Some(record) = behind_prefix(b"del ", text) {
+        return Ok(read_record(alloc, record)?.map(Item::Del));
     }
-    Ok(record_behind(alloc, b"ups ", line)?.map(Item::Ups))
+    if let Some(record) = behind_prefix(b"ups ", text) {
+        return Ok(read_record(alloc, record)?.map(Item::Ups));
+    }
+    Ok(None)
 }
 
-// The messages of some lines, and that of one more.
+// The messages of some lines, and that of one more, which has no carriage return at its end.
 fn and_item(alloc: Global, items: Option<Items>, line: &[u8]) -> Result<Option<Items>, AllocError>
     ensures { IfOk result (λ all. all ≡ and_line items line.now) }
 {
-    if is_blank_line(line) {
+    let text = without_spaces(line);
+    if text.is_empty() {
         return Ok(items);
     }
     let Some(mut items) = items else {
         return Ok(None);
     };
-    let Some(item) = parse_item(alloc, line)? else {
+    let Some(item) = parse_item(alloc, text)? else {
         return Ok(None);
     };
     items.push(item)?;
@@ -110,8 +106,9 @@ fn read_items(
     let mut items = Some(Items::new(alloc));
     let mut at = start;
     while at < script.len() {
-        let (line, next) = next_line(script, at);
-        if is_word(without_return(line), b"end") {
+        let (bytes, next) = next_line(script, at);
+        let line = without_return(bytes);
+        if is_word(line, b"end") {
             return Ok(Block {
                 content: items,
                 next,
@@ -138,15 +135,16 @@ fn read_bounds(script: &[u8], start: usize) -> Block<bool>
     let mut blank = true;
     let mut at = start;
     while at < script.len() {
-        let (line, next) = next_line(script, at);
-        if is_word(without_return(line), b"go") {
+        let (bytes, next) = next_line(script, at);
+        let line = without_return(bytes);
+        if is_word(line, b"go") {
             return Block {
                 content: blank,
                 next,
                 closed: true,
             };
         }
-        blank &= is_blank_line(line);
+        blank &= is_blank(line);
         at = next;
     }
     Block {

@@ -1,7 +1,7 @@
 //! The words of the command line.
-ghost use Rattle.std.specs.Prelude.{◌≡◌, [], IfOk, IfErr, OnOk, codes, map, option_map, string_bytes};
+ghost use Rattle.std.specs.Prelude.{◌≡◌, ◌⊎◌, [], IfOk, IfErr, IsErrOf, OnOk, codes, map, option_map, string_bytes};
 ghost use Rattle.clap.specs.Words.{FailsBy, app_of, first_of, first_value, found_of, kind_of, rows_of};
-ghost use Rattle.bt_script.specs.Options.{ComesOf, HasFault, betable, kinds_of_words, rows_of_words};
+ghost use Rattle.bt_script.specs.Options.{ComesOf, HasFault, MustBeRefused, betable, kinds_of_words, rows_of_words};
 
 use bt_rowtype::Texts;
 use clap::error::ErrorKind;
@@ -24,6 +24,17 @@ pub enum WordsError {
     Help(String),
     /// A request for memory was refused.
     OutOfMemory,
+}
+
+impl From<AllocError> for WordsError {
+    ghost use Rattle.std.specs.Prelude.{◌≡◌};
+    ghost use Rattle.bt_script.specs.declared.words.WordsError.TheVariants.{OutOfMemory};
+
+    ghost from_gives = { λ _ e. e ≡ OutOfMemory };
+
+    fn from(_e: AllocError) -> WordsError {
+        WordsError::OutOfMemory
+    }
 }
 
 // The program's command line.
@@ -71,7 +82,7 @@ fn fault_of(alloc: Global, error: &Error) -> WordsError
         ErrorKind::OutOfMemory => WordsError::OutOfMemory,
         ErrorKind::DisplayHelp => match format!(in alloc; "{error}") {
             Ok(text) => WordsError::Help(text),
-            Err(_) => WordsError::OutOfMemory,
+            Err(AllocError) => WordsError::OutOfMemory,
         },
         _ => WordsError::Faulty,
     }
@@ -81,14 +92,13 @@ fn fault_of(alloc: Global, error: &Error) -> WordsError
 pub fn read_words(alloc: Global, words: &Texts) -> Result<Words, WordsError>
     ensures script { IfOk result (λ said. option_map string_bytes said.script ≡ first_of (codes "script") (rows_of_words words.now)) }
     ensures ok { OnOk result (kinds_of_words words.now ≡ []) }
-    ensures err { IfErr result (λ error. HasFault words.now error) }
+    ensures err { IfErr result (HasFault words.now) }
+    ensures faulty { MustBeRefused words.now → (IsErrOf result WordsError.Faulty) ⊎ (IsErrOf result WordsError.OutOfMemory) }
 {
-    let matches = match parse(alloc, words.as_slice()) {
-        Ok(matches) => matches,
-        Err(error) => return Err(fault_of(alloc, &error)),
-    };
-    let Ok(script) = text_of(alloc, &matches, "script") else {
-        return Err(WordsError::OutOfMemory);
-    };
-    Ok(Words { script })
+    match parse(alloc, words.as_slice()) {
+        Ok(matches) => Ok(Words {
+            script: text_of(alloc, &matches, "script")?,
+        }),
+        Err(error) => Err(fault_of(alloc, &error)),
+    }
 }

@@ -21,7 +21,7 @@ returns-in-Err-clause-err c =
     let given = subst (λ (words : List Text). HasKind (kinds_of_words words) c.in-Err.error) c.as_slice.ensures c.in-Err.ensures.kinds in
     has_fault c.args.words.now (kind_of c.in-Err.error) c.fault_of.result given c.fault_of.ensures
 
-pub returns-clause-script : goal.returns-clause-script
-returns-clause-script c =
+pub returns-in_ok-text_of-in-Ok-clause-script : goal.returns-in_ok-text_of-in-Ok-clause-script
+returns-in_ok-text_of-in-Ok-clause-script c =
     let rows = c.in-Ok.ensures.rows ∙ ap rows_of_words c.as_slice.ensures in
-    c.in-Ok-text_of.ensures ∙ first_value-rows (found_of c.in-Ok.matches) (codes "script") ∙ ap (first_of (codes "script")) rows
+    c.in_ok-text_of-in-Ok.ensures ∙ first_value-rows (found_of c.in-Ok.matches) (codes "script") ∙ ap (first_of (codes "script")) rows

@@ -1,0 +1,23 @@
+use Rattle.std.proofs.Common.{List, Option, Some, None, ◌≡◌, ◌∙◌, sym, ap}
+use Rattle.bt_script.specs.Blocks.{with_last}
+use Rattle.bt_script.specs.Commands.{item_from}
+use Rattle.bt_script.specs.declared.command.Item.{Item}
+use Rattle.bt_script.proofs.Blanks.{and-blank, and-item}
+use Rattle.bt_script.proofs.parse.and_item.Goals as goal
+
+pub returns-then-is_empty : goal.returns-then-is_empty
+returns-then-is_empty c = sym (and-blank c.args.items c.args.line.now c.without_spaces-text.result.now c.without_spaces-text.ensures (sym c.is_empty.ensures ∙ c.if-is_empty.true))
+
+pub returns-in_default-2 : goal.returns-in_default-2
+returns-in_default-2 c =
+    let text = c.without_spaces-text.result.now in
+    let one = and-item c.args.items c.args.line.now text c.without_spaces-text.ensures (sym c.is_empty.ensures ∙ c.if-is_empty.false) in
+    let none : item_from text ≡ None = sym c.in_ok-item.ensures ∙ c.in_default-2.is in
+    sym (one ∙ ap (λ (items : Option (List Item)). with_last items (item_from text)) c.in-Some.is ∙ ap (with_last (Some c.in-Some.items)) none)
+
+pub returns : goal.returns
+returns c =
+    let text = c.without_spaces-text.result.now in
+    let one = and-item c.args.items c.args.line.now text c.without_spaces-text.ensures (sym c.is_empty.ensures ∙ c.if-is_empty.false) in
+    let some : item_from text ≡ Some c.in-Some-2.item = sym c.in_ok-item.ensures ∙ c.in-Some-2.is in
+    ap Some c.in_ok-push.ensures.ok ∙ sym (one ∙ ap (λ (items : Option (List Item)). with_last items (item_from text)) c.in-Some.is ∙ ap (with_last (Some c.in-Some.items)) some)
