@@ -1,11 +1,12 @@
 -- What commands in turn are answered and leave: for the loop of a run.
-use Rattle.std.proofs.Common.{ℕ, List, [], ◌∷◌, ◌++◌, ◌≡◌, ◌∙◌, refl, sym, ap, subst, append_assoc, append-nil, length, take, Option, None, Some, Result, Ok, Err, OnErr}
+use Rattle.std.proofs.Common.{ℕ, List, [], ◌∷◌, ◌++◌, ◌≡◌, ◌∙◌, refl, sym, ap, subst, append_assoc, append-nil, length, take, arith, Option, None, Some, Result, Ok, Err, OnErr}
 use Rattle.std.proofs.lemmas.List.{take_at}
 use Rattle.bt_script.specs.Commands.{Answer, commands}
-use Rattle.bt_script.specs.Streams.{Took, TookPrefix}
+use Rattle.std.specs.Io.KnownBytes.{Keeps}
+use Rattle.bt_script.specs.Streams.{Took, TookPrefix, count_of, source_of}
 use Rattle.bt_script.specs.declared.counted.Counted.{Counted}
-use Rattle.bt_script.proofs.offered.Streams.{prefix-done, prefix-more, Took-trans}
-use Rattle.bt_shell.specs.Runs.{IsScriptOf, IsTurn, TookReplies, after_commands, replies, run}
+use Rattle.bt_script.proofs.offered.Streams.{prefix-all, prefix-done, prefix-more, Took-kept, Took-nil, Took-trans}
+use Rattle.bt_shell.specs.Runs.{IsScriptOf, IsTurn, TookReplies, WritesPrefix, WritesReplies, WritesRun, after_commands, replies, run}
 use Rattle.bt_shell.specs.Steps.{State, turn}
 
 pub replies-append : (state : State) (done more : List Answer) → replies state (done ++ more) ≡ replies state done ++ replies (after_commands state done) more
@@ -64,7 +65,7 @@ module _ {W : Type 0} (contents : W → Option (List ℕ)) (old : Counted W) whe
       → TookPrefix contents mid new text → TookPrefix contents old new (replies None all)
   run_breaks mid new table after all others more text so_far next prefix =
       let said : replies table others ≡ text ++ replies (turn table next.answer).0 more =
-          ap (replies table) next.first ∙ replies-one table next.answer more ∙ ap (λ (l : List ℕ). l ++ replies (turn table next.answer).0 more) (sym next.said) in
+      ap (replies table) next.first ∙ replies-one table next.answer more ∙ ap (λ (l : List ℕ). l ++ replies (turn table next.answer).0 more) (sym next.said) in
       prefix-more contents old mid new (replies None all) (replies None so_far.done) text (replies (turn table next.answer).0 more) so_far.took
       (whole mid table all others so_far ∙ ap (λ (l : List ℕ). replies None so_far.done ++ l) said) prefix
 
@@ -74,10 +75,10 @@ module _ {W : Type 0} (contents : W → Option (List ℕ)) (old : Counted W) whe
   run_goes_on mid new table after all others more text so_far next took =
       let done = so_far.done ++ next.answer ∷ [] in
       let said : replies None done ≡ replies None so_far.done ++ text =
-          replies-append None so_far.done (next.answer ∷ [])
-          ∙ ap (λ (state : State). replies None so_far.done ++ replies state (next.answer ∷ [])) (sym so_far.left)
-          ∙ ap (λ (l : List ℕ). replies None so_far.done ++ l)
-          (replies-one table next.answer [] ∙ ap (λ (l : List ℕ). (turn table next.answer).1 ++ l) (replies-none (turn table next.answer).0) ∙ append-nil (turn table next.answer).1 ∙ sym next.said) in
+      replies-append None so_far.done (next.answer ∷ [])
+      ∙ ap (λ (state : State). replies None so_far.done ++ replies state (next.answer ∷ [])) (sym so_far.left)
+      ∙ ap (λ (l : List ℕ). replies None so_far.done ++ l)
+      (replies-one table next.answer [] ∙ ap (λ (l : List ℕ). (turn table next.answer).1 ++ l) (replies-none (turn table next.answer).0) ∙ append-nil (turn table next.answer).1 ∙ sym next.said) in
       record {
         done = done;
         split = so_far.split ∙ ap (λ (l : List Answer). so_far.done ++ l) next.first ∙ sym (append_assoc so_far.done (next.answer ∷ []) more);
@@ -95,6 +96,32 @@ module _ {W : Type 0} (contents : W → Option (List ℕ)) (old : Counted W) whe
 pub some_script : (known : Option (List ℕ)) → (script : List ℕ) × IsScriptOf known script
 some_script None = ([], tt)
 some_script (Some bytes) = (bytes, refl)
+
+module _ {W : Type 0} (contents : W → Option (List ℕ)) where
+  took_nothing : (old : Counted W) → Took contents old old []
+  took_nothing old = Took-nil contents old (omega arith)
+
+  -- what is written is nothing
+  pub nothing_replied : (old : Counted W) (known : Option (List ℕ)) → WritesReplies contents known old old
+  nothing_replied old known =
+      let script = some_script known in
+      (script.0, script.1, (0, subst (λ (l : List ℕ). Took contents old old l) (sym (replies-none None)) (took_nothing old)))
+
+  pub nothing_written : (old : Counted W) (known : Option (List ℕ)) → WritesPrefix contents known old old
+  nothing_written old known = let script = some_script known in (script.0, script.1, (0, took_nothing old))
+
+  pub written-prefix : (known : Option (List ℕ)) (old new : Counted W) → WritesRun contents known old new → WritesPrefix contents known old new
+  written-prefix known old new wrote = (wrote.0, wrote.1, prefix-all contents old new (run wrote.0) wrote.2)
+
+  -- a flush takes nothing
+  pub prefix-kept : (known : Option (List ℕ)) (old mid new : Counted W) → Keeps (contents (source_of mid)) (contents (source_of new)) → count_of new ≡ count_of mid
+      → WritesPrefix contents known old mid → WritesPrefix contents known old new
+  prefix-kept known old mid new kept count wrote = (wrote.0, wrote.1, (wrote.2.0, Took-kept contents old mid new (take wrote.2.0 (run wrote.0)) wrote.2.1 kept count))
+
+  pub replies-kept : (known : Option (List ℕ)) (old mid new : Counted W) → Keeps (contents (source_of mid)) (contents (source_of new)) → count_of new ≡ count_of mid
+      → WritesReplies contents known old mid → WritesReplies contents known old new
+  replies-kept known old mid new kept count wrote =
+      (wrote.0, wrote.1, (wrote.2.0, Took-kept contents old mid new (replies None (take wrote.2.0 (commands wrote.0))) wrote.2.1 kept count))
 
 pub on_err : {T E : Type 0} (r : Result T E) (P : Type 0) → P → OnErr r P
 on_err (Ok x) P p = tt

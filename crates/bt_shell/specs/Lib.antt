@@ -1,5 +1,6 @@
 pub mod Drawings
 pub mod Images
+pub mod Programs
 pub mod Runs
 pub mod Standing
 pub mod Statuses

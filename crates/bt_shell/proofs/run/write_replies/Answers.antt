@@ -1,4 +1,4 @@
-use Rattle.std.proofs.Common.{List, ◌≡◌, rules, ap, drop, sym, subst, ℕ}
+use Rattle.std.proofs.Common.{List, ◌≡◌, arith, rules, ap, drop, sym, subst, ℕ}
 use Rattle.bt_script.specs.Commands.{commands}
 use Rattle.bt_script.specs.Streams.{Took, TookPrefix}
 use Rattle.bt_script.proofs.offered.Streams.{Took-kept, Took-nil, prefix-done}
@@ -9,7 +9,7 @@ use Rattle.bt_shell.proofs.run.write_replies.Goals as goal
 pub commands-init : goal.commands-init
 commands-init g c = record {
   healthy = search rules;
-  so_far = run_begins g.W.Write.contents c.args.writer.now (commands c.args.script.now) (Took-nil g.W.Write.contents c.args.writer.now (let h = c.type_inv in ?));
+  so_far = run_begins g.W.Write.contents c.args.writer.now (commands c.args.script.now) (Took-nil g.W.Write.contents c.args.writer.now (omega arith));
 }
 
 -- memory is wanted before the next command
@@ -33,7 +33,7 @@ returns-in_err-write_text-clause-err g c =
     let next = rw c.in-Some.is at c.in_ok-step.ensures.step in
     let text = c.as_slice.result.now in
     let turn : IsTurn c.commands.table c.next_reply.new.table (commands (drop c.commands.at script)) (commands (drop c.in-Some.step.next script)) text =
-        subst (IsTurn c.commands.table c.next_reply.new.table (commands (drop c.commands.at script)) (commands (drop c.in-Some.step.next script))) (sym c.as_slice.ensures.value) next in
+    subst (IsTurn c.commands.table c.next_reply.new.table (commands (drop c.commands.at script)) (commands (drop c.in-Some.step.next script))) (sym c.as_slice.ensures.value) next in
     on_err c.from_residual-in_err-write_text.result _
     (run_breaks g.W.Write.contents c.args.writer.now c.commands.writer c.write_text.new.writer c.commands.table c.next_reply.new.table (commands script)
     (commands (drop c.commands.at script)) (commands (drop c.in-Some.step.next script)) text c.commands.invariant.so_far turn c.in_err-write_text.ensures.err)
@@ -44,9 +44,16 @@ commands-preserved g c =
     let next = rw c.in-Some.is at c.in_ok-step.ensures.step in
     let text = c.as_slice.result.now in
     let turn : IsTurn c.commands.table c.next_reply.new.table (commands (drop c.commands.at script)) (commands (drop c.in-Some.step.next script)) text =
-        subst (IsTurn c.commands.table c.next_reply.new.table (commands (drop c.commands.at script)) (commands (drop c.in-Some.step.next script))) (sym c.as_slice.ensures.value) next in
+    subst (IsTurn c.commands.table c.next_reply.new.table (commands (drop c.commands.at script)) (commands (drop c.in-Some.step.next script))) (sym c.as_slice.ensures.value) next in
     record {
       healthy = search rules;
       so_far = run_goes_on g.W.Write.contents c.args.writer.now c.commands.writer c.write_text.new.writer c.commands.table c.next_reply.new.table (commands script)
           (commands (drop c.commands.at script)) (commands (drop c.in-Some.step.next script)) text c.commands.invariant.so_far turn c.in_ok-write_text.ensures.ok;
     }
+
+-- all is written, and the flush fails
+pub returns-then-is_err-clause-err : goal.returns-then-is_err-clause-err
+returns-then-is_err-clause-err g c =
+    let script = c.args.script.now in
+    let so_far = run_prefix g.W.Write.contents c.args.writer.now c.commands.writer c.commands.table (commands script) (commands (drop c.commands.at script)) c.commands.invariant.so_far in
+    (so_far.0, Took-kept g.W.Write.contents c.args.writer.now c.commands.writer c.flush.new.self _ so_far.1 c.flush.ensures.bytes c.flush.ensures.count)
