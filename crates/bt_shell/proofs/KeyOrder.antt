@@ -15,6 +15,7 @@ use Rattle.bt_keycode.specs.Codes.{AreInRange, HaveSameKinds, code_of, code_of_v
 use Rattle.bt_keycode.proofs.Codes.{codes_compare, flags_compare, ints_compare, texts_compare}
 use Rattle.bt_node.specs.Keys.{Key, key_cmp}
 use Rattle.bt_node.specs.Messages.{Rows}
+use Rattle.bt_shell.proofs.Ranges.{first_in_range, others_in_range, take_in_range}
 use Rattle.bt_shell.specs.Standing.{AllStand, KeysRise, Stands}
 
 -- ---- the order of codes is that of the values
@@ -24,16 +25,6 @@ value_codes (value.Int a) (value.Int b) same left right = ints_compare a b left.
 value_codes (value.Text a) (value.Text b) same left right = texts_compare a b
 value_codes (value.Flag a) (value.Flag b) same left right = flags_compare a b
 value_codes v w same left right = cc
-
-first_in_range : (v : Value) (vs : List Value) → AreInRange (v ∷ vs) → AreInRange (v ∷ [])
-first_in_range (value.Int n) vs h = (h.0, tt)
-first_in_range (value.Text bytes) vs h = (h.0, tt)
-first_in_range (value.Flag flag) vs h = tt
-
-others_in_range : (v : Value) (vs : List Value) → AreInRange (v ∷ vs) → AreInRange vs
-others_in_range (value.Int n) vs h = h.1
-others_in_range (value.Text bytes) vs h = h.1
-others_in_range (value.Flag flag) vs h = h
 
 codes_by_values : (vs ws : List Value) → HaveSameKinds vs ws → AreInRange vs → AreInRange ws → key_cmp (code_of vs) (code_of ws) ≡ values_cmp vs ws
 codes_by_values [] [] same left right = refl
@@ -47,13 +38,6 @@ codes_by_values (v ∷ vs) (w ∷ ws) same left right =
     ∙ ap (ordering_then (value_cmp v w)) (codes_by_values vs ws others (others_in_range v vs left) (others_in_range w ws right))
 
 -- ---- the key columns of rows of a schema
-
-take-in_range : (n : ℕ) (row : List Value) → AreInRange row → AreInRange (take n row)
-take-in_range zero row h = tt
-take-in_range (suc n) [] h = tt
-take-in_range (suc n) (value.Int i ∷ vs) h = (h.0, take-in_range n vs h.1)
-take-in_range (suc n) (value.Text bytes ∷ vs) h = (h.0, take-in_range n vs h.1)
-take-in_range (suc n) (value.Flag flag ∷ vs) h = take-in_range n vs h
 
 both_first : (a b : Bool) → (a && b) ≡ true → a ≡ true
 both_first true b e = refl
@@ -85,7 +69,7 @@ pair-rises : (schema : Schema) (k l : Key) (row other : List Value) → Stands s
     → T (is_lt (values_cmp (take schema.keys row) (take schema.keys other)))
 pair-rises schema k l row other left right rises =
     let kinds : HaveSameKinds (take schema.keys row) (take schema.keys other) = key_kinds schema.keys schema.columns row left.fits ∙ sym (key_kinds schema.keys schema.columns other right.fits) in
-    let same = codes_by_values (take schema.keys row) (take schema.keys other) kinds (take-in_range schema.keys row left.in_range) (take-in_range schema.keys other right.in_range) in
+    let same = codes_by_values (take schema.keys row) (take schema.keys other) kinds (take_in_range schema.keys row left.in_range) (take_in_range schema.keys other right.in_range) in
     let codes : key_cmp k l ≡ key_cmp (code_of (take schema.keys row)) (code_of (take schema.keys other)) = λ i. key_cmp (left.placed i) (right.placed i) in
     subst (λ o. T (is_lt o)) (codes ∙ same) rises
 

@@ -1,6 +1,8 @@
 pub mod Batches
 pub mod Drawings
 pub mod KeyOrder
+pub mod Ranges
+pub mod Sound
 pub mod Standing
 pub mod Turns
 pub mod Indents

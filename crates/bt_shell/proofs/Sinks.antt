@@ -19,7 +19,7 @@ held_sorted : (shape : Shape) (t : RowTree) → IsFit shape t → T (is_sorted k
 held_sorted shape t fit = rows-sorted None None (holds row_effect t) (holds-lie row_effect fit.0 None None t fit.1.lies)
 
 -- the batch is sorted for the tree, which changes no row
-holds-after_batch : (shape : Shape) (t : RowTree) (batch : RowMessages) → IsRoomy shape → IsFit shape t
+pub holds-after_batch : (shape : Shape) (t : RowTree) (batch : RowMessages) → IsRoomy shape → IsFit shape t
     → holds row_effect (sunk row_effect shape t (sorted_batch batch)) ≡ rows_after row_effect batch (holds row_effect t)
 holds-after_batch shape t batch roomy fit =
     sunk_loses_nothing row_effect shape t (sorted_batch batch) roomy fit

@@ -1,7 +1,8 @@
 //! The run of a script.
-ghost use Rattle.std.specs.Prelude.{◌≡◌, ◌+◌, false, true, IsErrOf, OnErr, OnOk, ℕ, List};
+ghost use Rattle.std.specs.Prelude.{◌≡◌, ◌+◌, false, true, IfSome, IsErrOf, OnErr, OnOk, ℕ, List};
 ghost use Rattle.bt_script.specs.Streams.{FailsToGive, GaveAtMost, Took, TookPrefix, count_of, has_failed, source_of};
-ghost use Rattle.bt_shell.specs.Runs.{Runs, TookReplies, WritesPrefix, WritesReplies, run};
+ghost use Rattle.bt_shell.specs.Runs.{Runs, TookReplies, WritesPrefix, WritesReplies, run, state_after_commands};
+ghost use Rattle.bt_shell.specs.Standing.{IsSound};
 
 use crate::session::next_reply;
 use bt_script::{Counted, RunFault, SCRIPT_LIMIT, read_script, write_text};
@@ -56,6 +57,9 @@ pub fn run_script<R: Read, W: Write>(
     ensures memory { IsErrOf result RunFault.OutOfMemory → (has_failed reader.new ≡ false) × (has_failed writer.new ≡ false) }
     ensures within { IsErrOf result RunFault.OutOfMemory → GaveAtMost R.remaining reader.old reader.new SCRIPT_LIMIT }
     ensures replies { IsErrOf result RunFault.OutOfMemory → WritesReplies W.contents (R.remaining (source_of reader.old)) writer.old writer.new }
+
+    // Between any two commands of any script the table, where there is one, is sound.
+    ensures sound { (script : List ℕ) (n : ℕ) → IfSome (state_after_commands script n) IsSound }
 
     // No more than one byte over the limit is read.
     ensures at_most { GaveAtMost R.remaining reader.old reader.new (SCRIPT_LIMIT + 1) }
