@@ -15,7 +15,7 @@ use Rattle.bt_node.proofs.Held.{holds-lie}
 use Rattle.bt_node.proofs.RowsAfter.{rows-sorted}
 
 -- a tree that fits holds rows by rising key
-held_sorted : (shape : Shape) (t : RowTree) → IsFit shape t → T (is_sorted key_cmp (holds row_effect t))
+pub held_sorted : (shape : Shape) (t : RowTree) → IsFit shape t → T (is_sorted key_cmp (holds row_effect t))
 held_sorted shape t fit = rows-sorted None None (holds row_effect t) (holds-lie row_effect fit.0 None None t fit.1.lies)
 
 -- the batch is sorted for the tree, which changes no row
