@@ -5,6 +5,5 @@ pub mod Ranges
 pub mod Sound
 pub mod Standing
 pub mod Turns
-pub mod Indents
 pub mod Sinks
 pub mod WorkedRows
