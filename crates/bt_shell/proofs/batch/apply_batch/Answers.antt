@@ -22,8 +22,11 @@ pub returns-then-items-gt-MOST_MESSAGES-clause-refused : goal.returns-then-items
 returns-then-items-gt-MOST_MESSAGES-clause-refused c =
     let schema : c.schema.result.now ≡ c.args.table.now.schema = search rules in
     let found = c.in_ok-messages.ensures.refusal ∙ ap (λ (l : Schema). least (filter_map result_err (read_batch l 1 c.args.items.now))) schema in
-    λ _. with_limit (filter_map result_err (read_batch c.args.table.now.schema 1 c.args.items.now)) (length c.args.items.now) c.in_ok-messages.field-0.refusal c.lesser_of.result
-    c.if-items-gt-MOST_MESSAGES.true found c.lesser_of.ensures
+    λ _. (
+      with_limit (filter_map result_err (read_batch c.args.table.now.schema 1 c.args.items.now)) (length c.args.items.now) c.in_ok-messages.field-0.refusal c.lesser_of.result
+          c.if-items-gt-MOST_MESSAGES.true found c.lesser_of.ensures,
+      search rules,
+    )
 
 -- the messages are those of the lines, by the schema of the table
 pub apply-requires : goal.apply-requires
