@@ -14,7 +14,7 @@ has_failed stream = stream.failed
 
 -- how many bytes it gave as a reader, or took as a writer; held at the greatest u64
 abbrev pub count_of : {T : Type 0} → Counted T → ℕ
-count_of stream = stream.count
+count_of stream = u64_saturate stream.count
 
 -- a stream counted so many more bytes
 abbrev pub Counts : {T : Type 0} → Counted T → Counted T → ℕ → Type 0

@@ -9,7 +9,7 @@ use Rattle.bt_keycode.specs.Keys.{Key}
 use Rattle.bt_node.specs.Trees.{Tree, leaf, inner, Nodes, none, node, Siblings, children, height, height_below}
 use Rattle.bt_node.specs.Walks.{children_of}
 use Rattle.bt_shell.specs.Drawings.{child_text, highest, own_text, pivot_text, siblings_text}
-use Rattle.bt_shell.specs.Images.{inner_line, message_line, node_text, others_text, pivot_line}
+use Rattle.bt_shell.specs.Images.{deeper, inner_line, message_line, node_text, others_text, pivot_line}
 use Rattle.bt_shell.specs.Tables.{RowTree}
 
 pub same_item : {X : Type 0} (x y : X) → Some x ≡ Some y → x ≡ y
@@ -22,40 +22,35 @@ lines_more f (y ∷ ys) zero x is = append-nil (f y) ∙ ap f (same_item y x is)
 lines_more f (y ∷ ys) (suc i) x is = ap (λ (l : List ℕ). f y ++ l) (lines_more f ys i x is) ∙ sym (append_assoc (f y) (flat_map f (take i ys)) (f x))
 
 -- the lines of one more child
-pub siblings_more : (columns : List Column) (depth place : ℕ) (xs : List (Key × RowTree)) (i : ℕ) (x : Key × RowTree) → slice_get xs i ≡ Some x
-    → siblings_text columns depth place (take (suc i) xs) ≡ siblings_text columns depth place (take i xs) ++ child_text columns depth (place + i) x
-siblings_more columns depth place [] i x is = cc
-siblings_more columns depth place (y ∷ ys) zero x is =
+pub siblings_more : (columns : List Column) (indent : List ℕ) (place : ℕ) (xs : List (Key × RowTree)) (i : ℕ) (x : Key × RowTree) → slice_get xs i ≡ Some x
+    → siblings_text columns indent place (take (suc i) xs) ≡ siblings_text columns indent place (take i xs) ++ child_text columns indent (place + i) x
+siblings_more columns indent place [] i x is = cc
+siblings_more columns indent place (y ∷ ys) zero x is =
     let here : place ≡ place + 0 = omega arith in
-    append-nil (child_text columns depth place y) ∙ ap (child_text columns depth place) (same_item y x is) ∙ ap (λ (p : ℕ). child_text columns depth p x) here
-siblings_more columns depth place (y ∷ ys) (suc i) x is =
+    append-nil (child_text columns indent place y) ∙ ap (child_text columns indent place) (same_item y x is) ∙ ap (λ (p : ℕ). child_text columns indent p x) here
+siblings_more columns indent place (y ∷ ys) (suc i) x is =
     let here : suc place + i ≡ place + suc i = omega arith in
-    ap (λ (l : List ℕ). child_text columns depth place y ++ l) (siblings_more columns depth (suc place) ys i x is ∙ ap (λ (p : ℕ). siblings_text columns depth (suc place) (take i ys) ++ child_text columns depth p x) here)
-    ∙ sym (append_assoc (child_text columns depth place y) (siblings_text columns depth (suc place) (take i ys)) (child_text columns depth (place + suc i) x))
+    ap (λ (l : List ℕ). child_text columns indent place y ++ l) (siblings_more columns indent (suc place) ys i x is ∙ ap (λ (p : ℕ). siblings_text columns indent (suc place) (take i ys) ++ child_text columns indent p x) here)
+    ∙ sym (append_assoc (child_text columns indent place y) (siblings_text columns indent (suc place) (take i ys)) (child_text columns indent (place + suc i) x))
 
-others_listed : (columns : List Column) (depth place : ℕ) (ns : Nodes (List Value) (Message (List Value) Change)) → others_text columns depth ns ≡ siblings_text columns depth (suc place) (children ns)
-others_listed columns depth place none = refl
-others_listed columns depth place (node k t ns) =
-    ap (λ (l : List ℕ). pivot_line depth k ++ (node_text columns depth t ++ l)) (others_listed columns depth (suc place) ns)
-    ∙ sym (append_assoc (pivot_line depth k) (node_text columns depth t) (siblings_text columns depth (suc (suc place)) (children ns)))
-
-listed : (columns : List Column) (depth : ℕ) (t : RowTree) → node_text columns depth t ≡ own_text columns depth (suc depth) t ++ siblings_text columns (suc depth) 0 (children_of t)
-listed columns depth (leaf rows) = sym (append-nil _)
-listed columns depth (inner none buffer) =
-    let own = inner_line depth 0 (length buffer) in
-    let lines = flat_map (message_line columns (suc depth)) buffer in
-    ap (λ (l : List ℕ). own ++ l) (append-nil lines) ∙ sym (append-nil (own ++ lines))
-listed columns depth (inner (node k t ns) buffer) =
-    let own = inner_line depth (length (children (node k t ns))) (length buffer) in
-    let lines = flat_map (message_line columns (suc depth)) buffer in
-    ap (λ (l : List ℕ). own ++ (lines ++ (node_text columns (suc depth) t ++ l))) (others_listed columns (suc depth) 0 ns)
-    ∙ sym (append_assoc own lines (node_text columns (suc depth) t ++ siblings_text columns (suc depth) 1 (children ns)))
+others_listed : (columns : List Column) (indent : List ℕ) (place : ℕ) (ns : Nodes (List Value) (Message (List Value) Change)) → others_text columns indent ns ≡ siblings_text columns indent (suc place) (children ns)
+others_listed columns indent place none = refl
+others_listed columns indent place (node k t ns) =
+    ap (λ (l : List ℕ). pivot_line indent k ++ (node_text columns indent t ++ l)) (others_listed columns indent (suc place) ns)
+    ∙ sym (append_assoc (pivot_line indent k) (node_text columns indent t) (siblings_text columns indent (suc (suc place)) (children ns)))
 
 -- a node has its own lines, and then those of its children
-pub node_listed : (columns : List Column) (depth : ℕ) (t : RowTree) → node_text columns depth t ≡ own_text columns depth (depth + 1) t ++ siblings_text columns (depth + 1) 0 (children_of t)
-node_listed columns depth t =
-    let next : depth + 1 ≡ suc depth = omega arith in
-    rw next (listed columns depth t)
+node_listed : (columns : List Column) (indent : List ℕ) (t : RowTree) → node_text columns indent t ≡ own_text columns indent (deeper indent) t ++ siblings_text columns (deeper indent) 0 (children_of t)
+node_listed columns indent (leaf rows) = sym (append-nil _)
+node_listed columns indent (inner none buffer) =
+    let own = inner_line indent 0 (length buffer) in
+    let lines = flat_map (message_line columns (deeper indent)) buffer in
+    ap (λ (l : List ℕ). own ++ l) (append-nil lines) ∙ sym (append-nil (own ++ lines))
+node_listed columns indent (inner (node k t ns) buffer) =
+    let own = inner_line indent (length (children (node k t ns))) (length buffer) in
+    let lines = flat_map (message_line columns (deeper indent)) buffer in
+    ap (λ (l : List ℕ). own ++ (lines ++ (node_text columns (deeper indent) t ++ l))) (others_listed columns (deeper indent) 0 ns)
+    ∙ sym (append_assoc own lines (node_text columns (deeper indent) t ++ siblings_text columns (deeper indent) 1 (children ns)))
 
 below_listed : {V M : Type 0} (ns : Nodes V M) → height_below ns ≡ highest (children ns)
 below_listed none = refl
@@ -117,7 +112,7 @@ highest_last t i most before after past was step =
     let all = height_listed t in
     omega (arith, whole, all, was, step)
 
-pub child_written : (columns : List Column) (xs : List (Key × RowTree)) (i below : ℕ) (child : RowTree) (out own before mid after : List ℕ)
+pub child_written : (columns : List Column) (xs : List (Key × RowTree)) (i : ℕ) (below : List ℕ) (child : RowTree) (out own before mid after : List ℕ)
     → option_map (λ p. p.1) (slice_get xs i) ≡ Some child → mid ≡ before ++ pivot_text below i (slice_get xs i) → after ≡ mid ++ node_text columns below child
     → before ≡ out ++ (own ++ siblings_text columns below 0 (take i xs)) → after ≡ out ++ (own ++ siblings_text columns below 0 (take (i + 1) xs))
 child_written columns xs i below child out own before mid after is pivot text was =
@@ -135,9 +130,9 @@ child_written columns xs i below child out own before mid after is pivot text wa
     (ap (λ (l : List ℕ). own ++ l) more ∙ sym (append_assoc own so_far (child_text columns below i at.0)))
 
 -- a node whose own lines and those of all its children were added
-pub node_written : (columns : List Column) (t : RowTree) (depth below i : ℕ) (out after : List ℕ) → below ≡ depth + 1 → length (children_of t) ≤ i
-    → after ≡ out ++ (own_text columns depth below t ++ siblings_text columns below 0 (take i (children_of t))) → after ≡ out ++ node_text columns depth t
-node_written columns t depth below i out after is past was =
-    let whole : own_text columns depth below t ++ siblings_text columns below 0 (take i (children_of t)) ≡ node_text columns depth t =
-    rw (is, take_all i (children_of t) past) (sym (node_listed columns depth t)) in
+pub node_written : (columns : List Column) (t : RowTree) (indent below : List ℕ) (i : ℕ) (out after : List ℕ) → below ≡ deeper indent → length (children_of t) ≤ i
+    → after ≡ out ++ (own_text columns indent below t ++ siblings_text columns below 0 (take i (children_of t))) → after ≡ out ++ node_text columns indent t
+node_written columns t indent below i out after is past was =
+    let whole : own_text columns indent below t ++ siblings_text columns below 0 (take i (children_of t)) ≡ node_text columns indent t =
+    rw (is, take_all i (children_of t) past) (sym (node_listed columns indent t)) in
     was ∙ ap (λ (l : List ℕ). out ++ l) whole

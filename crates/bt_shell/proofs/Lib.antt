@@ -1,6 +1,9 @@
 pub mod Batches
 pub mod Drawings
-pub mod Prefixes
-pub mod Indents
+pub mod KeyOrder
+pub mod Ranges
+pub mod Sound
+pub mod Standing
+pub mod Turns
 pub mod Sinks
 pub mod WorkedRows

@@ -118,17 +118,17 @@ unfolding eight_bytes rowtype_on_literals
 upsert_message = refl
 
 -- the line of an image for it, with one operation, with two, and with one on no column
-pub upsert_waits : message_line stock.columns 0 (key_of_one, message.Ups (record { base = value.Int (pos 1) ∷ value.Int (pos 0) ∷ []; ops = op.Add 1 (pos 5) ∷ [] }))
+pub upsert_waits : message_line stock.columns [] (key_of_one, message.Ups (record { base = value.Int (pos 1) ∷ value.Int (pos 0) ∷ []; ops = op.Add 1 (pos 5) ∷ [] }))
     ≡ codes "~ 8000000000000001 add,qty,5\n"
 unfolding rowtype_on_literals
 upsert_waits = refl
 
-pub operations_wait : message_line stock.columns 1 (key_of_one, message.Ups (record { base = []; ops = op.Set 1 (value.Int (pos 7)) ∷ op.Add 1 (pos 5) ∷ [] }))
+pub operations_wait : message_line stock.columns (codes "  ") (key_of_one, message.Ups (record { base = []; ops = op.Set 1 (value.Int (pos 7)) ∷ op.Add 1 (pos 5) ∷ [] }))
     ≡ codes "  ~ 8000000000000001 set,qty,7,add,qty,5\n"
 unfolding rowtype_on_literals
 operations_wait = refl
 
-pub no_column : message_line stock.columns 0 (key_of_one, message.Ups (record { base = []; ops = op.Add 2 (pos 5) ∷ [] })) ≡ codes "~ 8000000000000001 add,,5\n"
+pub no_column : message_line stock.columns [] (key_of_one, message.Ups (record { base = []; ops = op.Add 2 (pos 5) ∷ [] })) ≡ codes "~ 8000000000000001 add,,5\n"
 unfolding rowtype_on_literals
 no_column = refl
 

@@ -1,5 +1,5 @@
 -- What a command does to the table, what it is answered, and why it is refused.
-use Rattle.std.specs.Prelude.{ℕ, ◌+◌, not, nat_lt, Bool, List, [], ◌∷◌, ◌++◌, length, map, take, flat_map, Option, Some, None, is_some, Result, Ok, Err, if◌then◌else◌, codes, decimal}
+use Rattle.std.specs.Prelude.{ℕ, ◌≡◌, ◌≢◌, ◌+◌, not, nat_lt, Bool, List, [], ◌∷◌, ◌++◌, length, map, take, flat_map, Option, Some, None, is_some, Result, Ok, Err, if◌then◌else◌, codes, decimal}
 use Rattle.std.specs.FinMap.{find}
 use Rattle.std.specs.List.{filter_map}
 use Rattle.std.specs.Result.{result_err, result_ok}
@@ -10,7 +10,7 @@ use Rattle.bt_rowtype.specs.Schemas.{Schema, is_schema}
 use Rattle.bt_rowtype.specs.Values.{read_as, text_of}
 use Rattle.bt_rowtype.specs.declared.op.Op.{Op}
 use Rattle.bt_rowtype.specs.declared.refusal.Refusal.{Refusal}
-use Rattle.bt_rowtype.specs.declared.refusal.Refusal.TheVariants.{BadSchema, BadShape, NoSuchTree, NoTable, TableExists, TooMany}
+use Rattle.bt_rowtype.specs.declared.refusal.Refusal.TheVariants.{BadSchema, BadShape, NoSuchTree, NoTable, OutOfMemory, TableExists, TooMany}
 use Rattle.bt_rowtype.specs.declared.value.Value.{Value}
 use Rattle.bt_keycode.specs.Codes.{code_of}
 use Rattle.bt_messages.specs.declared.message.Message.TheVariants as message
@@ -148,3 +148,15 @@ turn_by None state command = (state_after state command, reply_to state command)
 abbrev pub turn : State → Answer → State × List ℕ
 turn state (Err refusal) = (state, refused_text refusal)
 turn state (Ok command) = turn_by (least (refusals_of state command)) state command
+
+-- a command is carried out: no refusal applies, and the table is the one after it
+abbrev pub IsCarriedOut : State → State → Command → Type 0
+IsCarriedOut old new command = (least (refusals_of old command) ≡ None) × (new ≡ state_after old command)
+
+-- a command is refused as this, the least of the refusals that apply, and the table stays as it was
+abbrev pub IsRefusedAs : State → State → Command → Refusal → Type 0
+IsRefusedAs old new command refusal = (least (refusals_of old command) ≡ Some refusal) × (new ≡ old)
+
+-- it is, unless memory was wanting
+abbrev pub IsRefused : State → State → Command → Refusal → Type 0
+IsRefused old new command refusal = refusal ≢ OutOfMemory → IsRefusedAs old new command refusal

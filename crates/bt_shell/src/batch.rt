@@ -156,11 +156,9 @@ fn read_batch(alloc: Global, schema: &Schema, items: &[Item]) -> Result<Reading,
 /// Applies a batch and gives the number of its messages. The least refusal that applies is answered, and then, unless it is
 /// `OutOfMemory`, the table is as it was.
 pub fn apply_batch(alloc: Global, table: &mut Table, items: &[Item]) -> Result<usize, Refusal>
-    ensures refusal { IfOk result (λ _. least (step.refusals_of (Some table.old) (Batch items.now)) ≡ None) }
-    ensures state { OnOk result (Some table.new ≡ step.state_after (Some table.old) (Batch items.now)) }
+    ensures done { OnOk result (step.IsCarriedOut (Some table.old) (Some table.new) (Batch items.now)) }
     ensures count { IfOk result (λ count. count ≡ length items.now) }
-    ensures refused { IfErr result (λ e. e ≢ Refusal.OutOfMemory → least (step.refusals_of (Some table.old) (Batch items.now)) ≡ Some e) }
-    ensures unchanged { IfErr result (λ e. e ≢ Refusal.OutOfMemory → table.new ≡ table.old) }
+    ensures refused { IfErr result (step.IsRefused (Some table.old) (Some table.new) (Batch items.now)) }
 {
     let Reading { messages, refusal } = read_batch(alloc, table.schema(), items)?;
     if items.len() > MOST_MESSAGES {

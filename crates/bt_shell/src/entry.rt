@@ -1,9 +1,10 @@
 //! The program over any runtime and streams.
-ghost use Rattle.std.specs.Prelude.{◌≡◌, ◌≤◌, ◌⊎◌, [], false, true, OnOk, OnErr, IsErrOf};
-ghost use Rattle.std.specs.Io.KnownBytes.{Keeps};
-ghost use Rattle.bt_script.specs.Options.{AsksHelp, IsFaulty, IsToReadInput, kinds_of_words};
-ghost use Rattle.bt_shell.specs.Runs.{WritesPrefix, WritesRun};
-ghost use Rattle.bt_script.specs.Streams.{FailsToGive, has_failed, source_of};
+ghost use Rattle.std.specs.Prelude.{◌≡◌, ◌≤◌, ◌+◌, ◌⊎◌, [], false, true, OnOk, OnErr, IsErrOf};
+ghost use Rattle.bt_script.specs.Options.{AsksHelp, IsFaulty, IsToReadInput, MustBeRefused};
+ghost use Rattle.bt_script.specs.Streams.{FailsToGive, GaveAtMost, Took, count_of, has_failed, source_of};
+ghost use Rattle.bt_shell.specs.Programs.{AnswersPrefix, AnswersReplies, AnswersScript, AreHealthy, IsToRun, LeavesInput};
+ghost use Rattle.bt_shell.specs.Runs.{WritesPrefix, WritesReplies, WritesRun};
+ghost use Rattle.std.specs.declared.option.Option.TheVariants.{None};
 
 use crate::run::run_script;
 use bt_rowtype::Texts;
@@ -71,8 +72,13 @@ fn run_file<R: Files + AllocGlobal, W: Write>(
     output: &mut Counted<W>,
 ) -> Result<(), RunFault>
     requires writes { has_failed output.old ≡ false }
-    ensures done { OnOk result (has_failed output.new ≡ false) }
+    ensures ok { OnOk result (WritesRun W.contents None output.old output.new) }
+    ensures err { OnErr result (WritesPrefix W.contents None output.old output.new) }
+    ensures healthy { OnOk result (has_failed output.new ≡ false) }
+    ensures unread { IsErrOf result RunFault.Read → output.new ≡ output.old }
     ensures write { IsErrOf result RunFault.Write → has_failed output.new ≡ true }
+    ensures memory { IsErrOf result RunFault.OutOfMemory → has_failed output.new ≡ false }
+    ensures replies { IsErrOf result RunFault.OutOfMemory → WritesReplies W.contents None output.old output.new }
 {
     let Ok(file) = fs::open(rt, path) else {
         return Err(RunFault::Read);
@@ -89,13 +95,24 @@ fn run_words<R: Files + AllocGlobal, I: Read, W: Write>(
 ) -> Result<(), ProgramFault>
     requires reads { has_failed input.old ≡ false }
     requires writes { has_failed output.old ≡ false }
-    ensures ok { OnOk result (IsToReadInput words.now → WritesRun (I.remaining (source_of input.old)) (W.contents (source_of output.old)) (W.contents (source_of output.new))) }
-    ensures err { OnErr result (IsToReadInput words.now → WritesPrefix (I.remaining (source_of input.old)) (W.contents (source_of output.old)) (W.contents (source_of output.new))) }
-    ensures done { OnOk result ((has_failed input.new ≡ false) × (has_failed output.new ≡ false)) }
-    ensures words { OnOk result ((kinds_of_words words.now ≡ []) ⊎ AsksHelp words.now) }
-    ensures faulty { IsErrOf result ProgramFault.Words → IsFaulty words.now × (input.new ≡ input.old) × (output.new ≡ output.old) }
-    ensures read { IsErrOf result (ProgramFault.Run RunFault.Read) → IsToReadInput words.now → FailsToGive (has_failed input.new) (I.remaining (source_of input.old)) SCRIPT_LIMIT }
+    ensures ok { OnOk result (AnswersScript I.remaining W.contents words.now input.old output.old output.new) }
+    ensures err { OnErr result (AnswersPrefix I.remaining W.contents words.now input.old output.old output.new) }
+    ensures healthy { OnOk result (AreHealthy input.new output.new) }
+    ensures words { OnOk result (IsToRun words.now ⊎ AsksHelp words.now) }
+
+    // Which fault it is, and what it leaves.
+    ensures faulty { IsErrOf result ProgramFault.Words → IsFaulty words.now }
+    ensures refused { MustBeRefused words.now → IsErrOf result ProgramFault.Words ⊎ IsErrOf result (ProgramFault.Run RunFault.OutOfMemory) }
+    ensures unwritten { MustBeRefused words.now → output.new ≡ output.old }
+    ensures read { IsErrOf result (ProgramFault.Run RunFault.Read) → IsToReadInput words.now → FailsToGive I.remaining input.old input.new SCRIPT_LIMIT }
+    ensures unread { IsErrOf result (ProgramFault.Run RunFault.Read) → output.new ≡ output.old }
     ensures write { IsErrOf result (ProgramFault.Run RunFault.Write) → has_failed output.new ≡ true }
+    ensures memory { IsErrOf result (ProgramFault.Run RunFault.OutOfMemory) → AreHealthy input.new output.new }
+    ensures replies { IsErrOf result (ProgramFault.Run RunFault.OutOfMemory) → AnswersReplies I.remaining W.contents words.now input.old output.old output.new }
+
+    // What is read.
+    ensures untouched { LeavesInput words.now input.old input.new }
+    ensures at_most { GaveAtMost I.remaining input.old input.new (SCRIPT_LIMIT + 1) }
 {
     let said = match read_words(rt.alloc(), words) {
         Ok(said) => said,
@@ -119,13 +136,24 @@ fn answer<R: Files + AllocGlobal, I: Read, W: Write>(
 ) -> Result<(), ProgramFault>
     requires reads { has_failed input.old ≡ false }
     requires writes { has_failed output.old ≡ false }
-    ensures ok { OnOk result (IsToReadInput words.now → WritesRun (I.remaining (source_of input.old)) (W.contents (source_of output.old)) (W.contents (source_of output.new))) }
-    ensures err { OnErr result (IsToReadInput words.now → WritesPrefix (I.remaining (source_of input.old)) (W.contents (source_of output.old)) (W.contents (source_of output.new))) }
-    ensures done { OnOk result ((has_failed input.new ≡ false) × (has_failed output.new ≡ false)) }
-    ensures words { OnOk result ((kinds_of_words words.now ≡ []) ⊎ AsksHelp words.now) }
-    ensures faulty { IsErrOf result ProgramFault.Words → IsFaulty words.now × (input.new ≡ input.old) × Keeps (W.contents (source_of output.old)) (W.contents (source_of output.new)) }
-    ensures read { IsErrOf result (ProgramFault.Run RunFault.Read) → IsToReadInput words.now → FailsToGive (has_failed input.new) (I.remaining (source_of input.old)) SCRIPT_LIMIT }
+    ensures ok { OnOk result (AnswersScript I.remaining W.contents words.now input.old output.old output.new) }
+    ensures err { OnErr result (AnswersPrefix I.remaining W.contents words.now input.old output.old output.new) }
+    ensures healthy { OnOk result (AreHealthy input.new output.new) }
+    ensures words { OnOk result (IsToRun words.now ⊎ AsksHelp words.now) }
+
+    // Which fault it is, and what it leaves.
+    ensures faulty { IsErrOf result ProgramFault.Words → IsFaulty words.now }
+    ensures refused { MustBeRefused words.now → IsErrOf result ProgramFault.Words ⊎ IsErrOf result (ProgramFault.Run RunFault.OutOfMemory) }
+    ensures unwritten { MustBeRefused words.now → Took W.contents output.old output.new [] }
+    ensures read { IsErrOf result (ProgramFault.Run RunFault.Read) → IsToReadInput words.now → FailsToGive I.remaining input.old input.new SCRIPT_LIMIT }
+    ensures unread { IsErrOf result (ProgramFault.Run RunFault.Read) → Took W.contents output.old output.new [] }
     ensures write { IsErrOf result (ProgramFault.Run RunFault.Write) → has_failed output.new ≡ true }
+    ensures memory { IsErrOf result (ProgramFault.Run RunFault.OutOfMemory) → has_failed input.new ≡ false }
+    ensures replies { IsErrOf result (ProgramFault.Run RunFault.OutOfMemory) → AnswersReplies I.remaining W.contents words.now input.old output.old output.new }
+
+    // What is read.
+    ensures untouched { LeavesInput words.now input.old input.new }
+    ensures at_most { GaveAtMost I.remaining input.old input.new (SCRIPT_LIMIT + 1) }
 {
     let ended = run_words(rt, words, input, output);
     let flushed = output.flush();
@@ -153,15 +181,21 @@ pub fn program<R: Files + AllocGlobal, I: Read, W: Write, E: Write>(
     requires writes { has_failed output.old ≡ false }
     ensures status { result ≤ 2 }
 
-    // The script is the input.
-    ensures ok { result ≡ 0 → IsToReadInput words.now → WritesRun (I.remaining (source_of input.old)) (W.contents (source_of output.old)) (W.contents (source_of output.new)) }
-    ensures prefix { IsToReadInput words.now → WritesPrefix (I.remaining (source_of input.old)) (W.contents (source_of output.old)) (W.contents (source_of output.new)) }
+    // What the words name is the script: the input, or a file, whose bytes no contract knows.
+    ensures ok { result ≡ 0 → AnswersScript I.remaining W.contents words.now input.old output.old output.new }
+    ensures prefix { AnswersPrefix I.remaining W.contents words.now input.old output.old output.new }
 
     // What each status says.
-    ensures words { result ≡ 0 → (kinds_of_words words.now ≡ []) ⊎ AsksHelp words.now }
-    ensures done { result ≡ 0 → (has_failed input.new ≡ false) × (has_failed output.new ≡ false) }
+    ensures words { result ≡ 0 → IsToRun words.now ⊎ AsksHelp words.now }
+    ensures healthy { result ≡ 0 → AreHealthy input.new output.new }
     ensures quiet { result ≡ 0 → errors.new ≡ errors.old }
     ensures faulty { result ≡ 2 → IsFaulty words.now }
+    ensures refused { MustBeRefused words.now → (result ≡ 2) ⊎ (result ≡ 1) }
+    ensures unwritten { MustBeRefused words.now → Took W.contents output.old output.new [] }
+
+    // What is read.
+    ensures untouched { LeavesInput words.now input.old input.new }
+    ensures at_most { GaveAtMost I.remaining input.old input.new (SCRIPT_LIMIT + 1) }
 {
     match answer(rt, words, input, output) {
         Ok(()) => 0,

@@ -14,14 +14,13 @@ use bt_node::Walk;
 use bt_rowtype::{Change, Column, Op, Row, Text, TryClone, Value, write_record};
 use std::alloc::{AllocError, Global};
 
-// Adds two spaces for each level.
-fn write_indent(out: &mut Vec<u8>, depth: usize) -> Result<(), AllocError>
-    ensures { OnOk result (out.new.items ≡ out.old.items ++ spec.indent depth) }
+// The indent of what is one level deeper.
+fn deeper(alloc: Global, indent: &[u8]) -> Result<Vec<u8>, AllocError>
+    ensures { IfOk result (λ below. below.items ≡ spec.deeper indent.now) }
 {
-    for _level in 0..depth {
-        out.extend_from_slice(b"  ")?;
-    }
-    Ok(())
+    let mut below = Vec::from_slice(alloc, indent)?;
+    below.extend_from_slice(b"  ")?;
+    Ok(below)
 }
 
 // Adds the record of values behind a space, where there are values.
@@ -35,17 +34,17 @@ fn write_values(out: &mut Vec<u8>, values: Option<&[Value]>) -> Result<(), Alloc
     write_record(out, values)
 }
 
-/// Adds a line with a mark, a key and the record of values where there are some.
+/// Adds a line behind an indent, with a mark, a key and the record of values where there are some.
 pub fn write_key_line(
     out: &mut Vec<u8>,
-    depth: usize,
+    indent: &[u8],
     mark: u8,
     key: &Key,
     values: Option<&[Value]>,
 ) -> Result<(), AllocError>
-    ensures { OnOk result (out.new.items ≡ out.old.items ++ spec.key_line depth (mark ∷ []) key.now (option_map (λ vs. vs.now) values.entry)) }
+    ensures { OnOk result (out.new.items ≡ out.old.items ++ spec.key_line indent.now (mark ∷ []) key.now (option_map (λ vs. vs.now) values.entry)) }
 {
-    write_indent(out, depth)?;
+    out.extend_from_slice(indent)?;
     out.extend_from_slice(&[mark, b' '])?;
     key.write_hex(out)?;
     write_values(out, values)?;
@@ -56,13 +55,13 @@ pub fn write_key_line(
 /// Adds the line of a row of a leaf.
 pub fn write_row_line(
     out: &mut Vec<u8>,
-    depth: usize,
+    indent: &[u8],
     key: &Key,
     row: &Row,
 ) -> Result<(), AllocError>
-    ensures { OnOk result (out.new.items ≡ out.old.items ++ spec.row_line depth (key.now, row.now)) }
+    ensures { OnOk result (out.new.items ≡ out.old.items ++ spec.row_line indent.now (key.now, row.now)) }
 {
-    write_key_line(out, depth, b'=', key, Some(row.as_slice()))
+    write_key_line(out, indent, b'=', key, Some(row.as_slice()))
 }
 
 // A copy of the name of the column at a place, or the empty text where there is none.
@@ -129,14 +128,14 @@ fn write_upsert_line(
     alloc: Global,
     out: &mut Vec<u8>,
     columns: &[Column],
-    depth: usize,
+    indent: &[u8],
     key: &Key,
     change: &Change,
 ) -> Result<(), AllocError>
-    ensures { OnOk result (out.new.items ≡ out.old.items ++ spec.message_line columns.now depth (key.now, message.Ups change.now)) }
+    ensures { OnOk result (out.new.items ≡ out.old.items ++ spec.message_line columns.now indent.now (key.now, message.Ups change.now)) }
 {
     let values = values_of_ops(alloc, columns, change.ops.as_slice())?;
-    write_key_line(out, depth, b'~', key, Some(values.as_slice()))
+    write_key_line(out, indent, b'~', key, Some(values.as_slice()))
 }
 
 /// Adds the line of a message that is pending, to a row with these columns.
@@ -144,31 +143,31 @@ pub fn write_message_line(
     alloc: Global,
     out: &mut Vec<u8>,
     columns: &[Column],
-    depth: usize,
+    indent: &[u8],
     key: &Key,
     message: &Message<Row>,
 ) -> Result<(), AllocError>
-    ensures { OnOk result (out.new.items ≡ out.old.items ++ spec.message_line columns.now depth (key.now, message.now)) }
+    ensures { OnOk result (out.new.items ≡ out.old.items ++ spec.message_line columns.now indent.now (key.now, message.now)) }
 {
     match message {
-        Message::Put(row) => write_key_line(out, depth, b'+', key, Some(row.as_slice())),
-        Message::Del => write_key_line(out, depth, b'-', key, None),
-        Message::Ups(change) => write_upsert_line(alloc, out, columns, depth, key, change),
+        Message::Put(row) => write_key_line(out, indent, b'+', key, Some(row.as_slice())),
+        Message::Del => write_key_line(out, indent, b'-', key, None),
+        Message::Ups(change) => write_upsert_line(alloc, out, columns, indent, key, change),
     }
 }
 
 /// Adds the line of a pivot.
-pub fn write_pivot_line(out: &mut Vec<u8>, depth: usize, pivot: &Key) -> Result<(), AllocError>
-    ensures { OnOk result (out.new.items ≡ out.old.items ++ spec.pivot_line depth pivot.now) }
+pub fn write_pivot_line(out: &mut Vec<u8>, indent: &[u8], pivot: &Key) -> Result<(), AllocError>
+    ensures { OnOk result (out.new.items ≡ out.old.items ++ spec.pivot_line indent.now pivot.now) }
 {
-    write_key_line(out, depth, b'|', pivot, None)
+    write_key_line(out, indent, b'|', pivot, None)
 }
 
 /// Adds the first line of a leaf.
-pub fn write_leaf_line(out: &mut Vec<u8>, depth: usize, rows: usize) -> Result<(), AllocError>
-    ensures { OnOk result (out.new.items ≡ out.old.items ++ spec.leaf_line depth rows) }
+pub fn write_leaf_line(out: &mut Vec<u8>, indent: &[u8], rows: usize) -> Result<(), AllocError>
+    ensures { OnOk result (out.new.items ≡ out.old.items ++ spec.leaf_line indent.now rows) }
 {
-    write_indent(out, depth)?;
+    out.extend_from_slice(indent)?;
     out.extend_from_slice(b"leaf ")?;
     write_number(out, rows as u64)?;
     out.push(b'\n')?;
@@ -178,13 +177,13 @@ pub fn write_leaf_line(out: &mut Vec<u8>, depth: usize, rows: usize) -> Result<(
 /// Adds the first line of an inner node.
 pub fn write_inner_line(
     out: &mut Vec<u8>,
-    depth: usize,
+    indent: &[u8],
     children: usize,
     messages: usize,
 ) -> Result<(), AllocError>
-    ensures { OnOk result (out.new.items ≡ out.old.items ++ spec.inner_line depth children messages) }
+    ensures { OnOk result (out.new.items ≡ out.old.items ++ spec.inner_line indent.now children messages) }
 {
-    write_indent(out, depth)?;
+    out.extend_from_slice(indent)?;
     out.extend_from_slice(b"inner ")?;
     write_number(out, children as u64)?;
     out.push(b' ')?;
@@ -206,12 +205,12 @@ pub fn write_first_line(out: &mut Vec<u8>, name: &Text, height: u64) -> Result<(
 }
 
 // Adds the lines of the rows of a leaf.
-fn write_rows(out: &mut Vec<u8>, depth: usize, walk: &Walk<Row>) -> Result<(), AllocError>
-    ensures { OnOk result (out.new.items ≡ out.old.items ++ flat_map (spec.row_line depth) (rows_of walk.now)) }
+fn write_rows(out: &mut Vec<u8>, indent: &[u8], walk: &Walk<Row>) -> Result<(), AllocError>
+    ensures { OnOk result (out.new.items ≡ out.old.items ++ flat_map (spec.row_line indent.now) (rows_of walk.now)) }
 {
     for place in 0..walk.row_count() {
         let (key, row) = walk.row(place);
-        write_row_line(out, depth, key, row)?;
+        write_row_line(out, indent, key, row)?;
     }
     Ok(())
 }
@@ -221,34 +220,34 @@ fn write_messages(
     alloc: Global,
     out: &mut Vec<u8>,
     columns: &[Column],
-    depth: usize,
+    indent: &[u8],
     walk: &Walk<Row>,
 ) -> Result<(), AllocError>
-    ensures { OnOk result (out.new.items ≡ out.old.items ++ flat_map (spec.message_line columns.now depth) (messages_of walk.now)) }
+    ensures { OnOk result (out.new.items ≡ out.old.items ++ flat_map (spec.message_line columns.now indent.now) (messages_of walk.now)) }
 {
     for place in 0..walk.message_count() {
         let (key, message) = walk.message(place);
-        write_message_line(alloc, out, columns, depth, key, message)?;
+        write_message_line(alloc, out, columns, indent, key, message)?;
     }
     Ok(())
 }
 
-// Adds the lines of a node that speak of no other one; all but the first at the depth below.
+// Adds the lines of a node that speak of no other one; all but the first behind the deeper indent.
 fn write_own_lines(
     alloc: Global,
     out: &mut Vec<u8>,
     columns: &[Column],
-    depth: usize,
-    below: usize,
+    indent: &[u8],
+    below: &[u8],
     walk: &Walk<Row>,
 ) -> Result<(), AllocError>
-    ensures { OnOk result (out.new.items ≡ out.old.items ++ own_text columns.now depth below walk.now) }
+    ensures { OnOk result (out.new.items ≡ out.old.items ++ own_text columns.now indent.now below.now walk.now) }
 {
     if walk.is_leaf() {
-        write_leaf_line(out, depth, walk.row_count())?;
+        write_leaf_line(out, indent, walk.row_count())?;
         write_rows(out, below, walk)
     } else {
-        write_inner_line(out, depth, walk.child_count(), walk.message_count())?;
+        write_inner_line(out, indent, walk.child_count(), walk.message_count())?;
         write_messages(alloc, out, columns, below, walk)
     }
 }
@@ -256,33 +255,32 @@ fn write_own_lines(
 // Adds the line of the pivot before a child, but not before the first.
 fn write_pivot(
     out: &mut Vec<u8>,
-    depth: usize,
+    indent: &[u8],
     walk: &Walk<Row>,
     place: usize,
 ) -> Result<(), AllocError>
     requires { place < length (children_of walk.now) }
-    ensures { OnOk result (out.new.items ≡ out.old.items ++ pivot_text depth place (slice_get (children_of walk.now) place)) }
+    ensures { OnOk result (out.new.items ≡ out.old.items ++ pivot_text indent.now place (slice_get (children_of walk.now) place)) }
 {
     if place == 0 {
         return Ok(());
     }
-    write_pivot_line(out, depth, walk.pivot(place))
+    write_pivot_line(out, indent, walk.pivot(place))
 }
 
-// Adds the lines of a node and of those below it. A depth past all numbers is want of memory: no tree has it.
+// Adds the lines of a node and of those below it.
 fn write_node(
     alloc: Global,
     out: &mut Vec<u8>,
     columns: &[Column],
-    depth: usize,
+    indent: &[u8],
     walk: &Walk<Row>,
 ) -> Result<(), AllocError>
-    ensures { OnOk result (out.new.items ≡ out.old.items ++ spec.node_text columns.now depth walk.now) }
+    ensures { OnOk result (out.new.items ≡ out.old.items ++ spec.node_text columns.now indent.now walk.now) }
 {
-    let Some(below) = depth.checked_add(1) else {
-        return Err(AllocError);
-    };
-    write_own_lines(alloc, out, columns, depth, below, walk)?;
+    let spaces = deeper(alloc, indent)?;
+    let below = spaces.as_slice();
+    write_own_lines(alloc, out, columns, indent, below, walk)?;
     for place in 0..walk.child_count() {
         write_pivot(out, below, walk, place)?;
         let child = walk.child(place);
@@ -314,7 +312,7 @@ pub fn image_text(
 {
     let mut text = Vec::new(alloc);
     write_first_line(&mut text, name, height(walk))?;
-    write_node(alloc, &mut text, columns, 0, walk)?;
+    write_node(alloc, &mut text, columns, &[], walk)?;
     text.extend_from_slice(b"end\n")?;
     Ok(text)
 }

@@ -26,6 +26,3 @@ pub use bt_script::{
 };
 pub use entry::{ProgramFault, program};
 pub use run::run_script;
-
-#[cfg(test)]
-mod tests;

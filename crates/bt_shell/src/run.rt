@@ -1,8 +1,8 @@
 //! The run of a script.
-ghost use Rattle.std.specs.Prelude.{◌≡◌, ◌+◌, ◌≤◌, false, true, length, IsErrOf, List, OnErr, OnOk, ℕ};
-ghost use Rattle.std.specs.Io.KnownBytes.{Appends, Consumes, Keeps};
-ghost use Rattle.bt_shell.specs.Runs.{WritesPrefix, WritesRun, run};
-ghost use Rattle.bt_script.specs.Streams.{AppendsPrefix, FailsToGive, has_failed, source_of};
+ghost use Rattle.std.specs.Prelude.{◌≡◌, ◌+◌, false, true, IfSome, IsErrOf, OnErr, OnOk, ℕ, List};
+ghost use Rattle.bt_script.specs.Streams.{FailsToGive, GaveAtMost, Took, TookPrefix, count_of, has_failed, source_of};
+ghost use Rattle.bt_shell.specs.Runs.{Runs, TookReplies, WritesPrefix, WritesReplies, run, state_after_commands};
+ghost use Rattle.bt_shell.specs.Standing.{IsSound};
 
 use crate::session::next_reply;
 use bt_script::{Counted, RunFault, SCRIPT_LIMIT, read_script, write_text};
@@ -15,11 +15,12 @@ fn write_replies<W: Write>(
     script: &[u8],
     writer: &mut Counted<W>,
 ) -> Result<(), RunFault>
-    ensures ok { OnOk result (Appends (W.contents (source_of writer.old)) (W.contents (source_of writer.new)) (run script.now)) }
-    ensures err { OnErr result (AppendsPrefix (W.contents (source_of writer.old)) (W.contents (source_of writer.new)) (run script.now)) }
-    ensures done { OnOk result (has_failed writer.new ≡ has_failed writer.old) }
+    ensures ok { OnOk result (Took W.contents writer.old writer.new (run script.now)) }
+    ensures healthy { OnOk result (has_failed writer.new ≡ has_failed writer.old) }
+    ensures err { OnErr result (TookPrefix W.contents writer.old writer.new (run script.now)) }
     ensures no_read { IsErrOf result RunFault.Read → ⊥ }
     ensures write { IsErrOf result RunFault.Write → has_failed writer.new ≡ true }
+    ensures memory { IsErrOf result RunFault.OutOfMemory → (has_failed writer.new ≡ has_failed writer.old) × TookReplies W.contents writer.old writer.new script.now }
 {
     let mut table = None;
     let mut at = 0;
@@ -45,18 +46,23 @@ pub fn run_script<R: Read, W: Write>(
 ) -> Result<(), RunFault>
     requires reads { has_failed reader.old ≡ false }
     requires writes { has_failed writer.old ≡ false }
-    ensures ok { OnOk result (WritesRun (R.remaining (source_of reader.old)) (W.contents (source_of writer.old)) (W.contents (source_of writer.new))) }
-    ensures err { OnErr result (WritesPrefix (R.remaining (source_of reader.old)) (W.contents (source_of writer.old)) (W.contents (source_of writer.new))) }
-    ensures done { OnOk result ((has_failed reader.new ≡ false) × (has_failed writer.new ≡ false)) }
+    ensures ok { OnOk result (Runs R.remaining W.contents reader.old reader.new writer.old writer.new) }
+    ensures err { OnErr result (WritesPrefix W.contents (R.remaining (source_of reader.old)) writer.old writer.new) }
+    ensures healthy { OnOk result ((has_failed reader.new ≡ false) × (has_failed writer.new ≡ false)) }
 
     // Which fault it is, and what it leaves.
-    ensures read { IsErrOf result RunFault.Read → FailsToGive (has_failed reader.new) (R.remaining (source_of reader.old)) SCRIPT_LIMIT }
-    ensures unread { IsErrOf result RunFault.Read → Keeps (W.contents (source_of writer.old)) (W.contents (source_of writer.new)) }
+    ensures read { IsErrOf result RunFault.Read → FailsToGive R.remaining reader.old reader.new SCRIPT_LIMIT }
+    ensures unread { IsErrOf result RunFault.Read → writer.new ≡ writer.old }
     ensures write { IsErrOf result RunFault.Write → has_failed writer.new ≡ true }
+    ensures memory { IsErrOf result RunFault.OutOfMemory → (has_failed reader.new ≡ false) × (has_failed writer.new ≡ false) }
+    ensures within { IsErrOf result RunFault.OutOfMemory → GaveAtMost R.remaining reader.old reader.new SCRIPT_LIMIT }
+    ensures replies { IsErrOf result RunFault.OutOfMemory → WritesReplies W.contents (R.remaining (source_of reader.old)) writer.old writer.new }
+
+    // Between any two commands of any script the table, where there is one, is sound.
+    ensures sound { (script : List ℕ) (n : ℕ) → IfSome (state_after_commands script n) IsSound }
 
     // No more than one byte over the limit is read.
-    ensures at_most { (bytes : List ℕ) × (length bytes ≤ SCRIPT_LIMIT + 1)
-        × Consumes (R.remaining (source_of reader.old)) (R.remaining (source_of reader.new)) bytes }
+    ensures at_most { GaveAtMost R.remaining reader.old reader.new (SCRIPT_LIMIT + 1) }
 {
     let script = read_script(alloc, reader)?;
     write_replies(alloc, script.as_slice(), writer)

@@ -2,7 +2,7 @@
 ghost use Rattle.std.specs.Prelude.{◌≡◌, ◌≢◌, ◌++◌, ◌<◌, ◌≤◌, Ok, Err, None, Some, IfErr, IfOk, IfNone, IfSome, OnOk, [], codes, drop, length};
 ghost use Rattle.bt_rowtype.specs.Refusals.{least};
 ghost use Rattle.bt_script.specs.Commands.{commands, is_word};
-ghost use Rattle.bt_shell.specs.Runs.{replies};
+ghost use Rattle.bt_shell.specs.Runs.{IsTurn};
 ghost use Rattle.bt_shell.specs.Steps as step;
 ghost use Rattle.bt_script.specs.declared.command.Command.TheVariants as command;
 
@@ -17,11 +17,9 @@ use std::alloc::{AllocError, Global};
 
 // Makes the table, and gives the number of its columns.
 fn create_table(alloc: Global, table: &mut Option<Table>, form: TableForm) -> Result<usize, Refusal>
-    ensures refusal { IfOk result (λ _. least (step.refusals_of table.old (command.Table form)) ≡ None) }
-    ensures state { OnOk result (table.new ≡ step.state_after table.old (command.Table form)) }
+    ensures done { OnOk result (step.IsCarriedOut table.old table.new (command.Table form)) }
     ensures count { IfOk result (λ count. count ≡ length form.columns) }
-    ensures refused { IfErr result (λ e. least (step.refusals_of table.old (command.Table form)) ≡ Some e) }
-    ensures unchanged { IfErr result (λ e. table.new ≡ table.old) }
+    ensures refused { IfErr result (step.IsRefusedAs table.old table.new (command.Table form)) }
 {
     if table.is_some() {
         return Err(Refusal::TableExists);
@@ -36,11 +34,9 @@ fn create_table(alloc: Global, table: &mut Option<Table>, form: TableForm) -> Re
 }
 
 fn batch(alloc: Global, table: &mut Option<Table>, items: &Items) -> Result<usize, Refusal>
-    ensures refusal { IfOk result (λ _. least (step.refusals_of table.old (command.Batch items.now)) ≡ None) }
-    ensures state { OnOk result (table.new ≡ step.state_after table.old (command.Batch items.now)) }
+    ensures done { OnOk result (step.IsCarriedOut table.old table.new (command.Batch items.now)) }
     ensures count { IfOk result (λ count. count ≡ length items.now) }
-    ensures refused { IfErr result (λ e. e ≢ Refusal.OutOfMemory → least (step.refusals_of table.old (command.Batch items.now)) ≡ Some e) }
-    ensures unchanged { IfErr result (λ e. e ≢ Refusal.OutOfMemory → table.new ≡ table.old) }
+    ensures refused { IfErr result (step.IsRefused table.old table.new (command.Batch items.now)) }
 {
     match table {
         None => Err(Refusal::NoTable),
@@ -81,17 +77,17 @@ fn table_with<'a>(table: &'a Option<Table>, tree: &Text) -> Result<&'a Table, Re
 }
 
 fn scan(alloc: Global, table: &Option<Table>, tree: &Text) -> Result<Vec<u8>, Refusal>
-    ensures refusal { IfOk result (λ _. least (step.refusals_of table.now (command.Scan tree.now)) ≡ None) }
+    ensures done { OnOk result (step.IsCarriedOut table.now table.now (command.Scan tree.now)) }
     ensures text { IfOk result (λ text. text.items ≡ step.reply_to table.now (command.Scan tree.now)) }
-    ensures refused { IfErr result (λ e. e ≢ Refusal.OutOfMemory → least (step.refusals_of table.now (command.Scan tree.now)) ≡ Some e) }
+    ensures refused { IfErr result (step.IsRefused table.now table.now (command.Scan tree.now)) }
 {
     Ok(scan_text(alloc, table_with(table, tree)?)?)
 }
 
 fn get(alloc: Global, table: &Option<Table>, fields: &Fields) -> Result<Vec<u8>, Refusal>
-    ensures refusal { IfOk result (λ _. least (step.refusals_of table.now (command.Get fields.now)) ≡ None) }
+    ensures done { OnOk result (step.IsCarriedOut table.now table.now (command.Get fields.now)) }
     ensures text { IfOk result (λ text. text.items ≡ step.reply_to table.now (command.Get fields.now)) }
-    ensures refused { IfErr result (λ e. e ≢ Refusal.OutOfMemory → least (step.refusals_of table.now (command.Get fields.now)) ≡ Some e) }
+    ensures refused { IfErr result (step.IsRefused table.now table.now (command.Get fields.now)) }
 {
     let Some(table) = table else {
         return Err(Refusal::NoTable);
@@ -102,9 +98,9 @@ fn get(alloc: Global, table: &Option<Table>, fields: &Fields) -> Result<Vec<u8>,
 }
 
 fn image(alloc: Global, table: &Option<Table>, tree: &Text) -> Result<Vec<u8>, Refusal>
-    ensures refusal { IfOk result (λ _. least (step.refusals_of table.now (command.Image tree.now)) ≡ None) }
+    ensures done { OnOk result (step.IsCarriedOut table.now table.now (command.Image tree.now)) }
     ensures text { IfOk result (λ text. text.items ≡ step.reply_to table.now (command.Image tree.now)) }
-    ensures refused { IfErr result (λ e. e ≢ Refusal.OutOfMemory → least (step.refusals_of table.now (command.Image tree.now)) ≡ Some e) }
+    ensures refused { IfErr result (step.IsRefused table.now table.now (command.Image tree.now)) }
 {
     let found = table_with(table, tree)?;
     let columns = found.schema().columns();
@@ -113,11 +109,9 @@ fn image(alloc: Global, table: &Option<Table>, tree: &Text) -> Result<Vec<u8>, R
 
 // The reply to a command that is not refused, or its refusal.
 fn answer(alloc: Global, table: &mut Option<Table>, command: Command) -> Result<Vec<u8>, Refusal>
-    ensures refusal { IfOk result (λ _. least (step.refusals_of table.old command) ≡ None) }
-    ensures state { OnOk result (table.new ≡ step.state_after table.old command) }
+    ensures done { OnOk result (step.IsCarriedOut table.old table.new command) }
     ensures text { IfOk result (λ text. text.items ≡ step.reply_to table.old command) }
-    ensures refused { IfErr result (λ e. e ≢ Refusal.OutOfMemory → least (step.refusals_of table.old command) ≡ Some e) }
-    ensures unchanged { IfErr result (λ e. e ≢ Refusal.OutOfMemory → table.new ≡ table.old) }
+    ensures refused { IfErr result (step.IsRefused table.old table.new command) }
 {
     match command {
         Command::Table(form) => {
@@ -164,9 +158,8 @@ pub fn next_reply(
     table: &mut Option<Table>,
     at: usize,
 ) -> Result<Option<Step>, AllocError>
-    ensures step { IfOk result (λ found. IfSome found (λ step. replies table.old (commands (drop at script.now))
-        ≡ step.text.items ++ replies table.new (commands (drop step.next script.now)))) }
-    ensures end { IfOk result (λ found. IfNone found (replies table.old (commands (drop at script.now)) ≡ [])) }
+    ensures step { IfOk result (λ found. IfSome found (λ step. IsTurn table.old table.new (commands (drop at script.now)) (commands (drop step.next script.now)) step.text.items)) }
+    ensures end { IfOk result (λ found. IfNone found (commands (drop at script.now) ≡ [])) }
     ensures past { IfOk result (λ found. IfSome found (λ step. (at < step.next) × (step.next ≤ length script.now))) }
 {
     match parse_command(alloc, script, at)? {

@@ -2,8 +2,8 @@
 ghost use Rattle.std.specs.Prelude.{◌≡◌, IfOk, OnOk};
 ghost use Rattle.std.specs.FinMap.{find};
 ghost use Rattle.bt_keycode.specs.Codes.{code_of};
-ghost use Rattle.bt_node.specs.Fits.{IsRoomy};
 ghost use Rattle.bt_keycode.specs.Keys.{key_cmp};
+ghost use Rattle.bt_shell.specs.Standing.{AreOfSchema, KeysRise};
 ghost use Rattle.bt_shell.specs.Tables.{after_batch, empty_table};
 
 use bt_keycode::{Key, encode};
@@ -22,8 +22,8 @@ pub struct Table {
 }
 
 impl Model for Table {
-    ghost use Rattle.bt_node.specs.Fits.{IsFit, IsRoomy};
     ghost use Rattle.bt_node.specs.Flushes.{holds};
+    ghost use Rattle.bt_shell.specs.Standing.{IsSound};
     ghost use Rattle.bt_shell.specs.Tables.{TableState, row_effect};
     ghost use Rattle.std.specs.Coded.{codes};
     ghost use Rattle.bt_node.specs.inside.Stored.{message_code, tree_code};
@@ -34,19 +34,18 @@ impl Model for Table {
 
     ghost view = { λ a. record { schema = a.schema; shape = a.tree.0; rows = holds row_effect a.tree.1; tree = a.tree.1 } };
 
-    ghost invariant = { λ a. IsRoomy a.tree.0 × IsFit a.tree.0 a.tree.1 };
+    ghost invariant = { λ a. IsSound (record { schema = a.schema; shape = a.tree.0; rows = holds row_effect a.tree.1; tree = a.tree.1 }) };
 }
 
 impl Table {
     /// A table with no rows.
     pub fn new(alloc: Global, schema: Schema, shape: Shape) -> Self
-        requires { IsRoomy shape }
         ensures { result ≡ empty_table schema shape }
     {
-        Table {
-            schema,
-            tree: Tree::empty(alloc, shape),
-        }
+        let tree = Tree::empty(alloc, shape);
+        // An empty tree fits its shape, which a walk says of every tree.
+        let _root = tree.walk();
+        Table { schema, tree }
     }
 
     pub fn schema(&self) -> &Schema
@@ -61,6 +60,7 @@ impl Table {
         alloc: Global,
         batch: Vec<(Key, Message<Row>)>,
     ) -> Result<(), AllocError>
+        requires { AreOfSchema self.old.schema batch.items }
         ensures { OnOk result (self.new ≡ after_batch self.old batch.items) }
     {
         let packet = Packet::from_batch(alloc, batch)?;
@@ -78,9 +78,10 @@ impl Table {
         self.tree.get(alloc, &key)
     }
 
-    /// All rows behind their keys, by rising key.
+    /// All rows behind the codes of their keys. They strictly rise by the values of their key columns.
     pub fn rows(&self, alloc: Global) -> Result<Vec<(Key, Row)>, AllocError>
-        ensures { IfOk result (λ rows. rows.items ≡ self.now.rows) }
+        ensures all { IfOk result (λ rows. rows.items ≡ self.now.rows) }
+        ensures order { IfOk result (λ rows. KeysRise self.now.schema rows.items) }
     {
         self.tree.rows(alloc)
     }

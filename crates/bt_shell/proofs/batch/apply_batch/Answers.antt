@@ -8,6 +8,7 @@ use Rattle.bt_rowtype.specs.declared.refusal.Refusal.TheVariants.{TooMany}
 use Rattle.bt_shell.specs.Steps.{one_if, read_batch}
 use Rattle.bt_rowtype.specs.Schemas.{Schema}
 use Rattle.bt_shell.proofs.Batches.{least_from-append}
+use Rattle.bt_shell.proofs.Sound.{batch_of_schema}
 use Rattle.bt_shell.proofs.batch.apply_batch.Goals as goal
 
 -- the limit of messages comes last
@@ -21,5 +22,15 @@ pub returns-then-items-gt-MOST_MESSAGES-clause-refused : goal.returns-then-items
 returns-then-items-gt-MOST_MESSAGES-clause-refused c =
     let schema : c.schema.result.now ≡ c.args.table.now.schema = search rules in
     let found = c.in_ok-messages.ensures.refusal ∙ ap (λ (l : Schema). least (filter_map result_err (read_batch l 1 c.args.items.now))) schema in
-    λ _. with_limit (filter_map result_err (read_batch c.args.table.now.schema 1 c.args.items.now)) (length c.args.items.now) c.in_ok-messages.field-0.refusal c.lesser_of.result
-    c.if-items-gt-MOST_MESSAGES.true found c.lesser_of.ensures
+    λ _. (
+      with_limit (filter_map result_err (read_batch c.args.table.now.schema 1 c.args.items.now)) (length c.args.items.now) c.in_ok-messages.field-0.refusal c.lesser_of.result
+          c.if-items-gt-MOST_MESSAGES.true found c.lesser_of.ensures,
+      search rules,
+    )
+
+-- the messages are those of the lines, by the schema of the table
+pub apply-requires : goal.apply-requires
+apply-requires c =
+    let schema : c.schema.result.now ≡ c.args.table.now.schema = search rules in
+    let read = c.in_ok-messages.ensures.messages in
+    rw (read, schema) (batch_of_schema c.args.table.now.schema c.args.items.now)

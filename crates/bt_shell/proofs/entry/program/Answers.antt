@@ -1,11 +1,12 @@
-use Rattle.std.proofs.lemmas.Option.{IfSome_then}
-use Rattle.bt_shell.specs.Runs.{run}
+use Rattle.std.proofs.Common.{None}
 use Rattle.bt_script.specs.Streams.{source_of}
-use Rattle.bt_shell.proofs.Prefixes.{prefix-all}
+use Rattle.bt_shell.proofs.Turns.{written-prefix}
 use Rattle.bt_shell.proofs.entry.program.Goals as goal
 
 pub returns-in-Ok-clause-prefix : goal.returns-in-Ok-clause-prefix
-returns-in-Ok-clause-prefix g c to_read =
+returns-in-Ok-clause-prefix g c =
     let held = g.W.Write.contents in
-    IfSome_then (g.I.Read.remaining (source_of c.args.input.now)) (c.in-Ok.ensures.ok to_read)
-    (λ script wrote. prefix-all (held (source_of c.args.output.now)) (held (source_of c.answer.new.output)) (run script) wrote)
+    let wrote = c.in-Ok.ensures.ok in (
+      λ to_read. written-prefix held (g.I.Read.remaining (source_of c.args.input.now)) c.args.output.now c.answer.new.output (wrote.0 to_read),
+      λ to_run. written-prefix held None c.args.output.now c.answer.new.output (wrote.1 to_run),
+    )

@@ -1,4 +1,4 @@
-use Rattle.std.proofs.Common.{arith}
+use Rattle.std.proofs.Common.{arith, ◌∙◌}
 use Rattle.bt_node.specs.Walks.{children_of}
 use Rattle.bt_shell.specs.Drawings.{own_text}
 use Rattle.bt_shell.proofs.Drawings.{child_below, child_written, node_written}
@@ -11,12 +11,12 @@ write_node-requires t c =
 
 pub loop-place-preserved : goal.loop-place-preserved
 loop-place-preserved t c =
-    child_written c.args.columns.now (children_of c.args.walk.now) c.loop-place.place c.in-Some.below c.child-child.result c.args.out.now.items (own_text c.args.columns.now c.args.depth c.in-Some.below c.args.walk.now)
+    child_written c.args.columns.now (children_of c.args.walk.now) c.loop-place.place c.as_slice-below.result.now c.child-child.result c.args.out.now.items (own_text c.args.columns.now c.args.indent.now c.as_slice-below.result.now c.args.walk.now)
     c.loop-place.out.items c.write_pivot.new.out.items c.write_node.new.out.items c.child-child.ensures c.in_ok-write_pivot.ensures c.in_ok-write_node.ensures c.loop-place.invariant
 
 pub returns : goal.returns
 returns t c =
     let past = c.loop-place-test.false in
     let all = c.child_count-place-end.ensures in
-    let below = c.in-Some.ensures in
-    node_written c.args.columns.now c.args.walk.now c.args.depth c.in-Some.below c.loop-place.place c.args.out.now.items c.loop-place.out.items below.1 (omega (arith, past, all)) c.loop-place.invariant
+    let below = c.as_slice-below.ensures.value ∙ c.in_ok-spaces.ensures in
+    node_written c.args.columns.now c.args.walk.now c.args.indent.now c.as_slice-below.result.now c.loop-place.place c.args.out.now.items c.loop-place.out.items below (omega (arith, past, all)) c.loop-place.invariant

@@ -7,7 +7,7 @@ use Rattle.bt_shell.proofs.image.write_messages.Goals as goal
 
 pub loop-place-preserved : goal.loop-place-preserved
 loop-place-preserved c =
-    let f = message_line c.args.columns.now c.args.depth in
+    let f = message_line c.args.columns.now c.args.indent.now in
     let messages = messages_of c.args.walk.now in
     let i = c.loop-place.place in
     written_more c.args.out.now.items c.loop-place.out.items c.write_message_line.new.out.items (flat_map f (take i messages)) (flat_map f (take (i + 1) messages)) (f (c.message.result.0.now, c.message.result.1.now))

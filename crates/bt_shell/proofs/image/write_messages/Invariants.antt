@@ -6,4 +6,4 @@ use Rattle.bt_shell.proofs.image.write_messages.Given as goal
 
 -- the lines of the messages so far were added
 abbrev pub invariant-loop-place : goal.invariant-loop-place
-invariant-loop-place l = l.out.items ≡ l.fn.out.items ++ flat_map (message_line l.columns l.depth) (take l.place (messages_of l.walk))
+invariant-loop-place l = l.out.items ≡ l.fn.out.items ++ flat_map (message_line l.columns l.indent) (take l.place (messages_of l.walk))

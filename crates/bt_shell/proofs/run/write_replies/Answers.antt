@@ -1,58 +1,59 @@
-use Rattle.std.proofs.Common.{ℕ, List, ◌++◌, ◌∙◌, sym, ap, drop, rules, append_assoc}
-use Rattle.std.proofs.KnownBytes.{Appends-kept, Appends-trans}
-use Rattle.bt_script.specs.Streams.{AppendsPrefix, source_of}
+use Rattle.std.proofs.Common.{List, ◌≡◌, arith, rules, ap, drop, sym, subst, ℕ}
 use Rattle.bt_script.specs.Commands.{commands}
-use Rattle.bt_shell.specs.Runs.{replies, run}
-use Rattle.bt_shell.proofs.Prefixes.{prefix-done, prefix-more, on-err}
+use Rattle.bt_script.specs.Streams.{Took, TookPrefix}
+use Rattle.bt_script.proofs.offered.Streams.{Took-kept, Took-nil, prefix-done}
+use Rattle.bt_shell.specs.Runs.{IsTurn, run}
+use Rattle.bt_shell.proofs.Turns.{HasRun, on_err, run_begins, run_breaks, run_ends, run_goes_on, run_prefix, run_replies}
 use Rattle.bt_shell.proofs.run.write_replies.Goals as goal
 
+pub commands-init : goal.commands-init
+commands-init g c = record {
+  healthy = search rules;
+  so_far = run_begins g.W.Write.contents c.args.writer.now (commands c.args.script.now) (Took-nil g.W.Write.contents c.args.writer.now (omega arith));
+}
+
+-- memory is wanted before the next command
 pub returns-in_err-step-clause-err : goal.returns-in_err-step-clause-err
 returns-in_err-step-clause-err g c =
-    let held = g.W.Write.contents in
-    let so_far = c.commands.invariant.so_far in
-    let from = held (source_of c.args.writer.now) in
-    let to = held (source_of c.commands.writer) in
-    let all = run c.args.script.now in
-    on-err c.from_residual.result (AppendsPrefix from to all)
-    (prefix-done from to all so_far.0 (replies c.commands.table (commands (drop c.commands.at c.args.script.now))) so_far.1 so_far.2)
+    let all = commands c.args.script.now in
+    on_err c.from_residual.result _
+    (run_prefix g.W.Write.contents c.args.writer.now c.commands.writer c.commands.table all (commands (drop c.commands.at c.args.script.now)) c.commands.invariant.so_far)
 
+pub returns-in_err-step-clause-memory : goal.returns-in_err-step-clause-memory
+returns-in_err-step-clause-memory g c =
+    λ _. (
+      c.commands.invariant.healthy,
+      run_replies g.W.Write.contents c.args.writer.now c.commands.writer c.commands.table c.args.script.now (commands (drop c.commands.at c.args.script.now)) c.commands.invariant.so_far,
+    )
+
+-- the reply is not written whole
 pub returns-in_err-write_text-clause-err : goal.returns-in_err-write_text-clause-err
 returns-in_err-write_text-clause-err g c =
-    let held = g.W.Write.contents in
-    let so_far = c.commands.invariant.so_far in
     let script = c.args.script.now in
-    let from = held (source_of c.args.writer.now) in
-    let mid = held (source_of c.commands.writer) in
-    let to = held (source_of c.write_text.new.writer) in
+    let next = rw c.in-Some.is at c.in_ok-step.ensures.step in
     let text = c.as_slice.result.now in
-    let more = replies c.next_reply.new.table (commands (drop c.in-Some.step.next script)) in
-    let step = rw c.in-Some.is at c.in_ok-step.ensures.step in
-    let whole = so_far.2 ∙ ap (λ (t : List ℕ). so_far.0 ++ t) (step ∙ ap (λ (t : List ℕ). t ++ more) (sym c.as_slice.ensures.value)) in
-    on-err c.from_residual-in_err-write_text.result (AppendsPrefix from to (run script)) (prefix-more from mid to (run script) so_far.0 text more so_far.1 whole c.in_err-write_text.ensures.err)
+    let turn : IsTurn c.commands.table c.next_reply.new.table (commands (drop c.commands.at script)) (commands (drop c.in-Some.step.next script)) text =
+    subst (IsTurn c.commands.table c.next_reply.new.table (commands (drop c.commands.at script)) (commands (drop c.in-Some.step.next script))) (sym c.as_slice.ensures.value) next in
+    on_err c.from_residual-in_err-write_text.result _
+    (run_breaks g.W.Write.contents c.args.writer.now c.commands.writer c.write_text.new.writer c.commands.table c.next_reply.new.table (commands script)
+    (commands (drop c.commands.at script)) (commands (drop c.in-Some.step.next script)) text c.commands.invariant.so_far turn c.in_err-write_text.ensures.err)
 
 pub commands-preserved : goal.commands-preserved
 commands-preserved g c =
-    let held = g.W.Write.contents in
-    let so_far = c.commands.invariant.so_far in
     let script = c.args.script.now in
+    let next = rw c.in-Some.is at c.in_ok-step.ensures.step in
     let text = c.as_slice.result.now in
-    let more = replies c.next_reply.new.table (commands (drop c.in-Some.step.next script)) in
-    let step = rw c.in-Some.is at c.in_ok-step.ensures.step in
-    let whole = so_far.2 ∙ ap (λ (t : List ℕ). so_far.0 ++ t) (step ∙ ap (λ (t : List ℕ). t ++ more) (sym c.as_slice.ensures.value)) in
+    let turn : IsTurn c.commands.table c.next_reply.new.table (commands (drop c.commands.at script)) (commands (drop c.in-Some.step.next script)) text =
+    subst (IsTurn c.commands.table c.next_reply.new.table (commands (drop c.commands.at script)) (commands (drop c.in-Some.step.next script))) (sym c.as_slice.ensures.value) next in
     record {
-      failed = search rules;
-      so_far = (
-        so_far.0 ++ text,
-        Appends-trans (held (source_of c.args.writer.now)) (held (source_of c.commands.writer)) (held (source_of c.write_text.new.writer)) so_far.0 text so_far.1 c.in_ok-write_text.ensures.ok,
-        whole ∙ sym (append_assoc so_far.0 text more),
-      );
+      healthy = search rules;
+      so_far = run_goes_on g.W.Write.contents c.args.writer.now c.commands.writer c.write_text.new.writer c.commands.table c.next_reply.new.table (commands script)
+          (commands (drop c.commands.at script)) (commands (drop c.in-Some.step.next script)) text c.commands.invariant.so_far turn c.in_ok-write_text.ensures.ok;
     }
 
+-- all is written, and the flush fails
 pub returns-then-is_err-clause-err : goal.returns-then-is_err-clause-err
 returns-then-is_err-clause-err g c =
-    let held = g.W.Write.contents in
-    let so_far = c.commands.invariant.so_far in
-    let from = held (source_of c.args.writer.now) in
-    let to = held (source_of c.flush.new.self) in
-    let wrote = Appends-kept from (held (source_of c.commands.writer)) to so_far.0 so_far.1 c.flush.ensures.bytes in
-    prefix-done from to (run c.args.script.now) so_far.0 (replies c.commands.table (commands (drop c.commands.at c.args.script.now))) wrote so_far.2
+    let script = c.args.script.now in
+    let so_far = run_prefix g.W.Write.contents c.args.writer.now c.commands.writer c.commands.table (commands script) (commands (drop c.commands.at script)) c.commands.invariant.so_far in
+    (so_far.0, Took-kept g.W.Write.contents c.args.writer.now c.commands.writer c.flush.new.self _ so_far.1 c.flush.ensures.bytes c.flush.ensures.count)

@@ -1,0 +1,128 @@
+-- What commands in turn are answered and leave: for the loop of a run.
+use Rattle.std.proofs.Common.{ℕ, List, [], ◌∷◌, ◌++◌, ◌≡◌, ◌∙◌, refl, sym, ap, subst, append_assoc, append-nil, length, take, arith, Option, None, Some, Result, Ok, Err, OnErr}
+use Rattle.std.proofs.lemmas.List.{take_at}
+use Rattle.bt_script.specs.Commands.{Answer, commands}
+use Rattle.std.specs.Io.KnownBytes.{Keeps}
+use Rattle.bt_script.specs.Streams.{Took, TookPrefix, count_of, source_of}
+use Rattle.bt_script.specs.declared.counted.Counted.{Counted}
+use Rattle.bt_script.proofs.offered.Streams.{prefix-all, prefix-done, prefix-more, Took-kept, Took-nil, Took-trans}
+use Rattle.bt_shell.specs.Runs.{IsScriptOf, IsTurn, TookReplies, WritesPrefix, WritesReplies, WritesRun, after_commands, replies, run}
+use Rattle.bt_shell.specs.Steps.{State, turn}
+
+pub replies-append : (state : State) (done more : List Answer) → replies state (done ++ more) ≡ replies state done ++ replies (after_commands state done) more
+unfolding replies after_commands
+replies-append state [] more = refl
+replies-append state (answer ∷ done) more =
+    ap (λ (l : List ℕ). (turn state answer).1 ++ l) (replies-append (turn state answer).0 done more)
+    ∙ sym (append_assoc (turn state answer).1 (replies (turn state answer).0 done) (replies (after_commands (turn state answer).0 done) more))
+
+pub after_commands-append : (state : State) (done more : List Answer) → after_commands state (done ++ more) ≡ after_commands (after_commands state done) more
+unfolding after_commands
+after_commands-append state [] more = refl
+after_commands-append state (answer ∷ done) more = after_commands-append (turn state answer).0 done more
+
+replies-one : (state : State) (answer : Answer) (more : List Answer) → replies state (answer ∷ more) ≡ (turn state answer).1 ++ replies (turn state answer).0 more
+unfolding replies
+replies-one state answer more = refl
+
+replies-none : (state : State) → replies state [] ≡ []
+unfolding replies
+replies-none state = refl
+
+after-one : (state : State) (answer : Answer) → after_commands state (answer ∷ []) ≡ (turn state answer).0
+unfolding after_commands
+after-one state answer = refl
+
+-- What a run has done: some commands are answered, and the others stand from a place of the script on.
+pub record HasRun {W : Type 0} (contents : W → Option (List ℕ)) (old new : Counted W) (table : State) (all others : List Answer) : Type 0 where
+  pub done : List Answer
+  pub split : all ≡ done ++ others
+  pub left : table ≡ after_commands None done
+  pub took : Took contents old new (replies None done)
+
+module _ {W : Type 0} (contents : W → Option (List ℕ)) (old : Counted W) where
+  -- before the first command
+  pub run_begins : (all : List Answer) → Took contents old old [] → HasRun contents old old None all all
+  unfolding replies after_commands
+  run_begins all nothing = record { done = []; split = refl; left = refl; took = nothing }
+
+  -- all that is answered, by what was done
+  whole : (new : Counted W) (table : State) (all others : List Answer) (so_far : HasRun contents old new table all others) → replies None all ≡ replies None so_far.done ++ replies table others
+  whole new table all others so_far =
+      ap (replies None) so_far.split ∙ replies-append None so_far.done others ∙ ap (λ (state : State). replies None so_far.done ++ replies state others) (sym so_far.left)
+
+  pub run_prefix : (new : Counted W) (table : State) (all others : List Answer) → HasRun contents old new table all others → TookPrefix contents old new (replies None all)
+  run_prefix new table all others so_far = prefix-done contents old new (replies None all) (replies None so_far.done) (replies table others) so_far.took (whole new table all others so_far)
+
+  -- the whole replies to the commands so far
+  pub run_replies : (new : Counted W) (table : State) (script : List ℕ) (others : List Answer) → HasRun contents old new table (commands script) others → TookReplies contents old new script
+  run_replies new table script others so_far =
+      let first : take (length so_far.done) (commands script) ≡ so_far.done = ap (take (length so_far.done)) so_far.split ∙ take_at so_far.done others (length so_far.done) refl in
+      (length so_far.done, subst (λ (answers : List Answer). Took contents old new (replies None answers)) (sym first) so_far.took)
+
+  -- a prefix of the reply to the next one
+  pub run_breaks : (mid new : Counted W) (table after : State) (all others more : List Answer) (text : List ℕ) → HasRun contents old mid table all others → IsTurn table after others more text
+      → TookPrefix contents mid new text → TookPrefix contents old new (replies None all)
+  run_breaks mid new table after all others more text so_far next prefix =
+      let said : replies table others ≡ text ++ replies (turn table next.answer).0 more =
+      ap (replies table) next.first ∙ replies-one table next.answer more ∙ ap (λ (l : List ℕ). l ++ replies (turn table next.answer).0 more) (sym next.said) in
+      prefix-more contents old mid new (replies None all) (replies None so_far.done) text (replies (turn table next.answer).0 more) so_far.took
+      (whole mid table all others so_far ∙ ap (λ (l : List ℕ). replies None so_far.done ++ l) said) prefix
+
+  -- the reply to the next one
+  pub run_goes_on : (mid new : Counted W) (table after : State) (all others more : List Answer) (text : List ℕ) → HasRun contents old mid table all others → IsTurn table after others more text
+      → Took contents mid new text → HasRun contents old new after all more
+  run_goes_on mid new table after all others more text so_far next took =
+      let done = so_far.done ++ next.answer ∷ [] in
+      let said : replies None done ≡ replies None so_far.done ++ text =
+      replies-append None so_far.done (next.answer ∷ [])
+      ∙ ap (λ (state : State). replies None so_far.done ++ replies state (next.answer ∷ [])) (sym so_far.left)
+      ∙ ap (λ (l : List ℕ). replies None so_far.done ++ l)
+      (replies-one table next.answer [] ∙ ap (λ (l : List ℕ). (turn table next.answer).1 ++ l) (replies-none (turn table next.answer).0) ∙ append-nil (turn table next.answer).1 ∙ sym next.said) in
+      record {
+        done = done;
+        split = so_far.split ∙ ap (λ (l : List Answer). so_far.done ++ l) next.first ∙ sym (append_assoc so_far.done (next.answer ∷ []) more);
+        left = next.left ∙ ap (λ (state : State). (turn state next.answer).0) so_far.left ∙ sym (after_commands-append None so_far.done (next.answer ∷ []) ∙ after-one (after_commands None so_far.done) next.answer);
+        took = subst (λ (l : List ℕ). Took contents old new l) (sym said) (Took-trans contents old mid new (replies None so_far.done) text so_far.took took);
+      }
+
+  -- no command is left
+  pub run_ends : (new : Counted W) (table : State) (all others : List Answer) → HasRun contents old new table all others → others ≡ [] → Took contents old new (replies None all)
+  run_ends new table all others so_far none =
+      let all_done : all ≡ so_far.done = so_far.split ∙ ap (λ (l : List Answer). so_far.done ++ l) none ∙ append-nil so_far.done in
+      subst (λ (answers : List Answer). Took contents old new (replies None answers)) (sym all_done) so_far.took
+
+-- some script that the reader may have had
+pub some_script : (known : Option (List ℕ)) → (script : List ℕ) × IsScriptOf known script
+some_script None = ([], tt)
+some_script (Some bytes) = (bytes, refl)
+
+module _ {W : Type 0} (contents : W → Option (List ℕ)) where
+  took_nothing : (old : Counted W) → Took contents old old []
+  took_nothing old = Took-nil contents old (omega arith)
+
+  -- what is written is nothing
+  pub nothing_replied : (old : Counted W) (known : Option (List ℕ)) → WritesReplies contents known old old
+  nothing_replied old known =
+      let script = some_script known in
+      (script.0, script.1, (0, subst (λ (l : List ℕ). Took contents old old l) (sym (replies-none None)) (took_nothing old)))
+
+  pub nothing_written : (old : Counted W) (known : Option (List ℕ)) → WritesPrefix contents known old old
+  nothing_written old known = let script = some_script known in (script.0, script.1, (0, took_nothing old))
+
+  pub written-prefix : (known : Option (List ℕ)) (old new : Counted W) → WritesRun contents known old new → WritesPrefix contents known old new
+  written-prefix known old new wrote = (wrote.0, wrote.1, prefix-all contents old new (run wrote.0) wrote.2)
+
+  -- a flush takes nothing
+  pub prefix-kept : (known : Option (List ℕ)) (old mid new : Counted W) → Keeps (contents (source_of mid)) (contents (source_of new)) → count_of new ≡ count_of mid
+      → WritesPrefix contents known old mid → WritesPrefix contents known old new
+  prefix-kept known old mid new kept count wrote = (wrote.0, wrote.1, (wrote.2.0, Took-kept contents old mid new (take wrote.2.0 (run wrote.0)) wrote.2.1 kept count))
+
+  pub replies-kept : (known : Option (List ℕ)) (old mid new : Counted W) → Keeps (contents (source_of mid)) (contents (source_of new)) → count_of new ≡ count_of mid
+      → WritesReplies contents known old mid → WritesReplies contents known old new
+  replies-kept known old mid new kept count wrote =
+      (wrote.0, wrote.1, (wrote.2.0, Took-kept contents old mid new (replies None (take wrote.2.0 (commands wrote.0))) wrote.2.1 kept count))
+
+pub on_err : {T E : Type 0} (r : Result T E) (P : Type 0) → P → OnErr r P
+on_err (Ok x) P p = tt
+on_err (Err e) P p = p

@@ -1,0 +1,34 @@
+-- What the program does by its words, for streams of which calls may fail.
+use Rattle.std.specs.Prelude.{◌≡◌, [], false, List, Option, None, ℕ}
+use Rattle.bt_script.specs.Options.{IsToReadInput, kinds_of_words}
+use Rattle.bt_script.specs.Streams.{has_failed, source_of}
+use Rattle.bt_script.specs.declared.counted.Counted.{Counted}
+use Rattle.bt_shell.specs.Runs.{WritesPrefix, WritesReplies, WritesRun}
+
+-- the words are read, and name a script to run
+abbrev pub IsToRun : List (List ℕ) → Type 0
+IsToRun words = kinds_of_words words ≡ []
+
+-- neither stream has failed
+abbrev pub AreHealthy : {I W : Type 0} → Counted I → Counted W → Type 0
+AreHealthy input output = (has_failed input ≡ false) × (has_failed output ≡ false)
+
+-- a stream that is not the script's is as it was
+abbrev pub LeavesInput : {I : Type 0} → List (List ℕ) → Counted I → Counted I → Type 0
+LeavesInput words old new = (IsToReadInput words → ⊥) → new ≡ old
+
+-- Where the words are read, the fact of what was written holds for some script: for the input's where it is the script, and for any where a file is, whose
+-- bytes no contract knows.
+abbrev pub ForScript : {I : Type 0} → (I → Option (List ℕ)) → List (List ℕ) → Counted I → (Option (List ℕ) → Type 0) → Type 0
+ForScript remaining words input Fact = (IsToReadInput words → Fact (remaining (source_of input))) × (IsToRun words → Fact None)
+
+module _ {I W : Type 0} (remaining : I → Option (List ℕ)) (contents : W → Option (List ℕ)) (words : List (List ℕ)) (input : Counted I) (old new : Counted W) where
+  -- the output took all that the script is answered, a prefix of it, or the whole replies to its first commands
+  abbrev pub AnswersScript : Type 0
+  AnswersScript = ForScript remaining words input (λ known. WritesRun contents known old new)
+
+  abbrev pub AnswersPrefix : Type 0
+  AnswersPrefix = ForScript remaining words input (λ known. WritesPrefix contents known old new)
+
+  abbrev pub AnswersReplies : Type 0
+  AnswersReplies = ForScript remaining words input (λ known. WritesReplies contents known old new)
