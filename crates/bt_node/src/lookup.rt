@@ -7,7 +7,7 @@ ghost use Rattle.bt_node.specs.Messages.{value_after};
 
 use crate::node::{Kind, Node};
 use bt_keycode::Key;
-use bt_messages::{Buffer, Merge, effect};
+use bt_messages::{Buffer, Merge, effect_borrowed};
 use std::alloc::{AllocError, Global};
 use std::cmp::Ordering;
 
@@ -44,12 +44,11 @@ fn after_messages<V: Merge>(
     ensures { IfOk result (λ value. value ≡ value_after (effect_of V.merged) key.now buffer.now old) }
 {
     let mut value = old;
-    for place in buffer.first_from(key)..buffer.count() {
-        let (at, message) = buffer.get(place);
+    for (at, message) in buffer.iter_from(key) {
         if at.compare(key) != Ordering::Equal {
             return Ok(value);
         }
-        value = effect(alloc, value, message.copy(alloc)?)?;
+        value = effect_borrowed(alloc, value, message)?;
     }
     Ok(value)
 }

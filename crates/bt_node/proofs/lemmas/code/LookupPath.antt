@@ -15,11 +15,8 @@ use Rattle.bt_node.specs.Messages.{Messages, from, value_after}
 use Rattle.bt_node.specs.Trees.{Siblings, Tree, inner, nodes}
 use Rattle.bt_node.specs.Lookups.{pivots_up_to, value_at, value_below}
 use Rattle.bt_keycode.proofs.offered.Order.{all_within-from, apart_back, not_before_itself, total_keys}
+use Rattle.bt_node.proofs.lemmas.keys.SortedLists.{sorted-where}
 use Rattle.bt_node.proofs.lemmas.rows.Values.{value-above}
-
--- what is left of a list from a place on
-pub left_from : {X : Type 0} (xs : List X) (i : ℕ) (x : X) → slice_get xs i ≡ Some x → drop i xs ≡ x ∷ drop (i + 1) xs
-left_from xs i x e = drop_more xs i x (slice_get_within xs i x e) ∙ ap (λ y. y ∷ drop (i + 1) xs) (get_or_from_slice_get xs i x x e)
 
 -- what a comparison says of the keys the other way round
 tied : (k at : Key) (o : Ordering) → o ≡ key_cmp at k → false ≡ not (ordering_index o == 1) → eq_by_cmp key_cmp k at ≡ true
@@ -78,31 +75,34 @@ module _ {V D : Type 0} (effect : Option V → Message V D → Option V) where
     | false ↦ λ t. (t, all_from k ms)
   ] refl
 
-  pub sorted-drop : (i : ℕ) (ms : Messages (Message V D)) → IsSorted ms → IsSorted (drop i ms)
-  sorted-drop zero ms r = r
-  sorted-drop (suc i) [] r = tt
-  sorted-drop (suc i) (m ∷ ms) r = sorted-drop i ms r.1
-
-  module _ (k : Key) (ms : Messages (Message V D)) (place : ℕ) (at : Key) (m : Message V D) (here : slice_get ms place ≡ Some (at, m)) (o : Ordering) (compared : o ≡ key_cmp at k) where
+  module _ (k : Key) (ms rest : Messages (Message V D)) (at : Key) (m : Message V D) (here : ms ≡ (at, m) ∷ rest) (o : Ordering) (compared : o ≡ key_cmp at k) where
     -- from a message past the key on nothing changes
-    pub none_left : true ≡ not (ordering_index o == 1) → (value : Option V) → AllFrom k (drop place ms) → IsSorted (drop place ms) → value ≡ value_after effect k (drop place ms) value
-    none_left test value all rising =
-        let rest = left_from ms place (at, m) here in
-        let low = (subst (AllFrom k) rest all).0 in
-        let up = (subst IsSorted rest rising).0 in
-        sym (ap (λ xs. value_after effect k xs value) rest
-        ∙ value-above effect k at None ((at, m) ∷ drop (place + 1) ms) value (past k at o compared test low) (record { from = not_before_itself at; below = refl }, all_within-from at (drop (place + 1) ms) up))
+    pub none_left : true ≡ not (ordering_index o == 1) → (value : Option V) → AllFrom k ms → IsSorted ms → value ≡ value_after effect k ms value
+    none_left test value all sorted =
+        let low = (subst (AllFrom k) here all).0 in
+        let up = (subst IsSorted here sorted).0 in
+        sym (ap (λ xs. value_after effect k xs value) here
+        ∙ value-above effect k at None ((at, m) ∷ rest) value (past k at o compared test low) (record { from = not_before_itself at; below = refl }, all_within-from at rest up))
 
     -- a message to the key has its effect
-    pub one_more : false ≡ not (ordering_index o == 1) → (value changed : Option V) → changed ≡ effect value m →
-        value_after effect k (drop place ms) value ≡ value_after effect k (drop (place + 1) ms) changed
+    pub one_more : false ≡ not (ordering_index o == 1) → (value changed : Option V) → changed ≡ effect value m → value_after effect k ms value ≡ value_after effect k rest changed
     one_more test value changed is =
-        ap (λ xs. value_after effect k xs value) (left_from ms place (at, m) here)
-        ∙ ap (λ b. value_after effect k (drop (place + 1) ms) (cond b (effect value m) value)) (tied k at o compared test)
-        ∙ ap (value_after effect k (drop (place + 1) ms)) (sym is)
+        ap (λ xs. value_after effect k xs value) here
+        ∙ ap (λ b. value_after effect k rest (cond b (effect value m) value)) (tied k at o compared test)
+        ∙ ap (value_after effect k rest) (sym is)
 
-    pub rest_from : AllFrom k (drop place ms) → AllFrom k (drop (place + 1) ms)
-    rest_from all = (subst (AllFrom k) (left_from ms place (at, m) here) all).1
+    pub rest_from : AllFrom k ms → AllFrom k rest
+    rest_from all = (subst (AllFrom k) here all).1
 
-    pub rest_sorted : IsSorted (drop place ms) → IsSorted (drop (place + 1) ms)
-    rest_sorted rising = (subst IsSorted (left_from ms place (at, m) here) rising).1
+    pub rest_sorted : IsSorted ms → IsSorted rest
+    rest_sorted sorted = (subst IsSorted here sorted).1
+
+  -- what the messages from the key on make of a value, in order and from the key on
+  pub all_left : (k : Key) (buffer ms : Messages (Message V D)) (old : Option V) → ms ≡ from k buffer → value_after effect k buffer old ≡ value_after effect k ms old
+  all_left k buffer ms old is = sym (ap (λ xs. value_after effect k xs old) is ∙ value_after-from k buffer old)
+
+  pub left_from : (k : Key) (buffer ms : Messages (Message V D)) → ms ≡ from k buffer → AllFrom k ms
+  left_from k buffer ms is = subst (AllFrom k) (sym is) (all_from k buffer)
+
+  pub left_sorted : (k : Key) (buffer ms : Messages (Message V D)) → ms ≡ from k buffer → IsSorted buffer → IsSorted ms
+  left_sorted k buffer ms is sorted = subst IsSorted (sym is) (sorted-where (λ x. not (is_before x k)) buffer sorted)
