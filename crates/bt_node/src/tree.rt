@@ -13,7 +13,6 @@ use crate::absorb::absorb;
 use crate::crowned::crowned;
 use crate::group::group;
 use crate::held_rows::held_rows;
-use crate::lookup::value_at;
 use crate::node::{Node, Siblings};
 use crate::rows::Rows;
 use crate::shape::Shape;
@@ -121,7 +120,7 @@ impl<V: Merge> Tree<V> {
     pub fn get(&self, alloc: Global, key: &Key) -> Result<Option<V>, AllocError>
         ensures { IfOk result (λ value. value ≡ find key_cmp key.now (holds (effect_of V.merged) self.now.1)) }
     {
-        value_at(alloc, &self.root, key)
+        self.walk().get(alloc, key)
     }
 
     /// The pairs that it holds when all messages have had their effect, by rising key.

@@ -1,10 +1,17 @@
 //! What can be seen of a tree, node by node.
-ghost use Rattle.std.specs.Prelude.{◌≡◌, ◌<◌, Some, length, option_map, slice_get};
+ghost use Rattle.std.specs.Prelude.{◌≡◌, ◌<◌, Some, length, option_map, slice_get, IfOk};
+ghost use Rattle.std.specs.FinMap.{find};
+ghost use Rattle.bt_keycode.specs.Keys.{key_cmp};
+ghost use Rattle.bt_messages.specs.Effects.{effect_of};
+ghost use Rattle.bt_node.specs.Fits.{IsInOrder};
+ghost use Rattle.bt_node.specs.Flushes.{holds};
 ghost use Rattle.bt_node.specs.Walks as walk;
 
+use crate::lookup::value_at;
 use crate::node::{Kind, Node};
 use bt_keycode::Key;
 use bt_messages::{Merge, Message};
+use std::alloc::{AllocError, Global};
 use std::marker::Model;
 
 /// A node to be looked at, with all that is below it.
@@ -115,5 +122,13 @@ impl<'a, V: Merge> Walk<'a, V> {
             Kind::Leaf(_) => unreachable!(),
             Kind::Inner { children, .. } => &children.pivots()[place - 1],
         }
+    }
+
+    /// The value at a key when all messages here and below have had their effect, found along one path.
+    pub fn get(&self, alloc: Global, key: &Key) -> Result<Option<V>, AllocError>
+        requires { IsInOrder self.now }
+        ensures { IfOk result (λ value. value ≡ find key_cmp key.now (holds (effect_of V.merged) self.now)) }
+    {
+        value_at(alloc, self.node, key)
     }
 }

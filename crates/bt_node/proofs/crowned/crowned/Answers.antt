@@ -1,6 +1,4 @@
-use Rattle.std.proofs.Common.{◌≡◌, ◌<◌, ◌≤◌, ◌∙◌, [], ap, arith, length, refl, rules}
-use Rattle.std.proofs.lemmas.List.{length-map}
-use Rattle.bt_node.specs.inside.Views.{child_of}
+use Rattle.std.proofs.Common.{◌<◌, ◌≤◌, ◌∙◌, arith, length, rules}
 use Rattle.bt_node.proofs.lemmas.code.CrownLoop.{children_some, crown_kept, crown_one, fewer, none_sorted}
 use Rattle.bt_node.proofs.crowned.crowned.Goals as goal
 

@@ -2,7 +2,7 @@
 use Rattle.std.proofs.Common.{Result, Ok, Err, IfOk, ◌≡◌, ◌≤◌, ◌<◌, ◌+◌, ◌*◌, ℕ, Bool, true, false, List, [], ◌∷◌, ◌++◌, length, map, refl, zero, suc, sym, ap, subst, ◌∙◌, arith, Option}
 use Rattle.std.proofs.lemmas.List.{length-map}
 use Rattle.std.specs.List.{zip}
-use Rattle.bt_keycode.specs.Keys.{IsSorted, Key}
+use Rattle.bt_keycode.specs.Keys.{IsSorted}
 use Rattle.bt_messages.specs.declared.message.Message.{Message}
 use Rattle.bt_node.specs.declared.node.Child as code
 use Rattle.bt_node.specs.Messages.{Messages, with_messages}
@@ -10,7 +10,7 @@ use Rattle.bt_node.specs.Plans.{planned}
 use Rattle.bt_node.specs.inside.Marks.{marks_of, passed}
 use Rattle.bt_node.specs.Trees.{Shape, Siblings, Tree, leaf, inner, height, height_below, nodes}
 use Rattle.bt_node.specs.Fits.{IsLed}
-use Rattle.bt_node.specs.Flushes.{Child, Flush, absorb, absorbed, counts, flushed, flushed_over, gathered, grouped, pivot_first, shared}
+use Rattle.bt_node.specs.Flushes.{Child, absorb, absorbed, counts, flushed, flushed_over, gathered, grouped, pivot_first, shared}
 use Rattle.bt_node.specs.inside.Views.{child_of, children_of, pending_of}
 use Rattle.bt_node.proofs.lemmas.deals.Parts.{NonEmpty}
 use Rattle.bt_node.proofs.lemmas.flushes.Children.{all_pending}

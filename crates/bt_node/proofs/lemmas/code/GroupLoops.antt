@@ -11,7 +11,7 @@ use Rattle.bt_node.specs.Deals.{deal, parted, sizes}
 use Rattle.bt_node.specs.Flushes.{first_key, gathered, grouped, leaves, pivot_first}
 use Rattle.bt_node.specs.inside.Views.{child_of, children_of, pending_of}
 use Rattle.bt_node.proofs.lemmas.deals.Parts.{AllNonEmpty, joined, joined-deal, full-deal}
-use Rattle.bt_node.proofs.lemmas.flushes.Groups.{as_leaf, some_length, stripped}
+use Rattle.bt_node.proofs.lemmas.flushes.Groups.{as_leaf, stripped}
 use Rattle.bt_node.proofs.lemmas.flushes.PendingOrder.{added-behind}
 use Rattle.bt_node.proofs.lemmas.keys.SortedLists.{sorted-back, sorted-prefix}
 

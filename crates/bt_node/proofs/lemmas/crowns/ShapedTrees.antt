@@ -1,17 +1,13 @@
 -- Trees that fit, with their shape.
 use Rattle.std.proofs.Common.{◌≡◌, ◌≤◌, ◌&&◌, ℕ, Bool, true, false, nat_le, [], refl, sym, ap, subst, ◌∙◌, arith, true≢false, Option}
 use Rattle.std.proofs.lemmas.Bool.Decides.{nat_tests}
-use Rattle.std.specs.FinMap.{find}
 use Rattle.std.specs.declared.option.Option.TheVariants.{None}
 use Rattle.bt_messages.specs.declared.message.Message.{Message}
-use Rattle.bt_keycode.specs.Keys.{Key, key_cmp}
 use Rattle.bt_node.specs.Trees.{Shape, Tree, Siblings, leaf}
 use Rattle.bt_node.specs.Flushes.{crown, holds, all_hold}
 use Rattle.bt_node.specs.Fits.{AreFit, HasShape, IsRoomy}
-use Rattle.bt_node.specs.Lookups.{value_at}
 use Rattle.bt_node.specs.Shapes.{is_shape}
 use Rattle.bt_node.proofs.lemmas.crowns.CrownedRows.{crown-fits, crown-holds}
-use Rattle.bt_node.proofs.lemmas.lookups.HeldValues.{value_at-held}
 
 both : (a b : Bool) → a && b ≡ true → (a ≡ true) × (b ≡ true)
 both true b e = (refl, e)
@@ -43,7 +39,3 @@ module _ {V D : Type 0} (shape : Shape) where
   pub crown_holds : (effect : Option V → Message V D → Option V) (t : Tree V (Message V D)) (xs : Siblings V (Message V D)) → IsRoomy shape → AreFit shape xs → t ≡ crown shape xs →
       holds effect t ≡ all_hold effect xs
   crown_holds effect t xs roomy fit e = ap (holds effect) e ∙ crown-holds shape roomy effect fit.0 None None xs fit.1
-
-  module _ (effect : Option V → Message V D → Option V) (t : Tree V (Message V D)) (has : HasShape shape t) where
-    pub found_held : (k : Key) → value_at effect k t ≡ find key_cmp k (holds effect t)
-    found_held k = value_at-held effect has.levels None None t k has.fits.lies

@@ -1,8 +1,6 @@
 use Rattle.std.proofs.Common.{◌∙◌, ap, arith}
-use Rattle.std.proofs.lemmas.List.{length-map}
 use Rattle.bt_messages.specs.Effects.{effect_of}
 use Rattle.bt_node.specs.Kinds.{tree_of}
-use Rattle.bt_node.specs.Lookups.{value_at}
 use Rattle.bt_node.proofs.lemmas.code.AbsorbStep.{if_ok}
 use Rattle.bt_node.proofs.lemmas.code.LookupPath.{along}
 use Rattle.bt_node.proofs.lemmas.code.RowsOfChildren.{child_lower}

@@ -1,5 +1,4 @@
-use Rattle.std.proofs.Common.{◌≡◌, ◌∙◌, ◌∷◌, rules, sym}
-use Rattle.bt_keycode.specs.Keys.{key_cmp}
+use Rattle.std.proofs.Common.{◌≡◌, ◌∙◌, rules, sym}
 use Rattle.bt_messages.specs.Effects.{effect_of}
 use Rattle.bt_node.specs.Messages.{from}
 use Rattle.bt_node.proofs.lemmas.code.LookupPath.{all_left, left_from, left_sorted, none_left, one_more, rest_from, rest_sorted}

@@ -1,7 +1,6 @@
-use Rattle.std.proofs.Common.{◌≡◌, ◌∙◌, ◌++◌, [], ap, arith, length, refl, rules, subst, sym}
+use Rattle.std.proofs.Common.{◌≡◌, ◌∙◌, ◌++◌, [], ap, arith, length, refl, rules, subst}
 use Rattle.std.specs.Vec.Iter.{into_iter_items}
 use Rattle.bt_keycode.specs.Keys.{IsSorted}
-use Rattle.bt_node.specs.Flushes.{shared}
 use Rattle.bt_node.specs.inside.Views.{children_of}
 use Rattle.bt_node.proofs.lemmas.code.GroupLoops.{nothing_left}
 use Rattle.bt_node.proofs.lemmas.code.ShareLoop.{all_shared, beside, beside-none, child_added, shared_some, shared_sorted}

@@ -1,0 +1,12 @@
+use Rattle.std.proofs.Common.{◌∙◌, ap}
+use Rattle.bt_messages.specs.Effects.{effect_of}
+use Rattle.bt_node.specs.Lookups.{value_at}
+use Rattle.bt_node.proofs.lemmas.code.AbsorbStep.{if_ok}
+use Rattle.bt_node.proofs.lemmas.lookups.HeldValues.{value_at-held}
+use Rattle.bt_node.proofs.walk.Walk.get.Goals as goal
+
+pub returns : goal.returns
+returns g c =
+    let effect = effect_of g.V.Merge.merged in
+    let order = c.requires in
+    if_ok _ _ c.value_at.result (λ value e. e ∙ ap (value_at effect c.args.key.now) c.self.view_is ∙ value_at-held effect order.0 order.1 order.2 c.args.self.now c.args.key.now order.3) c.value_at.ensures
