@@ -15,7 +15,7 @@ use Rattle.bt_keycode.specs.Codes.{HaveSameKinds, code_of, kind_of}
 use Rattle.bt_keycode.proofs.offered.Codes.{codes_ordered}
 use Rattle.bt_keycode.specs.Keys.{Key, key_cmp}
 use Rattle.bt_node.specs.Messages.{Rows}
-use Rattle.bt_shell.proofs.Ranges.{first_in_range, others_in_range, take_in_range}
+use Rattle.bt_keycode.proofs.offered.Ranges.{take_in_range}
 use Rattle.bt_shell.specs.Standing.{AllStand, KeysRise, Stands}
 
 -- ---- the key columns of rows of a schema
@@ -31,10 +31,12 @@ key_kinds zero columns row e = refl
 key_kinds (suc n) [] [] e = refl
 key_kinds (suc n) [] (v ∷ vs) e = cc
 key_kinds (suc n) (c ∷ cs) [] e = cc
-key_kinds (suc n) (c ∷ cs) (v ∷ vs) e =
-    let first = kind_fits c.kind v (both_first (fits_kind c.kind v) (fit_columns cs vs) e) in
-    let others = key_kinds n cs vs (both_second (fits_kind c.kind v) (fit_columns cs vs) e) in
-    λ i. first i ∷ others i
+key_kinds (suc n) (c ∷ cs) (v ∷ vs) e = by_first (fits_kind c.kind v) refl e (λ others. key_kinds n cs vs others)
+  where
+    by_first : (b : Bool) → fits_kind c.kind v ≡ b → (b && fit_columns cs vs) ≡ true → (fit_columns cs vs ≡ true → map kind_of (take n vs) ≡ map (λ d. d.kind) (take n cs))
+        → map kind_of (v ∷ take n vs) ≡ map (λ d. d.kind) (c ∷ take n cs)
+    by_first true fits others rest = λ i. kind_fits c.kind v fits i ∷ rest others i
+    by_first false fits others rest = absurd cc
 
 -- ---- rows
 
