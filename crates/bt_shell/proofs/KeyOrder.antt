@@ -1,9 +1,8 @@
--- Rows whose codes strictly rise have key columns whose values strictly rise.
-use Rattle.std.proofs.Common.{◌≡◌, ℕ, Bool, true, false, ◌&&◌, T, List, [], ◌∷◌, ◌++◌, refl, sym, ap, subst, ◌∙◌, map, take, suc, zero}
+-- Rows whose codes strictly rise have key columns whose values strictly rise. Serves the order of a table's rows.
+use Rattle.std.proofs.Common.{◌≡◌, ℕ, Bool, true, false, ◌&&◌, T, List, [], ◌∷◌, refl, sym, subst, ◌∙◌, map, take, suc, zero}
 use Rattle.std.specs.Ordering.{is_lt}
 use Rattle.std.specs.FinMap.{is_sorted}
 use Rattle.std.specs.FinMap.Entries.{below_all}
-use Rattle.std.specs.Cmp.Lexicographic.{slice_cmp}
 use Rattle.bt_rowtype.specs.Schemas.{Schema, fit_columns, fits_kind}
 use Rattle.bt_rowtype.specs.Values.{values_cmp}
 use Rattle.bt_rowtype.specs.declared.schema.Column.{Column}

@@ -1,20 +1,19 @@
--- A table stays sound along the commands of a script.
-use Rattle.std.proofs.Common.{ℕ, zero, suc, ◌+◌, ◌≤◌, ◌≡◌, ◌∙◌, ◌&&◌, not, Bool, true, false, List, [], ◌∷◌, ◌++◌, refl, sym, ap, arith, length, take, drop, map, nat_le, Option, Some, None, IfSome, IfOk, Result, Ok, Err}
+-- A table stays sound along the commands of a script. Serves the invariant of a table and the run.
+use Rattle.std.proofs.Common.{ℕ, ◌+◌, ◌≡◌, ◌∙◌, not, Bool, true, false, List, [], ◌∷◌, ◌++◌, refl, sym, ap, arith, take, Some, None, IfSome, IfOk, Result, Ok, Err}
 use Rattle.std.proofs.lemmas.Bool.Decides.{nat_tests}
 use Rattle.std.specs.List.{filter_map}
 use Rattle.std.specs.Result.{result_ok}
 use Rattle.bt_rowtype.specs.Ops.{OpsFit, after_ops, default_row, upsert_as}
 use Rattle.bt_rowtype.specs.Refusals.{least}
 use Rattle.bt_rowtype.specs.Schemas.{Schema, fit_columns, is_schema}
-use Rattle.bt_rowtype.specs.Values.{default_of, read_as}
+use Rattle.bt_rowtype.specs.Values.{read_as}
 use Rattle.bt_rowtype.specs.declared.op.Op.{Op}
 use Rattle.bt_rowtype.specs.declared.refusal.Refusal.{Refusal}
 use Rattle.bt_rowtype.specs.declared.refusal.Refusal.TheVariants.{BadSchema, BadShape, TableExists}
-use Rattle.bt_rowtype.specs.declared.schema.Column.{Column}
 use Rattle.bt_rowtype.specs.declared.value.Value.{Value}
 use Rattle.bt_rowtype.proofs.offered.Fits.{after_ops_fits, after_ops_key, default_row_fits, default_row_key, read_fits, upsert_fits}
 use Rattle.bt_keycode.specs.Codes.{AreInRange, code_of}
-use Rattle.bt_node.specs.Fits.{HasShape, IsRoomy}
+use Rattle.bt_node.specs.Fits.{IsRoomy}
 use Rattle.bt_node.specs.Messages.{rows_after}
 use Rattle.bt_node.specs.Shapes.{is_shape}
 use Rattle.bt_node.specs.Trees.{Shape}

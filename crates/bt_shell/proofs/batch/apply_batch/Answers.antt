@@ -6,7 +6,6 @@ use Rattle.bt_rowtype.specs.Refusals.{least, least_from}
 use Rattle.bt_rowtype.specs.declared.refusal.Refusal.{Refusal}
 use Rattle.bt_rowtype.specs.declared.refusal.Refusal.TheVariants.{TooMany}
 use Rattle.bt_shell.specs.Steps.{one_if, read_batch}
-use Rattle.bt_rowtype.specs.Schemas.{Schema}
 use Rattle.bt_shell.proofs.Batches.{least_from-append}
 use Rattle.bt_shell.proofs.Sound.{batch_of_schema}
 use Rattle.bt_shell.proofs.batch.apply_batch.Goals as goal

@@ -1,9 +1,8 @@
-use Rattle.std.proofs.Common.{List, ◌≡◌, arith, rules, ap, drop, sym, subst, ℕ}
+use Rattle.std.proofs.Common.{arith, rules, drop, sym, subst}
 use Rattle.bt_script.specs.Commands.{commands}
-use Rattle.bt_script.specs.Streams.{Took, TookPrefix}
-use Rattle.bt_script.proofs.offered.Streams.{Took-kept, Took-nil, prefix-done}
-use Rattle.bt_shell.specs.Runs.{IsTurn, run}
-use Rattle.bt_shell.proofs.Turns.{HasRun, on_err, run_begins, run_breaks, run_ends, run_goes_on, run_prefix, run_replies}
+use Rattle.bt_script.proofs.offered.Streams.{Took-kept, Took-nil}
+use Rattle.bt_shell.specs.Runs.{IsTurn}
+use Rattle.bt_shell.proofs.Turns.{on_err, run_begins, run_breaks, run_goes_on, run_prefix, run_replies}
 use Rattle.bt_shell.proofs.run.write_replies.Goals as goal
 
 pub commands-init : goal.commands-init
