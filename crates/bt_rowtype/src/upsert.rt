@@ -9,8 +9,8 @@ ghost use Rattle.bt_rowtype.specs.Refusals.{least};
 ghost use Rattle.bt_rowtype.specs.Values.{or_refused};
 ghost use Rattle.bt_rowtype.specs.declared.value.Value.{Value};
 
-use crate::int::read_int;
 use crate::fields::Fields;
+use crate::int::read_int;
 use crate::op::{MOST_OPS, Op, Ops};
 use crate::reading::Reading;
 use crate::refusal::Refusal;

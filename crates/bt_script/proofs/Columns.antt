@@ -1,4 +1,4 @@
--- Going over the words of columns one by one.
+-- Going over the words of columns one by one. Serves the reading of a table's columns.
 use Rattle.std.proofs.Common.{List, ◌++◌, Option}
 use Rattle.std.specs.Prelude.{option_map}
 

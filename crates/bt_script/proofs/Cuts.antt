@@ -1,4 +1,4 @@
--- The first line of a text.
+-- The first line of a text, and what is left behind it. Serves the cutting of a script into lines.
 use Rattle.std.proofs.Common.{ℕ, List, [], ◌∷◌, ◌+◌, ◌<◌, ◌≡◌, ◌∙◌, refl, sym, ap, not, ◌==◌, take, drop, length, inl, inr, arith, suc, ◌-◌, ◌≤◌, length-drop}
 use Rattle.std.proofs.lemmas.List.{drop-drop, drop_all, take_rest}
 use Rattle.std.proofs.lemmas.List.Folds.{length-prefix_len}

@@ -1,4 +1,4 @@
--- Steps of the cutting of lines into commands.
+-- Steps of the cutting of lines into commands. Serves the parser, which goes by places of a script.
 use Rattle.std.proofs.Common.{ℕ, Bool, List, [], ◌∷◌, ◌++◌, ◌≡◌, ◌∙◌, refl, sym, ap, true, false, not, Option, Some, None, drop, length, map, filter, codes, ◌&&◌, ◌≤◌, arith, inl, inr}
 use Rattle.std.proofs.lemmas.Bool.{cases_Bool}
 use Rattle.std.proofs.lemmas.List.{append-nil, drop_all, map-append}

@@ -1,4 +1,4 @@
--- A name is ASCII.
+-- A name is ASCII. Serves the reading of a name as text.
 use Rattle.std.proofs.Common.{ℕ, Bool, List, [], ◌∷◌, ◌<◌, ◌≡◌, refl, true, false, ◌&&◌, arith, inl, inr}
 use Rattle.std.proofs.lemmas.Bool.{cases_Bool}
 use Rattle.std.proofs.lemmas.Bool.Decides.{nat_tests}

@@ -1,4 +1,4 @@
--- The least refusal of lists one behind the other.
+-- The least refusal of lists one behind the other. Serves the refusals of a batch.
 use Rattle.std.proofs.Common.{List, [], ◌∷◌, ◌++◌, ◌≡◌, refl, Option, Some, None}
 use Rattle.bt_rowtype.specs.Refusals.{least_from, lesser}
 use Rattle.bt_rowtype.specs.declared.refusal.Refusal.{Refusal}

@@ -1,4 +1,4 @@
--- The text and the height of a node from those of its children.
+-- The text and the height of a node from those of its children. Serves the writing of an image.
 use Rattle.std.proofs.Common.{ℕ, zero, suc, ◌+◌, ◌<◌, ◌≤◌, ◌≡◌, ◌∙◌, List, [], ◌∷◌, ◌++◌, Option, Some, None, refl, sym, ap, take, length, arith, append_assoc, append-nil, max, take_all}
 use Rattle.std.specs.Prelude.{flat_map, min, option_map, slice_get}
 use Rattle.bt_rowtype.specs.declared.op.Change.{Change}

@@ -1,7 +1,6 @@
 pub mod Batches
 pub mod Drawings
 pub mod KeyOrder
-pub mod Ranges
 pub mod Sound
 pub mod Standing
 pub mod Turns

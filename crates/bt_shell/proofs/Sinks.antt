@@ -1,4 +1,4 @@
--- A tree after a batch fits its shape, and holds its rows after the batch.
+-- A tree after a batch fits its shape, and holds its rows after the batch. Serves a table that applies a batch.
 use Rattle.std.proofs.Common.{◌≡◌, ◌∙◌}
 use Rattle.bt_messages.specs.Messages.{sorted_batch}
 use Rattle.bt_messages.proofs.offered.Rows.{rows_after-sorted_batch}

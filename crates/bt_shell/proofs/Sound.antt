@@ -1,20 +1,19 @@
--- A table stays sound along the commands of a script.
-use Rattle.std.proofs.Common.{ℕ, zero, suc, ◌+◌, ◌≤◌, ◌≡◌, ◌∙◌, ◌&&◌, not, Bool, true, false, List, [], ◌∷◌, ◌++◌, refl, sym, ap, arith, length, take, drop, map, nat_le, Option, Some, None, IfSome, IfOk, Result, Ok, Err}
+-- A table stays sound along the commands of a script. Serves the invariant of a table and the run.
+use Rattle.std.proofs.Common.{ℕ, ◌+◌, ◌≡◌, ◌∙◌, not, Bool, true, false, List, [], ◌∷◌, ◌++◌, refl, sym, ap, arith, take, Some, None, IfSome, IfOk, Result, Ok, Err}
 use Rattle.std.proofs.lemmas.Bool.Decides.{nat_tests}
 use Rattle.std.specs.List.{filter_map}
 use Rattle.std.specs.Result.{result_ok}
 use Rattle.bt_rowtype.specs.Ops.{OpsFit, after_ops, default_row, upsert_as}
 use Rattle.bt_rowtype.specs.Refusals.{least}
 use Rattle.bt_rowtype.specs.Schemas.{Schema, fit_columns, is_schema}
-use Rattle.bt_rowtype.specs.Values.{default_of, read_as}
+use Rattle.bt_rowtype.specs.Values.{read_as}
 use Rattle.bt_rowtype.specs.declared.op.Op.{Op}
 use Rattle.bt_rowtype.specs.declared.refusal.Refusal.{Refusal}
 use Rattle.bt_rowtype.specs.declared.refusal.Refusal.TheVariants.{BadSchema, BadShape, TableExists}
-use Rattle.bt_rowtype.specs.declared.schema.Column.{Column}
 use Rattle.bt_rowtype.specs.declared.value.Value.{Value}
-use Rattle.bt_rowtype.proofs.offered.Fits.{after_ops_fits, after_ops_key, default_row_fits, read_fits, upsert_fits}
+use Rattle.bt_rowtype.proofs.offered.Fits.{after_ops_fits, after_ops_key, default_row_fits, default_row_key, read_fits, upsert_fits}
 use Rattle.bt_keycode.specs.Codes.{AreInRange, code_of}
-use Rattle.bt_node.specs.Fits.{HasShape, IsRoomy}
+use Rattle.bt_node.specs.Fits.{IsRoomy}
 use Rattle.bt_node.specs.Messages.{rows_after}
 use Rattle.bt_node.specs.Shapes.{is_shape}
 use Rattle.bt_node.specs.Trees.{Shape}
@@ -27,24 +26,11 @@ use Rattle.bt_shell.specs.Runs.{after_commands}
 use Rattle.bt_shell.specs.Standing.{AreOfSchema, IsOfSchema, IsSound, Stands}
 use Rattle.bt_shell.specs.Steps.{State, del_of, made, messages_of, one_if, put_of, read_batch, read_key, read_message, refusals_of, state_after, turn, turn_by, ups_of}
 use Rattle.bt_shell.specs.Tables.{RowMessage, RowMessages, TableState, after_batch, empty_table, row_effect}
-use Rattle.bt_shell.proofs.Ranges.{OpsInRange, after_ops_in_range, default_row_in_range, read_in_range, upsert_in_range}
+use Rattle.bt_keycode.proofs.offered.Ranges.{OpsInRange, after_ops_in_range, default_row_in_range, read_in_range, upsert_in_range}
 use Rattle.bt_shell.proofs.Sinks.{has_shape-after_batch, holds-after_batch}
 use Rattle.bt_shell.proofs.Standing.{rows_after-stand}
 
 -- ---- messages that lines spell
-
--- the default row of a key begins with it
-default_key : (n : ℕ) (columns : List Column) (key : List Value) → fit_columns (take n columns) key ≡ true → take n (key ++ map (λ c. default_of c.kind) (drop n columns)) ≡ key
-default_key zero columns [] fit = refl
-default_key zero columns (v ∷ vs) fit = absurd cc
-default_key (suc n) [] [] fit = refl
-default_key (suc n) [] (v ∷ vs) fit = absurd cc
-default_key (suc n) (c ∷ cs) [] fit = absurd cc
-default_key (suc n) (c ∷ cs) (v ∷ vs) fit = ap (λ (l : List Value). v ∷ l) (default_key n cs vs (second _ _ fit))
-  where
-    second : (a b : Bool) → (a && b) ≡ true → b ≡ true
-    second true b e = e
-    second false b e = absurd cc
 
 put_of_schema : (schema : Schema) (row : List Value) → fit_columns schema.columns row ≡ true → AreInRange row → IsOfSchema schema (put_of schema.keys row)
 put_of_schema schema row fits range = λ old stands. record { placed = refl; fits = fits; in_range = range }
@@ -63,7 +49,7 @@ ups_of_schema schema key ops key_fit key_range fit range = by_old
   where
     by_old : IsOfSchema schema (ups_of schema (key, ops))
     by_old None stands = changed schema key (default_row schema key) ops fit range (record {
-      placed = ap code_of (sym (default_key schema.keys schema.columns key key_fit));
+      placed = ap code_of (sym (default_row_key schema key key_fit));
       fits = default_row_fits schema key key_fit;
       in_range = default_row_in_range schema key key_range;
     })

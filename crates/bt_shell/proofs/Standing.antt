@@ -1,24 +1,16 @@
--- A batch of messages of the schema leaves each row in its place.
-use Rattle.std.proofs.Common.{◌≡◌, ℕ, Bool, true, false, cond, List, [], ◌∷◌, refl, sym, ap, subst, ◌∙◌, Option, Some, None, IfSome}
+-- A batch of messages of the schema leaves each row in its place. Serves the rows of a sound table.
+use Rattle.std.proofs.Common.{◌≡◌, Bool, true, false, cond, List, [], ◌∷◌, refl, sym, ap, subst, Option, Some, None, IfSome}
 use Rattle.std.specs.Ordering.{eq_by_cmp, is_eq}
-use Rattle.std.specs.declared.cmp.Ordering.{Ordering}
 use Rattle.std.specs.declared.cmp.Ordering.TheVariants.{Less, Equal, Greater}
-use Rattle.std.specs.FinMap.{find, put, nat_cmp-IsAntisymmetric, slice_cmp-IsAntisymmetric}
+use Rattle.std.specs.FinMap.{find, put}
 use Rattle.std.specs.FinMap.Entries.{by_order, where_key}
 use Rattle.bt_rowtype.specs.Schemas.{Schema}
 use Rattle.bt_rowtype.specs.declared.value.Value.{Value}
 use Rattle.bt_keycode.specs.Keys.{Key, key_cmp}
+use Rattle.bt_keycode.proofs.offered.Order.{same_key}
 use Rattle.bt_node.specs.Messages.{Rows, rows_after, with_value}
 use Rattle.bt_shell.specs.Standing.{AllStand, AreOfSchema, Stands}
 use Rattle.bt_shell.specs.Tables.{RowMessages, row_effect}
-
-tied_is : (o : Ordering) → is_eq o ≡ true → o ≡ Equal
-tied_is Less e = cc
-tied_is Equal e = refl
-tied_is Greater e = cc
-
-same_key : (a b : Key) → key_cmp a b ≡ Equal → a ≡ b
-same_key a b e = slice_cmp-IsAntisymmetric nat_cmp-IsAntisymmetric a b e
 
 where_key-stand : (schema : Schema) (p : Key → Bool) (rows : Rows (List Value)) → AllStand schema rows → AllStand schema (where_key key_cmp p rows)
 where_key-stand schema p [] stand = tt
@@ -31,7 +23,7 @@ put-stand schema k row [] stands all = (stands, tt)
 put-stand schema k row (r ∷ rs) stands all =
     elim (key_cmp k r.0) as (λ o. key_cmp k r.0 ≡ o → AllStand schema (by_order o ((k, row) ∷ r ∷ rs) ((r.0, row) ∷ rs) (r ∷ put key_cmp k row rs))) [
       | Less ↦ λ is. (stands, all)
-      | Equal ↦ λ is. (subst (λ (key : Key). Stands schema key row) (same_key k r.0 is) stands, all.1)
+      | Equal ↦ λ is. (subst (λ (key : Key). Stands schema key row) (same_key k r.0 (ap is_eq is)) stands, all.1)
       | Greater ↦ λ is. (all.0, put-stand schema k row rs stands all.1)
     ] refl
 
@@ -40,7 +32,7 @@ find-stands : (schema : Schema) (k : Key) (rows : Rows (List Value)) → AllStan
 find-stands schema k [] all = tt
 find-stands schema k (r ∷ rs) all =
     elim (eq_by_cmp key_cmp k r.0) as (λ b. eq_by_cmp key_cmp k r.0 ≡ b → IfSome (cond b (Some r.1) (find key_cmp k rs)) (λ row. Stands schema k row)) [
-      | true ↦ λ is. subst (λ (key : Key). Stands schema key r.1) (sym (same_key k r.0 (tied_is (key_cmp k r.0) is))) all.0
+      | true ↦ λ is. subst (λ (key : Key). Stands schema key r.1) (sym (same_key k r.0 is)) all.0
       | false ↦ λ is. find-stands schema k rs all.1
     ] refl
 

@@ -1,4 +1,4 @@
--- Worked lines and scripts, computed by the definitions themselves.
+-- Worked lines and scripts, computed by the definitions themselves. Serves as a test of the definitions.
 use Rattle.std.proofs.Common.{ℕ, List, [], ◌∷◌, ◌++◌, ◌≡◌, refl, codes}
 use Rattle.std.specs.Prelude.{Ok, Some, None, pos}
 use Rattle.std.specs.Char.{encode_utf8}

@@ -1,5 +1,5 @@
 -- A tree as text.
-use Rattle.std.specs.Prelude.{ℕ, zero, suc, ◌-◌, ◌^◌, min, List, [], ◌∷◌, ◌++◌, length, map, flat_map, get_or, Option, Some, None, codes, decimal}
+use Rattle.std.specs.Prelude.{ℕ, ◌-◌, ◌^◌, min, List, [], ◌∷◌, ◌++◌, length, map, flat_map, get_or, Option, Some, None, codes, decimal}
 use Rattle.bt_rowtype.specs.Records.{record_text}
 use Rattle.bt_rowtype.specs.Values.{text_of}
 use Rattle.bt_rowtype.specs.declared.op.Change.{Change}

@@ -1,5 +1,5 @@
 -- What a script writes, what its commands leave, and what a run wrote of it.
-use Rattle.std.specs.Prelude.{ℕ, ◌≡◌, List, [], ◌∷◌, ◌++◌, take, Option, None, Some, IfSome}
+use Rattle.std.specs.Prelude.{ℕ, ◌≡◌, List, [], ◌∷◌, ◌++◌, take, Option, None, IfSome}
 use Rattle.bt_script.specs.Commands.{Answer, commands}
 use Rattle.bt_script.specs.Streams.{Gave, Took, TookPrefix, source_of}
 use Rattle.bt_script.specs.declared.counted.Counted.{Counted}

@@ -1,8 +1,8 @@
 //! The messages of a batch, and what they do to a table.
-ghost use Rattle.std.specs.Prelude.{◌≡◌, ◌≢◌, ◌∷◌, ◌++◌, [], Ok, Err, None, Some, IfErr, IfOk, OnOk, length, take};
+ghost use Rattle.std.specs.Prelude.{◌≡◌, ◌∷◌, [], Some, IfErr, IfOk, OnOk, length, take};
 ghost use Rattle.std.specs.List.{filter_map};
-ghost use Rattle.std.specs.Option.{option_to_list};
-ghost use Rattle.std.specs.Result.{result_err, result_ok};
+ghost use Rattle.std.specs.Result.{result_err};
+ghost use Rattle.bt_rowtype.specs.Answers.{Answers};
 ghost use Rattle.bt_rowtype.specs.Refusals.{least, least_from};
 ghost use Rattle.bt_shell.specs.Steps as step;
 ghost use Rattle.bt_script.specs.declared.command.Command.TheVariants.{Batch};
@@ -12,20 +12,14 @@ use crate::table::Table;
 use bt_keycode::{Key, encode};
 use bt_messages::Message;
 use bt_rowtype::{
-    Change, Fields, Refusal, Row, Schema, Upsert, Value, default_row, read_key, read_row,
-    read_upsert,
+    Change, Fields, Reading, Refusal, Row, Schema, Upsert, Value, default_row, least_with,
+    read_key, read_row, read_upsert,
 };
 use bt_script::Item;
 use std::alloc::{AllocError, Global};
 
 /// The most messages of a batch.
 pub const MOST_MESSAGES: usize = 65_536;
-
-// What the lines of a batch spell: their messages, and the refusal that is answered if one is.
-struct Reading {
-    messages: Vec<(Key, Message<Row>)>,
-    refusal: Option<Refusal>,
-}
 
 // The key of a row, its first `keys` values.
 fn key_of(row: &Row, keys: usize) -> &[Value]
@@ -46,8 +40,7 @@ fn read_put(
     item: u64,
     fields: &Fields,
 ) -> Result<(Key, Message<Row>), Refusal>
-    ensures ok { IfOk result (λ message. step.read_message schema.now item (line.Put fields.now) ≡ Ok message) }
-    ensures refused { IfErr result (λ e. e ≢ Refusal.OutOfMemory → step.read_message schema.now item (line.Put fields.now) ≡ Err e) }
+    ensures { Answers (step.read_message schema.now item (line.Put fields.now)) result }
 {
     let row = read_row(alloc, schema, item, fields)?;
     let key = encode(alloc, key_of(&row, schema.keys()))?;
@@ -61,8 +54,7 @@ fn read_del(
     item: u64,
     fields: &Fields,
 ) -> Result<(Key, Message<Row>), Refusal>
-    ensures ok { IfOk result (λ message. step.read_message schema.now item (line.Del fields.now) ≡ Ok message) }
-    ensures refused { IfErr result (λ e. e ≢ Refusal.OutOfMemory → step.read_message schema.now item (line.Del fields.now) ≡ Err e) }
+    ensures { Answers (step.read_message schema.now item (line.Del fields.now)) result }
 {
     let key = read_key(alloc, schema, item, fields)?;
     Ok((encode(alloc, key.as_slice())?, Message::Del))
@@ -75,8 +67,7 @@ fn read_ups(
     item: u64,
     fields: &Fields,
 ) -> Result<(Key, Message<Row>), Refusal>
-    ensures ok { IfOk result (λ message. step.read_message schema.now item (line.Ups fields.now) ≡ Ok message) }
-    ensures refused { IfErr result (λ e. e ≢ Refusal.OutOfMemory → step.read_message schema.now item (line.Ups fields.now) ≡ Err e) }
+    ensures { Answers (step.read_message schema.now item (line.Ups fields.now)) result }
 {
     let Upsert { key, ops } = read_upsert(alloc, schema, item, fields)?;
     let code = encode(alloc, key.as_slice())?;
@@ -91,8 +82,7 @@ fn read_message(
     item: u64,
     line: &Item,
 ) -> Result<(Key, Message<Row>), Refusal>
-    ensures ok { IfOk result (λ message. step.read_message schema.now item line.now ≡ Ok message) }
-    ensures refused { IfErr result (λ e. e ≢ Refusal.OutOfMemory → step.read_message schema.now item line.now ≡ Err e) }
+    ensures { Answers (step.read_message schema.now item line.now) result }
 {
     match line {
         Item::Put(fields) => read_put(alloc, schema, item, fields),
@@ -101,56 +91,50 @@ fn read_message(
     }
 }
 
-// The lesser of a refusal that was found, if one was, and one more.
-fn lesser_of(found: Option<Refusal>, refusal: Refusal) -> Refusal
-    ensures { least_from found (refusal ∷ []) ≡ Some result }
-{
-    match found {
-        Some(found) => found.lesser(refusal),
-        None => refusal,
-    }
-}
-
-// Adds what one more line spells.
-fn add_line(
+// What the lines of a batch spell: their messages, and the refusal that is answered if one is.
+fn read_batch(
     alloc: Global,
     schema: &Schema,
-    reading: Reading,
+    items: &[Item],
+) -> Result<Reading<(Key, Message<Row>)>, AllocError>
+    ensures messages { IfOk result (λ read. read.values ≡ step.messages_of schema.now items.now) }
+    ensures refusal { IfOk result (λ read. read.refusal ≡ least (filter_map result_err (step.read_batch schema.now 1 items.now))) }
+{
+    let mut reading = Reading::new(alloc);
+    for (place, line) in items.iter().enumerate() {
+        reading.add(read_message(alloc, schema, place as u64 + 1, line))?;
+    }
+    Ok(reading)
+}
+
+// The refusal of a line as this item, if it spells no message.
+fn refusal_of(
+    alloc: Global,
+    schema: &Schema,
     item: u64,
     line: &Item,
-) -> Result<Reading, AllocError>
-    ensures messages { IfOk result (λ read. read.messages.items ≡ reading.messages.items ++ option_to_list (result_ok (step.read_message schema.now item line.now))) }
-    ensures refusal { IfOk result (λ read. read.refusal ≡ least_from reading.refusal (option_to_list (result_err (step.read_message schema.now item line.now)))) }
+) -> Result<Option<Refusal>, AllocError>
+    ensures { IfOk result (λ refusal. refusal ≡ result_err (step.read_message schema.now item line.now)) }
 {
-    let Reading {
-        mut messages,
-        refusal,
-    } = reading;
     match read_message(alloc, schema, item, line) {
-        Ok(message) => {
-            messages.push(message)?;
-            Ok(Reading { messages, refusal })
-        }
+        Ok(_message) => Ok(None),
         Err(Refusal::OutOfMemory) => Err(AllocError),
-        Err(other) => Ok(Reading {
-            messages,
-            refusal: Some(lesser_of(refusal, other)),
-        }),
+        Err(other) => Ok(Some(other)),
     }
 }
 
-fn read_batch(alloc: Global, schema: &Schema, items: &[Item]) -> Result<Reading, AllocError>
-    ensures messages { IfOk result (λ read. read.messages.items ≡ step.messages_of schema.now items.now) }
-    ensures refusal { IfOk result (λ read. read.refusal ≡ least (filter_map result_err (step.read_batch schema.now 1 items.now))) }
+// The refusal of a batch that has too many lines: no message is kept, and the least of the lines' refusals goes before the
+// limit's where it is less.
+fn refuse_many(alloc: Global, schema: &Schema, items: &[Item]) -> Result<Refusal, AllocError>
+    ensures { IfOk result (λ refusal. least_from (least (filter_map result_err (step.read_batch schema.now 1 items.now))) (Refusal.TooMany ∷ []) ≡ Some refusal) }
 {
-    let mut reading = Reading {
-        messages: Vec::new(alloc),
-        refusal: None,
-    };
+    let mut found = None;
     for (place, line) in items.iter().enumerate() {
-        reading = add_line(alloc, schema, reading, place as u64 + 1, line)?;
+        if let Some(refusal) = refusal_of(alloc, schema, place as u64 + 1, line)? {
+            found = Some(least_with(found, refusal));
+        }
     }
-    Ok(reading)
+    Ok(least_with(found, Refusal::TooMany))
 }
 
 /// Applies a batch and gives the number of its messages. The least refusal that applies is answered, and then, unless it is
@@ -160,13 +144,13 @@ pub fn apply_batch(alloc: Global, table: &mut Table, items: &[Item]) -> Result<u
     ensures count { IfOk result (λ count. count ≡ length items.now) }
     ensures refused { IfErr result (step.IsRefused (Some table.old) (Some table.new) (Batch items.now)) }
 {
-    let Reading { messages, refusal } = read_batch(alloc, table.schema(), items)?;
     if items.len() > MOST_MESSAGES {
-        return Err(lesser_of(refusal, Refusal::TooMany));
+        return Err(refuse_many(alloc, table.schema(), items)?);
     }
+    let Reading { values, refusal } = read_batch(alloc, table.schema(), items)?;
     if let Some(refusal) = refusal {
         return Err(refusal);
     }
-    table.apply(alloc, messages)?;
+    table.apply(alloc, values.into_vec())?;
     Ok(items.len())
 }

@@ -6,7 +6,7 @@ ghost use Rattle.bt_shell.specs.Programs.{AnswersPrefix, AnswersReplies, Answers
 ghost use Rattle.bt_shell.specs.Runs.{WritesPrefix, WritesReplies, WritesRun};
 ghost use Rattle.std.specs.declared.option.Option.TheVariants.{None};
 
-use crate::run::run_script;
+use crate::run::{flush, run_script};
 use bt_rowtype::Texts;
 use bt_script::{Counted, RunFault, SCRIPT_LIMIT, WordsError, read_words, write_text};
 use std::alloc::AllocError;
@@ -156,12 +156,9 @@ fn answer<R: Files + AllocGlobal, I: Read, W: Write>(
     ensures at_most { GaveAtMost I.remaining input.old input.new (SCRIPT_LIMIT + 1) }
 {
     let ended = run_words(rt, words, input, output);
-    let flushed = output.flush();
+    let flushed = flush(output);
     ended?;
-    match flushed {
-        Ok(()) => Ok(()),
-        Err(_) => Err(ProgramFault::Run(RunFault::Write)),
-    }
+    Ok(flushed?)
 }
 
 /// Runs the program over its words, its name first, and three streams, and answers its exit status. 0: the script ran, or

@@ -1,5 +1,6 @@
 //! The run of a script.
 ghost use Rattle.std.specs.Prelude.{◌≡◌, ◌+◌, false, true, IfSome, IsErrOf, OnErr, OnOk, ℕ, List};
+ghost use Rattle.std.specs.Io.KnownBytes.{Keeps};
 ghost use Rattle.bt_script.specs.Streams.{FailsToGive, GaveAtMost, Took, TookPrefix, count_of, has_failed, source_of};
 ghost use Rattle.bt_shell.specs.Runs.{Runs, TookReplies, WritesPrefix, WritesReplies, run, state_after_commands};
 ghost use Rattle.bt_shell.specs.Standing.{IsSound};
@@ -8,6 +9,19 @@ use crate::session::next_reply;
 use bt_script::{Counted, RunFault, SCRIPT_LIMIT, read_script, write_text};
 use std::alloc::Global;
 use std::io::{Read, Write};
+
+// Flushes what was written. A flush that fails is a failed write.
+pub(crate) fn flush<W: Write>(writer: &mut Counted<W>) -> Result<(), RunFault>
+    ensures bytes { Keeps (W.contents (source_of writer.old)) (W.contents (source_of writer.new)) }
+    ensures count { count_of writer.new ≡ count_of writer.old }
+    ensures healthy { OnOk result (has_failed writer.new ≡ has_failed writer.old) }
+    ensures fault { OnErr result (IsErrOf result RunFault.Write × (has_failed writer.new ≡ true)) }
+{
+    if writer.flush().is_err() {
+        return Err(RunFault::Write);
+    }
+    Ok(())
+}
 
 // Writes the replies to the commands of a script, and flushes them.
 fn write_replies<W: Write>(
@@ -28,9 +42,7 @@ fn write_replies<W: Write>(
         write_text(writer, step.text.as_slice())?;
         at = step.next;
     }
-    if writer.flush().is_err() {
-        return Err(RunFault::Write);
-    }
+    flush(writer)?;
     Ok(())
 }
 

@@ -1,7 +1,5 @@
 -- What is read fits its columns, and operations keep it so. Serves the invariant of a table.
-use Rattle.std.proofs.Common.{ℕ, zero, suc, ◌≤◌, Bool, List, [], ◌∷◌, ◌≡◌, ◌==◌, ◌∙◌, refl, sym, ap, subst, true, false, arith, length, length-take, take, drop, Option, Some, None, Ok, Err, if◌then◌else◌}
-use Rattle.std.proofs.Math.Seq.{take-append_seam}
-use Rattle.std.specs.Cmp.Lexicographic.{as_long}
+use Rattle.std.proofs.Common.{ℕ, zero, suc, Bool, List, [], ◌∷◌, ◌++◌, ◌≡◌, ◌==◌, ◌∙◌, refl, sym, ap, subst, true, false, length, take, drop, Option, Some, None, Ok, Err, if◌then◌else◌}
 use Rattle.std.specs.List.{filter_map}
 use Rattle.std.specs.Prelude.{map}
 use Rattle.std.specs.Result.{result_err, result_ok}
@@ -84,11 +82,18 @@ after_ops_key schema (op ∷ ops) row fits fit =
 pub default_row_fits : (schema : Schema) (key : List Value) → fit_columns (take schema.keys schema.columns) key ≡ true → fit_columns schema.columns (default_row schema key) ≡ true
 default_row_fits schema key fit = joined_fit schema.keys schema.columns key (map (λ c. default_of c.kind) (drop schema.keys schema.columns)) fit (defaults_fit (drop schema.keys schema.columns))
 
-pub default_row_key : (schema : Schema) (key : List Value) → schema.keys ≤ length schema.columns → fit_columns (take schema.keys schema.columns) key ≡ true → take schema.keys (default_row schema key) ≡ key
-default_row_key schema key within fit =
-    let same : length (take schema.keys schema.columns) ≡ length key = as_long (λ c v. fits_kind c.kind v) (take schema.keys schema.columns) key fit in
-    let long : length key ≡ schema.keys = omega (arith, same, length-take schema.keys schema.columns) in
-    ap (λ n. take n (default_row schema key)) (sym long) ∙ take-append_seam key (map (λ c. default_of c.kind) (drop schema.keys schema.columns))
+-- it begins with the key
+defaults_behind : (n : ℕ) (columns : List Column) (key : List Value) → fit_columns (take n columns) key ≡ true → take n (key ++ map (λ c. default_of c.kind) (drop n columns)) ≡ key
+defaults_behind zero columns [] fit = refl
+defaults_behind zero columns (v ∷ key) fit = absurd cc
+defaults_behind (suc n) [] [] fit = refl
+defaults_behind (suc n) [] (v ∷ key) fit = absurd cc
+defaults_behind (suc n) (c ∷ columns) [] fit = absurd cc
+defaults_behind (suc n) (c ∷ columns) (v ∷ key) fit =
+    ap (λ (l : List Value). v ∷ l) (defaults_behind n columns key (second_true (fits_kind c.kind v) (fit_columns (take n columns) key) fit))
+
+pub default_row_key : (schema : Schema) (key : List Value) → fit_columns (take schema.keys schema.columns) key ≡ true → take schema.keys (default_row schema key) ≡ key
+default_row_key schema key fit = defaults_behind schema.keys schema.columns key fit
 
 -- the key of a row that fits fits the key's columns
 pub prefix_fits : (n : ℕ) (columns : List Column) (row : List Value) → fit_columns columns row ≡ true → fit_columns (take n columns) (take n row) ≡ true

@@ -8,6 +8,6 @@ use Rattle.bt_shell.proofs.batch.read_batch.Given as goal
 -- the messages so far, and the least refusal so far, stand for the lines before this one
 abbrev pub invariant-loop-place : goal.invariant-loop-place
 invariant-loop-place l = record {
-  messages : step.messages_of l.schema l.items ≡ l.reading.messages.items ++ filter_map result_ok (step.read_batch l.schema (l.place + 1) (drop l.place l.items));
+  messages : step.messages_of l.schema l.items ≡ l.reading.values ++ filter_map result_ok (step.read_batch l.schema (l.place + 1) (drop l.place l.items));
   refusal : least (filter_map result_err (step.read_batch l.schema 1 l.items)) ≡ least_from l.reading.refusal (filter_map result_err (step.read_batch l.schema (l.place + 1) (drop l.place l.items)));
 }

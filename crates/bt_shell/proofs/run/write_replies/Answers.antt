@@ -1,9 +1,8 @@
-use Rattle.std.proofs.Common.{List, ◌≡◌, arith, rules, ap, drop, sym, subst, ℕ}
+use Rattle.std.proofs.Common.{arith, rules, drop, sym, subst}
 use Rattle.bt_script.specs.Commands.{commands}
-use Rattle.bt_script.specs.Streams.{Took, TookPrefix}
-use Rattle.bt_script.proofs.offered.Streams.{Took-kept, Took-nil, prefix-done}
-use Rattle.bt_shell.specs.Runs.{IsTurn, run}
-use Rattle.bt_shell.proofs.Turns.{HasRun, on_err, run_begins, run_breaks, run_ends, run_goes_on, run_prefix, run_replies}
+use Rattle.bt_script.proofs.offered.Streams.{Took-kept, Took-nil}
+use Rattle.bt_shell.specs.Runs.{IsTurn}
+use Rattle.bt_shell.proofs.Turns.{on_err, run_begins, run_breaks, run_goes_on, run_prefix, run_replies}
 use Rattle.bt_shell.proofs.run.write_replies.Goals as goal
 
 pub commands-init : goal.commands-init
@@ -52,8 +51,9 @@ commands-preserved g c =
     }
 
 -- all is written, and the flush fails
-pub returns-then-is_err-clause-err : goal.returns-then-is_err-clause-err
-returns-then-is_err-clause-err g c =
+pub returns-in_err-flush-clause-err : goal.returns-in_err-flush-clause-err
+returns-in_err-flush-clause-err g c =
     let script = c.args.script.now in
     let so_far = run_prefix g.W.Write.contents c.args.writer.now c.commands.writer c.commands.table (commands script) (commands (drop c.commands.at script)) c.commands.invariant.so_far in
-    (so_far.0, Took-kept g.W.Write.contents c.args.writer.now c.commands.writer c.flush.new.self _ so_far.1 c.flush.ensures.bytes c.flush.ensures.count)
+    on_err c.from_residual-in_err-flush.result _
+    (so_far.0, Took-kept g.W.Write.contents c.args.writer.now c.commands.writer c.flush.new.writer _ so_far.1 c.flush.ensures.bytes c.flush.ensures.count)

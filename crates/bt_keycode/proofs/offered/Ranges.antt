@@ -1,4 +1,4 @@
--- What records spell lies in the ranges of its kinds, and operations leave it there: for the rows of a table.
+-- What records spell lies in the ranges of its kinds, and operations leave it there. The codes of a table's rows stand on it.
 use Rattle.std.proofs.Common.{ℕ, zero, suc, ◌+◌, ◌-◌, ◌^◌, ◌≤◌, ◌<◌, ◌≡◌, ◌==◌, ◌&&◌, Bool, true, false, List, [], ◌∷◌, ◌++◌, refl, arith, length, take, drop, get_or, set, codes, map, nat_le, Option, Some, None, IfSome, IfOk, Result, Ok, Err, ℤ, pos, negsuc, neg_ℤ, if◌then◌else◌}
 use Rattle.std.proofs.lemmas.Bool.Decides.{nat_tests}
 use Rattle.std.proofs.lemmas.Str.{IsUtf8-nil, is_utf8-from_IsUtf8}
@@ -22,18 +22,9 @@ use Rattle.bt_rowtype.specs.declared.value.Kind.TheVariants as kind
 use Rattle.bt_rowtype.specs.declared.value.Value.{Value}
 use Rattle.bt_rowtype.specs.declared.value.Value.TheVariants as value
 use Rattle.bt_keycode.specs.Codes.{AreInRange}
+use Rattle.bt_keycode.proofs.Decoding.{first_in_range, others_in_range}
 
 -- ---- lists of values in range
-
-pub first_in_range : (v : Value) (vs : List Value) → AreInRange (v ∷ vs) → AreInRange (v ∷ [])
-first_in_range (value.Int n) vs h = (h.0, tt)
-first_in_range (value.Text bytes) vs h = (h.0, tt)
-first_in_range (value.Flag flag) vs h = tt
-
-pub others_in_range : (v : Value) (vs : List Value) → AreInRange (v ∷ vs) → AreInRange vs
-others_in_range (value.Int n) vs h = h.1
-others_in_range (value.Text bytes) vs h = h.1
-others_in_range (value.Flag flag) vs h = h
 
 cons_in_range : (v : Value) (vs : List Value) → AreInRange (v ∷ []) → AreInRange vs → AreInRange (v ∷ vs)
 cons_in_range (value.Int n) vs h rest = (h.0, rest)
