@@ -48,25 +48,6 @@ impl<V: Merge> Buffer<V> {
         self.messages.len()
     }
 
-    /// The message at a place, counted from 0, and its key.
-    pub fn get(&self, place: usize) -> (&Key, &Message<V>)
-        requires { place < length self.now }
-        ensures { slice_get self.now place ≡ Some (result.0.now, result.1.now) }
-    {
-        let entry = &self.messages[place];
-        (&entry.0, &entry.1)
-    }
-
-    /// How many messages have a key before this one: the place of the first that is at or past it.
-    pub fn first_from(&self, key: &Key) -> usize
-        ensures bound { result ≤ length self.now }
-        ensures before { take result self.now ≡ messages_before key.now self.now }
-        ensures from { drop result self.now ≡ messages_from key.now self.now }
-        ensures sorted { IsSorted self.now }
-    {
-        sorted::place_of(self.messages.as_slice(), key)
-    }
-
     /// The messages and their keys, in order.
     pub fn iter(&self) -> Messages<'_, V>
         ensures messages { result ≡ self.now }
