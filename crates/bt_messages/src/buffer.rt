@@ -1,5 +1,5 @@
 //! Buffers: what is pending at a node.
-ghost use Rattle.std.specs.Prelude.{◌≡◌, ◌==◌, ◌<◌, ◌≤◌, [], Some, IfOk, OnOk, OnErr, drop, length, slice_get, take};
+ghost use Rattle.std.specs.Prelude.{◌≡◌, ◌^◌, ◌==◌, ◌<◌, ◌≤◌, [], Some, IfOk, OnOk, OnErr, drop, length, slice_get, take};
 ghost use Rattle.bt_keycode.specs.Keys.{IsSorted};
 ghost use Rattle.bt_messages.specs.Messages.{messages_before, messages_between, messages_from, messages_outside, with_messages};
 ghost use Rattle.std.specs.Option.{option_copied};
@@ -43,7 +43,8 @@ impl<V: Merge> Buffer<V> {
 
     /// The number of messages.
     pub fn count(&self) -> usize
-        ensures { result ≡ length self.now }
+        ensures count { result ≡ length self.now }
+        ensures bound { result < 2 ^ 63 }
     {
         self.messages.len()
     }
@@ -63,13 +64,6 @@ impl<V: Merge> Buffer<V> {
     {
         let place = sorted::place_of(self.messages.as_slice(), key);
         Messages::of_sorted(&self.messages[place..])
-    }
-
-    /// A copy of the messages.
-    pub fn copy_messages(&self, alloc: Global) -> Result<Packet<V>, AllocError>
-        ensures { IfOk result (λ packet. packet ≡ self.now) }
-    {
-        Ok(Packet::from_sorted(sorted::copied(alloc, self.messages.as_slice())?))
     }
 
     /// The messages, to be taken off in order.
