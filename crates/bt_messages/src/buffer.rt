@@ -1,7 +1,7 @@
 //! Buffers: what is pending at a node.
-ghost use Rattle.std.specs.Prelude.{◌≡◌, ◌^◌, ◌==◌, ◌<◌, ◌≤◌, [], Some, IfOk, OnOk, OnErr, drop, length, slice_get, take};
+ghost use Rattle.std.specs.Prelude.{◌≡◌, ◌^◌, ◌<◌, [], IfOk, OnOk, OnErr, length};
 ghost use Rattle.bt_keycode.specs.Keys.{IsSorted};
-ghost use Rattle.bt_messages.specs.Messages.{messages_before, messages_between, messages_from, messages_outside, with_messages};
+ghost use Rattle.bt_messages.specs.Messages.{messages_between, messages_from, messages_outside, with_messages};
 ghost use Rattle.std.specs.Option.{option_copied};
 
 use crate::iter::Messages;

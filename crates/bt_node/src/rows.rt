@@ -200,6 +200,9 @@ impl<V: Merge> Rows<V> {
     pub(crate) fn after_buffer(self, alloc: Global, buffer: &Buffer<V>) -> Result<Self, AllocError>
         ensures { IfOk result (λ rows. rows ≡ rows_after (effect_of V.merged) buffer.now self) }
     {
+        if buffer.count() == 0 {
+            return Ok(self);
+        }
         let Rows { rows } = self;
         let mut changed = Vec::with_capacity(alloc, rows.len() + buffer.count())?;
         let mut older = VecDeque::from(rows);
