@@ -1,7 +1,7 @@
 //! Buffers: what is pending at a node.
-ghost use Rattle.std.specs.Prelude.{◌≡◌, ◌==◌, ◌<◌, ◌≤◌, [], Some, IfOk, OnOk, OnErr, drop, length, slice_get, take};
+ghost use Rattle.std.specs.Prelude.{◌≡◌, ◌^◌, ◌<◌, [], IfOk, OnOk, OnErr, length};
 ghost use Rattle.bt_keycode.specs.Keys.{IsSorted};
-ghost use Rattle.bt_messages.specs.Messages.{messages_before, messages_between, messages_from, messages_outside, with_messages};
+ghost use Rattle.bt_messages.specs.Messages.{messages_between, messages_from, messages_outside, with_messages};
 ghost use Rattle.std.specs.Option.{option_copied};
 
 use crate::iter::Messages;
@@ -43,28 +43,10 @@ impl<V: Merge> Buffer<V> {
 
     /// The number of messages.
     pub fn count(&self) -> usize
-        ensures { result ≡ length self.now }
+        ensures count { result ≡ length self.now }
+        ensures bound { result < 2 ^ 63 }
     {
         self.messages.len()
-    }
-
-    /// The message at a place, counted from 0, and its key.
-    pub fn get(&self, place: usize) -> (&Key, &Message<V>)
-        requires { place < length self.now }
-        ensures { slice_get self.now place ≡ Some (result.0.now, result.1.now) }
-    {
-        let entry = &self.messages[place];
-        (&entry.0, &entry.1)
-    }
-
-    /// How many messages have a key before this one: the place of the first that is at or past it.
-    pub fn first_from(&self, key: &Key) -> usize
-        ensures bound { result ≤ length self.now }
-        ensures before { take result self.now ≡ messages_before key.now self.now }
-        ensures from { drop result self.now ≡ messages_from key.now self.now }
-        ensures sorted { IsSorted self.now }
-    {
-        sorted::place_of(self.messages.as_slice(), key)
     }
 
     /// The messages and their keys, in order.
@@ -82,13 +64,6 @@ impl<V: Merge> Buffer<V> {
     {
         let place = sorted::place_of(self.messages.as_slice(), key);
         Messages::of_sorted(&self.messages[place..])
-    }
-
-    /// A copy of the messages.
-    pub fn copy_messages(&self, alloc: Global) -> Result<Packet<V>, AllocError>
-        ensures { IfOk result (λ packet. packet ≡ self.now) }
-    {
-        Ok(Packet::from_sorted(sorted::copied(alloc, self.messages.as_slice())?))
     }
 
     /// The messages, to be taken off in order.

@@ -1,5 +1,5 @@
 //! Messages gone through in order.
-ghost use Rattle.std.specs.Prelude.{◌≡◌};
+ghost use Rattle.std.specs.Prelude.{◌≡◌, []};
 ghost use Rattle.std.specs.Iterator.{YieldsFirstBy, item_count};
 ghost use Rattle.bt_keycode.specs.Keys.{IsSorted};
 
@@ -26,6 +26,13 @@ impl<'a, V: Merge> Model for Messages<'a, V> {
 }
 
 impl<'a, V: Merge> Messages<'a, V> {
+    /// No message.
+    pub fn none() -> Self
+        ensures { result ≡ [] }
+    {
+        Messages { left: &[] }
+    }
+
     // The messages of a list that is sorted by key.
     pub(crate) fn of_sorted(messages: &'a [(Key, Message<V>)]) -> Self
         requires { IsSorted messages.now }

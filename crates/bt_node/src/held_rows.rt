@@ -24,8 +24,7 @@ pub(crate) fn held_rows<V: Merge>(alloc: Global, node: &Node<V>) -> Result<Rows<
                 let mut rows = held_rows(alloc, child)?.into_vec();
                 below.append(&mut rows)?;
             }
-            let packet = buffer.copy_messages(alloc)?;
-            Rows::from_sorted(below).after(alloc, packet)
+            Rows::from_sorted(below).after_buffer(alloc, buffer)
         }
     }
 }

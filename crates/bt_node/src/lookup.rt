@@ -2,8 +2,10 @@
 ghost use Rattle.std.specs.Prelude.{◌≡◌, ◌≤◌, IfOk, length};
 ghost use Rattle.std.specs.Option.{option_copied};
 ghost use Rattle.bt_messages.specs.Effects.{effect_of};
+ghost use Rattle.bt_node.specs.Fits.{IsInOrder};
 ghost use Rattle.bt_node.specs.Lookups.{pivots_up_to, value_at};
 ghost use Rattle.bt_node.specs.Messages.{value_after};
+ghost use Rattle.bt_node.specs.Parts.{AreRising};
 
 use crate::node::{Kind, Node};
 use bt_keycode::Key;
@@ -21,17 +23,13 @@ fn copied<V: Merge>(alloc: Global, value: Option<&V>) -> Result<Option<V>, Alloc
     }
 }
 
-// How many of these pivots are at most the key.
+// How many of these pivots are at most the key, found by halving.
 fn pivots_up_to(pivots: &[Key], key: &Key) -> usize
+    requires { AreRising pivots.now }
     ensures count { result ≡ pivots_up_to key.now pivots.now }
     ensures bound { result ≤ length pivots.now }
 {
-    for (place, pivot) in pivots.iter().enumerate() {
-        if key.compare(pivot) == Ordering::Less {
-            return place;
-        }
-    }
-    pivots.len()
+    pivots.partition_point(|pivot| key.compare(pivot) != Ordering::Less)
 }
 
 // What the messages to a key make of the value there.
@@ -60,6 +58,7 @@ pub(crate) fn value_at<V: Merge>(
     node: &Node<V>,
     key: &Key,
 ) -> Result<Option<V>, AllocError>
+    requires { IsInOrder node.now }
     ensures { IfOk result (λ value. value ≡ value_at (effect_of V.merged) key.now node.now) }
 {
     match node.kind() {

@@ -9,7 +9,7 @@ ghost use Rattle.bt_node.specs.Messages.{before, from, rows_after, with_value};
 
 use crate::deal;
 use bt_keycode::Key;
-use bt_messages::{Merge, Packet, effect};
+use bt_messages::{Buffer, Merge, Packet, effect, effect_borrowed};
 use std::alloc::{AllocError, Global};
 use std::cmp::Ordering;
 use std::collections::VecDeque;
@@ -94,6 +94,22 @@ fn put_front<V: Merge>(
     Ok(())
 }
 
+// Puts a row in front of the others, with a copy of the key, where there is a value.
+fn put_copied_front<V: Merge>(
+    alloc: Global,
+    rows: &mut VecDeque<(Key, V)>,
+    key: &Key,
+    value: Option<V>,
+) -> Result<(), AllocError>
+    ensures row { OnOk result (rows.new.items ≡ option_to_list (option_map (λ v. (key.now, v)) value) ++ rows.old.items) }
+    ensures len { OnOk result (length rows.new.items ≤ length rows.old.items + 1) }
+{
+    if let Some(value) = value {
+        rows.push_front((key.copy(alloc)?, value))?;
+    }
+    Ok(())
+}
+
 impl<V: Merge> Rows<V> {
     /// No row.
     pub(crate) fn new(alloc: Global) -> Self
@@ -173,6 +189,28 @@ impl<V: Merge> Rows<V> {
             let old = take_first(&mut older, &key);
             let new = effect(alloc, old, message)?;
             put_front(&mut older, key, new)?;
+        }
+        for row in older {
+            changed.push_reserved(row);
+        }
+        Ok(Rows { rows: changed })
+    }
+
+    /// The rows after the messages of a buffer, in one merge. The messages stay: what they put is copied.
+    pub(crate) fn after_buffer(self, alloc: Global, buffer: &Buffer<V>) -> Result<Self, AllocError>
+        ensures { IfOk result (λ rows. rows ≡ rows_after (effect_of V.merged) buffer.now self) }
+    {
+        if buffer.count() == 0 {
+            return Ok(self);
+        }
+        let Rows { rows } = self;
+        let mut changed = Vec::with_capacity(alloc, rows.len() + buffer.count())?;
+        let mut older = VecDeque::from(rows);
+        for (key, message) in buffer.iter() {
+            move_before(&mut changed, &mut older, key);
+            let old = take_first(&mut older, key);
+            let new = effect_borrowed(alloc, old, message)?;
+            put_copied_front(alloc, &mut older, key, new)?;
         }
         for row in older {
             changed.push_reserved(row);

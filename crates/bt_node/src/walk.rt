@@ -10,7 +10,7 @@ ghost use Rattle.bt_node.specs.Walks as walk;
 use crate::lookup::value_at;
 use crate::node::{Kind, Node};
 use bt_keycode::Key;
-use bt_messages::{Merge, Message};
+use bt_messages::{Merge, Messages};
 use std::alloc::{AllocError, Global};
 use std::marker::Model;
 
@@ -80,15 +80,14 @@ impl<'a, V: Merge> Walk<'a, V> {
         }
     }
 
-    /// A message in the buffer of an inner node, counted from 0, and its key.
-    pub fn message(&self, place: usize) -> (&'a Key, &'a Message<V>)
-        requires { place < length (walk.messages_of self.now) }
-        ensures { slice_get (walk.messages_of self.now) place ≡ Some (result.0.now, result.1.now) }
+    /// The messages in the buffer of an inner node with their keys, in order, and none of a leaf.
+    pub fn messages(&self) -> Messages<'a, V>
+        ensures { result ≡ walk.messages_of self.now }
     {
-        match self.node.kind() {
-            Kind::Leaf(_) => unreachable!(),
-            Kind::Inner { buffer, .. } => buffer.get(place),
-        }
+        let Kind::Inner { buffer, .. } = self.node.kind() else {
+            return Messages::none();
+        };
+        buffer.iter()
     }
 
     /// The number of children of an inner node, and 0 of a leaf.

@@ -225,8 +225,7 @@ fn write_messages(
 ) -> Result<(), AllocError>
     ensures { OnOk result (out.new.items ≡ out.old.items ++ flat_map (spec.message_line columns.now indent.now) (messages_of walk.now)) }
 {
-    for place in 0..walk.message_count() {
-        let (key, message) = walk.message(place);
+    for (key, message) in walk.messages() {
         write_message_line(alloc, out, columns, indent, key, message)?;
     }
     Ok(())

@@ -168,12 +168,16 @@ pub(crate) fn packet_text<V: Sample>(
     Ok(out)
 }
 
-/// The messages of a buffer, in order, by a copy of them.
+/// The messages of a buffer, in order.
 pub(crate) fn buffer_text<V: Sample>(
     alloc: Global,
     buffer: &Buffer<V>,
 ) -> Result<Vec<u8>, AllocError> {
-    packet_text(alloc, buffer.copy_messages(alloc)?)
+    let mut out = Vec::new(alloc);
+    for (key, message) in buffer.iter() {
+        add_message(alloc, &mut out, key, message)?;
+    }
+    Ok(out)
 }
 
 /// Adds a value and its key: `a1 `.

@@ -34,8 +34,7 @@ fn add_messages<V: Sample>(
     out: &mut Vec<u8>,
     walk: &Walk<'_, V>,
 ) -> Result<(), AllocError> {
-    for place in 0..walk.message_count() {
-        let (key, message) = walk.message(place);
+    for (key, message) in walk.messages() {
         add_message(alloc, out, key, message)?;
     }
     Ok(())

@@ -6,6 +6,7 @@ pub mod DealLoop
 pub mod GroupLoops
 pub mod LookupPath
 pub mod Marks
+pub mod PivotSearch
 pub mod RowPass
 pub mod RowSearch
 pub mod RowsOfChildren

@@ -26,10 +26,9 @@ from_sorted-requires g t c =
     below_sorted c.args.node.now c.in-Inner.children c.in-Inner.buffer here c.nodes-child-items.result.now c.nodes-child-items.ensures c.loop-child.child-index (effect_of g.V.Merge.merged)
     c.loop-child.below.items c.loop-child.invariant c.loop-child-test.false c.requires
 
-pub returns-in_ok-packet-in-Inner : goal.returns-in_ok-packet-in-Inner
-returns-in_ok-packet-in-Inner g t c =
+pub returns-after-loop-child : goal.returns-after-loop-child
+returns-after-loop-child g t c =
     let here = c.kind.ensures ∙ ap tree_of c.in-Inner.is in
     let all = held_above c.args.node.now c.in-Inner.children c.in-Inner.buffer here c.nodes-child-items.result.now c.nodes-child-items.ensures c.loop-child.child-index (effect_of g.V.Merge.merged)
     c.loop-child.below.items c.loop-child.invariant c.loop-child-test.false in
-    if_ok _ _ c.after.result (λ rows e. e ∙ ap (λ p. rows_after (effect_of g.V.Merge.merged) p c.from_sorted.result) c.in_ok-packet-in-Inner.ensures
-    ∙ ap (rows_after (effect_of g.V.Merge.merged) c.in-Inner.buffer) c.from_sorted.ensures ∙ all) c.after.ensures
+    if_ok _ _ c.after_buffer.result (λ rows e. e ∙ ap (rows_after (effect_of g.V.Merge.merged) c.in-Inner.buffer) c.from_sorted.ensures ∙ all) c.after_buffer.ensures

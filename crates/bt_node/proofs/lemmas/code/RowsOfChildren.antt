@@ -53,7 +53,8 @@ module _ {V M : Type 0} where
   each_holds-all effect (x ∷ xs) = ap (λ z. holds effect x.1 ++ z) (each_holds-all effect xs)
 
   module _ (t : Tree V M) (xs : Siblings V M) (buffer : Messages M) (here : t ≡ inner (nodes xs) buffer) where
-    siblings_lie : IsInOrder t → (levels : ℕ) × (low : Option Key) × (high : Option Key) × SiblingsLie levels low high xs
+    -- the children of a node in order lie side by side
+    pub siblings_lie : IsInOrder t → (levels : ℕ) × (low : Option Key) × (high : Option Key) × SiblingsLie levels low high xs
     siblings_lie order =
         let lies = subst (Lies order.0 order.1 order.2) here order.3 in
         let below = children_lie order.0 order.1 order.2 (nodes xs) buffer lies in

@@ -3,7 +3,8 @@ use Rattle.bt_messages.specs.Effects.{effect_of}
 use Rattle.bt_node.specs.Kinds.{tree_of}
 use Rattle.bt_node.proofs.lemmas.code.AbsorbStep.{if_ok}
 use Rattle.bt_node.proofs.lemmas.code.LookupPath.{along}
-use Rattle.bt_node.proofs.lemmas.code.RowsOfChildren.{child_lower}
+use Rattle.bt_node.proofs.lemmas.code.PivotSearch.{pivots_rise}
+use Rattle.bt_node.proofs.lemmas.code.RowsOfChildren.{child_in_order, child_lower}
 use Rattle.bt_node.proofs.lemmas.code.SiblingParts.{pivot_within}
 use Rattle.bt_node.proofs.lookup.+value_at.Goals as goal
 
@@ -12,7 +13,12 @@ value_at-requires g t c κs within =
     let here = c.kind.ensures ∙ ap tree_of c.in-Inner.is in
     let below = pivot_within c.in-Inner.children c.nodes.result.now c.pivots.result.now c.pivots_up_to.result c.nodes.ensures c.pivots.ensures.pivots c.pivots.ensures.some c.pivots_up_to.ensures.bound in
     let less = child_lower c.args.node.now c.in-Inner.children c.in-Inner.buffer here c.nodes.result.now c.nodes.ensures c.pivots_up_to.result c.index-nodes-pivots_up_to.result below c.index-nodes-pivots_up_to.is in
-    (omega (arith, less, c.decreases), (within.0, within.1))
+    let order = child_in_order c.args.node.now c.in-Inner.children c.in-Inner.buffer here c.nodes.result.now c.nodes.ensures c.pivots_up_to.result c.index-nodes-pivots_up_to.result below c.index-nodes-pivots_up_to.is c.requires in
+    (omega (arith, less, c.decreases), (within.0, (within.1, order)))
+
+pub pivots_up_to-requires : goal.pivots_up_to-requires
+pivots_up_to-requires g t c =
+    pivots_rise c.args.node.now c.in-Inner.children c.in-Inner.buffer c.pivots.result.now (c.kind.ensures ∙ ap tree_of c.in-Inner.is) c.pivots.ensures.pivots c.requires
 
 pub returns-in_ok-old-in-Inner : goal.returns-in_ok-old-in-Inner
 returns-in_ok-old-in-Inner g t c =
