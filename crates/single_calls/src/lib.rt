@@ -7,8 +7,6 @@
 #[cfg(test)]
 mod codes;
 #[cfg(test)]
-mod highest;
-#[cfg(test)]
 mod messages;
 #[cfg(test)]
 mod operations;

@@ -1,7 +1,6 @@
 //! Packets, buffers and what messages make of values.
-use crate::highest::Highest;
-use crate::samples::{Sample, Sent, buffer_text, key, message, packet, packet_text};
-use bt_messages::{Buffer, effect};
+use crate::samples::{Sample, Sent, buffer_text, key, message, messages_text, packet, packet_text};
+use bt_messages::{Buffer, Entry, effect, effect_borrowed};
 use bt_rowtype::Row;
 use std::alloc::{AllocError, Global};
 use std::test::Fail;
@@ -38,7 +37,31 @@ fn filled_text<V: Sample>(alloc: Global) -> Result<Vec<u8>, AllocError> {
 fn newer_messages_come_after_older_ones(rt: HostRuntime) -> Result<(), Fail> {
     let expected = b"+a1 ~a5 +b2 +c3 -c0 ~c4 ".as_slice();
     assert_eq!(rt; filled_text::<Row>(rt.alloc())?.as_slice(), expected);
-    assert_eq!(rt; filled_text::<Highest>(rt.alloc())?.as_slice(), expected);
+    assert_eq!(rt; filled_text::<Entry>(rt.alloc())?.as_slice(), expected);
+    Ok(())
+}
+
+// The messages of a packet, those of a buffer from a key on, and a copy of all in the buffer, with a bar between each two.
+fn gone_through(alloc: Global, from: &str) -> Result<Vec<u8>, AllocError> {
+    let batch = packet::<Row>(alloc, &[("b", Sent::Del), ("a", Sent::Put(1))])?;
+    let mut out = messages_text(alloc, batch.iter())?;
+    let buffer = filled::<Row>(alloc)?;
+    let from = key(alloc, from)?;
+    let left = messages_text(alloc, buffer.iter_from(&from))?;
+    out.extend_from_slice(b"|")?;
+    out.extend_from_slice(left.as_slice())?;
+    let copies = packet_text(alloc, buffer.copy_messages(alloc)?)?;
+    out.extend_from_slice(b"|")?;
+    out.extend_from_slice(copies.as_slice())?;
+    Ok(out)
+}
+
+#[test]
+fn messages_are_gone_through(rt: HostRuntime) -> Result<(), Fail> {
+    assert_eq!(rt;
+        gone_through(rt.alloc(), "b")?.as_slice(),
+        b"+a1 -b0 |+b2 +c3 -c0 ~c4 |+a1 ~a5 +b2 +c3 -c0 ~c4 ".as_slice()
+    );
     Ok(())
 }
 
@@ -93,35 +116,51 @@ fn messages_are_taken_off_in_order(rt: HostRuntime) -> Result<(), Fail> {
     Ok(())
 }
 
-// The number that stands at a key after a copy of a message, or that there is none.
-fn number_after<V: Sample>(
+// Adds the number of a value, or a bar where there is none.
+fn add_number<V: Sample>(
     alloc: Global,
-    old: Option<V>,
-    sent: Sent,
-) -> Result<Option<i64>, AllocError> {
-    let message = message::<V>(alloc, sent)?;
-    let new = effect(alloc, old, message.copy(alloc)?)?;
-    Ok(new.map(|value| value.number()))
+    out: &mut Vec<u8>,
+    value: &Option<V>,
+) -> Result<(), AllocError> {
+    match value {
+        Some(value) => {
+            let text = format!(in alloc; "{} ", value.number())?;
+            out.extend_from_slice(text.as_bytes())
+        }
+        None => out.extend_from_slice(b"| "),
+    }
 }
 
-// What a put, a del and an upsert make of no value and of a seven.
-fn numbers_after<V: Sample>(alloc: Global) -> Result<[Option<i64>; 6], AllocError> {
-    Ok([
-        number_after::<V>(alloc, None, Sent::Put(2))?,
-        number_after::<V>(alloc, None, Sent::Del)?,
-        number_after::<V>(alloc, None, Sent::Ups(5))?,
-        number_after(alloc, Some(V::of(alloc, 7)?), Sent::Put(2))?,
-        number_after(alloc, Some(V::of(alloc, 7)?), Sent::Del)?,
-        number_after(alloc, Some(V::of(alloc, 7)?), Sent::Ups(5))?,
-    ])
+// What a message makes of a value, and what a copy of it makes of that.
+fn effects_text<V: Sample>(
+    alloc: Global,
+    out: &mut Vec<u8>,
+    old: Option<V>,
+    sent: Sent,
+) -> Result<(), AllocError> {
+    let message = message::<V>(alloc, sent)?;
+    let once = effect_borrowed(alloc, old, &message)?;
+    add_number(alloc, out, &once)?;
+    let twice = effect(alloc, once, message.copy(alloc)?)?;
+    add_number(alloc, out, &twice)
+}
+
+// What a put, a del and an upsert, each of them twice, make of no value and of a seven.
+fn all_effects<V: Sample>(alloc: Global) -> Result<Vec<u8>, AllocError> {
+    let mut out = Vec::new(alloc);
+    for sent in [Sent::Put(2), Sent::Del, Sent::Ups(5)] {
+        effects_text::<V>(alloc, &mut out, None, sent)?;
+        effects_text(alloc, &mut out, Some(V::of(alloc, 7)?), sent)?;
+    }
+    Ok(out)
 }
 
 #[test]
 fn messages_have_their_effect(rt: HostRuntime) -> Result<(), Fail> {
     let alloc = rt.alloc();
-    let sums = [Some(2), None, Some(5), Some(2), None, Some(12)];
-    assert_eq!(rt; numbers_after::<Row>(alloc)?, sums);
-    let highest = [Some(2), None, Some(5), Some(2), None, Some(7)];
-    assert_eq!(rt; numbers_after::<Highest>(alloc)?, highest);
+    let sums = all_effects::<Row>(alloc)?;
+    assert_eq!(rt; sums.as_slice(), b"2 2 2 2 | | | | 5 10 12 17 ".as_slice());
+    let newest = all_effects::<Entry>(alloc)?;
+    assert_eq!(rt; newest.as_slice(), b"2 2 2 2 | | | | 5 5 5 5 ".as_slice());
     Ok(())
 }

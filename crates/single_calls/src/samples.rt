@@ -1,6 +1,6 @@
 //! What tests are made of, and the texts by which they compare answers.
 use bt_keycode::Key;
-use bt_messages::{Buffer, Merge, Message, Packet};
+use bt_messages::{Buffer, Entry, Merge, Message, Messages, Packet};
 use bt_rowtype::{
     Change, Column, Columns, Fields, Kind, Op, Ops, Refusal, Row, Schema, Text, Value, read_record,
     write_record,
@@ -79,10 +79,7 @@ impl Sample for Row {
     }
 
     fn number(&self) -> i64 {
-        match self.as_slice() {
-            [Value::Int(number)] => *number,
-            _ => -1,
-        }
+        only_int(self.as_slice())
     }
 
     fn delta_number(delta: &Change) -> i64 {
@@ -90,6 +87,34 @@ impl Sample for Row {
             [Op::Add(0, number)] => *number,
             _ => -1,
         }
+    }
+}
+
+// The number of values that are one int.
+fn only_int(values: &[Value]) -> i64 {
+    match values {
+        [Value::Int(number)] => *number,
+        _ => -1,
+    }
+}
+
+impl Sample for Entry {
+    fn of(alloc: Global, number: u32) -> Result<Entry, AllocError> {
+        let mut values = Vec::new(alloc);
+        values.push(Value::Int(i64::from(number)))?;
+        Ok(Entry::new(values))
+    }
+
+    fn delta(alloc: Global, number: u32) -> Result<Entry, AllocError> {
+        Entry::of(alloc, number)
+    }
+
+    fn number(&self) -> i64 {
+        only_int(self.as_slice())
+    }
+
+    fn delta_number(delta: &Entry) -> i64 {
+        delta.number()
     }
 }
 
@@ -168,16 +193,24 @@ pub(crate) fn packet_text<V: Sample>(
     Ok(out)
 }
 
+/// The messages that are gone through, in order.
+pub(crate) fn messages_text<V: Sample>(
+    alloc: Global,
+    messages: Messages<'_, V>,
+) -> Result<Vec<u8>, AllocError> {
+    let mut out = Vec::new(alloc);
+    for (key, message) in messages {
+        add_message(alloc, &mut out, key, message)?;
+    }
+    Ok(out)
+}
+
 /// The messages of a buffer, in order.
 pub(crate) fn buffer_text<V: Sample>(
     alloc: Global,
     buffer: &Buffer<V>,
 ) -> Result<Vec<u8>, AllocError> {
-    let mut out = Vec::new(alloc);
-    for (key, message) in buffer.iter() {
-        add_message(alloc, &mut out, key, message)?;
-    }
-    Ok(out)
+    messages_text(alloc, buffer.iter())
 }
 
 /// Adds a value and its key: `a1 `.

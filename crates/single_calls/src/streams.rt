@@ -95,8 +95,8 @@ fn a_flush_reaches_the_stream(rt: HostRuntime) {
     assert!(rt; matches!(&result, Err(RunFault::Write)));
 }
 
-// What a run over such streams writes, and its fault.
-fn run_over(alloc: Global, calls: u32, room: usize) -> (Result<(), RunFault>, Vec<u8>) {
+// The fault of a run over such streams, what it writes, and the counts of bytes that it read and wrote.
+fn run_over(alloc: Global, calls: u32, room: usize) -> (Result<(), RunFault>, Vec<u8>, (u64, u64)) {
     let mut reader = Counted::new(Failing {
         rest: b"table 4 3 2 1 id:int qty:int\n",
         calls,
@@ -107,20 +107,24 @@ fn run_over(alloc: Global, calls: u32, room: usize) -> (Result<(), RunFault>, Ve
         room,
     });
     let result = run_script(alloc, &mut reader, &mut writer);
-    (result, taken)
+    let counts = (reader.count(), writer.count());
+    (result, taken, counts)
 }
 
 #[test]
 fn failing_streams(rt: HostRuntime) {
-    let (result, text) = run_over(rt.alloc(), 1, 100);
+    let (result, text, counts) = run_over(rt.alloc(), 1, 100);
     assert!(rt; matches!(&result, Err(RunFault::Read)));
     assert!(rt; text.is_empty());
-    let (result, text) = run_over(rt.alloc(), 100, 5);
+    assert_eq!(rt; counts, (1, 0));
+    let (result, text, counts) = run_over(rt.alloc(), 100, 5);
     assert!(rt; matches!(&result, Err(RunFault::Write)));
     assert_eq!(rt; text.as_slice(), b"table".as_slice());
-    let (result, text) = run_over(rt.alloc(), 100, 100);
+    assert_eq!(rt; counts, (29, 5));
+    let (result, text, counts) = run_over(rt.alloc(), 100, 100);
     assert!(rt; result.is_ok());
     assert_eq!(rt; text.as_slice(), b"table 2\n".as_slice());
+    assert_eq!(rt; counts, (29, 8));
 }
 
 // A table and a batch of so many equal lines, and a look at key 1.

@@ -1,8 +1,7 @@
-//! Trees of rows, and of values that are no rows.
-use crate::highest::Highest;
-use crate::samples::{Sample, Sent, add_message, add_value, key, packet};
-use bt_messages::Packet;
-use bt_node::{Shape, Tree, Walk, absorb_alone, crown, plan};
+//! Trees of rows, and of index values.
+use crate::samples::{Sample, Sent, add_message, add_value, buffer_text, key, packet};
+use bt_messages::{Buffer, Entry, Packet};
+use bt_node::{Node, Parts, Shape, Siblings, Tree, Walk, absorb_alone, crown, plan, regroup};
 use bt_rowtype::{Refusal, Row};
 use std::alloc::{AllocError, Global};
 use std::test::Fail;
@@ -53,13 +52,15 @@ fn add_leaf<V: Sample>(
     Ok(())
 }
 
-// The messages of the root, and its children, each behind its pivot and a bar, with the values of a leaf.
+// The messages of the root, and its children, a bar before each and its pivot before that, with the values of a leaf.
 fn root_text<V: Sample>(alloc: Global, tree: &Tree<V>) -> Result<Vec<u8>, AllocError> {
     let mut out = Vec::new(alloc);
     let root = tree.walk();
     add_messages(alloc, &mut out, &root)?;
     for place in 0..root.child_count() {
-        out.extend_from_slice(root.pivot(place).as_slice())?;
+        if place > 0 {
+            out.extend_from_slice(root.pivot(place).as_slice())?;
+        }
         out.extend_from_slice(b"|")?;
         add_leaf(alloc, &mut out, &root.child(place))?;
     }
@@ -96,8 +97,8 @@ fn messages_are_pending(rt: HostRuntime) -> Result<(), Fail> {
         b"~a15 ~a5 +d0 |a10 b20 c|c30 d40 : a30 b20 c30 d0 ".as_slice()
     );
     assert_eq!(rt;
-        pending_text::<Highest>(rt.alloc())?.as_slice(),
-        b"~a15 ~a5 +d0 |a10 b20 c|c30 d40 : a15 b20 c30 d0 ".as_slice()
+        pending_text::<Entry>(rt.alloc())?.as_slice(),
+        b"~a15 ~a5 +d0 |a10 b20 c|c30 d40 : a5 b20 c30 d0 ".as_slice()
     );
     Ok(())
 }
@@ -124,8 +125,8 @@ fn the_left_child_is_flushed(rt: HostRuntime) -> Result<(), Fail> {
         b"+c31 -d0 |a15 c|c30 d40 : a15 c31 ".as_slice()
     );
     assert_eq!(rt;
-        flushed_text::<Highest>(rt.alloc())?.as_slice(),
-        b"+c31 -d0 |a10 c|c30 d40 : a10 c31 ".as_slice()
+        flushed_text::<Entry>(rt.alloc())?.as_slice(),
+        b"+c31 -d0 |a5 c|c30 d40 : a5 c31 ".as_slice()
     );
     Ok(())
 }
@@ -156,6 +157,23 @@ fn keys_are_looked_up(rt: HostRuntime) -> Result<(), Fail> {
     Ok(())
 }
 
+// The number at a key, by the walk.
+fn walked_number<V: Sample>(
+    alloc: Global,
+    tree: &Tree<V>,
+    letters: &str,
+) -> Result<Option<i64>, AllocError> {
+    let value = tree.walk().get(alloc, &key(alloc, letters)?)?;
+    Ok(value.map(|value| value.number()))
+}
+
+#[test]
+fn a_walk_looks_a_key_up(rt: HostRuntime) -> Result<(), Fail> {
+    let tree = pending::<Row>(rt.alloc())?;
+    assert_eq!(rt; walked_number(rt.alloc(), &tree, "a")?, Some(30));
+    Ok(())
+}
+
 // A tree after a packet, by the two steps of a sink.
 fn absorbed<V: Sample>(
     alloc: Global,
@@ -183,6 +201,85 @@ fn siblings_are_crowned(rt: HostRuntime) -> Result<(), Fail> {
     assert_eq!(rt;
         crowned_text(rt.alloc())?.as_slice(),
         b"-a0 |a10 b20 c|c30 d40 e|e50 f60 g|g70 : b20 c30 d40 e50 f60 g70 ".as_slice()
+    );
+    Ok(())
+}
+
+// Adds the messages of an inner node, its pivots and the number of its children.
+fn add_inner<V: Sample>(
+    alloc: Global,
+    out: &mut Vec<u8>,
+    children: Siblings<V>,
+    buffer: Buffer<V>,
+) -> Result<(), AllocError> {
+    let messages = buffer_text(alloc, &buffer)?;
+    out.extend_from_slice(messages.as_slice())?;
+    let (nodes, pivots) = children.apart();
+    for pivot in &pivots {
+        out.extend_from_slice(pivot.as_slice())?;
+    }
+    let count = format!(in alloc; " {} ", nodes.len())?;
+    out.extend_from_slice(count.as_bytes())
+}
+
+// Adds what a node is made of.
+fn add_parts<V: Sample>(alloc: Global, out: &mut Vec<u8>, node: Node<V>) -> Result<(), AllocError> {
+    match node.apart() {
+        Parts::Leaf(_leaf) => out.extend_from_slice(b"leaf "),
+        Parts::Inner { children, buffer } => add_inner(alloc, out, children, buffer),
+    }
+}
+
+// What two children and a buffer are dealt into: no node where there are not two, or too many messages.
+fn regrouped<V: Sample>(
+    alloc: Global,
+    shape: Shape,
+    children: Siblings<V>,
+    buffer: Buffer<V>,
+) -> Result<Vec<Node<V>>, AllocError> {
+    let (mut old_nodes, mut old_pivots) = children.apart();
+    let mut nodes = Vec::new(alloc);
+    let mut pivots = Vec::new(alloc);
+    let Some(right) = old_nodes.pop() else {
+        return Ok(nodes);
+    };
+    let Some(left) = old_nodes.pop() else {
+        return Ok(nodes);
+    };
+    let Some(pivot) = old_pivots.pop() else {
+        return Ok(nodes);
+    };
+    if buffer.count() > shape.buffer() {
+        return Ok(nodes);
+    }
+    nodes.push(left)?;
+    nodes.push(right)?;
+    pivots.push(pivot)?;
+    let siblings = regroup(alloc, shape, Siblings::new(nodes, pivots), buffer)?;
+    let (parts, _pivots) = siblings.apart();
+    Ok(parts)
+}
+
+// The parts of what the parts of a root are dealt into.
+fn regrouped_text(alloc: Global) -> Result<Vec<u8>, Refusal> {
+    let mut out = Vec::new(alloc);
+    let (shape, root) = pending::<Entry>(alloc)?.apart();
+    match root.apart() {
+        Parts::Leaf(_leaf) => {}
+        Parts::Inner { children, buffer } => {
+            for node in regrouped(alloc, shape, children, buffer)? {
+                add_parts(alloc, &mut out, node)?;
+            }
+        }
+    }
+    Ok(out)
+}
+
+#[test]
+fn the_parts_of_a_root_give_that_root(rt: HostRuntime) -> Result<(), Fail> {
+    assert_eq!(rt;
+        regrouped_text(rt.alloc())?.as_slice(),
+        b"~a15 ~a5 +d0 c 2 ".as_slice()
     );
     Ok(())
 }

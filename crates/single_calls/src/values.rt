@@ -1,8 +1,8 @@
 //! Fields, records and rows.
 use crate::samples::{fields, refusal_text, row_text, shops};
 use bt_rowtype::{
-    Kind, Refusal, Row, Text, Texts, Value, copy_row, read_field, read_key, read_record, read_row,
-    write_record,
+    Kind, Reading, Refusal, Row, Text, Texts, Value, clone_all, copy_row, read_field, read_key,
+    read_record, read_row, write_record,
 };
 use std::alloc::{AllocError, Global};
 use std::test::Fail;
@@ -196,5 +196,51 @@ fn lists_of_texts(rt: HostRuntime) -> Result<(), Fail> {
     assert_eq!(rt; words.len(), 2);
     assert_eq!(rt; words[0].as_str(), "betable");
     assert_eq!(rt; words[1].as_str(), "--help");
+    Ok(())
+}
+
+// What is had by reading these one after another.
+fn all_of(alloc: Global, reads: &[Result<u8, Refusal>]) -> Result<Vec<u8>, Refusal> {
+    let mut reading = Reading::new(alloc);
+    for read in reads {
+        reading.add(*read)?;
+    }
+    Ok(reading.finish()?.into_vec())
+}
+
+#[test]
+fn one_is_read_after_another(rt: HostRuntime) -> Result<(), Fail> {
+    let alloc = rt.alloc();
+    let bytes = all_of(alloc, &[Ok(b'a'), Ok(b'b')])?;
+    assert_eq!(rt; bytes.as_slice(), b"ab".as_slice());
+    let refused = [
+        Err(Refusal::BadLength(1)),
+        Err(Refusal::BadField(3)),
+        Ok(b'a'),
+        Err(Refusal::BadField(2)),
+    ];
+    assert!(rt; matches!(all_of(alloc, &refused), Err(Refusal::BadField(2))));
+    Ok(())
+}
+
+// Copies of pairs of a number and a text, as one record.
+fn copied_pairs(alloc: Global, number: i64, text: &str) -> Result<Vec<u8>, AllocError> {
+    let mut pairs = Vec::new(alloc);
+    pairs.push((Value::Int(number), Value::Text(Text::new(alloc, text)?)))?;
+    let mut values = Vec::new(alloc);
+    for (first, second) in clone_all(alloc, pairs.as_slice())? {
+        values.push(first)?;
+        values.push(second)?;
+    }
+    row_text(alloc, Ok(Row::new(values)))
+}
+
+#[test]
+fn pairs_are_copied(rt: HostRuntime) -> Result<(), Fail> {
+    let text = copied_pairs(rt.alloc(), 7, "a text of more than 22 bytes")?;
+    assert_eq!(rt;
+        text.as_slice(),
+        b"7,a text of more than 22 bytes".as_slice()
+    );
     Ok(())
 }

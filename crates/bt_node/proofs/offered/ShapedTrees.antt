@@ -1,11 +1,12 @@
 -- Trees that fit a shape with room: they stay so under a packet, and what they hold rises by its keys.
 use Rattle.std.proofs.Common.{◌≡◌, ◌∙◌, T, refl, Option, None}
 use Rattle.std.specs.FinMap.{is_sorted}
-use Rattle.bt_node.specs.Fits.{HasShape, SiblingsFit}
+use Rattle.bt_node.specs.Fits.{AreFit, HasShape, SiblingsFit}
 use Rattle.bt_node.specs.Flushes.{absorb, holds, sunk}
 use Rattle.bt_keycode.specs.Keys.{key_cmp}
 use Rattle.bt_node.specs.Messages.{Messages, rows_after}
-use Rattle.bt_node.specs.Trees.{Shape, Tree}
+use Rattle.bt_node.specs.Laws.{FitThere}
+use Rattle.bt_node.specs.Trees.{Shape, Tree, Siblings}
 use Rattle.bt_node.proofs.lemmas.crowns.CrownedRows.{crown-fits, crown-holds}
 use Rattle.bt_node.proofs.lemmas.flushes.Laws.{anywhere, fit_there, hold_rows_after}
 use Rattle.bt_node.proofs.lemmas.flushes.RowsKept.{holds-lie}
@@ -31,3 +32,8 @@ module _ {V M : Type 0} (effect : Option V → M → Option V) (shape : Shape) (
     sunk-holds =
         crown-holds shape has.roomy effect has.levels None None _ absorbed-fit
         ∙ hold_rows_after effect shape has.roomy t packet _ refl has.levels None None has.fits (anywhere packet)
+
+-- siblings that fit where a whole tree fits, fit as those of a whole tree
+pub whole-fit : {V M : Type 0} (shape : Shape) (t : Tree V M) (has : HasShape shape t) (packet : Messages M) (xs : Siblings V M) →
+    FitThere shape t packet xs → AreFit shape xs
+whole-fit shape t has packet xs fits = (has.levels, fits has.levels None None has.fits (anywhere packet))
