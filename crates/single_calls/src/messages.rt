@@ -41,26 +41,39 @@ fn newer_messages_come_after_older_ones(rt: HostRuntime) -> Result<(), Fail> {
     Ok(())
 }
 
-// The messages of a packet, those of a buffer from a key on, and a copy of all in the buffer, with a bar between each two.
-fn gone_through(alloc: Global, from: &str) -> Result<Vec<u8>, AllocError> {
+// The messages of a packet, gone through.
+fn packet_gone_through(alloc: Global) -> Result<Vec<u8>, AllocError> {
     let batch = packet::<Row>(alloc, &[("b", Sent::Del), ("a", Sent::Put(1))])?;
-    let mut out = messages_text(alloc, batch.iter())?;
+    messages_text(alloc, batch.iter())
+}
+
+// The messages of a buffer from a key on, gone through.
+fn gone_through_from(alloc: Global, from: &str) -> Result<Vec<u8>, AllocError> {
     let buffer = filled::<Row>(alloc)?;
     let from = key(alloc, from)?;
-    let left = messages_text(alloc, buffer.iter_from(&from))?;
-    out.extend_from_slice(b"|")?;
-    out.extend_from_slice(left.as_slice())?;
-    let copies = packet_text(alloc, buffer.copy_messages(alloc)?)?;
-    out.extend_from_slice(b"|")?;
-    out.extend_from_slice(copies.as_slice())?;
-    Ok(out)
+    messages_text(alloc, buffer.iter_from(&from))
+}
+
+// A copy of the messages of a buffer.
+fn copies_text(alloc: Global) -> Result<Vec<u8>, AllocError> {
+    let buffer = filled::<Row>(alloc)?;
+    packet_text(alloc, buffer.copy_messages(alloc)?)
 }
 
 #[test]
 fn messages_are_gone_through(rt: HostRuntime) -> Result<(), Fail> {
+    let alloc = rt.alloc();
     assert_eq!(rt;
-        gone_through(rt.alloc(), "b")?.as_slice(),
-        b"+a1 -b0 |+b2 +c3 -c0 ~c4 |+a1 ~a5 +b2 +c3 -c0 ~c4 ".as_slice()
+        packet_gone_through(alloc)?.as_slice(),
+        b"+a1 -b0 ".as_slice()
+    );
+    assert_eq!(rt;
+        gone_through_from(alloc, "b")?.as_slice(),
+        b"+b2 +c3 -c0 ~c4 ".as_slice()
+    );
+    assert_eq!(rt;
+        copies_text(alloc)?.as_slice(),
+        b"+a1 ~a5 +b2 +c3 -c0 ~c4 ".as_slice()
     );
     Ok(())
 }
