@@ -54,12 +54,6 @@ fn gone_through_from(alloc: Global, from: &str) -> Result<Vec<u8>, AllocError> {
     messages_text(alloc, buffer.iter_from(&from))
 }
 
-// A copy of the messages of a buffer.
-fn copies_text(alloc: Global) -> Result<Vec<u8>, AllocError> {
-    let buffer = filled::<Row>(alloc)?;
-    packet_text(alloc, buffer.copy_messages(alloc)?)
-}
-
 #[test]
 fn messages_are_gone_through(rt: HostRuntime) -> Result<(), Fail> {
     let alloc = rt.alloc();
@@ -70,10 +64,6 @@ fn messages_are_gone_through(rt: HostRuntime) -> Result<(), Fail> {
     assert_eq!(rt;
         gone_through_from(alloc, "b")?.as_slice(),
         b"+b2 +c3 -c0 ~c4 ".as_slice()
-    );
-    assert_eq!(rt;
-        copies_text(alloc)?.as_slice(),
-        b"+a1 ~a5 +b2 +c3 -c0 ~c4 ".as_slice()
     );
     Ok(())
 }
