@@ -1,5 +1,6 @@
 //! Trees of rows, and of index values.
 use crate::samples::{Sample, Sent, add_message, add_value, buffer_text, key, packet};
+use bt_keycode::Key;
 use bt_messages::{Buffer, Entry, Packet};
 use bt_node::{Node, Parts, Shape, Siblings, Tree, Walk, absorb_alone, crown, plan, regroup};
 use bt_rowtype::{Refusal, Row};
@@ -171,6 +172,50 @@ fn walked_number<V: Sample>(
 fn a_walk_looks_a_key_up(rt: HostRuntime) -> Result<(), Fail> {
     let tree = pending::<Row>(rt.alloc())?;
     assert_eq!(rt; walked_number(rt.alloc(), &tree, "a")?, Some(30));
+    Ok(())
+}
+
+// The values of a tree between two keys, by the walk.
+fn walked_between<V: Sample>(
+    alloc: Global,
+    tree: &Tree<V>,
+    from: Option<&Key>,
+    to: Option<&Key>,
+) -> Result<Vec<u8>, AllocError> {
+    let mut out = Vec::new(alloc);
+    for (key, value) in tree.walk().rows(alloc, from, to)? {
+        add_value(alloc, &mut out, &key, &value)?;
+    }
+    Ok(out)
+}
+
+#[test]
+fn a_walk_gives_the_rows_between_two_keys(rt: HostRuntime) -> Result<(), Fail> {
+    let alloc = rt.alloc();
+    let tree = pending::<Row>(alloc)?;
+    let b = key(alloc, "b")?;
+    let c = key(alloc, "c")?;
+    let d = key(alloc, "d")?;
+    assert_eq!(rt;
+        walked_between(alloc, &tree, None, None)?.as_slice(),
+        b"a30 b20 c30 d0 ".as_slice()
+    );
+    assert_eq!(rt;
+        walked_between(alloc, &tree, Some(&b), Some(&d))?.as_slice(),
+        b"b20 c30 ".as_slice()
+    );
+    assert_eq!(rt;
+        walked_between(alloc, &tree, None, Some(&c))?.as_slice(),
+        b"a30 b20 ".as_slice()
+    );
+    assert_eq!(rt;
+        walked_between(alloc, &tree, Some(&c), None)?.as_slice(),
+        b"c30 d0 ".as_slice()
+    );
+    assert_eq!(rt;
+        walked_between(alloc, &tree, Some(&d), Some(&b))?.as_slice(),
+        b"".as_slice()
+    );
     Ok(())
 }
 
