@@ -1,9 +1,11 @@
 -- Sorted messages cut at keys: what `take_range`, `Rest`, `iter_from` and `add` stand on.
 use Rattle.std.proofs.Common.{◌≡◌, ℕ, zero, suc, ◌<◌, ◌≤◌, Bool, true, false, not, ◌&&◌, cond, List, [], ◌∷◌, ◌++◌, ◌-◌, length, length-drop, take, drop, get_or, append_assoc, Option, Some, None, refl, sym, ap, subst, ◌∙◌, true≢false, arith}
 use Rattle.std.proofs.Math.Seq.{take-length}
+use Rattle.std.proofs.lemmas.List.{take_rest}
+use Rattle.std.proofs.lemmas.List.Filters.{length-filter_both}
 use Rattle.std.specs.List.{filter}
 use Rattle.std.specs.List.Sorted.{IsPartitionedBy, IsPartitionPoint}
-use Rattle.bt_keycode.specs.Keys.{AllFrom, IsSorted, is_before, is_before_lower, is_before_upper}
+use Rattle.bt_keycode.specs.Keys.{AllFrom, IsSorted, is_before, is_before_lower, is_before_upper, is_between}
 use Rattle.bt_messages.specs.Messages.{Messages, messages_before, messages_between, messages_from, messages_outside, with_messages}
 use Rattle.bt_messages.specs.Merges.{messages_ahead, messages_not_ahead}
 use Rattle.bt_keycode.proofs.offered.Order.{from_earlier, later_chain, not_after, not_before_itself}
@@ -191,9 +193,12 @@ module _ {M : Type 0} where
 
   -- the last of sorted messages
   pub tail_sorted : (k : List ℕ) (ms xs : Messages M) (n : ℕ) → IsSorted ms → drop n xs ≡ messages_from k ms → IsSorted (take (length xs - n) (drop n xs))
-  tail_sorted k ms xs n h e =
-      let whole : take (length xs - n) (drop n xs) ≡ drop n xs = ap (λ j. take j (drop n xs)) (sym (length-drop n xs)) ∙ take-length (drop n xs) in
-      sorted_part (λ m. not (is_before m.0 k)) ms (take (length xs - n) (drop n xs)) h (whole ∙ e)
+  tail_sorted k ms xs n h e = sorted_part (λ m. not (is_before m.0 k)) ms (take (length xs - n) (drop n xs)) h (take_rest xs n ∙ e)
+
+  -- messages between bounds are not more than all
+  pub fewer_between : (from to : Option (List ℕ)) (ms part : Messages M) → part ≡ messages_between from to ms → length part ≤ length ms
+  fewer_between from to ms part e =
+      omega (arith, ap length e, length-filter_both (λ (m : List ℕ × M). is_between from to m.0) (λ (m : List ℕ × M). not (is_between from to m.0)) (λ m. refl) ms)
 
   pub before_sorted : (k : List ℕ) (ms : Messages M) → IsSorted ms → IsSorted (messages_before k ms)
   before_sorted k ms h = filter_sorted (λ m. is_before m.0 k) ms h

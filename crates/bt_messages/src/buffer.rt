@@ -66,6 +66,15 @@ impl<V: Merge> Buffer<V> {
         Messages::of_sorted(&self.messages[place..])
     }
 
+    /// The messages with a key at or past `from` and before `to`, in order, found by halving. A bound that is absent doesn't limit.
+    pub fn iter_between(&self, from: Option<&Key>, to: Option<&Key>) -> Messages<'_, V>
+        ensures messages { result ≡ messages_between (option_copied from.entry) (option_copied to.entry) self.now }
+        ensures sorted { IsSorted result }
+        ensures bound { length result < 2 ^ 63 }
+    {
+        Messages::of_sorted(sorted::between(self.messages.as_slice(), from, to))
+    }
+
     /// The messages, to be taken off in order.
     pub fn into_rest(self) -> Rest<V>
         ensures { result ≡ self }

@@ -1,5 +1,5 @@
 //! Messages gone through in order.
-ghost use Rattle.std.specs.Prelude.{◌≡◌, []};
+ghost use Rattle.std.specs.Prelude.{◌≡◌, [], length};
 ghost use Rattle.std.specs.Iterator.{YieldsFirstBy, item_count};
 ghost use Rattle.bt_keycode.specs.Keys.{IsSorted};
 
@@ -31,6 +31,13 @@ impl<'a, V: Merge> Messages<'a, V> {
         ensures { result ≡ [] }
     {
         Messages { left: &[] }
+    }
+
+    /// The number of messages that are left.
+    pub fn count_left(&self) -> usize
+        ensures { result ≡ length self.now }
+    {
+        self.left.len()
     }
 
     // The messages of a list that is sorted by key.

@@ -29,3 +29,4 @@ pub use iter::Messages;
 pub use message::{Merge, Message, effect, effect_borrowed};
 pub use packet::Packet;
 pub use rest::Rest;
+pub use sorted::between;

@@ -1,3 +1,3 @@
 -- The rows of a map, and the messages that change them.
 pub use Rattle.bt_messages.specs.Effects.{Rows, with_value, rows_after, value_after}
-pub use Rattle.bt_messages.specs.Messages.{Messages, with_message, with_messages, messages_before as before, messages_from as from}
+pub use Rattle.bt_messages.specs.Messages.{Messages, with_message, with_messages, messages_before as before, messages_from as from, messages_between as between}

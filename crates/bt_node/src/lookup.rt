@@ -23,8 +23,8 @@ fn copied<V: Merge>(alloc: Global, value: Option<&V>) -> Result<Option<V>, Alloc
     }
 }
 
-// How many of these pivots are at most the key, found by halving.
-fn pivots_up_to(pivots: &[Key], key: &Key) -> usize
+/// How many of these pivots are at most the key, found by halving.
+pub(crate) fn pivots_up_to(pivots: &[Key], key: &Key) -> usize
     requires { AreRising pivots.now }
     ensures count { result ≡ pivots_up_to key.now pivots.now }
     ensures bound { result ≤ length pivots.now }

@@ -1,15 +1,15 @@
 //! Rows: the entries of a map in order.
-ghost use Rattle.std.specs.Prelude.{◌≡◌, ◌+◌, ◌<◌, ◌≤◌, ◌++◌, [], IfOk, IsTrue, OnOk, Some, None, length, option_map, slice_get, vec_len, vec_capacity};
+ghost use Rattle.std.specs.Prelude.{◌≡◌, ◌+◌, ◌<◌, ◌≤◌, ◌++◌, ◌^◌, [], IfOk, IsTrue, OnOk, Some, None, length, option_map, slice_get, vec_len, vec_capacity};
 ghost use Rattle.std.specs.FinMap.{find, is_sorted};
 ghost use Rattle.std.specs.Option.{option_copied, option_to_list};
 ghost use Rattle.bt_messages.specs.Effects.{effect_of};
 ghost use Rattle.bt_node.specs.Deals.{deal};
-ghost use Rattle.bt_keycode.specs.Keys.{key_cmp};
-ghost use Rattle.bt_node.specs.Messages.{before, from, rows_after, with_value};
+ghost use Rattle.bt_keycode.specs.Keys.{IsSorted, key_cmp};
+ghost use Rattle.bt_node.specs.Messages.{before, between, from, rows_after, with_value};
 
 use crate::deal;
 use bt_keycode::Key;
-use bt_messages::{Buffer, Merge, Packet, effect, effect_borrowed};
+use bt_messages::{Merge, Messages, Packet, between, effect, effect_borrowed};
 use std::alloc::{AllocError, Global};
 use std::cmp::Ordering;
 use std::collections::VecDeque;
@@ -136,11 +136,17 @@ impl<V: Merge> Rows<V> {
         rows
     }
 
-    /// A copy of the rows.
-    pub(crate) fn copy(&self, alloc: Global) -> Result<Self, AllocError>
-        ensures { IfOk result (λ copy. copy ≡ self.now) }
+    /// Copies of the rows with a key at or past `from` and before `to`. A bound that is absent doesn't limit.
+    pub(crate) fn copy_between(
+        &self,
+        alloc: Global,
+        from: Option<&Key>,
+        to: Option<&Key>,
+    ) -> Result<Self, AllocError>
+        ensures { IfOk result (λ rows. rows ≡ between (option_copied from.entry) (option_copied to.entry) self.now) }
     {
-        Ok(Rows::from_sorted(copied(alloc, self.rows.as_slice())?))
+        let rows = between(self.rows.as_slice(), from, to);
+        Ok(Rows::from_sorted(copied(alloc, rows)?))
     }
 
     /// The number of rows.
@@ -196,17 +202,24 @@ impl<V: Merge> Rows<V> {
         Ok(Rows { rows: changed })
     }
 
-    /// The rows after the messages of a buffer, in one merge. The messages stay: what they put is copied.
-    pub(crate) fn after_buffer(self, alloc: Global, buffer: &Buffer<V>) -> Result<Self, AllocError>
-        ensures { IfOk result (λ rows. rows ≡ rows_after (effect_of V.merged) buffer.now self) }
+    /// The rows after messages, in one merge. The messages stay: what they put is copied.
+    pub(crate) fn after_messages(
+        self,
+        alloc: Global,
+        messages: Messages<'_, V>,
+    ) -> Result<Self, AllocError>
+        requires sorted { IsSorted messages }
+        requires bound { length messages < 2 ^ 63 }
+        ensures { IfOk result (λ rows. rows ≡ rows_after (effect_of V.merged) messages.entry self) }
     {
-        if buffer.count() == 0 {
+        let count = messages.count_left();
+        if count == 0 {
             return Ok(self);
         }
         let Rows { rows } = self;
-        let mut changed = Vec::with_capacity(alloc, rows.len() + buffer.count())?;
+        let mut changed = Vec::with_capacity(alloc, rows.len() + count)?;
         let mut older = VecDeque::from(rows);
-        for (key, message) in buffer.iter() {
+        for (key, message) in messages {
             move_before(&mut changed, &mut older, key);
             let old = take_first(&mut older, key);
             let new = effect_borrowed(alloc, old, message)?;

@@ -12,7 +12,6 @@ ghost use Rattle.bt_node.specs.Trees.{leaf};
 use crate::absorb::absorb;
 use crate::crowned::crowned;
 use crate::group::group;
-use crate::held_rows::held_rows;
 use crate::node::{Node, Siblings};
 use crate::rows::Rows;
 use crate::shape::Shape;
@@ -128,7 +127,7 @@ impl<V: Merge> Tree<V> {
         ensures held { IfOk result (λ rows. rows.items ≡ holds (effect_of V.merged) self.now.1) }
         ensures sorted { IfOk result (λ rows. IsTrue (is_sorted key_cmp rows.items)) }
     {
-        Ok(held_rows(alloc, &self.root)?.into_vec())
+        self.walk().rows(alloc, None, None)
     }
 
     /// The shape and the root.

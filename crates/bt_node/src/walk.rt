@@ -1,14 +1,17 @@
 //! What can be seen of a tree, node by node.
-ghost use Rattle.std.specs.Prelude.{◌≡◌, ◌<◌, Some, length, option_map, slice_get, IfOk};
-ghost use Rattle.std.specs.FinMap.{find};
+ghost use Rattle.std.specs.Prelude.{◌≡◌, ◌<◌, Some, length, option_map, slice_get, IfOk, IsTrue};
+ghost use Rattle.std.specs.FinMap.{find, is_sorted};
+ghost use Rattle.std.specs.Option.{option_copied};
 ghost use Rattle.bt_keycode.specs.Keys.{key_cmp};
 ghost use Rattle.bt_messages.specs.Effects.{effect_of};
 ghost use Rattle.bt_node.specs.Fits.{IsInOrder};
 ghost use Rattle.bt_node.specs.Flushes.{holds};
+ghost use Rattle.bt_node.specs.Messages.{between};
 ghost use Rattle.bt_node.specs.Walks as walk;
 
 use crate::lookup::value_at;
 use crate::node::{Kind, Node};
+use crate::rows_between::rows_between;
 use bt_keycode::Key;
 use bt_messages::{Merge, Messages};
 use std::alloc::{AllocError, Global};
@@ -129,5 +132,20 @@ impl<'a, V: Merge> Walk<'a, V> {
         ensures { IfOk result (λ value. value ≡ find key_cmp key.now (holds (effect_of V.merged) self.now)) }
     {
         value_at(alloc, self.node, key)
+    }
+
+    /// Copies of the rows with a key at or past `from` and before `to`, when all messages here and below have had their effect, by
+    /// rising key. A bound that is absent doesn't limit. Nothing outside of the bounds is copied.
+    pub fn rows(
+        &self,
+        alloc: Global,
+        from: Option<&Key>,
+        to: Option<&Key>,
+    ) -> Result<Vec<(Key, V)>, AllocError>
+        requires { IsInOrder self.now }
+        ensures rows { IfOk result (λ rows. rows.items ≡ between (option_copied from.entry) (option_copied to.entry) (holds (effect_of V.merged) self.now)) }
+        ensures sorted { IfOk result (λ rows. IsTrue (is_sorted key_cmp rows.items)) }
+    {
+        Ok(rows_between(alloc, self.node, from, to)?.into_vec())
     }
 }

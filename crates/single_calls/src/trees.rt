@@ -1,5 +1,6 @@
 //! Trees of rows, and of index values.
 use crate::samples::{Sample, Sent, add_message, add_value, buffer_text, key, packet};
+use bt_keycode::Key;
 use bt_messages::{Buffer, Entry, Packet};
 use bt_node::{Node, Parts, Shape, Siblings, Tree, Walk, absorb_alone, crown, plan, regroup};
 use bt_rowtype::{Refusal, Row};
@@ -171,6 +172,45 @@ fn walked_number<V: Sample>(
 fn a_walk_looks_a_key_up(rt: HostRuntime) -> Result<(), Fail> {
     let tree = pending::<Row>(rt.alloc())?;
     assert_eq!(rt; walked_number(rt.alloc(), &tree, "a")?, Some(30));
+    Ok(())
+}
+
+// The values of a tree between two keys, by the walk.
+fn walked_between<V: Sample>(
+    alloc: Global,
+    tree: &Tree<V>,
+    from: Option<&Key>,
+    to: Option<&Key>,
+) -> Result<Vec<u8>, AllocError> {
+    let mut out = Vec::new(alloc);
+    for (key, value) in tree.walk().rows(alloc, from, to)? {
+        add_value(alloc, &mut out, &key, &value)?;
+    }
+    Ok(out)
+}
+
+fn pending_between(alloc: Global) -> Result<Vec<u8>, Refusal> {
+    let tree = pending::<Row>(alloc)?;
+    let from = key(alloc, "b")?;
+    let to = key(alloc, "d")?;
+    Ok(walked_between(alloc, &tree, Some(&from), Some(&to))?)
+}
+
+fn pending_everywhere(alloc: Global) -> Result<Vec<u8>, Refusal> {
+    let tree = pending::<Row>(alloc)?;
+    Ok(walked_between(alloc, &tree, None, None)?)
+}
+
+#[test]
+fn a_walk_gives_the_rows_between_two_keys(rt: HostRuntime) -> Result<(), Fail> {
+    assert_eq!(rt;
+        pending_between(rt.alloc())?.as_slice(),
+        b"b20 c30 ".as_slice()
+    );
+    assert_eq!(rt;
+        pending_everywhere(rt.alloc())?.as_slice(),
+        b"a30 b20 c30 d0 ".as_slice()
+    );
     Ok(())
 }
 

@@ -9,6 +9,7 @@ pub mod Marks
 pub mod PivotSearch
 pub mod RowPass
 pub mod RowSearch
+pub mod RowsInRange
 pub mod RowsOfChildren
 pub mod ShareLoop
 pub mod SiblingParts

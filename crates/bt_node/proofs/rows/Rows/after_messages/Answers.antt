@@ -5,7 +5,7 @@ use Rattle.bt_messages.specs.Effects.{effect_of}
 use Rattle.bt_messages.specs.declared.message.Message.{Message}
 use Rattle.bt_keycode.specs.Keys.{Key, key_cmp}
 use Rattle.bt_node.proofs.lemmas.code.RowPass.{at_end, before_of, changed_sorted, pass_step, put_in_front, result_sorted, sorted_from}
-use Rattle.bt_node.proofs.rows.Rows.after_buffer.Goals as goal
+use Rattle.bt_node.proofs.rows.Rows.after_messages.Goals as goal
 
 pub take_first-old-requires-clause-sorted : goal.take_first-old-requires-clause-sorted
 take_first-old-requires-clause-sorted g c =
@@ -42,9 +42,9 @@ invariant_of-result g c =
     let start : is_sorted key_cmp c.args.self ≡ true = rw (← c.self.view_is) c.self.invariant in
     let none : length c.loop-row.row-iterator.rest.items ≡ 0 = search rules in
     let done = at_end c.loop-row.changed.items _ _ none c.loop-row.invariant.wanted in
-    result_sorted (effect_of g.V.Merge.merged) c.args.buffer.now c.args.self c.loop-row.changed.items start done
+    result_sorted (effect_of g.V.Merge.merged) c.args.messages c.args.self c.loop-row.changed.items start done
 
 pub loop-key-init : goal.loop-key-init
 loop-key-init g c =
-    let is : c.into_iter-key-iterator.result ≡ c.args.buffer.now = search rules in
-    record { wanted = search rules; messages = search rules; rows = search rules; room = omega (arith, ap length is, ap length c.from-older.ensures.0, c.count.ensures.count, c.len.ensures, c.in_ok-changed.ensures.len, c.in_ok-changed.ensures.capacity, c.self.inside.rows.ok) }
+    let is : c.into_iter-key-iterator.result ≡ c.args.messages = search rules in
+    record { wanted = search rules; messages = search rules; rows = search rules; room = omega (arith, ap length is, ap length c.from-older.ensures.0, c.count_left-count.ensures, c.requires.bound, c.len.ensures, c.in_ok-changed.ensures.len, c.in_ok-changed.ensures.capacity, c.self.inside.rows.ok) }
