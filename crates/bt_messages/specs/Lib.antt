@@ -1,3 +1,4 @@
+pub mod Bins
 pub mod Effects
 pub mod Merges
 pub mod Messages
