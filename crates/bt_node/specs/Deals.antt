@@ -1,6 +1,7 @@
 -- Dealing: items in order become parts, as even as can be.
-use Rattle.std.specs.Prelude.{ℕ, ◌+◌, ◌-◌, ◌/◌, ◌%◌, max, List, [], ◌∷◌, ◌++◌, length, take, drop, replicate}
+use Rattle.std.specs.Prelude.{ℕ, ◌+◌, ◌-◌, ◌/◌, ◌%◌, max, List, ◌++◌, length, replicate}
 use Rattle.std.specs.Int.{div_ceil}
+pub use Rattle.bt_messages.specs.Bins.{parted}
 
 -- the sizes of k parts of n items: the first n % k parts have one item more than the others
 abbrev pub even : ℕ → ℕ → List ℕ
@@ -9,11 +10,6 @@ even n k = replicate (n % k) (n / k + 1) ++ replicate (k - n % k) (n / k)
 -- the sizes of the parts of n items, none larger than the most, and as few as that allows
 abbrev pub sizes : ℕ → ℕ → List ℕ
 sizes n most = even n (max 1 (div_ceil n most))
-
--- the items in parts of these sizes, in order
-abbrev pub parted : {X : Type 0} → List ℕ → List X → List (List X)
-parted [] xs = []
-parted (n ∷ ns) xs = take n xs ∷ parted ns (drop n xs)
 
 -- the items in parts, none larger than the most
 abbrev pub deal : {X : Type 0} → ℕ → List X → List (List X)

@@ -13,7 +13,7 @@ use Rattle.bt_node.specs.Kinds.{tree_of}
 
 pub below_node : {V D : Type 0} (merge : Ghosts V D) (k : Kind V D) → max (deep-Kind V D merge k) 0 ≤ 2 * height (tree_of k)
 below_node merge (Leaf rows) = omega arith
-below_node merge (Inner children buffer) = omega arith
+below_node merge (Inner children bins) = omega arith
 
 zipped : {V M : Type 0} (ks : List Key) (ts : List (Tree V M)) → length ts ≤ length ks → most (λ t. 2 * height t + 1) ts ≤ 2 * height_below (nodes (zip ks ts)) + 1
 zipped [] [] few = omega arith

@@ -1,10 +1,6 @@
 -- Which children are flushed, by the numbers of messages that are pending for them.
 use Rattle.std.specs.Prelude.{ℕ, zero, suc, ◌+◌, max, cond, nat_le, nat_eq, List, [], ◌∷◌, set}
-
--- the counts together
-abbrev pub total : List ℕ → ℕ
-total [] = 0
-total (n ∷ ns) = n + total ns
+pub use Rattle.bt_messages.specs.Bins.{total}
 
 -- the largest count
 abbrev pub most : List ℕ → ℕ

@@ -1,15 +1,15 @@
 //! Nodes made of parts: rows dealt into leaves, children gathered under inner nodes.
-ghost use Rattle.std.specs.Prelude.{◌≡◌, ◌≤◌, ◌++◌, ◌∷◌, [], IfOk, OnOk, length};
-ghost use Rattle.bt_keycode.specs.Keys.{IsSorted};
+ghost use Rattle.std.specs.Prelude.{◌≡◌, ◌≤◌, ◌++◌, IfOk, OnOk, length};
 ghost use Rattle.bt_node.specs.Flushes.{first_key, gathered, grouped, leaves, pivot_first};
-ghost use Rattle.bt_node.specs.inside.Views.{children_of, none_pending_of, pending_of};
+ghost use Rattle.bt_node.specs.inside.Shares.{AreDivided};
+ghost use Rattle.bt_node.specs.inside.Views.{children_of, none_pending_of};
 
 use crate::deal::deal;
 use crate::node::{Child, Node, Siblings};
 use crate::rows::Rows;
 use crate::shape::Shape;
 use bt_keycode::Key;
-use bt_messages::{Buffer, Merge, Packet};
+use bt_messages::{Bins, Merge, Packet};
 use std::alloc::{AllocError, Global};
 
 // A copy of the least key of some rows, or the empty key where there are none.
@@ -44,19 +44,10 @@ pub(crate) fn leaves<V: Merge>(
     Ok(siblings)
 }
 
-// Adds what is pending for a child behind what is pending for those before it.
-#[tactic(auto, using(crate::proofs::lemmas::code::GroupLoops::added_last))]
-fn add_last<V: Merge>(buffer: &mut Buffer<V>, pending: Packet<V>) -> Result<(), AllocError>
-    requires { IsSorted (buffer.old ++ pending) }
-    ensures { OnOk result (buffer.new ≡ buffer.old ++ pending) }
-{
-    buffer.add(pending)
-}
-
-// Neighbouring children under one inner node, behind the pivot of the first.
+// Neighbouring children under one inner node with their bins, behind the pivot of the first.
 fn gather<V: Merge>(alloc: Global, part: Vec<Child<V>>) -> Result<(Key, Node<V>), AllocError>
     requires some { 1 ≤ length part.items }
-    requires sorted { IsSorted (pending_of part.items) }
+    requires divided { AreDivided (children_of part.items) }
     ensures { IfOk result (λ node. (node.0, node.1) ≡ gathered (children_of part.items)) }
 {
     let count = part.len();
@@ -65,13 +56,14 @@ fn gather<V: Merge>(alloc: Global, part: Vec<Child<V>>) -> Result<(Key, Node<V>)
         unreachable!()
     };
     let mut children = Siblings::with_capacity(alloc, first.node, count)?;
-    let mut buffer = Buffer::new(alloc);
-    add_last(&mut buffer, first.pending)?;
+    let mut bins = Vec::with_capacity(alloc, count)?;
+    bins.push(first.pending)?;
     for child in part {
         children.push(child.pivot, child.node)?;
-        add_last(&mut buffer, child.pending)?;
+        bins.push(child.pending)?;
     }
-    Ok((first.pivot, Node::inner(children, buffer)))
+    let bins = Bins::from_packets(bins);
+    Ok((first.pivot, Node::inner(children, bins)))
 }
 
 /// The children dealt by the fanout, each part under an inner node.
@@ -81,7 +73,7 @@ pub(crate) fn group<V: Merge>(
     children: Vec<Child<V>>,
 ) -> Result<Siblings<V>, AllocError>
     requires some { 1 ≤ length children.items }
-    requires sorted { IsSorted (pending_of children.items) }
+    requires divided { AreDivided (children_of children.items) }
     ensures { IfOk result (λ siblings. siblings ≡ grouped shape (children_of children.items)) }
 {
     let dealt = deal(alloc, children, shape.fanout())?;

@@ -1,5 +1,5 @@
 //! The value at a key, looked up along one path.
-ghost use Rattle.std.specs.Prelude.{◌≡◌, ◌≤◌, IfOk, length};
+ghost use Rattle.std.specs.Prelude.{◌≡◌, ◌<◌, ◌≤◌, [], IfOk, length, slice_index_or};
 ghost use Rattle.std.specs.Option.{option_copied};
 ghost use Rattle.bt_messages.specs.Effects.{effect_of};
 ghost use Rattle.bt_node.specs.Fits.{IsInOrder};
@@ -9,7 +9,7 @@ ghost use Rattle.bt_node.specs.Parts.{AreRising};
 
 use crate::node::{Kind, Node};
 use bt_keycode::Key;
-use bt_messages::{Buffer, Merge, effect_borrowed};
+use bt_messages::{Bins, Merge, effect_borrowed};
 use std::alloc::{AllocError, Global};
 use std::cmp::Ordering;
 
@@ -32,17 +32,19 @@ pub(crate) fn pivots_up_to(pivots: &[Key], key: &Key) -> usize
     pivots.partition_point(|pivot| key.compare(pivot) != Ordering::Less)
 }
 
-// What the messages to a key make of the value there.
+// What the messages to a key in the bin of its child make of the value there.
 fn after_messages<V: Merge>(
     alloc: Global,
-    buffer: &Buffer<V>,
+    bins: &Bins<V>,
+    place: usize,
     key: &Key,
     old: Option<V>,
 ) -> Result<Option<V>, AllocError>
-    ensures { IfOk result (λ value. value ≡ value_after (effect_of V.merged) key.now buffer.now old) }
+    requires { place < length bins.now }
+    ensures { IfOk result (λ value. value ≡ value_after (effect_of V.merged) key.now (slice_index_or bins.now place []) old) }
 {
     let mut value = old;
-    for (at, message) in buffer.iter_from(key) {
+    for (at, message) in bins.bin_from(place, key) {
         if at.compare(key) != Ordering::Equal {
             return Ok(value);
         }
@@ -63,10 +65,10 @@ pub(crate) fn value_at<V: Merge>(
 {
     match node.kind() {
         Kind::Leaf(rows) => copied(alloc, rows.find(key)),
-        Kind::Inner { children, buffer } => {
-            let child = &children.nodes()[pivots_up_to(children.pivots(), key)];
-            let old = value_at(alloc, child, key)?;
-            after_messages(alloc, buffer, key, old)
+        Kind::Inner { children, bins } => {
+            let place = pivots_up_to(children.pivots(), key);
+            let old = value_at(alloc, &children.nodes()[place], key)?;
+            after_messages(alloc, bins, place, key, old)
         }
     }
 }

@@ -1,27 +1,30 @@
 //! Nodes, and nodes side by side.
 //!
 //! ```text
-//!                  buffer: 5 put, 9 del, 9 ups
-//!     inner        pivots:        6       9
-//!                  nodes:     a   |   b   |   c
+//!                  bins:   5 put |       | 9 del, 9 ups
+//!     inner        pivots:       6       9
+//!                  nodes:    a   |   b   |   c
 //!                            /        |        \
 //!     leaves             1 3 5       6 8       9 12
 //! ```
 //!
 //! A key belongs to the node after the last pivot that is at most the key, or to the first node. Siblings are one node or more, and one pivot
-//! fewer than nodes; an inner node keeps its children in the same way. A contract sees siblings as a list of nodes, each behind the pivot before it
-//! and the first behind the empty key.
+//! fewer than nodes; an inner node keeps its children in the same way, and for each of them a bin: the messages that are pending for it. A contract
+//! sees siblings as a list of nodes, each behind the pivot before it and the first behind the empty key, and the bins, one after the other, as the
+//! node's buffer.
 ghost use Rattle.std.specs.Prelude.{◌≡◌, ◌∷◌, ◌++◌, ◌+◌, ◌≤◌, [], IfOk, OnOk, MatchOption, length, map, drop};
 ghost use Rattle.bt_node.specs.Fits.{IsLed};
 ghost use Rattle.bt_node.specs.Flushes.{pivot_first};
 ghost use Rattle.bt_node.specs.Parts.{AreRising, IsApart};
 ghost use Rattle.bt_node.specs.Trees.{behind};
 ghost use Rattle.bt_node.specs.Trees as trees;
-ghost use Rattle.bt_node.specs.Kinds.{tree_of};
+ghost use Rattle.bt_node.specs.Kinds.{IsDivided, tree_of};
+ghost use Rattle.bt_messages.specs.Bins.{LieBetween, joined};
+ghost use Rattle.bt_node.specs.Lookups.{pivots_of};
 
 use crate::rows::Rows;
 use bt_keycode::Key;
-use bt_messages::{Buffer, Merge, Packet};
+use bt_messages::{Bins, Merge, Packet};
 use std::alloc::{AllocError, Global};
 use std::marker::Model;
 use std::mem;
@@ -34,14 +37,14 @@ pub struct Node<V: Merge> {
     kind: Kind<V>,
 }
 
-/// What a node is made of: rows, or children with the messages that are pending for them.
+/// What a node is made of: rows, or children with a bin of pending messages for each.
 #[cycle(nodes)]
 #[derive(Drop)]
 pub(crate) enum Kind<V: Merge> {
     Leaf(Rows<V>),
     Inner {
         children: Siblings<V>,
-        buffer: Buffer<V>,
+        bins: Bins<V>,
     },
 }
 
@@ -53,13 +56,13 @@ pub struct Siblings<V: Merge> {
     pivots: Vec<Key>,
 }
 
-/// What a node consists of: a leaf is one whole, an inner node its children and its buffer.
+/// What a node consists of: a leaf is one whole, an inner node its children and their bins.
 #[derive(Drop)]
 pub enum Parts<V: Merge> {
     Leaf(Node<V>),
     Inner {
         children: Siblings<V>,
-        buffer: Buffer<V>,
+        bins: Bins<V>,
     },
 }
 
@@ -76,6 +79,10 @@ impl<V: Merge> Model for Node<V> {
     ghost use Rattle.bt_node.specs.Kinds.{tree_of};
 
     ghost view = { λ n. tree_of n.kind };
+
+    ghost use Rattle.bt_node.specs.Kinds.{IsDivided};
+
+    ghost invariant = { λ n. IsDivided n.kind };
 
     ghost size = { λ t. 2 * trees.height t };
 
@@ -116,34 +123,37 @@ impl<V: Merge> Node<V> {
         }
     }
 
-    pub(crate) fn inner(children: Siblings<V>, buffer: Buffer<V>) -> Self
-        ensures { result ≡ trees.inner (trees.nodes children) buffer }
+    pub(crate) fn inner(children: Siblings<V>, bins: Bins<V>) -> Self
+        requires { LieBetween (pivots_of children) bins }
+        ensures { result ≡ trees.inner (trees.nodes children) (joined bins) }
     {
         Node {
-            kind: Kind::Inner { children, buffer },
+            kind: Kind::Inner { children, bins },
         }
     }
 
     pub(crate) fn kind(&self) -> &Kind<V>
-        ensures { self.now ≡ tree_of result.now }
+        ensures tree { self.now ≡ tree_of result.now }
+        ensures divided { IsDivided result.now }
     {
         &self.kind
     }
 
     pub(crate) fn into_kind(self) -> Kind<V>
-        ensures { self ≡ tree_of result }
+        ensures tree { self ≡ tree_of result }
+        ensures divided { IsDivided result }
     {
         let Node { kind } = self;
         kind
     }
 
-    /// The children and the buffer of an inner node; a leaf is given back.
+    /// The children of an inner node and their bins; a leaf is given back.
     pub fn apart(self) -> Parts<V>
         ensures { IsApart self result }
     {
         match self.into_kind() {
             Kind::Leaf(rows) => Parts::Leaf(Node::leaf(rows)),
-            Kind::Inner { children, buffer } => Parts::Inner { children, buffer },
+            Kind::Inner { children, bins } => Parts::Inner { children, bins },
         }
     }
 }

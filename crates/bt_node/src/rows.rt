@@ -1,5 +1,5 @@
 //! Rows: the entries of a map in order.
-ghost use Rattle.std.specs.Prelude.{◌≡◌, ◌+◌, ◌<◌, ◌≤◌, ◌++◌, ◌^◌, [], IfOk, IsTrue, OnOk, Some, None, length, option_map, slice_get, vec_len, vec_capacity};
+ghost use Rattle.std.specs.Prelude.{◌≡◌, ◌+◌, ◌<◌, ◌≤◌, ◌++◌, ◌^◌, [], IfOk, IsTrue, OnOk, Some, None, drop, length, take, option_map, slice_get, vec_len, vec_capacity};
 ghost use Rattle.std.specs.FinMap.{find, is_sorted};
 ghost use Rattle.std.specs.Option.{option_copied, option_to_list};
 ghost use Rattle.bt_messages.specs.Effects.{effect_of};
@@ -9,7 +9,7 @@ ghost use Rattle.bt_node.specs.Messages.{before, between, from, rows_after, with
 
 use crate::deal;
 use bt_keycode::Key;
-use bt_messages::{Merge, Messages, Packet, between, effect, effect_borrowed};
+use bt_messages::{Merge, Messages, Stream, between, effect, effect_borrowed};
 use std::alloc::{AllocError, Global};
 use std::cmp::Ordering;
 use std::collections::VecDeque;
@@ -179,18 +179,28 @@ impl<V: Merge> Rows<V> {
         }
     }
 
-    /// The rows after the messages of a packet, in one merge.
-    pub(crate) fn after(self, alloc: Global, packet: Packet<V>) -> Result<Self, AllocError>
-        ensures { IfOk result (λ rows. rows ≡ rows_after (effect_of V.merged) packet self) }
+    /// The rows after the first messages of a stream, which are gone from it, in one merge. Room beyond an eighth over the rows is
+    /// given back.
+    pub(crate) fn after(
+        self,
+        alloc: Global,
+        stream: &mut Stream<V>,
+        count: usize,
+    ) -> Result<Self, AllocError>
+        requires { count ≤ length stream.old }
+        ensures rows { IfOk result (λ rows. rows ≡ rows_after (effect_of V.merged) (take count stream.old) self) }
+        ensures left { OnOk result (stream.new ≡ drop count stream.old) }
     {
-        if packet.is_empty() {
+        if count == 0 {
             return Ok(self);
         }
         let Rows { rows } = self;
-        let messages = packet.into_messages();
-        let mut changed = Vec::with_capacity(alloc, rows.len() + messages.len())?;
+        let mut changed = Vec::with_capacity(alloc, rows.len() + count)?;
         let mut older = VecDeque::from(rows);
-        for (key, message) in messages {
+        for _ in 0..count {
+            let Some((key, message)) = stream.pop() else {
+                unreachable!()
+            };
             move_before(&mut changed, &mut older, &key);
             let old = take_first(&mut older, &key);
             let new = effect(alloc, old, message)?;
@@ -199,6 +209,7 @@ impl<V: Merge> Rows<V> {
         for row in older {
             changed.push_reserved(row);
         }
+        changed.shrink_to(changed.len() + changed.len() / 8);
         Ok(Rows { rows: changed })
     }
 

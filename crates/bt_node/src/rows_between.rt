@@ -1,18 +1,19 @@
 //! The rows between two bounds that a node holds.
 ghost use Rattle.std.specs.Prelude.{◌≡◌, ◌≤◌, IfOk, length, map};
 ghost use Rattle.std.specs.Option.{option_copied};
+ghost use Rattle.bt_messages.specs.Bins.{joined};
 ghost use Rattle.bt_messages.specs.Effects.{effect_of};
 ghost use Rattle.bt_node.specs.Fits.{IsInOrder};
 ghost use Rattle.bt_node.specs.Flushes.{holds};
 ghost use Rattle.bt_node.specs.Lookups.{children_between, first_place, last_place, pivots_before, pivots_of};
-ghost use Rattle.bt_node.specs.Messages.{between};
+ghost use Rattle.bt_node.specs.Messages.{between, rows_after};
 ghost use Rattle.bt_node.specs.Parts.{AreRising};
 
 use crate::lookup::pivots_up_to;
 use crate::node::{Kind, Node, Siblings};
 use crate::rows::Rows;
 use bt_keycode::Key;
-use bt_messages::Merge;
+use bt_messages::{Bins, Merge};
 use std::alloc::{AllocError, Global};
 use std::cmp::Ordering;
 
@@ -64,6 +65,23 @@ fn children_between<'a, V: Merge>(
     &nodes[..last + 1]
 }
 
+// The rows after the messages between the bounds in each bin.
+fn after_bins<V: Merge>(
+    alloc: Global,
+    rows: Rows<V>,
+    bins: &Bins<V>,
+    from: Option<&Key>,
+    to: Option<&Key>,
+) -> Result<Rows<V>, AllocError>
+    ensures { IfOk result (λ after. after ≡ rows_after (effect_of V.merged) (between (option_copied from.entry) (option_copied to.entry) (joined bins.now)) rows) }
+{
+    let mut after = rows;
+    for place in 0..bins.len() {
+        after = after.after_messages(alloc, bins.bin_between(place, from, to))?;
+    }
+    Ok(after)
+}
+
 /// Copies of the rows between the bounds that a node holds when all its messages have had their effect.
 ///
 /// Keys and values are copied once, from leaves or buffers; above that, they are moved.
@@ -78,13 +96,13 @@ pub(crate) fn rows_between<V: Merge>(
 {
     match node.kind() {
         Kind::Leaf(rows) => rows.copy_between(alloc, from, to),
-        Kind::Inner { children, buffer } => {
+        Kind::Inner { children, bins } => {
             let mut below = Vec::new(alloc);
             for child in children_between(children, from, to) {
                 let mut rows = rows_between(alloc, child, from, to)?.into_vec();
                 below.append(&mut rows)?;
             }
-            Rows::from_sorted(below).after_messages(alloc, buffer.iter_between(from, to))
+            after_bins(alloc, Rows::from_sorted(below), bins, from, to)
         }
     }
 }

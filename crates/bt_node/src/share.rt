@@ -1,46 +1,27 @@
 //! What is pending for each child of a node.
-ghost use Rattle.std.specs.Prelude.{◌≡◌, ◌≤◌, IfOk, length};
-ghost use Rattle.bt_keycode.specs.Keys.{IsSorted};
+ghost use Rattle.std.specs.Prelude.{◌≡◌, ◌<◌, ◌≤◌, ◌^◌, IfOk, OnOk, drop, length, take};
+ghost use Rattle.bt_messages.specs.Bins.{LieBetween};
 ghost use Rattle.bt_node.specs.Flushes as flushes;
-ghost use Rattle.bt_node.specs.inside.Shares.{divided};
-ghost use Rattle.bt_node.specs.inside.Views.{children_of, pending_of};
+ghost use Rattle.bt_node.specs.Lookups.{pivots_of};
+ghost use Rattle.bt_node.specs.Messages.{with_messages};
+ghost use Rattle.bt_node.specs.inside.Shares.{beside, sums};
+ghost use Rattle.bt_node.specs.inside.Views.{children_of};
 
 use crate::node::{Child, Siblings};
 use bt_keycode::Key;
-use bt_messages::{Buffer, Merge, Packet};
+use bt_messages::{Bins, Buffer, Merge, Packet, Stream};
 use std::alloc::{AllocError, Global};
 
-// The messages of a buffer between these pivots: those before the first, and those from each on. One walk of buffer and pivots
-// together.
-fn divide<V: Merge>(
-    alloc: Global,
-    pivots: &[Key],
-    buffer: Buffer<V>,
-) -> Result<Vec<Packet<V>>, AllocError>
-    ensures { IfOk result (λ packets. packets.items ≡ divided pivots.now buffer) }
-{
-    let mut packets = Vec::with_capacity(alloc, pivots.len() + 1)?;
-    let mut rest = buffer.into_rest();
-    for pivot in pivots {
-        packets.push(rest.take_before(alloc, pivot)?)?;
-    }
-    packets.push(rest.take_all())?;
-    Ok(packets)
-}
-
-/// Siblings as the children of one node, each with its share of the buffer: a message is pending for the child after the last
-/// pivot that is at most its key, or for the first child.
-pub(crate) fn shared<V: Merge>(
+/// Siblings as the children of one node, each with the messages of its bin.
+pub(crate) fn beside<V: Merge>(
     alloc: Global,
     siblings: Siblings<V>,
-    buffer: Buffer<V>,
+    bins: Bins<V>,
 ) -> Result<Vec<Child<V>>, AllocError>
-    ensures shares { IfOk result (λ children. children_of children.items ≡ flushes.shared siblings buffer) }
-    ensures some { IfOk result (λ children. 1 ≤ length children.items) }
-    ensures sorted { IfOk result (λ children. IsSorted (pending_of children.items)) }
+    ensures { IfOk result (λ children. children_of children.items ≡ beside siblings bins) }
 {
     let mut children = Vec::with_capacity(alloc, siblings.len())?;
-    let mut packets = divide(alloc, siblings.pivots(), buffer)?.into_iter();
+    let mut packets = bins.into_packets().into_iter();
     let mut siblings = siblings.into_pairs(Key::new());
     while let Some((pivot, node)) = siblings.next() {
         let Some(pending) = packets.next() else {
@@ -55,13 +36,47 @@ pub(crate) fn shared<V: Merge>(
     Ok(children)
 }
 
-/// How many messages are pending for each child.
-pub(crate) fn counts<V: Merge>(alloc: Global, children: &[Child<V>]) -> Result<Vec<u64>, AllocError>
-    ensures { IfOk result (λ counts. counts.items ≡ flushes.counts (children_of children.now)) }
+// The number of messages of a packet.
+fn count<V: Merge>(packet: &Packet<V>) -> u64
+    ensures count { result ≡ length packet.now }
+    ensures bound { result < 2 ^ 63 }
 {
-    let mut counts = Vec::with_capacity(alloc, children.len())?;
-    for child in children {
-        counts.push(child.pending.len() as u64)?;
+    packet.len() as u64
+}
+
+/// How many messages are pending for each child with its share of those that come. None is moved for that.
+pub(crate) fn loads<V: Merge>(
+    alloc: Global,
+    children: &[Child<V>],
+    shares: &[usize],
+) -> Result<Vec<u64>, AllocError>
+    requires { length shares.now ≡ length children.now }
+    ensures { IfOk result (λ loads. loads.items ≡ sums (flushes.counts (children_of children.now)) shares.now) }
+{
+    let mut loads = Vec::with_capacity(alloc, children.len())?;
+    for (place, child) in children.iter().enumerate() {
+        loads.push(count(&child.pending) + shares[place] as u64)?;
     }
-    Ok(counts)
+    Ok(loads)
+}
+
+/// Messages, and after those of their key the first ones of a stream, which are gone from it.
+pub(crate) fn with_front<V: Merge>(
+    alloc: Global,
+    pending: Packet<V>,
+    stream: &mut Stream<V>,
+    count: usize,
+) -> Result<Packet<V>, AllocError>
+    requires { count ≤ length stream.old }
+    ensures packet { IfOk result (λ packet. packet ≡ with_messages (take count stream.old) pending) }
+    ensures left { OnOk result (stream.new ≡ drop count stream.old) }
+{
+    if count == 0 {
+        return Ok(pending);
+    }
+    let newer = stream.take_front(alloc, count)?;
+    let mut all = Buffer::new(alloc);
+    all.add(pending)?;
+    all.add(newer)?;
+    Ok(all.into_rest().take_all())
 }

@@ -4,9 +4,11 @@ ghost use Rattle.std.specs.FinMap.{find, is_sorted};
 ghost use Rattle.bt_keycode.specs.Keys.{key_cmp};
 ghost use Rattle.bt_messages.specs.Effects.{effect_of};
 ghost use Rattle.bt_messages.specs.declared.message.Message.{Message};
-ghost use Rattle.bt_node.specs.Fits.{AreFit, HasShape};
+ghost use Rattle.bt_messages.specs.Bins.{LieBetween, joined};
+ghost use Rattle.bt_node.specs.Fits.{AreFit, HasShape, IsInOrder};
 ghost use Rattle.bt_node.specs.Flushes.{absorb, crown, grouped, holds, shared, sunk};
 ghost use Rattle.bt_node.specs.Laws.{ChosenArePlanned, ComeByOneRule, FitThere, FlushesInTurn, HoldRowsAfter, HoldsAfter, HoldsAll, KeepHeight, StandsAbove, StayWithoutPacket};
+ghost use Rattle.bt_node.specs.Lookups.{pivots_of};
 ghost use Rattle.bt_node.specs.Trees.{leaf};
 
 use crate::absorb::absorb;
@@ -15,10 +17,10 @@ use crate::group::group;
 use crate::node::{Node, Siblings};
 use crate::rows::Rows;
 use crate::shape::Shape;
-use crate::share::shared;
+use crate::share::beside;
 use crate::walk::Walk;
 use bt_keycode::Key;
-use bt_messages::{Buffer, Merge, Packet};
+use bt_messages::{Bins, Merge, Packet};
 use std::alloc::{AllocError, Global};
 use std::marker::Model;
 
@@ -44,13 +46,14 @@ impl<V: Merge> Model for Tree<V> {
     ghost invariant = { λ t. HasShape t.shape t.root };
 }
 
-/// What becomes of a node and a packet, on the caller's thread. An `Err` keeps neither.
+/// What becomes of a node whose keys are in order and a packet, on the caller's thread. An `Err` keeps neither.
 pub fn absorb_alone<V: Merge>(
     alloc: Global,
     shape: Shape,
     node: Node<V>,
     packet: Packet<V>,
 ) -> Result<Siblings<V>, AllocError>
+    requires in_order { IsInOrder node }
     ensures siblings { IfOk result (λ siblings. siblings ≡ absorb (effect_of V.merged) shape node packet) }
     ensures fits { IfOk result (FitThere shape node packet) }
     ensures height { IfOk result (KeepHeight shape node packet) }
@@ -60,23 +63,26 @@ pub fn absorb_alone<V: Merge>(
     ensures in_turn { FlushesInTurn V (Message V V.Delta) }
     ensures planned { ChosenArePlanned V (Message V V.Delta) }
 {
-    let nodes = absorb(alloc, shape, node, packet)?;
+    let mut stream = packet.into_stream();
+    let count = stream.len();
+    let nodes = absorb(alloc, shape, node, &mut stream, count)?;
     Ok(nodes)
 }
 
-/// Siblings as children of inner nodes, each part with its share of a buffer: the deal that ends what becomes of an inner node.
-/// An `Err` keeps neither.
+/// Siblings as children of inner nodes, each with its bin: the deal that ends what becomes of an inner node. An `Err` keeps
+/// neither.
 pub fn regroup<V: Merge>(
     alloc: Global,
     shape: Shape,
     siblings: Siblings<V>,
-    buffer: Buffer<V>,
+    bins: Bins<V>,
 ) -> Result<Siblings<V>, AllocError>
     requires several { 2 ≤ length siblings }
-    requires capacity { length buffer ≤ shape.buffer }
-    ensures { IfOk result (λ nodes. nodes ≡ grouped shape (shared siblings buffer)) }
+    requires capacity { length (joined bins) ≤ shape.buffer }
+    requires divided { LieBetween (pivots_of siblings) bins }
+    ensures { IfOk result (λ nodes. nodes ≡ grouped shape (shared siblings (joined bins))) }
 {
-    let children = shared(alloc, siblings, buffer)?;
+    let children = beside(alloc, siblings, bins)?;
     group(alloc, shape, children)
 }
 

@@ -13,7 +13,7 @@ use crate::lookup::value_at;
 use crate::node::{Kind, Node};
 use crate::rows_between::rows_between;
 use bt_keycode::Key;
-use bt_messages::{Merge, Messages};
+use bt_messages::{Joined, Merge};
 use std::alloc::{AllocError, Global};
 use std::marker::Model;
 
@@ -74,23 +74,23 @@ impl<'a, V: Merge> Walk<'a, V> {
     }
 
     /// The number of messages in the buffer of an inner node, and 0 of a leaf.
-    pub fn message_count(&self) -> usize
+    pub fn message_count(&self) -> u128
         ensures { result ≡ length (walk.messages_of self.now) }
     {
         match self.node.kind() {
             Kind::Leaf(_) => 0,
-            Kind::Inner { buffer, .. } => buffer.count(),
+            Kind::Inner { bins, .. } => bins.total(),
         }
     }
 
     /// The messages in the buffer of an inner node with their keys, in order, and none of a leaf.
-    pub fn messages(&self) -> Messages<'a, V>
+    pub fn messages(&self) -> Joined<'a, V>
         ensures { result ≡ walk.messages_of self.now }
     {
-        let Kind::Inner { buffer, .. } = self.node.kind() else {
-            return Messages::none();
+        let Kind::Inner { bins, .. } = self.node.kind() else {
+            return Joined::none();
         };
-        buffer.iter()
+        bins.iter()
     }
 
     /// The number of children of an inner node, and 0 of a leaf.

@@ -1,5 +1,6 @@
 -- What becomes of a node and a packet: order, sizes, height and rows.
 pub mod Children
+pub mod Divisions
 pub mod EmptyPackets
 pub mod Groups
 pub mod Laws
@@ -10,3 +11,4 @@ pub mod Recursion
 pub mod RowsKept
 pub mod Shares
 pub mod ValuesKept
+pub mod Widest

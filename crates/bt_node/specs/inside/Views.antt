@@ -1,9 +1,7 @@
 -- Children that are worked on, as the definitions have them.
 use Rattle.std.specs.Prelude.{List, [], map}
-use Rattle.std.specs.List.{flat_map}
 use Rattle.bt_node.specs.declared.node.Child as code
 use Rattle.bt_messages.specs.declared.message.Message.{Message}
-use Rattle.bt_node.specs.Messages.{Messages}
 use Rattle.bt_node.specs.Trees.{Siblings}
 use Rattle.bt_node.specs.Flushes.{Child}
 
@@ -13,10 +11,6 @@ child_of c = record { pivot = c.pivot; tree = c.node; pending = c.pending }
 
 abbrev pub children_of : {V D : Type 0} → List (code.Child V D) → List (Child V (Message V D))
 children_of = map child_of
-
--- what is pending for children, as one list
-abbrev pub pending_of : {V D : Type 0} → List (code.Child V D) → Messages (Message V D)
-pending_of cs = flat_map (λ c. c.pending) (children_of cs)
 
 -- siblings as children for which nothing is pending
 abbrev pub none_pending_of : {V M : Type 0} → Siblings V M → List (Child V M)

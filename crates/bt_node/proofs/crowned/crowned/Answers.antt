@@ -1,12 +1,12 @@
 use Rattle.std.proofs.Common.{◌<◌, ◌≤◌, ◌∙◌, arith, length, rules}
-use Rattle.bt_node.proofs.lemmas.code.CrownLoop.{children_some, crown_kept, crown_one, fewer, none_sorted}
+use Rattle.bt_node.proofs.lemmas.code.CrownLoop.{children_some, crown_kept, crown_one, fewer, none_divided}
 use Rattle.bt_node.proofs.crowned.crowned.Goals as goal
 
 pub group-requires-clause-some : goal.group-requires-clause-some
 group-requires-clause-some g c = children_some c.in_ok-children.children.items c.levels.level c.in_ok-children.ensures (omega (arith, c.levels-test.true, c.len.ensures.count))
 
-pub group-requires-clause-sorted : goal.group-requires-clause-sorted
-group-requires-clause-sorted g c = none_sorted c.in_ok-children.children.items c.levels.level c.in_ok-children.ensures
+pub group-requires-clause-divided : goal.group-requires-clause-divided
+group-requires-clause-divided g c = none_divided c.in_ok-children.children.items c.levels.level c.in_ok-children.ensures
 
 pub levels-preserved : goal.levels-preserved
 levels-preserved g c =

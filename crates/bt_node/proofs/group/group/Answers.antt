@@ -1,7 +1,7 @@
 use Rattle.std.proofs.Common.{◌≡◌, ◌∷◌, ◌++◌, ◌∙◌, [], ap, arith, refl, rules, subst, sym}
-use Rattle.bt_keycode.specs.Keys.{IsSorted}
 use Rattle.bt_node.specs.Deals.{deal}
-use Rattle.bt_node.specs.inside.Views.{pending_of}
+use Rattle.bt_node.specs.inside.Shares.{AreDivided}
+use Rattle.bt_node.specs.inside.Views.{children_of}
 use Rattle.bt_node.proofs.lemmas.code.GroupLoops.{all_dealt, all_of, first_part, group_done, groups_of, more, nothing_left, other_parts, parts_full, parts_of}
 use Rattle.bt_node.proofs.lemmas.deals.Parts.{AllNonEmpty, NonEmpty}
 use Rattle.bt_node.proofs.lemmas.flushes.Groups.{deal-some, some_length}
@@ -20,12 +20,12 @@ gather-requires-clause-some g c =
     let full = parts_full c.fanout.result parts c.args.children.items c.in_ok-dealt.ensures (omega arith) c.requires.some in
     some_length c.in-Some.first.items (subst (λ ps. AllNonEmpty (parts_of ps)) split full).0
 
-pub gather-requires-clause-sorted : goal.gather-requires-clause-sorted
-gather-requires-clause-sorted g c =
+pub gather-requires-clause-divided : goal.gather-requires-clause-divided
+gather-requires-clause-divided g c =
     let parts = c.in_ok-dealt.dealt.items in
     let split : parts ≡ c.in-Some.first ∷ c.next.new.self.rest.items = search rules in
-    let whole = subst (λ cs. IsSorted (pending_of cs)) (sym (all_dealt c.fanout.result parts c.args.children.items c.in_ok-dealt.ensures)) c.requires.sorted in
-    first_part c.in-Some.first c.next.new.self.rest.items (subst (λ ps. IsSorted (pending_of (all_of ps))) split whole)
+    let whole = subst (λ cs. AreDivided (children_of cs)) (sym (all_dealt c.fanout.result parts c.args.children.items c.in_ok-dealt.ensures)) c.requires.divided in
+    first_part c.in-Some.first c.next.new.self.rest.items (subst (λ ps. AreDivided (children_of (all_of ps))) split whole)
 
 pub loop-part-init : goal.loop-part-init
 loop-part-init g c =
@@ -33,20 +33,20 @@ loop-part-init g c =
     let rest = c.into_iter-part-iterator.result.rest.items in
     let split : parts ≡ c.in-Some.first ∷ rest = search rules in
     let full = parts_full c.fanout.result parts c.args.children.items c.in_ok-dealt.ensures (omega arith) c.requires.some in
-    let whole = subst (λ cs. IsSorted (pending_of cs)) (sym (all_dealt c.fanout.result parts c.args.children.items c.in_ok-dealt.ensures)) c.requires.sorted in
+    let whole = subst (λ cs. AreDivided (children_of cs)) (sym (all_dealt c.fanout.result parts c.args.children.items c.in_ok-dealt.ensures)) c.requires.divided in
     record {
       nodes = refl;
       full = (subst (λ ps. AllNonEmpty (parts_of ps)) split full).1;
-      sorted = other_parts c.in-Some.first rest (subst (λ ps. IsSorted (pending_of (all_of ps))) split whole);
+      divided = other_parts c.in-Some.first rest (subst (λ ps. AreDivided (children_of (all_of ps))) split whole);
     }
 
 pub gather-requires-in-loop-part-clause-some : goal.gather-requires-in-loop-part-clause-some
 gather-requires-in-loop-part-clause-some g c =
     some_length c.in-Some-part.part.items (subst (λ ps. AllNonEmpty (parts_of ps)) c.in-Some-part.ensures.steps.0 c.loop-part.invariant.full).0
 
-pub gather-requires-in-loop-part-clause-sorted : goal.gather-requires-in-loop-part-clause-sorted
-gather-requires-in-loop-part-clause-sorted g c =
-    first_part c.in-Some-part.part c.next-in-loop-part.new.self.rest.items (subst (λ ps. IsSorted (pending_of (all_of ps))) c.in-Some-part.ensures.steps.0 c.loop-part.invariant.sorted)
+pub gather-requires-in-loop-part-clause-divided : goal.gather-requires-in-loop-part-clause-divided
+gather-requires-in-loop-part-clause-divided g c =
+    first_part c.in-Some-part.part c.next-in-loop-part.new.self.rest.items (subst (λ ps. AreDivided (children_of (all_of ps))) c.in-Some-part.ensures.steps.0 c.loop-part.invariant.divided)
 
 pub same-siblings : goal.same-siblings
 same-siblings g c = refl
@@ -64,7 +64,7 @@ loop-part-preserved g c =
           ∙ more c.loop-part.siblings c.in_ok-pivot.pivot c.in_ok-pivot.node part left c.in_ok-pivot.ensures
           ∙ ap (λ ps. c.loop-part.siblings ++ groups_of ps) (sym steps) ∙ c.loop-part.invariant.nodes;
       full = (subst (λ ps. AllNonEmpty (parts_of ps)) steps c.loop-part.invariant.full).1;
-      sorted = other_parts part left (subst (λ ps. IsSorted (pending_of (all_of ps))) steps c.loop-part.invariant.sorted);
+      divided = other_parts part left (subst (λ ps. AreDivided (children_of (all_of ps))) steps c.loop-part.invariant.divided);
     }
 
 pub returns : goal.returns

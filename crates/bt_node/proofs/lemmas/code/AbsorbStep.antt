@@ -1,24 +1,35 @@
 -- What the code makes of an inner node is what becomes of it.
-use Rattle.std.proofs.Common.{Result, Ok, Err, IfOk, ◌≡◌, ◌≤◌, ◌<◌, ◌+◌, ◌*◌, ℕ, Bool, true, false, List, [], ◌∷◌, ◌++◌, length, map, refl, zero, suc, sym, ap, subst, ◌∙◌, arith, Option}
+use Rattle.std.proofs.Common.{Result, Ok, Err, IfOk, ◌≡◌, ◌≤◌, ◌<◌, ◌+◌, ◌*◌, ℕ, Bool, true, false, List, [], ◌∷◌, ◌++◌, length, map, refl, take, zero, suc, sym, ap, subst, ◌∙◌, arith, Option}
 use Rattle.std.proofs.lemmas.List.{length-map}
 use Rattle.std.specs.List.{zip}
 use Rattle.bt_keycode.specs.Keys.{IsSorted}
 use Rattle.bt_messages.specs.declared.message.Message.{Message}
 use Rattle.bt_node.specs.declared.node.Child as code
 use Rattle.bt_node.specs.Messages.{Messages, with_messages}
-use Rattle.bt_node.specs.Plans.{planned}
+use Rattle.bt_node.specs.Plans.{planned, total}
+use Rattle.bt_node.specs.inside.Shares.{AreDivided, beside, loaded, sums}
 use Rattle.bt_node.specs.inside.Marks.{marks_of, passed}
 use Rattle.bt_node.specs.Trees.{Shape, Siblings, Tree, leaf, inner, height, height_below, nodes}
-use Rattle.bt_node.specs.Fits.{IsLed}
+use Rattle.bt_messages.specs.Bins.{LieBetween, joined, parted, parts}
+use Rattle.bt_messages.proofs.offered.Parts.{joined_sorted}
+use Rattle.bt_messages.proofs.offered.Placed.{sorted-with_messages}
+use Rattle.std.specs.declared.option.Option.TheVariants.{None}
+use Rattle.bt_node.specs.Fits.{IsInOrder, IsLed}
+use Rattle.bt_node.specs.Lookups.{pivots_of}
 use Rattle.bt_node.specs.Flushes.{Child, absorb, absorbed, counts, flushed, flushed_over, gathered, grouped, pivot_first, shared}
-use Rattle.bt_node.specs.inside.Views.{child_of, children_of, pending_of}
+use Rattle.bt_node.specs.inside.Views.{child_of, children_of}
 use Rattle.bt_node.proofs.lemmas.deals.Parts.{NonEmpty}
-use Rattle.bt_node.proofs.lemmas.flushes.Children.{all_pending}
+use Rattle.bt_node.proofs.lemmas.flushes.Children.{ChildrenLie}
 use Rattle.bt_node.proofs.lemmas.flushes.Groups.{children-nodes, deal-some, leaves-led, led-map, some_length, stripped}
-use Rattle.bt_node.proofs.lemmas.code.Marks.{flushed_over-marks}
+use Rattle.bt_node.proofs.lemmas.code.Marks.{flushed_over-marks, marked-zip}
 use Rattle.bt_node.proofs.lemmas.flushes.Recursion.{absorb_recurs}
-use Rattle.bt_node.proofs.lemmas.flushes.EmptyPackets.{still-here, stripped-shared}
-use Rattle.bt_node.proofs.lemmas.flushes.PendingOrder.{sorted-passed, all_pending-of-shared}
+use Rattle.bt_node.proofs.lemmas.flushes.EmptyPackets.{still-here}
+use Rattle.bt_node.proofs.lemmas.flushes.Divisions.{counts-loaded, divided-lie, length-first, length-loaded, length-with_messages, loaded-shared, stripped-beside}
+use Rattle.bt_node.proofs.lemmas.flushes.Laws.{anywhere}
+use Rattle.bt_node.proofs.lemmas.flushes.Passes.{Keeps, names-slots, passed-lie, slots}
+use Rattle.bt_node.proofs.lemmas.flushes.RowsKept.{absorb-keeps}
+use Rattle.bt_node.proofs.lemmas.flushes.Shares.{shared-lie}
+use Rattle.bt_node.proofs.lemmas.flushes.Widest.{siblings_widest}
 
 -- the height of the highest of these children
 abbrev pub highest : {V D : Type 0} → List (code.Child V D) → ℕ
@@ -47,49 +58,68 @@ module _ {V M : Type 0} (effect : Option V → M → Option V) (s : Shape) (two 
   pass-some (c ∷ cs) (true ∷ marks) some same = parts-some c _
   pass-some (c ∷ cs) (false ∷ marks) some same = tt
 
-module _ {V D : Type 0} (effect : Option V → Message V D → Option V) (s : Shape) (xs : Siblings V (Message V D)) (buffer packet after : Messages (Message V D)) (node : Tree V (Message V D))
-    (here : node ≡ inner (nodes xs) buffer) (taken : after ≡ with_messages packet buffer) (sorted : IsSorted after) where
+module _ {V D : Type 0} (effect : Option V → Message V D → Option V) (s : Shape) (xs : Siblings V (Message V D)) (bins : List (Messages (Message V D))) (ms : Messages (Message V D)) (count : ℕ) (shares : List ℕ)
+    (node : Tree V (Message V D)) (here : node ≡ inner (nodes xs) (joined bins)) (lie : LieBetween (pivots_of xs) bins) (sizes : parted shares ms ≡ parts (pivots_of xs) (take count ms)) where
+  packet : Messages (Message V D)
+  packet = take count ms
+
+  after : Messages (Message V D)
+  after = with_messages packet (joined bins)
+
+  after-sorted : IsSorted after
+  after-sorted = sorted-with_messages packet (joined bins) (joined_sorted (pivots_of xs) bins lie)
+
   -- what becomes of the node
   becomes : absorb effect s node packet ≡ grouped s (flushed_over (absorb effect s) s.buffer (shared xs after))
   becomes =
-      ap (λ t. absorb effect s t packet) here ∙ absorb_recurs effect s (nodes xs) buffer packet
-      ∙ ap (λ ys. grouped s (flushed_over (absorb effect s) s.buffer (shared ys (with_messages packet buffer)))) (children-nodes xs)
-      ∙ ap (λ b. grouped s (flushed_over (absorb effect s) s.buffer (shared xs b))) (sym taken)
+      ap (λ t. absorb effect s t packet) here ∙ absorb_recurs effect s (nodes xs) (joined bins) packet
+      ∙ ap (λ ys. grouped s (flushed_over (absorb effect s) s.buffer (shared ys after))) (children-nodes xs)
 
-  -- it stays as it is
-  pub stays_here : IsLed xs → 1 ≤ s.fanout → length xs ≤ s.fanout → length after ≤ s.buffer → ([], inner (nodes xs) after) ∷ [] ≡ absorb effect s node packet
-  stays_here led some few pending =
+  -- it stays as it is, but for its bins
+  pub stays_here : IsLed xs → 1 ≤ s.fanout → length xs ≤ s.fanout → count ≤ length ms → count + length (joined bins) ≤ s.buffer → ([], inner (nodes xs) after) ∷ [] ≡ absorb effect s node packet
+  stays_here led some few enough pending =
       let ns = nodes xs in
       let same = children-nodes xs in
-      sym (still-here s ns after (subst IsLed (sym same) led) sorted some (subst (λ ys. length ys ≤ s.fanout) (sym same) few) pending (absorb effect s))
+      let fits : length after ≤ s.buffer = omega (arith, length-with_messages packet (joined bins), length-first count ms enough, pending) in
+      sym (still-here s ns after (subst IsLed (sym same) led) after-sorted some (subst (λ ys. length ys ≤ s.fanout) (sym same) few) fits (absorb effect s))
       ∙ ap (λ ys. grouped s (flushed_over (absorb effect s) s.buffer (shared ys after))) same
       ∙ sym becomes
 
-  shares-sorted : (ys : Siblings V (Message V D)) → IsSorted (all_pending (shared ys after))
-  shares-sorted [] = tt
-  shares-sorted (y ∷ ys) = subst IsSorted (sym (all_pending-of-shared (y ∷ ys) after tt sorted)) sorted
+  module _ (cs : List (code.Child V D)) (beside_is : children_of cs ≡ beside xs bins) (enough : total shares ≤ length ms) (len : length shares ≡ length cs) (marks : List Bool)
+      (plan : marks ≡ marks_of (length cs) (planned (sums (counts (children_of cs)) shares) s.buffer)) (made : List (code.Child V D))
+      (passed_is : children_of made ≡ pass effect s (zip (loaded (children_of cs) shares ms) marks)) where
+    -- the children with their shares
+    pub loaded_are : loaded (children_of cs) shares ms ≡ shared xs after
+    loaded_are = ap (λ ds. loaded ds shares ms) beside_is ∙ loaded-shared xs bins shares ms packet lie sizes
 
-  module _ (cs : List (code.Child V D)) (shares : children_of cs ≡ shared xs after) (marks : List Bool)
-      (plan : marks ≡ marks_of (length (counts (children_of cs))) (planned (counts (children_of cs)) s.buffer)) (parts : List (code.Child V D)) (passed_is : children_of parts ≡ pass effect s (zip (children_of cs) marks)) where
-    all_planned : children_of parts ≡ pass effect s (zip (shared xs after) (marks_of (length (shared xs after)) (planned (counts (shared xs after)) s.buffer)))
-    all_planned =
-        passed_is ∙ ap (λ ms. pass effect s (zip (children_of cs) ms)) (plan ∙ ap (λ n. marks_of n (planned (counts (children_of cs)) s.buffer)) (length-map (children_of cs) (λ c. length c.pending)))
-        ∙ ap (λ ys. pass effect s (zip ys (marks_of (length ys) (planned (counts ys) s.buffer)))) shares
+    marks_are : marks ≡ marks_of (length (shared xs after)) (planned (counts (shared xs after)) s.buffer)
+    marks_are =
+        let long : length cs ≡ length (shared xs after) =
+        omega (arith, ap length loaded_are, length-loaded (children_of cs) shares ms (omega (arith, len, length-map cs child_of)), length-map cs child_of) in
+        plan ∙ ap (λ n. marks_of n (planned (sums (counts (children_of cs)) shares) s.buffer)) long
+        ∙ ap (λ ns. marks_of (length (shared xs after)) (planned ns s.buffer)) (counts-loaded (children_of cs) shares ms enough ∙ ap counts loaded_are)
 
-    -- what is pending is still in order
-    pub parts_sorted : IsSorted (pending_of parts)
-    parts_sorted =
-        let ys = shared xs after in
-        subst (λ zs. IsSorted (all_pending zs)) (sym all_planned)
-        (sorted-passed (absorb effect s) ys (marks_of (length ys) (planned (counts ys) s.buffer)) (shares-sorted xs))
+    all_planned : children_of made ≡ pass effect s (zip (shared xs after) (marks_of (length (shared xs after)) (planned (counts (shared xs after)) s.buffer)))
+    all_planned = passed_is ∙ ap (λ ds. pass effect s (zip ds marks)) loaded_are ∙ ap (λ bs. pass effect s (zip (shared xs after) bs)) marks_are
+
+    -- what is pending still lies between the pivots
+    pub parts_divided : 2 ≤ s.fanout → 1 ≤ s.leaf → IsInOrder node → AreDivided (children_of made)
+    parts_divided two one order =
+        let side = siblings_widest node xs (joined bins) here order in
+        let cs = shared xs after in
+        let placed = shared-lie side.0 None None xs after side.1 (anywhere after) after-sorted in
+        let keeps : Keeps effect side.0 (absorb effect s) = λ low high t p lies within. absorb-keeps effect s (omega (arith, one)) (omega (arith, two)) side.0 low high t p lies within in
+        subst AreDivided (sym (all_planned ∙ ap (pass effect s) (sym (marked-zip cs (planned (counts cs) s.buffer)))))
+        (divided-lie side.0 None None _ (passed-lie effect side.0 (absorb effect s) keeps None None (slots s.buffer cs) (subst (ChildrenLie side.0 None None) (sym (names-slots s.buffer cs)) placed)))
 
     -- there is a part
-    pub parts_some : 2 ≤ s.fanout → 1 ≤ s.leaf → 1 ≤ length cs → length marks ≡ length cs → 1 ≤ length parts
+    pub parts_some : 2 ≤ s.fanout → 1 ≤ s.leaf → 1 ≤ length cs → length marks ≡ length cs → 1 ≤ length made
     parts_some two one some same =
+        let long = length-loaded (children_of cs) shares ms (omega (arith, len, length-map cs child_of)) in
         let count = length-map cs child_of in
-        omega (arith, some_length _ (pass-some effect s two one (children_of cs) marks (omega (arith, some, count)) (omega (arith, same, count))), ap length passed_is, length-map parts child_of)
+        omega (arith, some_length _ (pass-some effect s two one (loaded (children_of cs) shares ms) marks (omega (arith, some, count, long)) (omega (arith, same, count, long))), ap length passed_is, length-map made child_of)
 
-    pub grouped_anew : grouped s (children_of parts) ≡ absorb effect s node packet
+    pub grouped_anew : grouped s (children_of made) ≡ absorb effect s node packet
     grouped_anew = ap (grouped s) (all_planned ∙ sym (flushed_over-marks (absorb effect s) s.buffer (shared xs after))) ∙ sym becomes
 
 -- a fact of the value, if there is one, gives another
@@ -98,9 +128,10 @@ if_ok P Q (Ok x) f h = f x h
 if_ok P Q (Err e) f h = tt
 
 -- an inner node is higher than its children
-pub lower : {V D : Type 0} (node : Tree V (Message V D)) (xs : Siblings V (Message V D)) (b after : Messages (Message V D)) (cs : List (code.Child V D)) → node ≡ inner (nodes xs) b → children_of cs ≡ shared xs after → 2 * highest cs + 1 < 2 * height node
-lower node xs b after cs here shares = omega (arith, ap height here, ap (λ ys. height_below (nodes ys)) (ap stripped shares ∙ stripped-shared xs after))
+pub lower : {V D : Type 0} (node : Tree V (Message V D)) (xs : Siblings V (Message V D)) (b : Messages (Message V D)) (bins : List (Messages (Message V D))) (cs : List (code.Child V D)) →
+    node ≡ inner (nodes xs) b → length bins ≡ length xs → children_of cs ≡ beside xs bins → 3 * highest cs + 2 < 3 * height node
+lower node xs b bins cs here same is = omega (arith, ap height here, ap (λ ys. height_below (nodes ys)) (ap stripped is ∙ stripped-beside xs bins same))
 
 -- a child is no higher than the highest
-pub among : {V D : Type 0} (c : code.Child V D) (cs ds : List (code.Child V D)) (bound : ℕ) → ds ≡ c ∷ cs → highest ds ≤ bound → (2 * height c.node < 2 * bound + 1) × (highest cs ≤ bound)
+pub among : {V D : Type 0} (c : code.Child V D) (cs ds : List (code.Child V D)) (bound : ℕ) → ds ≡ c ∷ cs → highest ds ≤ bound → (3 * height c.node + 1 < 3 * bound + 2) × (highest cs ≤ bound)
 among c cs ds bound e h = let all = ap highest e in (omega (arith, all, h), omega (arith, all, h))

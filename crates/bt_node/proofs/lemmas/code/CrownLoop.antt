@@ -1,23 +1,24 @@
 -- Siblings put under inner nodes, as the code does it: fewer, and with the same crown.
-use Rattle.std.proofs.Common.{◌≡◌, ◌<◌, ◌≤◌, List, [], ◌∷◌, length, refl, sym, ap, subst, ◌∙◌, arith}
+use Rattle.std.proofs.Common.{◌≡◌, ◌<◌, ◌≤◌, List, [], ◌∷◌, length, map, refl, sym, ap, subst, ◌∙◌, arith}
 use Rattle.std.proofs.lemmas.List.{length-map}
-use Rattle.bt_keycode.specs.Keys.{IsSorted}
+use Rattle.bt_messages.specs.Bins.{joined}
 use Rattle.bt_messages.specs.declared.message.Message.{Message}
 use Rattle.bt_node.specs.declared.node.Child as code
 use Rattle.bt_node.specs.Trees.{Shape, Siblings, Tree}
 use Rattle.bt_node.specs.Flushes.{Child, crown, grouped}
-use Rattle.bt_node.specs.inside.Views.{child_of, children_of, none_pending_of, pending_of}
-use Rattle.bt_node.proofs.lemmas.flushes.Children.{all_pending}
+use Rattle.bt_node.specs.inside.Views.{child_of, children_of, none_pending_of}
+use Rattle.bt_node.specs.inside.Shares.{AreDivided}
+use Rattle.bt_node.proofs.lemmas.flushes.Divisions.{divided-none}
 use Rattle.bt_node.proofs.lemmas.crowns.Levels.{crown-again, raised-shorter}
 
-nothing-pending : {V M : Type 0} (xs : Siblings V M) → all_pending (none_pending_of xs) ≡ []
+nothing-pending : {V M : Type 0} (xs : Siblings V M) → joined (map (λ c. c.pending) (none_pending_of xs)) ≡ []
 nothing-pending [] = refl
 nothing-pending (x ∷ xs) = nothing-pending xs
 
 module _ {V D : Type 0} (cs : List (code.Child V D)) (xs : Siblings V (Message V D)) (is : children_of cs ≡ none_pending_of xs) where
-  -- nothing is pending, which is in order
-  pub none_sorted : IsSorted (pending_of cs)
-  none_sorted = subst IsSorted (sym (ap all_pending is ∙ nothing-pending xs)) tt
+  -- nothing is pending, which lies between any pivots
+  pub none_divided : AreDivided (children_of cs)
+  none_divided = subst AreDivided (sym is) (divided-none (none_pending_of xs) (nothing-pending xs))
 
   pub children_some : 1 ≤ length xs → 1 ≤ length cs
   children_some some = omega (arith, some, ap length is, length-map cs child_of, length-map {B = Child V (Message V D)} xs (λ x. record { pivot = x.0; tree = x.1; pending = [] }))

@@ -1,19 +1,22 @@
 -- Children in parts, and what is pending for them.
 use Rattle.std.proofs.Common.{Vec, Global, ◌≡◌, ℕ, List, [], ◌∷◌, ◌++◌, length, map, take, drop, ◌<◌, ◌≤◌, refl, sym, ap, subst, ◌∙◌, append-nil, append_assoc, arith}
 use Rattle.std.specs.List.{flat_map}
-use Rattle.std.proofs.lemmas.List.{drop-map, length-map, take-map}
-use Rattle.bt_keycode.specs.Keys.{IsSorted, Key}
+use Rattle.std.proofs.lemmas.List.{drop-map, length-map, map-append, take-map}
+use Rattle.bt_keycode.specs.Keys.{Key}
+use Rattle.bt_messages.specs.Bins.{LieBetween, joined}
+use Rattle.bt_node.specs.Lookups.{pivots_of}
+use Rattle.bt_node.specs.inside.Shares.{AreDivided}
 use Rattle.bt_messages.specs.declared.message.Message.{Message}
 use Rattle.bt_node.specs.declared.node.Child as code
-use Rattle.bt_node.specs.Messages.{Messages, Rows, with_messages}
+use Rattle.bt_node.specs.Messages.{Messages, Rows}
 use Rattle.bt_node.specs.Trees.{Shape, Siblings, Tree, inner, leaf, nodes}
 use Rattle.bt_node.specs.Deals.{deal, parted, sizes}
-use Rattle.bt_node.specs.Flushes.{first_key, gathered, grouped, leaves, pivot_first}
-use Rattle.bt_node.specs.inside.Views.{child_of, children_of, pending_of}
-use Rattle.bt_node.proofs.lemmas.deals.Parts.{AllNonEmpty, joined, joined-deal, full-deal}
+use Rattle.bt_node.specs.Flushes.{Child, first_key, gathered, grouped, leaves, pivot_first}
+use Rattle.bt_node.specs.inside.Views.{child_of, children_of}
+use Rattle.bt_node.proofs.lemmas.deals.Parts.{AllNonEmpty, joined-deal, full-deal}
+use Rattle.bt_node.proofs.lemmas.deals.Parts.{joined as joined_parts}
 use Rattle.bt_node.proofs.lemmas.flushes.Groups.{as_leaf, stripped}
-use Rattle.bt_node.proofs.lemmas.flushes.PendingOrder.{added-behind}
-use Rattle.bt_node.proofs.lemmas.keys.SortedLists.{sorted-back, sorted-prefix}
+use Rattle.bt_node.proofs.lemmas.flushes.Divisions.{divided-first, divided-rest, joined-pending}
 
 -- nothing is left
 pub nothing_left : {X : Type 0} (xs : List X) → length xs ≡ 0 → xs ≡ []
@@ -24,25 +27,30 @@ nothing_left (x ∷ xs) e = absurd (omega (arith, e))
 abbrev pub all_of : {X : Type 0} → List (Vec X Global) → List X
 all_of = flat_map (λ part. part.items)
 
-module _ {M : Type 0} where
-  -- the first of what is added keeps the order
-  pub sorted_through : (b w r : Messages M) → IsSorted (b ++ (w ++ r)) → IsSorted (b ++ w)
-  sorted_through b w r h = sorted-prefix (b ++ w) r (subst IsSorted (sym (append_assoc b w r)) h)
-
-  pub added_last : (b w : Messages M) → IsSorted (b ++ w) → with_messages w b ≡ b ++ w
-  added_last b w h = added-behind w b h
-
 -- ---- one group
 
 module _ {V D : Type 0} where
-  -- the first of children is added to none
-  pub first_fits : (part : List (code.Child V D)) (c : code.Child V D) (rest : List (code.Child V D)) → part ≡ c ∷ rest → IsSorted (pending_of part) → IsSorted (c.pending ++ pending_of rest)
-  first_fits part c rest e h = subst (λ cs. IsSorted (pending_of cs)) e h
+  -- what is pending for each of these children
+  abbrev pub bins_of : List (code.Child V D) → List (Messages (Message V D))
+  bins_of cs = map (λ c. c.pending) (children_of cs)
 
-  pub gather_done : (xs : Siblings V (Message V D)) (buffer : Messages (Message V D)) (part : List (code.Child V D)) (c : code.Child V D) (rest : List (code.Child V D)) →
-      part ≡ c ∷ rest → xs ≡ ([], c.node) ∷ stripped (children_of rest) → buffer ≡ c.pending ++ pending_of rest → (c.pivot, inner (nodes xs) buffer) ≡ gathered (children_of part)
-  gather_done xs buffer part c rest e s b =
-      ap (λ t. (c.pivot, t)) (ap (λ ys. inner (nodes ys) buffer) s ∙ ap (inner (nodes (([], c.node) ∷ stripped (children_of rest)))) b) ∙ sym (ap (λ ps. gathered (children_of ps)) e)
+  pivots-stripped : (cs : List (Child V (Message V D))) → map (λ x. x.0) (stripped cs) ≡ map (λ c. c.pivot) cs
+  pivots-stripped [] = refl
+  pivots-stripped (c ∷ cs) = ap (λ z. c.pivot ∷ z) (pivots-stripped cs)
+
+  module _ (xs : Siblings V (Message V D)) (bins : List (Messages (Message V D))) (part : List (code.Child V D)) (c : code.Child V D) (rest : List (code.Child V D)) (is : part ≡ c ∷ rest)
+      (children : xs ≡ ([], c.node) ∷ stripped (children_of rest)) (pending : bins ≡ c.pending ∷ bins_of rest) where
+    -- the bins lie between the pivots
+    pub gather_divided : AreDivided (children_of part) → LieBetween (pivots_of xs) bins
+    gather_divided h =
+        subst (λ ys. LieBetween (pivots_of ys) bins) (sym children) (subst (LieBetween (map (λ x. x.0) (stripped (children_of rest)))) (sym pending)
+        (subst (λ ks. LieBetween ks (bins_of (c ∷ rest))) (sym (pivots-stripped (children_of rest))) (subst (λ cs. AreDivided (children_of cs)) is h)))
+
+    pub gather_done : (c.pivot, inner (nodes xs) (joined bins)) ≡ gathered (children_of part)
+    gather_done =
+        ap (λ t. (c.pivot, t)) (ap (λ ys. inner (nodes ys) (joined bins)) children
+        ∙ ap (λ ms. inner (nodes (([], c.node) ∷ stripped (children_of rest))) ms) (ap joined pending ∙ joined-pending (children_of (c ∷ rest))))
+        ∙ sym (ap (λ ps. gathered (children_of ps)) is)
 
 -- ---- all groups
 
@@ -56,21 +64,17 @@ module _ {V D : Type 0} where
   parts_of = map (λ p. p.items)
 
   pub all_dealt : (most : ℕ) (parts : List (Vec (code.Child V D) Global)) (cs : List (code.Child V D)) → parts_of parts ≡ deal most cs → all_of parts ≡ cs
-  all_dealt most parts cs e = all_items parts ∙ ap joined e ∙ joined-deal most cs
+  all_dealt most parts cs e = all_items parts ∙ ap joined_parts e ∙ joined-deal most cs
     where
-      all_items : (ps : List (Vec (code.Child V D) Global)) → all_of ps ≡ joined (parts_of ps)
+      all_items : (ps : List (Vec (code.Child V D) Global)) → all_of ps ≡ joined_parts (parts_of ps)
       all_items [] = refl
       all_items (p ∷ ps) = ap (λ z. p.items ++ z) (all_items ps)
 
-  pending_append : (xs ys : List (code.Child V D)) → pending_of (xs ++ ys) ≡ pending_of xs ++ pending_of ys
-  pending_append [] ys = refl
-  pending_append (x ∷ xs) ys = ap (λ z. x.pending ++ z) (pending_append xs ys) ∙ sym (append_assoc x.pending (pending_of xs) (pending_of ys))
+  pub first_part : (p : Vec (code.Child V D) Global) (ps : List (Vec (code.Child V D) Global)) → AreDivided (children_of (all_of (p ∷ ps))) → AreDivided (children_of p.items)
+  first_part p ps h = divided-first (children_of p.items) (children_of (all_of ps)) (subst AreDivided (map-append child_of p.items (all_of ps)) h)
 
-  pub first_part : (p : Vec (code.Child V D) Global) (ps : List (Vec (code.Child V D) Global)) → IsSorted (pending_of (all_of (p ∷ ps))) → IsSorted (pending_of p.items)
-  first_part p ps h = sorted-prefix (pending_of p.items) (pending_of (all_of ps)) (subst IsSorted (pending_append p.items (all_of ps)) h)
-
-  pub other_parts : (p : Vec (code.Child V D) Global) (ps : List (Vec (code.Child V D) Global)) → IsSorted (pending_of (all_of (p ∷ ps))) → IsSorted (pending_of (all_of ps))
-  other_parts p ps h = sorted-back (pending_of p.items) (pending_of (all_of ps)) (subst IsSorted (pending_append p.items (all_of ps)) h)
+  pub other_parts : (p : Vec (code.Child V D) Global) (ps : List (Vec (code.Child V D) Global)) → AreDivided (children_of (all_of (p ∷ ps))) → AreDivided (children_of (all_of ps))
+  other_parts p ps h = divided-rest (children_of p.items) (children_of (all_of ps)) (subst AreDivided (map-append child_of p.items (all_of ps)) h)
 
   -- the groups, the first behind the empty key
   abbrev pub groups_of : List (Vec (code.Child V D) Global) → Siblings V (Message V D)

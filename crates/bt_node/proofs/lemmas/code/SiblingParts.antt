@@ -74,9 +74,9 @@ module _ {X : Type 0} where
   one-more ks js xs ys k x fewer e f = ap (λ ls. behind ls ys) e ∙ ap (behind (ks ++ k ∷ [])) f ∙ behind-more ks xs fewer k x
 
 -- the children that are seen of an inner node
-pub children_seen : {V D : Type 0} (t n : Tree V (Message V D)) (k : Kind V D) (xs : Siblings V (Message V D)) (b : Messages (Message V D)) →
-    n ≡ t → n ≡ tree_of k → k ≡ Inner xs b → children_of t ≡ xs
-children_seen t n k xs b view is kind = ap children_of (sym view ∙ is ∙ ap tree_of kind) ∙ children-nodes xs
+pub children_seen : {V D : Type 0} (t n : Tree V (Message V D)) (k : Kind V D) (xs : Siblings V (Message V D)) (bins : List (Messages (Message V D))) →
+    n ≡ t → n ≡ tree_of k → k ≡ Inner xs bins → children_of t ≡ xs
+children_seen t n k xs bins view is kind = ap children_of (sym view ∙ is ∙ ap tree_of kind) ∙ children-nodes xs
 
 -- an item that is read at a place
 pub read_at : {X Y : Type 0} (f : X → Y) (xs : List X) (ys : List Y) (i : ℕ) (y : Y) → ys ≡ map f xs → i < length ys → y ≡ get_or ys i y → option_map f (slice_get xs i) ≡ Some y

@@ -1,8 +1,8 @@
 use Rattle.std.proofs.Common.{◌≡◌, ◌++◌, length}
 use Rattle.std.specs.Vec.Iter.{into_iter_items}
+use Rattle.bt_node.specs.inside.Shares.{beside}
 use Rattle.bt_node.specs.inside.Views.{children_of}
-use Rattle.bt_node.proofs.lemmas.code.ShareLoop.{beside}
-use Rattle.bt_node.proofs.share.shared.Given as goal
+use Rattle.bt_node.proofs.share.beside.Given as goal
 
 -- the children so far, and then the siblings that are left beside the packets that are left
 abbrev pub invariant-loop-pivot : goal.invariant-loop-pivot

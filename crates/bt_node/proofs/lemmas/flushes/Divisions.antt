@@ -1,0 +1,183 @@
+-- Children beside their bins, and with their shares of the messages that come: what is pending for each of them.
+use Rattle.std.proofs.Common.{◌≡◌, ◌+◌, ◌≤◌, ℕ, zero, suc, true, false, cond, List, [], ◌∷◌, ◌++◌, drop, length, map, take, refl, sym, ap, subst, ◌∙◌, arith}
+use Rattle.std.proofs.lemmas.List.{length-drop, length-map}
+use Rattle.std.specs.List.{flat_map}
+use Rattle.std.specs.declared.option.Option.{Option}
+use Rattle.std.specs.declared.option.Option.TheVariants.{Some}
+use Rattle.bt_keycode.specs.Keys.{AllFrom, AllWithin, IsSorted, Key, is_before}
+use Rattle.bt_messages.specs.Bins.{AllBefore, LieBetween, added, each_with, joined, parted, parts}
+use Rattle.bt_messages.proofs.offered.Parts.{added_is, lie_length, parts-joined}
+use Rattle.bt_node.specs.Fits.{SiblingsLie}
+use Rattle.bt_node.specs.Flushes.{Child, counts, shared}
+use Rattle.bt_node.specs.Lookups.{pivots_of}
+use Rattle.bt_node.specs.Messages.{Messages, before, from, with_message, with_messages}
+use Rattle.bt_node.specs.Plans.{total}
+use Rattle.bt_node.specs.Trees.{Siblings, Tree}
+use Rattle.bt_node.specs.inside.Shares.{AreDivided, AreInOrder, beside, loaded, sums}
+use Rattle.bt_node.proofs.lemmas.flushes.Children.{ChildrenLie, all_pending}
+use Rattle.bt_node.proofs.lemmas.flushes.Groups.{all_pending-within, stripped}
+use Rattle.bt_node.proofs.lemmas.keys.SortedLists.{from-back, from-joined, from-prefix}
+
+module _ {V M : Type 0} where
+  -- a buffer that is divided at the pivots is pending for the children as it is shared
+  beside-parts : (xs : Siblings V M) (b : Messages M) → beside xs (parts (pivots_of xs) b) ≡ shared xs b
+  beside-parts [] b = refl
+  beside-parts (x ∷ []) b = refl
+  beside-parts (x ∷ y ∷ ys) b = ap (λ z. record { pivot = x.0; tree = x.1; pending = before y.0 b } ∷ z) (beside-parts (y ∷ ys) (from y.0 b))
+
+  -- bins between pivots are the shares of all their messages
+  pub beside-shared : (xs : Siblings V M) (bs : List (Messages M)) → LieBetween (pivots_of xs) bs → beside xs bs ≡ shared xs (joined bs)
+  beside-shared xs bs h = ap (beside xs) (sym (parts-joined (pivots_of xs) bs h)) ∙ beside-parts xs (joined bs)
+
+  loaded-beside : (xs : Siblings V M) (bs : List (Messages M)) (ns : List ℕ) (ms : Messages M) → loaded (beside xs bs) ns ms ≡ beside xs (each_with (parted ns ms) bs)
+  loaded-beside [] bs ns ms = refl
+  loaded-beside (x ∷ xs) [] [] ms = refl
+  loaded-beside (x ∷ xs) [] (n ∷ ns) ms = refl
+  loaded-beside (x ∷ xs) (b ∷ bs) [] ms = refl
+  loaded-beside (x ∷ xs) (b ∷ bs) (n ∷ ns) ms =
+      ap (λ z. record { pivot = x.0; tree = x.1; pending = with_messages (take n ms) b } ∷ z) (loaded-beside xs bs ns (drop n ms))
+
+  -- bins with the shares of a packet are the shares of all messages
+  pub loaded-shared : (xs : Siblings V M) (bs : List (Messages M)) (ns : List ℕ) (ms packet : Messages M) → LieBetween (pivots_of xs) bs →
+      parted ns ms ≡ parts (pivots_of xs) packet → loaded (beside xs bs) ns ms ≡ shared xs (with_messages packet (joined bs))
+  loaded-shared xs bs ns ms packet h sizes =
+      loaded-beside xs bs ns ms ∙ ap (λ ps. beside xs (each_with ps bs)) sizes
+      ∙ ap (beside xs) (added_is (pivots_of xs) packet bs h) ∙ beside-parts xs (with_messages packet (joined bs))
+
+  pub stripped-beside : (xs : Siblings V M) (bs : List (Messages M)) → length bs ≡ length xs → stripped (beside xs bs) ≡ xs
+  stripped-beside [] bs e = refl
+  stripped-beside (x ∷ xs) [] e = absurd (omega (arith, e))
+  stripped-beside (x ∷ xs) (b ∷ bs) e = ap (λ z. x ∷ z) (stripped-beside xs bs (omega (arith, e)))
+
+  pub length-beside : (xs : Siblings V M) (bs : List (Messages M)) → length bs ≡ length xs → length (beside xs bs) ≡ length xs
+  length-beside [] bs e = refl
+  length-beside (x ∷ xs) [] e = absurd (omega (arith, e))
+  length-beside (x ∷ xs) (b ∷ bs) e = omega (arith, length-beside xs bs (omega (arith, e)))
+
+  -- ---- counts
+
+  length-with_message : (m : Key × M) (b : Messages M) → length (with_message m b) ≡ length b + 1
+  length-with_message m [] = refl
+  length-with_message m (e ∷ es) = elim (is_before m.0 e.0) as (λ t. length (cond t (m ∷ e ∷ es) (e ∷ with_message m es)) ≡ length (e ∷ es) + 1) [
+    | true ↦ omega arith
+    | false ↦ omega (arith, length-with_message m es)
+  ]
+
+  pub length-with_messages : (p b : Messages M) → length (with_messages p b) ≡ length b + length p
+  length-with_messages [] b = omega arith
+  length-with_messages (m ∷ ms) b = omega (arith, length-with_messages ms (with_message m b), length-with_message m b)
+
+  pub length-first : (n : ℕ) (ms : Messages M) → n ≤ length ms → length (take n ms) ≡ n
+  length-first zero ms few = refl
+  length-first (suc n) [] few = absurd (omega (arith, few))
+  length-first (suc n) (m ∷ ms) few = omega (arith, length-first n ms (omega (arith, few)))
+
+  -- what is pending is counted without the messages
+  pub counts-loaded : (cs : List (Child V M)) (ns : List ℕ) (ms : Messages M) → total ns ≤ length ms → sums (counts cs) ns ≡ counts (loaded cs ns ms)
+  counts-loaded [] ns ms few = refl
+  counts-loaded (c ∷ cs) [] ms few = refl
+  counts-loaded (c ∷ cs) (n ∷ ns) ms few =
+      let one : length c.pending + n ≡ length (with_messages (take n ms) c.pending) =
+      omega (arith, length-with_messages (take n ms) c.pending, length-first n ms (omega (arith, few))) in
+      ap (λ k. k ∷ sums (counts cs) ns) one
+      ∙ ap (λ z. length (with_messages (take n ms) c.pending) ∷ z) (counts-loaded cs ns (drop n ms) (omega (arith, few, length-drop n ms)))
+
+  pub length-loaded : (cs : List (Child V M)) (ns : List ℕ) (ms : Messages M) → length ns ≡ length cs → length (loaded cs ns ms) ≡ length cs
+  length-loaded [] ns ms e = refl
+  length-loaded (c ∷ cs) [] ms e = absurd (omega (arith, e))
+  length-loaded (c ∷ cs) (n ∷ ns) ms e = omega (arith, length-loaded cs ns (drop n ms) (omega (arith, e)))
+
+  -- ---- order
+
+  -- siblings in their places are in order
+  pub beside-in_order : (levels : ℕ) (low high : Option Key) (xs : Siblings V M) (bs : List (Messages M)) → SiblingsLie levels low high xs → AreInOrder (beside xs bs)
+  beside-in_order levels low high [] bs p = tt
+  beside-in_order levels low high (x ∷ xs) [] p = tt
+  beside-in_order levels low high (x ∷ []) (b ∷ bs) p = ((levels, low, high, p), tt)
+  beside-in_order levels low high (x ∷ y ∷ ys) (b ∷ bs) p = ((levels, low, Some y.0, p.2), beside-in_order levels (Some y.0) high (y ∷ ys) bs p.3)
+
+  -- ---- between the pivots
+
+  pub joined-pending : (cs : List (Child V M)) → joined (map (λ c. c.pending) cs) ≡ all_pending cs
+  joined-pending [] = refl
+  joined-pending (c ∷ cs) = ap (λ z. c.pending ++ z) (joined-pending cs)
+
+  within-before : (low : Option Key) (k : Key) (ms : Messages M) → AllWithin low (Some k) ms → AllBefore k ms
+  within-before low k [] w = tt
+  within-before low k (m ∷ ms) w = (w.0.below, within-before low k ms w.1)
+
+  within-from : (k : Key) (high : Option Key) (ms : Messages M) → AllWithin (Some k) high ms → AllFrom k ms
+  within-from k high [] w = tt
+  within-from k high (m ∷ ms) w = (w.0.from, within-from k high ms w.1)
+
+  -- what is pending for children in their places
+  pub divided-lie : (levels : ℕ) (low high : Option Key) (cs : List (Child V M)) → ChildrenLie levels low high cs → AreDivided cs
+  divided-lie levels low high [] p = tt
+  divided-lie levels low high (c ∷ []) p = p.2
+  divided-lie levels low high (c ∷ d ∷ cs) p = (
+    p.2.2,
+    within-before low d.pivot c.pending p.2.1,
+    subst (AllFrom d.pivot) (sym (joined-pending (d ∷ cs))) (within-from d.pivot high (all_pending (d ∷ cs)) (all_pending-within levels (Some d.pivot) high (d ∷ cs) p.3)),
+    divided-lie levels (Some d.pivot) high (d ∷ cs) p.3,
+  )
+
+  pivots-beside : (xs : Siblings V M) (bs : List (Messages M)) → length bs ≡ length xs → map (λ c. c.pivot) (beside xs bs) ≡ map (λ x. x.0) xs
+  pivots-beside [] bs e = refl
+  pivots-beside (x ∷ xs) [] e = absurd (omega (arith, e))
+  pivots-beside (x ∷ xs) (b ∷ bs) e = ap (λ z. x.0 ∷ z) (pivots-beside xs bs (omega (arith, e)))
+
+  pending-beside : (xs : Siblings V M) (bs : List (Messages M)) → length bs ≡ length xs → map (λ c. c.pending) (beside xs bs) ≡ bs
+  pending-beside [] [] e = refl
+  pending-beside [] (b ∷ bs) e = absurd (omega (arith, e))
+  pending-beside (x ∷ xs) [] e = absurd (omega (arith, e))
+  pending-beside (x ∷ xs) (b ∷ bs) e = ap (λ z. b ∷ z) (pending-beside xs bs (omega (arith, e)))
+
+  -- bins of siblings, as what is pending for children
+  pub divided-beside : (xs : Siblings V M) (bs : List (Messages M)) → LieBetween (pivots_of xs) bs → AreDivided (beside xs bs)
+  divided-beside [] bs h = tt
+  divided-beside (x ∷ xs) [] h = tt
+  divided-beside (x ∷ xs) (b ∷ bs) h =
+      let same : length bs ≡ length xs = omega (arith, lie_length (pivots_of (x ∷ xs)) (b ∷ bs) h, length-map xs (λ (y : Key × Tree V M). y.0)) in
+      subst (λ ks. LieBetween ks (b ∷ map (λ c. c.pending) (beside xs bs))) (sym (pivots-beside xs bs same))
+      (subst (λ cs. LieBetween (map (λ y. y.0) xs) (b ∷ cs)) (sym (pending-beside xs bs same)) h)
+
+  first_from : (k : Key) (cs ds : List (Child V M)) → AllFrom k (joined (map (λ c. c.pending) (cs ++ ds))) → AllFrom k (joined (map (λ c. c.pending) cs))
+  first_from k [] ds h = tt
+  first_from k (c ∷ cs) ds h =
+      let more = joined (map (λ c. c.pending) (cs ++ ds)) in
+      from-joined k c.pending _ (from-prefix k c.pending more h) (first_from k cs ds (from-back k c.pending more h))
+
+  -- the first of children
+  pub divided-first : (cs ds : List (Child V M)) → AreDivided (cs ++ ds) → AreDivided cs
+  divided-first [] ds h = tt
+  divided-first (c ∷ []) [] h = h
+  divided-first (c ∷ []) (d ∷ ds) h = h.0
+  divided-first (c ∷ d ∷ cs) ds h = (h.0, h.1, first_from d.pivot (d ∷ cs) ds h.2, divided-first (d ∷ cs) ds h.3)
+
+  one_less : (c : Child V M) (cs : List (Child V M)) → AreDivided (c ∷ cs) → AreDivided cs
+  one_less c [] h = tt
+  one_less c (d ∷ cs) h = h.3
+
+  -- the last of children
+  pub divided-rest : (cs ds : List (Child V M)) → AreDivided (cs ++ ds) → AreDivided ds
+  divided-rest [] ds h = h
+  divided-rest (c ∷ cs) ds h = divided-rest cs ds (one_less c (cs ++ ds) h)
+
+  -- children for which nothing is pending
+  pub divided-none : (cs : List (Child V M)) → joined (map (λ c. c.pending) cs) ≡ [] → AreDivided cs
+  divided-none [] e = tt
+  divided-none (c ∷ cs) e = go c cs e
+    where
+      empty : (b c : Messages M) → b ++ c ≡ [] → (b ≡ []) × (c ≡ [])
+      empty [] c e = (refl, e)
+      empty (m ∷ ms) c e = absurd (omega (arith, ap length e))
+
+      go : (c : Child V M) (cs : List (Child V M)) → joined (map (λ c. c.pending) (c ∷ cs)) ≡ [] → AreDivided (c ∷ cs)
+      go c [] e = subst IsSorted (sym (empty c.pending [] e).0) tt
+      go c (d ∷ cs) e =
+          let both = empty c.pending (joined (map (λ c. c.pending) (d ∷ cs))) e in (
+            subst IsSorted (sym both.0) tt,
+            subst (AllBefore d.pivot) (sym both.0) tt,
+            subst (AllFrom d.pivot) (sym both.1) tt,
+            go d cs both.1,
+          )
