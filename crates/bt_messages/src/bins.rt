@@ -6,8 +6,9 @@ ghost use Rattle.bt_messages.specs.Messages.{messages_from};
 
 use crate::iter::Messages;
 use crate::joined::Joined;
-use crate::message::{Merge, Message};
+use crate::message::Merge;
 use crate::packet::Packet;
+use crate::share::{move_each, room_for_each};
 use crate::stream::Stream;
 use bt_keycode::Key;
 use std::alloc::{AllocError, Global};
@@ -33,29 +34,74 @@ impl<V: Merge> Model for Bins<V> {
     ghost invariant = { λ b. b.count ≡ total (map length b.bins.items) };
 }
 
+// The number of messages of all packets.
+fn count_all<V: Merge>(packets: &[Packet<V>]) -> u128
+    ensures { result ≡ total (map length packets.now) }
+{
+    let mut count = 0;
+    for packet in packets {
+        count += packet.len() as u128;
+    }
+    count
+}
+
+// Makes the packet at a place, which is empty, into so many empty ones.
+fn spread_at<V: Merge>(
+    alloc: Global,
+    packets: &mut Vec<Packet<V>>,
+    place: usize,
+    parts: usize,
+) -> Result<(), AllocError>
+    requires place { place < length packets.old.items }
+    requires empty { slice_index_or packets.old.items place [] ≡ [] }
+    requires parts { 1 ≤ parts }
+    ensures spread { OnOk result (packets.new.items ≡ take place packets.old.items ++ replicate parts [] ++ drop (place + 1) packets.old.items) }
+    ensures err { OnErr result (packets.new.items ≡ packets.old.items) }
+{
+    packets.reserve(parts - 1)?;
+    let mut later = packets.split_off(place)?;
+    for _ in 1..parts {
+        packets.push_reserved(Packet::new(alloc));
+    }
+    packets.append(&mut later)
+}
+
 impl<V: Merge> Bins<V> {
     /// So many empty bins.
     pub fn new(alloc: Global, children: usize) -> Result<Self, AllocError>
         ensures { IfOk result (λ bins. bins ≡ replicate children []) }
     {
+        let mut bins = Vec::with_capacity(alloc, children)?;
+        for _ in 0..children {
+            bins.push_reserved(Packet::new(alloc));
+        }
+        Ok(Bins { bins, count: 0 })
     }
 
     /// A bin of each packet, in order. Takes no memory.
     pub fn from_packets(packets: Vec<Packet<V>>) -> Self
         ensures { result ≡ packets.items }
     {
+        let count = count_all(packets.as_slice());
+        Bins {
+            bins: packets,
+            count,
+        }
     }
 
     /// The bins as packets, in order. Takes no memory.
     pub fn into_packets(self) -> Vec<Packet<V>>
         ensures { result.items ≡ self }
     {
+        let Bins { bins, count: _count } = self;
+        bins
     }
 
     /// The number of bins.
     pub fn len(&self) -> usize
         ensures { result ≡ length self.now }
     {
+        self.bins.len()
     }
 
     /// The number of messages of a bin.
@@ -63,6 +109,7 @@ impl<V: Merge> Bins<V> {
         requires { child < length self.now }
         ensures { result ≡ length (slice_index_or self.now child []) }
     {
+        self.bins[child].len() as u64
     }
 
     /// The number of messages of all bins. It is kept, so that nothing is added up.
@@ -70,6 +117,7 @@ impl<V: Merge> Bins<V> {
         ensures total { result ≡ total (map length self.now) }
         ensures joined { result ≡ length (joined self.now) }
     {
+        self.count
     }
 
     /// The messages of a bin, in order.
@@ -78,6 +126,7 @@ impl<V: Merge> Bins<V> {
         ensures messages { result ≡ slice_index_or self.now child [] }
         ensures sorted { IsSorted result }
     {
+        self.bins[child].iter()
     }
 
     /// The messages of a bin with a key at or past this one, in order. The first of them is found by halving.
@@ -86,12 +135,14 @@ impl<V: Merge> Bins<V> {
         ensures messages { result ≡ messages_from key.now (slice_index_or self.now child []) }
         ensures sorted { IsSorted result }
     {
+        self.bins[child].iter_from(key)
     }
 
     /// All messages, the bins one after the other.
     pub fn iter(&self) -> Joined<'_, V>
         ensures { result ≡ joined self.now }
     {
+        Joined::of(self.bins.as_slice())
     }
 
     /// Moves so many messages from the front of a stream to each bin, each after those of its key. An `Err` changes nothing.
@@ -108,6 +159,11 @@ impl<V: Merge> Bins<V> {
         ensures err { OnErr result (self.new ≡ self.old) }
         ensures err_stream { OnErr result (stream.new ≡ stream.old) }
     {
+        let _bound = stream.len();
+        let rooms = room_for_each(alloc, self.bins.as_slice(), shares)?;
+        move_each(alloc, &mut self.bins, rooms, stream, shares);
+        self.count = count_all(self.bins.as_slice());
+        Ok(())
     }
 
     /// Adds the messages of a packet, each to the bin of its child, after those of its key. An `Err` changes nothing, and the packet is
@@ -122,6 +178,9 @@ impl<V: Merge> Bins<V> {
         ensures added { OnOk result (self.new ≡ added pivots.now packet self.old) }
         ensures err { OnErr result (self.new ≡ self.old) }
     {
+        let mut stream = packet.into_stream();
+        let shares = stream.shares(alloc, stream.len(), pivots)?;
+        self.add_shares(alloc, &mut stream, shares.as_slice())
     }
 
     /// Takes the messages of a bin, which is then empty. Takes no memory.
@@ -130,6 +189,8 @@ impl<V: Merge> Bins<V> {
         ensures taken { result ≡ slice_index_or self.old child [] }
         ensures left { self.new ≡ slice_set self.old child [] }
     {
+        self.count -= self.bins[child].len() as u128;
+        replace(&mut self.bins[child], Packet::new(alloc))
     }
 
     /// Makes an empty bin into so many empty ones. An `Err` changes nothing.
@@ -140,6 +201,7 @@ impl<V: Merge> Bins<V> {
         ensures spread { OnOk result (self.new ≡ take child self.old ++ replicate parts [] ++ drop (child + 1) self.old) }
         ensures err { OnErr result (self.new ≡ self.old) }
     {
+        spread_at(alloc, &mut self.bins, child, parts)
     }
 
     /// Takes off the bins from a place on. An `Err` changes nothing.
@@ -149,5 +211,9 @@ impl<V: Merge> Bins<V> {
         ensures taken { IfOk result (λ taken. taken ≡ drop at self.old) }
         ensures err { OnErr result (self.new ≡ self.old) }
     {
+        let bins = self.bins.split_off(at)?;
+        let taken = Bins::from_packets(bins);
+        self.count -= taken.count;
+        Ok(taken)
     }
 }

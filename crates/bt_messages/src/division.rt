@@ -4,7 +4,7 @@ ghost use Rattle.bt_messages.specs.Bins.{LieBetween, added, joined, parted, part
 ghost use Rattle.bt_messages.specs.Messages.{with_messages};
 
 use crate::bins::Bins;
-use crate::message::{Merge, Message};
+use crate::message::Merge;
 use crate::packet::Packet;
 use crate::stream::Stream;
 use bt_keycode::Key;
