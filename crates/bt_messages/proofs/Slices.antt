@@ -118,3 +118,9 @@ module _ {M : Type 0} where
         ap (λ k. take k ms) one ∙ ap (take (suc (n - (i + 1)))) e,
         ap (λ k. drop k ms) one ∙ ap (drop (suc (n - (i + 1)))) e,
       )
+
+  -- the first messages, moved to an empty list
+  pub taken_off : (n : ℕ) (ms start taken : Messages M) → taken ≡ start ++ take n ms → start ≡ [] → IsSorted ms → (taken ≡ take n ms) × IsSorted taken
+  taken_off n ms start taken e f h =
+      let is : taken ≡ take n ms = e ∙ ap (λ zs. zs ++ take n ms) f in
+      (is, subst IsSorted (sym is) (sorted_take n ms h))

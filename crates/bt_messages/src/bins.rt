@@ -1,5 +1,5 @@
 //! Bins: what is pending at a node, one packet for each child.
-ghost use Rattle.std.specs.Prelude.{◌≡◌, ◌+◌, ◌<◌, ◌≤◌, ◌++◌, ◌^◌, [], IfOk, OnOk, OnErr, drop, length, map, replicate, slice_index_or, slice_set, take};
+ghost use Rattle.std.specs.Prelude.{◌≡◌, ◌+◌, ◌<◌, ◌≤◌, ◌++◌, ◌^◌, [], IfOk, OnOk, OnErr, drop, length, map, replicate, slice_index_or, slice_set, take, vec_capacity, vec_len};
 ghost use Rattle.bt_keycode.specs.Keys.{IsSorted};
 ghost use Rattle.bt_messages.specs.Bins.{added, each_with, joined, parted, total};
 ghost use Rattle.bt_messages.specs.Messages.{messages_from};
@@ -45,24 +45,31 @@ fn count_all<V: Merge>(packets: &[Packet<V>]) -> u128
     count
 }
 
-// Makes the packet at a place, which is empty, into so many empty ones.
-fn spread_at<V: Merge>(
+// Puts so many empty packets behind the others, where there is room.
+fn push_empty<V: Merge>(alloc: Global, packets: &mut Vec<Packet<V>>, count: usize)
+    requires { vec_len packets.old + count ≤ vec_capacity packets.old }
+    ensures pushed { packets.new.items ≡ packets.old.items ++ replicate count [] }
+    ensures capacity { vec_capacity packets.new ≡ vec_capacity packets.old }
+{
+    for _ in 0..count {
+        packets.push_reserved(Packet::new(alloc));
+    }
+}
+
+// Puts so many empty packets before the one at a place.
+fn insert_empty<V: Merge>(
     alloc: Global,
     packets: &mut Vec<Packet<V>>,
     place: usize,
-    parts: usize,
+    count: usize,
 ) -> Result<(), AllocError>
-    requires place { place < length packets.old.items }
-    requires empty { slice_index_or packets.old.items place [] ≡ [] }
-    requires parts { 1 ≤ parts }
-    ensures spread { OnOk result (packets.new.items ≡ take place packets.old.items ++ replicate parts [] ++ drop (place + 1) packets.old.items) }
+    requires { place < length packets.old.items }
+    ensures inserted { OnOk result (packets.new.items ≡ take place packets.old.items ++ replicate count [] ++ drop place packets.old.items) }
     ensures err { OnErr result (packets.new.items ≡ packets.old.items) }
 {
-    packets.reserve(parts - 1)?;
+    packets.reserve(count)?;
     let mut later = packets.split_off(place)?;
-    for _ in 1..parts {
-        packets.push_reserved(Packet::new(alloc));
-    }
+    push_empty(alloc, packets, count);
     packets.append(&mut later)
 }
 
@@ -72,9 +79,7 @@ impl<V: Merge> Bins<V> {
         ensures { IfOk result (λ bins. bins ≡ replicate children []) }
     {
         let mut bins = Vec::with_capacity(alloc, children)?;
-        for _ in 0..children {
-            bins.push_reserved(Packet::new(alloc));
-        }
+        push_empty(alloc, &mut bins, children);
         Ok(Bins { bins, count: 0 })
     }
 
@@ -201,7 +206,7 @@ impl<V: Merge> Bins<V> {
         ensures spread { OnOk result (self.new ≡ take child self.old ++ replicate parts [] ++ drop (child + 1) self.old) }
         ensures err { OnErr result (self.new ≡ self.old) }
     {
-        spread_at(alloc, &mut self.bins, child, parts)
+        insert_empty(alloc, &mut self.bins, child, parts - 1)
     }
 
     /// Takes off the bins from a place on. An `Err` changes nothing.
@@ -213,7 +218,7 @@ impl<V: Merge> Bins<V> {
     {
         let bins = self.bins.split_off(at)?;
         let taken = Bins::from_packets(bins);
-        self.count -= taken.count;
+        self.count -= taken.total();
         Ok(taken)
     }
 }
