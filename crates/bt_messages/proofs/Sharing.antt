@@ -1,13 +1,14 @@
 -- Shares of a stream moved to bins, one after the other, for the loops of `move_each` and `room_for_each`.
-use Rattle.std.proofs.Common.{◌≡◌, ℕ, zero, suc, ◌<◌, ◌≤◌, ◌+◌, ◌-◌, List, [], ◌∷◌, ◌++◌, Vec, Global, append_assoc, append-nil, length, take, drop, get_or, set, refl, sym, ap, subst, ◌∙◌, arith}
+use Rattle.std.proofs.Common.{◌≡◌, ℕ, zero, suc, ◌<◌, ◌≤◌, ◌+◌, ◌-◌, List, [], ◌∷◌, ◌++◌, Vec, Global, append_assoc, append-nil, length, take, drop, get_or, set, vec_len, vec_capacity, Result, Ok, Err, IfOk, refl, sym, ap, subst, ◌∙◌, arith}
 use Rattle.std.proofs.lemmas.List.{drop-drop, drop-set-lt, length-drop, take_all, drop_all, drop_more, take_more_set}
 use Rattle.std.proofs.Math.Seq.{take-length}
 use Rattle.bt_keycode.specs.Keys.{IsSorted}
 use Rattle.bt_messages.specs.Bins.{each_with, parted, parts, total}
 use Rattle.bt_messages.specs.Merges.{messages_past, messages_up_to}
-use Rattle.bt_messages.specs.Messages.{Messages, with_messages}
+use Rattle.bt_messages.specs.Messages.{Messages, messages_from, with_messages}
 use Rattle.bt_messages.specs.Rooms.{HasRoom, HaveRoom}
 use Rattle.bt_messages.proofs.Merging.{step}
+use Rattle.bt_messages.proofs.offered.Placed.{sorted-with_messages}
 use Rattle.bt_messages.proofs.Slices.{one_taken, sorted_take}
 
 -- what stands in a list stands there whatever is given for want of it
@@ -35,6 +36,22 @@ module _ {M : Type 0} where
   room_push zero (m ∷ ns) (c ∷ bs) (x ∷ rs) n b r e l k h hs = absurd (omega (arith, e))
   room_push (suc i) (m ∷ ns) (c ∷ bs) [] n b r e l k h hs = absurd (omega (arith, e))
   room_push (suc i) (m ∷ ns) (c ∷ bs) (x ∷ rs) n b r e l k h hs = (hs.0, room_push i ns bs rs n b r (omega (arith, e)) (omega (arith, l)) (omega (arith, k)) h hs.1)
+
+  -- a new list has room
+  pub new_room : {E : Type 0} (made : Result (Vec (List ℕ × M) Global) E) (n size : ℕ) (ms : Messages M) → size ≡ length ms + n →
+      IfOk made (λ room. room.items ≡ []) → IfOk made (λ room. size ≤ vec_capacity room) → IfOk made (λ room. HasRoom n ms room)
+  new_room (Ok room) n size ms e i c = (i, λ l. omega (arith, e, c))
+  new_room (Err e) n size ms f i c = tt
+
+  -- it holds all
+  pub fits_all : (room merged older : Vec (List ℕ × M) Global) (ms : Messages M) (n : ℕ) → merged ≡ room → older.items ≡ ms → vec_len merged ≡ length merged.items → vec_len older ≡ length older.items →
+      HasRoom n ms room → 0 < n → vec_len merged + vec_len older + n ≤ vec_capacity merged
+  fits_all room merged older ms n e f l k h p =
+      let none : length merged.items ≡ 0 = ap (λ (v : Vec (List ℕ × M) Global). length v.items) e ∙ ap length h.0 in
+      omega (arith, none, l, k, ap length f, h.1 p, ap vec_capacity e)
+
+  pub gained_sorted : (start merged more older : Messages M) → merged ≡ start ++ with_messages more older → start ≡ [] → IsSorted older → IsSorted merged
+  gained_sorted start merged more older e f h = subst IsSorted (sym (e ∙ ap (λ zs. zs ++ with_messages more older) f)) (sorted-with_messages more older h)
 
   -- room for one more bin
   pub room_more : (i : ℕ) (ns : List ℕ) (bs : List (Messages M)) (rs more : List (Vec (List ℕ × M) Global)) (n : ℕ) (b : Messages M) (r : Vec (List ℕ × M) Global) →
@@ -114,8 +131,8 @@ module _ {M : Type 0} where
 
   pub length-parted : (ns : List ℕ) (s : Messages M) → length (parted ns s) ≡ length ns
   length-parted [] s = refl
-  length-parted (n ∷ ns) s = ap suc (length-parted ns (drop n s))
+  length-parted (n ∷ ns) s = omega (arith, length-parted ns (drop n s))
 
   pub length-parts : (ks : List (List ℕ)) (ms : Messages M) → length (parts ks ms) ≡ length ks + 1
   length-parts [] ms = refl
-  length-parts (k ∷ ks) ms = ap suc (length-parts ks _)
+  length-parts (k ∷ ks) ms = omega (arith, length-parts ks (messages_from k ms))

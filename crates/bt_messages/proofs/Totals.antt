@@ -1,5 +1,5 @@
 -- How many messages bins hold together.
-use Rattle.std.proofs.Common.{◌≡◌, ℕ, zero, suc, ◌<◌, ◌≤◌, ◌+◌, ◌-◌, List, [], ◌∷◌, ◌++◌, append_assoc, replicate, get_or, set, length, map, take, drop, refl, sym, ap, ◌∙◌, arith}
+use Rattle.std.proofs.Common.{◌≡◌, ℕ, zero, suc, ◌<◌, ◌≤◌, ◌+◌, ◌-◌, List, [], ◌∷◌, ◌++◌, append_assoc, replicate, get_or, set, length, map, take, drop, Result, Ok, Err, OnOk, OnErr, refl, sym, ap, ◌∙◌, arith}
 use Rattle.std.proofs.lemmas.List.{drop_all, drop_more, length-append}
 use Rattle.bt_messages.specs.Bins.{joined, total}
 
@@ -25,15 +25,15 @@ module _ {X : Type 0} where
   held_all bs i sum l e = omega (arith, e, ap held (drop_all i bs l))
 
   pub held-append : (bs cs : List (List X)) → held (bs ++ cs) ≡ held bs + held cs
-  held-append [] cs = refl
+  held-append [] cs = omega arith
   held-append (b ∷ bs) cs = omega (arith, held-append bs cs)
 
-  pub held-empty : (n : ℕ) → held (replicate n []) ≡ 0
-  held-empty zero = refl
-  held-empty (suc n) = held-empty n
+  held-alike : (e : List X) (n : ℕ) → length e ≡ 0 → held (replicate n e) ≡ 0
+  held-alike e zero l = refl
+  held-alike e (suc n) l = omega (arith, l, held-alike e n l)
 
   pub held-cut : (bs : List (List X)) (i : ℕ) → held (take i bs) + held (drop i bs) ≡ held bs
-  held-cut bs zero = refl
+  held-cut bs zero = omega arith
   held-cut [] (suc i) = refl
   held-cut (b ∷ bs) (suc i) = omega (arith, held-cut bs i)
 
@@ -51,9 +51,17 @@ module _ {X : Type 0} where
       (omega (arith, left), omega (arith, left))
 
   -- empty lists are put between others
-  pub held-spread : (bs new : List (List X)) (i n : ℕ) → new ≡ take i bs ++ replicate n [] ++ drop i bs → held new ≡ held bs
+  pub held-only_empty : (start new : List (List X)) (n : ℕ) → new ≡ start ++ replicate n [] → start ≡ [] → 0 ≡ held new
+  held-only_empty start new n e f = omega (arith, ap held e, held-append start (replicate n []), ap held f, held-alike [] n refl)
+
+  held-spread : (bs new : List (List X)) (i n : ℕ) → new ≡ take i bs ++ replicate n [] ++ drop i bs → held new ≡ held bs
   held-spread bs new i n e =
-      omega (arith, ap held e, held-append (take i bs) (replicate n [] ++ drop i bs), held-append (replicate n []) (drop i bs), held-empty n, held-cut bs i)
+      omega (arith, ap held e, held-append (take i bs ++ replicate n []) (drop i bs), held-append (take i bs) (replicate n []), held-alike [] n refl, held-cut bs i)
+
+  -- so, or not
+  pub held-either : {A E : Type 0} (r : Result A E) (bs new : List (List X)) (i n : ℕ) → OnOk r (new ≡ take i bs ++ replicate n [] ++ drop i bs) → OnErr r (new ≡ bs) → held new ≡ held bs
+  held-either (Ok x) bs new i n e f = held-spread bs new i n e
+  held-either (Err x) bs new i n e f = ap held f
 
   replicate-last : (n : ℕ) (x : X) (xs : List X) → replicate n x ++ x ∷ xs ≡ x ∷ replicate n x ++ xs
   replicate-last zero x xs = refl
@@ -72,4 +80,5 @@ module _ {X : Type 0} where
   pub spread_is : (bs new : List (List X)) (i n m : ℕ) → i < length bs → get_or bs i [] ≡ [] → n ≡ suc m → new ≡ take i bs ++ replicate m [] ++ drop i bs → new ≡ take i bs ++ replicate n [] ++ drop (i + 1) bs
   spread_is bs new i n m l e f p =
       let here : drop i bs ≡ [] ∷ drop (i + 1) bs = drop_more bs i [] l ∙ ap (λ b. b ∷ drop (i + 1) bs) e in
-      p ∙ ap (λ zs. take i bs ++ replicate m [] ++ zs) here ∙ sym (ap (λ zs. take i bs ++ zs) (one_of_more n m [] (drop (i + 1) bs) f))
+      p ∙ ap (λ zs. take i bs ++ replicate m [] ++ zs) here ∙ append_assoc (take i bs) (replicate m []) ([] ∷ drop (i + 1) bs)
+      ∙ sym (append_assoc (take i bs) (replicate n []) (drop (i + 1) bs) ∙ ap (λ zs. take i bs ++ zs) (one_of_more {X = List X} n m [] (drop (i + 1) bs) f))
