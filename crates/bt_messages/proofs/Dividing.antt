@@ -1,5 +1,5 @@
 -- Bins between pivots, after messages of a stream.
-use Rattle.std.proofs.Common.{◌≡◌, ℕ, ◌+◌, length, List, Result, Ok, Err, OnOk, OnErr, sym, ap, subst, ◌∙◌, arith}
+use Rattle.std.proofs.Common.{◌≡◌, ℕ, length, List, Result, Ok, Err, OnOk, OnErr, sym, ap, subst, ◌∙◌, arith}
 use Rattle.bt_messages.specs.Messages.{Messages, with_messages}
 use Rattle.bt_messages.specs.Bins.{LieBetween, each_with, joined, parted, parts}
 use Rattle.bt_messages.proofs.Sharing.{length-parted, length-parts}

@@ -1,7 +1,6 @@
 -- Shares of a stream moved to bins, one after the other, for the loops of `move_each` and `room_for_each`.
-use Rattle.std.proofs.Common.{◌≡◌, ℕ, zero, suc, ◌<◌, ◌≤◌, ◌+◌, ◌-◌, List, [], ◌∷◌, ◌++◌, Vec, Global, append_assoc, append-nil, length, take, drop, get_or, set, vec_len, vec_capacity, Result, Ok, Err, IfOk, refl, sym, ap, subst, ◌∙◌, arith}
-use Rattle.std.proofs.lemmas.List.{drop-drop, drop-set-lt, length-drop, take_all, drop_all, drop_more, take_more_set}
-use Rattle.std.proofs.Math.Seq.{take-length}
+use Rattle.std.proofs.Common.{◌≡◌, ℕ, zero, suc, ◌<◌, ◌≤◌, ◌+◌, ◌-◌, List, [], ◌∷◌, ◌++◌, Vec, Global, append_assoc, length, take, drop, get_or, set, vec_len, vec_capacity, Result, Ok, Err, IfOk, refl, sym, ap, subst, ◌∙◌, arith}
+use Rattle.std.proofs.lemmas.List.{drop-drop, drop-set-lt, length-drop, drop_more, take_more_set}
 use Rattle.bt_keycode.specs.Keys.{IsSorted}
 use Rattle.bt_messages.specs.Bins.{each_with, parted, parts, total}
 use Rattle.bt_messages.specs.Merges.{messages_past, messages_up_to}
@@ -62,9 +61,6 @@ module _ {M : Type 0} where
       (subst (HaveRoom (take (suc i) ns) bs) (sym m)
       (room_push i ns bs rs n b r e l k (subst (λ x. HasRoom x (get_or bs i b) r) p (subst (λ c. HasRoom n c r) q h)) hs))
 
-  pub room_all : (i : ℕ) (ns : List ℕ) (bs : List (Messages M)) (rs : List (Vec (List ℕ × M) Global)) → i ≡ length ns → HaveRoom (take i ns) bs rs → HaveRoom ns bs rs
-  room_all i ns bs rs e h = subst (λ xs. HaveRoom xs bs rs) (ap (λ k. take k ns) e ∙ take-length ns) h
-
   -- ---- moves
 
   module _ (ns : List ℕ) (bs : List (Messages M)) (rs : List (Vec (List ℕ × M) Global)) (i n : ℕ) (old new : Messages M) (r r' : Vec (List ℕ × M) Global) (s s' : Messages M)
@@ -83,16 +79,10 @@ module _ {M : Type 0} where
         subst (λ xs. HaveRoom (n ∷ drop (i + 1) ns) (old ∷ drop (i + 1) bs) xs) rooms_next
         (subst (λ xs. HaveRoom (n ∷ drop (i + 1) ns) xs (drop i rs)) bins_next (subst (λ xs. HaveRoom xs (drop i bs) (drop i rs)) shares_next h))
 
-    pub room_here : HaveRoom (drop i ns) (drop i bs) (drop i rs) → HasRoom n old r
-    room_here h = (both h).0
-
     pub room_later : HaveRoom (drop i ns) (drop i bs) (drop i rs) → HaveRoom (drop (i + 1) ns) (drop (i + 1) (set bs i new)) (drop (i + 1) (set rs i r'))
     room_later h =
         subst (HaveRoom (drop (i + 1) ns) (drop (i + 1) (set bs i new))) (sym (drop-set-lt (i + 1) rs i r' (omega arith)))
         (subst (λ xs. HaveRoom (drop (i + 1) ns) xs (drop (i + 1) rs)) (sym (drop-set-lt (i + 1) bs i new (omega arith))) (both h).1)
-
-    pub enough_here : total (drop i ns) ≤ length s → n ≤ length s
-    enough_here l = omega (arith, l, ap total shares_next)
 
     pub moved_next : (wanted : List (Messages M)) → new ≡ with_messages (take n s) old → s' ≡ drop n s → take i bs ++ each_with (parted (drop i ns) s) (drop i bs) ≡ wanted →
         take (i + 1) (set bs i new) ++ each_with (parted (drop (i + 1) ns) s') (drop (i + 1) (set bs i new)) ≡ wanted
@@ -115,19 +105,7 @@ module _ {M : Type 0} where
     pub enough_next : s' ≡ drop n s → total (drop i ns) ≤ length s → total (drop (i + 1) ns) ≤ length s'
     enough_next left l = omega (arith, l, ap total shares_next, ap length left, length-drop n s)
 
-  -- all is moved
-  pub moved_all : (ns : List ℕ) (bs : List (Messages M)) (i : ℕ) (s : Messages M) (wanted : List (Messages M)) → length ns ≤ i → length bs ≤ i →
-      take i bs ++ each_with (parted (drop i ns) s) (drop i bs) ≡ wanted → bs ≡ wanted
-  moved_all ns bs i s wanted l k w =
-      sym (append-nil bs) ∙ sym (ap (λ zs. zs ++ []) (take_all i bs k)) ∙ sym (ap (λ zs. take i bs ++ each_with (parted zs s) (drop i bs)) (drop_all i ns l)) ∙ w
-
   -- ---- shares of all messages
-
-  pub parts_all : (ns shares : List ℕ) (ks keys : List (List ℕ)) (s ms : Messages M) (n : ℕ) (bs new : List (Messages M)) →
-      new ≡ each_with (parted shares s) bs → shares ≡ ns → parted ns s ≡ parts keys (take n s) → keys ≡ ks → n ≡ length s → s ≡ ms → new ≡ each_with (parts ks ms) bs
-  parts_all ns shares ks keys s ms n bs new e f p k l t =
-      e ∙ ap (λ xs. each_with (parted xs s) bs) f ∙ ap (λ ps. each_with ps bs) p ∙ ap (λ xs. each_with (parts xs (take n s)) bs) k
-      ∙ ap (λ zs. each_with (parts ks zs) bs) (ap (λ j. take j s) l ∙ take-length s ∙ t)
 
   pub length-parted : (ns : List ℕ) (s : Messages M) → length (parted ns s) ≡ length ns
   length-parted [] s = refl

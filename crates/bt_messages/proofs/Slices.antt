@@ -98,9 +98,6 @@ module _ {M : Type 0} where
         sym (ap (λ k. drop k ms) one ∙ ap (drop (suc (n - (i + 1)))) e),
       )
 
-  all_from_drop : (k : List ℕ) (n : ℕ) (ms : Messages M) → AllFrom k ms → AllFrom k (drop n ms)
-  all_from_drop k n ms h = from-drop k zero n ms (omega arith) h
-
   pub sorted_drop : (n : ℕ) (ms : Messages M) → IsSorted ms → IsSorted (drop n ms)
   sorted_drop zero ms h = h
   sorted_drop (suc n) [] h = tt

@@ -1,7 +1,6 @@
 -- How many messages bins hold together.
 use Rattle.std.proofs.Common.{◌≡◌, ℕ, zero, suc, ◌<◌, ◌≤◌, ◌+◌, ◌-◌, List, [], ◌∷◌, ◌++◌, append_assoc, replicate, get_or, set, length, map, take, drop, Result, Ok, Err, OnOk, OnErr, refl, sym, ap, ◌∙◌, arith}
-use Rattle.std.proofs.lemmas.List.{drop_all, drop_more, length-append}
-use Rattle.bt_messages.specs.Bins.{joined, total}
+use Rattle.bt_messages.specs.Bins.{total}
 
 pub at_most_total : (ns : List ℕ) (i d : ℕ) → i < length ns → get_or ns i d ≤ total ns
 at_most_total [] i d l = absurd (omega (arith, l))
@@ -12,17 +11,6 @@ module _ {X : Type 0} where
   -- how many there are in all lists
   abbrev pub held : List (List X) → ℕ
   held bs = total (map length bs)
-
-  pub length-joined : (bs : List (List X)) → length (joined bs) ≡ held bs
-  length-joined [] = refl
-  length-joined (b ∷ bs) = omega (arith, length-append b (joined bs), length-joined bs)
-
-  -- one more list is counted
-  pub held_more : (bs : List (List X)) (i : ℕ) (b : List X) (sum all : ℕ) → i < length bs → b ≡ get_or bs i b → sum + held (drop i bs) ≡ all → sum + length b + held (drop (i + 1) bs) ≡ all
-  held_more bs i b sum all l e w = omega (arith, ap held (drop_more bs i b l), ap length e, w)
-
-  pub held_all : (bs : List (List X)) (i sum : ℕ) → length bs ≤ i → sum + held (drop i bs) ≡ held bs → sum ≡ held bs
-  held_all bs i sum l e = omega (arith, e, ap held (drop_all i bs l))
 
   pub held-append : (bs cs : List (List X)) → held (bs ++ cs) ≡ held bs + held cs
   held-append [] cs = omega arith
@@ -63,22 +51,7 @@ module _ {X : Type 0} where
   held-either (Ok x) bs new i n e f = held-spread bs new i n e
   held-either (Err x) bs new i n e f = ap held f
 
-  replicate-last : (n : ℕ) (x : X) (xs : List X) → replicate n x ++ x ∷ xs ≡ x ∷ replicate n x ++ xs
-  replicate-last zero x xs = refl
-  replicate-last (suc n) x xs = ap (λ zs. x ∷ zs) (replicate-last n x xs)
-
-  pub one_of_more : (n m : ℕ) (x : X) (xs : List X) → n ≡ suc m → replicate n x ++ xs ≡ replicate m x ++ x ∷ xs
-  one_of_more n m x xs e = ap (λ k. replicate k x ++ xs) e ∙ sym (replicate-last m x xs)
-
   pub replicate_more : (n i : ℕ) (x : X) (start more wanted : List X) → i < n → start ++ replicate (n - i) x ≡ wanted → more ≡ start ++ x ∷ [] → more ++ replicate (n - (i + 1)) x ≡ wanted
   replicate_more n i x start more wanted l w e =
       let one : n - i ≡ suc (n - (i + 1)) = omega (arith, l) in
       ap (λ zs. zs ++ replicate (n - (i + 1)) x) e ∙ append_assoc start (x ∷ []) (replicate (n - (i + 1)) x) ∙ sym (ap (λ k. start ++ replicate k x) one) ∙ w
-
-module _ {X : Type 0} where
-  -- an empty list, with empty ones before it
-  pub spread_is : (bs new : List (List X)) (i n m : ℕ) → i < length bs → get_or bs i [] ≡ [] → n ≡ suc m → new ≡ take i bs ++ replicate m [] ++ drop i bs → new ≡ take i bs ++ replicate n [] ++ drop (i + 1) bs
-  spread_is bs new i n m l e f p =
-      let here : drop i bs ≡ [] ∷ drop (i + 1) bs = drop_more bs i [] l ∙ ap (λ b. b ∷ drop (i + 1) bs) e in
-      p ∙ ap (λ zs. take i bs ++ replicate m [] ++ zs) here ∙ append_assoc (take i bs) (replicate m []) ([] ∷ drop (i + 1) bs)
-      ∙ sym (append_assoc (take i bs) (replicate n []) (drop (i + 1) bs) ∙ ap (λ zs. take i bs ++ zs) (one_of_more {X = List X} n m [] (drop (i + 1) bs) f))

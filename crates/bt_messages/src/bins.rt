@@ -98,7 +98,10 @@ impl<V: Merge> Bins<V> {
     pub fn into_packets(self) -> Vec<Packet<V>>
         ensures { result.items ≡ self }
     {
-        let Bins { bins, count: _count } = self;
+        let Bins {
+            bins,
+            count: _count,
+        } = self;
         bins
     }
 

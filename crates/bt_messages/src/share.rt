@@ -33,10 +33,7 @@ pub(crate) fn room_for_each<V: Merge>(
 }
 
 // Moves messages behind others for which there is room.
-fn push_all<V: Merge>(
-    merged: &mut Vec<(Key, Message<V>)>,
-    messages: VecDeque<(Key, Message<V>)>,
-)
+fn push_all<V: Merge>(merged: &mut Vec<(Key, Message<V>)>, messages: VecDeque<(Key, Message<V>)>)
     requires { vec_len merged.old + length messages.items ≤ vec_capacity merged.old }
     ensures { merged.new.items ≡ merged.old.items ++ messages.items }
 {
@@ -106,6 +103,12 @@ pub(crate) fn move_each<V: Merge>(
 {
     let mut rooms = rooms;
     for place in 0..shares.len() {
-        gain(alloc, &mut packets[place], &mut rooms[place], stream, shares[place]);
+        gain(
+            alloc,
+            &mut packets[place],
+            &mut rooms[place],
+            stream,
+            shares[place],
+        );
     }
 }

@@ -1,12 +1,13 @@
 -- Messages divided at pivots, and bins that lie between them.
-use Rattle.std.proofs.Common.{◌≡◌, ℕ, Bool, true, false, not, cond, List, [], ◌∷◌, ◌++◌, ◌+◌, zero, suc, set, length, arith, refl, sym, ap, subst, ◌∙◌, if◌then◌else◌}
+use Rattle.std.proofs.Common.{◌≡◌, ℕ, Bool, true, false, not, cond, List, [], ◌∷◌, ◌++◌, ◌+◌, zero, suc, set, length, map, arith, refl, sym, ap, subst, ◌∙◌, if◌then◌else◌}
+use Rattle.std.proofs.lemmas.List.{length-append}
 use Rattle.std.specs.List.{filter}
 use Rattle.bt_keycode.specs.Keys.{AllFrom, IsSorted, is_before}
 use Rattle.bt_messages.specs.Messages.{Messages, messages_before, messages_from, with_message, with_messages}
 use Rattle.bt_keycode.proofs.offered.Order.{before_later, from_earlier, not_after, not_before_itself}
 use Rattle.bt_messages.proofs.offered.Placed.{sorted-with_messages}
 use Rattle.bt_messages.proofs.Cuts.{behind, filter_sorted}
-use Rattle.bt_messages.specs.Bins.{AllBefore, LieBetween, added, each_with, joined, parts}
+use Rattle.bt_messages.specs.Bins.{AllBefore, LieBetween, added, each_with, joined, parts, total}
 
 module _ {M : Type 0} where
   -- ---- a test of keys and newer messages
@@ -200,3 +201,20 @@ module _ {M : Type 0} where
   -- an empty bin may become two, with a pivot between them before which nothing lies later
   pub spread_lie : (k : List ℕ) (ks : List (List ℕ)) (bs : List (Messages M)) → AllFrom k (joined bs) → LieBetween ks ([] ∷ bs) → LieBetween (k ∷ ks) ([] ∷ [] ∷ bs)
   spread_lie k ks bs f h = (tt, tt, f, h)
+
+  -- ---- how many messages
+
+  length-with_message : (m : List ℕ × M) (es : Messages M) → length (with_message m es) ≡ suc (length es)
+  length-with_message m [] = refl
+  length-with_message m (e ∷ es) = elim (is_before m.0 e.0) as (λ t. length (if t then m ∷ e ∷ es else e ∷ with_message m es) ≡ suc (suc (length es))) [
+    | true ↦ refl
+    | false ↦ ap suc (length-with_message m es)
+  ]
+
+  pub length-with_messages : (ms older : Messages M) → length (with_messages ms older) ≡ length ms + length older
+  length-with_messages [] older = omega arith
+  length-with_messages (m ∷ ms) older = omega (arith, length-with_messages ms (with_message m older), length-with_message m older)
+
+  pub length-joined : (bs : List (Messages M)) → length (joined bs) ≡ total (map length bs)
+  length-joined [] = refl
+  length-joined (b ∷ bs) = omega (arith, length-append b (joined bs), length-joined bs)

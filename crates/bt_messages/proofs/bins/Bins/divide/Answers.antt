@@ -1,4 +1,4 @@
-use Rattle.std.proofs.Common.{◌≡◌, ◌+◌, ◌∙◌, ap, arith}
+use Rattle.std.proofs.Common.{◌≡◌, ◌∙◌, ap, arith}
 use Rattle.bt_messages.proofs.Totals.{held, held-cut}
 use Rattle.bt_messages.proofs.bins.Bins.divide.Goals as goal
 

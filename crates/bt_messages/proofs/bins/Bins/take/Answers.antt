@@ -1,5 +1,4 @@
-use Rattle.std.proofs.Common.{◌<◌, ◌∙◌, arith, ap, length, rules, refl}
-use Rattle.bt_messages.proofs.Sharing.{any_default}
+use Rattle.std.proofs.Common.{◌<◌, ◌∙◌, length, refl}
 use Rattle.bt_messages.proofs.Totals.{held-emptied}
 use Rattle.bt_messages.proofs.bins.Bins.take.Goals as goal
 

@@ -1,5 +1,5 @@
 use Rattle.std.proofs.Common.{◌∙◌, sym}
-use Rattle.bt_messages.proofs.Totals.{length-joined}
+use Rattle.bt_messages.proofs.offered.Parts.{length-joined}
 use Rattle.bt_messages.proofs.bins.Bins.total.Goals as goal
 
 pub returns-clause-joined : goal.returns-clause-joined

@@ -1,4 +1,4 @@
-use Rattle.std.proofs.Common.{◌≡◌, ◌+◌, ap, arith, length, rules}
+use Rattle.std.proofs.Common.{◌≡◌, ◌+◌, ap, length, rules}
 use Rattle.bt_messages.proofs.Sharing.{new_room}
 use Rattle.bt_messages.proofs.packet.Packet.room_with.Goals as goal
 
