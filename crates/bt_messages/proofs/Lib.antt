@@ -1,5 +1,10 @@
+pub mod Counts
 pub mod Cuts
+pub mod Dividing
 pub mod Merging
+pub mod Sharing
+pub mod Slices
 pub mod Stable
+pub mod Totals
 pub mod WorkedRows
 pub mod offered

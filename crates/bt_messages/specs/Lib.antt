@@ -2,3 +2,4 @@ pub mod Bins
 pub mod Effects
 pub mod Merges
 pub mod Messages
+pub mod Rooms

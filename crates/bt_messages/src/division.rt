@@ -4,7 +4,7 @@ ghost use Rattle.bt_messages.specs.Bins.{LieBetween, added, joined, parted, part
 ghost use Rattle.bt_messages.specs.Messages.{with_messages};
 
 use crate::bins::Bins;
-use crate::message::{Merge, Message};
+use crate::message::Merge;
 use crate::packet::Packet;
 use crate::stream::Stream;
 use bt_keycode::Key;
@@ -97,7 +97,6 @@ impl<V: Merge> Division<V> {
         shares: &[usize],
     ) -> Result<(), AllocError>
         requires enough { total shares.now ≤ length stream.old }
-        requires len { length shares.now ≡ length self.old.1 }
         requires parts { parted shares.now stream.old ≡ parts self.old.0 (take (total shares.now) stream.old) }
         ensures pivots { self.new.0 ≡ self.old.0 }
         ensures added { OnOk result (self.new.1 ≡ added self.old.0 (take (total shares.now) stream.old) self.old.1) }

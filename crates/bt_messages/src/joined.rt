@@ -25,3 +25,32 @@ impl<'a, V: Merge> Model for Joined<'a, V> {
 
     ghost view = { λ j. j.first ++ joined j.others.now };
 }
+
+impl<'a, V: Merge> Joined<'a, V> {
+    // The messages of these packets.
+    pub(crate) fn of(packets: &'a [Packet<V>]) -> Self
+        ensures { result ≡ joined packets.now }
+    {
+        Joined {
+            first: Messages::none(),
+            others: packets,
+        }
+    }
+}
+
+impl<'a, V: Merge> Iterator for Joined<'a, V> {
+    type Item = (&'a Key, &'a Message<V>);
+
+    ghost next_gives = { YieldsFirstBy (λ m. (m.0.now, m.1.now)) (λ left. left) };
+
+    ghost remaining = { item_count (λ left. left) };
+
+    fn next(&mut self) -> Option<(&'a Key, &'a Message<V>)> {
+        while self.first.count_left() == 0 {
+            let (packet, others) = self.others.split_first()?;
+            self.first = packet.iter();
+            self.others = others;
+        }
+        self.first.next()
+    }
+}
