@@ -2,7 +2,8 @@
 ghost use Rattle.std.specs.Prelude.{◌≡◌, ◌+◌, ◌<◌, ◌≤◌, ◌++◌, ◌^◌, [], IfOk, OnOk, OnErr, drop, length, map, replicate, slice_index_or, slice_set, take, vec_capacity, vec_len};
 ghost use Rattle.bt_keycode.specs.Keys.{IsSorted};
 ghost use Rattle.bt_messages.specs.Bins.{added, each_with, joined, parted, total};
-ghost use Rattle.bt_messages.specs.Messages.{messages_from};
+ghost use Rattle.bt_messages.specs.Messages.{messages_between, messages_from};
+ghost use Rattle.std.specs.Option.{option_copied};
 
 use crate::iter::Messages;
 use crate::joined::Joined;
@@ -144,6 +145,22 @@ impl<V: Merge> Bins<V> {
         ensures sorted { IsSorted result }
     {
         self.bins[child].iter_from(key)
+    }
+
+    /// The messages of a bin with a key at or past `from` and before `to`, in order, found by halving. A bound that is absent doesn't
+    /// limit.
+    pub fn bin_between(
+        &self,
+        child: usize,
+        from: Option<&Key>,
+        to: Option<&Key>,
+    ) -> Messages<'_, V>
+        requires { child < length self.now }
+        ensures messages { result ≡ messages_between (option_copied from.entry) (option_copied to.entry) (slice_index_or self.now child []) }
+        ensures sorted { IsSorted result }
+        ensures bound { length result < 2 ^ 63 }
+    {
+        self.bins[child].iter_between(from, to)
     }
 
     /// All messages, the bins one after the other.

@@ -27,6 +27,16 @@ impl<'a, V: Merge> Model for Joined<'a, V> {
 }
 
 impl<'a, V: Merge> Joined<'a, V> {
+    /// No message.
+    pub fn none() -> Self
+        ensures { result ≡ [] }
+    {
+        Joined {
+            first: Messages::none(),
+            others: &[],
+        }
+    }
+
     // The messages of these packets.
     pub(crate) fn of(packets: &'a [Packet<V>]) -> Self
         ensures { result ≡ joined packets.now }

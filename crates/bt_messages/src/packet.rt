@@ -2,8 +2,9 @@
 ghost use Rattle.std.specs.Prelude.{◌≡◌, ◌==◌, ◌<◌, ◌^◌, [], IfOk, length};
 ghost use Rattle.bt_keycode.specs.Keys.{IsSorted};
 ghost use Rattle.bt_messages.specs.Effects.{DoTheSame, effect_of};
-ghost use Rattle.bt_messages.specs.Messages.{messages_from, sorted_batch};
+ghost use Rattle.bt_messages.specs.Messages.{messages_between, messages_from, sorted_batch};
 ghost use Rattle.bt_messages.specs.Rooms.{HasRoom};
+ghost use Rattle.std.specs.Option.{option_copied};
 
 use crate::iter::Messages;
 use crate::message::{Merge, Message};
@@ -86,6 +87,15 @@ impl<V: Merge> Packet<V> {
     {
         let place = sorted::place_of(self.messages.as_slice(), key);
         Messages::of_sorted(&self.messages[place..])
+    }
+
+    // The messages with a key at or past `from` and before `to`.
+    pub(crate) fn iter_between(&self, from: Option<&Key>, to: Option<&Key>) -> Messages<'_, V>
+        ensures messages { result ≡ messages_between (option_copied from.entry) (option_copied to.entry) self.now }
+        ensures sorted { IsSorted result }
+        ensures bound { length result < 2 ^ 63 }
+    {
+        Messages::of_sorted(sorted::between(self.messages.as_slice(), from, to))
     }
 
     // Room for the messages of the packet and for so many more, where there are more.

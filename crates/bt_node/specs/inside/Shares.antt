@@ -10,7 +10,7 @@ use Rattle.bt_node.specs.Trees.{Siblings}
 abbrev pub sums : List ℕ → List ℕ → List ℕ
 sums [] ns = []
 sums (m ∷ ms) [] = []
-sums (m ∷ ms) (n ∷ ns) = m + n ∷ sums ms ns
+sums (m ∷ ms) (n ∷ ns) = (m + n) ∷ sums ms ns
 
 module _ {V M : Type 0} where
   -- siblings, each with what is in its bin
