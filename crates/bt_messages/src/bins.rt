@@ -116,7 +116,8 @@ impl<V: Merge> Bins<V> {
     /// The number of messages of a bin.
     pub fn count(&self, child: usize) -> u64
         requires { child < length self.now }
-        ensures { result ≡ length (slice_index_or self.now child []) }
+        ensures count { result ≡ length (slice_index_or self.now child []) }
+        ensures bound { result < 2 ^ 63 }
     {
         self.bins[child].len() as u64
     }

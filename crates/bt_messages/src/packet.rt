@@ -54,7 +54,8 @@ impl<V: Merge> Packet<V> {
 
     /// The number of messages.
     pub fn len(&self) -> usize
-        ensures { result ≡ length self.now }
+        ensures count { result ≡ length self.now }
+        ensures bound { result < 2 ^ 63 }
     {
         self.messages.len()
     }

@@ -1,10 +1,10 @@
 //! How messages go down a node: as the first ones of a stream.
-ghost use Rattle.std.specs.Prelude.{◌≡◌, ◌+◌, ◌≤◌, [], ◌∷◌, true, IfOk, OnOk, drop, length, take, vec_len};
+ghost use Rattle.std.specs.Prelude.{◌≡◌, ◌+◌, ◌≤◌, [], ◌∷◌, true, IfOk, OnOk, drop, length, map, take, vec_len};
 ghost use Rattle.std.specs.List.{zip};
-ghost use Rattle.bt_messages.specs.Bins.{LieBetween, added, each_with, joined, parted, parts, total};
+ghost use Rattle.bt_messages.specs.Bins.{LieBetween, joined, parted, parts, total};
 ghost use Rattle.bt_messages.specs.Effects.{effect_of};
 ghost use Rattle.bt_node.specs.Fits.{IsInOrder, IsLed};
-ghost use Rattle.bt_node.specs.Flushes.{absorb, counts, flushed};
+ghost use Rattle.bt_node.specs.Flushes.{absorb, flushed};
 ghost use Rattle.bt_node.specs.Lookups.{pivots_of};
 ghost use Rattle.bt_node.specs.Messages.{with_messages};
 ghost use Rattle.bt_node.specs.Plans.{planned};
@@ -54,14 +54,16 @@ fn kept<V: Merge>(
 fn marks<V: Merge>(
     alloc: Global,
     shape: Shape,
-    children: &[Child<V>],
+    bins: &Bins<V>,
+    stream: &Stream<V>,
     shares: &[usize],
 ) -> Result<Vec<bool>, AllocError>
-    requires { length shares.now ≡ length children.now }
-    ensures length { IfOk result (λ marks. vec_len marks ≡ length children.now) }
-    ensures marks { IfOk result (λ marks. marks.items ≡ marks_of (length children.now) (planned (sums (counts (children_of children.now)) shares.now) shape.buffer)) }
+    requires len { length shares.now ≡ length bins.now }
+    requires enough { total shares.now ≤ length stream.now }
+    ensures length { IfOk result (λ marks. vec_len marks ≡ length (sums (map length bins.now) shares.now)) }
+    ensures marks { IfOk result (λ marks. marks.items ≡ marks_of (length (sums (map length bins.now) shares.now)) (planned (sums (map length bins.now) shares.now) shape.buffer)) }
 {
-    let loads = loads(alloc, children, shares)?;
+    let loads = loads(alloc, bins, stream, shares)?;
     flush_marks(alloc, loads.as_slice(), shape.buffer() as u64)
 }
 
@@ -158,8 +160,8 @@ pub(crate) fn absorb<V: Merge>(
             if stays(shape, &children, &bins, count) {
                 return kept(alloc, children, bins, stream, shares.as_slice());
             }
+            let marks = marks(alloc, shape, &bins, stream, shares.as_slice())?;
             let children = beside(alloc, children, bins)?;
-            let marks = marks(alloc, shape, children.as_slice(), shares.as_slice())?;
             let parts = flush(alloc, shape, children, stream, shares, marks)?;
             group(alloc, shape, parts)
         }

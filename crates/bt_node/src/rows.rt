@@ -194,6 +194,7 @@ impl<V: Merge> Rows<V> {
         if count == 0 {
             return Ok(self);
         }
+        let _bound = stream.len();
         let Rows { rows } = self;
         let mut changed = Vec::with_capacity(alloc, rows.len() + count)?;
         let mut older = VecDeque::from(rows);

@@ -1,8 +1,6 @@
 //! What is pending for each child of a node.
-ghost use Rattle.std.specs.Prelude.{◌≡◌, ◌<◌, ◌≤◌, ◌^◌, IfOk, OnOk, drop, length, take};
-ghost use Rattle.bt_messages.specs.Bins.{LieBetween};
-ghost use Rattle.bt_node.specs.Flushes as flushes;
-ghost use Rattle.bt_node.specs.Lookups.{pivots_of};
+ghost use Rattle.std.specs.Prelude.{◌≡◌, ◌≤◌, IfOk, OnOk, drop, length, map, take};
+ghost use Rattle.bt_messages.specs.Bins.{total};
 ghost use Rattle.bt_node.specs.Messages.{with_messages};
 ghost use Rattle.bt_node.specs.inside.Shares.{beside, sums};
 ghost use Rattle.bt_node.specs.inside.Views.{children_of};
@@ -36,26 +34,21 @@ pub(crate) fn beside<V: Merge>(
     Ok(children)
 }
 
-// The number of messages of a packet.
-fn count<V: Merge>(packet: &Packet<V>) -> u64
-    ensures count { result ≡ length packet.now }
-    ensures bound { result < 2 ^ 63 }
-{
-    packet.len() as u64
-}
-
-/// How many messages are pending for each child with its share of those that come. None is moved for that.
+/// How many messages are pending for each child: those in its bin, and its share of those that come. None is moved for that.
 pub(crate) fn loads<V: Merge>(
     alloc: Global,
-    children: &[Child<V>],
+    bins: &Bins<V>,
+    stream: &Stream<V>,
     shares: &[usize],
 ) -> Result<Vec<u64>, AllocError>
-    requires { length shares.now ≡ length children.now }
-    ensures { IfOk result (λ loads. loads.items ≡ sums (flushes.counts (children_of children.now)) shares.now) }
+    requires len { length shares.now ≡ length bins.now }
+    requires enough { total shares.now ≤ length stream.now }
+    ensures { IfOk result (λ loads. loads.items ≡ sums (map length bins.now) shares.now) }
 {
-    let mut loads = Vec::with_capacity(alloc, children.len())?;
-    for (place, child) in children.iter().enumerate() {
-        loads.push(count(&child.pending) + shares[place] as u64)?;
+    let _bound = stream.len();
+    let mut loads = Vec::with_capacity(alloc, shares.len())?;
+    for place in 0..shares.len() {
+        loads.push(bins.count(place) + shares[place] as u64)?;
     }
     Ok(loads)
 }

@@ -1,6 +1,6 @@
 -- What the code makes of an inner node is what becomes of it.
-use Rattle.std.proofs.Common.{Result, Ok, Err, IfOk, ◌≡◌, ◌≤◌, ◌<◌, ◌+◌, ◌*◌, ℕ, Bool, true, false, List, [], ◌∷◌, ◌++◌, length, map, refl, take, zero, suc, sym, ap, subst, ◌∙◌, arith, Option}
-use Rattle.std.proofs.lemmas.List.{length-map}
+use Rattle.std.proofs.Common.{Result, Ok, Err, IfOk, ◌≡◌, ◌≤◌, ◌<◌, ◌+◌, ◌*◌, ℕ, Bool, true, false, List, [], ◌∷◌, ◌++◌, length, map, refl, replicate, set, take, zero, suc, sym, ap, subst, ◌∙◌, arith, Option}
+use Rattle.std.proofs.lemmas.List.{length-map, length-replicate, length-set}
 use Rattle.std.specs.List.{zip}
 use Rattle.bt_keycode.specs.Keys.{IsSorted}
 use Rattle.bt_messages.specs.declared.message.Message.{Message}
@@ -8,10 +8,10 @@ use Rattle.bt_node.specs.declared.node.Child as code
 use Rattle.bt_node.specs.Messages.{Messages, with_messages}
 use Rattle.bt_node.specs.Plans.{planned, total}
 use Rattle.bt_node.specs.inside.Shares.{AreDivided, beside, loaded, sums}
-use Rattle.bt_node.specs.inside.Marks.{marks_of, passed}
+use Rattle.bt_node.specs.inside.Marks.{marks_of, passed, set_all}
 use Rattle.bt_node.specs.Trees.{Shape, Siblings, Tree, leaf, inner, height, height_below, nodes}
 use Rattle.bt_messages.specs.Bins.{LieBetween, joined, parted, parts}
-use Rattle.bt_messages.proofs.offered.Parts.{joined_sorted}
+use Rattle.bt_messages.proofs.offered.Parts.{joined_sorted, length-with_messages, lie_length}
 use Rattle.bt_messages.proofs.offered.Placed.{sorted-with_messages}
 use Rattle.std.specs.declared.option.Option.TheVariants.{None}
 use Rattle.bt_node.specs.Fits.{IsInOrder, IsLed}
@@ -24,8 +24,9 @@ use Rattle.bt_node.proofs.lemmas.flushes.Groups.{children-nodes, deal-some, leav
 use Rattle.bt_node.proofs.lemmas.code.Marks.{flushed_over-marks, marked-zip}
 use Rattle.bt_node.proofs.lemmas.flushes.Recursion.{absorb_recurs}
 use Rattle.bt_node.proofs.lemmas.flushes.EmptyPackets.{still-here}
-use Rattle.bt_node.proofs.lemmas.flushes.Divisions.{counts-loaded, divided-lie, length-first, length-loaded, length-with_messages, loaded-shared, stripped-beside}
+use Rattle.bt_node.proofs.lemmas.flushes.Divisions.{counts-bins, divided-lie, length-beside, length-first, length-loaded, loaded-shared, stripped-beside}
 use Rattle.bt_node.proofs.lemmas.flushes.Laws.{anywhere}
+use Rattle.bt_node.proofs.lemmas.flushes.NodeSizes.{length-shared}
 use Rattle.bt_node.proofs.lemmas.flushes.Passes.{Keeps, names-slots, passed-lie, slots}
 use Rattle.bt_node.proofs.lemmas.flushes.RowsKept.{absorb-keeps}
 use Rattle.bt_node.proofs.lemmas.flushes.Shares.{shared-lie}
@@ -38,6 +39,13 @@ highest cs = height_below (nodes (stripped (children_of cs)))
 -- one pass over children beside marks
 abbrev pub pass : {V D : Type 0} → (Option V → Message V D → Option V) → Shape → List (Child V (Message V D) × Bool) → List (Child V (Message V D))
 pass effect s = passed (λ c. length c.pending) (flushed (absorb effect s))
+
+length-set_all : (places : List ℕ) (marks : List Bool) → length (set_all places marks) ≡ length marks
+length-set_all [] marks = refl
+length-set_all (i ∷ is) marks = length-set_all is (set marks i true) ∙ length-set marks i true
+
+length-marks : (n : ℕ) (places : List ℕ) → length (marks_of n places) ≡ n
+length-marks n places = length-set_all places (replicate n false) ∙ length-replicate n false
 
 module _ {V M : Type 0} (effect : Option V → M → Option V) (s : Shape) (two : 2 ≤ s.fanout) (one : 1 ≤ s.leaf) where
   absorbed-led : (levels : ℕ) (t : Tree V M) (packet : Messages M) → IsLed (absorbed effect levels s t packet)
@@ -85,19 +93,26 @@ module _ {V D : Type 0} (effect : Option V → Message V D → Option V) (s : Sh
       ∙ ap (λ ys. grouped s (flushed_over (absorb effect s) s.buffer (shared ys after))) same
       ∙ sym becomes
 
-  module _ (cs : List (code.Child V D)) (beside_is : children_of cs ≡ beside xs bins) (enough : total shares ≤ length ms) (len : length shares ≡ length cs) (marks : List Bool)
-      (plan : marks ≡ marks_of (length cs) (planned (sums (counts (children_of cs)) shares) s.buffer)) (made : List (code.Child V D))
+  module _ (cs : List (code.Child V D)) (beside_is : children_of cs ≡ beside xs bins) (enough : total shares ≤ length ms) (len : length shares ≡ length bins) (same : length bins ≡ length xs) (marks : List Bool)
+      (plan : marks ≡ marks_of (length (sums (map length bins) shares)) (planned (sums (map length bins) shares) s.buffer)) (made : List (code.Child V D))
       (passed_is : children_of made ≡ pass effect s (zip (loaded (children_of cs) shares ms) marks)) where
     -- the children with their shares
     pub loaded_are : loaded (children_of cs) shares ms ≡ shared xs after
     loaded_are = ap (λ ds. loaded ds shares ms) beside_is ∙ loaded-shared xs bins shares ms packet lie sizes
 
+    loads_are : sums (map length bins) shares ≡ counts (shared xs after)
+    loads_are = counts-bins xs bins shares ms same enough ∙ ap (λ ds. counts (loaded ds shares ms)) (sym beside_is) ∙ ap counts loaded_are
+
     marks_are : marks ≡ marks_of (length (shared xs after)) (planned (counts (shared xs after)) s.buffer)
     marks_are =
-        let long : length cs ≡ length (shared xs after) =
-        omega (arith, ap length loaded_are, length-loaded (children_of cs) shares ms (omega (arith, len, length-map cs child_of)), length-map cs child_of) in
-        plan ∙ ap (λ n. marks_of n (planned (sums (counts (children_of cs)) shares) s.buffer)) long
-        ∙ ap (λ ns. marks_of (length (shared xs after)) (planned ns s.buffer)) (counts-loaded (children_of cs) shares ms enough ∙ ap counts loaded_are)
+        plan ∙ ap (λ ns. marks_of (length ns) (planned ns s.buffer)) loads_are
+        ∙ ap (λ n. marks_of n (planned (counts (shared xs after)) s.buffer)) (length-map (shared xs after) (λ c. length c.pending))
+
+    pub long : length cs ≡ length xs
+    long = omega (arith, length-map cs child_of, ap length beside_is, length-beside xs bins same)
+
+    pub marks-long : length marks ≡ length cs
+    marks-long = omega (arith, long, ap length marks_are, length-marks (length (shared xs after)) (planned (counts (shared xs after)) s.buffer), length-shared xs after)
 
     all_planned : children_of made ≡ pass effect s (zip (shared xs after) (marks_of (length (shared xs after)) (planned (counts (shared xs after)) s.buffer)))
     all_planned = passed_is ∙ ap (λ ds. pass effect s (zip ds marks)) loaded_are ∙ ap (λ bs. pass effect s (zip (shared xs after) bs)) marks_are
@@ -113,11 +128,11 @@ module _ {V D : Type 0} (effect : Option V → Message V D → Option V) (s : Sh
         (divided-lie side.0 None None _ (passed-lie effect side.0 (absorb effect s) keeps None None (slots s.buffer cs) (subst (ChildrenLie side.0 None None) (sym (names-slots s.buffer cs)) placed)))
 
     -- there is a part
-    pub parts_some : 2 ≤ s.fanout → 1 ≤ s.leaf → 1 ≤ length cs → length marks ≡ length cs → 1 ≤ length made
-    parts_some two one some same =
-        let long = length-loaded (children_of cs) shares ms (omega (arith, len, length-map cs child_of)) in
+    pub parts_some : 2 ≤ s.fanout → 1 ≤ s.leaf → 1 ≤ length xs → 1 ≤ length made
+    parts_some two one some =
+        let loaded_long = length-loaded (children_of cs) shares ms (omega (arith, len, same, long, length-map cs child_of)) in
         let count = length-map cs child_of in
-        omega (arith, some_length _ (pass-some effect s two one (loaded (children_of cs) shares ms) marks (omega (arith, some, count, long)) (omega (arith, same, count, long))), ap length passed_is, length-map made child_of)
+        omega (arith, some_length _ (pass-some effect s two one (loaded (children_of cs) shares ms) marks (omega (arith, some, long, count, loaded_long)) (omega (arith, marks-long, count, loaded_long))), ap length passed_is, length-map made child_of)
 
     pub grouped_anew : grouped s (children_of made) ≡ absorb effect s node packet
     grouped_anew = ap (grouped s) (all_planned ∙ sym (flushed_over-marks (absorb effect s) s.buffer (shared xs after))) ∙ sym becomes

@@ -1,22 +1,35 @@
 -- Children beside their bins, and with their shares of the messages that come: what is pending for each of them.
-use Rattle.std.proofs.Common.{◌≡◌, ◌+◌, ◌≤◌, ℕ, zero, suc, true, false, cond, List, [], ◌∷◌, ◌++◌, drop, length, map, take, refl, sym, ap, subst, ◌∙◌, arith}
+use Rattle.std.proofs.Common.{◌≡◌, ◌+◌, ◌≤◌, ℕ, zero, suc, List, [], ◌∷◌, ◌++◌, drop, length, map, take, refl, sym, ap, subst, ◌∙◌, arith}
 use Rattle.std.proofs.lemmas.List.{length-drop, length-map}
 use Rattle.std.specs.List.{flat_map}
 use Rattle.std.specs.declared.option.Option.{Option}
 use Rattle.std.specs.declared.option.Option.TheVariants.{Some}
-use Rattle.bt_keycode.specs.Keys.{AllFrom, AllWithin, IsSorted, Key, is_before}
+use Rattle.bt_keycode.specs.Keys.{AllFrom, AllWithin, IsSorted, Key}
 use Rattle.bt_messages.specs.Bins.{AllBefore, LieBetween, added, each_with, joined, parted, parts}
-use Rattle.bt_messages.proofs.offered.Parts.{added_is, lie_length, parts-joined}
+use Rattle.bt_messages.proofs.offered.Parts.{added_is, length-with_messages, lie_length, parts-joined}
 use Rattle.bt_node.specs.Fits.{SiblingsLie}
 use Rattle.bt_node.specs.Flushes.{Child, counts, shared}
 use Rattle.bt_node.specs.Lookups.{pivots_of}
-use Rattle.bt_node.specs.Messages.{Messages, before, from, with_message, with_messages}
+use Rattle.bt_node.specs.Messages.{Messages, before, from, with_messages}
 use Rattle.bt_node.specs.Plans.{total}
 use Rattle.bt_node.specs.Trees.{Siblings, Tree}
 use Rattle.bt_node.specs.inside.Shares.{AreDivided, AreInOrder, beside, loaded, sums}
 use Rattle.bt_node.proofs.lemmas.flushes.Children.{ChildrenLie, all_pending}
 use Rattle.bt_node.proofs.lemmas.flushes.Groups.{all_pending-within, stripped}
 use Rattle.bt_node.proofs.lemmas.keys.SortedLists.{from-back, from-joined, from-prefix}
+
+pub length-first : {X : Type 0} (n : ℕ) (xs : List X) → n ≤ length xs → length (take n xs) ≡ n
+length-first zero xs few = refl
+length-first (suc n) [] few = absurd (omega (arith, few))
+length-first (suc n) (x ∷ xs) few = omega (arith, length-first n xs (omega (arith, few)))
+
+within-before : {M : Type 0} (low : Option Key) (k : Key) (ms : Messages M) → AllWithin low (Some k) ms → AllBefore k ms
+within-before low k [] w = tt
+within-before low k (m ∷ ms) w = (w.0.below, within-before low k ms w.1)
+
+within-from : {M : Type 0} (k : Key) (high : Option Key) (ms : Messages M) → AllWithin (Some k) high ms → AllFrom k ms
+within-from k high [] w = tt
+within-from k high (m ∷ ms) w = (w.0.from, within-from k high ms w.1)
 
 module _ {V M : Type 0} where
   -- a buffer that is divided at the pivots is pending for the children as it is shared
@@ -56,24 +69,14 @@ module _ {V M : Type 0} where
 
   -- ---- counts
 
-  length-with_message : (m : Key × M) (b : Messages M) → length (with_message m b) ≡ length b + 1
-  length-with_message m [] = refl
-  length-with_message m (e ∷ es) = elim (is_before m.0 e.0) as (λ t. length (cond t (m ∷ e ∷ es) (e ∷ with_message m es)) ≡ length (e ∷ es) + 1) [
-    | true ↦ omega arith
-    | false ↦ omega (arith, length-with_message m es)
-  ]
-
-  pub length-with_messages : (p b : Messages M) → length (with_messages p b) ≡ length b + length p
-  length-with_messages [] b = omega arith
-  length-with_messages (m ∷ ms) b = omega (arith, length-with_messages ms (with_message m b), length-with_message m b)
-
-  pub length-first : (n : ℕ) (ms : Messages M) → n ≤ length ms → length (take n ms) ≡ n
-  length-first zero ms few = refl
-  length-first (suc n) [] few = absurd (omega (arith, few))
-  length-first (suc n) (m ∷ ms) few = omega (arith, length-first n ms (omega (arith, few)))
+  counts-beside : (xs : Siblings V M) (bs : List (Messages M)) → length bs ≡ length xs → counts (beside xs bs) ≡ map length bs
+  counts-beside [] [] e = refl
+  counts-beside [] (b ∷ bs) e = absurd (omega (arith, e))
+  counts-beside (x ∷ xs) [] e = absurd (omega (arith, e))
+  counts-beside (x ∷ xs) (b ∷ bs) e = ap (λ ns. length b ∷ ns) (counts-beside xs bs (omega (arith, e)))
 
   -- what is pending is counted without the messages
-  pub counts-loaded : (cs : List (Child V M)) (ns : List ℕ) (ms : Messages M) → total ns ≤ length ms → sums (counts cs) ns ≡ counts (loaded cs ns ms)
+  counts-loaded : (cs : List (Child V M)) (ns : List ℕ) (ms : Messages M) → total ns ≤ length ms → sums (counts cs) ns ≡ counts (loaded cs ns ms)
   counts-loaded [] ns ms few = refl
   counts-loaded (c ∷ cs) [] ms few = refl
   counts-loaded (c ∷ cs) (n ∷ ns) ms few =
@@ -81,6 +84,11 @@ module _ {V M : Type 0} where
       omega (arith, length-with_messages (take n ms) c.pending, length-first n ms (omega (arith, few))) in
       ap (λ k. k ∷ sums (counts cs) ns) one
       ∙ ap (λ z. length (with_messages (take n ms) c.pending) ∷ z) (counts-loaded cs ns (drop n ms) (omega (arith, few, length-drop n ms)))
+
+  -- what bins and shares count is what is pending for the children
+  pub counts-bins : (xs : Siblings V M) (bs : List (Messages M)) (ns : List ℕ) (ms : Messages M) → length bs ≡ length xs → total ns ≤ length ms →
+      sums (map length bs) ns ≡ counts (loaded (beside xs bs) ns ms)
+  counts-bins xs bs ns ms e few = ap (λ ks. sums ks ns) (sym (counts-beside xs bs e)) ∙ counts-loaded (beside xs bs) ns ms few
 
   pub length-loaded : (cs : List (Child V M)) (ns : List ℕ) (ms : Messages M) → length ns ≡ length cs → length (loaded cs ns ms) ≡ length cs
   length-loaded [] ns ms e = refl
@@ -101,14 +109,6 @@ module _ {V M : Type 0} where
   pub joined-pending : (cs : List (Child V M)) → joined (map (λ c. c.pending) cs) ≡ all_pending cs
   joined-pending [] = refl
   joined-pending (c ∷ cs) = ap (λ z. c.pending ++ z) (joined-pending cs)
-
-  within-before : (low : Option Key) (k : Key) (ms : Messages M) → AllWithin low (Some k) ms → AllBefore k ms
-  within-before low k [] w = tt
-  within-before low k (m ∷ ms) w = (w.0.below, within-before low k ms w.1)
-
-  within-from : (k : Key) (high : Option Key) (ms : Messages M) → AllWithin (Some k) high ms → AllFrom k ms
-  within-from k high [] w = tt
-  within-from k high (m ∷ ms) w = (w.0.from, within-from k high ms w.1)
 
   -- what is pending for children in their places
   pub divided-lie : (levels : ℕ) (low high : Option Key) (cs : List (Child V M)) → ChildrenLie levels low high cs → AreDivided cs

@@ -6,6 +6,9 @@ use Rattle.bt_node.proofs.lemmas.code.GroupLoops.{nothing_left}
 use Rattle.bt_node.proofs.lemmas.code.ShareLoop.{all_beside, beside-none, child_added}
 use Rattle.bt_node.proofs.share.beside.Goals as goal
 
+pub same-bins : goal.same-bins
+same-bins g c = refl
+
 pub same-siblings : goal.same-siblings
 same-siblings g c = refl
 
@@ -25,8 +28,8 @@ same-pivot g c = refl
 pub same-node : goal.same-node
 same-node g c = refl
 
-pub same-siblings-in_ok-push : goal.same-siblings-in_ok-push
-same-siblings-in_ok-push g c = refl
+pub same-siblings-in-Continue-branch-2 : goal.same-siblings-in-Continue-branch-2
+same-siblings-in-Continue-branch-2 g c = refl
 
 pub loop-pivot-smaller : goal.loop-pivot-smaller
 loop-pivot-smaller g c = omega (arith, ap length c.in-Some.ensures)
