@@ -6,3 +6,49 @@ use Rattle.bt_node.proofs.group.gather.Goals as goal
 
 pub same-children : goal.same-children
 same-children g c = refl
+
+pub loop-child-init-derived : goal.loop-child-init-derived
+loop-child-init-derived g c = (tt, tt)
+
+pub same-children-in-Continue-branch-5 : goal.same-children-in-Continue-branch-5
+same-children-in-Continue-branch-5 g c = refl
+
+pub loop-child-preserved : goal.loop-child-preserved
+loop-child-preserved g c =
+    let child = c.in-Some-child.child in
+    let left = c.next-in-loop-child.new.self.rest.items in
+    let steps = c.in-Some-child.ensures.steps.0 in
+    record {
+      children = ap (λ xs. xs ++ stripped (children_of left)) c.in_ok-push-2.ensures
+          ∙ append_assoc c.loop-child.children ((child.pivot, child.node) ∷ []) (stripped (children_of left))
+          ∙ ap (λ xs. c.loop-child.children ++ stripped (children_of xs)) (sym steps) ∙ c.loop-child.invariant.children;
+      bins = ap (λ bs. bs ++ bins_of left) c.in_ok-push-3.ensures.items
+          ∙ append_assoc c.loop-child.bins.items (child.pending ∷ []) (bins_of left)
+          ∙ ap (λ xs. c.loop-child.bins.items ++ bins_of xs) (sym steps) ∙ c.loop-child.invariant.bins;
+    }
+
+pub inner-requires : goal.inner-requires
+inner-requires g c =
+    let it = c.loop-child.child-iterator.rest in
+    let rest = c.into_iter-child-iterator.result.rest.items in
+    let first = c.in-Some.first in
+    let e : c.args.part.items ≡ first ∷ rest = search rules in
+    let none : it.items ≡ [] = nothing_left it.items (omega (arith, it.ok.0, c.in-None.ensures.steps.0)) in
+    let all = sym (append-nil c.loop-child.children) ∙ ap (λ xs. c.loop-child.children ++ stripped (children_of xs)) (sym none)
+    ∙ c.loop-child.invariant.children ∙ ap (λ xs. xs ++ stripped (children_of rest)) c.in_ok-children.ensures in
+    let bins = c.from_packets-bins.ensures ∙ sym (append-nil c.loop-child.bins.items) ∙ ap (λ xs. c.loop-child.bins.items ++ bins_of xs) (sym none)
+    ∙ c.loop-child.invariant.bins ∙ ap (λ bs. bs ++ bins_of rest) (c.in_ok-push.ensures.items ∙ ap (λ bs. bs ++ first.pending ∷ []) c.in_ok-bins.ensures.items) in
+    gather_divided c.loop-child.children c.from_packets-bins.result c.args.part.items first rest e all bins c.requires.divided
+
+pub returns : goal.returns
+returns g c =
+    let it = c.loop-child.child-iterator.rest in
+    let rest = c.into_iter-child-iterator.result.rest.items in
+    let first = c.in-Some.first in
+    let e : c.args.part.items ≡ first ∷ rest = search rules in
+    let none : it.items ≡ [] = nothing_left it.items (omega (arith, it.ok.0, c.in-None.ensures.steps.0)) in
+    let all = sym (append-nil c.loop-child.children) ∙ ap (λ xs. c.loop-child.children ++ stripped (children_of xs)) (sym none)
+    ∙ c.loop-child.invariant.children ∙ ap (λ xs. xs ++ stripped (children_of rest)) c.in_ok-children.ensures in
+    let bins = c.from_packets-bins.ensures ∙ sym (append-nil c.loop-child.bins.items) ∙ ap (λ xs. c.loop-child.bins.items ++ bins_of xs) (sym none)
+    ∙ c.loop-child.invariant.bins ∙ ap (λ bs. bs ++ bins_of rest) (c.in_ok-push.ensures.items ∙ ap (λ bs. bs ++ first.pending ∷ []) c.in_ok-bins.ensures.items) in
+    ap (λ t. (first.pivot, t)) c.inner.ensures ∙ gather_done c.loop-child.children c.from_packets-bins.result c.args.part.items first rest e all bins
