@@ -4,6 +4,7 @@ pub mod ChoiceLoop
 pub mod CrownLoop
 pub mod DealLoop
 pub mod GroupLoops
+pub mod LoadLoop
 pub mod LookupPath
 pub mod Marks
 pub mod PivotSearch

@@ -1,3 +1,4 @@
 -- What is found at a key.
+pub mod BinOfKey
 pub mod HeldValues
 pub mod Outside

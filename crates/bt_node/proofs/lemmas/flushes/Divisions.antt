@@ -67,6 +67,11 @@ module _ {V M : Type 0} where
   length-beside (x ∷ xs) [] e = absurd (omega (arith, e))
   length-beside (x ∷ xs) (b ∷ bs) e = omega (arith, length-beside xs bs (omega (arith, e)))
 
+  -- a bin for each of siblings
+  pub bins-length : (xs : Siblings V M) (bs : List (Messages M)) → 1 ≤ length xs → LieBetween (pivots_of xs) bs → length bs ≡ length xs
+  bins-length [] bs some h = absurd (omega (arith, some))
+  bins-length (x ∷ xs) bs some h = omega (arith, lie_length (pivots_of (x ∷ xs)) bs h, length-map xs (λ (y : Key × Tree V M). y.0))
+
   -- ---- counts
 
   counts-beside : (xs : Siblings V M) (bs : List (Messages M)) → length bs ≡ length xs → counts (beside xs bs) ≡ map length bs

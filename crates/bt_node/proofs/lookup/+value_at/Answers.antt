@@ -1,6 +1,9 @@
-use Rattle.std.proofs.Common.{◌∙◌, ap, arith}
+use Rattle.std.proofs.Common.{◌∙◌, [], ap, arith, get_or, subst, sym}
+use Rattle.bt_messages.specs.Bins.{LieBetween, joined}
 use Rattle.bt_messages.specs.Effects.{effect_of}
-use Rattle.bt_node.specs.Kinds.{tree_of}
+use Rattle.bt_node.specs.Kinds.{IsDivided, tree_of}
+use Rattle.bt_node.specs.Messages.{value_after}
+use Rattle.bt_node.proofs.lemmas.lookups.BinOfKey.{bin-there, value-bin}
 use Rattle.bt_node.proofs.lemmas.code.AbsorbStep.{if_ok}
 use Rattle.bt_node.proofs.lemmas.code.LookupPath.{along}
 use Rattle.bt_node.proofs.lemmas.code.PivotSearch.{pivots_rise}
@@ -10,20 +13,29 @@ use Rattle.bt_node.proofs.lookup.+value_at.Goals as goal
 
 pub value_at-requires : goal.value_at-requires
 value_at-requires g t c κs within =
-    let here = c.kind.ensures ∙ ap tree_of c.in-Inner.is in
-    let below = pivot_within c.in-Inner.children c.nodes.result.now c.pivots.result.now c.pivots_up_to.result c.nodes.ensures c.pivots.ensures.pivots c.pivots.ensures.some c.pivots_up_to.ensures.bound in
-    let less = child_lower c.args.node.now c.in-Inner.children c.in-Inner.buffer here c.nodes.result.now c.nodes.ensures c.pivots_up_to.result c.index-nodes-pivots_up_to.result below c.index-nodes-pivots_up_to.is in
-    let order = child_in_order c.args.node.now c.in-Inner.children c.in-Inner.buffer here c.nodes.result.now c.nodes.ensures c.pivots_up_to.result c.index-nodes-pivots_up_to.result below c.index-nodes-pivots_up_to.is c.requires in
+    let here = c.kind.ensures.tree ∙ ap tree_of c.in-Inner.is in
+    let below = pivot_within c.in-Inner.children c.nodes.result.now c.pivots.result.now c.pivots_up_to-place.result c.nodes.ensures c.pivots.ensures.pivots c.pivots.ensures.some c.pivots_up_to-place.ensures.bound in
+    let less = child_lower c.args.node.now c.in-Inner.children (joined c.in-Inner.bins) here c.nodes.result.now c.nodes.ensures c.pivots_up_to-place.result c.index-nodes-place.result below c.index-nodes-place.is in
+    let order = child_in_order c.args.node.now c.in-Inner.children (joined c.in-Inner.bins) here c.nodes.result.now c.nodes.ensures c.pivots_up_to-place.result c.index-nodes-place.result below c.index-nodes-place.is c.requires in
     (omega (arith, less, c.decreases), (within.0, (within.1, order)))
 
-pub pivots_up_to-requires : goal.pivots_up_to-requires
-pivots_up_to-requires g t c =
-    pivots_rise c.args.node.now c.in-Inner.children c.in-Inner.buffer c.pivots.result.now (c.kind.ensures ∙ ap tree_of c.in-Inner.is) c.pivots.ensures.pivots c.requires
+pub pivots_up_to-place-requires : goal.pivots_up_to-place-requires
+pivots_up_to-place-requires g t c =
+    pivots_rise c.args.node.now c.in-Inner.children (joined c.in-Inner.bins) c.pivots.result.now (c.kind.ensures.tree ∙ ap tree_of c.in-Inner.is) c.pivots.ensures.pivots c.requires
+
+pub after_messages-requires : goal.after_messages-requires
+after_messages-requires g t c =
+    bin-there c.pivots.result.now c.in-Inner.bins c.pivots_up_to-place.result
+    (subst (λ ps. LieBetween ps c.in-Inner.bins) (sym c.pivots.ensures.pivots) (subst IsDivided c.in-Inner.is c.kind.ensures.divided)) c.pivots_up_to-place.ensures.bound
 
 pub returns-in_ok-old-in-Inner : goal.returns-in_ok-old-in-Inner
 returns-in_ok-old-in-Inner g t c =
+    let effect = effect_of g.V.Merge.merged in
     let k = c.args.key.now in
-    let here = c.kind.ensures ∙ ap tree_of c.in-Inner.is in
+    let here = c.kind.ensures.tree ∙ ap tree_of c.in-Inner.is in
+    let lie = subst (λ ps. LieBetween ps c.in-Inner.bins) (sym c.pivots.ensures.pivots) (subst IsDivided c.in-Inner.is c.kind.ensures.divided) in
     if_ok _ _ c.after_messages.result (λ value e. e
-    ∙ along (effect_of g.V.Merge.merged) k c.in-Inner.children c.in-Inner.buffer c.args.node.now c.nodes.result.now c.pivots.result.now c.pivots_up_to.result c.index-nodes-pivots_up_to.result c.in_ok-old-in-Inner.old
-    here c.nodes.ensures c.pivots.ensures.pivots c.pivots.ensures.some c.pivots_up_to.ensures.count c.index-nodes-pivots_up_to.is c.in_ok-old-in-Inner.ensures) c.after_messages.ensures
+    ∙ ap (λ i. value_after effect k (get_or c.in-Inner.bins i []) c.in_ok-old-in-Inner.old) c.pivots_up_to-place.ensures.count
+    ∙ value-bin effect k c.pivots.result.now c.in-Inner.bins c.in_ok-old-in-Inner.old lie
+    ∙ along effect k c.in-Inner.children (joined c.in-Inner.bins) c.args.node.now c.nodes.result.now c.pivots.result.now c.pivots_up_to-place.result c.index-nodes-place.result c.in_ok-old-in-Inner.old
+    here c.nodes.ensures c.pivots.ensures.pivots c.pivots.ensures.some c.pivots_up_to-place.ensures.count c.index-nodes-place.is c.in_ok-old-in-Inner.ensures) c.after_messages.ensures

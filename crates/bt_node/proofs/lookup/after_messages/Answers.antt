@@ -1,4 +1,4 @@
-use Rattle.std.proofs.Common.{◌≡◌, ◌∙◌, rules, sym}
+use Rattle.std.proofs.Common.{◌≡◌, ◌∙◌, [], get_or, rules, sym}
 use Rattle.bt_messages.specs.Effects.{effect_of}
 use Rattle.bt_node.specs.Messages.{from}
 use Rattle.bt_node.proofs.lemmas.code.LookupPath.{all_left, left_from, left_sorted, none_left, one_more, rest_from, rest_sorted}
@@ -7,11 +7,11 @@ use Rattle.bt_node.proofs.lookup.after_messages.Goals as goal
 pub loop-at-init : goal.loop-at-init
 loop-at-init g c =
     let effect = effect_of g.V.Merge.merged in
-    let is : c.into_iter-at-iterator.result ≡ from c.args.key.now c.args.buffer.now = search rules in
+    let is : c.into_iter-at-iterator.result ≡ from c.args.key.now (get_or c.args.bins.now c.args.place []) = search rules in
     record {
-      value = all_left effect c.args.key.now c.args.buffer.now _ c.args.old is;
-      from = left_from effect c.args.key.now c.args.buffer.now _ is;
-      sorted = left_sorted effect c.args.key.now c.args.buffer.now _ is c.iter_from-at-items.ensures.sorted;
+      value = all_left effect c.args.key.now (get_or c.args.bins.now c.args.place []) _ c.args.old is;
+      from = left_from effect c.args.key.now (get_or c.args.bins.now c.args.place []) _ is;
+      sorted = left_sorted effect c.args.key.now (get_or c.args.bins.now c.args.place []) _ is c.bin_from-at-items.ensures.sorted;
     }
 
 pub loop-at-preserved : goal.loop-at-preserved

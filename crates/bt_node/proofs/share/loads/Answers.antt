@@ -1,11 +1,16 @@
-use Rattle.std.proofs.Common.{◌≡◌, ◌∙◌, ap, arith, length}
+use Rattle.std.proofs.Common.{◌<◌, arith, length}
+use Rattle.bt_node.proofs.lemmas.code.LoadLoop.{all_loads, one_more_load, part_of_total}
 use Rattle.bt_node.proofs.share.loads.Goals as goal
 
 pub overflow_add-count : goal.overflow_add-count
-overflow_add-count g c = ?
+overflow_add-count g c =
+    omega (arith, c.count.ensures.bound, part_of_total c.args.shares.now c.loop-place.place c.loop-place-test.true, c.requires.enough, c.len-bound.ensures.len, c.len-bound.ensures.bound)
 
 pub loop-place-preserved : goal.loop-place-preserved
-loop-place-preserved g c = ?
+loop-place-preserved g c =
+    let below : c.loop-place.place < length c.args.bins.now = omega (arith, c.loop-place-test.true, c.requires.len) in
+    one_more_load c.args.bins.now c.args.shares.now c.loop-place.loads.items c.push.new.self.items c.loop-place.place c.count.result below c.loop-place-test.true c.count.ensures.count
+    c.in_ok-push.ensures.items c.loop-place.invariant
 
 pub returns : goal.returns
-returns g c = ?
+returns g c = all_loads c.args.bins.now c.args.shares.now c.loop-place.loads.items c.loop-place.place c.loop-place-test.false c.loop-place.invariant

@@ -1,4 +1,6 @@
-use Rattle.std.proofs.Common.{rules}
+use Rattle.std.proofs.Common.{◌∙◌, ap, rules, take}
+use Rattle.std.proofs.Math.Seq.{take-length}
+use Rattle.bt_node.specs.Flushes.{absorb}
 use Rattle.bt_messages.specs.Effects.{effect_of}
 use Rattle.bt_node.specs.Fits.{IsRoomy}
 use Rattle.bt_node.proofs.lemmas.crowns.ShapedTrees.{has_room}
@@ -9,7 +11,8 @@ pub returns : goal.returns
 returns g c =
     let effect = effect_of g.V.Merge.merged in
     let roomy : IsRoomy c.args.shape = search (has_room, rules) in
-    let is = c.in_ok-nodes.ensures in
+    let all = ap (λ n. take n c.into_stream-stream.result) c.len-count.ensures.len ∙ take-length c.into_stream-stream.result ∙ c.into_stream-stream.ensures in
+    let is = c.in_ok-nodes.ensures.siblings ∙ ap (absorb effect c.args.shape c.args.node) all in
     record {
       siblings = is;
       fits = fit_there effect c.args.shape roomy c.args.node c.args.packet _ is;

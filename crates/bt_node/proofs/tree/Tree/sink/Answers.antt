@@ -6,6 +6,9 @@ use Rattle.bt_node.specs.Messages.{rows_after}
 use Rattle.bt_node.proofs.lemmas.flushes.Laws.{anywhere}
 use Rattle.bt_node.proofs.tree.Tree.sink.Goals as goal
 
+pub absorb_alone-siblings-requires : goal.absorb_alone-siblings-requires
+absorb_alone-siblings-requires g c = let has = c.apart-shape.ensures.fits in (has.levels, None, None, has.fits.lies)
+
 pub crown-requires : goal.crown-requires
 crown-requires g c =
     let has = c.apart-shape.ensures.fits in

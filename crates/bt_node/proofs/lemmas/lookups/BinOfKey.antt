@@ -1,0 +1,29 @@
+-- The messages to a key are in the bin of the child to which the key belongs.
+use Rattle.std.proofs.Common.{◌≡◌, ◌+◌, ◌<◌, ◌≤◌, ℕ, suc, true, false, cond, List, [], ◌∷◌, ◌++◌, append-nil, get_or, length, refl, sym, ap, ◌∙◌, arith, Option}
+use Rattle.bt_keycode.specs.Keys.{AllFrom, Key, is_before, key_cmp}
+use Rattle.bt_keycode.proofs.offered.Order.{apart_back}
+use Rattle.bt_messages.specs.Bins.{AllBefore, LieBetween, joined}
+use Rattle.bt_messages.proofs.offered.Parts.{lie_length}
+use Rattle.bt_messages.proofs.offered.Rows.{value_before}
+use Rattle.bt_node.specs.Lookups.{pivots_up_to}
+use Rattle.bt_node.specs.Messages.{Messages, value_after}
+use Rattle.bt_node.proofs.lemmas.rows.Values.{value-append}
+
+module _ {V M : Type 0} (effect : Option V → M → Option V) where
+  -- messages of keys before a pivot do nothing at or past it
+  earlier : (k p : Key) (ms : Messages M) (o : Option V) → is_before k p ≡ false → AllBefore p ms → value_after effect k ms o ≡ o
+  earlier k p [] o past h = refl
+  earlier k p (m ∷ ms) o past h =
+      ap (λ b. value_after effect k ms (cond b (effect o m.1) o)) (apart_back m.0 p k h.0 past) ∙ earlier k p ms o past h.1
+
+  pub value-bin : (k : Key) (ps : List Key) (bs : List (Messages M)) (o : Option V) → LieBetween ps bs → value_after effect k (get_or bs (pivots_up_to k ps) []) o ≡ value_after effect k (joined bs) o
+  value-bin k ps [] o h = absurd h
+  value-bin k [] (b ∷ []) o h = sym (ap (λ ms. value_after effect k ms o) (append-nil b))
+  value-bin k [] (b ∷ c ∷ bs) o h = absurd h
+  value-bin k (p ∷ ps) (b ∷ bs) o h = elim (is_before k p) as (λ t. is_before k p ≡ t → value_after effect k (get_or (b ∷ bs) (cond t 0 (suc (pivots_up_to k ps))) []) o ≡ value_after effect k (b ++ joined bs) o) [
+    | true ↦ λ t. sym (value-append effect k b (joined bs) o ∙ value_before effect k p (joined bs) (value_after effect k b o) t h.2)
+    | false ↦ λ t. value-bin k ps bs o h.3 ∙ sym (value-append effect k b (joined bs) o ∙ ap (value_after effect k (joined bs)) (earlier k p b o t h.1))
+  ] refl
+
+pub bin-there : {M : Type 0} (ps : List Key) (bs : List (Messages M)) (place : ℕ) → LieBetween ps bs → place ≤ length ps → place < length bs
+bin-there ps bs place h few = omega (arith, lie_length ps bs h, few)
