@@ -7,6 +7,9 @@ use Rattle.bt_node.proofs.group.gather.Goals as goal
 pub same-children : goal.same-children
 same-children g c = refl
 
+pub loop-child-init : goal.loop-child-init
+loop-child-init g c = record { children = refl; bins = refl }
+
 pub loop-child-init-derived : goal.loop-child-init-derived
 loop-child-init-derived g c = (tt, tt)
 

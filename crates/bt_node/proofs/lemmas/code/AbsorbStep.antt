@@ -68,10 +68,10 @@ module _ {V M : Type 0} (effect : Option V → M → Option V) (s : Shape) (two 
 
 module _ {V D : Type 0} (effect : Option V → Message V D → Option V) (s : Shape) (xs : Siblings V (Message V D)) (bins : List (Messages (Message V D))) (ms : Messages (Message V D)) (count : ℕ) (shares : List ℕ)
     (node : Tree V (Message V D)) (here : node ≡ inner (nodes xs) (joined bins)) (lie : LieBetween (pivots_of xs) bins) (sizes : parted shares ms ≡ parts (pivots_of xs) (take count ms)) where
-  packet : Messages (Message V D)
+  abbrev pub packet : Messages (Message V D)
   packet = take count ms
 
-  after : Messages (Message V D)
+  abbrev pub after : Messages (Message V D)
   after = with_messages packet (joined bins)
 
   after-sorted : IsSorted after
