@@ -1,17 +1,19 @@
-use Rattle.std.proofs.Common.{◌≡◌, ◌∙◌, [], get_or, rules, sym}
+use Rattle.std.proofs.Common.{◌≡◌, ◌∙◌, [], get_or, rules, subst, sym}
+use Rattle.bt_keycode.specs.Keys.{IsSorted}
 use Rattle.bt_messages.specs.Effects.{effect_of}
 use Rattle.bt_node.specs.Messages.{from}
-use Rattle.bt_node.proofs.lemmas.code.LookupPath.{all_left, left_from, left_sorted, none_left, one_more, rest_from, rest_sorted}
+use Rattle.bt_node.proofs.lemmas.code.LookupPath.{all_left, left_from, none_left, one_more, rest_from, rest_sorted}
 use Rattle.bt_node.proofs.lookup.after_messages.Goals as goal
 
 pub loop-at-init : goal.loop-at-init
 loop-at-init g c =
     let effect = effect_of g.V.Merge.merged in
     let is : c.into_iter-at-iterator.result ≡ from c.args.key.now (get_or c.args.bins.now c.args.place []) = search rules in
+    let same : c.bin_from-at-items.result ≡ c.into_iter-at-iterator.result = search rules in
     record {
       value = all_left effect c.args.key.now (get_or c.args.bins.now c.args.place []) _ c.args.old is;
       from = left_from effect c.args.key.now (get_or c.args.bins.now c.args.place []) _ is;
-      sorted = left_sorted effect c.args.key.now (get_or c.args.bins.now c.args.place []) _ is c.bin_from-at-items.ensures.sorted;
+      sorted = subst IsSorted same c.bin_from-at-items.ensures.sorted;
     }
 
 pub loop-at-preserved : goal.loop-at-preserved
