@@ -1,8 +1,9 @@
-use Rattle.std.proofs.Common.{◌∙◌, ap, arith}
+use Rattle.std.proofs.Common.{◌≡◌, None, ◌∙◌, ap, arith, rules}
 use Rattle.bt_messages.specs.Effects.{effect_of}
 use Rattle.bt_node.specs.Kinds.{tree_of}
+use Rattle.bt_node.specs.inside.Held.{value_of}
 use Rattle.bt_node.proofs.lemmas.code.AbsorbStep.{if_ok}
-use Rattle.bt_node.proofs.lemmas.code.LookupPath.{along}
+use Rattle.bt_node.proofs.lemmas.code.LookupPath.{along, begins_at}
 use Rattle.bt_node.proofs.lemmas.code.PivotSearch.{pivots_rise}
 use Rattle.bt_node.proofs.lemmas.code.RowsOfChildren.{child_in_order, child_lower}
 use Rattle.bt_node.proofs.lemmas.code.SiblingParts.{pivot_within}
@@ -22,8 +23,11 @@ pivots_up_to-requires g t c =
 
 pub returns-in_ok-old-in-Inner : goal.returns-in_ok-old-in-Inner
 returns-in_ok-old-in-Inner g t c =
+    let effect = effect_of g.V.Merge.merged in
     let k = c.args.key.now in
     let here = c.kind.ensures ∙ ap tree_of c.in-Inner.is in
-    if_ok _ _ c.after_messages.result (λ value e. e
-    ∙ along (effect_of g.V.Merge.merged) k c.in-Inner.children c.in-Inner.buffer c.args.node.now c.nodes.result.now c.pivots.result.now c.pivots_up_to.result c.index-nodes-pivots_up_to.result c.in_ok-old-in-Inner.old
-    here c.nodes.ensures c.pivots.ensures.pivots c.pivots.ensures.some c.pivots_up_to.ensures.count c.index-nodes-pivots_up_to.is c.in_ok-old-in-Inner.ensures) c.after_messages.ensures
+    let none : c.since_reset-start.result.start ≡ None = search rules in
+    if_ok _ _ c.after_messages-in-Inner.result (λ value e. e
+    ∙ begins_at effect k c.in-Inner.buffer _ c.since_reset-start.result.start None (value_of c.in_ok-old-in-Inner.old) c.since_reset-start.ensures.value none
+    ∙ along effect k c.in-Inner.children c.in-Inner.buffer c.args.node.now c.nodes.result.now c.pivots.result.now c.pivots_up_to.result c.index-nodes-pivots_up_to.result (value_of c.in_ok-old-in-Inner.old)
+    here c.nodes.ensures c.pivots.ensures.pivots c.pivots.ensures.some c.pivots_up_to.ensures.count c.index-nodes-pivots_up_to.is c.in_ok-old-in-Inner.ensures) c.after_messages-in-Inner.ensures

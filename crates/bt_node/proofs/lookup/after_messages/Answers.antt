@@ -1,25 +1,15 @@
 use Rattle.std.proofs.Common.{◌≡◌, ◌∙◌, rules, sym}
 use Rattle.bt_messages.specs.Effects.{effect_of}
-use Rattle.bt_node.specs.Messages.{from}
-use Rattle.bt_node.proofs.lemmas.code.LookupPath.{all_left, left_from, left_sorted, none_left, one_more, rest_from, rest_sorted}
+use Rattle.bt_node.specs.inside.Held.{value_of}
+use Rattle.bt_node.proofs.lemmas.code.LookupPath.{none_left, one_more, rest_from, rest_sorted}
 use Rattle.bt_node.proofs.lookup.after_messages.Goals as goal
-
-pub loop-at-init : goal.loop-at-init
-loop-at-init g c =
-    let effect = effect_of g.V.Merge.merged in
-    let is : c.into_iter-at-iterator.result ≡ from c.args.key.now c.args.buffer.now = search rules in
-    record {
-      value = all_left effect c.args.key.now c.args.buffer.now _ c.args.old is;
-      from = left_from effect c.args.key.now c.args.buffer.now _ is;
-      sorted = left_sorted effect c.args.key.now c.args.buffer.now _ is c.iter_from-at-items.ensures.sorted;
-    }
 
 pub loop-at-preserved : goal.loop-at-preserved
 loop-at-preserved g c =
     let effect = effect_of g.V.Merge.merged in
     let so_far = c.loop-at.invariant in
     record {
-      value = so_far.value ∙ one_more effect c.args.key.now c.loop-at.at-iterator c.next.new.self _ _ c.in-Some.ensures.steps c.compare.result c.compare.ensures c.if-ne.ensures c.loop-at.value c.in_ok-value.value c.in_ok-value.ensures;
+      value = so_far.value ∙ one_more effect c.args.key.now c.loop-at.at-iterator c.next.new.self _ _ c.in-Some.ensures.steps c.compare.result c.compare.ensures c.if-ne.ensures (value_of c.loop-at.value) (value_of c.in_ok-value.value) c.in_ok-value.ensures;
       from = rest_from effect c.args.key.now c.loop-at.at-iterator c.next.new.self _ _ c.in-Some.ensures.steps c.compare.result c.compare.ensures so_far.from;
       sorted = rest_sorted effect c.args.key.now c.loop-at.at-iterator c.next.new.self _ _ c.in-Some.ensures.steps c.compare.result c.compare.ensures so_far.sorted;
     }
@@ -28,4 +18,4 @@ pub returns-then-ne : goal.returns-then-ne
 returns-then-ne g c =
     let effect = effect_of g.V.Merge.merged in
     let so_far = c.loop-at.invariant in
-    none_left effect c.args.key.now c.loop-at.at-iterator _ _ _ c.in-Some.ensures.steps c.compare.result c.compare.ensures c.if-ne.ensures c.loop-at.value so_far.from so_far.sorted ∙ sym so_far.value
+    none_left effect c.args.key.now c.loop-at.at-iterator _ _ _ c.in-Some.ensures.steps c.compare.result c.compare.ensures c.if-ne.ensures (value_of c.loop-at.value) so_far.from so_far.sorted ∙ sym so_far.value
