@@ -8,7 +8,7 @@ ghost use Rattle.bt_node.specs.Messages.{before, rows_after, with_value};
 ghost use Rattle.bt_node.specs.inside.Held.{value_of};
 
 use crate::held::Held;
-use crate::lent::Lent;
+use crate::lent::{Entry, Lent};
 use crate::visitor::Visitor;
 use bt_keycode::Key;
 use bt_messages::{Merge, between};
@@ -90,20 +90,20 @@ fn visit_leaf<'a, V: Merge, S: Visitor<V>>(
 #[derive(Drop)]
 pub(crate) struct LeafPart<'a, V: Merge> {
     rows: &'a [(Key, V)],
-    messages: Lent<'a, V>,
+    messages: Vec<Entry<'a, V>>,
 }
 
 impl<'a, V: Merge> Model for LeafPart<'a, V> {
-    ghost use Rattle.std.specs.Prelude.{IsTrue, List, ℕ};
+    ghost use Rattle.std.specs.Prelude.{IsTrue, List, map, ℕ};
     ghost use Rattle.std.specs.FinMap.{is_sorted};
     ghost use Rattle.bt_keycode.specs.Keys.{IsSorted, key_cmp};
     ghost use Rattle.bt_messages.specs.Effects.{effect_of, rows_after};
 
     ghost Value = { List (List ℕ × V) };
 
-    ghost view = { λ p. rows_after (effect_of V.merged) p.messages p.rows.now };
+    ghost view = { λ p. rows_after (effect_of V.merged) (map (λ m. (m.key.now, m.message.now)) p.messages.items) p.rows.now };
 
-    ghost invariant = { λ p. IsTrue (is_sorted key_cmp p.rows.now) × IsSorted p.messages };
+    ghost invariant = { λ p. IsTrue (is_sorted key_cmp p.rows.now) × IsSorted (map (λ m. (m.key.now, m.message.now)) p.messages.items) };
 }
 
 impl<'a, V: Merge> LeafPart<'a, V> {
@@ -112,7 +112,10 @@ impl<'a, V: Merge> LeafPart<'a, V> {
         requires messages { IsSorted messages }
         ensures { result ≡ rows_after (effect_of V.merged) messages.entry rows.now }
     {
-        LeafPart { rows, messages }
+        LeafPart {
+            rows,
+            messages: messages.into_entries(),
+        }
     }
 
     /// Shows its rows after the messages.
@@ -124,6 +127,6 @@ impl<'a, V: Merge> LeafPart<'a, V> {
         ensures { OnOk result (visitor.new ≡ fold S.visited visitor.old self.entry) }
     {
         let LeafPart { rows, messages } = self;
-        visit_leaf(alloc, rows, messages, visitor)
+        visit_leaf(alloc, rows, Lent::of_entries(messages), visitor)
     }
 }

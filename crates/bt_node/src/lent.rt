@@ -1,5 +1,5 @@
 //! Messages that are lent from the buffers where they are pending.
-ghost use Rattle.std.specs.Prelude.{◌≡◌, ◌++◌, ◌∷◌, ◌≤◌, [], false, true, IfOk, MatchOption, None, OnOk, length};
+ghost use Rattle.std.specs.Prelude.{◌≡◌, ◌++◌, ◌∷◌, ◌≤◌, [], false, true, IfOk, MatchOption, None, OnOk, length, map};
 ghost use Rattle.std.specs.Option.{option_copied};
 ghost use Rattle.bt_keycode.specs.Keys.{AllFrom, IsSorted, is_before, is_before_upper};
 ghost use Rattle.bt_messages.specs.Effects.{effect_of};
@@ -16,10 +16,17 @@ use std::cmp::Ordering;
 use std::collections::VecDeque;
 use std::marker::Model;
 
+/// A message and its key, where they are pending.
+#[derive(Drop)]
+pub(crate) struct Entry<'a, V: Merge> {
+    key: &'a Key,
+    message: &'a Message<V>,
+}
+
 /// Messages in order, lent from where they are pending, and taken off one by one. A contract sees the list of them.
 #[derive(Drop)]
 pub(crate) struct Lent<'a, V: Merge> {
-    messages: VecDeque<(&'a Key, &'a Message<V>)>,
+    messages: VecDeque<Entry<'a, V>>,
 }
 
 impl<'a, V: Merge> Model for Lent<'a, V> {
@@ -28,7 +35,7 @@ impl<'a, V: Merge> Model for Lent<'a, V> {
 
     ghost Value = { List (List ℕ × Message V V.Delta) };
 
-    ghost view = { λ l. map (λ m. (m.0.now, m.1.now)) l.messages.items };
+    ghost view = { λ l. map (λ m. (m.key.now, m.message.now)) l.messages.items };
 }
 
 impl<'a, V: Merge> Lent<'a, V> {
@@ -41,11 +48,28 @@ impl<'a, V: Merge> Lent<'a, V> {
         }
     }
 
+    /// These messages.
+    pub(crate) fn of_entries(entries: Vec<Entry<'a, V>>) -> Self
+        ensures { result ≡ map (λ m. (m.key.now, m.message.now)) entries.entry.items }
+    {
+        Lent {
+            messages: VecDeque::from(entries),
+        }
+    }
+
+    /// The messages, to be kept.
+    pub(crate) fn into_entries(self) -> Vec<Entry<'a, V>>
+        ensures { map (λ m. (m.key.now, m.message.now)) result.items ≡ self.entry }
+    {
+        let Lent { messages } = self;
+        Vec::from(messages)
+    }
+
     // Adds a message behind the others.
     fn push(&mut self, key: &'a Key, message: &'a Message<V>) -> Result<(), AllocError>
         ensures { OnOk result (self.new ≡ self.old ++ (key.now, message.now) ∷ []) }
     {
-        self.messages.push_back((key, message))?;
+        self.messages.push_back(Entry { key, message })?;
         Ok(())
     }
 
@@ -62,7 +86,8 @@ impl<'a, V: Merge> Lent<'a, V> {
     pub(crate) fn next(&mut self) -> Option<(&'a Key, &'a Message<V>)>
         ensures { MatchOption result (self.old ≡ []) (λ m. self.old ≡ (m.0.now, m.1.now) ∷ self.new) }
     {
-        self.messages.pop_front()
+        let Entry { key, message } = self.messages.pop_front()?;
+        Some((key, message))
     }
 
     // Takes off the first message where its key is before a bound.
@@ -72,10 +97,10 @@ impl<'a, V: Merge> Lent<'a, V> {
         ensures first { MatchOption result (self.new ≡ self.old) (λ m. self.old ≡ (m.0.now, m.1.now) ∷ self.new) }
     {
         let first = self.messages.front()?;
-        if !lies_before(first.0, high) {
+        if !lies_before(first.key, high) {
             return None;
         }
-        self.messages.pop_front()
+        self.next()
     }
 
     // Takes off the first message where its key is not past this one.
@@ -84,10 +109,10 @@ impl<'a, V: Merge> Lent<'a, V> {
         ensures first { MatchOption result (self.new ≡ self.old) (λ m. self.old ≡ (m.0.now, m.1.now) ∷ self.new) }
     {
         let first = self.messages.front()?;
-        if key.compare(first.0) == Ordering::Less {
+        if key.compare(first.key) == Ordering::Less {
             return None;
         }
-        self.messages.pop_front()
+        self.next()
     }
 
     /// Takes off the messages with a key before a bound. After an error some of them are gone.

@@ -45,9 +45,23 @@ loop-key-preserved-in_ok-visit_held g c =
           _ (value_of c.in_ok-first.first) (value_of c.in_ok-value.value) c.loop-key.visitor c.visit_rows.new.visitor c.visit_held.new.visitor _
           c.in-Some.ensures so_far.messages so_far.rows so_far.wanted c.between.ensures.between c.in_ok-visit_rows.ensures later (c.found.ensures ∙ c.split_first.ensures.value) c.split_first.ensures.others c.in_ok-first.ensures
           c.in_ok-value.ensures.value c.in_ok-value.ensures.left c.in_ok-visit_held.ensures;
-      rows = subst (λ rows. is_sorted key_cmp rows ≡ true) (sym c.split_first.ensures.others) (sorted_changed k None c.between-in-Some.result.now (split_first-requires-clause-sorted g c));
+      rows = subst (λ rows. is_sorted key_cmp rows ≡ true) (sym c.split_first.ensures.others) (sorted_changed k None c.between-in-Some.result.now (subst (λ rows. is_sorted key_cmp rows ≡ true) (sym later) (sorted_from k c.loop-key.left.now so_far.rows)));
       messages = subst IsSorted (sym c.in_ok-value.ensures.left) (past_in_order k c.next.new.self sorted);
     }
 
 pub loop-key-preserved : goal.loop-key-preserved
-loop-key-preserved g c = ?
+loop-key-preserved g c =
+    let effect = effect_of g.V.Merge.merged in
+    let k = c.in-Some.key.now in
+    let m : Key × Message g.row.V.Denot g.row.V-Delta.Denot = (k, c.in-Some.message.now) in
+    let so_far = c.loop-key.invariant in
+    let later = c.between-in-Some.ensures.between ∙ from_is k c.loop-key.left.now in
+    let sorted = rest_in_order m c.loop-key.messages c.next.new.self c.in-Some.ensures so_far.messages in
+    record {
+      wanted = shown_step effect g.S.Visitor.visited m c.next.new.self c.loop-key.messages c.take_effect.new.self c.loop-key.left.now c.between.result.now c.between-in-Some.result.now c.split_first.result.1.now
+          _ (value_of c.in_ok-first.first) (value_of c.in_ok-value.value) c.loop-key.visitor c.visit_rows.new.visitor c.visit_held.new.visitor _
+          c.in-Some.ensures so_far.messages so_far.rows so_far.wanted c.between.ensures.between c.in_ok-visit_rows.ensures later (c.found.ensures ∙ c.split_first.ensures.value) c.split_first.ensures.others c.in_ok-first.ensures
+          c.in_ok-value.ensures.value c.in_ok-value.ensures.left c.in_ok-visit_held.ensures;
+      rows = subst (λ rows. is_sorted key_cmp rows ≡ true) (sym c.split_first.ensures.others) (sorted_changed k None c.between-in-Some.result.now (subst (λ rows. is_sorted key_cmp rows ≡ true) (sym later) (sorted_from k c.loop-key.left.now so_far.rows)));
+      messages = subst IsSorted (sym c.in_ok-value.ensures.left) (past_in_order k c.next.new.self sorted);
+    }

@@ -155,15 +155,18 @@ module _ {X : Type 0} where
     | false ↦ λ e. (record { from = e; below = within.0.below }, rest-within low to p xs within.1)
   ] refl
 
+later_from : (l : Option Key) (p q : Key) → is_before_lower l p ≡ false → is_before q p ≡ false → is_before_lower l q ≡ false
+later_from None p q e f = refl
+later_from (Some l) p q e f = later_chain l p q e f
+
+earlier_below : (t : Option Key) (p q : Key) → is_before_upper t p ≡ true → is_before q p ≡ true → is_before_upper t q ≡ true
+earlier_below None p q e f = refl
+earlier_below (Some t) p q e f = before_chain q p t f e
+
+same_upper : (a s t : Bool) → s ≡ true → t ≡ true → a && s ≡ a && t
+same_upper a s t e f = ap (λ b. a && b) (e ∙ sym f)
+
 module _ {V : Type 0} (low to : Option Key) (p : Key) (from_low : is_before_lower low p ≡ false) (below_to : is_before_upper to p ≡ true) where
-  later_from : (l : Option Key) (q : Key) → is_before_lower l p ≡ false → is_before q p ≡ false → is_before_lower l q ≡ false
-  later_from None q e f = refl
-  later_from (Some l) q e f = later_chain l p q e f
-
-  earlier_below : (t : Option Key) (q : Key) → is_before_upper t p ≡ true → is_before q p ≡ true → is_before_upper t q ≡ true
-  earlier_below None q e f = refl
-  earlier_below (Some t) q e f = before_chain q p t f e
-
   none_first : (rs : Rows V) → AllFrom p rs → between low (Some p) rs ≡ []
   none_first [] all = refl
   none_first (r ∷ rs) all =
@@ -173,12 +176,9 @@ module _ {V : Type 0} (low to : Option Key) (p : Key) (from_low : is_before_lowe
   all_second : (rs : Rows V) → AllFrom p rs → between low to rs ≡ between (Some p) to rs
   all_second [] all = refl
   all_second (r ∷ rs) all =
-      ap (λ b. cond (not b && is_before_upper to r.0) (r ∷ between low to rs) (between low to rs)) (later_from low r.0 from_low all.0)
+      ap (λ b. cond (not b && is_before_upper to r.0) (r ∷ between low to rs) (between low to rs)) (later_from low p r.0 from_low all.0)
       ∙ ap (λ zs. cond (is_before_upper to r.0) (r ∷ zs) zs) (all_second rs all.1)
       ∙ sym (ap (λ b. cond (not b && is_before_upper to r.0) (r ∷ between (Some p) to rs) (between (Some p) to rs)) all.0)
-
-  same_upper : (a s t : Bool) → s ≡ true → t ≡ true → a && s ≡ a && t
-  same_upper a s t e f = ap (λ b. a && b) (e ∙ sym f)
 
   -- rows between two bounds are those up to a key between them, and those from it on
   pub split-between : (rs : Rows V) → IsSorted rs → between low to rs ≡ between low (Some p) rs ++ between (Some p) to rs
@@ -189,7 +189,7 @@ module _ {V : Type 0} (low to : Option Key) (p : Key) (from_low : is_before_lowe
         let others = split-between rs sorted.1 in
         let skipped : between (Some p) to (r ∷ rs) ≡ between (Some p) to rs = ap (λ b. cond (not b && is_before_upper to r.0) (r ∷ between (Some p) to rs) (between (Some p) to rs)) e in
         let kept : between low (Some p) (r ∷ rs) ≡ cond (first && is_before_upper to r.0) (r ∷ between low (Some p) rs) (between low (Some p) rs) =
-        ap (λ b. cond b (r ∷ between low (Some p) rs) (between low (Some p) rs)) (same_upper first (is_before r.0 p) (is_before_upper to r.0) e (earlier_below to r.0 below_to e)) in
+        ap (λ b. cond b (r ∷ between low (Some p) rs) (between low (Some p) rs)) (same_upper first (is_before r.0 p) (is_before_upper to r.0) e (earlier_below to p r.0 below_to e)) in
         either (first && is_before_upper to r.0) r rs others ∙ sym (ap (λ zs. zs ++ between (Some p) to (r ∷ rs)) kept
         ∙ ap (λ zs. cond (first && is_before_upper to r.0) (r ∷ between low (Some p) rs) (between low (Some p) rs) ++ zs) skipped)
     | false ↦ λ e.

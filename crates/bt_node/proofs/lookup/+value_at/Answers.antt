@@ -28,6 +28,6 @@ returns-in_ok-old-in-Inner g t c =
     let here = c.kind.ensures ∙ ap tree_of c.in-Inner.is in
     let none : c.since_reset-start.result.start ≡ None = search rules in
     if_ok _ _ c.after_messages-in-Inner.result (λ value e. e
-    ∙ begins_at effect k c.in-Inner.buffer _ c.since_reset-start.result.start None (value_of c.in_ok-old-in-Inner.old) c.since_reset-start.ensures.value none
+    ∙ begins_at effect k c.in-Inner.buffer c.since_reset-start.result.left c.since_reset-start.result.start None (value_of c.in_ok-old-in-Inner.old) c.since_reset-start.ensures.value none
     ∙ along effect k c.in-Inner.children c.in-Inner.buffer c.args.node.now c.nodes.result.now c.pivots.result.now c.pivots_up_to.result c.index-nodes-pivots_up_to.result (value_of c.in_ok-old-in-Inner.old)
     here c.nodes.ensures c.pivots.ensures.pivots c.pivots.ensures.some c.pivots_up_to.ensures.count c.index-nodes-pivots_up_to.is c.in_ok-old-in-Inner.ensures) c.after_messages-in-Inner.ensures

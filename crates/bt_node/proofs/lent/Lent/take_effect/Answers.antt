@@ -1,5 +1,7 @@
 use Rattle.std.proofs.Common.{◌∙◌}
+use Rattle.bt_keycode.specs.Keys.{Key}
 use Rattle.bt_messages.specs.Effects.{effect_of}
+use Rattle.bt_messages.specs.declared.message.Message.{Message}
 use Rattle.bt_node.specs.inside.Held.{value_of}
 use Rattle.bt_node.proofs.lemmas.code.LentMessages.{none_applied, one_applied, one_past, past_left, rest_from_key, rest_in_order}
 use Rattle.bt_node.proofs.lent.Lent.take_effect.Goals as goal
@@ -9,7 +11,7 @@ loop-message-preserved g c =
     let effect = effect_of g.V.Merge.merged in
     let k = c.args.key.now in
     let so_far = c.loop-message.invariant in
-    let m = (c.in-Some.field-0-0.now, c.in-Some.message.now) in
+    let m : Key × Message g.row.V.Denot g.row.V-Delta.Denot = (c.in-Some.field-0-0.now, c.in-Some.message.now) in
     let here = c.in-Some.ensures.first in
     record {
       value = one_applied effect k m c.loop-message.self c.next_up_to.new.self (value_of c.loop-message.value) (value_of c.in_ok-value.value) _ here c.in-Some.ensures.none so_far.from c.in_ok-value.ensures so_far.value;
