@@ -1,8 +1,8 @@
 -- The bounds between which a child is entered, and the keys that belong to it.
-use Rattle.std.proofs.Common.{◌≡◌, ◌≤◌, ◌<◌, ◌+◌, ℕ, zero, suc, Bool, true, false, not, ◌&&◌, cond, List, [], ◌∷◌, get_or, length, slice_get, refl, sym, ap, ◌∙◌, true≢false, arith}
+use Rattle.std.proofs.Common.{◌≡◌, ◌≤◌, ◌<◌, ◌+◌, Bor, ℕ, zero, suc, Bool, true, false, not, ◌&&◌, cond, List, [], ◌∷◌, get_or, length, slice_get, refl, sym, ap, ◌∙◌, true≢false, arith}
 use Rattle.std.specs.declared.option.Option.{Option}
 use Rattle.std.specs.declared.option.Option.TheVariants.{None, Some}
-use Rattle.std.specs.Option.{option_or}
+use Rattle.std.specs.Option.{option_copied, option_or}
 use Rattle.bt_keycode.specs.Keys.{Key, is_before, is_before_lower, is_before_upper, is_between}
 use Rattle.bt_node.specs.Lookups.{first_place, pivots_up_to}
 use Rattle.bt_node.specs.Parts.{AreRising}
@@ -136,3 +136,8 @@ module _ (low to : Option Key) (p : Key) (ps : List Key) (place : ℕ) (is : nex
       go : (l : Option Key) → place ≡ first_place l ps → is_before_lower l p ≡ false
       go None b = refl
       go (Some k) b = not_after k p (next_past k p ps (ap (slice_get ps) (sym b) ∙ next_there))
+
+-- copies of a choice are a choice of copies
+pub or_copied : (a b : Option (Bor Key)) → option_copied (option_or a b) ≡ option_or (option_copied a) (option_copied b)
+or_copied None b = refl
+or_copied (Some a) b = refl
