@@ -31,3 +31,37 @@ returns g t c =
     (c.new.ensures
     ∙ leaf_part effect (option_copied c.args.from) (option_copied c.args.to) c.args.newer c.args.node.now c.in-Leaf.rows c.between.result.now c.requires.within c.requires.order
     (ap (holds effect) (c.kind.ensures ∙ ap tree_of c.in-Leaf.is)) c.between.ensures.rows)
+
+pub returns-then-is_none : goal.returns-then-is_none
+returns-then-is_none g t c =
+    let effect = effect_of g.V.Merge.merged in
+    let low = option_copied c.loop-place.low in
+    let to = option_copied c.args.to in
+    let next = option_copied c.next_pivot-next.result in
+    let high = option_copied c.or-high.result in
+    let here = c.kind.ensures ∙ ap tree_of c.in-Inner.is in
+    let chosen : c.or-high.result ≡ option_or c.next_pivot-next.result c.args.to = search rules in
+    let high_is : high ≡ option_or next to = ap option_copied chosen ∙ or_copied c.next_pivot-next.result c.args.to in
+    let none : next ≡ None = search rules in
+    let there : c.loop-place.place < length c.nodes.result.now =
+    omega (arith, c.loop-place-test.true, c.len-place-end.ensures.count, ap length c.nodes.ensures, length-map c.in-Inner.children (λ x. x.1)) in
+    last_part effect c.args.node.now c.in-Inner.children c.in-Inner.buffer here c.requires.order c.nodes.result.now c.pivots-pivots.result.now c.loop-place.place c.index-nodes-place.result
+    c.nodes.ensures c.pivots-pivots.ensures.pivots c.pivots-pivots.ensures.some there c.index-nodes-place.is low high c.loop-place.newer c.in_ok-above-in-Inner.above c.pending.result c.in_ok-messages-in-Inner.messages
+    (λ q inside. belongs low to next high c.pivots-pivots.result.now c.loop-place.place q c.loop-place.invariant.begins c.next_pivot-next.ensures high_is inside)
+    c.pending.ensures.messages c.pending.ensures.sorted c.in_ok-above-in-Inner.ensures.taken c.in_ok-messages-in-Inner.ensures
+    (all_rows c.loop-place.parts.items) (all_rows c.add_parts_between.new.parts.items) _ to (high_is ∙ ap (λ n. option_or n to) none) c.loop-place.invariant.wanted c.in_ok-add_parts_between-in-Inner.ensures
+
+pub add_parts_between-requires : goal.add_parts_between-requires
+add_parts_between-requires g t c κs within =
+    let low = option_copied c.loop-place.low in
+    let high = option_copied c.or-high.result in
+    let here = c.kind.ensures ∙ ap tree_of c.in-Inner.is in
+    let there : c.loop-place.place < length c.nodes.result.now =
+    omega (arith, c.loop-place-test.true, c.len-place-end.ensures.count, ap length c.nodes.ensures, length-map c.in-Inner.children (λ x. x.1)) in
+    let lower = child_lower c.args.node.now c.in-Inner.children c.in-Inner.buffer here c.nodes.result.now c.nodes.ensures c.loop-place.place c.index-nodes-place.result there c.index-nodes-place.is in
+    let order = child_in_order c.args.node.now c.in-Inner.children c.in-Inner.buffer here c.nodes.result.now c.nodes.ensures c.loop-place.place c.index-nodes-place.result there c.index-nodes-place.is c.requires.order in
+    let sorted = subst IsSorted (sym c.in_ok-messages-in-Inner.ensures) (sorted-with_messages c.in_ok-above-in-Inner.above c.pending.result c.pending.ensures.sorted) in
+    let above = subst (AllWithin low high) (sym c.in_ok-above-in-Inner.ensures.taken) (cut-within low (option_copied c.args.to) high c.loop-place.newer c.loop-place.invariant.within) in
+    let own = subst (AllWithin low high) (sym c.pending.ensures.messages) (between-within low high c.in-Inner.buffer) in
+    let inside = subst (AllWithin low high) (sym c.in_ok-messages-in-Inner.ensures) (within-with_messages low high c.in_ok-above-in-Inner.above c.pending.result above own) in
+    (omega (arith, lower, c.decreases), (within.0, (within.1, record { order = order; sorted = sorted; within = inside })))
