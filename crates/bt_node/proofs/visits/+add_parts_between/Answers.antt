@@ -64,4 +64,4 @@ add_parts_between-requires g t c κs within =
     let above = subst (AllWithin low high) (sym c.in_ok-above-in-Inner.ensures.taken) (cut-within low (option_copied c.args.to) high c.loop-place.newer c.loop-place.invariant.within) in
     let own = subst (AllWithin low high) (sym c.pending.ensures.messages) (between-within low high c.in-Inner.buffer) in
     let inside = subst (AllWithin low high) (sym c.in_ok-messages-in-Inner.ensures) (within-with_messages low high c.in_ok-above-in-Inner.above c.pending.result above own) in
-    (omega (arith, lower, c.decreases), (within.0, (within.1, record { order = order; sorted = sorted; within = inside })))
+    (omega (arith, lower, c.decreases), (within.0, (within.1, (order, (sorted, inside)))))
