@@ -40,6 +40,14 @@ impl<'a, V: Merge> Messages<'a, V> {
         self.left.len()
     }
 
+    /// The same messages, to be gone through again.
+    pub fn again(&self) -> Self
+        ensures messages { result ≡ self.now }
+        ensures sorted { IsSorted self.now }
+    {
+        Messages { left: self.left }
+    }
+
     // The messages of a list that is sorted by key.
     pub(crate) fn of_sorted(messages: &'a [(Key, Message<V>)]) -> Self
         requires { IsSorted messages.now }

@@ -1,27 +1,19 @@
-//! The value at a key, looked up along one path.
+//! The value at a key, looked up along one path from the root, as far down as it takes.
 ghost use Rattle.std.specs.Prelude.{◌≡◌, ◌<◌, ◌≤◌, [], IfOk, length, slice_index_or};
-ghost use Rattle.std.specs.Option.{option_copied};
+ghost use Rattle.bt_keycode.specs.Keys.{AllFrom, IsSorted};
 ghost use Rattle.bt_messages.specs.Effects.{effect_of};
 ghost use Rattle.bt_node.specs.Fits.{IsInOrder};
 ghost use Rattle.bt_node.specs.Lookups.{pivots_up_to, value_at};
 ghost use Rattle.bt_node.specs.Messages.{value_after};
 ghost use Rattle.bt_node.specs.Parts.{AreRising};
+ghost use Rattle.bt_node.specs.inside.Held.{BeginsWith, value_of};
 
+use crate::held::{Held, reset};
 use crate::node::{Kind, Node};
 use bt_keycode::Key;
-use bt_messages::{Bins, Merge, effect_borrowed};
+use bt_messages::{Bins, Merge, Messages};
 use std::alloc::{AllocError, Global};
 use std::cmp::Ordering;
-
-// A copy of a value, where there is one.
-fn copied<V: Merge>(alloc: Global, value: Option<&V>) -> Result<Option<V>, AllocError>
-    ensures { IfOk result (λ copy. copy ≡ option_copied value.entry) }
-{
-    match value {
-        Some(value) => Ok(Some(value.copy(alloc)?)),
-        None => Ok(None),
-    }
-}
 
 /// How many of these pivots are at most the key, found by halving.
 pub(crate) fn pivots_up_to(pivots: &[Key], key: &Key) -> usize
@@ -32,43 +24,76 @@ pub(crate) fn pivots_up_to(pivots: &[Key], key: &Key) -> usize
     pivots.partition_point(|pivot| key.compare(pivot) != Ordering::Less)
 }
 
-// What the messages to a key in the bin of its child make of the value there.
-fn after_messages<V: Merge>(
-    alloc: Global,
-    bins: &Bins<V>,
-    place: usize,
-    key: &Key,
-    old: Option<V>,
-) -> Result<Option<V>, AllocError>
+// The messages to a key in the bin of its child after the last put or del, and what that one leaves: nothing before it counts, here or
+// below. They may be followed by messages to later keys.
+#[derive(Drop)]
+struct Newest<'a, V: Merge> {
+    start: Option<Held<'a, V>>,
+    left: Messages<'a, V>,
+}
+
+fn since_reset<'a, V: Merge>(bins: &'a Bins<V>, place: usize, key: &Key) -> Newest<'a, V>
     requires { place < length bins.now }
-    ensures { IfOk result (λ value. value ≡ value_after (effect_of V.merged) key.now (slice_index_or bins.now place []) old) }
+    ensures value { BeginsWith (effect_of V.merged) key.now (slice_index_or bins.now place []) result.start result.left }
+    ensures from { AllFrom key.now result.left }
+    ensures sorted { IsSorted result.left }
+{
+    let mut start = None;
+    let mut left = bins.bin_from(place, key);
+    let mut rest = left.again();
+    while let Some((at, message)) = rest.next() {
+        if at.compare(key) != Ordering::Equal {
+            return Newest { start, left };
+        }
+        if let Some(held) = reset(message) {
+            start = Some(held);
+            left = rest.again();
+        }
+    }
+    Newest { start, left }
+}
+
+// What the messages to a key make of what it has.
+fn after_messages<'a, V: Merge>(
+    alloc: Global,
+    messages: Messages<'a, V>,
+    key: &Key,
+    old: Held<'a, V>,
+) -> Result<Held<'a, V>, AllocError>
+    requires from { AllFrom key.now messages }
+    requires sorted { IsSorted messages }
+    ensures { IfOk result (λ value. value_of value ≡ value_after (effect_of V.merged) key.now messages.entry (value_of old.entry)) }
 {
     let mut value = old;
-    for (at, message) in bins.bin_from(place, key) {
+    for (at, message) in messages {
         if at.compare(key) != Ordering::Equal {
             return Ok(value);
         }
-        value = effect_borrowed(alloc, value, message)?;
+        value = value.after(alloc, message)?;
     }
     Ok(value)
 }
 
-/// The value at a key below a node, along one path: what the messages to it make of the value in its leaf, those nearer to the
-/// leaf first.
-pub(crate) fn value_at<V: Merge>(
+/// What a key has below a node: what the messages to it, from the last put or del on, make of what that one leaves, or of the value
+/// in its leaf where there is none. A value is lent unless an upsert changes it.
+pub(crate) fn value_at<'a, V: Merge>(
     alloc: Global,
-    node: &Node<V>,
+    node: &'a Node<V>,
     key: &Key,
-) -> Result<Option<V>, AllocError>
+) -> Result<Held<'a, V>, AllocError>
     requires { IsInOrder node.now }
-    ensures { IfOk result (λ value. value ≡ value_at (effect_of V.merged) key.now node.now) }
+    ensures { IfOk result (λ value. value_of value ≡ value_at (effect_of V.merged) key.now node.now) }
 {
     match node.kind() {
-        Kind::Leaf(rows) => copied(alloc, rows.find(key)),
+        Kind::Leaf(rows) => Ok(Held::found(rows.find(key))),
         Kind::Inner { children, bins } => {
             let place = pivots_up_to(children.pivots(), key);
+            let Newest { start, left } = since_reset(bins, place, key);
+            if let Some(held) = start {
+                return after_messages(alloc, left, key, held);
+            }
             let old = value_at(alloc, &children.nodes()[place], key)?;
-            after_messages(alloc, bins, place, key, old)
+            after_messages(alloc, left, key, old)
         }
     }
 }

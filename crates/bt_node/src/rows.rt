@@ -1,15 +1,15 @@
 //! Rows: the entries of a map in order.
-ghost use Rattle.std.specs.Prelude.{◌≡◌, ◌+◌, ◌<◌, ◌≤◌, ◌++◌, ◌^◌, [], IfOk, IsTrue, OnOk, Some, None, drop, length, take, option_map, slice_get, vec_len, vec_capacity};
+ghost use Rattle.std.specs.Prelude.{◌≡◌, ◌+◌, ◌<◌, ◌≤◌, ◌++◌, [], IfOk, IsTrue, OnOk, Some, None, drop, length, take, option_map, slice_get, vec_len, vec_capacity};
 ghost use Rattle.std.specs.FinMap.{find, is_sorted};
 ghost use Rattle.std.specs.Option.{option_copied, option_to_list};
 ghost use Rattle.bt_messages.specs.Effects.{effect_of};
 ghost use Rattle.bt_node.specs.Deals.{deal};
-ghost use Rattle.bt_keycode.specs.Keys.{IsSorted, key_cmp};
+ghost use Rattle.bt_keycode.specs.Keys.{key_cmp};
 ghost use Rattle.bt_node.specs.Messages.{before, between, from, rows_after, with_value};
 
 use crate::deal;
 use bt_keycode::Key;
-use bt_messages::{Merge, Messages, Stream, between, effect, effect_borrowed};
+use bt_messages::{Merge, Stream, between, effect};
 use std::alloc::{AllocError, Global};
 use std::cmp::Ordering;
 use std::collections::VecDeque;
@@ -68,17 +68,6 @@ fn take_first<V: Merge>(rows: &mut VecDeque<(Key, V)>, key: &Key) -> Option<V>
     Some(value)
 }
 
-// A copy of keys and their values.
-fn copied<V: Merge>(alloc: Global, rows: &[(Key, V)]) -> Result<Vec<(Key, V)>, AllocError>
-    ensures { IfOk result (λ copies. copies.items ≡ rows.now) }
-{
-    let mut copies = Vec::with_capacity(alloc, rows.len())?;
-    for (key, value) in rows {
-        copies.push((key.copy(alloc)?, value.copy(alloc)?))?;
-    }
-    Ok(copies)
-}
-
 // Puts a row in front of the others, where there is a value.
 fn put_front<V: Merge>(
     rows: &mut VecDeque<(Key, V)>,
@@ -94,22 +83,6 @@ fn put_front<V: Merge>(
     Ok(())
 }
 
-// Puts a row in front of the others, with a copy of the key, where there is a value.
-fn put_copied_front<V: Merge>(
-    alloc: Global,
-    rows: &mut VecDeque<(Key, V)>,
-    key: &Key,
-    value: Option<V>,
-) -> Result<(), AllocError>
-    ensures row { OnOk result (rows.new.items ≡ option_to_list (option_map (λ v. (key.now, v)) value) ++ rows.old.items) }
-    ensures len { OnOk result (length rows.new.items ≤ length rows.old.items + 1) }
-{
-    if let Some(value) = value {
-        rows.push_front((key.copy(alloc)?, value))?;
-    }
-    Ok(())
-}
-
 impl<V: Merge> Rows<V> {
     /// No row.
     pub(crate) fn new(alloc: Global) -> Self
@@ -120,33 +93,12 @@ impl<V: Merge> Rows<V> {
         }
     }
 
-    /// Rows that are sorted already.
-    pub(crate) fn from_sorted(rows: Vec<(Key, V)>) -> Self
-        requires { IsTrue (is_sorted key_cmp rows.items) }
-        ensures { result ≡ rows.items }
+    /// The rows with a key at or past `from` and before `to`, by rising key. A bound that is absent doesn't limit.
+    pub(crate) fn between(&self, from: Option<&Key>, to: Option<&Key>) -> &[(Key, V)]
+        ensures rows { result.now ≡ between (option_copied from.entry) (option_copied to.entry) self.now }
+        ensures sorted { IsTrue (is_sorted key_cmp result.now) }
     {
-        Rows { rows }
-    }
-
-    /// The rows as pairs of a key and a value, by rising key.
-    pub(crate) fn into_vec(self) -> Vec<(Key, V)>
-        ensures { result.items ≡ self }
-    {
-        let Rows { rows } = self;
-        rows
-    }
-
-    /// Copies of the rows with a key at or past `from` and before `to`. A bound that is absent doesn't limit.
-    pub(crate) fn copy_between(
-        &self,
-        alloc: Global,
-        from: Option<&Key>,
-        to: Option<&Key>,
-    ) -> Result<Self, AllocError>
-        ensures { IfOk result (λ rows. rows ≡ between (option_copied from.entry) (option_copied to.entry) self.now) }
-    {
-        let rows = between(self.rows.as_slice(), from, to);
-        Ok(Rows::from_sorted(copied(alloc, rows)?))
+        between(self.rows.as_slice(), from, to)
     }
 
     /// The number of rows.
@@ -211,35 +163,6 @@ impl<V: Merge> Rows<V> {
             changed.push_reserved(row);
         }
         changed.shrink_to(changed.len() + changed.len() / 8);
-        Ok(Rows { rows: changed })
-    }
-
-    /// The rows after messages, in one merge. The messages stay: what they put is copied.
-    pub(crate) fn after_messages(
-        self,
-        alloc: Global,
-        messages: Messages<'_, V>,
-    ) -> Result<Self, AllocError>
-        requires sorted { IsSorted messages }
-        requires bound { length messages < 2 ^ 63 }
-        ensures { IfOk result (λ rows. rows ≡ rows_after (effect_of V.merged) messages.entry self) }
-    {
-        let count = messages.count_left();
-        if count == 0 {
-            return Ok(self);
-        }
-        let Rows { rows } = self;
-        let mut changed = Vec::with_capacity(alloc, rows.len() + count)?;
-        let mut older = VecDeque::from(rows);
-        for (key, message) in messages {
-            move_before(&mut changed, &mut older, key);
-            let old = take_first(&mut older, key);
-            let new = effect_borrowed(alloc, old, message)?;
-            put_copied_front(alloc, &mut older, key, new)?;
-        }
-        for row in older {
-            changed.push_reserved(row);
-        }
         Ok(Rows { rows: changed })
     }
 

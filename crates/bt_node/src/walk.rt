@@ -1,5 +1,5 @@
 //! What can be seen of a tree, node by node.
-ghost use Rattle.std.specs.Prelude.{◌≡◌, ◌<◌, Some, length, option_map, slice_get, IfOk, IsTrue};
+ghost use Rattle.std.specs.Prelude.{◌≡◌, ◌<◌, Some, fold, length, option_map, slice_get, IfOk, IsTrue, OnOk};
 ghost use Rattle.std.specs.FinMap.{find, is_sorted};
 ghost use Rattle.std.specs.Option.{option_copied};
 ghost use Rattle.bt_keycode.specs.Keys.{key_cmp};
@@ -11,7 +11,8 @@ ghost use Rattle.bt_node.specs.Walks as walk;
 
 use crate::lookup::value_at;
 use crate::node::{Kind, Node};
-use crate::rows_between::rows_between;
+use crate::visitor::{Copies, Visitor};
+use crate::visits::visit_between;
 use bt_keycode::Key;
 use bt_messages::{Joined, Merge};
 use std::alloc::{AllocError, Global};
@@ -131,7 +132,23 @@ impl<'a, V: Merge> Walk<'a, V> {
         requires { IsInOrder self.now }
         ensures { IfOk result (λ value. value ≡ find key_cmp key.now (holds (effect_of V.merged) self.now)) }
     {
-        value_at(alloc, self.node, key)
+        value_at(alloc, self.node, key)?.into_value(alloc)
+    }
+
+    /// Shows a visitor the rows with a key at or past `from` and before `to`, when all messages here and below have had their effect, by
+    /// rising key. A bound that is absent doesn't limit. Values are lent from where they stand, and copied where an upsert changes them;
+    /// subtrees outside of the bounds are not entered. An `Err` is the visitor's, or for want of memory.
+    pub fn visit<S: Visitor<V>>(
+        &self,
+        alloc: Global,
+        from: Option<&Key>,
+        to: Option<&Key>,
+        visitor: &mut S,
+    ) -> Result<(), AllocError>
+        requires { IsInOrder self.now }
+        ensures { OnOk result (visitor.new ≡ fold S.visited visitor.old (between (option_copied from.entry) (option_copied to.entry) (holds (effect_of V.merged) self.now))) }
+    {
+        visit_between(alloc, self.node, from, to, visitor)
     }
 
     /// Copies of the rows with a key at or past `from` and before `to`, when all messages here and below have had their effect, by
@@ -146,6 +163,8 @@ impl<'a, V: Merge> Walk<'a, V> {
         ensures rows { IfOk result (λ rows. rows.items ≡ between (option_copied from.entry) (option_copied to.entry) (holds (effect_of V.merged) self.now)) }
         ensures sorted { IfOk result (λ rows. IsTrue (is_sorted key_cmp rows.items)) }
     {
-        Ok(rows_between(alloc, self.node, from, to)?.into_vec())
+        let mut copies = Copies::new(alloc);
+        self.visit(alloc, from, to, &mut copies)?;
+        Ok(copies.into_rows())
     }
 }

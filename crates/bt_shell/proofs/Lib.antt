@@ -1,6 +1,7 @@
 pub mod Batches
 pub mod Drawings
 pub mod KeyOrder
+pub mod Lines
 pub mod Sound
 pub mod Standing
 pub mod Turns

@@ -14,7 +14,7 @@ use Rattle.bt_rowtype.specs.declared.refusal.Refusal.TheVariants.{BadSchema, Bad
 use Rattle.bt_rowtype.specs.declared.value.Value.{Value}
 use Rattle.bt_keycode.specs.Codes.{code_of}
 use Rattle.bt_messages.specs.declared.message.Message.TheVariants as message
-use Rattle.bt_keycode.specs.Keys.{key_cmp}
+use Rattle.bt_keycode.specs.Keys.{Key, key_cmp}
 use Rattle.bt_node.specs.Messages.{Rows}
 use Rattle.bt_node.specs.Shapes.{is_shape}
 use Rattle.bt_script.specs.Commands.{Answer, is_word}
@@ -104,6 +104,10 @@ count_line word count = word ++ (decimal count ++ codes "\n")
 -- the line of a row
 abbrev pub row_line : List Value → List ℕ
 row_line row = codes "row " ++ (record_text (map text_of row) ++ codes "\n")
+
+-- the lines of rows and their number, with one more row
+abbrev pub with_line : List ℕ × ℕ → Key × List Value → List ℕ × ℕ
+with_line lines row = (lines.0 ++ row_line row.1, lines.1 + 1)
 
 -- the lines of all rows, and their number
 abbrev pub scan_reply : Rows (List Value) → List ℕ

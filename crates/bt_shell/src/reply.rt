@@ -1,12 +1,14 @@
 //! The texts of replies.
-ghost use Rattle.std.specs.Prelude.{◌≡◌, ◌++◌, IfOk, None, OnOk, Some, decimal, flat_map, map};
+ghost use Rattle.std.specs.Prelude.{◌≡◌, ◌++◌, ◌+◌, [], IfOk, None, OnOk, Some, codes, decimal, length};
 ghost use Rattle.bt_shell.specs.Steps.{count_line, item_text, refused_text, row_line};
 ghost use Rattle.bt_shell.specs.Steps as step;
 
 use bt_keycode::Key;
+use bt_node::Visitor;
 use bt_rowtype::{Refusal, Row, write_record};
 use itoa::Buffer;
 use std::alloc::{AllocError, Global};
+use std::marker::Model;
 
 pub(crate) fn write_number(out: &mut Vec<u8>, number: u64) -> Result<(), AllocError>
     ensures { OnOk result (out.new.items ≡ out.old.items ++ decimal number) }
@@ -54,14 +56,53 @@ pub fn row_reply(alloc: Global, row: Option<Row>) -> Result<Vec<u8>, AllocError>
     Ok(text)
 }
 
-/// Adds the lines of rows.
-pub fn write_rows(out: &mut Vec<u8>, rows: &[(Key, Row)]) -> Result<(), AllocError>
-    ensures { OnOk result (out.new.items ≡ out.old.items ++ flat_map row_line (map (λ p. p.1) rows.now)) }
-{
-    for row in rows {
-        write_row(out, &row.1)?;
+/// The lines of rows, written as the rows come. A contract sees the rows' lines and their number.
+#[derive(Drop)]
+pub struct RowLines {
+    text: Vec<u8>,
+    count: usize,
+}
+
+impl Model for RowLines {
+    ghost use Rattle.std.specs.Prelude.{◌≤◌, List, length, ℕ};
+
+    ghost Value = { List ℕ × ℕ };
+
+    ghost view = { λ l. (l.text.items, l.count) };
+
+    // Each line has a byte at least, so the number doesn't wrap.
+    ghost invariant = { λ l. l.count ≤ length l.text.items };
+}
+
+impl RowLines {
+    /// No line.
+    pub fn new(alloc: Global) -> Self
+        ensures { result ≡ ([], 0) }
+    {
+        RowLines {
+            text: Vec::new(alloc),
+            count: 0,
+        }
     }
-    Ok(())
+
+    /// The lines, and then their number.
+    pub fn into_reply(self) -> Result<Vec<u8>, AllocError>
+        ensures { IfOk result (λ text. text.items ≡ self.0 ++ count_line (codes "rows ") self.1) }
+    {
+        let RowLines { mut text, count } = self;
+        write_count(&mut text, b"rows ", count)?;
+        Ok(text)
+    }
+}
+
+impl Visitor<Row> for RowLines {
+    ghost visited = { step.with_line };
+
+    fn visit(&mut self, _alloc: Global, _key: &Key, row: &Row) -> Result<(), AllocError> {
+        write_row(&mut self.text, row)?;
+        self.count += 1;
+        Ok(())
+    }
 }
 
 // Adds the item of a refusal behind a space, where it has one.

@@ -8,7 +8,7 @@ ghost use Rattle.bt_script.specs.declared.command.Command.TheVariants as command
 
 use crate::batch::apply_batch;
 use crate::image::image_text;
-use crate::reply::{count_reply, refusal_reply, row_reply, write_count, write_rows};
+use crate::reply::{RowLines, count_reply, refusal_reply, row_reply};
 use crate::table::Table;
 use bt_node::Shape;
 use bt_rowtype::{Fields, Refusal, Schema, Text, read_key};
@@ -48,11 +48,9 @@ fn batch(alloc: Global, table: &mut Option<Table>, items: &Items) -> Result<usiz
 fn scan_text(alloc: Global, table: &Table) -> Result<Vec<u8>, AllocError>
     ensures { IfOk result (λ text. text.items ≡ step.scan_reply table.now.rows) }
 {
-    let mut text = Vec::new(alloc);
-    let rows = table.rows(alloc)?;
-    write_rows(&mut text, rows.as_slice())?;
-    write_count(&mut text, b"rows ", rows.len())?;
-    Ok(text)
+    let mut lines = RowLines::new(alloc);
+    table.visit(alloc, &mut lines)?;
+    lines.into_reply()
 }
 
 fn is_primary(tree: &Text) -> bool

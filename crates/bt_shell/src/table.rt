@@ -1,5 +1,5 @@
 //! A table.
-ghost use Rattle.std.specs.Prelude.{◌≡◌, IfOk, OnOk};
+ghost use Rattle.std.specs.Prelude.{◌≡◌, IfOk, OnOk, fold};
 ghost use Rattle.std.specs.FinMap.{find};
 ghost use Rattle.bt_keycode.specs.Codes.{code_of};
 ghost use Rattle.bt_keycode.specs.Keys.{key_cmp};
@@ -8,7 +8,7 @@ ghost use Rattle.bt_shell.specs.Tables.{after_batch, empty_table};
 
 use bt_keycode::{Key, encode};
 use bt_messages::{Message, Packet};
-use bt_node::{Shape, Tree, Walk};
+use bt_node::{Shape, Tree, Visitor, Walk};
 use bt_rowtype::{Row, Schema, Value};
 use std::alloc::{AllocError, Global};
 use std::marker::Model;
@@ -78,12 +78,12 @@ impl Table {
         self.tree.get(alloc, &key)
     }
 
-    /// All rows behind the codes of their keys. They strictly rise by the values of their key columns.
-    pub fn rows(&self, alloc: Global) -> Result<Vec<(Key, Row)>, AllocError>
-        ensures all { IfOk result (λ rows. rows.items ≡ self.now.rows) }
-        ensures order { IfOk result (λ rows. KeysRise self.now.schema rows.items) }
+    /// Shows all rows, behind the codes of their keys. They strictly rise by the values of their key columns.
+    pub fn visit<S: Visitor<Row>>(&self, alloc: Global, visitor: &mut S) -> Result<(), AllocError>
+        ensures all { OnOk result (visitor.new ≡ fold S.visited visitor.old self.now.rows) }
+        ensures order { KeysRise self.now.schema self.now.rows }
     {
-        self.tree.rows(alloc)
+        self.tree.walk().visit(alloc, None, None, visitor)
     }
 
     /// The nodes of the tree.

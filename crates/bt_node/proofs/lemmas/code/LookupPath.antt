@@ -5,12 +5,14 @@ use Rattle.std.specs.Ordering.{eq_by_cmp, is_eq, is_lt, ordering_index, ordering
 use Rattle.std.specs.declared.cmp.Ordering.{Ordering}
 use Rattle.std.specs.declared.cmp.Ordering.TheVariants.{Less, Equal, Greater}
 use Rattle.std.specs.declared.option.Option.{Option}
-use Rattle.std.specs.declared.option.Option.TheVariants.{None}
+use Rattle.std.specs.declared.option.Option.TheVariants.{None, Some}
 use Rattle.bt_keycode.specs.Keys.{AllFrom, Key, key_cmp, is_before, IsSorted}
 use Rattle.bt_messages.specs.declared.message.Message.{Message}
 use Rattle.bt_node.specs.Messages.{Messages, from, value_after}
 use Rattle.bt_node.specs.Trees.{Siblings, Tree, inner, nodes}
 use Rattle.bt_node.specs.Lookups.{pivots_up_to, value_at, value_below}
+use Rattle.bt_node.specs.inside.Held.{BeginsWith, Resets, begun, value_of}
+use Rattle.bt_node.specs.declared.held.Held.{Held}
 use Rattle.bt_keycode.proofs.offered.Order.{all_within-from, apart_back, not_before_itself, total_keys}
 use Rattle.bt_node.proofs.lemmas.keys.SortedLists.{sorted-where}
 use Rattle.bt_node.proofs.lemmas.rows.Values.{value-above}
@@ -39,7 +41,7 @@ module _ {V D : Type 0} (effect : Option V → Message V D → Option V) where
         | false ↦ one_child k y ys d
       ]
 
-  child_at : (k : Key) (xs : Siblings V (Message V D)) (d : Tree V (Message V D)) → 1 ≤ length xs →
+  pub child_at : (k : Key) (xs : Siblings V (Message V D)) (d : Tree V (Message V D)) → 1 ≤ length xs →
       value_below effect k (nodes xs) ≡ value_at effect k (get_or (map (λ y. y.1) xs) (pivots_up_to k (map (λ y. y.0) (drop 1 xs))) d)
   child_at k [] d some = absurd (omega (arith, some))
   child_at k (x ∷ xs) d some = one_child k x xs d
@@ -56,14 +58,32 @@ module _ {V D : Type 0} (effect : Option V → Message V D → Option V) where
 
   -- ---- messages
 
+  -- what messages with a start make of the value below
+  pub begins_at : (k : Key) (buffer left : Messages (Message V D)) (start at : Option (Held V D)) (value : Option V) → BeginsWith effect k buffer start left → start ≡ at →
+      value_after effect k left (begun at value) ≡ value_after effect k buffer value
+  begins_at k buffer left start at value begins is = sym (begins value ∙ ap (λ s. value_after effect k left (begun s value)) is)
+
+  -- the value in an inner node whose messages leave nothing of the one below
+  pub along_reset : (k : Key) (xs : Siblings V (Message V D)) (buffer left : Messages (Message V D)) (node : Tree V (Message V D)) (start : Option (Held V D)) (held : Held V D) →
+      node ≡ inner (nodes xs) buffer → BeginsWith effect k buffer start left → start ≡ Some held → value_after effect k left (value_of held) ≡ value_at effect k node
+  along_reset k xs buffer left node start held here begins is = begins_at k buffer left start (Some held) (value_below effect k (nodes xs)) begins is ∙ sym (ap (value_at effect k) here)
+
+  -- what all messages make of a value at a key, those that are left make of some value
+  abbrev pub LeadsTo : Key → Messages (Message V D) → Messages (Message V D) → Type 0
+  LeadsTo k ms left = (old : Option V) → (value : Option V) × (value_after effect k ms old ≡ value_after effect k left value)
+
+  -- those before a key change nothing at it or past it
+  pub value_after-later : (p k : Key) (ms : Messages (Message V D)) (o : Option V) → is_before k p ≡ false → value_after effect k (from p ms) o ≡ value_after effect k ms o
+  value_after-later p k [] o later = refl
+  value_after-later p k (m ∷ ms) o later = elim (is_before m.0 p) as (λ b. is_before m.0 p ≡ b →
+      value_after effect k (cond (not b) (m ∷ from p ms) (from p ms)) o ≡ value_after effect k ms (cond (eq_by_cmp key_cmp k m.0) (effect o m.1) o)) [
+        | true ↦ λ t. value_after-later p k ms o later ∙ ap (λ b. value_after effect k ms (cond b (effect o m.1) o)) (sym (apart_back m.0 p k t later))
+        | false ↦ λ t. value_after-later p k ms (cond (eq_by_cmp key_cmp k m.0) (effect o m.1) o) later
+      ] refl
+
   -- those of earlier keys change nothing
   pub value_after-from : (k : Key) (ms : Messages (Message V D)) (o : Option V) → value_after effect k (from k ms) o ≡ value_after effect k ms o
-  value_after-from k [] o = refl
-  value_after-from k (m ∷ ms) o = elim (is_before m.0 k) as (λ b. is_before m.0 k ≡ b →
-      value_after effect k (cond (not b) (m ∷ from k ms) (from k ms)) o ≡ value_after effect k ms (cond (eq_by_cmp key_cmp k m.0) (effect o m.1) o)) [
-        | true ↦ λ t. value_after-from k ms o ∙ ap (λ b. value_after effect k ms (cond b (effect o m.1) o)) (sym (apart_back m.0 k k t (not_before_itself k)))
-        | false ↦ λ t. value_after-from k ms (cond (eq_by_cmp key_cmp k m.0) (effect o m.1) o)
-      ] refl
+  value_after-from k ms o = value_after-later k k ms o (not_before_itself k)
 
   pub all_from : (k : Key) (ms : Messages (Message V D)) → AllFrom k (from k ms)
   all_from k [] = tt
@@ -88,6 +108,17 @@ module _ {V D : Type 0} (effect : Option V → Message V D → Option V) where
         ∙ ap (λ b. value_after effect k rest (cond b (effect value m) value)) (tied k at o compared test)
         ∙ ap (value_after effect k rest) (sym is)
 
+    -- so it goes on with the others
+    pub goes_on : false ≡ not (ordering_index o == 1) → (buffer : Messages (Message V D)) → LeadsTo k buffer ms → LeadsTo k buffer rest
+    goes_on test buffer leads old = let so_far = leads old in (effect so_far.0 m, so_far.1 ∙ one_more test so_far.0 (effect so_far.0 m) refl)
+
+    -- and begins anew where the message leaves nothing of the value
+    pub begins_anew : false ≡ not (ordering_index o == 1) → (buffer left : Messages (Message V D)) (held : Held V D) → LeadsTo k buffer ms → Resets effect m (value_of held) → left ≡ rest →
+        BeginsWith effect k buffer (Some held) left
+    begins_anew test buffer left held leads resets is old =
+        let so_far = leads old in
+        so_far.1 ∙ one_more test so_far.0 (value_of held) (sym (resets so_far.0)) ∙ ap (λ zs. value_after effect k zs (value_of held)) (sym is)
+
     pub rest_from : AllFrom k ms → AllFrom k rest
     rest_from all = (subst (AllFrom k) here all).1
 
@@ -97,6 +128,10 @@ module _ {V D : Type 0} (effect : Option V → Message V D → Option V) where
   -- what the messages from the key on make of a value, in order and from the key on
   pub all_left : (k : Key) (buffer ms : Messages (Message V D)) (old : Option V) → ms ≡ from k buffer → value_after effect k buffer old ≡ value_after effect k ms old
   all_left k buffer ms old is = sym (ap (λ xs. value_after effect k xs old) is ∙ value_after-from k buffer old)
+
+  -- before any is looked at
+  pub leads_from : (k : Key) (buffer ms : Messages (Message V D)) → ms ≡ from k buffer → LeadsTo k buffer ms
+  leads_from k buffer ms is old = (old, all_left k buffer ms old is)
 
   pub left_from : (k : Key) (buffer ms : Messages (Message V D)) → ms ≡ from k buffer → AllFrom k ms
   left_from k buffer ms is = subst (AllFrom k) (sym is) (all_from k buffer)

@@ -1,6 +1,7 @@
 -- One pass that changes rows by messages.
-use Rattle.std.proofs.Common.{◌≡◌, ◌∙◌, ℕ, zero, suc, Bool, true, false, not, ◌&&◌, cond, T, List, [], ◌∷◌, ◌++◌, append_assoc, length, get_or, take, drop, append-nil, refl, sym, ap, subst, true≢false, arith, option_to_list, option_map}
+use Rattle.std.proofs.Common.{◌≡◌, ◌∙◌, ◌-◌, ◌≤◌, ℕ, zero, suc, Bool, true, false, not, ◌&&◌, cond, T, List, [], ◌∷◌, ◌++◌, append_assoc, length, get_or, take, drop, append-nil, refl, sym, ap, subst, true≢false, arith, option_to_list, option_map}
 use Rattle.std.proofs.lemmas.Bool.{and_parts}
+use Rattle.std.proofs.lemmas.List.{take_rest}
 use Rattle.std.specs.Ordering.{is_eq, is_lt, ordering_reverse}
 use Rattle.std.specs.FinMap.{find, put, is_sorted, nat_cmp-IsAntisymmetric, slice_cmp-IsAntisymmetric}
 use Rattle.std.specs.FinMap.Entries.{below_all, by_order, is_sorted-put, is_sorted-where_key}
@@ -32,7 +33,7 @@ module _ {V : Type 0} where
       both _ _ (before_chain a b r.0 l parts.0) (all_above a b rs l parts.1)
 
   -- a key before all of the rows has no value there
-  not_among : (k : Key) (rs : Rows V) → below_all key_cmp k rs ≡ true → (find key_cmp k rs ≡ None) × (with_value k None rs ≡ rs)
+  pub not_among : (k : Key) (rs : Rows V) → below_all key_cmp k rs ≡ true → (find key_cmp k rs ≡ None) × (with_value k None rs ≡ rs)
   not_among k [] h = (refl, refl)
   not_among k (r ∷ rs) h =
       let parts = and_parts _ _ h in
@@ -79,7 +80,7 @@ module _ {V : Type 0} where
   pub before_of : (k : Key) (rs later : Rows V) → later ≡ from k rs → before k later ≡ []
   before_of k rs later e = ap (before k) e ∙ none_before_from k rs
 
-  not_before_first : (k : Key) (r : Key × V) (rs : Rows V) → before k (r ∷ rs) ≡ [] → is_before r.0 k ≡ false
+  pub not_before_first : (k : Key) (r : Key × V) (rs : Rows V) → before k (r ∷ rs) ≡ [] → is_before r.0 k ≡ false
   not_before_first k r rs = elim (is_before r.0 k) as (λ b. cond b (r ∷ before k rs) (before k rs) ≡ [] → b ≡ false) [
     | true ↦ λ e. absurd (cc e)
     | false ↦ λ e. refl
@@ -87,10 +88,10 @@ module _ {V : Type 0} where
 
   -- ---- the first row, where none is before the key
 
-  same_key_above : (k : Key) (r : Key × V) (rs : Rows V) → is_sorted key_cmp (r ∷ rs) ≡ true → key_cmp r.0 k ≡ Equal → below_all key_cmp k rs ≡ true
+  pub same_key_above : (k : Key) (r : Key × V) (rs : Rows V) → is_sorted key_cmp (r ∷ rs) ≡ true → key_cmp r.0 k ≡ Equal → below_all key_cmp k rs ≡ true
   same_key_above k r rs h e = subst (λ j. below_all key_cmp j rs ≡ true) (slice_cmp-IsAntisymmetric nat_cmp-IsAntisymmetric r.0 k e) (and_parts _ _ h).0
 
-  first_taken : (k : Key) (r : Key × V) (rs : Rows V) → is_sorted key_cmp (r ∷ rs) ≡ true → key_cmp r.0 k ≡ Equal → (Some r.1 ≡ find key_cmp k (r ∷ rs)) × (rs ≡ with_value k None (r ∷ rs))
+  pub first_taken : (k : Key) (r : Key × V) (rs : Rows V) → is_sorted key_cmp (r ∷ rs) ≡ true → key_cmp r.0 k ≡ Equal → (Some r.1 ≡ find key_cmp k (r ∷ rs)) × (rs ≡ with_value k None (r ∷ rs))
   first_taken k r rs h e =
       let order = turned r.0 k Equal e in
       let others = not_among k rs (same_key_above k r rs h e) in (
@@ -98,7 +99,7 @@ module _ {V : Type 0} where
         sym (ap (λ o. cond (not (is_eq o)) (r ∷ with_value k None rs) (with_value k None rs)) order ∙ others.1),
       )
 
-  above_first : (k : Key) (r : Key × V) (rs : Rows V) → is_sorted key_cmp (r ∷ rs) ≡ true → before k (r ∷ rs) ≡ [] → (key_cmp r.0 k ≡ Equal → ⊥) → below_all key_cmp k (r ∷ rs) ≡ true
+  pub above_first : (k : Key) (r : Key × V) (rs : Rows V) → is_sorted key_cmp (r ∷ rs) ≡ true → before k (r ∷ rs) ≡ [] → (key_cmp r.0 k ≡ Equal → ⊥) → below_all key_cmp k (r ∷ rs) ≡ true
   above_first k r rs h b n = go (key_cmp r.0 k) refl
     where
       go : (o : Ordering) → key_cmp r.0 k ≡ o → below_all key_cmp k (r ∷ rs) ≡ true
@@ -106,7 +107,7 @@ module _ {V : Type 0} where
       go Equal e = absurd (n e)
       go Greater e = let l : is_before k r.0 ≡ true = ap is_lt (turned r.0 k Greater e) in both _ _ l (all_above k r.0 rs l (and_parts _ _ h).0)
 
-  first_kept : (k : Key) (r : Key × V) (rs : Rows V) → is_sorted key_cmp (r ∷ rs) ≡ true → before k (r ∷ rs) ≡ [] → (key_cmp r.0 k ≡ Equal → ⊥) →
+  pub first_kept : (k : Key) (r : Key × V) (rs : Rows V) → is_sorted key_cmp (r ∷ rs) ≡ true → before k (r ∷ rs) ≡ [] → (key_cmp r.0 k ≡ Equal → ⊥) →
       (None ≡ find key_cmp k (r ∷ rs)) × (r ∷ rs ≡ with_value k None (r ∷ rs))
   first_kept k r rs h b n = let none = not_among k (r ∷ rs) (above_first k r rs h b n) in (sym none.0, sym none.1)
 
@@ -116,6 +117,14 @@ module _ {V : Type 0} where
       let tied : key_cmp r.0 k ≡ Equal = sym (ap (λ (x : Key × V). key_cmp x.0 k) (f ∙ ap (λ zs. get_or zs 0 first) e)) ∙ same in
       let taken = first_taken k r rest (subst (λ zs. is_sorted key_cmp zs ≡ true) e h) tied in
       (taken.0 ∙ sym (ap (find key_cmp k) e), taken.1 ∙ sym (ap (with_value k None) e))
+
+  -- the same of a list that has a first row, and the others
+  pub first_of_rows : (k : Key) (first : Key × V) (rs : Rows V) → is_sorted key_cmp rs ≡ true → 1 ≤ length rs → first ≡ get_or rs 0 first → key_cmp first.0 k ≡ Equal →
+      (Some first.1 ≡ find key_cmp k rs) × (take (length rs - 1) (drop 1 rs) ≡ with_value k None rs)
+  first_of_rows k first [] h some f same = absurd (omega (arith, some))
+  first_of_rows k first (r ∷ rs) h some f same =
+      let taken = first_taken k r rs h (sym (ap (λ (x : Key × V). key_cmp x.0 k) f) ∙ same) in
+      (ap (λ (x : Key × V). Some x.1) f ∙ taken.0, take_rest (r ∷ rs) 1 ∙ taken.1)
 
   pub first_kept_at : (k : Key) (first : Key × V) (rs : Rows V) → is_sorted key_cmp rs ≡ true → before k rs ≡ [] → first ≡ get_or rs 0 first → (key_cmp first.0 k ≡ Equal → ⊥) →
       (None ≡ find key_cmp k rs) × (rs ≡ with_value k None rs)
@@ -177,7 +186,7 @@ module _ {V M : Type 0} (effect : Option V → M → Option V) where
   change_later k (Some v) r rs e = ap (λ w. by_order w ((k, v) ∷ r ∷ rs) ((r.0, v) ∷ rs) (r ∷ put key_cmp k v rs)) e
 
   -- a row before all messages stays first
-  first_stays : (k : Key) (r : Key × V) (ms : Messages M) (rs : Rows V) → is_before r.0 k ≡ true → AllFrom k ms → rows_after effect ms (r ∷ rs) ≡ r ∷ rows_after effect ms rs
+  pub first_stays : (k : Key) (r : Key × V) (ms : Messages M) (rs : Rows V) → is_before r.0 k ≡ true → AllFrom k ms → rows_after effect ms (r ∷ rs) ≡ r ∷ rows_after effect ms rs
   first_stays k r [] rs l h = refl
   first_stays k r (m ∷ ms) rs l h =
       let order : key_cmp m.0 r.0 ≡ Greater = turned r.0 m.0 Less (is_less _ (before_later r.0 k m.0 l h.0)) in
@@ -187,7 +196,7 @@ module _ {V M : Type 0} (effect : Option V → M → Option V) where
       ∙ first_stays k r ms _ l h.1
 
   -- messages leave the rows before their keys as they are
-  split_at : (k : Key) (ms : Messages M) (rs : Rows V) → AllFrom k ms → is_sorted key_cmp rs ≡ true → rows_after effect ms rs ≡ before k rs ++ rows_after effect ms (from k rs)
+  pub split_at : (k : Key) (ms : Messages M) (rs : Rows V) → AllFrom k ms → is_sorted key_cmp rs ≡ true → rows_after effect ms rs ≡ before k rs ++ rows_after effect ms (from k rs)
   split_at k ms [] h s = refl
   split_at k ms (r ∷ rs) h s = elim (is_before r.0 k) as (λ b. is_before r.0 k ≡ b →
       rows_after effect ms (r ∷ rs) ≡ cond b (r ∷ before k rs) (before k rs) ++ rows_after effect ms (cond (not b) (r ∷ from k rs) (from k rs))) [

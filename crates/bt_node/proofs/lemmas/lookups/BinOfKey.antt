@@ -1,12 +1,16 @@
 -- The messages to a key are in the bin of the child to which the key belongs.
 use Rattle.std.proofs.Common.{◌≡◌, ◌+◌, ◌<◌, ◌≤◌, ℕ, suc, true, false, cond, List, [], ◌∷◌, ◌++◌, append-nil, get_or, length, refl, sym, ap, ◌∙◌, arith, Option}
-use Rattle.bt_keycode.specs.Keys.{AllFrom, Key, is_before, key_cmp}
+use Rattle.bt_keycode.specs.Keys.{AllFrom, Key, is_before, is_between, key_cmp}
 use Rattle.bt_keycode.proofs.offered.Order.{apart_back}
 use Rattle.bt_messages.specs.Bins.{AllBefore, LieBetween, joined}
 use Rattle.bt_messages.proofs.offered.Parts.{lie_length}
 use Rattle.bt_messages.proofs.offered.Rows.{value_before}
 use Rattle.bt_node.specs.Lookups.{pivots_up_to}
-use Rattle.bt_node.specs.Messages.{Messages, value_after}
+use Rattle.bt_messages.specs.declared.message.Message.{Message}
+use Rattle.bt_node.specs.Messages.{Messages, between, value_after}
+use Rattle.bt_node.specs.declared.held.Held.{Held}
+use Rattle.bt_node.specs.inside.Held.{BeginsWith}
+use Rattle.bt_node.proofs.lemmas.rows.Between.{value-inside}
 use Rattle.bt_node.proofs.lemmas.rows.Values.{value-append}
 
 module _ {V M : Type 0} (effect : Option V → M → Option V) where
@@ -24,6 +28,20 @@ module _ {V M : Type 0} (effect : Option V → M → Option V) where
     | true ↦ λ t. sym (value-append effect k b (joined bs) o ∙ value_before effect k p (joined bs) (value_after effect k b o) t h.2)
     | false ↦ λ t. value-bin k ps bs o h.3 ∙ sym (value-append effect k b (joined bs) o ∙ ap (value_after effect k (joined bs)) (earlier k p b o t h.1))
   ] refl
+
+-- what the bin of a key begins with, all bins begin with
+pub begins-bin : {V D : Type 0} (effect : Option V → Message V D → Option V) (k : Key) (ps : List Key) (bs : List (Messages (Message V D))) (place : ℕ) (left : Messages (Message V D)) (start : Option (Held V D)) →
+    LieBetween ps bs → place ≡ pivots_up_to k ps → BeginsWith effect k (get_or bs place []) start left → BeginsWith effect k (joined bs) start left
+begins-bin effect k ps bs place left start lie is begins old =
+    sym (value-bin effect k ps bs old lie) ∙ ap (λ i. value_after effect k (get_or bs i []) old) (sym is) ∙ begins old
+
+-- between bounds whose keys belong to one child, its bin has what all bins have
+pub bin-between : {V M : Type 0} (effect : Option V → M → Option V) (low high : Option Key) (ps : List Key) (bs : List (Messages M)) (place : ℕ) (own : Messages M) →
+    LieBetween ps bs → own ≡ between low high (get_or bs place []) → (q : Key) → is_between low high q ≡ true → place ≡ pivots_up_to q ps → (old : Option V) →
+    value_after effect q own old ≡ value_after effect q (joined bs) old
+bin-between effect low high ps bs place own lie own_is q inside is old =
+    ap (λ ms. value_after effect q ms old) own_is ∙ value-inside effect low high q (get_or bs place []) old inside
+    ∙ ap (λ i. value_after effect q (get_or bs i []) old) is ∙ value-bin effect q ps bs old lie
 
 pub bin-there : {M : Type 0} (ps : List Key) (bs : List (Messages M)) (place : ℕ) → LieBetween ps bs → place ≤ length ps → place < length bs
 bin-there ps bs place h few = omega (arith, lie_length ps bs h, few)

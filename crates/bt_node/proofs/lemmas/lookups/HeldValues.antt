@@ -46,6 +46,11 @@ module _ {V M : Type 0} (effect : Option V → M → Option V) (q : Key) where
       ∙ ap (λ rows. value_after effect q b (find key_cmp q rows)) (sym (nodes_hold-children effect ns))
       ∙ sym (find-rows effect q b (nodes_hold effect ns))
 
+-- and below an inner node, in the child to which the key belongs
+pub value_below-held : {V M : Type 0} (effect : Option V → M → Option V) (levels : ℕ) (low high : Option Key) (ns : Nodes V M) (k : Key) → SiblingsLie levels low high (children ns) →
+    value_below effect k ns ≡ find key_cmp k (all_hold effect (children ns))
+value_below-held effect levels low high ns k lie = found-below effect k levels (found effect k levels) low high ns lie
+
 -- the value along one path is the one in the map that the tree holds
 pub value_at-held : {V M : Type 0} (effect : Option V → M → Option V) (levels : ℕ) (low high : Option Key) (t : Tree V M) (k : Key) → Lies levels low high t →
     value_at effect k t ≡ find key_cmp k (holds effect t)

@@ -1,5 +1,5 @@
 -- Rows between two bounds: those after messages come of the messages and the rows between the bounds.
-use Rattle.std.proofs.Common.{◌≡◌, Bool, true, false, cond, not, ◌&&◌, T, [], ◌∷◌, refl, sym, ap, subst, ◌∙◌, true≢false}
+use Rattle.std.proofs.Common.{◌≡◌, Bool, true, false, cond, not, ◌&&◌, T, [], ◌∷◌, ◌++◌, refl, sym, ap, subst, ◌∙◌, true≢false}
 use Rattle.std.specs.Ordering.{eq_by_cmp, is_eq}
 use Rattle.std.specs.declared.cmp.Ordering.TheVariants.{Equal}
 use Rattle.std.specs.FinMap.{find, is_sorted, nat_cmp-IsAntisymmetric, slice_cmp-IsAntisymmetric}
@@ -7,8 +7,8 @@ use Rattle.std.specs.FinMap.Entries.{below_all, find-where_key, is_sorted-where_
 use Rattle.std.specs.declared.option.Option.{Option}
 use Rattle.std.specs.declared.option.Option.TheVariants.{None, Some}
 use Rattle.bt_keycode.specs.Keys.{Key, key_cmp, is_before, is_before_lower, is_before_upper, is_between, AllWithin, AllFrom, IsSorted}
-use Rattle.bt_node.specs.Messages.{Rows, Messages, between, rows_after, value_after}
-use Rattle.bt_keycode.proofs.offered.Order.{before_later, later_chain, not_after, same_key, total_keys}
+use Rattle.bt_node.specs.Messages.{Rows, Messages, between, from as from_key, rows_after, value_after}
+use Rattle.bt_keycode.proofs.offered.Order.{before_chain, before_later, from_earlier, later_chain, not_after, same_key, total_keys}
 use Rattle.bt_node.proofs.lemmas.rows.RowsAfter.{rows_after-sorted, t_first, t_second, true_t}
 use Rattle.bt_node.proofs.lemmas.rows.Values.{find-rows}
 
@@ -48,7 +48,7 @@ module _ {V : Type 0} where
   all_from k [] h = tt
   all_from k (r ∷ rs) h = (not_after k r.0 (true_t _ (t_first _ _ h)), all_from k rs (t_second _ _ h))
 
-  in_order : (rs : Rows V) → T (is_sorted key_cmp rs) → IsSorted rs
+  pub in_order : (rs : Rows V) → T (is_sorted key_cmp rs) → IsSorted rs
   in_order [] h = tt
   in_order (r ∷ rs) h = (all_from r.0 rs (t_first _ _ h), in_order rs (t_second _ _ h))
 
@@ -61,7 +61,7 @@ module _ {V : Type 0} where
 
 module _ {V M : Type 0} (effect : Option V → M → Option V) (from to : Option Key) where
   -- at a key between the bounds the messages between them do what all do
-  value-inside : (q : Key) (ms : Messages M) (o : Option V) → is_between from to q ≡ true → value_after effect q (between from to ms) o ≡ value_after effect q ms o
+  pub value-inside : (q : Key) (ms : Messages M) (o : Option V) → is_between from to q ≡ true → value_after effect q (between from to ms) o ≡ value_after effect q ms o
   value-inside q [] o e = refl
   value-inside q (m ∷ ms) o e = elim (is_between from to m.0) as (λ b. is_between from to m.0 ≡ b →
       value_after effect q (cond b (m ∷ between from to ms) (between from to ms)) o ≡ value_after effect q ms (cond (eq_by_cmp key_cmp q m.0) (effect o m.1) o)) [
@@ -105,3 +105,110 @@ module _ {V M : Type 0} (effect : Option V → M → Option V) (from to : Option
       ∙ value-between q ms (find key_cmp q rs)
       ∙ ap (λ o. cond (is_between from to q) o None) (sym (find-rows effect q ms rs))
       ∙ sym (find-between q from to (rows_after effect ms rs)))
+
+-- ---- bounds next to each other
+
+and_first : (a b : Bool) → not a && b ≡ true → a ≡ false
+and_first true b e = absurd (true≢false (sym e))
+and_first false b e = refl
+
+and_second : (a b : Bool) → not a && b ≡ true → b ≡ true
+and_second true b e = absurd (true≢false (sym e))
+and_second false b e = e
+
+-- the two sides of a key between bounds
+pub between_from : (low high : Option Key) (q : Key) → is_between low high q ≡ true → is_before_lower low q ≡ false
+between_from low high q e = and_first (is_before_lower low q) (is_before_upper high q) e
+
+pub between_below : (low high : Option Key) (q : Key) → is_between low high q ≡ true → is_before_upper high q ≡ true
+between_below low high q e = and_second (is_before_lower low q) (is_before_upper high q) e
+
+module _ {X : Type 0} where
+  -- what is between is a part
+  pub between-within : (low high : Option Key) (xs : Rows X) → AllWithin low high (between low high xs)
+  between-within low high [] = tt
+  between-within low high (x ∷ xs) = elim (is_between low high x.0) as (λ b. is_between low high x.0 ≡ b → AllWithin low high (cond b (x ∷ between low high xs) (between low high xs))) [
+    | true ↦ λ e. (record { from = between_from low high x.0 e; below = between_below low high x.0 e }, between-within low high xs)
+    | false ↦ λ e. between-within low high xs
+  ] refl
+
+  -- all that lies between is
+  pub all-between : (low high : Option Key) (xs : Rows X) → AllWithin low high xs → between low high xs ≡ xs
+  all-between low high [] within = refl
+  all-between low high (x ∷ xs) within =
+      ap (λ b. cond (not b && is_before_upper high x.0) (x ∷ between low high xs) (between low high xs)) within.0.from
+      ∙ ap (λ b. cond b (x ∷ between low high xs) (between low high xs)) within.0.below ∙ ap (λ zs. x ∷ zs) (all-between low high xs within.1)
+
+  -- what lies below a further bound, of what lies within others
+  pub cut-within : (low to high : Option Key) (xs : Rows X) → AllWithin low to xs → AllWithin low high (between None high xs)
+  cut-within low to high [] within = tt
+  cut-within low to high (x ∷ xs) within = elim (is_before_upper high x.0) as (λ b. is_before_upper high x.0 ≡ b → AllWithin low high (cond b (x ∷ between None high xs) (between None high xs))) [
+    | true ↦ λ e. (record { from = within.0.from; below = e }, cut-within low to high xs within.1)
+    | false ↦ λ e. cut-within low to high xs within.1
+  ] refl
+
+  -- and what does not
+  pub rest-within : (low to : Option Key) (p : Key) (xs : Rows X) → AllWithin low to xs → AllWithin (Some p) to (from_key p xs)
+  rest-within low to p [] within = tt
+  rest-within low to p (x ∷ xs) within = elim (is_before x.0 p) as (λ b. is_before x.0 p ≡ b → AllWithin (Some p) to (cond (not b) (x ∷ from_key p xs) (from_key p xs))) [
+    | true ↦ λ e. rest-within low to p xs within.1
+    | false ↦ λ e. (record { from = e; below = within.0.below }, rest-within low to p xs within.1)
+  ] refl
+
+later_from : (l : Option Key) (p q : Key) → is_before_lower l p ≡ false → is_before q p ≡ false → is_before_lower l q ≡ false
+later_from None p q e f = refl
+later_from (Some l) p q e f = later_chain l p q e f
+
+earlier_below : (t : Option Key) (p q : Key) → is_before_upper t p ≡ true → is_before q p ≡ true → is_before_upper t q ≡ true
+earlier_below None p q e f = refl
+earlier_below (Some t) p q e f = before_chain q p t f e
+
+same_upper : (a s t : Bool) → s ≡ true → t ≡ true → a && s ≡ a && t
+same_upper a s t e f = ap (λ b. a && b) (e ∙ sym f)
+
+module _ {V : Type 0} (low to : Option Key) (p : Key) (from_low : is_before_lower low p ≡ false) (below_to : is_before_upper to p ≡ true) where
+  none_first : (rs : Rows V) → AllFrom p rs → between low (Some p) rs ≡ []
+  none_first [] all = refl
+  none_first (r ∷ rs) all =
+      ap (λ b. cond (not (is_before_lower low r.0) && b) (r ∷ between low (Some p) rs) (between low (Some p) rs)) all.0
+      ∙ ap (λ b. cond b (r ∷ between low (Some p) rs) (between low (Some p) rs)) (outside_upper (not (is_before_lower low r.0))) ∙ none_first rs all.1
+
+  all_second : (rs : Rows V) → AllFrom p rs → between low to rs ≡ between (Some p) to rs
+  all_second [] all = refl
+  all_second (r ∷ rs) all =
+      ap (λ b. cond (not b && is_before_upper to r.0) (r ∷ between low to rs) (between low to rs)) (later_from low p r.0 from_low all.0)
+      ∙ ap (λ zs. cond (is_before_upper to r.0) (r ∷ zs) zs) (all_second rs all.1)
+      ∙ sym (ap (λ b. cond (not b && is_before_upper to r.0) (r ∷ between (Some p) to rs) (between (Some p) to rs)) all.0)
+
+  -- rows between two bounds are those up to a key between them, and those from it on
+  pub split-between : (rs : Rows V) → IsSorted rs → between low to rs ≡ between low (Some p) rs ++ between (Some p) to rs
+  split-between [] sorted = refl
+  split-between (r ∷ rs) sorted = elim (is_before r.0 p) as (λ b. is_before r.0 p ≡ b → between low to (r ∷ rs) ≡ between low (Some p) (r ∷ rs) ++ between (Some p) to (r ∷ rs)) [
+    | true ↦ λ e.
+        let first = not (is_before_lower low r.0) in
+        let others = split-between rs sorted.1 in
+        let skipped : between (Some p) to (r ∷ rs) ≡ between (Some p) to rs = ap (λ b. cond (not b && is_before_upper to r.0) (r ∷ between (Some p) to rs) (between (Some p) to rs)) e in
+        let kept : between low (Some p) (r ∷ rs) ≡ cond (first && is_before_upper to r.0) (r ∷ between low (Some p) rs) (between low (Some p) rs) =
+        ap (λ b. cond b (r ∷ between low (Some p) rs) (between low (Some p) rs)) (same_upper first (is_before r.0 p) (is_before_upper to r.0) e (earlier_below to p r.0 below_to e)) in
+        either (first && is_before_upper to r.0) r rs others ∙ sym (ap (λ zs. zs ++ between (Some p) to (r ∷ rs)) kept
+        ∙ ap (λ zs. cond (first && is_before_upper to r.0) (r ∷ between low (Some p) rs) (between low (Some p) rs) ++ zs) skipped)
+    | false ↦ λ e.
+        let all : AllFrom p (r ∷ rs) = (e, from_earlier p r.0 rs e sorted.0) in
+        all_second (r ∷ rs) all ∙ sym (ap (λ zs. zs ++ between (Some p) to (r ∷ rs)) (none_first (r ∷ rs) all))
+  ] refl
+    where
+      either : (b : Bool) (r : Key × V) (rs : Rows V) → between low to rs ≡ between low (Some p) rs ++ between (Some p) to rs →
+          cond b (r ∷ between low to rs) (between low to rs) ≡ cond b (r ∷ between low (Some p) rs) (between low (Some p) rs) ++ between (Some p) to rs
+      either true r rs others = ap (λ zs. r ∷ zs) others
+      either false r rs others = others
+
+-- rows that agree at all keys between two bounds
+pub same-between : {V : Type 0} (from to : Option Key) (rs ss : Rows V) → T (is_sorted key_cmp rs) → T (is_sorted key_cmp ss) →
+    ((q : Key) → is_between from to q ≡ true → find key_cmp q rs ≡ find key_cmp q ss) → between from to rs ≡ between from to ss
+same-between from to rs ss r s alike =
+    same_entries key_cmp total_keys (slice_cmp-IsAntisymmetric nat_cmp-IsAntisymmetric) _ _ (between-sorted from to rs r) (between-sorted from to ss s)
+    (λ q. find-between q from to rs ∙ inside q (is_between from to q) refl ∙ sym (find-between q from to ss))
+  where
+    inside : (q : Key) (b : Bool) → is_between from to q ≡ b → cond (is_between from to q) (find key_cmp q rs) None ≡ cond (is_between from to q) (find key_cmp q ss) None
+    inside q true e = ap (λ o. cond (is_between from to q) o None) (alike q e)
+    inside q false e = ap (λ b. cond b (find key_cmp q rs) None) e ∙ sym (ap (λ b. cond b (find key_cmp q ss) None) e)

@@ -1,14 +1,14 @@
-use Rattle.std.proofs.Common.{◌∙◌, [], ap, arith, get_or, subst, sym}
+use Rattle.std.proofs.Common.{◌≡◌, None, Some, ◌∙◌, ap, arith, rules, subst, sym}
 use Rattle.bt_messages.specs.Bins.{LieBetween, joined}
 use Rattle.bt_messages.specs.Effects.{effect_of}
 use Rattle.bt_node.specs.Kinds.{IsDivided, tree_of}
-use Rattle.bt_node.specs.Messages.{value_after}
-use Rattle.bt_node.proofs.lemmas.lookups.BinOfKey.{bin-there, value-bin}
+use Rattle.bt_node.specs.inside.Held.{value_of}
 use Rattle.bt_node.proofs.lemmas.code.AbsorbStep.{if_ok}
-use Rattle.bt_node.proofs.lemmas.code.LookupPath.{along}
+use Rattle.bt_node.proofs.lemmas.code.LookupPath.{along, along_reset, begins_at}
 use Rattle.bt_node.proofs.lemmas.code.PivotSearch.{pivots_rise}
 use Rattle.bt_node.proofs.lemmas.code.RowsOfChildren.{child_in_order, child_lower}
 use Rattle.bt_node.proofs.lemmas.code.SiblingParts.{pivot_within}
+use Rattle.bt_node.proofs.lemmas.lookups.BinOfKey.{begins-bin, bin-there}
 use Rattle.bt_node.proofs.lookup.+value_at.Goals as goal
 
 pub value_at-requires : goal.value_at-requires
@@ -23,10 +23,21 @@ pub pivots_up_to-place-requires : goal.pivots_up_to-place-requires
 pivots_up_to-place-requires g t c =
     pivots_rise c.args.node.now c.in-Inner.children (joined c.in-Inner.bins) c.pivots.result.now (c.kind.ensures.tree ∙ ap tree_of c.in-Inner.is) c.pivots.ensures.pivots c.requires
 
-pub after_messages-requires : goal.after_messages-requires
-after_messages-requires g t c =
+pub since_reset-start-requires : goal.since_reset-start-requires
+since_reset-start-requires g t c =
     bin-there c.pivots.result.now c.in-Inner.bins c.pivots_up_to-place.result
     (subst (λ ps. LieBetween ps c.in-Inner.bins) (sym c.pivots.ensures.pivots) (subst IsDivided c.in-Inner.is c.kind.ensures.divided)) c.pivots_up_to-place.ensures.bound
+
+pub returns-in-Some : goal.returns-in-Some
+returns-in-Some g t c =
+    let effect = effect_of g.V.Merge.merged in
+    let k = c.args.key.now in
+    let here = c.kind.ensures.tree ∙ ap tree_of c.in-Inner.is in
+    let lie = subst (λ ps. LieBetween ps c.in-Inner.bins) (sym c.pivots.ensures.pivots) (subst IsDivided c.in-Inner.is c.kind.ensures.divided) in
+    let begins = begins-bin effect k c.pivots.result.now c.in-Inner.bins c.pivots_up_to-place.result c.since_reset-start.result.left c.since_reset-start.result.start lie c.pivots_up_to-place.ensures.count c.since_reset-start.ensures.value in
+    let is : c.since_reset-start.result.start ≡ Some c.in-Some.held = search rules in
+    if_ok _ _ c.after_messages.result (λ value e. e
+    ∙ along_reset effect k c.in-Inner.children (joined c.in-Inner.bins) c.since_reset-start.result.left c.args.node.now c.since_reset-start.result.start c.in-Some.held here begins is) c.after_messages.ensures
 
 pub returns-in_ok-old-in-Inner : goal.returns-in_ok-old-in-Inner
 returns-in_ok-old-in-Inner g t c =
@@ -34,8 +45,9 @@ returns-in_ok-old-in-Inner g t c =
     let k = c.args.key.now in
     let here = c.kind.ensures.tree ∙ ap tree_of c.in-Inner.is in
     let lie = subst (λ ps. LieBetween ps c.in-Inner.bins) (sym c.pivots.ensures.pivots) (subst IsDivided c.in-Inner.is c.kind.ensures.divided) in
-    if_ok _ _ c.after_messages.result (λ value e. e
-    ∙ ap (λ i. value_after effect k (get_or c.in-Inner.bins i []) c.in_ok-old-in-Inner.old) c.pivots_up_to-place.ensures.count
-    ∙ value-bin effect k c.pivots.result.now c.in-Inner.bins c.in_ok-old-in-Inner.old lie
-    ∙ along effect k c.in-Inner.children (joined c.in-Inner.bins) c.args.node.now c.nodes.result.now c.pivots.result.now c.pivots_up_to-place.result c.index-nodes-place.result c.in_ok-old-in-Inner.old
-    here c.nodes.ensures c.pivots.ensures.pivots c.pivots.ensures.some c.pivots_up_to-place.ensures.count c.index-nodes-place.is c.in_ok-old-in-Inner.ensures) c.after_messages.ensures
+    let begins = begins-bin effect k c.pivots.result.now c.in-Inner.bins c.pivots_up_to-place.result c.since_reset-start.result.left c.since_reset-start.result.start lie c.pivots_up_to-place.ensures.count c.since_reset-start.ensures.value in
+    let none : c.since_reset-start.result.start ≡ None = search rules in
+    if_ok _ _ c.after_messages-in-Inner.result (λ value e. e
+    ∙ begins_at effect k (joined c.in-Inner.bins) c.since_reset-start.result.left c.since_reset-start.result.start None (value_of c.in_ok-old-in-Inner.old) begins none
+    ∙ along effect k c.in-Inner.children (joined c.in-Inner.bins) c.args.node.now c.nodes.result.now c.pivots.result.now c.pivots_up_to-place.result c.index-nodes-place.result (value_of c.in_ok-old-in-Inner.old)
+    here c.nodes.ensures c.pivots.ensures.pivots c.pivots.ensures.some c.pivots_up_to-place.ensures.count c.index-nodes-place.is c.in_ok-old-in-Inner.ensures) c.after_messages-in-Inner.ensures

@@ -1,27 +1,15 @@
-use Rattle.std.proofs.Common.{◌≡◌, ◌∙◌, [], get_or, rules, subst, sym}
-use Rattle.bt_keycode.specs.Keys.{IsSorted}
+use Rattle.std.proofs.Common.{◌≡◌, ◌∙◌, rules, sym}
 use Rattle.bt_messages.specs.Effects.{effect_of}
-use Rattle.bt_node.specs.Messages.{from}
-use Rattle.bt_node.proofs.lemmas.code.LookupPath.{all_left, left_from, none_left, one_more, rest_from, rest_sorted}
+use Rattle.bt_node.specs.inside.Held.{value_of}
+use Rattle.bt_node.proofs.lemmas.code.LookupPath.{none_left, one_more, rest_from, rest_sorted}
 use Rattle.bt_node.proofs.lookup.after_messages.Goals as goal
-
-pub loop-at-init : goal.loop-at-init
-loop-at-init g c =
-    let effect = effect_of g.V.Merge.merged in
-    let is : c.into_iter-at-iterator.result ≡ from c.args.key.now (get_or c.args.bins.now c.args.place []) = search rules in
-    let same : c.bin_from-at-items.result ≡ c.into_iter-at-iterator.result = search rules in
-    record {
-      value = all_left effect c.args.key.now (get_or c.args.bins.now c.args.place []) _ c.args.old is;
-      from = left_from effect c.args.key.now (get_or c.args.bins.now c.args.place []) _ is;
-      sorted = subst IsSorted same c.bin_from-at-items.ensures.sorted;
-    }
 
 pub loop-at-preserved : goal.loop-at-preserved
 loop-at-preserved g c =
     let effect = effect_of g.V.Merge.merged in
     let so_far = c.loop-at.invariant in
     record {
-      value = so_far.value ∙ one_more effect c.args.key.now c.loop-at.at-iterator c.next.new.self _ _ c.in-Some.ensures.steps c.compare.result c.compare.ensures c.if-ne.ensures c.loop-at.value c.in_ok-value.value c.in_ok-value.ensures;
+      value = so_far.value ∙ one_more effect c.args.key.now c.loop-at.at-iterator c.next.new.self _ _ c.in-Some.ensures.steps c.compare.result c.compare.ensures c.if-ne.ensures (value_of c.loop-at.value) (value_of c.in_ok-value.value) c.in_ok-value.ensures;
       from = rest_from effect c.args.key.now c.loop-at.at-iterator c.next.new.self _ _ c.in-Some.ensures.steps c.compare.result c.compare.ensures so_far.from;
       sorted = rest_sorted effect c.args.key.now c.loop-at.at-iterator c.next.new.self _ _ c.in-Some.ensures.steps c.compare.result c.compare.ensures so_far.sorted;
     }
@@ -30,4 +18,4 @@ pub returns-then-ne : goal.returns-then-ne
 returns-then-ne g c =
     let effect = effect_of g.V.Merge.merged in
     let so_far = c.loop-at.invariant in
-    none_left effect c.args.key.now c.loop-at.at-iterator _ _ _ c.in-Some.ensures.steps c.compare.result c.compare.ensures c.if-ne.ensures c.loop-at.value so_far.from so_far.sorted ∙ sym so_far.value
+    none_left effect c.args.key.now c.loop-at.at-iterator _ _ _ c.in-Some.ensures.steps c.compare.result c.compare.ensures c.if-ne.ensures (value_of c.loop-at.value) so_far.from so_far.sorted ∙ sym so_far.value

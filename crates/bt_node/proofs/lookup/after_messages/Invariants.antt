@@ -1,13 +1,14 @@
-use Rattle.std.proofs.Common.{◌≡◌, [], get_or}
+use Rattle.std.proofs.Common.{◌≡◌}
 use Rattle.bt_keycode.specs.Keys.{AllFrom, IsSorted}
 use Rattle.bt_messages.specs.Effects.{effect_of}
 use Rattle.bt_node.specs.Messages.{value_after}
+use Rattle.bt_node.specs.inside.Held.{value_of}
 use Rattle.bt_node.proofs.lookup.after_messages.Given as goal
 
 -- what the messages that are left make of the value so far
 abbrev pub invariant-loop-at : goal.invariant-loop-at
 invariant-loop-at g l = record {
-  value : value_after (effect_of g.V.Merge.merged) l.key (get_or l.bins l.place []) l.fn.old ≡ value_after (effect_of g.V.Merge.merged) l.key l.at-iterator l.value;
+  value : value_after (effect_of g.V.Merge.merged) l.key l.fn.messages (value_of l.fn.old) ≡ value_after (effect_of g.V.Merge.merged) l.key l.at-iterator (value_of l.value);
   from : AllFrom l.key l.at-iterator;
   sorted : IsSorted l.at-iterator;
 }

@@ -9,4 +9,4 @@ pub returns : goal.returns
 returns g c =
     let effect = effect_of g.V.Merge.merged in
     let order = c.requires in
-    if_ok _ _ c.value_at.result (λ value e. e ∙ ap (value_at effect c.args.key.now) c.self.view_is ∙ value_at-held effect order.0 order.1 order.2 c.args.self.now c.args.key.now order.3) c.value_at.ensures
+    if_ok _ _ c.into_value.result (λ value e. e ∙ c.in_ok-value_at.ensures ∙ ap (value_at effect c.args.key.now) c.self.view_is ∙ value_at-held effect order.0 order.1 order.2 c.args.self.now c.args.key.now order.3) c.into_value.ensures

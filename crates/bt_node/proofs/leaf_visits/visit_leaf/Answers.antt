@@ -1,0 +1,67 @@
+use Rattle.std.proofs.Common.{◌≡◌, ◌∙◌, ap, arith, length, None, refl, subst, sym, true}
+use Rattle.std.specs.FinMap.{is_sorted}
+use Rattle.bt_keycode.specs.Keys.{IsSorted, Key, key_cmp}
+use Rattle.bt_messages.specs.Effects.{effect_of}
+use Rattle.bt_messages.specs.declared.message.Message.{Message}
+use Rattle.bt_node.specs.inside.Held.{value_of}
+use Rattle.bt_node.proofs.lemmas.rows.Between.{rows-in_order}
+use Rattle.bt_node.proofs.lemmas.code.LeafPass.{fewer_past, from_is, shown_step}
+use Rattle.bt_node.proofs.lemmas.code.LentMessages.{past_in_order, rest_in_order}
+use Rattle.bt_node.proofs.lemmas.code.RowPass.{before_of, sorted_changed, sorted_from}
+use Rattle.bt_node.proofs.leaf_visits.visit_leaf.Goals as goal
+
+pub between-requires : goal.between-requires
+between-requires g c = rows-in_order c.loop-key.left.now c.loop-key.left.now refl c.loop-key.invariant.rows
+
+pub between-requires-in-Some : goal.between-requires-in-Some
+between-requires-in-Some g c = rows-in_order c.loop-key.left.now c.loop-key.left.now refl c.loop-key.invariant.rows
+
+pub split_first-requires-clause-sorted : goal.split_first-requires-clause-sorted
+split_first-requires-clause-sorted g c =
+    subst (λ rows. is_sorted key_cmp rows ≡ true) (sym (c.between-in-Some.ensures.between ∙ from_is c.in-Some.key.now c.loop-key.left.now)) (sorted_from c.in-Some.key.now c.loop-key.left.now c.loop-key.invariant.rows)
+
+pub split_first-requires-clause-none_before : goal.split_first-requires-clause-none_before
+split_first-requires-clause-none_before g c =
+    before_of c.in-Some.key.now c.loop-key.left.now c.between-in-Some.result.now (c.between-in-Some.ensures.between ∙ from_is c.in-Some.key.now c.loop-key.left.now)
+
+pub loop-key-smaller-in_ok-visit_held : goal.loop-key-smaller-in_ok-visit_held
+loop-key-smaller-in_ok-visit_held g c =
+    omega (arith, fewer_past c.in-Some.key.now c.next.new.self, ap length c.in_ok-value.ensures.left, ap length c.in-Some.ensures)
+
+pub loop-key-smaller : goal.loop-key-smaller
+loop-key-smaller g c =
+    omega (arith, fewer_past c.in-Some.key.now c.next.new.self, ap length c.in_ok-value.ensures.left, ap length c.in-Some.ensures)
+
+pub loop-key-preserved-in_ok-visit_held : goal.loop-key-preserved-in_ok-visit_held
+loop-key-preserved-in_ok-visit_held g c =
+    let effect = effect_of g.V.Merge.merged in
+    let k = c.in-Some.key.now in
+    let m : Key × Message g.row.V.Denot g.row.V-Delta.Denot = (k, c.in-Some.message.now) in
+    let so_far = c.loop-key.invariant in
+    let later = c.between-in-Some.ensures.between ∙ from_is k c.loop-key.left.now in
+    let sorted = rest_in_order m c.loop-key.messages c.next.new.self c.in-Some.ensures so_far.messages in
+    record {
+      wanted = shown_step effect g.S.Visitor.visited m c.next.new.self c.loop-key.messages c.take_effect.new.self c.loop-key.left.now c.between.result.now c.between-in-Some.result.now c.split_first.result.1.now
+          _ (value_of c.in_ok-first.first) (value_of c.in_ok-value.value) c.loop-key.visitor c.visit_rows.new.visitor c.visit_held.new.visitor _
+          c.in-Some.ensures so_far.messages so_far.rows so_far.wanted c.between.ensures.between c.in_ok-visit_rows.ensures later (c.found.ensures ∙ c.split_first.ensures.value) c.split_first.ensures.others c.in_ok-first.ensures
+          c.in_ok-value.ensures.value c.in_ok-value.ensures.left c.in_ok-visit_held.ensures;
+      rows = subst (λ rows. is_sorted key_cmp rows ≡ true) (sym c.split_first.ensures.others) (sorted_changed k None c.between-in-Some.result.now (subst (λ rows. is_sorted key_cmp rows ≡ true) (sym later) (sorted_from k c.loop-key.left.now so_far.rows)));
+      messages = subst IsSorted (sym c.in_ok-value.ensures.left) (past_in_order k c.next.new.self sorted);
+    }
+
+pub loop-key-preserved : goal.loop-key-preserved
+loop-key-preserved g c =
+    let effect = effect_of g.V.Merge.merged in
+    let k = c.in-Some.key.now in
+    let m : Key × Message g.row.V.Denot g.row.V-Delta.Denot = (k, c.in-Some.message.now) in
+    let so_far = c.loop-key.invariant in
+    let later = c.between-in-Some.ensures.between ∙ from_is k c.loop-key.left.now in
+    let sorted = rest_in_order m c.loop-key.messages c.next.new.self c.in-Some.ensures so_far.messages in
+    record {
+      wanted = shown_step effect g.S.Visitor.visited m c.next.new.self c.loop-key.messages c.take_effect.new.self c.loop-key.left.now c.between.result.now c.between-in-Some.result.now c.split_first.result.1.now
+          _ (value_of c.in_ok-first.first) (value_of c.in_ok-value.value) c.loop-key.visitor c.visit_rows.new.visitor c.visit_held.new.visitor _
+          c.in-Some.ensures so_far.messages so_far.rows so_far.wanted c.between.ensures.between c.in_ok-visit_rows.ensures later (c.found.ensures ∙ c.split_first.ensures.value) c.split_first.ensures.others c.in_ok-first.ensures
+          c.in_ok-value.ensures.value c.in_ok-value.ensures.left c.in_ok-visit_held.ensures;
+      rows = subst (λ rows. is_sorted key_cmp rows ≡ true) (sym c.split_first.ensures.others) (sorted_changed k None c.between-in-Some.result.now (subst (λ rows. is_sorted key_cmp rows ≡ true) (sym later) (sorted_from k c.loop-key.left.now so_far.rows)));
+      messages = subst IsSorted (sym c.in_ok-value.ensures.left) (past_in_order k c.next.new.self sorted);
+    }

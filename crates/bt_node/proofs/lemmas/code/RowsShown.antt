@@ -1,0 +1,121 @@
+-- The rows of an inner node, shown child by child, each with the messages above it.
+use Rattle.std.proofs.Common.{◌≡◌, ◌≤◌, ◌<◌, ℕ, true, false, T, List, [], ◌∷◌, ◌++◌, append_assoc, append-nil, fold, get_or, length, map, refl, sym, ap, subst, ◌∙◌}
+use Rattle.std.specs.FinMap.{find, is_sorted}
+use Rattle.std.specs.declared.option.Option.{Option}
+use Rattle.std.specs.declared.option.Option.TheVariants.{None, Some}
+use Rattle.bt_keycode.specs.Keys.{AllWithin, IsSorted, Key, is_before, is_before_lower, is_before_upper, is_between, key_cmp}
+use Rattle.bt_messages.specs.Messages.{messages_outside as outside}
+use Rattle.bt_messages.specs.declared.message.Message.{Message}
+use Rattle.bt_node.specs.Fits.{IsInOrder, SiblingsLie}
+use Rattle.bt_node.specs.Flushes.{all_hold, holds}
+use Rattle.bt_node.specs.Lookups.{pivots_of, pivots_up_to, value_at}
+use Rattle.bt_node.specs.Messages.{Messages, Rows, between, rows_after, value_after, with_messages}
+use Rattle.bt_node.specs.inside.Bounds.{all_rows}
+use Rattle.bt_node.specs.Trees.{Siblings, Tree, children, inner, nodes}
+use Rattle.bt_node.proofs.lemmas.flushes.Groups.{children-nodes}
+use Rattle.bt_node.proofs.lemmas.flushes.RowsKept.{holds-lie}
+use Rattle.bt_node.proofs.lemmas.lookups.HeldValues.{value_at-held, value_below-held}
+use Rattle.bt_node.proofs.lemmas.lookups.Outside.{nodes_hold-children}
+use Rattle.bt_node.proofs.lemmas.rows.Between.{all-between, between_below, between_from, between-sorted, in_order, rows-between, same-between, split-between, value-inside}
+use Rattle.bt_node.proofs.lemmas.rows.Buffers.{value-with_messages}
+use Rattle.bt_node.proofs.lemmas.rows.RowsAfter.{rows-sorted, rows_after-sorted, true_t}
+use Rattle.bt_node.proofs.lemmas.rows.Values.{find-rows}
+use Rattle.bt_node.proofs.lemmas.code.LookupPath.{child_at, value_after-later}
+use Rattle.bt_node.proofs.lemmas.code.RowsOfChildren.{child_in_order, siblings_lie}
+
+module _ {V D : Type 0} (effect : Option V → Message V D → Option V) where
+  -- what a tree in order holds is sorted
+  held-sorted : (t : Tree V (Message V D)) → IsInOrder t → T (is_sorted key_cmp (holds effect t))
+  held-sorted t order = rows-sorted order.1 order.2 _ (holds-lie effect order.0 order.1 order.2 t order.3)
+
+  after-sorted : (ms : Messages (Message V D)) (t : Tree V (Message V D)) → IsInOrder t → T (is_sorted key_cmp (rows_after effect ms (holds effect t)))
+  after-sorted ms t order = rows_after-sorted effect ms (holds effect t) (held-sorted t order)
+
+  -- at a leaf: messages between the bounds change only rows between them
+  pub leaf_part : (from to : Option Key) (ms : Messages (Message V D)) (t : Tree V (Message V D)) (rows part : Rows V) → AllWithin from to ms → IsInOrder t → holds effect t ≡ rows → part ≡ between from to rows →
+      rows_after effect ms part ≡ between from to (rows_after effect ms (holds effect t))
+  leaf_part from to ms t rows part within order same is =
+      ap (rows_after effect ms) (is ∙ ap (between from to) (sym same))
+      ∙ ap (λ zs. rows_after effect zs (between from to (holds effect t))) (sym (all-between from to ms within))
+      ∙ rows-between effect from to ms (holds effect t) (held-sorted t order)
+
+  module _ (t : Tree V (Message V D)) (xs : Siblings V (Message V D)) (buffer : Messages (Message V D)) (here : t ≡ inner (nodes xs) buffer) (order : IsInOrder t) where
+    held_above : holds effect t ≡ rows_after effect buffer (all_hold effect xs)
+    held_above = ap (holds effect) here ∙ ap (rows_after effect buffer) (nodes_hold-children effect (nodes xs) ∙ ap (all_hold effect) (children-nodes xs))
+
+    module _ (ts : List (Tree V (Message V D))) (ps : List Key) (place : ℕ) (child : Tree V (Message V D)) (items : ts ≡ map (λ x. x.1) xs) (pivots : ps ≡ pivots_of xs)
+        (some : 1 ≤ length xs) (there : place < length ts) (at : child ≡ get_or ts place child) where
+      child-order : IsInOrder child
+      child-order = child_in_order t xs buffer here ts items place child there at order
+
+      -- a key that belongs to a child has there what it has in all of them
+      child_has : (q : Key) → place ≡ pivots_up_to q ps → find key_cmp q (holds effect child) ≡ find key_cmp q (all_hold effect xs)
+      child_has q is =
+          let side = siblings_lie t xs buffer here order in
+          let lie : SiblingsLie side.0 side.1 side.2 (children (nodes xs)) = subst (SiblingsLie side.0 side.1 side.2) (sym (children-nodes xs)) side.3 in
+          sym (value_at-held effect child-order.0 child-order.1 child-order.2 child q child-order.3)
+          ∙ ap (value_at effect q) (at ∙ ap (λ ys. get_or ys place child) items ∙ ap (λ i. get_or (map (λ x. x.1) xs) i child) (is ∙ ap (pivots_up_to q) pivots))
+          ∙ sym (child_at effect q xs child some)
+          ∙ value_below-held effect side.0 side.1 side.2 (nodes xs) q lie
+          ∙ ap (λ ys. find key_cmp q (all_hold effect ys)) (children-nodes xs)
+
+      module _ (low high : Option Key) (newer above own merged : Messages (Message V D)) (belongs : (q : Key) → is_between low high q ≡ true → place ≡ pivots_up_to q ps)
+          (own_does : (q : Key) → is_between low high q ≡ true → (old : Option V) → value_after effect q own old ≡ value_after effect q buffer old) (own_sorted : IsSorted own) (above_is : above ≡ between None high newer) (merged_is : merged ≡ with_messages above own) where
+        -- the rows of a child after the messages that are for it, between its bounds
+        pub child_part : between low high (rows_after effect merged (holds effect child)) ≡ between low high (rows_after effect newer (holds effect t))
+        child_part =
+            same-between low high _ _ (after-sorted merged child child-order) (after-sorted newer t order)
+            (λ q inside.
+            let old = find key_cmp q (holds effect child) in
+            find-rows effect q merged (holds effect child)
+            ∙ ap (λ ms. value_after effect q ms old) merged_is
+            ∙ value-with_messages effect q above own old own_sorted
+            ∙ ap (value_after effect q above) (own_does q inside old)
+            ∙ ap (λ ms. value_after effect q ms (value_after effect q buffer old)) above_is
+            ∙ value-inside effect None high q newer (value_after effect q buffer old) (between_below low high q inside)
+            ∙ ap (λ o. value_after effect q newer (value_after effect q buffer o)) (child_has q (belongs q inside))
+            ∙ ap (value_after effect q newer) (sym (find-rows effect q buffer (all_hold effect xs)) ∙ ap (find key_cmp q) (sym held_above))
+            ∙ sym (find-rows effect q newer (holds effect t)))
+
+        -- the last child
+        pub last_part : (start shown wanted : Rows V) (to : Option Key) → high ≡ to →
+            start ++ between low to (rows_after effect newer (holds effect t)) ≡ wanted → shown ≡ start ++ between low high (rows_after effect merged (holds effect child)) → shown ≡ wanted
+        last_part start shown wanted to is so_far show =
+            show ∙ ap (λ zs. start ++ zs) (child_part ∙ ap (λ h. between low h (rows_after effect newer (holds effect t))) is) ∙ so_far
+
+        -- a child before others, which come after it with the messages that are left
+        pub next_part : (start shown wanted : Rows V) (to : Option Key) (p : Key) (rest : Messages (Message V D)) → high ≡ Some p → rest ≡ outside None high newer →
+            is_before_lower low p ≡ false → is_before_upper to p ≡ true →
+            start ++ between low to (rows_after effect newer (holds effect t)) ≡ wanted → shown ≡ start ++ between low high (rows_after effect merged (holds effect child)) →
+            shown ++ between (Some p) to (rows_after effect rest (holds effect t)) ≡ wanted
+        next_part start shown wanted to p rest is rest_is from_low below_to so_far show =
+            let all = rows_after effect newer (holds effect t) in
+            let sorted = after-sorted newer t order in
+            let left : between (Some p) to (rows_after effect rest (holds effect t)) ≡ between (Some p) to all =
+            same-between (Some p) to (rows_after effect rest (holds effect t)) all (after-sorted rest t order) sorted
+            (λ q inside.
+            find-rows effect q rest (holds effect t)
+            ∙ ap (λ ms. value_after effect q ms (find key_cmp q (holds effect t))) (rest_is ∙ ap (λ h. outside None h newer) is)
+            ∙ value_after-later effect p q newer (find key_cmp q (holds effect t)) (between_from (Some p) to q inside)
+            ∙ sym (find-rows effect q newer (holds effect t))) in
+            ap (λ zs. shown ++ zs) left ∙ ap (λ zs. zs ++ between (Some p) to all) (show ∙ ap (λ zs. start ++ zs) (child_part ∙ ap (λ h. between low h all) is))
+            ∙ append_assoc start (between low (Some p) all) (between (Some p) to all)
+            ∙ ap (λ zs. start ++ zs) (sym (split-between low to p from_low below_to all (in_order all sorted))) ∙ so_far
+
+-- one more part
+pub all_rows-push : {R : Type 0} (parts : List (List R)) (part : List R) → all_rows (parts ++ part ∷ []) ≡ all_rows parts ++ part
+all_rows-push [] part = append-nil part
+all_rows-push (p ∷ ps) part = ap (λ zs. p ++ zs) (all_rows-push ps part) ∙ sym (append_assoc p (all_rows ps) part)
+
+-- rows that are copied one by one
+copied_after : {R : Type 0} (start rows : List R) → fold (λ done row. done ++ row ∷ []) start rows ≡ start ++ rows
+copied_after start [] = sym (append-nil start)
+copied_after start (r ∷ rs) = copied_after (start ++ r ∷ []) rs ∙ append_assoc start (r ∷ []) rs
+
+pub copied_all : {R : Type 0} (start rows : List R) → start ≡ [] → fold (λ done row. done ++ row ∷ []) start rows ≡ rows
+copied_all start rows none = copied_after start rows ∙ ap (λ zs. zs ++ rows) none
+
+-- what a tree in order holds between bounds is sorted
+pub held_between-sorted : {V D : Type 0} (effect : Option V → Message V D → Option V) (from to : Option Key) (t : Tree V (Message V D)) (rows : Rows V) → IsInOrder t → rows ≡ between from to (holds effect t) →
+    is_sorted key_cmp rows ≡ true
+held_between-sorted effect from to t rows order is = ap (is_sorted key_cmp) is ∙ true_t _ (between-sorted from to (holds effect t) (held-sorted effect t order))

@@ -1,0 +1,80 @@
+use Rattle.std.proofs.Common.{◌≡◌, ◌∙◌, ◌++◌, ◌<◌, None, [], ap, arith, get_or, length, rules, subst, sym}
+use Rattle.std.proofs.lemmas.List.{length-map}
+use Rattle.std.specs.Option.{option_copied, option_or}
+use Rattle.bt_keycode.specs.Keys.{AllWithin, IsSorted, is_between}
+use Rattle.bt_messages.specs.Bins.{LieBetween, joined}
+use Rattle.bt_messages.specs.Effects.{effect_of}
+use Rattle.bt_node.specs.Flushes.{holds}
+use Rattle.bt_node.specs.Kinds.{IsDivided, tree_of}
+use Rattle.bt_node.specs.inside.Bounds.{all_rows}
+use Rattle.bt_node.proofs.lemmas.code.ChildBounds.{belongs, or_copied}
+use Rattle.bt_node.proofs.lemmas.code.PivotSearch.{pivots_rise}
+use Rattle.bt_node.proofs.lemmas.code.RowsOfChildren.{child_in_order, child_lower}
+use Rattle.bt_node.proofs.lemmas.code.RowsShown.{all_rows-push, last_part, leaf_part}
+use Rattle.bt_node.proofs.lemmas.keys.SortedLists.{sorted-where}
+use Rattle.bt_node.proofs.lemmas.rows.Between.{between-within, cut-within}
+use Rattle.bt_node.proofs.lemmas.rows.Buffers.{sorted-with_messages, within-with_messages}
+use Rattle.bt_node.proofs.lemmas.lookups.BinOfKey.{bin-between, bin-there}
+use Rattle.bt_node.proofs.visits.+add_parts_between.Goals as goal
+
+pub first_place-place-requires : goal.first_place-place-requires
+first_place-place-requires g t c =
+    pivots_rise c.args.node.now c.in-Inner.children (joined c.in-Inner.bins) c.pivots-pivots.result.now (c.kind.ensures.tree ∙ ap tree_of c.in-Inner.is) c.pivots-pivots.ensures.pivots c.requires.order
+
+pub bin_between-requires : goal.bin_between-requires
+bin_between-requires g t c =
+    bin-there c.pivots-pivots.result.now c.in-Inner.bins c.loop-place.place
+    (subst (λ ps. LieBetween ps c.in-Inner.bins) (sym c.pivots-pivots.ensures.pivots) (subst IsDivided c.in-Inner.is c.kind.ensures.divided)) c.loop-place.invariant.few
+
+pub merged-requires : goal.merged-requires
+merged-requires g t c =
+    subst IsSorted (sym c.in_ok-above-in-Inner.ensures.taken) (sorted-where (is_between None (option_copied c.or-high.result)) c.loop-place.newer c.loop-place.invariant.sorted)
+
+pub returns : goal.returns
+returns g t c =
+    let effect = effect_of g.V.Merge.merged in
+    ap all_rows c.in_ok-push-in-Leaf.ensures.items ∙ all_rows-push c.args.parts.now.items c.new.result
+    ∙ ap (λ zs. all_rows c.args.parts.now.items ++ zs)
+    (c.new.ensures
+    ∙ leaf_part effect (option_copied c.args.from) (option_copied c.args.to) c.args.newer c.args.node.now c.in-Leaf.rows c.between.result.now c.requires.within c.requires.order
+    (ap (holds effect) (c.kind.ensures.tree ∙ ap tree_of c.in-Leaf.is)) c.between.ensures.rows)
+
+pub returns-then-is_none : goal.returns-then-is_none
+returns-then-is_none g t c =
+    let effect = effect_of g.V.Merge.merged in
+    let low = option_copied c.loop-place.low in
+    let to = option_copied c.args.to in
+    let next = option_copied c.next_pivot-next.result in
+    let high = option_copied c.or-high.result in
+    let here = c.kind.ensures.tree ∙ ap tree_of c.in-Inner.is in
+    let chosen : c.or-high.result ≡ option_or c.next_pivot-next.result c.args.to = search rules in
+    let high_is : high ≡ option_or next to = ap option_copied chosen ∙ or_copied c.next_pivot-next.result c.args.to in
+    let none : next ≡ None = search rules in
+    let lie = subst (λ ps. LieBetween ps c.in-Inner.bins) (sym c.pivots-pivots.ensures.pivots) (subst IsDivided c.in-Inner.is c.kind.ensures.divided) in
+    let there : c.loop-place.place < length c.nodes.result.now =
+    omega (arith, c.loop-place-test.true, c.len-place-end.ensures.count, ap length c.nodes.ensures, length-map c.in-Inner.children (λ x. x.1)) in
+    last_part effect c.args.node.now c.in-Inner.children (joined c.in-Inner.bins) here c.requires.order c.nodes.result.now c.pivots-pivots.result.now c.loop-place.place c.index-nodes-place.result
+    c.nodes.ensures c.pivots-pivots.ensures.pivots c.pivots-pivots.ensures.some there c.index-nodes-place.is low high c.loop-place.newer c.in_ok-above-in-Inner.above c.bin_between.result c.in_ok-messages-in-Inner.messages
+    (λ q inside. belongs low to next high c.pivots-pivots.result.now c.loop-place.place q c.loop-place.invariant.begins c.next_pivot-next.ensures high_is inside)
+    (λ q inside. bin-between effect low high c.pivots-pivots.result.now c.in-Inner.bins c.loop-place.place c.bin_between.result lie c.bin_between.ensures.messages q inside
+    (belongs low to next high c.pivots-pivots.result.now c.loop-place.place q c.loop-place.invariant.begins c.next_pivot-next.ensures high_is inside))
+    c.bin_between.ensures.sorted c.in_ok-above-in-Inner.ensures.taken c.in_ok-messages-in-Inner.ensures
+    (all_rows c.loop-place.parts.items) (all_rows c.add_parts_between.new.parts.items) _ to (high_is ∙ ap (λ n. option_or n to) none) c.loop-place.invariant.wanted c.in_ok-add_parts_between-in-Inner.ensures
+
+pub add_parts_between-requires : goal.add_parts_between-requires
+add_parts_between-requires g t c κs within =
+    let low = option_copied c.loop-place.low in
+    let high = option_copied c.or-high.result in
+    let here = c.kind.ensures.tree ∙ ap tree_of c.in-Inner.is in
+    let there : c.loop-place.place < length c.nodes.result.now =
+    omega (arith, c.loop-place-test.true, c.len-place-end.ensures.count, ap length c.nodes.ensures, length-map c.in-Inner.children (λ x. x.1)) in
+    let lower = child_lower c.args.node.now c.in-Inner.children (joined c.in-Inner.bins) here c.nodes.result.now c.nodes.ensures c.loop-place.place c.index-nodes-place.result there c.index-nodes-place.is in
+    let order = child_in_order c.args.node.now c.in-Inner.children (joined c.in-Inner.bins) here c.nodes.result.now c.nodes.ensures c.loop-place.place c.index-nodes-place.result there c.index-nodes-place.is c.requires.order in
+    let sorted = subst IsSorted (sym c.in_ok-messages-in-Inner.ensures) (sorted-with_messages c.in_ok-above-in-Inner.above c.bin_between.result c.bin_between.ensures.sorted) in
+    let above = subst (AllWithin low high) (sym c.in_ok-above-in-Inner.ensures.taken) (cut-within low (option_copied c.args.to) high c.loop-place.newer c.loop-place.invariant.within) in
+    let own = subst (AllWithin low high) (sym c.bin_between.ensures.messages) (between-within low high (get_or c.in-Inner.bins c.loop-place.place [])) in
+    let inside = subst (AllWithin low high) (sym c.in_ok-messages-in-Inner.ensures) (within-with_messages low high c.in_ok-above-in-Inner.above c.bin_between.result above own) in
+    (omega (arith, lower, c.decreases), (within.0, (within.1, (order, (sorted, inside)))))
+
+pub loop-place-preserved : goal.loop-place-preserved
+loop-place-preserved g t c = ?

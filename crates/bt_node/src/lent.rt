@@ -1,0 +1,194 @@
+//! Messages that are lent from the buffers where they are pending.
+ghost use Rattle.std.specs.Prelude.{◌≡◌, ◌++◌, ◌∷◌, ◌≤◌, [], false, true, IfOk, MatchOption, None, OnOk, length, map};
+ghost use Rattle.std.specs.Option.{option_copied};
+ghost use Rattle.bt_keycode.specs.Keys.{AllFrom, IsSorted, is_before, is_before_upper};
+ghost use Rattle.bt_messages.specs.Effects.{effect_of};
+ghost use Rattle.bt_messages.specs.Messages.{messages_between, messages_outside, with_messages};
+ghost use Rattle.bt_messages.specs.Merges.{messages_past, messages_up_to};
+ghost use Rattle.bt_node.specs.Messages.{before, from, value_after};
+ghost use Rattle.bt_node.specs.inside.Held.{value_of};
+
+use crate::held::Held;
+use bt_keycode::Key;
+use bt_messages::{Merge, Message, Messages};
+use std::alloc::{AllocError, Global};
+use std::cmp::Ordering;
+use std::collections::VecDeque;
+use std::marker::Model;
+
+/// A message and its key, where they are pending.
+#[derive(Drop)]
+pub(crate) struct Entry<'a, V: Merge> {
+    key: &'a Key,
+    message: &'a Message<V>,
+}
+
+/// Messages in order, lent from where they are pending, and taken off one by one. A contract sees the list of them.
+#[derive(Drop)]
+pub(crate) struct Lent<'a, V: Merge> {
+    messages: VecDeque<Entry<'a, V>>,
+}
+
+impl<'a, V: Merge> Model for Lent<'a, V> {
+    ghost use Rattle.std.specs.Prelude.{List, ℕ, map};
+    ghost use Rattle.bt_messages.specs.declared.message.Message.{Message};
+
+    ghost Value = { List (List ℕ × Message V V.Delta) };
+
+    ghost view = { λ l. map (λ m. (m.key.now, m.message.now)) l.messages.items };
+}
+
+impl<'a, V: Merge> Lent<'a, V> {
+    /// No message.
+    pub(crate) fn new(alloc: Global) -> Self
+        ensures { result ≡ [] }
+    {
+        Lent {
+            messages: VecDeque::new(alloc),
+        }
+    }
+
+    /// These messages.
+    pub(crate) fn of_entries(entries: Vec<Entry<'a, V>>) -> Self
+        ensures { result ≡ map (λ m. (m.key.now, m.message.now)) entries.entry.items }
+    {
+        Lent {
+            messages: VecDeque::from(entries),
+        }
+    }
+
+    /// The messages, to be kept.
+    pub(crate) fn into_entries(self) -> Vec<Entry<'a, V>>
+        ensures { map (λ m. (m.key.now, m.message.now)) result.items ≡ self.entry }
+    {
+        let Lent { messages } = self;
+        Vec::from(messages)
+    }
+
+    // Adds a message behind the others.
+    fn push(&mut self, key: &'a Key, message: &'a Message<V>) -> Result<(), AllocError>
+        ensures { OnOk result (self.new ≡ self.old ++ (key.now, message.now) ∷ []) }
+    {
+        self.messages.push_back(Entry { key, message })?;
+        Ok(())
+    }
+
+    // Moves other messages behind these.
+    fn append(&mut self, others: Lent<'a, V>) -> Result<(), AllocError>
+        ensures { OnOk result (self.new ≡ self.old ++ others.entry) }
+    {
+        let Lent { mut messages } = others;
+        self.messages.append(&mut messages)?;
+        Ok(())
+    }
+
+    /// Takes off the first message.
+    pub(crate) fn next(&mut self) -> Option<(&'a Key, &'a Message<V>)>
+        ensures { MatchOption result (self.old ≡ []) (λ m. self.old ≡ (m.0.now, m.1.now) ∷ self.new) }
+    {
+        let Entry { key, message } = self.messages.pop_front()?;
+        Some((key, message))
+    }
+
+    // Takes off the first message where its key is before a bound.
+    fn next_before(&mut self, high: Option<&Key>) -> Option<(&'a Key, &'a Message<V>)>
+        requires { IsSorted self.old }
+        ensures none { MatchOption result (messages_between None (option_copied high.entry) self.old ≡ []) (λ m. is_before_upper (option_copied high.entry) m.0.now ≡ true) }
+        ensures first { MatchOption result (self.new ≡ self.old) (λ m. self.old ≡ (m.0.now, m.1.now) ∷ self.new) }
+    {
+        let first = self.messages.front()?;
+        if !lies_before(first.key, high) {
+            return None;
+        }
+        self.next()
+    }
+
+    // Takes off the first message where its key is not past this one.
+    fn next_up_to(&mut self, key: &Key) -> Option<(&'a Key, &'a Message<V>)>
+        ensures none { MatchOption result (messages_up_to key.now self.old ≡ []) (λ m. is_before key.now m.0.now ≡ false) }
+        ensures first { MatchOption result (self.new ≡ self.old) (λ m. self.old ≡ (m.0.now, m.1.now) ∷ self.new) }
+    {
+        let first = self.messages.front()?;
+        if key.compare(first.key) == Ordering::Less {
+            return None;
+        }
+        self.next()
+    }
+
+    /// Takes off the messages with a key before a bound. After an error some of them are gone.
+    pub(crate) fn take_before(
+        &mut self,
+        alloc: Global,
+        high: Option<&Key>,
+    ) -> Result<Self, AllocError>
+        requires { IsSorted self.old }
+        ensures taken { IfOk result (λ taken. taken ≡ messages_between None (option_copied high.entry) self.old) }
+        ensures left { OnOk result (self.new ≡ messages_outside None (option_copied high.entry) self.old) }
+    {
+        let mut taken = Lent::new(alloc);
+        while let Some((key, message)) = self.next_before(high) {
+            taken.push(key, message)?;
+        }
+        Ok(taken)
+    }
+
+    /// Takes off the messages to the key at which they begin, and gives what they make of what it has.
+    pub(crate) fn take_effect(
+        &mut self,
+        alloc: Global,
+        key: &Key,
+        old: Held<'a, V>,
+    ) -> Result<Held<'a, V>, AllocError>
+        requires sorted { IsSorted self.old }
+        requires from { AllFrom key.now self.old }
+        ensures value { IfOk result (λ value. value_of value ≡ value_after (effect_of V.merged) key.now self.old (value_of old.entry)) }
+        ensures left { OnOk result (self.new ≡ messages_past key.now self.old) }
+    {
+        let mut value = old;
+        while let Some((_, message)) = self.next_up_to(key) {
+            value = value.after(alloc, message)?;
+        }
+        Ok(value)
+    }
+
+    // Moves the messages with a key before this one from other messages behind these.
+    fn move_before(&mut self, others: &mut Lent<'a, V>, key: &Key) -> Result<(), AllocError>
+        requires { IsSorted others.old }
+        ensures moved { OnOk result (self.new ≡ self.old ++ before key.now others.old) }
+        ensures left { OnOk result (others.new ≡ from key.now others.old) }
+    {
+        while let Some((at, message)) = others.next_before(Some(key)) {
+            self.push(at, message)?;
+        }
+        Ok(())
+    }
+}
+
+// Whether a key lies before a bound. A bound that is absent doesn't limit.
+pub(crate) fn lies_before(key: &Key, high: Option<&Key>) -> bool
+    ensures { result ≡ is_before_upper (option_copied high.entry) key.now }
+{
+    match high {
+        Some(high) => key.compare(high) == Ordering::Less,
+        None => true,
+    }
+}
+
+/// Older and newer messages in order, an older one before a newer one of its key.
+pub(crate) fn merged<'a, V: Merge>(
+    alloc: Global,
+    older: Messages<'a, V>,
+    newer: Lent<'a, V>,
+) -> Result<Lent<'a, V>, AllocError>
+    requires { IsSorted newer }
+    ensures { IfOk result (λ messages. messages ≡ with_messages newer.entry older.entry) }
+{
+    let mut newer = newer;
+    let mut messages = Lent::new(alloc);
+    for (key, message) in older {
+        messages.move_before(&mut newer, key)?;
+        messages.push(key, message)?;
+    }
+    messages.append(newer)?;
+    Ok(messages)
+}
