@@ -2,7 +2,7 @@
 use Rattle.std.proofs.Common.{◌≡◌, ◌≤◌, ◌<◌, ◌+◌, Bor, ℕ, zero, suc, Bool, true, false, not, ◌&&◌, cond, List, [], ◌∷◌, get_or, length, slice_get, refl, sym, ap, ◌∙◌, true≢false, arith}
 use Rattle.std.specs.declared.option.Option.{Option}
 use Rattle.std.specs.declared.option.Option.TheVariants.{None, Some}
-use Rattle.std.specs.Option.{option_copied, option_or}
+use Rattle.std.specs.Option.{is_none, option_copied, option_or}
 use Rattle.bt_keycode.specs.Keys.{Key, is_before, is_before_lower, is_before_upper, is_between}
 use Rattle.bt_node.specs.Lookups.{first_place, pivots_up_to}
 use Rattle.bt_node.specs.Parts.{AreRising}
@@ -141,3 +141,8 @@ module _ (low to : Option Key) (p : Key) (ps : List Key) (place : ℕ) (is : nex
 pub or_copied : (a b : Option (Bor Key)) → option_copied (option_or a b) ≡ option_or (option_copied a) (option_copied b)
 or_copied None b = refl
 or_copied (Some a) b = refl
+
+-- a bound that is not absent is a key
+pub present : (a : Option (Bor Key)) → is_none a ≡ false → (p : Key) × (option_copied a ≡ Some p)
+present None e = absurd (true≢false e)
+present (Some a) e = (a.now, refl)

@@ -1,18 +1,21 @@
-use Rattle.std.proofs.Common.{◌≡◌, ◌∙◌, ◌++◌, ◌<◌, None, [], ap, arith, get_or, length, rules, subst, sym}
+use Rattle.std.proofs.Common.{◌≡◌, ◌∙◌, ◌++◌, ◌<◌, None, Some, [], false, ap, arith, get_or, length, not, rules, subst, sym}
 use Rattle.std.proofs.lemmas.List.{length-map}
-use Rattle.std.specs.Option.{option_copied, option_or}
+use Rattle.std.specs.Option.{is_none, option_copied, option_or}
 use Rattle.bt_keycode.specs.Keys.{AllWithin, IsSorted, is_between}
 use Rattle.bt_messages.specs.Bins.{LieBetween, joined}
 use Rattle.bt_messages.specs.Effects.{effect_of}
 use Rattle.bt_node.specs.Flushes.{holds}
+use Rattle.bt_messages.specs.Messages.{messages_outside}
+use Rattle.bt_node.specs.Lookups.{first_place}
+use Rattle.bt_node.specs.Messages.{between, rows_after}
 use Rattle.bt_node.specs.Kinds.{IsDivided, tree_of}
 use Rattle.bt_node.specs.inside.Bounds.{all_rows}
-use Rattle.bt_node.proofs.lemmas.code.ChildBounds.{belongs, or_copied}
+use Rattle.bt_node.proofs.lemmas.code.ChildBounds.{belongs, next_begins, next_below, next_from, next_within, or_copied, present}
 use Rattle.bt_node.proofs.lemmas.code.PivotSearch.{pivots_rise}
 use Rattle.bt_node.proofs.lemmas.code.RowsOfChildren.{child_in_order, child_lower}
-use Rattle.bt_node.proofs.lemmas.code.RowsShown.{all_rows-push, last_part, leaf_part}
+use Rattle.bt_node.proofs.lemmas.code.RowsShown.{all_rows-push, last_part, leaf_part, next_part}
 use Rattle.bt_node.proofs.lemmas.keys.SortedLists.{sorted-where}
-use Rattle.bt_node.proofs.lemmas.rows.Between.{between-within, cut-within}
+use Rattle.bt_node.proofs.lemmas.rows.Between.{between-within, cut-within, rest-within}
 use Rattle.bt_node.proofs.lemmas.rows.Buffers.{sorted-with_messages, within-with_messages}
 use Rattle.bt_node.proofs.lemmas.lookups.BinOfKey.{bin-between, bin-there}
 use Rattle.bt_node.proofs.visits.+add_parts_between.Goals as goal
@@ -77,4 +80,42 @@ add_parts_between-requires g t c κs within =
     (omega (arith, lower, c.decreases), (within.0, (within.1, (order, (sorted, inside)))))
 
 pub loop-place-preserved : goal.loop-place-preserved
-loop-place-preserved g t c = ?
+loop-place-preserved g t c =
+    let effect = effect_of g.V.Merge.merged in
+    let low = option_copied c.loop-place.low in
+    let to = option_copied c.args.to in
+    let next = option_copied c.next_pivot-next.result in
+    let high = option_copied c.or-high.result in
+    let pivots = c.pivots-pivots.result.now in
+    let place = c.loop-place.place in
+    let so_far = c.loop-place.invariant in
+    let here = c.kind.ensures.tree ∙ ap tree_of c.in-Inner.is in
+    let rising = pivots_rise c.args.node.now c.in-Inner.children (joined c.in-Inner.bins) pivots here c.pivots-pivots.ensures.pivots c.requires.order in
+    let chosen : c.or-high.result ≡ option_or c.next_pivot-next.result c.args.to = search rules in
+    let high_is : high ≡ option_or next to = ap option_copied chosen ∙ or_copied c.next_pivot-next.result c.args.to in
+    let some : is_none c.next_pivot-next.result ≡ false = search rules in
+    let key = present c.next_pivot-next.result some in
+    let p = key.0 in
+    let next_is = key.1 in
+    let bound = sym c.next_pivot-next.ensures ∙ next_is in
+    let high_key = high_is ∙ ap (λ n. option_or n to) next_is in
+    let left = c.in_ok-above-in-Inner.ensures.left in
+    let rest = left ∙ ap (λ h. messages_outside None h c.loop-place.newer) high_key in
+    let lie = subst (λ ps. LieBetween ps c.in-Inner.bins) (sym c.pivots-pivots.ensures.pivots) (subst IsDivided c.in-Inner.is c.kind.ensures.divided) in
+    let there : place < length c.nodes.result.now =
+    omega (arith, c.loop-place-test.true, c.len-place-end.ensures.count, ap length c.nodes.ensures, length-map c.in-Inner.children (λ x. x.1)) in
+    record {
+      wanted = ap (λ n. all_rows c.add_parts_between.new.parts.items ++ between n to (rows_after effect c.take_before.new.self (holds effect c.args.node.now))) next_is
+      ∙ next_part effect c.args.node.now c.in-Inner.children (joined c.in-Inner.bins) here c.requires.order c.nodes.result.now pivots place c.index-nodes-place.result
+      c.nodes.ensures c.pivots-pivots.ensures.pivots c.pivots-pivots.ensures.some there c.index-nodes-place.is low high c.loop-place.newer c.in_ok-above-in-Inner.above c.bin_between.result c.in_ok-messages-in-Inner.messages
+      (λ q inside. belongs low to next high pivots place q so_far.begins c.next_pivot-next.ensures high_is inside)
+      (λ q inside. bin-between effect low high pivots c.in-Inner.bins place c.bin_between.result lie c.bin_between.ensures.messages q inside
+      (belongs low to next high pivots place q so_far.begins c.next_pivot-next.ensures high_is inside))
+      c.bin_between.ensures.sorted c.in_ok-above-in-Inner.ensures.taken c.in_ok-messages-in-Inner.ensures
+      (all_rows c.loop-place.parts.items) (all_rows c.add_parts_between.new.parts.items) _ to p c.take_before.new.self high_key left
+      (next_from low to p pivots place bound so_far.begins) (next_below low to p pivots place bound) so_far.wanted c.in_ok-add_parts_between-in-Inner.ensures;
+      sorted = subst IsSorted (sym left) (sorted-where (λ k. not (is_between None high k)) c.loop-place.newer so_far.sorted);
+      within = subst (λ n. AllWithin n to c.take_before.new.self) (sym next_is) (subst (AllWithin (Some p) to) (sym rest) (rest-within low to p c.loop-place.newer so_far.within));
+      begins = next_begins low to p pivots place bound rising ∙ ap (λ n. first_place n pivots) (sym next_is);
+      few = omega (arith, next_within low to p pivots place bound);
+    }
