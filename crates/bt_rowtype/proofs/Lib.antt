@@ -4,6 +4,7 @@ pub mod Groups
 pub mod IntTexts
 pub mod Marks
 pub mod offered
+pub mod Packing
 pub mod Paddings
 pub mod Pieces
 pub mod Plain
@@ -11,5 +12,7 @@ pub mod Quotes
 pub mod ReaderSteps
 pub mod ReadFits
 pub mod RecordTexts
+pub mod Replacements
 pub mod RowFits
+pub mod Walks
 pub mod WorkedOps

@@ -6,10 +6,14 @@ ghost use Rattle.csv.specs.Reading.{strip_bom};
 ghost use Rattle.csv.specs.Writing.{default_writer, escaped, field_text, needs_quotes as text_needs_quotes, next_sep, quoted};
 ghost use Rattle.bt_rowtype.specs.Records.{Grows, has_mark as is_behind_mark, is_refused, is_special, parts_of, record_of, record_text};
 ghost use Rattle.bt_rowtype.specs.Values.{text_of};
+ghost use Rattle.bt_rowtype.specs.Views.{shown};
 
 use crate::fields::Fields;
+use crate::packed_row::Row;
 use crate::reader::read_quoted;
 use crate::value::Value;
+use crate::value_ref::ValueRef;
+use crate::values::Values;
 use itoa::Buffer;
 use std::alloc::{AllocError, Global};
 
@@ -152,14 +156,14 @@ fn write_flag(out: &mut Vec<u8>, flag: bool) -> Result<(), AllocError>
 }
 
 // Adds the text of a value, as a field of a record.
-fn write_value(out: &mut Vec<u8>, value: &Value) -> Result<(), AllocError>
-    ensures ok { OnOk result (out.new.items ≡ out.old.items ++ field_text default_writer (text_of value.now)) }
+fn write_value(out: &mut Vec<u8>, value: ValueRef<'_>) -> Result<(), AllocError>
+    ensures ok { OnOk result (out.new.items ≡ out.old.items ++ field_text default_writer (text_of (shown value.entry))) }
     ensures err { OnErr result (out.new.items ≡ out.old.items) }
 {
     match value {
-        Value::Int(number) => write_int(out, *number),
-        Value::Text(text) => write_text(out, text.as_bytes()),
-        Value::Flag(flag) => write_flag(out, *flag),
+        ValueRef::Int(number) => write_int(out, number),
+        ValueRef::Text(text) => write_text(out, text),
+        ValueRef::Flag(flag) => write_flag(out, flag),
     }
 }
 
@@ -173,8 +177,8 @@ fn write_separator(out: &mut Vec<u8>, place: usize) -> Result<(), AllocError>
 }
 
 // Adds the value at a place of a record.
-fn write_at(out: &mut Vec<u8>, place: usize, value: &Value) -> Result<(), AllocError>
-    ensures ok { OnOk result (out.new.items ≡ out.old.items ++ (next_sep default_writer place ++ field_text default_writer (text_of value.now))) }
+fn write_at(out: &mut Vec<u8>, place: usize, value: ValueRef<'_>) -> Result<(), AllocError>
+    ensures ok { OnOk result (out.new.items ≡ out.old.items ++ (next_sep default_writer place ++ field_text default_writer (text_of (shown value.entry)))) }
     ensures err { OnErr result (Grows out.old.items out.new.items) }
 {
     write_separator(out, place)?;
@@ -182,13 +186,16 @@ fn write_at(out: &mut Vec<u8>, place: usize, value: &Value) -> Result<(), AllocE
 }
 
 // Adds the text of a record, or a part of it before an `Err`.
-fn write_values(out: &mut Vec<u8>, values: &[Value]) -> Result<(), AllocError>
-    ensures ok { OnOk result (out.new.items ≡ out.old.items ++ record_text (map text_of values.now)) }
+fn write_values(out: &mut Vec<u8>, values: Values<'_>) -> Result<(), AllocError>
+    ensures ok { OnOk result (out.new.items ≡ out.old.items ++ record_text (map text_of values.entry)) }
     ensures err { OnErr result (Grows out.old.items out.new.items) }
 {
     let start = out.len();
-    for (place, value) in values.iter().enumerate() {
+    let mut rest = values;
+    let mut place = 0;
+    while let Some(value) = rest.next() {
         write_at(out, place, value)?;
+        place = 1;
     }
     if out.len() == start {
         out.extend_from_slice(b"\"\"")?;
@@ -196,10 +203,9 @@ fn write_values(out: &mut Vec<u8>, values: &[Value]) -> Result<(), AllocError>
     Ok(())
 }
 
-/// Adds the text of a record: its fields joined by commas, with quotes where a field needs them. After an `Err`, for want of
-/// memory, `out` is as it was.
-pub fn write_record(out: &mut Vec<u8>, values: &[Value]) -> Result<(), AllocError>
-    ensures ok { OnOk result (out.new.items ≡ out.old.items ++ record_text (map text_of values.now)) }
+// Adds the text of a record.
+fn write_all(out: &mut Vec<u8>, values: Values<'_>) -> Result<(), AllocError>
+    ensures ok { OnOk result (out.new.items ≡ out.old.items ++ record_text (map text_of values.entry)) }
     ensures err { OnErr result (out.new.items ≡ out.old.items) }
 {
     let start = out.len();
@@ -208,4 +214,21 @@ pub fn write_record(out: &mut Vec<u8>, values: &[Value]) -> Result<(), AllocErro
         out.truncate(start);
     }
     result
+}
+
+/// Adds the text of a record: its fields joined by commas, with quotes where a field needs them. After an `Err`, for want of
+/// memory, `out` is as it was.
+pub fn write_record(out: &mut Vec<u8>, values: &[Value]) -> Result<(), AllocError>
+    ensures ok { OnOk result (out.new.items ≡ out.old.items ++ record_text (map text_of values.now)) }
+    ensures err { OnErr result (out.new.items ≡ out.old.items) }
+{
+    write_all(out, Values::of(values))
+}
+
+/// Adds the record of a row, as [`write_record`] does that of its values.
+pub fn write_row(out: &mut Vec<u8>, row: &Row) -> Result<(), AllocError>
+    ensures ok { OnOk result (out.new.items ≡ out.old.items ++ record_text (map text_of row.now)) }
+    ensures err { OnErr result (out.new.items ≡ out.old.items) }
+{
+    write_all(out, row.values())
 }

@@ -12,11 +12,12 @@ ghost use Rattle.bt_rowtype.specs.declared.value.Value.{Value};
 use crate::fields::Fields;
 use crate::int::read_int;
 use crate::op::{MOST_OPS, Op, Ops};
+use crate::packed_row::Row;
 use crate::reading::Reading;
 use crate::refusal::Refusal;
 use crate::row::{read_at, read_fields};
 use crate::schema::Schema;
-use crate::value::{Kind, Row};
+use crate::value::Kind;
 use std::alloc::{AllocError, Global};
 
 /// The key and the operations of an upsert.
@@ -66,7 +67,7 @@ fn read_set(
     let Some((place, kind)) = find_column(schema, name) else {
         return Err(Refusal::NoSuchColumn);
     };
-    Ok(Op::Set(place, read_at(alloc, kind, item, argument)?))
+    Ok(Op::Set(place, read_at(kind, item, argument)?.to_value(alloc)?))
 }
 
 // The operation `add` with a column's name and an argument, or its refusal.
@@ -158,7 +159,7 @@ pub fn read_ops(alloc: Global, schema: &Schema, item: u64, fields: &Fields) -> R
     reading.finish()
 }
 
-// The values of the key that the first fields spell, or their refusal as this item. There is room for a row.
+// The values of the key that the first fields spell, or their refusal as this item.
 fn read_key_fields(
     alloc: Global,
     schema: &Schema,
@@ -168,13 +169,7 @@ fn read_key_fields(
     requires { schema.now.keys ≤ length fields.now }
     ensures { Answers (spec.key_as schema.now item fields.now) result }
 {
-    read_fields(
-        alloc,
-        schema.key_columns(),
-        schema.columns().len(),
-        item,
-        fields,
-    )
+    read_fields(alloc, schema.key_columns(), item, fields)
 }
 
 // The lesser of the key's refusal and that of the operations, if they have one.
