@@ -7,7 +7,7 @@ use Rattle.bt_messages.specs.Effects.{effect_of}
 use Rattle.bt_messages.specs.declared.message.Message.{Message}
 use Rattle.bt_messages.specs.declared.message.Message.TheVariants.{Put, Del, Ups}
 use Rattle.bt_rowtype.specs.Ops as ops
-use Rattle.bt_rowtype.specs.declared.op.Change as change
+use Rattle.bt_rowtype.specs.Ops as change
 use Rattle.bt_rowtype.specs.declared.op.Op.TheVariants.{Add}
 use Rattle.bt_rowtype.specs.declared.value.Value.{Value}
 use Rattle.bt_rowtype.specs.declared.value.Value.TheVariants.{Int}

@@ -79,6 +79,15 @@ impl<'a> Values<'a> {
         }
     }
 
+    /// The same values, to go through once more.
+    pub fn copy(&self) -> Self
+        ensures { result ≡ self.now }
+    {
+        Values {
+            source: self.source,
+        }
+    }
+
     pub fn is_empty(&self) -> bool
         ensures { result ≡ (length self.now == 0) }
     {
