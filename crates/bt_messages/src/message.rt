@@ -59,8 +59,6 @@ pub enum Message<V: Merge> {
     Ups(V::Delta),
 }
 
-const _: () = prove!(size_of::<Message<Row>>() == 56);
-
 impl<V: Merge> Message<V> {
     /// A copy of the message.
     pub fn copy(&self, alloc: Global) -> Result<Self, AllocError>

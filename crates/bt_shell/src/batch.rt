@@ -1,5 +1,5 @@
 //! The messages of a batch, and what they do to a table.
-ghost use Rattle.std.specs.Prelude.{◌≡◌, ◌∷◌, [], Some, IfErr, IfOk, OnOk, length, take};
+ghost use Rattle.std.specs.Prelude.{◌≡◌, ◌∷◌, [], Some, IfErr, IfOk, OnOk, length};
 ghost use Rattle.std.specs.List.{filter_map};
 ghost use Rattle.std.specs.Result.{result_err};
 ghost use Rattle.bt_rowtype.specs.Answers.{Answers};
@@ -9,29 +9,17 @@ ghost use Rattle.bt_script.specs.declared.command.Command.TheVariants.{Batch};
 ghost use Rattle.bt_script.specs.declared.command.Item.TheVariants as line;
 
 use crate::table::Table;
-use bt_keycode::{Key, encode};
+use bt_keycode::{Key, encode_row};
 use bt_messages::Message;
 use bt_rowtype::{
-    Change, Fields, Reading, Refusal, Row, Schema, Upsert, Value, default_row, least_with,
-    read_key, read_row, read_upsert,
+    Change, Fields, Reading, Refusal, Row, Schema, Upsert, default_row, least_with, read_key,
+    read_row, read_upsert,
 };
 use bt_script::Item;
 use std::alloc::{AllocError, Global};
 
 /// The most messages of a batch.
 pub const MOST_MESSAGES: usize = 65_536;
-
-// The key of a row, its first `keys` values.
-fn key_of(row: &Row, keys: usize) -> &[Value]
-    ensures { result.now ≡ take keys row.now }
-{
-    let values = row.as_slice();
-    if keys < values.len() {
-        &values[..keys]
-    } else {
-        values
-    }
-}
 
 // The message to put the row that fields spell, or its refusal as this item.
 fn read_put(
@@ -43,7 +31,7 @@ fn read_put(
     ensures { Answers (step.read_message schema.now item (line.Put fields.now)) result }
 {
     let row = read_row(alloc, schema, item, fields)?;
-    let key = encode(alloc, key_of(&row, schema.keys()))?;
+    let key = encode_row(alloc, &row, schema.keys())?;
     Ok((key, Message::Put(row)))
 }
 
@@ -57,7 +45,7 @@ fn read_del(
     ensures { Answers (step.read_message schema.now item (line.Del fields.now)) result }
 {
     let key = read_key(alloc, schema, item, fields)?;
-    Ok((encode(alloc, key.as_slice())?, Message::Del))
+    Ok((encode_row(alloc, &key, key.len())?, Message::Del))
 }
 
 // The message to change the row of the key that fields spell, or its refusal as this item.
@@ -70,9 +58,9 @@ fn read_ups(
     ensures { Answers (step.read_message schema.now item (line.Ups fields.now)) result }
 {
     let Upsert { key, ops } = read_upsert(alloc, schema, item, fields)?;
-    let code = encode(alloc, key.as_slice())?;
+    let code = encode_row(alloc, &key, key.len())?;
     let base = default_row(alloc, schema, key)?;
-    Ok((code, Message::Ups(Change { base, ops })))
+    Ok((code, Message::Ups(Change::new(alloc, base, ops)?)))
 }
 
 // The message that a line spells, or its refusal as this item.
