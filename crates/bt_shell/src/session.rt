@@ -93,7 +93,7 @@ fn get(alloc: Global, table: &Option<Table>, fields: &Fields) -> Result<Vec<u8>,
         return Err(Refusal::NoTable);
     };
     let key = read_key(alloc, table.schema(), 1, fields)?;
-    let row = table.get(alloc, key.as_slice())?;
+    let row = table.get(alloc, &key)?;
     Ok(row_reply(alloc, row)?)
 }
 

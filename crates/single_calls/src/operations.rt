@@ -1,7 +1,7 @@
 //! The operations of upserts.
 use crate::samples::{fields, refusal_text, row_text, shops};
 use bt_rowtype::{
-    Change, Op, Ops, Refusal, Upsert, Value, apply_ops, check_ops, copy_change, default_row,
+    Change, Op, Ops, Refusal, Upsert, Value, apply_ops, check_ops, copy_change, copy_row, default_row,
     read_ops, read_upsert, write_record,
 };
 use std::alloc::{AllocError, Global};
@@ -97,13 +97,14 @@ fn change_of(alloc: Global, line: &str) -> Result<Change, Refusal> {
     let upsert = read_upsert(alloc, &schema, 1, &fields(alloc, line)?)?;
     let Upsert { key, ops } = upsert;
     let base = default_row(alloc, &schema, key)?;
-    Ok(Change { base, ops })
+    Ok(Change::new(alloc, base, ops)?)
 }
 
 // The row of a key that had none after the upsert of a line.
 fn row_after(alloc: Global, line: &str) -> Result<Vec<u8>, Refusal> {
-    let Change { base, ops } = change_of(alloc, line)?;
-    let row = apply_ops(alloc, base, ops.as_slice())?;
+    let change = change_of(alloc, line)?;
+    let ops = change.ops(alloc)?;
+    let row = apply_ops(alloc, copy_row(alloc, change.base())?, ops.as_slice())?;
     Ok(row_text(alloc, Ok(row))?)
 }
 
@@ -117,8 +118,9 @@ fn operations_change_the_default_row(rt: HostRuntime) -> Result<(), Fail> {
 // A copy of what the upsert of a line does.
 fn copy_of(alloc: Global, line: &str) -> Result<Vec<u8>, Refusal> {
     let copy = copy_change(alloc, &change_of(alloc, line)?)?;
-    let Change { base, ops } = copy;
-    Ok(upsert_text(alloc, Ok(Upsert { key: base, ops }))?)
+    let key = copy_row(alloc, copy.base())?;
+    let ops = copy.ops(alloc)?;
+    Ok(upsert_text(alloc, Ok(Upsert { key, ops }))?)
 }
 
 #[test]

@@ -1,7 +1,7 @@
 //! Fields, records and rows.
-use crate::samples::{fields, refusal_text, row_text, shops};
+use crate::samples::{fields, refusal_text, row_text, short_text, shops};
 use bt_rowtype::{
-    Kind, Reading, Refusal, Row, Text, Texts, Value, clone_all, copy_row, read_field, read_key,
+    Kind, Reading, Refusal, Row, Texts, Value, clone_all, copy_row, read_field, read_key,
     read_record, read_row, write_record,
 };
 use std::alloc::{AllocError, Global};
@@ -13,7 +13,7 @@ fn field_text(alloc: Global, kind: Kind, field: &str) -> Result<Vec<u8>, AllocEr
         Ok(value) => {
             let mut values = Vec::new(alloc);
             values.push(value)?;
-            row_text(alloc, Ok(Row::new(values)))
+            row_text(alloc, Ok(Row::from_values(alloc, values.as_slice())?))
         }
         Err(refusal) => refusal_text(alloc, refusal),
     }
@@ -114,7 +114,7 @@ fn zeros(alloc: Global, count: u32) -> Result<Row, AllocError> {
     for _ in 0..count {
         values.push(Value::Int(0))?;
     }
-    Ok(Row::new(values))
+    Row::from_values(alloc, values.as_slice())
 }
 
 #[test]
@@ -163,7 +163,7 @@ fn records_are_read(rt: HostRuntime) -> Result<(), Fail> {
 fn texts_record(alloc: Global, texts: &str) -> Result<Vec<u8>, AllocError> {
     let mut values = Vec::new(alloc);
     for text in texts.split('|') {
-        values.push(Value::Text(Text::new(alloc, text)?))?;
+        values.push(Value::Text(short_text(alloc, text)?))?;
     }
     let mut out = Vec::from_slice(alloc, b"row ")?;
     write_record(&mut out, values.as_slice())?;
@@ -226,13 +226,13 @@ fn one_is_read_after_another(rt: HostRuntime) -> Result<(), Fail> {
 // Copies of pairs of a number and a text, as one record.
 fn copied_pairs(alloc: Global, number: i64, text: &str) -> Result<Vec<u8>, AllocError> {
     let mut pairs = Vec::new(alloc);
-    pairs.push((Value::Int(number), Value::Text(Text::new(alloc, text)?)))?;
+    pairs.push((Value::Int(number), Value::Text(short_text(alloc, text)?)))?;
     let mut values = Vec::new(alloc);
     for (first, second) in clone_all(alloc, pairs.as_slice())? {
         values.push(first)?;
         values.push(second)?;
     }
-    row_text(alloc, Ok(Row::new(values)))
+    row_text(alloc, Ok(Row::from_values(alloc, values.as_slice())?))
 }
 
 #[test]
