@@ -1,3 +1,4 @@
 pub mod Effects
 pub mod Merges
 pub mod Messages
+pub mod Places

@@ -20,6 +20,7 @@ mod entry;
 mod iter;
 mod message;
 mod packet;
+mod places;
 mod rest;
 mod sorted;
 
