@@ -29,13 +29,26 @@ fn said(alloc: Global, line: &str) -> Result<String, AllocError> {
     }
 }
 
-// Whether a help text names the option and itself.
+// What a help text is to name: the options, the commands of a script, and where its language stands.
+const NAMED: [&str; 8] = [
+    "--script <FILE>",
+    "--help",
+    "\n  table F C L K name:kind ..  ",
+    "\n  batch  ",
+    "\n  get KEY  ",
+    "\n  scan primary  ",
+    "\n  image primary  ",
+    "docs/SCRIPT.md",
+];
+
+// Whether a help text names all of it, and else the first that it does not name.
 fn help_text(alloc: Global, text: &String) -> Result<String, AllocError> {
-    if text.contains("--script <FILE>") && text.contains("--help") {
-        String::from_str(alloc, "help")
-    } else {
-        String::from_str(alloc, "no help")
+    for name in NAMED {
+        if !text.contains(name) {
+            return format!(in alloc; "no help on {name}");
+        }
     }
+    String::from_str(alloc, "help")
 }
 
 #[test]
