@@ -1,6 +1,5 @@
 -- Sorted messages cut at keys: what `take_range`, `Rest`, `iter_from` and `add` stand on.
-use Rattle.std.proofs.Common.{◌≡◌, ℕ, zero, suc, ◌<◌, ◌≤◌, Bool, true, false, not, ◌&&◌, cond, List, [], ◌∷◌, ◌++◌, ◌-◌, length, length-drop, take, drop, get_or, append_assoc, Option, Some, None, refl, sym, ap, subst, ◌∙◌, true≢false, arith}
-use Rattle.std.proofs.Math.Seq.{take-length}
+use Rattle.std.proofs.Common.{◌≡◌, ℕ, zero, suc, ◌<◌, ◌≤◌, Bool, true, false, not, ◌&&◌, cond, List, [], ◌∷◌, ◌++◌, ◌-◌, length, take, drop, get_or, append_assoc, Option, Some, None, refl, sym, ap, subst, ◌∙◌, true≢false, arith}
 use Rattle.std.proofs.lemmas.List.{take_rest}
 use Rattle.std.proofs.lemmas.List.Filters.{length-filter_both}
 use Rattle.std.specs.List.{filter}

@@ -1,6 +1,11 @@
+pub mod Counts
 pub mod Cuts
+pub mod Dividing
 pub mod Merging
-pub mod StablePlaces
+pub mod Sharing
+pub mod Slices
 pub mod Stable
+pub mod StablePlaces
+pub mod Totals
 pub mod WorkedRows
 pub mod offered

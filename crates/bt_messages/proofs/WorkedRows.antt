@@ -1,5 +1,6 @@
 -- Messages of worked batches and what they make of rows, computed from the definitions.
-use Rattle.std.proofs.Common.{◌≡◌, ℕ, ◌+◌, List, [], ◌∷◌, Option, Some, None, refl}
+use Rattle.std.proofs.Common.{◌≡◌, ℕ, ◌+◌, List, [], ◌∷◌, Option, Some, None, length, map, refl}
+use Rattle.bt_messages.specs.Bins.{added, parts}
 use Rattle.bt_messages.specs.Effects.{effect_of, rows_after}
 use Rattle.bt_messages.specs.Messages.{messages_between, messages_outside, sorted_batch, with_messages}
 use Rattle.bt_messages.specs.declared.message.Message.{Message}
@@ -26,9 +27,9 @@ batch : sorted_batch (put_at 2 7 ∷ del_at 1 ∷ del_at 2 ∷ []) ≡ del_at 1 
 unfolding key put_at del_at
 batch = refl
 
-added : with_messages (put_at 0 5 ∷ del_at 1 ∷ []) (put_at 1 6 ∷ []) ≡ put_at 0 5 ∷ put_at 1 6 ∷ del_at 1 ∷ []
+with_newer : with_messages (put_at 0 5 ∷ del_at 1 ∷ []) (put_at 1 6 ∷ []) ≡ put_at 0 5 ∷ put_at 1 6 ∷ del_at 1 ∷ []
 unfolding key put_at del_at
-added = refl
+with_newer = refl
 
 taken : messages_between (Some (key 1)) None (put_at 0 5 ∷ put_at 1 6 ∷ del_at 1 ∷ []) ≡ put_at 1 6 ∷ del_at 1 ∷ []
 unfolding key put_at del_at
@@ -50,3 +51,23 @@ upserted = refl
 apart : with_messages (add_at 1 6 ∷ []) (add_at 1 5 ∷ []) ≡ add_at 1 5 ∷ add_at 1 6 ∷ []
 unfolding key add_at
 apart = refl
+
+-- ---- bins
+
+-- puts on 1, 4, 4 and 9
+packet : List (List ℕ × Message ℕ ℕ)
+packet = put_at 1 10 ∷ put_at 4 40 ∷ put_at 4 41 ∷ put_at 9 90 ∷ []
+
+counts : map length (added (key 3 ∷ key 5 ∷ []) packet ([] ∷ [] ∷ [] ∷ [])) ≡ 1 ∷ 2 ∷ 1 ∷ []
+unfolding key put_at packet
+counts = refl
+
+-- an older message of a key stays before a newer one
+older_first : added (key 3 ∷ []) (put_at 4 41 ∷ []) ([] ∷ (put_at 4 40 ∷ del_at 5 ∷ []) ∷ []) ≡ [] ∷ (put_at 4 40 ∷ put_at 4 41 ∷ del_at 5 ∷ []) ∷ []
+unfolding key put_at del_at
+older_first = refl
+
+-- what lies at a pivot lies behind it
+at_pivot : parts (key 4 ∷ []) packet ≡ (put_at 1 10 ∷ []) ∷ (put_at 4 40 ∷ put_at 4 41 ∷ put_at 9 90 ∷ []) ∷ []
+unfolding key put_at packet
+at_pivot = refl

@@ -1,3 +1,4 @@
 -- What the crates above cite of the proofs of this one.
+pub mod Parts
 pub mod Placed
 pub mod Rows

@@ -1,12 +1,14 @@
 //! Packets: what is sent on at one time.
-ghost use Rattle.std.specs.Prelude.{◌≡◌, ◌==◌, [], IfOk, length};
+ghost use Rattle.std.specs.Prelude.{◌≡◌, ◌==◌, ◌<◌, ◌^◌, [], IfOk, length};
 ghost use Rattle.bt_keycode.specs.Keys.{IsSorted};
 ghost use Rattle.bt_messages.specs.Effects.{DoTheSame, effect_of};
-ghost use Rattle.bt_messages.specs.Messages.{sorted_batch};
+ghost use Rattle.bt_messages.specs.Messages.{messages_from, sorted_batch};
+ghost use Rattle.bt_messages.specs.Rooms.{HasRoom};
 
 use crate::iter::Messages;
 use crate::message::{Merge, Message};
 use crate::sorted;
+use crate::stream::Stream;
 use bt_keycode::Key;
 use std::alloc::{AllocError, Global};
 use std::marker::Model;
@@ -69,6 +71,36 @@ impl<V: Merge> Packet<V> {
         ensures sorted { IsSorted self.now }
     {
         Messages::of_sorted(self.messages.as_slice())
+    }
+
+    /// The messages, to be taken off in order. Takes no memory.
+    pub fn into_stream(self) -> Stream<V>
+        ensures { result ≡ self }
+    {
+        Stream::from_sorted(self.into_messages())
+    }
+
+    /// The messages with a key at or past this one, in order. The first of them is found by halving.
+    pub(crate) fn iter_from(&self, key: &Key) -> Messages<'_, V>
+        ensures { result ≡ messages_from key.now self.now }
+    {
+        let place = sorted::place_of(self.messages.as_slice(), key);
+        Messages::of_sorted(&self.messages[place..])
+    }
+
+    // Room for the messages of the packet and for so many more, where there are more.
+    pub(crate) fn room_with(
+        &self,
+        alloc: Global,
+        more: usize,
+    ) -> Result<Vec<(Key, Message<V>)>, AllocError>
+        requires { more < 2 ^ 63 }
+        ensures { IfOk result (λ room. HasRoom more self.now room) }
+    {
+        if more == 0 {
+            return Ok(Vec::new(alloc));
+        }
+        Vec::with_capacity(alloc, self.messages.len() + more)
     }
 
     // The packet of messages that are sorted by key.

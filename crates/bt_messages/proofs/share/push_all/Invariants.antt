@@ -1,0 +1,8 @@
+use Rattle.std.proofs.Common.{◌≡◌, ◌+◌, ◌≤◌, ◌++◌, length, vec_len, vec_capacity}
+use Rattle.bt_messages.proofs.share.push_all.Given as goal
+
+abbrev pub invariant-loop-entry : goal.invariant-loop-entry
+invariant-loop-entry g l = record {
+  pushed : l.fn.merged.items ++ l.fn.messages.items ≡ l.merged.items ++ l.entry-iterator.rest.items;
+  room : vec_len l.merged + length l.entry-iterator.rest.items ≤ vec_capacity l.merged;
+}

@@ -1,0 +1,19 @@
+use Rattle.std.proofs.Common.{◌<◌, arith, length}
+use Rattle.std.proofs.lemmas.Grind.{common_steps}
+use Rattle.bt_messages.proofs.Sharing.{any_default, room_more}
+use Rattle.bt_messages.proofs.Totals.{at_most_total}
+use Rattle.bt_messages.proofs.share.room_for_each.Goals as goal
+
+pub room_with-requires : goal.room_with-requires
+room_with-requires g c = omega (arith, c.requires.bound, at_most_total c.args.shares.now c.loop-place.place 0 c.loop-place-test.true)
+
+pub loop-place-preserved : goal.loop-place-preserved
+loop-place-preserved g c =
+    let within : c.loop-place.place < length c.args.shares.now = c.loop-place-test.true in
+    let below : c.loop-place.place < length c.args.packets.now = omega (arith, within, c.requires.len) in
+    record {
+      room = room_more c.loop-place.place c.args.shares.now c.args.packets.now c.loop-place.rooms.items c.push_reserved.new.self.items _ c.index-packets-place.result c.in_ok-room.room
+          c.loop-place.invariant.len within below (any_default c.args.shares.now c.loop-place.place 0 _ within) c.index-packets-place.is c.in_ok-room.ensures c.push_reserved.ensures.items c.loop-place.invariant.room;
+      len = grind (arith, common_steps);
+      capacity = grind (arith, common_steps);
+    }

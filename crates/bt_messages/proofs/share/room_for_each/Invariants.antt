@@ -1,0 +1,10 @@
+use Rattle.std.proofs.Common.{◌≡◌, ◌≤◌, length, take, vec_capacity}
+use Rattle.bt_messages.specs.Rooms.{HaveRoom}
+use Rattle.bt_messages.proofs.share.room_for_each.Given as goal
+
+abbrev pub invariant-loop-place : goal.invariant-loop-place
+invariant-loop-place g l = record {
+  room : HaveRoom (take l.place l.shares) l.packets l.rooms.items;
+  len : length l.rooms.items ≡ l.place;
+  capacity : length l.shares ≤ vec_capacity l.rooms;
+}

@@ -1,0 +1,227 @@
+//! Bins: what is pending at a node, one packet for each child.
+ghost use Rattle.std.specs.Prelude.{◌≡◌, ◌+◌, ◌<◌, ◌≤◌, ◌++◌, ◌^◌, [], IfOk, OnOk, OnErr, drop, length, map, replicate, slice_index_or, slice_set, take, vec_capacity, vec_len};
+ghost use Rattle.bt_keycode.specs.Keys.{IsSorted};
+ghost use Rattle.bt_messages.specs.Bins.{added, each_with, joined, parted, total};
+ghost use Rattle.bt_messages.specs.Messages.{messages_from};
+
+use crate::iter::Messages;
+use crate::joined::Joined;
+use crate::message::Merge;
+use crate::packet::Packet;
+use crate::share::{move_each, room_for_each};
+use crate::stream::Stream;
+use bt_keycode::Key;
+use std::alloc::{AllocError, Global};
+use std::marker::Model;
+use std::mem::replace;
+
+/// A list of messages for each child, sorted by key, those of one key in the order in which they came.
+#[derive(Drop)]
+pub struct Bins<V: Merge> {
+    bins: Vec<Packet<V>>,
+    count: u128,
+}
+
+impl<V: Merge> Model for Bins<V> {
+    ghost use Rattle.std.specs.Prelude.{◌≡◌, List, length, map, ℕ};
+    ghost use Rattle.bt_messages.specs.Bins.{total};
+    ghost use Rattle.bt_messages.specs.declared.message.Message.{Message};
+
+    ghost Value = { List (List (List ℕ × Message V V.Delta)) };
+
+    ghost view = { λ b. b.bins.items };
+
+    ghost invariant = { λ b. b.count ≡ total (map length b.bins.items) };
+}
+
+// The number of messages of all packets.
+fn count_all<V: Merge>(packets: &[Packet<V>]) -> u128
+    ensures { result ≡ total (map length packets.now) }
+{
+    let mut count = 0;
+    for packet in packets {
+        count += packet.len() as u128;
+    }
+    count
+}
+
+// Puts so many empty packets behind the others, where there is room.
+fn push_empty<V: Merge>(alloc: Global, packets: &mut Vec<Packet<V>>, count: usize)
+    requires { vec_len packets.old + count ≤ vec_capacity packets.old }
+    ensures pushed { packets.new.items ≡ packets.old.items ++ replicate count [] }
+    ensures capacity { vec_capacity packets.new ≡ vec_capacity packets.old }
+{
+    for _ in 0..count {
+        packets.push_reserved(Packet::new(alloc));
+    }
+}
+
+// Puts so many empty packets before the one at a place.
+fn insert_empty<V: Merge>(
+    alloc: Global,
+    packets: &mut Vec<Packet<V>>,
+    place: usize,
+    count: usize,
+) -> Result<(), AllocError>
+    requires { place < length packets.old.items }
+    ensures inserted { OnOk result (packets.new.items ≡ take place packets.old.items ++ replicate count [] ++ drop place packets.old.items) }
+    ensures err { OnErr result (packets.new.items ≡ packets.old.items) }
+{
+    packets.reserve(count)?;
+    let mut later = packets.split_off(place)?;
+    push_empty(alloc, packets, count);
+    packets.append(&mut later)
+}
+
+impl<V: Merge> Bins<V> {
+    /// So many empty bins.
+    pub fn new(alloc: Global, children: usize) -> Result<Self, AllocError>
+        ensures { IfOk result (λ bins. bins ≡ replicate children []) }
+    {
+        let mut bins = Vec::with_capacity(alloc, children)?;
+        push_empty(alloc, &mut bins, children);
+        Ok(Bins { bins, count: 0 })
+    }
+
+    /// A bin of each packet, in order. Takes no memory.
+    pub fn from_packets(packets: Vec<Packet<V>>) -> Self
+        ensures { result ≡ packets.items }
+    {
+        let count = count_all(packets.as_slice());
+        Bins {
+            bins: packets,
+            count,
+        }
+    }
+
+    /// The bins as packets, in order. Takes no memory.
+    pub fn into_packets(self) -> Vec<Packet<V>>
+        ensures { result.items ≡ self }
+    {
+        let Bins {
+            bins,
+            count: _count,
+        } = self;
+        bins
+    }
+
+    /// The number of bins.
+    pub fn len(&self) -> usize
+        ensures { result ≡ length self.now }
+    {
+        self.bins.len()
+    }
+
+    /// The number of messages of a bin.
+    pub fn count(&self, child: usize) -> u64
+        requires { child < length self.now }
+        ensures { result ≡ length (slice_index_or self.now child []) }
+    {
+        self.bins[child].len() as u64
+    }
+
+    /// The number of messages of all bins. It is kept, so that nothing is added up.
+    pub fn total(&self) -> u128
+        ensures total { result ≡ total (map length self.now) }
+        ensures joined { result ≡ length (joined self.now) }
+    {
+        self.count
+    }
+
+    /// The messages of a bin, in order.
+    pub fn bin(&self, child: usize) -> Messages<'_, V>
+        requires { child < length self.now }
+        ensures messages { result ≡ slice_index_or self.now child [] }
+        ensures sorted { IsSorted result }
+    {
+        self.bins[child].iter()
+    }
+
+    /// The messages of a bin with a key at or past this one, in order. The first of them is found by halving.
+    pub fn bin_from(&self, child: usize, key: &Key) -> Messages<'_, V>
+        requires { child < length self.now }
+        ensures messages { result ≡ messages_from key.now (slice_index_or self.now child []) }
+        ensures sorted { IsSorted result }
+    {
+        self.bins[child].iter_from(key)
+    }
+
+    /// All messages, the bins one after the other.
+    pub fn iter(&self) -> Joined<'_, V>
+        ensures { result ≡ joined self.now }
+    {
+        Joined::of(self.bins.as_slice())
+    }
+
+    /// Moves so many messages from the front of a stream to each bin, each after those of its key. An `Err` changes nothing.
+    pub fn add_shares(
+        &mut self,
+        alloc: Global,
+        stream: &mut Stream<V>,
+        shares: &[usize],
+    ) -> Result<(), AllocError>
+        requires len { length shares.now ≡ length self.old }
+        requires enough { total shares.now ≤ length stream.old }
+        ensures added { OnOk result (self.new ≡ each_with (parted shares.now stream.old) self.old) }
+        ensures left { OnOk result (stream.new ≡ drop (total shares.now) stream.old) }
+        ensures err { OnErr result (self.new ≡ self.old) }
+        ensures err_stream { OnErr result (stream.new ≡ stream.old) }
+    {
+        let _bound = stream.len();
+        let rooms = room_for_each(alloc, self.bins.as_slice(), shares)?;
+        move_each(alloc, &mut self.bins, rooms, stream, shares);
+        self.count = count_all(self.bins.as_slice());
+        Ok(())
+    }
+
+    /// Adds the messages of a packet, each to the bin of its child, after those of its key. An `Err` changes nothing, and the packet is
+    /// gone.
+    pub fn add(
+        &mut self,
+        alloc: Global,
+        pivots: &[Key],
+        packet: Packet<V>,
+    ) -> Result<(), AllocError>
+        requires { length self.old ≡ length pivots.now + 1 }
+        ensures added { OnOk result (self.new ≡ added pivots.now packet self.old) }
+        ensures err { OnErr result (self.new ≡ self.old) }
+    {
+        let mut stream = packet.into_stream();
+        let shares = stream.shares(alloc, stream.len(), pivots)?;
+        self.add_shares(alloc, &mut stream, shares.as_slice())
+    }
+
+    /// Takes the messages of a bin, which is then empty. Takes no memory.
+    pub fn take(&mut self, alloc: Global, child: usize) -> Packet<V>
+        requires { child < length self.old }
+        ensures taken { result ≡ slice_index_or self.old child [] }
+        ensures left { self.new ≡ slice_set self.old child [] }
+    {
+        self.count -= self.bins[child].len() as u128;
+        replace(&mut self.bins[child], Packet::new(alloc))
+    }
+
+    /// Makes an empty bin into so many empty ones. An `Err` changes nothing.
+    pub fn spread(&mut self, alloc: Global, child: usize, parts: usize) -> Result<(), AllocError>
+        requires child { child < length self.old }
+        requires empty { slice_index_or self.old child [] ≡ [] }
+        requires parts { 1 ≤ parts }
+        ensures spread { OnOk result (self.new ≡ take child self.old ++ replicate parts [] ++ drop (child + 1) self.old) }
+        ensures err { OnErr result (self.new ≡ self.old) }
+    {
+        insert_empty(alloc, &mut self.bins, child, parts - 1)
+    }
+
+    /// Takes off the bins from a place on. An `Err` changes nothing.
+    pub fn divide(&mut self, at: usize) -> Result<Bins<V>, AllocError>
+        requires { at ≤ length self.old }
+        ensures left { OnOk result (self.new ≡ take at self.old) }
+        ensures taken { IfOk result (λ taken. taken ≡ drop at self.old) }
+        ensures err { OnErr result (self.new ≡ self.old) }
+    {
+        let bins = self.bins.split_off(at)?;
+        let taken = Bins::from_packets(bins);
+        self.count -= taken.total();
+        Ok(taken)
+    }
+}

@@ -1,0 +1,56 @@
+//! The messages of several packets, gone through one packet after the other.
+ghost use Rattle.std.specs.Prelude.{◌≡◌, ◌++◌, [], length};
+ghost use Rattle.std.specs.Iterator.{YieldsFirstBy, item_count};
+ghost use Rattle.bt_messages.specs.Bins.{joined};
+
+use crate::iter::Messages;
+use crate::message::{Merge, Message};
+use crate::packet::Packet;
+use bt_keycode::Key;
+use std::marker::Model;
+
+/// The messages of packets, one packet after the other. A contract sees the list of those that are left.
+#[derive(Drop)]
+pub struct Joined<'a, V: Merge> {
+    first: Messages<'a, V>,
+    others: &'a [Packet<V>],
+}
+
+impl<'a, V: Merge> Model for Joined<'a, V> {
+    ghost use Rattle.std.specs.Prelude.{◌++◌, List, ℕ};
+    ghost use Rattle.bt_messages.specs.Bins.{joined};
+    ghost use Rattle.bt_messages.specs.declared.message.Message.{Message};
+
+    ghost Value = { List (List ℕ × Message V V.Delta) };
+
+    ghost view = { λ j. j.first ++ joined j.others.now };
+}
+
+impl<'a, V: Merge> Joined<'a, V> {
+    // The messages of these packets.
+    pub(crate) fn of(packets: &'a [Packet<V>]) -> Self
+        ensures { result ≡ joined packets.now }
+    {
+        Joined {
+            first: Messages::none(),
+            others: packets,
+        }
+    }
+}
+
+impl<'a, V: Merge> Iterator for Joined<'a, V> {
+    type Item = (&'a Key, &'a Message<V>);
+
+    ghost next_gives = { YieldsFirstBy (λ m. (m.0.now, m.1.now)) (λ left. left) };
+
+    ghost remaining = { item_count (λ left. left) };
+
+    fn next(&mut self) -> Option<(&'a Key, &'a Message<V>)> {
+        while self.first.count_left() == 0 {
+            let (packet, others) = self.others.split_first()?;
+            self.first = packet.iter();
+            self.others = others;
+        }
+        self.first.next()
+    }
+}

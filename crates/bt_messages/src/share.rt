@@ -1,0 +1,114 @@
+//! Shares of a stream, moved to packets.
+ghost use Rattle.std.specs.Prelude.{◌≡◌, ◌+◌, ◌<◌, ◌≤◌, ◌++◌, ◌^◌, IfOk, drop, length, take, vec_len, vec_capacity};
+ghost use Rattle.bt_messages.specs.Bins.{each_with, parted, total};
+ghost use Rattle.bt_messages.specs.Messages.{with_messages};
+ghost use Rattle.bt_messages.specs.Rooms.{HasRoom, HaveRoom};
+
+use crate::message::{Merge, Message};
+use crate::packet::Packet;
+use crate::sorted;
+use crate::stream::Stream;
+use bt_keycode::Key;
+use std::alloc::{AllocError, Global};
+use std::collections::VecDeque;
+use std::mem::replace;
+
+/// For each packet, room for what it holds and is to gain.
+pub(crate) fn room_for_each<V: Merge>(
+    alloc: Global,
+    packets: &[Packet<V>],
+    shares: &[usize],
+) -> Result<Vec<Vec<(Key, Message<V>)>>, AllocError>
+    requires len { length shares.now ≡ length packets.now }
+    requires bound { total shares.now < 2 ^ 63 }
+    ensures room { IfOk result (λ rooms. HaveRoom shares.now packets.now rooms.items) }
+    ensures len { IfOk result (λ rooms. length rooms.items ≡ length shares.now) }
+{
+    let mut rooms = Vec::with_capacity(alloc, shares.len())?;
+    for place in 0..shares.len() {
+        let room = packets[place].room_with(alloc, shares[place])?;
+        rooms.push_reserved(room);
+    }
+    Ok(rooms)
+}
+
+// Moves messages behind others for which there is room.
+fn push_all<V: Merge>(merged: &mut Vec<(Key, Message<V>)>, messages: VecDeque<(Key, Message<V>)>)
+    requires { vec_len merged.old + length messages.items ≤ vec_capacity merged.old }
+    ensures { merged.new.items ≡ merged.old.items ++ messages.items }
+{
+    for entry in messages {
+        merged.push_reserved(entry);
+    }
+}
+
+// Moves older messages and the first ones of a stream to where there is room, an older one before a newer one of its key.
+fn merge_front<V: Merge>(
+    merged: &mut Vec<(Key, Message<V>)>,
+    older: Vec<(Key, Message<V>)>,
+    stream: &mut Stream<V>,
+    count: usize,
+)
+    requires count { count ≤ length stream.old }
+    requires room { vec_len merged.old + vec_len older + count ≤ vec_capacity merged.old }
+    ensures merged { merged.new.items ≡ merged.old.items ++ with_messages (take count stream.old) older.items }
+    ensures left { stream.new ≡ drop count stream.old }
+{
+    let mut older = VecDeque::from(older);
+    for _ in 0..count {
+        if let Some((key, message)) = stream.pop() {
+            sorted::move_up_to(merged, &mut older, &key);
+            merged.push_reserved((key, message));
+        }
+    }
+    push_all(merged, older);
+}
+
+// Moves the first messages of a stream to a packet, whose messages then stand where room was made for all.
+fn gain<V: Merge>(
+    alloc: Global,
+    packet: &mut Packet<V>,
+    room: &mut Vec<(Key, Message<V>)>,
+    stream: &mut Stream<V>,
+    count: usize,
+)
+    requires count { count ≤ length stream.old }
+    requires room { HasRoom count packet.old room.old }
+    ensures gained { packet.new ≡ with_messages (take count stream.old) packet.old }
+    ensures left { stream.new ≡ drop count stream.old }
+{
+    if count == 0 {
+        return;
+    }
+    let older = replace(packet, Packet::new(alloc));
+    let mut merged = replace(room, Vec::new(alloc));
+    merge_front(&mut merged, older.into_messages(), stream, count);
+    *packet = Packet::from_sorted(merged);
+}
+
+/// Moves so many messages from the front of a stream to each packet, by way of the rooms.
+pub(crate) fn move_each<V: Merge>(
+    alloc: Global,
+    packets: &mut Vec<Packet<V>>,
+    rooms: Vec<Vec<(Key, Message<V>)>>,
+    stream: &mut Stream<V>,
+    shares: &[usize],
+)
+    requires len { length shares.now ≡ length packets.old.items }
+    requires rooms_len { length rooms.items ≡ length shares.now }
+    requires enough { total shares.now ≤ length stream.old }
+    requires room { HaveRoom shares.now packets.old.items rooms.items }
+    ensures moved { packets.new.items ≡ each_with (parted shares.now stream.old) packets.old.items }
+    ensures left { stream.new ≡ drop (total shares.now) stream.old }
+{
+    let mut rooms = rooms;
+    for place in 0..shares.len() {
+        gain(
+            alloc,
+            &mut packets[place],
+            &mut rooms[place],
+            stream,
+            shares[place],
+        );
+    }
+}
