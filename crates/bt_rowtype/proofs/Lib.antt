@@ -1,5 +1,6 @@
 pub mod Columnwise
 pub mod Exits
+pub mod Found
 pub mod Groups
 pub mod IntTexts
 pub mod Marks
@@ -11,5 +12,6 @@ pub mod Quotes
 pub mod ReaderSteps
 pub mod ReadFits
 pub mod RecordTexts
+pub mod Returns
 pub mod RowFits
 pub mod WorkedOps
