@@ -69,7 +69,7 @@ fn parse_item(text: &[u8]) -> Option<Item<'_>>
 
 // The messages of some lines, and that of one more, which has no carriage return at its end.
 fn and_item<'a>(items: Option<Items<'a>>, line: &'a [u8]) -> Result<Option<Items<'a>>, AllocError>
-    ensures { IfOk result (λ all. all ≡ and_line items line.now) }
+    ensures { IfOk result (λ all. all ≡ and_line items.entry line.now) }
 {
     let text = without_spaces(line);
     if text.is_empty() {
@@ -235,7 +235,7 @@ fn table_command<'a>(
 }
 
 fn batch_command<'a>(words: &[&[u8]], items: Option<Items<'a>>) -> Option<Command<'a>>
-    ensures { result ≡ spec.batch_of (map (λ w. w.now) words.now) items }
+    ensures { result ≡ spec.batch_of (map (λ w. w.now) words.now) items.entry }
 {
     if words.len() == 1 {
         items.map(Command::Batch)
@@ -282,7 +282,7 @@ fn image_command<'a>(
 }
 
 fn parsed<'a>(command: Option<Command<'a>>, closed: bool, next: usize) -> Parsed<'a>
-    ensures found { (script : List ℕ) → spec.Finds result script (ended closed command ∷ spec.commands (drop next script)) }
+    ensures found { (script : List ℕ) → spec.Finds result script (ended closed command.entry ∷ spec.commands (drop next script)) }
     ensures past { (at : ℕ) (script : List ℕ) → at < next → next ≤ length script → spec.NextPast result at script }
 {
     match (command, closed) {

@@ -110,9 +110,9 @@ fn image(alloc: Global, table: &Option<Table>, tree: &Text) -> Result<Vec<u8>, R
 
 // The reply to a command that is not refused, or its refusal.
 fn answer(alloc: Global, table: &mut Option<Table>, command: Command<'_>) -> Result<Vec<u8>, Refusal>
-    ensures done { OnOk result (step.IsCarriedOut table.old table.new command) }
-    ensures text { IfOk result (λ text. text.items ≡ step.reply_to table.old command) }
-    ensures refused { IfErr result (step.IsRefused table.old table.new command) }
+    ensures done { OnOk result (step.IsCarriedOut table.old table.new command.entry) }
+    ensures text { IfOk result (λ text. text.items ≡ step.reply_to table.old command.entry) }
+    ensures refused { IfErr result (step.IsRefused table.old table.new command.entry) }
 {
     match command {
         Command::Table(form) => {
@@ -135,8 +135,8 @@ fn take_turn(
     table: &mut Option<Table>,
     command: Command<'_>,
 ) -> Result<Vec<u8>, AllocError>
-    ensures text { IfOk result (λ text. text.items ≡ (step.turn table.old (Ok command)).1) }
-    ensures state { OnOk result (table.new ≡ (step.turn table.old (Ok command)).0) }
+    ensures text { IfOk result (λ text. text.items ≡ (step.turn table.old (Ok command.entry)).1) }
+    ensures state { OnOk result (table.new ≡ (step.turn table.old (Ok command.entry)).0) }
 {
     match answer(alloc, table, command) {
         Ok(text) => Ok(text),
