@@ -1,10 +1,14 @@
 //! A line in which a record stands.
-ghost use Rattle.std.specs.Prelude.{◌≡◌, ◌==◌, is_some, true};
+ghost use Rattle.std.specs.Prelude.{◌≡◌, ◌==◌, is_some, true, IfOk};
 ghost use Rattle.std.specs.List.{list_all, list_any};
 ghost use Rattle.csv.specs.Reading.{strip_bom};
 ghost use Rattle.bt_rowtype.specs.Records.{csv_record, fields_in, has_mark as is_behind_mark, record_of};
 
+use crate::cut::cut_plain;
+use crate::fields::Fields;
+use crate::reader::unescape;
 use memchr::memchr;
+use std::alloc::{AllocError, Global};
 use std::marker::Model;
 
 /// A line in which a record stands, not cut yet. A contract sees its fields.
@@ -70,5 +74,21 @@ impl<'a> RecordLine<'a> {
         ensures fields { self.now ≡ fields_in result.now }
     {
         self.text
+    }
+
+    /// The fields, owned.
+    pub fn fields(&self, alloc: Global) -> Result<Fields, AllocError>
+        ensures { IfOk result (λ fields. fields ≡ self.now) }
+    {
+        let mut bytes = Vec::new(alloc);
+        let mut places = Vec::new(alloc);
+        if cut_plain(&mut places, self.text, usize::MAX)? {
+            bytes.extend_from_slice(self.text)?;
+            return Ok(Fields::from_parts(bytes, places));
+        }
+        if unescape(&mut bytes, &mut places, self.text, usize::MAX)? {
+            return Ok(Fields::from_parts(bytes, places));
+        }
+        unreachable!()
     }
 }

@@ -5,37 +5,18 @@ ghost use Rattle.csv.specs.Writing.{default_writer, escaped, field_text, needs_q
 ghost use Rattle.bt_rowtype.specs.Records.{Grows, record_of, record_text};
 ghost use Rattle.bt_rowtype.specs.Values.{text_of};
 
-use crate::cut::cut_plain;
 use crate::fields::Fields;
 use crate::line::RecordLine;
-use crate::reader::unescape;
 use crate::value::Value;
 use itoa::Buffer;
 use std::alloc::{AllocError, Global};
-
-// The fields of a line, owned.
-fn own_fields(alloc: Global, line: &RecordLine<'_>) -> Result<Fields, AllocError>
-    ensures { IfOk result (λ fields. fields ≡ line.now) }
-{
-    let text = line.text();
-    let mut bytes = Vec::new(alloc);
-    let mut places = Vec::new(alloc);
-    if cut_plain(&mut places, text, usize::MAX)? {
-        bytes.extend_from_slice(text)?;
-        return Ok(Fields::from_parts(bytes, places));
-    }
-    if unescape(&mut bytes, &mut places, text, usize::MAX)? {
-        return Ok(Fields::from_parts(bytes, places));
-    }
-    unreachable!()
-}
 
 /// The fields of the record that stands in a line, or `None` where none does, as [`RecordLine::new`] says.
 pub fn read_record(alloc: Global, line: &[u8]) -> Result<Option<Fields>, AllocError>
     ensures { IfOk result (λ fields. fields ≡ record_of line.now) }
 {
     match RecordLine::new(line) {
-        Some(line) => Ok(Some(own_fields(alloc, &line)?)),
+        Some(line) => Ok(Some(line.fields(alloc)?)),
         None => Ok(None),
     }
 }
