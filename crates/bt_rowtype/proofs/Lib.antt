@@ -1,5 +1,6 @@
 pub mod Columnwise
 pub mod Exits
+pub mod Found
 pub mod Groups
 pub mod IntTexts
 pub mod Marks
@@ -13,6 +14,7 @@ pub mod ReaderSteps
 pub mod ReadFits
 pub mod RecordTexts
 pub mod Replacements
+pub mod Returns
 pub mod RowFits
 pub mod Walks
 pub mod WorkedOps

@@ -7,7 +7,7 @@ ghost use Rattle.bt_rowtype.specs.Values.{or_refused, read_as, value_of, values_
 ghost use Rattle.bt_rowtype.specs.Views.{shown};
 
 use crate::field::read_value;
-use crate::fields::Fields;
+use crate::fields::{Fields, Record};
 use crate::packed_row::Row;
 use crate::refusal::Refusal;
 use crate::schema::{Column, Schema};
@@ -27,7 +27,7 @@ pub(crate) fn read_at(kind: Kind, item: u64, field: &[u8]) -> Result<ValueRef<'_
 }
 
 // The bytes that values of these columns take, of which texts have the bytes of their fields.
-fn room_for(columns: &[Column], fields: &Fields) -> usize
+fn room_for(columns: &[Column], fields: &Record<'_>) -> usize
     requires { length columns.now ≤ length fields.now }
 {
     let mut room: usize = 0;
@@ -47,7 +47,7 @@ pub(crate) fn read_fields(
     alloc: Global,
     columns: &[Column],
     item: u64,
-    fields: &Fields,
+    fields: &Record<'_>,
 ) -> Result<Row, Refusal>
     requires { length columns.now ≤ length fields.now }
     ensures { Answers (or_refused (Refusal.BadField item) (values_of columns.now (take (length columns.now) fields.now))) result }
@@ -60,11 +60,11 @@ pub(crate) fn read_fields(
 }
 
 // The values that fields spell, one for each column.
-fn read_values(
+pub(crate) fn read_values(
     alloc: Global,
     columns: &[Column],
     item: u64,
-    fields: &Fields,
+    fields: &Record<'_>,
 ) -> Result<Row, Refusal>
     ensures answer { Answers (read_as columns.now item fields.now) result }
     ensures certain { length fields.now ≢ length columns.now → result ≡ Err (Refusal.BadLength item) }
@@ -81,7 +81,7 @@ pub fn read_row(alloc: Global, schema: &Schema, item: u64, fields: &Fields) -> R
     ensures answer { Answers (read_as schema.now.columns item fields.now) result }
     ensures certain { length fields.now ≢ length schema.now.columns → result ≡ Err (Refusal.BadLength item) }
 {
-    read_values(alloc, schema.columns(), item, fields)
+    read_values(alloc, schema.columns(), item, &fields.as_record())
 }
 
 /// The values of the key that a record spells, one field for each key column, refused as in [`read_row`].
@@ -89,5 +89,5 @@ pub fn read_key(alloc: Global, schema: &Schema, item: u64, fields: &Fields) -> R
     ensures answer { Answers (read_as (take schema.now.keys schema.now.columns) item fields.now) result }
     ensures certain { length fields.now ≢ schema.now.keys → result ≡ Err (Refusal.BadLength item) }
 {
-    read_values(alloc, schema.key_columns(), item, fields)
+    read_values(alloc, schema.key_columns(), item, &fields.as_record())
 }

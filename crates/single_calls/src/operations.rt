@@ -1,8 +1,8 @@
 //! The operations of upserts.
 use crate::samples::{fields, refusal_text, row_text, shops};
 use bt_rowtype::{
-    Change, Op, Ops, Refusal, Upsert, Value, apply_ops, check_ops, copy_change, copy_row, default_row,
-    read_ops, read_upsert, write_record,
+    Change, Op, Ops, RecordLine, RecordReader, Refusal, Upsert, Value, apply_ops, check_ops,
+    copy_change, copy_row, default_row, read_ops, read_upsert, write_record,
 };
 use std::alloc::{AllocError, Global};
 use std::test::Fail;
@@ -75,6 +75,16 @@ fn upsert_of(alloc: Global, line: &str) -> Result<Vec<u8>, Refusal> {
     Ok(upsert_text(alloc, read_upsert(alloc, &schema, 4, &fields))?)
 }
 
+// The same, read of the line by a reader.
+fn upsert_of_line(alloc: Global, line: &str) -> Result<Vec<u8>, Refusal> {
+    let schema = shops(alloc)?;
+    let mut reader = RecordReader::new(alloc);
+    match RecordLine::new(line.as_bytes()) {
+        Some(line) => Ok(upsert_text(alloc, reader.read_upsert(alloc, &schema, 4, &line))?),
+        None => Ok(Vec::new(alloc)),
+    }
+}
+
 #[test]
 fn upserts_are_read(rt: HostRuntime) -> Result<(), Fail> {
     for (line, expected) in [
@@ -83,10 +93,9 @@ fn upserts_are_read(rt: HostRuntime) -> Result<(), Fail> {
         ("9,add,city,1", "NotInt 0"),
         ("x", "BadLength 4"),
     ] {
-        assert_eq!(rt;
-            upsert_of(rt.alloc(), line)?.as_slice(),
-            expected.as_bytes()
-        );
+        for text in [upsert_of(rt.alloc(), line)?, upsert_of_line(rt.alloc(), line)?] {
+            assert_eq!(rt; text.as_slice(), expected.as_bytes());
+        }
     }
     Ok(())
 }

@@ -1,7 +1,7 @@
 //! Commands, command lines, and the statuses of the program.
 use crate::samples::{fields, row_text};
 use crate::streams::{Failing, Full};
-use bt_rowtype::{Fields, Schema, Texts, read_row};
+use bt_rowtype::{RecordLine, Schema, Texts, read_row};
 use bt_shell::{Command, Counted, Item, Parsed, WordsError, parse_command, program, read_words};
 use std::alloc::{AllocError, Global};
 use std::test::Fail;
@@ -110,7 +110,13 @@ fn statuses(rt: HostRuntime) -> Result<(), Fail> {
 }
 
 // Adds the sign of a message and its fields, each behind a bar.
-fn add_item(out: &mut Vec<u8>, sign: &str, fields: &Fields) -> Result<(), AllocError> {
+fn add_item(
+    alloc: Global,
+    out: &mut Vec<u8>,
+    sign: &str,
+    line: &RecordLine<'_>,
+) -> Result<(), AllocError> {
+    let fields = line.fields(alloc)?;
     out.extend_from_slice(sign.as_bytes())?;
     for place in 0..fields.len() {
         out.extend_from_slice(b"|")?;
@@ -129,9 +135,9 @@ fn batch_text(alloc: Global, script: &[u8]) -> Result<Vec<u8>, AllocError> {
     {
         for item in items.into_vec() {
             match item {
-                Item::Put(fields) => add_item(&mut out, "+", &fields)?,
-                Item::Del(fields) => add_item(&mut out, "-", &fields)?,
-                Item::Ups(fields) => add_item(&mut out, "~", &fields)?,
+                Item::Put(line) => add_item(alloc, &mut out, "+", &line)?,
+                Item::Del(line) => add_item(alloc, &mut out, "-", &line)?,
+                Item::Ups(line) => add_item(alloc, &mut out, "~", &line)?,
             }
         }
     }

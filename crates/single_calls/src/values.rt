@@ -1,8 +1,8 @@
 //! Fields, records and rows.
 use crate::samples::{fields, refusal_text, row_text, short_text, shops};
 use bt_rowtype::{
-    Kind, Reading, Refusal, Row, Texts, Value, clone_all, copy_row, read_field, read_key,
-    read_record, read_row, write_record,
+    Kind, Reading, RecordLine, RecordReader, Refusal, Row, Texts, Value, clone_all, copy_row,
+    read_field, read_key, read_record, read_row, write_record,
 };
 use std::alloc::{AllocError, Global};
 use std::test::Fail;
@@ -155,6 +155,39 @@ fn records_are_read(rt: HostRuntime) -> Result<(), Fail> {
     ];
     for (line, expected) in lines {
         assert_eq!(rt; record_text(alloc, line)?.as_slice(), expected);
+    }
+    Ok(())
+}
+
+// The rows that one reader reads of lines of the shops in turn, and behind each the keys, each behind a bar.
+fn rows_in_turn(alloc: Global, lines: &[&str]) -> Result<Vec<u8>, Refusal> {
+    let schema = shops(alloc)?;
+    let mut reader = RecordReader::new(alloc);
+    let mut out = Vec::new(alloc);
+    for line in lines {
+        if let Some(line) = RecordLine::new(line.as_bytes()) {
+            let row = reader.read_row(alloc, &schema, 3, &line);
+            let key = reader.read_key(alloc, &schema, 5, &line);
+            for text in [row_text(alloc, row)?, row_text(alloc, key)?] {
+                out.extend_from_slice(b"|")?;
+                out.extend_from_slice(text.as_slice())?;
+            }
+        }
+    }
+    Ok(out)
+}
+
+#[test]
+fn lines_are_read_in_turn(rt: HostRuntime) -> Result<(), Fail> {
+    let long = "|BadLength 3|BadLength 5";
+    for (lines, expected) in [
+        (["1,2,Bonn,true", "\"3\"", "4,5,,no"], "|1,2,Bonn,true|BadLength 5|BadLength 3|3|BadField 3|BadLength 5"),
+        (["\"3\",4,\"a, b\",false", "5", "\r"], "|3,4,\"a, b\",false|BadLength 5|BadLength 3|5"),
+        (["", "8,9,x,true,10", ""], long),
+        (["", "\"8\",9,x,true,10", ""], long),
+        (["", "\"8,9,x\",true", "\n"], long),
+    ] {
+        assert_eq!(rt; rows_in_turn(rt.alloc(), &lines)?.as_slice(), expected.as_bytes());
     }
     Ok(())
 }
