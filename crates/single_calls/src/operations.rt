@@ -1,8 +1,8 @@
 //! The operations of upserts.
 use crate::samples::{fields, refusal_text, row_text, shops};
 use bt_rowtype::{
-    Change, Op, Ops, Refusal, Upsert, Value, apply_ops, check_ops, copy_change, copy_row, default_row,
-    read_ops, read_upsert, write_record,
+    Change, Op, Ops, Refusal, Upsert, Value, apply_ops, check_ops, copy_change, copy_row,
+    default_row, read_ops, read_upsert, write_record,
 };
 use std::alloc::{AllocError, Global};
 use std::test::Fail;
