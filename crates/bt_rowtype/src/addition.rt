@@ -4,7 +4,6 @@ ghost use Rattle.std.specs.Int.{saturate_to_bits};
 ghost use Rattle.bt_rowtype.specs.Ops.{after_op};
 ghost use Rattle.bt_rowtype.specs.Additions.{number_of};
 ghost use Rattle.bt_rowtype.specs.Packing.{IsPacked, first_of, int_bytes, unpacked, width_of};
-
 ghost use Rattle.bt_rowtype.specs.declared.op.Op.TheVariants.{Add};
 
 use crate::packed::{int_at, offset, tail};

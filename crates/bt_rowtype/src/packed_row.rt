@@ -117,7 +117,9 @@ fn replaced(
     ensures in_range { IfOk result (λ _. IsInRange (shown value.entry)) }
 {
     let rest = tail(bytes, end);
-    let room = width_of_value(value).saturating_add(at).saturating_add(rest.len());
+    let room = width_of_value(value)
+        .saturating_add(at)
+        .saturating_add(rest.len());
     let mut new = RowBytes::with_room(alloc, room)?;
     new.push(alloc, front(bytes, at), &[])?;
     add_value(&mut new, alloc, value)?;

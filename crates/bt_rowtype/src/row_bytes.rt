@@ -75,12 +75,7 @@ fn write_behind(short: &mut Inline, first: &[u8], second: &[u8])
 }
 
 // The bytes of all three, in a list of exactly their number.
-fn joined(
-    alloc: Global,
-    bytes: &[u8],
-    first: &[u8],
-    second: &[u8],
-) -> Result<Vec<u8>, AllocError>
+fn joined(alloc: Global, bytes: &[u8], first: &[u8], second: &[u8]) -> Result<Vec<u8>, AllocError>
     ensures { IfOk result (λ list. list.items ≡ bytes.now ++ (first.now ++ second.now)) }
 {
     let room = bytes.len().saturating_add(first.len());

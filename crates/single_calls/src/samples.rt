@@ -2,8 +2,8 @@
 use bt_keycode::Key;
 use bt_messages::{Buffer, Entry, Merge, Message, Messages, Packet};
 use bt_rowtype::{
-    Change, Column, Columns, Fields, Kind, LONGEST_TEXT, Op, Ops, Refusal, Row, Schema, Text, ValueRef,
-    read_record, write_row,
+    Change, Column, Columns, Fields, Kind, LONGEST_TEXT, Op, Ops, Refusal, Row, Schema, Text,
+    ValueRef, read_record, write_row,
 };
 use std::alloc::{AllocError, Global};
 

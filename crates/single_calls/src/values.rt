@@ -1,5 +1,5 @@
 //! Fields, records and rows.
-use crate::samples::{fields, refusal_text, row_text, short_text, shops};
+use crate::samples::{fields, refusal_text, row_text, shops, short_text};
 use bt_rowtype::{
     Kind, Reading, RecordLine, RecordReader, Refusal, Row, Texts, Value, clone_all, copy_row,
     read_field, read_key, read_record, read_row, write_record,
