@@ -1,0 +1,4 @@
+pub mod Numbers
+pub mod Board
+pub mod Queue
+pub mod Crews
