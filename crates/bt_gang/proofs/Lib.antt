@@ -1,3 +1,6 @@
 pub mod Numbers
 pub mod Accounts
 pub mod Rules
+pub mod Takers
+pub mod Serving
+pub mod Placing

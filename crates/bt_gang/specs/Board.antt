@@ -71,3 +71,8 @@ IsAccounted s =
     (job : ℕ)
     → (times job s.waiting + times job (holding s.held) + times job s.handed ≡ once_below job s.put)
     × (times job (joined s.taken) ≡ times job (holding s.held) + times job s.handed)
+
+-- a board with room for so many jobs
+pub record Roomy : Type 0 where
+  pub jobs : ℕ
+  pub state : State

@@ -12,6 +12,9 @@ use Rattle.bt_gang.specs.Board.{State, IsReached}
 abbrev pub most_workers : ℕ
 most_workers = 64
 
+abbrev pub TakenLists : Type 0
+TakenLists = List TakenList
+
 abbrev pub taken_list : ℕ → List ℕ → TakenList
 taken_list worker numbers = record { worker = worker; numbers = numbers }
 
