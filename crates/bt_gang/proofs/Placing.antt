@@ -1,7 +1,9 @@
 -- Answers in their places.
-use Rattle.std.proofs.Common.{◌≡◌, List, [], ◌∷◌, ◌++◌, length, Option, Some, None, Result, Ok, sym, refl, ap, ◌∙◌}
-use mathlib.Core.Option.{some}
+use Rattle.std.proofs.Common.{◌≡◌, ℕ, ◌<◌, Bool, true, false, not, get_or, List, [], ◌∷◌, ◌++◌, length, Option, Some, None, Result, Ok, sym, refl, ap, ◌∙◌}
+use Rattle.std.specs.Option.{is_some}
+use mathlib.Core.Option.{some, some-injective}
 use lib.ListN.{get_elem?}
+use Rattle.crossbeam_queue.proofs.Lists.{at_index}
 use Rattle.bt_gang.specs.Answers.{ok_slots}
 
 module _ {D F : Type 0} where
@@ -20,3 +22,18 @@ module _ {D F : Type 0} where
   pub none_at : (all : List (Option (Result D F))) (done : List D) (slot : Option (Result D F)) (left rest : List (Option (Result D F)))
       → all ≡ ok_slots done ++ left → left ≡ slot ∷ rest → slot ≡ None → get_elem? all (length done) ≡ some None
   none_at all done slot left rest a b e = ap (λ l. get_elem? l (length done)) (a ∙ ap (λ l. ok_slots done ++ l) b) ∙ (at_ok done slot rest ∙ ap some e)
+
+module _ {A : Type 0} where
+  is_empty : (o : Option A) → is_some o ≡ false → o ≡ None
+  is_empty None e = refl
+  is_empty (Some x) e = absurd (cc)
+
+  pub empty_there : (xs : List (Option A)) (i : ℕ) (o : Option A) (r : Bool) → i < length xs → o ≡ get_or xs i o → is_some o ≡ not r → r ≡ true → get_elem? xs i ≡ some None
+  empty_there xs i o r l read e t = let none : o ≡ None = is_empty o (e ∙ ap not t) in at_index xs i o l read ∙ ap some none
+
+  pub full_there : (xs : List (Option A)) (i : ℕ) (o : Option A) (r : Bool) → i < length xs → o ≡ get_or xs i o → is_some o ≡ not r → r ≡ false → ¬ (get_elem? xs i ≡ some None)
+  full_there xs i o r l read e f none =
+      let is : o ≡ None = some-injective o None (sym (at_index xs i o l read) ∙ none) in
+      let t : is_some o ≡ true = e ∙ ap not f in
+      let u : is_some o ≡ false = ap is_some is in
+      absurd (cc)

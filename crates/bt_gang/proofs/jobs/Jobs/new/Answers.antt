@@ -14,4 +14,9 @@ push_as-requires-clause-rule g c =
     (pushes 64 _ _ _ _ all (omega arith) (i.number ∙ sym (ap (λ v. length v.jobs) i.knows)), learns _ _ (omega arith))
 
 pub unreachable-requires : goal.unreachable-requires
-unreachable-requires g c = ?
+unreachable-requires g c =
+    let i = c.loop-job.invariant in
+    let full = never_full _ c.loop-job.yielded _ i.knows c.in-Err.ensures.rule.2 in
+    let places = c.in_ok-queue.ensures.0 in
+    let more = c.in-Some.ensures.steps.1 in
+    absurd (omega (arith, full, places, c.len.ensures, i.number, i.left, more))
