@@ -1,8 +1,8 @@
 -- Whatever run of the board: no job is lost and none comes twice.
-use Rattle.std.proofs.Common.{◌≡◌, ℕ, zero, suc, ◌+◌, ◌<◌, List, [], ◌∷◌, ◌++◌, length, length-append, set, get_or, replicate, Option, None, Some, refl, sym, ap, ◌∙◌, subst, arith}
+use Rattle.std.proofs.Common.{◌≡◌, ℕ, zero, suc, ◌+◌, ◌<◌, List, [], ◌∷◌, ◌++◌, length, set, replicate, Option, None, Some, refl, sym, ap, ◌∙◌, subst, arith}
 use Rattle.std.proofs.lemmas.List.{length-set, length-replicate, get_or-set_same}
-use Rattle.bt_gang.specs.Numbers.{total, joined, is_it, times, below, once_below}
-use Rattle.bt_gang.specs.Board.{State, state, start, held_by, taken_by, after_put, after_take, after_hand, Event, Leads, Runs, IsReached, holding, IsAccounted}
+use Rattle.bt_gang.specs.Numbers.{total, joined, is_it, below}
+use Rattle.bt_gang.specs.Board.{State, start, held_by, taken_by, after_put, after_take, after_hand, Event, Runs, IsReached, holding, IsAccounted}
 use Rattle.bt_gang.specs.Board.Event.{Put, Take, Hand}
 use Rattle.bt_gang.proofs.Numbers.{total-append, total-set_or, total-joined, times-below}
 

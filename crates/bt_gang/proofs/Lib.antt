@@ -3,4 +3,3 @@ pub mod Accounts
 pub mod Rules
 pub mod Takers
 pub mod Serving
-pub mod Placing

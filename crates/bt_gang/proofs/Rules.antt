@@ -1,5 +1,5 @@
 -- Each step keeps the rule of the queue.
-use Rattle.std.proofs.Common.{◌≡◌, ◌≢◌, ℕ, zero, suc, ◌+◌, ◌<◌, ◌≤◌, List, [], ◌∷◌, ◌++◌, length, length-append, map, set, get_or, replicate, sym, refl, ap, ◌∙◌, subst, ⊎_elim, arith, nat_eq, if◌then◌else◌}
+use Rattle.std.proofs.Common.{◌≡◌, ◌≢◌, ℕ, zero, suc, ◌+◌, ◌<◌, ◌≤◌, List, [], ◌∷◌, ◌++◌, length, length-append, map, set, get_or, replicate, sym, refl, ap, ◌∙◌, subst, ⊎_elim, arith}
 use Rattle.std.proofs.lemmas.List.{map-append, get_or-set_same, get_or-set_other}
 use Rattle.std.proofs.lemmas.Bool.Decides.{nat_tests}
 use mathlib.Core.Option.{some, some-ne-none, some-injective}
@@ -10,11 +10,11 @@ use Rattle.bt_gang.specs.declared.rule.Known.{Known}
 use Rattle.bt_gang.specs.declared.rule.NumberedJob.{NumberedJob}
 use Rattle.bt_gang.specs.declared.rule.TakenList.{TakenList}
 use Rattle.bt_gang.specs.Numbers.{total, joined, is_it, times, below, once_below}
-use Rattle.bt_gang.specs.Board.{State, start, after_put, after_take, IsReached}
-use Rattle.bt_gang.specs.Board.Event.{Put, Take, Hand}
-use Rattle.bt_gang.specs.Queue.{taken_list, no_lists, grown, given, kept, workers_of, numbers_of, AreTaken, known, gained, HasList, queued, Stand, EachPass, IsBoard, Pushed, Popped, Accounts}
+use Rattle.bt_gang.specs.Board.{State, start, after_put, after_take}
+use Rattle.bt_gang.specs.Board.Event.{Put, Take}
+use Rattle.bt_gang.specs.Queue.{taken_list, no_lists, given, kept, workers_of, numbers_of, AreTaken, known, HasList, queued, Stand, EachPass, IsBoard, Pushed, Popped, Accounts}
 use Rattle.bt_gang.proofs.Numbers.{total-append, total-set, total-one, total-two, total-length, total-joined, total-places, length-below, times-below, at_more, at_end}
-use Rattle.bt_gang.proofs.Accounts.{Accounted, accounted, freed}
+use Rattle.bt_gang.proofs.Accounts.{accounted, freed}
 
 pub count_lists : (ls : List TakenList) → total (λ _. 1) (workers_of ls) ≡ length ls
 count_lists [] = refl
@@ -144,13 +144,13 @@ module _ {J : Type 0} where
           apart = λ h. let t = total-set (λ (u : Known J). total h (workers_of u.lists)) views port v w at in let p = b.apart h in omega arith;
           know = each_set (λ u. HasList u → u.jobs ≡ new) views port w (λ _. ap (λ js. js ++ x.job ∷ []) same)
               (λ j u ne e some_list.
-                  let two = total-two f views port j v u at e ne in
-                  let p = b.apart (λ _. 1) in
-                  let a = count_lists v.lists in
-                  let c = count_lists u.lists in
-                  let l = total-length (below n) in
-                  let m = length-below n in
-                  absurd (omega arith));
+              let two = total-two f views port j v u at e ne in
+              let p = b.apart (λ _. 1) in
+              let a = count_lists v.lists in
+              let c = count_lists u.lists in
+              let l = total-length (below n) in
+              let m = length-below n in
+              absurd (omega arith));
         },
         refl,
       )
@@ -217,9 +217,10 @@ module _ {J : Type 0} where
           put = f.5 ∙ b.put;
           waiting = refl;
           stand = b.stand.1;
-          taken = each_set (λ u. AreTaken s.taken u.lists) views port w
-              (get_or-set_same t.taken l.worker new [] (let e = sizes.taken in let o = only.0 in omega arith) ∙ ap (λ q. q ++ x.number ∷ []) was,
-               taken_else t.taken l.worker new rest only.1 (subst (λ ts. AreTaken ts rest) (sym f.3) are.1))
+          taken = each_set (λ u. AreTaken s.taken u.lists) views port w (
+            get_or-set_same t.taken l.worker new [] (let e = sizes.taken in let o = only.0 in omega arith) ∙ ap (λ q. q ++ x.number ∷ []) was,
+            taken_else t.taken l.worker new rest only.1 (subst (λ ts. AreTaken ts rest) (sym f.3) are.1),
+          )
               (λ j u ne e. taken_else t.taken l.worker new u.lists (not_there n port j (x ∷ items) views jobs l rest u b at ne e) (subst (λ ts. AreTaken ts u.lists) (sym f.3) (b.taken j u e)));
           apart = λ h. let q = total-set (λ (u : Known J). total h (workers_of u.lists)) views port v w at in let p = b.apart h in omega arith;
           know = each_set (λ u. HasList u → u.jobs ≡ b.jobs) views port w (λ _. same) (λ j u _ e. b.know j u e);
@@ -329,7 +330,7 @@ module _ {J : Type 0} where
         (λ every.
             let weight : ℕ → ℕ = λ i. total h (get_or b.board.taken i []) in
             let counts : total (λ (u : Known J). total (λ _. 1) (workers_of u.lists)) views ≡ total (λ _. 1) (workers_of v.lists) =
-                b.apart (λ _. 1) ∙ (total-length (below n) ∙ (length-below n ∙ (sym every ∙ sym (count_lists v.lists)))) in
+            b.apart (λ _. 1) ∙ (total-length (below n) ∙ (length-below n ∙ (sym every ∙ sym (count_lists v.lists)))) in
             let mine = alone (λ u. total (λ _. 1) (workers_of u.lists)) (λ u. total weight (workers_of u.lists)) (λ u. no_workers weight u.lists) views port v at counts in
             let by = by_passes n items views h b in
             let m = weigh_lists h b.board.taken v.lists (b.taken port v at) in

@@ -1,18 +1,18 @@
 -- What one more job adds to the list of a pass and to the answers.
 use Rattle.std.proofs.Common.{◌≡◌, ℕ, zero, suc, ◌+◌, ◌<◌, ◌≤◌, List, [], ◌∷◌, ◌++◌, All, length, length-append, map, get_or, Result, sym, refl, ap, ◌∙◌, subst, append_assoc, append-nil, arith}
 use Rattle.std.proofs.lemmas.List.{map-append, length-map}
-use mathlib.Core.Option.{some, some-ne-none, some-injective}
+use mathlib.Core.Option.{some, some-injective}
 use lib.ListN.{get_elem?}
 use Rattle.bt_gang.specs.declared.answers.Answer.{Answer}
 use Rattle.bt_gang.specs.declared.answers.Answers.{Answers}
 use Rattle.bt_gang.specs.declared.rule.Known.{Known}
 use Rattle.bt_gang.specs.declared.rule.NumberedJob.{NumberedJob}
 use Rattle.bt_gang.specs.declared.rule.TakenList.{TakenList}
-use Rattle.bt_gang.specs.Numbers.{total, is_it, times, below, once_below}
-use Rattle.bt_gang.specs.Queue.{taken_list, no_lists, grown, numbers_of, known, gained, HasList, HasAll, Popped, Accounts, queued}
+use Rattle.bt_gang.specs.Numbers.{total, is_it, below}
+use Rattle.bt_gang.specs.Queue.{taken_list, no_lists, grown, numbers_of, known, gained, HasList, Popped, Accounts, queued}
 use Rattle.bt_gang.specs.Numbered.{numbered}
-use Rattle.bt_gang.specs.Answers.{MayAnswer, AllMay, Gains, FoundNothing}
-use Rattle.bt_gang.proofs.Numbers.{total-append, times-below, total-length, length-below, at_below}
+use Rattle.bt_gang.specs.Answers.{AllMay, Gains, FoundNothing}
+use Rattle.bt_gang.proofs.Numbers.{times-below, total-length, length-below, at_below}
 
 module _ {D F : Type 0} where
   pub numbered-append : (xs ys : List (Answer D F)) → numbered (xs ++ ys) ≡ numbered xs ++ numbered ys

@@ -5,7 +5,7 @@ use Rattle.std.proofs.lemmas.Bool.Decides.{nat_tests}
 use mathlib.Core.Logic.{dite}
 use native.Mathlib.Decide.{ℕ_discrete}
 use Rattle.bt_gang.specs.Numbers.{below}
-use Rattle.bt_gang.specs.Board.{State, state, start, after_put, after_take, after_hand, IsReached, holding}
+use Rattle.bt_gang.specs.Board.{state, start, after_put, after_take, after_hand, IsReached}
 use Rattle.bt_gang.specs.Board.Event.{Put, Take, Hand}
 use Rattle.bt_gang.specs.Takers.{places, lists_of, kept_state}
 use Rattle.bt_gang.proofs.Numbers.{length-below, total-length, total-set_or}
@@ -55,16 +55,16 @@ lists_more n w ts l =
     let b = length-lists g n in
     let c = length-set (map f (below n)) w new in
     ext_get_or [] (map g (below n)) (set (map f (below n)) w new) (omega arith)
-        (λ i k.
-            at_list g n i (omega arith)
-            ∙ dite (ℕ_discrete i w)
-                (λ e.
-                    ap g e
-                    ∙ (places_mine w 0 ts ∙ ap (λ k. places w 0 ts ++ k ∷ []) (zero_more (length ts))
-                    ∙ (ap (λ q. q ++ length ts ∷ []) (sym (at_list f n w l))
-                    ∙ (sym (get_or-set_same (map f (below n)) w new [] (omega arith))
-                    ∙ ap (λ j. get_or (set (map f (below n)) w new) j []) (sym e)))))
-                (λ ne. places_other i w 0 ts (λ e. ne (sym e)) ∙ (sym (at_list f n i (omega arith)) ∙ sym (get_or-set_other (map f (below n)) w i new [] ne))))
+    (λ i k.
+    at_list g n i (omega arith)
+    ∙ dite (ℕ_discrete i w)
+    (λ e.
+    ap g e
+    ∙ (places_mine w 0 ts ∙ ap (λ k. places w 0 ts ++ k ∷ []) (zero_more (length ts))
+    ∙ (ap (λ q. q ++ length ts ∷ []) (sym (at_list f n w l))
+    ∙ (sym (get_or-set_same (map f (below n)) w new [] (omega arith))
+    ∙ ap (λ j. get_or (set (map f (below n)) w new) j []) (sym e)))))
+    (λ ne. places_other i w 0 ts (λ e. ne (sym e)) ∙ (sym (at_list f n i (omega arith)) ∙ sym (get_or-set_other (map f (below n)) w i new [] ne))))
 
 lists_none : (n : ℕ) → lists_of n [] ≡ replicate n []
 lists_none zero = refl
@@ -94,7 +94,7 @@ pub kept_take : (put w : ℕ) (takers new handed : List ℕ) (held held' : List 
 kept_take put w takers new handed held held' l e f =
     let workers : length held' ≡ length held = ap length f ∙ length-set held w (Some (length takers)) in
     let lists : lists_of (length held') new ≡ set (lists_of (length held) takers) w (get_or (lists_of (length held) takers) w [] ++ length takers ∷ []) =
-        (λ i. lists_of (workers i) (e i)) ∙ lists_more (length held) w takers l in
+    (λ i. lists_of (workers i) (e i)) ∙ lists_more (length held) w takers l in
     λ i. state put (drop (length new) (below put)) (f i) (lists i) handed
 
 pub kept_hand : (put w job : ℕ) (takers handed handed' : List ℕ) (held held' : List (Option ℕ)) → held' ≡ set held w None → handed' ≡ handed ++ job ∷ []
@@ -115,14 +115,14 @@ take_reached put w takers new handed held held' r l none room e f =
     let workers : length held' ≡ length held = ap length f ∙ length-set held w (Some (length takers)) in
     let longer : length new ≡ length takers + 1 = let a = ap length e in let b = length-append takers (w ∷ []) in omega arith in
     subst (λ n. IsReached n (kept_state put new held' handed)) (sym workers)
-        (Take w ∷ r.0, (kept_state put takers held handed, r.1, (length takers, drop (length new) (below put), l, none, front_waits put takers new room longer, kept_take put w takers new handed held held' l e f)))
+    (Take w ∷ r.0, (kept_state put takers held handed, r.1, (length takers, drop (length new) (below put), l, none, front_waits put takers new room longer, kept_take put w takers new handed held held' l e f)))
 
 pub hand_reached : (put w job : ℕ) (takers handed handed' : List ℕ) (held held' : List (Option ℕ)) → IsReached (length held) (kept_state put takers held handed) → w < length held → get_or held w None ≡ Some job
     → held' ≡ set held w None → handed' ≡ handed ++ job ∷ [] → IsReached (length held') (kept_state put takers held' handed')
 hand_reached put w job takers handed handed' held held' r l holds e f =
     let workers : length held' ≡ length held = ap length e ∙ length-set held w None in
     subst (λ n. IsReached n (kept_state put takers held' handed')) (sym workers)
-        (Hand w ∷ r.0, (kept_state put takers held handed, r.1, (job, l, holds, kept_hand put w job takers handed handed' held held' e f)))
+    (Hand w ∷ r.0, (kept_state put takers held handed, r.1, (job, l, holds, kept_hand put w job takers handed handed' held held' e f)))
 
 -- where a job is held, fewer were handed in than were put
 pub hand_room : (put w job : ℕ) (takers handed : List ℕ) (held : List (Option ℕ)) → IsReached (length held) (kept_state put takers held handed) → w < length held → get_or held w None ≡ Some job → length handed < put

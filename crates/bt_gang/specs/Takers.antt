@@ -1,5 +1,5 @@
 -- How a board is kept: who took each job, in the order of the jobs.
-use Rattle.std.specs.Prelude.{◌≡◌, ℕ, zero, suc, ◌≤◌, List, [], ◌∷◌, length, map, drop, Option, nat_eq, if◌then◌else◌}
+use Rattle.std.specs.Prelude.{ℕ, suc, List, [], ◌∷◌, length, map, drop, Option, nat_eq, if◌then◌else◌}
 use Rattle.bt_gang.specs.Numbers.{below}
 use Rattle.bt_gang.specs.Board.{State, state}
 

@@ -1,4 +1,4 @@
-use Rattle.std.proofs.Common.{refl, sym, ap, subst, arith, rules, All, ◌≡◌}
+use Rattle.std.proofs.Common.{refl, ap, subst, rules, ◌≡◌}
 use mathlib.Core.Option.{some}
 use lib.ListN.{get_elem?}
 use Rattle.crossbeam_queue.specs.Passes.{view}

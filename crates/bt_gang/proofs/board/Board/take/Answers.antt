@@ -8,10 +8,11 @@ use Rattle.bt_gang.proofs.Takers.{front_waits, kept_take, take_reached}
 use Rattle.bt_gang.proofs.board.Board.take.Goals as goal
 
 pub returns-then-front-self-clause-nothing : goal.returns-then-front-self-clause-nothing
-returns-then-front-self-clause-nothing c =
-    (sym (ap (λ b. b.state.waiting) c.self.view_is)
-        ∙ drop_all (length c.self.inside.takers.items) (below c.self.inside.put) (omega (arith, length-below c.self.inside.put, c.if-front-self.true, c.len-front.ensures, c.self.inside.takers.ok.0)),
-     refl)
+returns-then-front-self-clause-nothing c = (
+  sym (ap (λ b. b.state.waiting) c.self.view_is)
+      ∙ drop_all (length c.self.inside.takers.items) (below c.self.inside.put) (omega (arith, length-below c.self.inside.put, c.if-front-self.true, c.len-front.ensures, c.self.inside.takers.ok.0)),
+  refl,
+)
 
 pub returns-then-front-self-clause-accounted : goal.returns-then-front-self-clause-accounted
 returns-then-front-self-clause-accounted c = subst IsAccounted (ap (λ b. b.state) c.self.view_is) (accounts _ _ c.self.invariant.0)

@@ -1,5 +1,4 @@
-use Rattle.std.proofs.Common.{◌≡◌, ◌∙◌, ap, sym, length, arith}
-use Rattle.crossbeam_queue.specs.Passes.{view}
+use Rattle.std.proofs.Common.{◌∙◌, ap, sym, length, arith}
 use Rattle.bt_gang.proofs.Rules.{begins, pushes, learns}
 use Rattle.bt_gang.proofs.Serving.{lists_length, never_full}
 use Rattle.bt_gang.proofs.jobs.Jobs.new.Goals as goal
