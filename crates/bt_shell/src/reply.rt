@@ -5,7 +5,7 @@ ghost use Rattle.bt_shell.specs.Steps as step;
 
 use bt_keycode::Key;
 use bt_node::Visitor;
-use bt_rowtype::{Refusal, Row, write_record};
+use bt_rowtype::{Refusal, Row, write_row};
 use itoa::Buffer;
 use std::alloc::{AllocError, Global};
 use std::marker::Model;
@@ -35,11 +35,11 @@ pub fn count_reply(alloc: Global, word: &[u8], count: usize) -> Result<Vec<u8>, 
     Ok(text)
 }
 
-fn write_row(out: &mut Vec<u8>, row: &Row) -> Result<(), AllocError>
+fn write_row_line(out: &mut Vec<u8>, row: &Row) -> Result<(), AllocError>
     ensures { OnOk result (out.new.items ≡ out.old.items ++ row_line row.now) }
 {
     out.extend_from_slice(b"row ")?;
-    write_record(out, row.as_slice())?;
+    write_row(out, row)?;
     out.push(b'\n')?;
     Ok(())
 }
@@ -52,7 +52,7 @@ pub fn row_reply(alloc: Global, row: Option<Row>) -> Result<Vec<u8>, AllocError>
         return Vec::from_slice(alloc, b"none\n");
     };
     let mut text = Vec::new(alloc);
-    write_row(&mut text, &row)?;
+    write_row_line(&mut text, &row)?;
     Ok(text)
 }
 
@@ -99,7 +99,7 @@ impl Visitor<Row> for RowLines {
     ghost visited = { step.with_line };
 
     fn visit(&mut self, _alloc: Global, _key: &Key, row: &Row) -> Result<(), AllocError> {
-        write_row(&mut self.text, row)?;
+        write_row_line(&mut self.text, row)?;
         self.count += 1;
         Ok(())
     }
