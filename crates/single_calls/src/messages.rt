@@ -1,6 +1,6 @@
 //! Packets, buffers and what messages make of values.
 use crate::samples::{Sample, Sent, buffer_text, key, message, messages_text, packet, packet_text};
-use bt_messages::{Buffer, Entry, effect, effect_borrowed};
+use bt_messages::{Buffer, Entry, effect};
 use bt_rowtype::Row;
 use std::alloc::{AllocError, Global};
 use std::test::Fail;
@@ -142,9 +142,9 @@ fn effects_text<V: Sample>(
     sent: Sent,
 ) -> Result<(), AllocError> {
     let message = message::<V>(alloc, sent)?;
-    let once = effect_borrowed(alloc, old, &message)?;
+    let once = effect(alloc, old, message.copy(alloc)?)?;
     add_number(alloc, out, &once)?;
-    let twice = effect(alloc, once, message.copy(alloc)?)?;
+    let twice = effect(alloc, once, message)?;
     add_number(alloc, out, &twice)
 }
 

@@ -5,7 +5,7 @@ use Rattle.std.specs.declared.option.Option.{Option}
 use Rattle.std.specs.declared.option.Option.TheVariants.{Some}
 use Rattle.bt_keycode.specs.Keys.{Key, SideBySide, is_before}
 use Rattle.bt_node.specs.Fits.{IsInOrder}
-use Rattle.bt_node.specs.Lookups.{pivots_before, pivots_up_to}
+use Rattle.bt_node.specs.Lookups.{pivots_up_to}
 use Rattle.bt_node.specs.Messages.{Messages}
 use Rattle.bt_node.specs.Parts.{AreRising}
 use Rattle.bt_node.specs.Trees.{Siblings, Tree, inner, nodes}
@@ -53,23 +53,6 @@ point_is k (p ∷ ps) zero few point = sym (ap (λ b. cond b 0 (suc (pivots_up_t
 point_is k (p ∷ ps) (suc n) few point =
     let others = point_is k ps n (omega (arith, few)) ((λ i d l m. point.0 (suc i) d (omega arith) (omega (arith, m))), (λ i d l m. point.1 (suc i) d (omega (arith, l)) (omega (arith, m)))) in
     ap suc others ∙ sym (ap (λ b. cond b 0 (suc (pivots_up_to k ps))) (not_true _ (point.0 0 p (omega arith) (omega arith))))
-
--- ---- those before a key
-
-pub parted_before : (k : Key) (ps : List Key) → AreRising ps → IsPartitionedBy (λ p. is_before p k) ps
-parted_before k ps rising i j d up within before = go (is_before (get_or ps i d) k) refl
-  where
-    go : (b : Bool) → is_before (get_or ps i d) k ≡ b → is_before (get_or ps i d) k ≡ true
-    go true e = e
-    go false e = absurd (true≢false (sym before ∙ later_chain k (get_or ps i d) (get_or ps j d) e (in_order ps i j d rising up within)))
-
-pub point_before : (k : Key) (ps : List Key) (n : ℕ) → n ≤ length ps → IsPartitionPoint (λ p. is_before p k ≡ true) (λ p. is_before p k ≡ false) ps n → n ≡ pivots_before k ps
-point_before k [] zero few point = refl
-point_before k [] (suc n) few point = absurd (omega (arith, few))
-point_before k (p ∷ ps) zero few point = sym (ap (λ b. cond b (suc (pivots_before k ps)) 0) (point.1 0 p (omega arith) (omega arith)))
-point_before k (p ∷ ps) (suc n) few point =
-    let others = point_before k ps n (omega (arith, few)) ((λ i d l m. point.0 (suc i) d (omega arith) (omega (arith, m))), (λ i d l m. point.1 (suc i) d (omega (arith, l)) (omega (arith, m)))) in
-    ap suc others ∙ sym (ap (λ b. cond b (suc (pivots_before k ps)) 0) (point.0 0 p (omega arith) (omega arith)))
 
 -- ---- the pivots of a node
 
