@@ -1,7 +1,8 @@
 -- Lines of rows, written one after the other.
 use Rattle.std.proofs.Common.{◌≡◌, ◌+◌, ◌≤◌, ℕ, suc, List, [], ◌∷◌, ◌++◌, append_assoc, append-nil, fold, length, length-append, map, refl, sym, ap, ◌∙◌, arith}
 use Rattle.std.specs.Prelude.{codes, flat_map}
-use Rattle.bt_node.specs.Messages.{Rows}
+use Rattle.std.specs.declared.option.Option.TheVariants.{None}
+use Rattle.bt_node.specs.Messages.{Rows, between}
 use Rattle.bt_rowtype.specs.declared.value.Value.{Value}
 use Rattle.bt_shell.specs.Steps.{count_line, row_line, scan_reply, with_line}
 
@@ -22,3 +23,8 @@ pub scan_is : (rows : Rows (List Value)) (start lines : List ℕ × ℕ) → sta
 scan_is rows start lines none is =
     ap (λ l. l.0 ++ count_line (codes "rows ") l.1) (is ∙ ap (λ s. fold with_line s rows) none ∙ lines_of [] 0 rows)
     ∙ ap (λ n. flat_map row_line (map (λ p. p.1) rows) ++ count_line (codes "rows ") n) (omega arith)
+
+-- with no bounds these are all rows
+pub without_bounds : {V : Type 0} (rows : Rows V) → between None None rows ≡ rows
+without_bounds [] = refl
+without_bounds (row ∷ rows) = ap (λ xs. row ∷ xs) (without_bounds rows)

@@ -99,7 +99,11 @@ impl Visitor<Row> for RowLines {
     ghost visited = { step.with_line };
 
     fn visit(&mut self, _alloc: Global, _key: &Key, row: &Row) -> Result<(), AllocError> {
-        write_row_line(&mut self.text, row)?;
+        if let Err(error) = write_row_line(&mut self.text, row) {
+            // What stands in the text after an error is not known, so that no line counts.
+            self.count = 0;
+            return Err(error);
+        }
         self.count += 1;
         Ok(())
     }

@@ -56,11 +56,6 @@ point_is k (p ∷ ps) (suc n) few point =
 
 -- ---- the pivots of a node
 
-pub rising_rest : (n : ℕ) (ps : List Key) → AreRising ps → AreRising (drop n ps)
-rising_rest zero ps rising = rising
-rising_rest (suc n) [] rising = tt
-rising_rest (suc n) (p ∷ ps) rising = rising_rest n ps (others_rise p ps rising)
-
 rise : {X : Type 0} (Reaches : Option Key → Option Key → Key × X → Type 0) (low high : Option Key) (x : Key × X) (xs : List (Key × X)) →
     SideBySide (λ y. y.0) Reaches low high (x ∷ xs) → AreRising (map (λ y. y.0) xs)
 rise Reaches low high x [] side = tt

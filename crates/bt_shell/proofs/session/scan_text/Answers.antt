@@ -7,6 +7,6 @@ use Rattle.bt_shell.proofs.session.scan_text.Goals as goal
 
 pub returns : goal.returns
 returns c =
-    let lines = c.visit.new.lines in
+    let lines = c.visit.new.visitor in
     let wanted = scan_is c.args.table.now.rows c.new-lines.result lines c.new-lines.ensures c.in_ok-visit.ensures.all in
     IfOk-weaker c.into_reply.result (λ text. text.items ≡ lines.0 ++ count_line (codes "rows ") lines.1) (λ text. text.items ≡ scan_reply c.args.table.now.rows) (λ text e. e ∙ wanted) c.into_reply.ensures
