@@ -3,6 +3,7 @@ pub mod AbsorbStep
 pub mod ChoiceLoop
 pub mod CrownLoop
 pub mod DealLoop
+pub mod FlushLoop
 pub mod GroupLoops
 pub mod LoadLoop
 pub mod LookupPath
