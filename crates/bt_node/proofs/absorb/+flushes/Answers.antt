@@ -92,7 +92,7 @@ absorb-flush-requires g t c κs within =
     let in_order = children_in_order effect c.args.shape xs bins stream c.args.count shares c.args.node here.tree here.divided sizes cs c.in_ok-children-in-Inner.ensures enough len same marks plan c.requires.in_order in
     let marked = marks-long effect c.args.shape xs bins stream c.args.count shares c.args.node here.tree here.divided sizes cs c.in_ok-children-in-Inner.ensures enough len same marks plan in (
       omega (arith, less, c.decreases),
-      (within.0, within.1, enough, in_order, omega (arith, len, same, as_many), marked),
+      (within.0, (within.1, (enough, (in_order, (omega (arith, len, same, as_many), marked))))),
     )
 
 pub absorb-group-requires-clause-some : goal.absorb-group-requires-clause-some
@@ -191,7 +191,7 @@ flush-loop-child-preserved g t c =
 pub send-returns-then-is_empty-clause-siblings : goal.send-returns-then-is_empty-clause-siblings
 send-returns-then-is_empty-clause-siblings g t c =
     let stream = c.args.stream.now in
-    let sorted = c.len.ensures.sorted in
+    let sorted = c.len-in_order.ensures.sorted in
     let none : c.args.pending ≡ [] = nothing_left _ (search rules) in
     let same = sym (ap (with_messages (take c.args.share stream)) none ∙ alone (take c.args.share stream) (sorted_take c.args.share stream sorted)) in
     if_ok _ _ c.absorb.result (λ siblings e. e ∙ ap (absorb (effect_of g.V.Merge.merged) c.args.shape c.args.node) same) c.absorb.ensures.siblings
