@@ -73,6 +73,7 @@ impl<V: Merge> Stream<V> {
     pub fn len(&self) -> usize
         ensures len { result ≡ length self.now }
         ensures bound { result < 2 ^ 63 }
+        ensures sorted { IsSorted self.now }
     {
         self.messages.len()
     }

@@ -83,6 +83,7 @@ fn send<V: Merge>(
     ensures siblings { IfOk result (λ siblings. siblings ≡ absorb (effect_of V.merged) shape node (with_messages (take share stream.old) pending)) }
     ensures left { OnOk result (stream.new ≡ drop share stream.old) }
 {
+    let _in_order = stream.len();
     if pending.is_empty() {
         return absorb(alloc, shape, node, stream, share);
     }

@@ -1,5 +1,5 @@
 -- What the code makes of an inner node is what becomes of it.
-use Rattle.std.proofs.Common.{Result, Ok, Err, IfOk, ◌≡◌, ◌≤◌, ◌<◌, ◌+◌, ◌*◌, ℕ, Bool, true, false, List, [], ◌∷◌, ◌++◌, length, map, refl, replicate, set, take, zero, suc, sym, ap, subst, ◌∙◌, arith, Option}
+use Rattle.std.proofs.Common.{Result, Ok, Err, IfOk, OnOk, ◌≡◌, ◌≤◌, ◌<◌, ◌+◌, ◌*◌, ℕ, Bool, true, false, List, [], ◌∷◌, ◌++◌, length, map, refl, replicate, set, take, zero, suc, sym, ap, subst, ◌∙◌, arith, Option}
 use Rattle.std.proofs.lemmas.List.{length-map, length-replicate, length-set}
 use Rattle.std.specs.List.{zip}
 use Rattle.bt_keycode.specs.Keys.{IsSorted}
@@ -7,7 +7,7 @@ use Rattle.bt_messages.specs.declared.message.Message.{Message}
 use Rattle.bt_node.specs.declared.node.Child as code
 use Rattle.bt_node.specs.Messages.{Messages, with_messages}
 use Rattle.bt_node.specs.Plans.{planned, total}
-use Rattle.bt_node.specs.inside.Shares.{AreDivided, beside, loaded, sums}
+use Rattle.bt_node.specs.inside.Shares.{AreDivided, AreInOrder, beside, loaded, sums}
 use Rattle.bt_node.specs.inside.Marks.{marks_of, passed, set_all}
 use Rattle.bt_node.specs.Trees.{Shape, Siblings, Tree, leaf, inner, height, height_below, nodes}
 use Rattle.bt_messages.specs.Bins.{LieBetween, joined, parted, parts}
@@ -24,7 +24,7 @@ use Rattle.bt_node.proofs.lemmas.flushes.Groups.{children-nodes, deal-some, leav
 use Rattle.bt_node.proofs.lemmas.code.Marks.{flushed_over-marks, marked-zip}
 use Rattle.bt_node.proofs.lemmas.flushes.Recursion.{absorb_recurs}
 use Rattle.bt_node.proofs.lemmas.flushes.EmptyPackets.{still-here}
-use Rattle.bt_node.proofs.lemmas.flushes.Divisions.{counts-bins, divided-lie, length-beside, length-first, length-loaded, loaded-shared, stripped-beside}
+use Rattle.bt_node.proofs.lemmas.flushes.Divisions.{beside-in_order, counts-bins, divided-lie, length-beside, length-first, length-loaded, loaded-shared, stripped-beside}
 use Rattle.bt_node.proofs.lemmas.flushes.Laws.{anywhere}
 use Rattle.bt_node.proofs.lemmas.flushes.NodeSizes.{length-shared}
 use Rattle.bt_node.proofs.lemmas.flushes.Passes.{Keeps, names-slots, passed-lie, slots}
@@ -94,8 +94,7 @@ module _ {V D : Type 0} (effect : Option V → Message V D → Option V) (s : Sh
       ∙ sym becomes
 
   module _ (cs : List (code.Child V D)) (beside_is : children_of cs ≡ beside xs bins) (enough : total shares ≤ length ms) (len : length shares ≡ length bins) (same : length bins ≡ length xs) (marks : List Bool)
-      (plan : marks ≡ marks_of (length (sums (map length bins) shares)) (planned (sums (map length bins) shares) s.buffer)) (made : List (code.Child V D))
-      (passed_is : children_of made ≡ pass effect s (zip (loaded (children_of cs) shares ms) marks)) where
+      (plan : marks ≡ marks_of (length (sums (map length bins) shares)) (planned (sums (map length bins) shares) s.buffer)) where
     -- the children with their shares
     pub loaded_are : loaded (children_of cs) shares ms ≡ shared xs after
     loaded_are = ap (λ ds. loaded ds shares ms) beside_is ∙ loaded-shared xs bins shares ms packet lie sizes
@@ -108,39 +107,51 @@ module _ {V D : Type 0} (effect : Option V → Message V D → Option V) (s : Sh
         plan ∙ ap (λ ns. marks_of (length ns) (planned ns s.buffer)) loads_are
         ∙ ap (λ n. marks_of n (planned (counts (shared xs after)) s.buffer)) (length-map (shared xs after) (λ c. length c.pending))
 
+    -- the children are in order
+    pub children_in_order : IsInOrder node → AreInOrder (children_of cs)
+    children_in_order order =
+        let side = siblings_widest node xs (joined bins) here order in
+        subst AreInOrder (sym beside_is) (beside-in_order side.0 None None xs bins side.1)
+
     pub long : length cs ≡ length xs
     long = omega (arith, length-map cs child_of, ap length beside_is, length-beside xs bins same)
 
     pub marks-long : length marks ≡ length cs
     marks-long = omega (arith, long, ap length marks_are, length-marks (length (shared xs after)) (planned (counts (shared xs after)) s.buffer), length-shared xs after)
 
-    all_planned : children_of made ≡ pass effect s (zip (shared xs after) (marks_of (length (shared xs after)) (planned (counts (shared xs after)) s.buffer)))
-    all_planned = passed_is ∙ ap (λ ds. pass effect s (zip ds marks)) loaded_are ∙ ap (λ bs. pass effect s (zip (shared xs after) bs)) marks_are
+    module _ (made : List (code.Child V D)) (passed_is : children_of made ≡ pass effect s (zip (loaded (children_of cs) shares ms) marks)) where
+      all_planned : children_of made ≡ pass effect s (zip (shared xs after) (marks_of (length (shared xs after)) (planned (counts (shared xs after)) s.buffer)))
+      all_planned = passed_is ∙ ap (λ ds. pass effect s (zip ds marks)) loaded_are ∙ ap (λ bs. pass effect s (zip (shared xs after) bs)) marks_are
 
-    -- what is pending still lies between the pivots
-    pub parts_divided : 2 ≤ s.fanout → 1 ≤ s.leaf → IsInOrder node → AreDivided (children_of made)
-    parts_divided two one order =
-        let side = siblings_widest node xs (joined bins) here order in
-        let cs = shared xs after in
-        let placed = shared-lie side.0 None None xs after side.1 (anywhere after) after-sorted in
-        let keeps : Keeps effect side.0 (absorb effect s) = λ low high t p lies within. absorb-keeps effect s (omega (arith, one)) (omega (arith, two)) side.0 low high t p lies within in
-        subst AreDivided (sym (all_planned ∙ ap (pass effect s) (sym (marked-zip cs (planned (counts cs) s.buffer)))))
-        (divided-lie side.0 None None _ (passed-lie effect side.0 (absorb effect s) keeps None None (slots s.buffer cs) (subst (ChildrenLie side.0 None None) (sym (names-slots s.buffer cs)) placed)))
+      -- what is pending still lies between the pivots
+      pub parts_divided : 2 ≤ s.fanout → 1 ≤ s.leaf → IsInOrder node → AreDivided (children_of made)
+      parts_divided two one order =
+          let side = siblings_widest node xs (joined bins) here order in
+          let cs = shared xs after in
+          let placed = shared-lie side.0 None None xs after side.1 (anywhere after) after-sorted in
+          let keeps : Keeps effect side.0 (absorb effect s) = λ low high t p lies within. absorb-keeps effect s (omega (arith, one)) (omega (arith, two)) side.0 low high t p lies within in
+          subst AreDivided (sym (all_planned ∙ ap (pass effect s) (sym (marked-zip cs (planned (counts cs) s.buffer)))))
+          (divided-lie side.0 None None _ (passed-lie effect side.0 (absorb effect s) keeps None None (slots s.buffer cs) (subst (ChildrenLie side.0 None None) (sym (names-slots s.buffer cs)) placed)))
 
-    -- there is a part
-    pub parts_some : 2 ≤ s.fanout → 1 ≤ s.leaf → 1 ≤ length xs → 1 ≤ length made
-    parts_some two one some =
-        let loaded_long = length-loaded (children_of cs) shares ms (omega (arith, len, same, long, length-map cs child_of)) in
-        let count = length-map cs child_of in
-        omega (arith, some_length _ (pass-some effect s two one (loaded (children_of cs) shares ms) marks (omega (arith, some, long, count, loaded_long)) (omega (arith, marks-long, count, loaded_long))), ap length passed_is, length-map made child_of)
+      -- there is a part
+      pub parts_some : 2 ≤ s.fanout → 1 ≤ s.leaf → 1 ≤ length xs → 1 ≤ length made
+      parts_some two one some =
+          let loaded_long = length-loaded (children_of cs) shares ms (omega (arith, len, same, long, length-map cs child_of)) in
+          let count = length-map cs child_of in
+          omega (arith, some_length _ (pass-some effect s two one (loaded (children_of cs) shares ms) marks (omega (arith, some, long, count, loaded_long)) (omega (arith, marks-long, count, loaded_long))), ap length passed_is, length-map made child_of)
 
-    pub grouped_anew : grouped s (children_of made) ≡ absorb effect s node packet
-    grouped_anew = ap (grouped s) (all_planned ∙ sym (flushed_over-marks (absorb effect s) s.buffer (shared xs after))) ∙ sym becomes
+      pub grouped_anew : grouped s (children_of made) ≡ absorb effect s node packet
+      grouped_anew = ap (grouped s) (all_planned ∙ sym (flushed_over-marks (absorb effect s) s.buffer (shared xs after))) ∙ sym becomes
 
 -- a fact of the value, if there is one, gives another
 pub if_ok : {A E : Type 0} (P Q : A → Type 0) (r : Result A E) → ((x : A) → P x → Q x) → IfOk r P → IfOk r Q
 if_ok P Q (Ok x) f h = f x h
 if_ok P Q (Err e) f h = tt
+
+-- a fact that holds whatever the result
+pub on_ok : {A E : Type 0} (P : Type 0) (r : Result A E) → P → OnOk r P
+on_ok P (Ok x) p = p
+on_ok P (Err e) p = tt
 
 -- an inner node is higher than its children
 pub lower : {V D : Type 0} (node : Tree V (Message V D)) (xs : Siblings V (Message V D)) (b : Messages (Message V D)) (bins : List (Messages (Message V D))) (cs : List (code.Child V D)) →

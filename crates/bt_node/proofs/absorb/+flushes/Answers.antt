@@ -1,0 +1,206 @@
+use Rattle.std.proofs.Common.{◌≡◌, ◌∙◌, ◌+◌, ◌≤◌, [], ◌∷◌, ◌++◌, ap, arith, drop, false, length, map, refl, rules, subst, sym, take}
+use Rattle.std.proofs.Math.Seq.{take-length}
+use Rattle.std.proofs.lemmas.List.{map-append}
+use Rattle.std.specs.Vec.Iter.{into_iter_items}
+use Rattle.bt_messages.specs.Bins.{joined, parted, parts, total}
+use Rattle.bt_messages.specs.Effects.{effect_of}
+use Rattle.bt_messages.proofs.Slices.{sorted_take}
+use Rattle.bt_messages.proofs.offered.Parts.{lie_length}
+use Rattle.bt_messages.proofs.offered.Placed.{alone}
+use Rattle.bt_node.specs.Flushes.{absorb}
+use Rattle.bt_node.specs.Lookups.{pivots_of}
+use Rattle.bt_node.specs.Messages.{with_messages}
+use Rattle.bt_node.specs.Plans.{planned}
+use Rattle.bt_node.specs.Trees.{inner, nodes}
+use Rattle.bt_node.specs.inside.Marks.{marks_of}
+use Rattle.bt_node.specs.inside.Shares.{AreInOrder, sums}
+use Rattle.bt_node.specs.inside.Views.{child_of, children_of}
+use Rattle.bt_node.proofs.lemmas.code.AbsorbStep.{among, children_in_order, grouped_anew, if_ok, lower, marks-long, long, on_ok, parts_divided, parts_some, stays_here}
+use Rattle.bt_node.proofs.lemmas.code.FlushLoop.{one_flushed, one_kept, rest_fits, same_left, share_fits}
+use Rattle.bt_node.proofs.lemmas.code.GroupLoops.{nothing_left}
+use Rattle.bt_node.proofs.lemmas.flushes.Divisions.{bins-length}
+use Rattle.bt_node.proofs.absorb.+flushes.Goals as goal
+
+pub absorb-shares-requires : goal.absorb-shares-requires
+absorb-shares-requires g t c = c.requires.enough
+
+pub absorb-same-children : goal.absorb-same-children
+absorb-same-children g t c = refl
+
+pub absorb-same-bins : goal.absorb-same-bins
+absorb-same-bins g t c = refl
+
+pub absorb-kept-requires-clause-lie : goal.absorb-kept-requires-clause-lie
+absorb-kept-requires-clause-lie g t c = c.in-Inner.ensures.divided
+
+pub absorb-kept-requires-clause-enough : goal.absorb-kept-requires-clause-enough
+absorb-kept-requires-clause-enough g t c = omega (arith, ap total c.as_slice.ensures.value, c.in_ok-shares-in-Inner.ensures.total, c.requires.enough)
+
+pub absorb-kept-requires-clause-parts : goal.absorb-kept-requires-clause-parts
+absorb-kept-requires-clause-parts g t c =
+    let stream = c.args.stream.now in
+    let count = ap total c.as_slice.ensures.value ∙ c.in_ok-shares-in-Inner.ensures.total in
+    ap (λ ns. parted ns stream) c.as_slice.ensures.value ∙ c.in_ok-shares-in-Inner.ensures.parts ∙ ap (λ ks. parts ks (take c.args.count stream)) c.pivots.ensures.pivots
+    ∙ ap (λ n. parts (pivots_of c.in-Inner.children) (take n stream)) (sym count)
+
+pub absorb-kept-requires-clause-len : goal.absorb-kept-requires-clause-len
+absorb-kept-requires-clause-len g t c = omega (arith, ap length c.as_slice.ensures.value, c.in_ok-shares-in-Inner.ensures.len, ap length c.pivots.ensures.pivots)
+
+pub absorb-returns-then-stays-clause-siblings : goal.absorb-returns-then-stays-clause-siblings
+absorb-returns-then-stays-clause-siblings g t c =
+    let xs = c.in-Inner.children in
+    let bins = c.in-Inner.bins in
+    let stream = c.args.stream.now in
+    let shares = c.in_ok-shares-in-Inner.ensures in
+    let sizes = shares.parts ∙ ap (λ ks. parts ks (take c.args.count stream)) c.pivots.ensures.pivots in
+    let count = ap total c.as_slice.ensures.value ∙ shares.total in
+    let here = c.stays.ensures c.if-stays.true in
+    if_ok _ _ c.kept.result (λ siblings e. e ∙ ap (λ n. ([], inner (nodes xs) (with_messages (take n stream) (joined bins))) ∷ []) count
+    ∙ stays_here (effect_of g.V.Merge.merged) c.args.shape xs bins stream c.args.count c.in_ok-shares-in-Inner.shares.items c.args.node c.in-Inner.ensures.tree c.in-Inner.ensures.divided sizes
+    here.0 (omega (arith, here.1, here.2)) here.2 c.requires.enough here.3) c.kept.ensures.node
+
+pub absorb-marks-requires-clause-len : goal.absorb-marks-requires-clause-len
+absorb-marks-requires-clause-len g t c =
+    omega (arith, ap length c.as_slice-in-Inner.ensures.value, c.in_ok-shares-in-Inner.ensures.len, ap length c.pivots.ensures.pivots, lie_length (pivots_of c.in-Inner.children) c.in-Inner.bins c.in-Inner.ensures.divided)
+
+pub absorb-marks-requires-clause-enough : goal.absorb-marks-requires-clause-enough
+absorb-marks-requires-clause-enough g t c = omega (arith, ap total c.as_slice-in-Inner.ensures.value, c.in_ok-shares-in-Inner.ensures.total, c.requires.enough)
+
+pub absorb-same-children-in-Inner : goal.absorb-same-children-in-Inner
+absorb-same-children-in-Inner g t c = refl
+
+pub absorb-same-bins-in-Inner : goal.absorb-same-bins-in-Inner
+absorb-same-bins-in-Inner g t c = refl
+
+pub absorb-flush-requires : goal.absorb-flush-requires
+absorb-flush-requires g t c κs within =
+    let xs = c.in-Inner.children in
+    let bins = c.in-Inner.bins in
+    let stream = c.args.stream.now in
+    let shares = c.in_ok-shares-in-Inner.shares.items in
+    let cs = c.in_ok-children-in-Inner.children.items in
+    let marks = c.in_ok-marks-in-Inner.marks.items in
+    let here = c.in-Inner.ensures in
+    let sizes = c.in_ok-shares-in-Inner.ensures.parts ∙ ap (λ ks. parts ks (take c.args.count stream)) c.pivots.ensures.pivots in
+    let enough : total shares ≤ length stream = omega (arith, c.in_ok-shares-in-Inner.ensures.total, c.requires.enough) in
+    let same = bins-length xs bins c.pivots.ensures.some here.divided in
+    let len : length shares ≡ length bins = omega (arith, c.in_ok-shares-in-Inner.ensures.len, ap length c.pivots.ensures.pivots, lie_length (pivots_of xs) bins here.divided) in
+    let plan = c.in_ok-marks-in-Inner.ensures.marks ∙ ap (λ ns. marks_of (length (sums (map length bins) ns)) (planned (sums (map length bins) ns) c.args.shape.buffer)) c.as_slice-in-Inner.ensures.value in
+    let effect = effect_of g.V.Merge.merged in
+    let less = lower c.args.node xs (joined bins) bins cs here.tree same c.in_ok-children-in-Inner.ensures in
+    let as_many = long effect c.args.shape xs bins stream c.args.count shares c.args.node here.tree here.divided sizes cs c.in_ok-children-in-Inner.ensures enough len same marks plan in
+    let in_order = children_in_order effect c.args.shape xs bins stream c.args.count shares c.args.node here.tree here.divided sizes cs c.in_ok-children-in-Inner.ensures enough len same marks plan c.requires.in_order in
+    let marked = marks-long effect c.args.shape xs bins stream c.args.count shares c.args.node here.tree here.divided sizes cs c.in_ok-children-in-Inner.ensures enough len same marks plan in (
+      omega (arith, less, c.decreases),
+      (within.0, (within.1, (enough, (in_order, (omega (arith, len, same, as_many), marked))))),
+    )
+
+pub absorb-group-requires-clause-some : goal.absorb-group-requires-clause-some
+absorb-group-requires-clause-some g t c =
+    let xs = c.in-Inner.children in
+    let bins = c.in-Inner.bins in
+    let stream = c.args.stream.now in
+    let shares = c.in_ok-shares-in-Inner.shares.items in
+    let here = c.in-Inner.ensures in
+    let sizes = c.in_ok-shares-in-Inner.ensures.parts ∙ ap (λ ks. parts ks (take c.args.count stream)) c.pivots.ensures.pivots in
+    let enough : total shares ≤ length stream = omega (arith, c.in_ok-shares-in-Inner.ensures.total, c.requires.enough) in
+    let same = bins-length xs bins c.pivots.ensures.some here.divided in
+    let len : length shares ≡ length bins = omega (arith, c.in_ok-shares-in-Inner.ensures.len, ap length c.pivots.ensures.pivots, lie_length (pivots_of xs) bins here.divided) in
+    let plan = c.in_ok-marks-in-Inner.ensures.marks ∙ ap (λ ns. marks_of (length (sums (map length bins) ns)) (planned (sums (map length bins) ns) c.args.shape.buffer)) c.as_slice-in-Inner.ensures.value in
+    let two : 2 ≤ c.args.shape.fanout = search rules in
+    let one : 1 ≤ c.args.shape.leaf = search rules in
+    parts_some (effect_of g.V.Merge.merged) c.args.shape xs bins stream c.args.count shares c.args.node here.tree here.divided sizes
+    c.in_ok-children-in-Inner.children.items c.in_ok-children-in-Inner.ensures enough len same c.in_ok-marks-in-Inner.marks.items plan
+    c.in_ok-parts-in-Inner.parts.items c.in_ok-parts-in-Inner.ensures.children two one c.pivots.ensures.some
+
+pub absorb-group-requires-clause-divided : goal.absorb-group-requires-clause-divided
+absorb-group-requires-clause-divided g t c =
+    let xs = c.in-Inner.children in
+    let bins = c.in-Inner.bins in
+    let stream = c.args.stream.now in
+    let shares = c.in_ok-shares-in-Inner.shares.items in
+    let here = c.in-Inner.ensures in
+    let sizes = c.in_ok-shares-in-Inner.ensures.parts ∙ ap (λ ks. parts ks (take c.args.count stream)) c.pivots.ensures.pivots in
+    let enough : total shares ≤ length stream = omega (arith, c.in_ok-shares-in-Inner.ensures.total, c.requires.enough) in
+    let same = bins-length xs bins c.pivots.ensures.some here.divided in
+    let len : length shares ≡ length bins = omega (arith, c.in_ok-shares-in-Inner.ensures.len, ap length c.pivots.ensures.pivots, lie_length (pivots_of xs) bins here.divided) in
+    let plan = c.in_ok-marks-in-Inner.ensures.marks ∙ ap (λ ns. marks_of (length (sums (map length bins) ns)) (planned (sums (map length bins) ns) c.args.shape.buffer)) c.as_slice-in-Inner.ensures.value in
+    let two : 2 ≤ c.args.shape.fanout = search rules in
+    let one : 1 ≤ c.args.shape.leaf = search rules in
+    parts_divided (effect_of g.V.Merge.merged) c.args.shape xs bins stream c.args.count shares c.args.node here.tree here.divided sizes
+    c.in_ok-children-in-Inner.children.items c.in_ok-children-in-Inner.ensures enough len same c.in_ok-marks-in-Inner.marks.items plan
+    c.in_ok-parts-in-Inner.parts.items c.in_ok-parts-in-Inner.ensures.children two one c.requires.in_order
+
+pub absorb-returns-in_ok-parts-in-Inner-clause-siblings : goal.absorb-returns-in_ok-parts-in-Inner-clause-siblings
+absorb-returns-in_ok-parts-in-Inner-clause-siblings g t c =
+    let xs = c.in-Inner.children in
+    let bins = c.in-Inner.bins in
+    let stream = c.args.stream.now in
+    let shares = c.in_ok-shares-in-Inner.shares.items in
+    let here = c.in-Inner.ensures in
+    let sizes = c.in_ok-shares-in-Inner.ensures.parts ∙ ap (λ ks. parts ks (take c.args.count stream)) c.pivots.ensures.pivots in
+    let enough : total shares ≤ length stream = omega (arith, c.in_ok-shares-in-Inner.ensures.total, c.requires.enough) in
+    let same = bins-length xs bins c.pivots.ensures.some here.divided in
+    let len : length shares ≡ length bins = omega (arith, c.in_ok-shares-in-Inner.ensures.len, ap length c.pivots.ensures.pivots, lie_length (pivots_of xs) bins here.divided) in
+    let plan = c.in_ok-marks-in-Inner.ensures.marks ∙ ap (λ ns. marks_of (length (sums (map length bins) ns)) (planned (sums (map length bins) ns) c.args.shape.buffer)) c.as_slice-in-Inner.ensures.value in
+    if_ok _ _ c.group.result (λ siblings e. e
+    ∙ grouped_anew (effect_of g.V.Merge.merged) c.args.shape xs bins stream c.args.count shares c.args.node here.tree here.divided sizes
+    c.in_ok-children-in-Inner.children.items c.in_ok-children-in-Inner.ensures enough len same c.in_ok-marks-in-Inner.marks.items plan
+    c.in_ok-parts-in-Inner.parts.items c.in_ok-parts-in-Inner.ensures.children) c.group.ensures
+
+pub absorb-returns-in_ok-parts-in-Inner-clause-left : goal.absorb-returns-in_ok-parts-in-Inner-clause-left
+absorb-returns-in_ok-parts-in-Inner-clause-left g t c =
+    on_ok _ c.group.result (c.in_ok-parts-in-Inner.ensures.left ∙ ap (λ n. drop n c.args.stream.now) c.in_ok-shares-in-Inner.ensures.total)
+
+pub flush-same-pivot-else-flushed : goal.flush-same-pivot-else-flushed
+flush-same-pivot-else-flushed g t c = refl
+
+pub flush-same-node : goal.flush-same-node
+flush-same-node g t c = refl
+
+pub flush-loop-child-preserved : goal.flush-loop-child-preserved
+flush-loop-child-preserved g t c =
+    let child = c.in-Some.child in
+    let share = c.in-Some-Some.share in
+    let stream = c.loop-child.stream in
+    let done = c.loop-child.parts.items in
+    let left = c.next.new.self.rest.items in
+    let ns = into_iter_items c.next-in-loop-child.new.self in
+    let bs = into_iter_items c.next-in-loop-child-2.new.self in
+    let steps = c.in-Some.ensures.steps.0 in
+    let shares : into_iter_items c.loop-child.shares ≡ share ∷ ns = search rules in
+    let mark : into_iter_items c.loop-child.marks ≡ c.in-Some-Some.flushed ∷ bs = search rules in
+    let marks = mark ∙ ap (λ b. b ∷ bs) c.if-flushed.false in
+    let rest = c.in_ok-pending.ensures.left in
+    let pushed =
+    ap children_of c.in_ok-push.ensures.items ∙ map-append child_of done _
+    ∙ ap (λ p. children_of done ++ record { pivot = child.pivot; tree = child.node; pending = p } ∷ []) c.in_ok-pending.ensures.packet in
+    let effect = effect_of g.V.Merge.merged in
+    let before = c.loop-child.invariant in
+    record {
+      parts = one_kept effect c.args.shape child left c.loop-child.child-iterator.rest.items share ns (into_iter_items c.loop-child.shares) c.with_front.new.stream stream bs
+          steps shares rest done c.push.new.self.items (into_iter_items c.loop-child.marks) marks pushed ∙ before.parts;
+      left = same_left share ns (into_iter_items c.loop-child.shares) c.with_front.new.stream stream shares rest _ before.left;
+      enough = rest_fits share ns (into_iter_items c.loop-child.shares) c.with_front.new.stream stream shares rest before.enough;
+      in_order = (subst (λ cs. AreInOrder (children_of cs)) steps before.in_order).1;
+      shares = omega (arith, ap length shares, ap length steps, before.shares);
+      marks = omega (arith, ap length marks, ap length steps, before.marks);
+      no_higher = (among child left c.loop-child.child-iterator.rest.items _ steps before.no_higher).1;
+    }
+
+pub send-returns-then-is_empty-clause-siblings : goal.send-returns-then-is_empty-clause-siblings
+send-returns-then-is_empty-clause-siblings g t c =
+    let stream = c.args.stream.now in
+    let sorted = c.len-in_order.ensures.sorted in
+    let none : c.args.pending ≡ [] = nothing_left _ (search rules) in
+    let same = sym (ap (with_messages (take c.args.share stream)) none ∙ alone (take c.args.share stream) (sorted_take c.args.share stream sorted)) in
+    if_ok _ _ c.absorb.result (λ siblings e. e ∙ ap (absorb (effect_of g.V.Merge.merged) c.args.shape c.args.node) same) c.absorb.ensures.siblings
+
+pub send-returns-clause-siblings : goal.send-returns-clause-siblings
+send-returns-clause-siblings g t c =
+    let packet = c.into_stream-packet.result in
+    let all = ap (λ n. take n packet) c.len-count.ensures.len ∙ take-length packet ∙ c.into_stream-packet.ensures ∙ c.in_ok-with_front.ensures.packet in
+    if_ok _ _ c.absorb-2.result (λ siblings e. e ∙ ap (absorb (effect_of g.V.Merge.merged) c.args.shape c.args.node) all) c.absorb-2.ensures.siblings
+
+pub send-returns-clause-left : goal.send-returns-clause-left
+send-returns-clause-left g t c = on_ok _ c.absorb-2.result c.in_ok-with_front.ensures.left
