@@ -212,6 +212,7 @@ record_there line text cut other mark return =
     some_bytes : (t : List ℕ) → list_all (λ b. b == 10) t ≡ false → (length t == 0) ≡ false
     some_bytes [] is = absurd cc
     some_bytes (b ∷ bs) is = eqb-suc-zero (length bs)
+
     the_fields : (found : Option (List (List ℕ))) → is_some found ≡ true → Some (unwrap_or found []) ≡ found
     the_fields None some = absurd cc
     the_fields (Some fields) some = refl

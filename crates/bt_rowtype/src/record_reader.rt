@@ -10,12 +10,12 @@ use crate::cut::cut_plain;
 use crate::fields::{Place, Record};
 use crate::line::RecordLine;
 use crate::op::MOST_OPS;
+use crate::packed_row::Row;
 use crate::reader::unescape;
 use crate::refusal::Refusal;
 use crate::row::read_values;
 use crate::schema::Schema;
 use crate::upsert::{Upsert, read_upsert_record};
-use crate::packed_row::Row;
 use std::alloc::{AllocError, Global};
 
 /// What lines are cut into, one after the other: the places of the fields, and the bytes of the fields where the line has
@@ -39,11 +39,7 @@ impl RecordReader {
     //
     // A text without quotes lends its own bytes, and is cut at its commas; any other, which is dearer, is read byte by byte, by
     // the states of csv's reader.
-    fn read<'a>(
-        &'a mut self,
-        text: &'a [u8],
-        most: usize,
-    ) -> Result<Option<Record<'a>>, AllocError>
+    fn read<'a>(&'a mut self, text: &'a [u8], most: usize) -> Result<Option<Record<'a>>, AllocError>
         requires { is_some (csv_record text.now) ≡ true }
         ensures few { IfOk result (λ found. IfSome found (λ fields. fields ≡ fields_in text.now)) }
         ensures many { IfOk result (λ found. IfNone found (most < length (fields_in text.now))) }
@@ -52,10 +48,7 @@ impl RecordReader {
             return Ok(Some(Record::new(text, self.places.as_slice())));
         }
         if unescape(&mut self.bytes, &mut self.places, text, most)? {
-            return Ok(Some(Record::new(
-                self.bytes.as_slice(),
-                self.places.as_slice(),
-            )));
+            return Ok(Some(Record::new(self.bytes.as_slice(), self.places.as_slice())));
         }
         Ok(None)
     }

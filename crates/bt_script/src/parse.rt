@@ -201,10 +201,7 @@ fn parse_columns(alloc: Global, words: &[&[u8]]) -> Result<Option<Columns>, Allo
 }
 
 #[tactic(auto, unfolding(crate::specs::Commands::table_of))]
-fn table_command<'a>(
-    alloc: Global,
-    words: &[&[u8]],
-) -> Result<Option<Command<'a>>, AllocError>
+fn table_command<'a>(alloc: Global, words: &[&[u8]]) -> Result<Option<Command<'a>>, AllocError>
     ensures { IfOk result (λ command. command ≡ spec.table_of (map (λ w. w.now) words.now)) }
 {
     if words.len() < 6 {
@@ -266,10 +263,7 @@ fn get_command(head: &[u8]) -> Option<Command<'_>>
     record_behind(b"get ", without_spaces(head)).map(Command::Get)
 }
 
-fn image_command<'a>(
-    alloc: Global,
-    words: &[&[u8]],
-) -> Result<Option<Command<'a>>, AllocError>
+fn image_command<'a>(alloc: Global, words: &[&[u8]]) -> Result<Option<Command<'a>>, AllocError>
     ensures { IfOk result (λ command. command ≡ spec.image_of (map (λ w. w.now) words.now)) }
 {
     if words.len() != 2 {

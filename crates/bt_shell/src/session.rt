@@ -107,7 +107,11 @@ fn image(alloc: Global, table: &Option<Table>, tree: &Text) -> Result<Vec<u8>, R
 }
 
 // The reply to a command that is not refused, or its refusal.
-fn answer(alloc: Global, table: &mut Option<Table>, command: Command<'_>) -> Result<Vec<u8>, Refusal>
+fn answer(
+    alloc: Global,
+    table: &mut Option<Table>,
+    command: Command<'_>,
+) -> Result<Vec<u8>, Refusal>
     ensures done { OnOk result (step.IsCarriedOut table.old table.new command.entry) }
     ensures text { IfOk result (λ text. text.items ≡ step.reply_to table.old command.entry) }
     ensures refused { IfErr result (step.IsRefused table.old table.new command.entry) }

@@ -93,7 +93,10 @@ fn upserts_are_read(rt: HostRuntime) -> Result<(), Fail> {
         ("9,add,city,1", "NotInt 0"),
         ("x", "BadLength 4"),
     ] {
-        for text in [upsert_of(rt.alloc(), line)?, upsert_of_line(rt.alloc(), line)?] {
+        for text in [
+            upsert_of(rt.alloc(), line)?,
+            upsert_of_line(rt.alloc(), line)?,
+        ] {
             assert_eq!(rt; text.as_slice(), expected.as_bytes());
         }
     }

@@ -181,13 +181,22 @@ fn rows_in_turn(alloc: Global, lines: &[&str]) -> Result<Vec<u8>, Refusal> {
 fn lines_are_read_in_turn(rt: HostRuntime) -> Result<(), Fail> {
     let long = "|BadLength 3|BadLength 5";
     for (lines, expected) in [
-        (["1,2,Bonn,true", "\"3\"", "4,5,,no"], "|1,2,Bonn,true|BadLength 5|BadLength 3|3|BadField 3|BadLength 5"),
-        (["\"3\",4,\"a, b\",false", "5", "\r"], "|3,4,\"a, b\",false|BadLength 5|BadLength 3|5"),
+        (
+            ["1,2,Bonn,true", "\"3\"", "4,5,,no"],
+            "|1,2,Bonn,true|BadLength 5|BadLength 3|3|BadField 3|BadLength 5",
+        ),
+        (
+            ["\"3\",4,\"a, b\",false", "5", "\r"],
+            "|3,4,\"a, b\",false|BadLength 5|BadLength 3|5",
+        ),
         (["", "8,9,x,true,10", ""], long),
         (["", "\"8\",9,x,true,10", ""], long),
         (["", "\"8,9,x\",true", "\n"], long),
     ] {
-        assert_eq!(rt; rows_in_turn(rt.alloc(), &lines)?.as_slice(), expected.as_bytes());
+        assert_eq!(rt;
+            rows_in_turn(rt.alloc(), &lines)?.as_slice(),
+            expected.as_bytes()
+        );
     }
     Ok(())
 }
