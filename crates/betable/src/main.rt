@@ -2,8 +2,9 @@
 #![tactic(auto)]
 
 use bt_rowtype::Texts;
-use bt_shell::{Counted, ProgramFault, RunFault, program};
-use std::io::{BufWriter, ErrorKind, Write};
+use bt_shell::{Counted, ProgramFault, RunFault, program, read_words};
+use std::alloc::Global;
+use std::io::{BufWriter, ErrorKind, IsTerminal, Write};
 use std::process::ExitCode;
 use std::rt::Env;
 use std::{env, io};
@@ -24,16 +25,32 @@ fn words_of<R: Env + AllocGlobal>(rt: &R) -> Result<Texts, ProgramFault> {
     Ok(words)
 }
 
-// Passes the words and the streams on. Replies leave through a buffer.
+// Whether the words name no file, so that the script is the standard input.
+fn names_no_file(alloc: Global, words: &Texts) -> bool {
+    match read_words(alloc, words) {
+        Ok(said) => said.script.is_none(),
+        Err(_) => false,
+    }
+}
+
+// Passes the words and the streams on. Replies leave through a buffer. At a terminal, who started the program is told what
+// it waits for; an error of that stream is let go.
 fn run<E: Write>(rt: &HostRuntime, errors: &mut E) -> Result<u8, ProgramFault> {
     let words = words_of(rt)?;
+    let input = rt.reader();
+    if input.is_terminal() && names_no_file(rt.alloc(), &words) {
+        let _ = writeln!(
+            errors,
+            "betable: reads a script from the terminal until its end (Ctrl-D)"
+        );
+    }
     let Ok(output) = BufWriter::new(rt.alloc(), io::writer(rt)) else {
         return Err(ProgramFault::Run(RunFault::OutOfMemory));
     };
     Ok(program(
         rt,
         &words,
-        &mut Counted::new(rt.reader()),
+        &mut Counted::new(input),
         &mut Counted::new(output),
         errors,
     ))

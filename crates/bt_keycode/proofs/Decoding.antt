@@ -6,7 +6,7 @@ use Rattle.bt_rowtype.specs.declared.value.Value.{Value}
 use Rattle.bt_rowtype.specs.declared.value.Value.TheVariants as value
 use Rattle.bt_keycode.specs.Codes.{AreInRange, IsCodeOf, code_of, code_of_value, escaped, kind_of, raised}
 use Rattle.bt_keycode.specs.Prefixes.{eight_bytes, first_eight}
-use Rattle.bt_rowtype.specs.Values.{is_text}
+use Rattle.bt_rowtype.specs.Texts.{is_text}
 use Rattle.bt_rowtype.proofs.offered.Texts.{long_text}
 use Rattle.std.proofs.lemmas.Int.{to_z-of_z}
 use Rattle.std.proofs.Math.Seq.{take-length}

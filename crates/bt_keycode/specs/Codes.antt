@@ -1,7 +1,7 @@
 -- The key code of values.
 use Rattle.std.specs.Int.{w64}
 use Rattle.std.specs.Prelude.{ℕ, suc, ◌≡◌, ◌==◌, ◌+◌, ◌-◌, ◌^◌, ◌++◌, true, List, [], ◌∷◌, map, if◌then◌else◌, ℤ, pos, negsuc, FitsSigned}
-use Rattle.bt_rowtype.specs.Values.{is_text}
+use Rattle.bt_rowtype.specs.Texts.{is_text}
 use Rattle.bt_rowtype.specs.declared.value.Kind.{Kind}
 use Rattle.bt_rowtype.specs.declared.value.Kind.TheVariants as kind
 use Rattle.bt_rowtype.specs.declared.value.Value.{Value}

@@ -3,12 +3,13 @@ ghost use Rattle.std.specs.List.{list_any};
 ghost use Rattle.std.specs.Prelude.{◌≡◌, ◌≤◌, ◌+◌, ◌++◌, ◌∷◌, [], IfOk, OnOk, false, length, nat_eq, take};
 ghost use Rattle.std.specs.Ordering.{int_cmp};
 ghost use Rattle.bt_rowtype.specs.Values.{value_cmp, values_cmp};
+ghost use Rattle.bt_rowtype.specs.Views.{shown};
 ghost use Rattle.bt_keycode.specs.Codes.{HaveSameKinds, IsNoProperPrefix, code_of, code_of_value, escaped, kind_of, raised};
 ghost use Rattle.bt_keycode.specs.Keys.{key_cmp};
 ghost use Rattle.bt_keycode.specs.Prefixes.{eight_bytes};
 
 use crate::key::Key;
-use bt_rowtype::Value;
+use bt_rowtype::{Row, Value, ValueRef, Values};
 use std::alloc::{AllocError, Global};
 use std::cmp::Ordering;
 
@@ -72,36 +73,37 @@ fn add_int(bytes: &mut Vec<u8>, number: i64) -> Result<(), AllocError>
 }
 
 // Adds the code of a value.
-fn add_code(bytes: &mut Vec<u8>, value: &Value) -> Result<(), AllocError>
-    ensures { OnOk result (bytes.new.items ≡ bytes.old.items ++ code_of_value value.now) }
+fn add_code(bytes: &mut Vec<u8>, value: ValueRef<'_>) -> Result<(), AllocError>
+    ensures { OnOk result (bytes.new.items ≡ bytes.old.items ++ code_of_value (shown value.entry)) }
 {
     match value {
-        Value::Int(number) => add_int(bytes, *number),
-        Value::Text(text) => add_text(bytes, text.as_bytes()),
-        Value::Flag(true) => bytes.extend_from_slice(&[1]),
-        Value::Flag(false) => bytes.extend_from_slice(&[0]),
+        ValueRef::Int(number) => add_int(bytes, number),
+        ValueRef::Text(text) => add_text(bytes, text),
+        ValueRef::Flag(true) => bytes.extend_from_slice(&[1]),
+        ValueRef::Flag(false) => bytes.extend_from_slice(&[0]),
     }
 }
 
 // The length of the code of a value, but for the bytes behind zero bytes.
 #[tactic(auto, using(crate::proofs::Lengths::length_text), unfolding(crate::specs::Prefixes::eight_bytes))]
-fn room_of(value: &Value) -> usize
-    ensures { result ≤ length (code_of_value value.now) }
+fn room_of(value: ValueRef<'_>) -> usize
+    ensures { result ≤ length (code_of_value (shown value.entry)) }
 {
     match value {
-        Value::Int(_) => 8,
-        Value::Text(text) => text.as_bytes().len().saturating_add(2),
-        Value::Flag(_) => 1,
+        ValueRef::Int(_) => 8,
+        ValueRef::Text(text) => text.len().saturating_add(2),
+        ValueRef::Flag(_) => 1,
     }
 }
 
 // The length of the code of the values, but for the bytes behind zero bytes.
 #[tactic(auto, using(crate::proofs::Lengths::length_code_of))]
-fn room_for(values: &[Value]) -> usize
-    ensures { result ≤ length (code_of values.now) }
+fn room_for(values: Values<'_>) -> usize
+    ensures { result ≤ length (code_of values.entry) }
 {
+    let mut rest = values;
     let mut room: usize = 0;
-    for value in values {
+    while let Some(value) = rest.next() {
         room = room.saturating_add(room_of(value));
     }
     room
@@ -150,21 +152,50 @@ fn encode_text(alloc: Global, text: &[u8]) -> Result<Key, AllocError>
     Key::from_vec(alloc, bytes)
 }
 
+// The key that is the code of one value.
+fn encode_one(alloc: Global, value: ValueRef<'_>) -> Result<Key, AllocError>
+    ensures { IfOk result (λ key. key ≡ code_of_value (shown value.entry)) }
+{
+    match value {
+        ValueRef::Int(number) => encode_int(alloc, number),
+        ValueRef::Text(text) => encode_text(alloc, text),
+        ValueRef::Flag(true) => Key::from_bytes(alloc, &[1]),
+        ValueRef::Flag(false) => Key::from_bytes(alloc, &[0]),
+    }
+}
+
+// The key that is the code of values, of whatever number.
+fn encode_many(alloc: Global, values: Values<'_>) -> Result<Key, AllocError>
+    ensures { IfOk result (λ key. key ≡ code_of values.entry) }
+{
+    let mut rest = values;
+    let mut bytes = Vec::with_capacity(alloc, room_for(rest.copy()))?;
+    while let Some(value) = rest.next() {
+        add_code(&mut bytes, value)?;
+    }
+    Key::from_vec(alloc, bytes)
+}
+
+// The key that is the code of values, wherever they lie.
+#[tactic(auto, using(crate::proofs::Lengths::code_of_one))]
+fn encode_values(alloc: Global, values: Values<'_>) -> Result<Key, AllocError>
+    ensures { IfOk result (λ key. key ≡ code_of values.entry) }
+{
+    let mut rest = values.copy();
+    let Some(first) = rest.next() else {
+        return Key::from_bytes(alloc, &[]);
+    };
+    if rest.is_empty() {
+        return encode_one(alloc, first);
+    }
+    encode_many(alloc, values)
+}
+
 /// The key that is the code of the values. That of one int, or of one short text with no zero byte, takes no memory.
 pub fn encode(alloc: Global, values: &[Value]) -> Result<Key, AllocError>
     ensures { IfOk result (λ key. key ≡ code_of values.now) }
 {
-    if let [Value::Int(number)] = values {
-        return Ok(encode_int(alloc, *number)?);
-    }
-    if let [Value::Text(text)] = values {
-        return Ok(encode_text(alloc, text.as_bytes())?);
-    }
-    let mut bytes = Vec::with_capacity(alloc, room_for(values))?;
-    for value in values {
-        add_code(&mut bytes, value)?;
-    }
-    Key::from_vec(alloc, bytes)
+    encode_values(alloc, Values::of(values))
 }
 
 /// The key that is the code of the first values, with which the code of all of them begins.
@@ -173,6 +204,13 @@ pub fn encode_prefix(alloc: Global, values: &[Value], count: usize) -> Result<Ke
     ensures { IfOk result (λ key. key ≡ code_of (take count values.now)) }
 {
     encode(alloc, &values[..count])
+}
+
+/// The key that is the code of the first values of a row, or of all where there are fewer, as [`encode`] gives it.
+pub fn encode_row(alloc: Global, row: &Row, count: usize) -> Result<Key, AllocError>
+    ensures { IfOk result (λ key. key ≡ code_of (take count row.now)) }
+{
+    encode_values(alloc, row.first_values(count))
 }
 
 #[tactic(auto, using(crate::proofs::Codes::ints_compare))]

@@ -2,7 +2,7 @@
 ghost use Rattle.std.specs.Prelude.{◌≡◌, ◌<◌, ◌≤◌, ◌∷◌, [], IfErr, IfOk, IfSome, IfNone, IsErrOf, List, None, Some, false, true, length, take, ℕ};
 ghost use Rattle.bt_keycode.specs.Codes.{IsCodeOf, raised};
 ghost use Rattle.bt_keycode.specs.Decoding.{BeginsWith, BeginsWithAll, BeginsWithNo, BeginsWithNone, IsCode, IsNoCode, after_bytes, ended, unescaped};
-ghost use Rattle.bt_rowtype.specs.Values.{is_text};
+ghost use Rattle.bt_rowtype.specs.Texts.{is_text};
 ghost use Rattle.bt_rowtype.specs.declared.value.Value.{Value as value};
 
 use crate::key::prefix_of;
@@ -174,23 +174,23 @@ fn is_code(kinds: &[Kind], bytes: &[u8]) -> bool
     code.is_empty()
 }
 
-// The values of these kinds with whose code the bytes begin, and what comes after it.
+// The row of the values of these kinds with whose code the bytes begin, and what comes after it.
 fn read_values<'a>(
     alloc: Global,
     kinds: &[Kind],
     bytes: &'a [u8],
-) -> Result<(Vec<Value>, &'a [u8]), DecodeError>
-    ensures found { IfOk result (λ read. BeginsWithAll kinds.now bytes.now read.0.items read.1.now) }
+) -> Result<(Row, &'a [u8]), DecodeError>
+    ensures found { IfOk result (λ read. BeginsWithAll kinds.now bytes.now read.0 read.1.now) }
     ensures none { IsErrOf result DecodeError.NotACode → BeginsWithNone kinds.now bytes.now }
 {
-    let mut values = Vec::new(alloc);
+    let mut row = Row::new();
     let mut code = bytes;
     for kind in kinds {
         let (value, rest) = read_value(alloc, *kind, code)?;
-        values.push(value).map_err(AllocError::from)?;
+        row.push(alloc, value.as_ref())?;
         code = rest;
     }
-    Ok((values, code))
+    Ok((row, code))
 }
 
 /// The values of these kinds whose code the bytes are. No other list of values of these kinds has it. Bytes that are no code
@@ -204,6 +204,6 @@ pub fn decode(alloc: Global, kinds: &[Kind], bytes: &[u8]) -> Result<Row, Decode
     if !is_code(kinds, bytes) {
         return Err(DecodeError::NotACode);
     }
-    let (values, _rest) = read_values(alloc, kinds, bytes)?;
-    Ok(Row::new(values))
+    let (row, _rest) = read_values(alloc, kinds, bytes)?;
+    Ok(row)
 }

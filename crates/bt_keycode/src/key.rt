@@ -94,6 +94,13 @@ impl Key {
         self.bytes.as_slice()
     }
 
+    /// The number that the first eight bytes write, the highest first, with zeros in place of those that the key hasn't.
+    pub fn first_number(&self) -> u64
+        ensures { eight_bytes result ≡ first_eight self.now }
+    {
+        self.number_at(0)
+    }
+
     // The number that the eight bytes from a place on write, with zeros in place of those that the key hasn't.
     fn number_at(&self, place: usize) -> u64
         requires { place ≤ LAST_EIGHT }

@@ -18,6 +18,6 @@ mod decoder;
 mod hex;
 mod key;
 
-pub use code::{cmp_rows, encode, encode_prefix};
+pub use code::{cmp_rows, encode, encode_prefix, encode_row};
 pub use decoder::{DecodeError, decode};
 pub use key::Key;

@@ -5,6 +5,7 @@ pub mod Merging
 pub mod Sharing
 pub mod Slices
 pub mod Stable
+pub mod StablePlaces
 pub mod Totals
 pub mod WorkedRows
 pub mod offered

@@ -3,7 +3,7 @@ ghost use Rattle.std.specs.Prelude.{◌≡◌, IfOk};
 ghost use Rattle.bt_messages.specs.Effects.{merged_entry};
 
 use crate::message::Merge;
-use bt_rowtype::{Row, Value, copy_row};
+use bt_rowtype::{Row, copy_row};
 use std::alloc::{AllocError, Global};
 use std::marker::Model;
 
@@ -23,19 +23,18 @@ impl Model for Entry {
 }
 
 impl Entry {
-    /// The index value of these values.
-    pub fn new(values: Vec<Value>) -> Self
-        ensures { result ≡ values.items }
+    /// The index value of the values of this row.
+    pub fn new(values: Row) -> Self
+        ensures { result ≡ values }
     {
-        Entry {
-            values: Row::new(values),
-        }
+        Entry { values }
     }
 
-    pub fn as_slice(&self) -> &[Value]
+    /// The values, as a row.
+    pub fn as_row(&self) -> &Row
         ensures { result.now ≡ self.now }
     {
-        self.values.as_slice()
+        &self.values
     }
 }
 

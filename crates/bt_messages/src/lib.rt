@@ -23,6 +23,7 @@ mod iter;
 mod joined;
 mod message;
 mod packet;
+mod places;
 mod rest;
 mod share;
 mod sorted;

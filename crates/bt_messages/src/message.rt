@@ -2,7 +2,7 @@
 ghost use Rattle.std.specs.Prelude.{◌≡◌, IfOk, Option};
 ghost use Rattle.bt_messages.specs.Effects.{effect_of};
 
-use bt_rowtype::{Change, Row, apply_ops, copy_change, copy_row};
+use bt_rowtype::{Change, Row, copy_change, copy_row};
 use std::alloc::{AllocError, Global};
 
 /// What messages carry to a key.
@@ -36,11 +36,7 @@ impl Merge for Row {
     fn merge(alloc: Global, old: Option<Row>, delta: &Change) -> Result<Row, AllocError>
         ensures { IfOk result (λ new. new ≡ ops.merged old delta.now) }
     {
-        let row = match old {
-            Some(row) => row,
-            None => copy_row(alloc, &delta.base)?,
-        };
-        apply_ops(alloc, row, delta.ops.as_slice())
+        delta.apply(alloc, old)
     }
 
     fn copy(&self, alloc: Global) -> Result<Row, AllocError> {

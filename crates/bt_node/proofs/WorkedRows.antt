@@ -7,7 +7,6 @@ use Rattle.bt_messages.specs.Effects.{effect_of}
 use Rattle.bt_messages.specs.declared.message.Message.{Message}
 use Rattle.bt_messages.specs.declared.message.Message.TheVariants.{Put, Del, Ups}
 use Rattle.bt_rowtype.specs.Ops as ops
-use Rattle.bt_rowtype.specs.declared.op.Change as change
 use Rattle.bt_rowtype.specs.declared.op.Op.TheVariants.{Add}
 use Rattle.bt_rowtype.specs.declared.value.Value.{Value}
 use Rattle.bt_rowtype.specs.declared.value.Value.TheVariants.{Int}
@@ -159,13 +158,13 @@ quantity n v = Int (pos n) ∷ Int (pos v) ∷ []
 abbrev row_at : ℕ → ℕ → Key × List Value
 row_at n v = (k n, quantity n v)
 
-abbrev row_change : ℕ → ℕ → Key × Message (List Value) change.Change
+abbrev row_change : ℕ → ℕ → Key × Message (List Value) ops.Change
 row_change n v = (k n, Ups (record { base = quantity n 0; ops = Add 1 (pos v) ∷ [] }))
 
-abbrev row_put : ℕ → ℕ → Key × Message (List Value) change.Change
+abbrev row_put : ℕ → ℕ → Key × Message (List Value) ops.Change
 row_put n v = (k n, Put (quantity n v))
 
-abbrev row_leaves : Nodes (List Value) (Message (List Value) change.Change)
+abbrev row_leaves : Nodes (List Value) (Message (List Value) ops.Change)
 row_leaves = node [] (leaf (row_at 1 10 ∷ row_at 2 20 ∷ [])) (node (k 3) (leaf (row_at 3 30 ∷ row_at 4 40 ∷ [])) none)
 
 row_puts : sunk (effect_of ops.merged) shape (leaf []) (row_put 1 10 ∷ row_put 2 20 ∷ row_put 3 30 ∷ row_put 4 40 ∷ []) ≡ inner row_leaves []

@@ -1,9 +1,11 @@
 pub mod Columnwise
 pub mod Exits
+pub mod Found
 pub mod Groups
 pub mod IntTexts
 pub mod Marks
 pub mod offered
+pub mod Packing
 pub mod Paddings
 pub mod Pieces
 pub mod Plain
@@ -11,5 +13,8 @@ pub mod Quotes
 pub mod ReaderSteps
 pub mod ReadFits
 pub mod RecordTexts
+pub mod Replacements
+pub mod Returns
 pub mod RowFits
+pub mod Walks
 pub mod WorkedOps

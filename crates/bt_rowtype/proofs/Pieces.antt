@@ -1,45 +1,94 @@
--- Bytes in parts: their number, one of them, and one more. Serves `Fields`.
-use Rattle.std.proofs.Common.{◌≡◌, ℕ, zero, suc, ◌+◌, ◌-◌, ◌<◌, ◌≤◌, List, [], ◌∷◌, ◌++◌, length, length-drop, take, drop, get_or, slice_get, Some, refl, ap, ◌∙◌, arith}
-use Rattle.std.proofs.lemmas.List.{take-append-le, drop-append-le}
+-- Parts of bytes: their number, one of them, and one more. Serves the fields of a record and the reader.
+use Rattle.std.proofs.Common.{◌≡◌, ℕ, zero, suc, ◌+◌, ◌-◌, ◌<◌, ◌≤◌, List, [], ◌∷◌, ◌++◌, length, length-append, length-drop, take, drop, get_or, map, slice_get, Some, refl, ap, sym, ◌∙◌, arith}
+use Rattle.std.proofs.lemmas.List.{drop_all, take-append-le, drop-append-le}
 use Rattle.std.proofs.Math.Seq.{drop-append_seam, take-length}
-use Rattle.bt_rowtype.specs.Pieces.{AreEnds, pieces}
+use Rattle.bt_rowtype.specs.Pieces.{LieWithin, part, pieces}
+use Rattle.bt_rowtype.specs.declared.fields.Place.{Place}
 
-pub length_pieces : (start : ℕ) (ends bytes : List ℕ) → length (pieces start ends bytes) ≡ length ends
-length_pieces start [] bytes = refl
-length_pieces start (e ∷ es) bytes = ap suc (length_pieces e es bytes)
+pub length_pieces : (bytes : List ℕ) (places : List Place) → length (pieces bytes places) ≡ length places
+length_pieces bytes [] = refl
+length_pieces bytes (p ∷ ps) = ap suc (length_pieces bytes ps)
 
-pub piece_at : (start : ℕ) (ends bytes : List ℕ) (place : ℕ) → place < length ends →
-    slice_get (pieces start ends bytes) place ≡ Some (take (get_or ends place 0 - get_or (start ∷ ends) place 0) (drop (get_or (start ∷ ends) place 0) bytes))
-piece_at start [] bytes place l = absurd (omega (arith, l))
-piece_at start (e ∷ es) bytes zero l = refl
-piece_at start (e ∷ es) bytes (suc place) l = piece_at e es bytes place (omega (arith, l))
+pub piece_at : (bytes : List ℕ) (places : List Place) (i : ℕ) (d : Place) → i < length places → slice_get (pieces bytes places) i ≡ Some (part bytes (get_or places i d))
+piece_at bytes [] i d within = absurd (omega (arith, within))
+piece_at bytes (p ∷ ps) zero d within = refl
+piece_at bytes (p ∷ ps) (suc i) d within = piece_at bytes ps i d (omega (arith, within))
 
--- all places are up to the last one
-pub ends_up_to : (start : ℕ) (ends : List ℕ) (last : ℕ) → AreEnds start ends last → start ≤ last
-ends_up_to start [] last h = omega (arith, h)
-ends_up_to start (e ∷ es) last h = omega (arith, h.0, ends_up_to e es last h.1)
+pub in_bounds : (size : ℕ) (places : List Place) (i : ℕ) (d : Place) → LieWithin size places → i < length places → ((get_or places i d).start ≤ (get_or places i d).end) × ((get_or places i d).end ≤ size)
+in_bounds size [] i d within l = absurd (omega (arith, l))
+in_bounds size (p ∷ ps) zero d within l = (within.0, within.1)
+in_bounds size (p ∷ ps) (suc i) d within l = in_bounds size ps i d within.2 (omega (arith, l))
 
-pub in_bounds : (start : ℕ) (ends : List ℕ) (last place : ℕ) → AreEnds start ends last → place < length ends → (get_or (start ∷ ends) place 0 ≤ get_or ends place 0) × (get_or ends place 0 ≤ last)
-in_bounds start [] last place h l = absurd (omega (arith, l))
-in_bounds start (e ∷ es) last zero h l = (h.0, ends_up_to e es last h.1)
-in_bounds start (e ∷ es) last (suc place) h l = in_bounds e es last place h.1 (omega (arith, l))
+-- places within a size lie within a greater one
+pub wider : (size more : ℕ) (places : List Place) → size ≤ more → LieWithin size places → LieWithin more places
+wider size more [] le within = tt
+wider size more (p ∷ ps) le within = (within.0, omega (arith, le, within.1), wider size more ps le within.2)
 
-pub more_ends : (start : ℕ) (ends : List ℕ) (last more : ℕ) → AreEnds start ends last → last ≤ more → AreEnds start (ends ++ more ∷ []) more
-more_ends start [] last more h l = (omega (arith, h, l), refl)
-more_ends start (e ∷ es) last more h l = (h.0, more_ends e es last more h.1 l)
+-- one more place
+pub more_places : (size : ℕ) (places : List Place) (p : Place) → LieWithin size places → p.start ≤ p.end → p.end ≤ size → LieWithin size (places ++ p ∷ [])
+more_places size [] p within s e = (s, e, tt)
+more_places size (q ∷ qs) p within s e = (within.0, within.1, more_places size qs p within.2 s e)
 
-part-append : (start end : ℕ) (bytes more : List ℕ) → start ≤ end → end ≤ length bytes → take (end - start) (drop start (bytes ++ more)) ≡ take (end - start) (drop start bytes)
-part-append start end bytes more s e =
-    ap (take (end - start)) (drop-append-le start bytes more (omega (arith, s, e)))
-    ∙ take-append-le (end - start) (drop start bytes) more (omega (arith, s, e, length-drop start bytes))
+pub more_pieces : (bytes : List ℕ) (places : List Place) (p : Place) → pieces bytes (places ++ p ∷ []) ≡ pieces bytes places ++ part bytes p ∷ []
+more_pieces bytes [] p = refl
+more_pieces bytes (q ∷ qs) p = ap (λ (l : List (List ℕ)). part bytes q ∷ l) (more_pieces bytes qs p)
 
-last_part : (bytes more : List ℕ) → take (length bytes + length more - length bytes) (drop (length bytes) (bytes ++ more)) ≡ more
-last_part bytes more =
-    let count : length bytes + length more - length bytes ≡ length more = omega arith in
-    ap (λ n. take n (drop (length bytes) (bytes ++ more))) count ∙ ap (take (length more)) (drop-append_seam bytes more) ∙ take-length more
+-- more bytes behind places leave the parts as they are
+pub more_bytes : (bytes more : List ℕ) (places : List Place) → LieWithin (length bytes) places → pieces (bytes ++ more) places ≡ pieces bytes places
+more_bytes bytes more [] within = refl
+more_bytes bytes more (p ∷ ps) within =
+    let first : part (bytes ++ more) p ≡ part bytes p =
+    ap (take (p.end - p.start)) (drop-append-le p.start bytes more (omega (arith, within.0, within.1)))
+    ∙ take-append-le (p.end - p.start) (drop p.start bytes) more (omega (arith, within.0, within.1, length-drop p.start bytes)) in
+    ap (λ (l : List (List ℕ)). part (bytes ++ more) p ∷ l) (more_bytes bytes more ps within.2) ∙ ap (λ (f : List ℕ). f ∷ pieces bytes ps) first
 
-pub more_pieces : (start : ℕ) (ends bytes more : List ℕ) → AreEnds start ends (length bytes) → pieces start (ends ++ (length bytes + length more) ∷ []) (bytes ++ more) ≡ pieces start ends bytes ++ more ∷ []
-more_pieces start [] bytes more h = ap (λ s. take (length bytes + length more - s) (drop s (bytes ++ more)) ∷ []) h ∙ ap (λ z. z ∷ []) (last_part bytes more)
-more_pieces start (e ∷ es) bytes more h =
-    ap (λ z. z ∷ pieces e (es ++ (length bytes + length more) ∷ []) (bytes ++ more)) (part-append start e bytes more h.0 (ends_up_to e es (length bytes) h.1))
-    ∙ ap (λ z. take (e - start) (drop start bytes) ∷ z) (more_pieces e es bytes more h.1)
+-- the bytes from a start to the end are the part that begins there
+pub last_part : (bytes : List ℕ) (start : ℕ) → take (length bytes - start) (drop start bytes) ≡ drop start bytes
+last_part bytes start = ap (λ n. take n (drop start bytes)) (sym (length-drop start bytes)) ∙ take-length (drop start bytes)
+
+-- one more part, behind bytes that are added for it
+pub pushed : (bytes more : List ℕ) (places : List Place) (p : Place) → LieWithin (length bytes) places → p.start ≡ length bytes → p.end ≡ length (bytes ++ more)
+    → pieces (bytes ++ more) (places ++ p ∷ []) ≡ pieces bytes places ++ more ∷ []
+pushed bytes more places p within starts ends =
+    let start : drop p.start (bytes ++ more) ≡ more = ap (λ n. drop n (bytes ++ more)) starts ∙ drop-append_seam bytes more in
+    let size : p.end - p.start ≡ length more = omega (arith, starts, ends, length-append bytes more) in
+    let last : part (bytes ++ more) p ≡ more = rw (size, start) (take-length more) in
+    more_pieces (bytes ++ more) places p ∙ ap (λ (f : List ℕ). pieces (bytes ++ more) places ++ f ∷ []) last ∙ ap (λ (l : List (List ℕ)). l ++ more ∷ []) (more_bytes bytes more places within)
+
+pub pushed_within : (bytes more : List ℕ) (places : List Place) (p : Place) → LieWithin (length bytes) places → p.start ≡ length bytes → p.end ≡ length (bytes ++ more)
+    → LieWithin (length (bytes ++ more)) (places ++ p ∷ [])
+pushed_within bytes more places p within starts ends =
+    let grown : length bytes ≤ length (bytes ++ more) = omega (arith, length-append bytes more) in
+    more_places (length (bytes ++ more)) places p (wider (length bytes) (length (bytes ++ more)) places grown within) (omega (arith, starts, ends, grown)) (omega (arith, ends))
+
+-- ---- the bytes of fields one after the other, and those of the field at hand behind them
+
+pub same_fields : (bytes new : List ℕ) (places places_new : List Place) → new ≡ bytes → places_new ≡ places → pieces new places_new ≡ pieces bytes places
+same_fields bytes new places places_new b p = rw (b, p) refl
+
+pub same_field : (bytes new : List ℕ) (start start_new : ℕ) → new ≡ bytes → start_new ≡ start → drop start_new new ≡ drop start bytes
+same_field bytes new start start_new b s = rw (b, s) refl
+
+-- one more byte of the field at hand
+pub copied_fields : (bytes new : List ℕ) (places places_new : List Place) (start byte : ℕ) → LieWithin start places → start ≤ length bytes → new ≡ bytes ++ byte ∷ [] → places_new ≡ places
+    → pieces new places_new ≡ pieces bytes places
+copied_fields bytes new places places_new start byte within starts b p = rw (b, p) (more_bytes bytes (byte ∷ []) places (wider start (length bytes) places starts within))
+
+pub copied_field : (bytes new : List ℕ) (start start_new byte : ℕ) → start ≤ length bytes → new ≡ bytes ++ byte ∷ [] → start_new ≡ start → drop start_new new ≡ drop start bytes ++ byte ∷ []
+copied_field bytes new start start_new byte starts b s = rw (b, s) (drop-append-le start bytes (byte ∷ []) starts)
+
+-- the end of the field at hand
+pub ended_fields : (bytes new : List ℕ) (places places_new : List Place) (start end : ℕ) → new ≡ bytes → places_new ≡ places ++ record { start = start; end = end } ∷ [] → end ≡ length bytes
+    → pieces new places_new ≡ pieces bytes places ++ drop start bytes ∷ []
+ended_fields bytes new places places_new start end b p e =
+    let q : Place = record { start = start; end = end } in
+    let last : part bytes q ≡ drop start bytes = ap (λ n. take (n - start) (drop start bytes)) e ∙ last_part bytes start in
+    same_fields bytes new (places ++ q ∷ []) places_new b p ∙ more_pieces bytes places q ∙ ap (λ (f : List ℕ). pieces bytes places ++ f ∷ []) last
+
+pub ended_within : (size : ℕ) (places places_new : List Place) (start end : ℕ) → LieWithin start places → start ≤ end → end ≡ size → places_new ≡ places ++ record { start = start; end = end } ∷ []
+    → LieWithin size places_new
+ended_within size places places_new start end within starts e p =
+    rw p (more_places size places (record { start = start; end = end }) (wider start size places (omega (arith, starts, e)) within) starts (omega (arith, e)))
+
+pub none_left : (bytes new : List ℕ) (start : ℕ) → new ≡ bytes → start ≡ length bytes → drop start new ≡ []
+none_left bytes new start b s = rw b (drop_all start bytes (omega (arith, s)))

@@ -5,6 +5,10 @@ use Rattle.std.specs.Prelude.{ℕ}
 abbrev pub most_short : ℕ
 most_short = 22
 
+-- bytes of a row that are kept in the row itself
+abbrev pub most_short_row : ℕ
+most_short_row = 30
+
 -- bytes of a text
 abbrev pub longest_text : ℕ
 longest_text = 255

@@ -9,7 +9,6 @@ use Rattle.bt_rowtype.specs.Limits.{most_ops}
 use Rattle.bt_rowtype.specs.Refusals.{least, lesser}
 use Rattle.bt_rowtype.specs.Schemas.{Schema, fits_kind}
 use Rattle.bt_rowtype.specs.Values.{default_of, or_refused, value_of, values_of}
-use Rattle.bt_rowtype.specs.declared.op.Change.{Change}
 use Rattle.bt_rowtype.specs.declared.op.Op.{Op}
 use Rattle.bt_rowtype.specs.declared.op.Op.TheVariants.{Set, Add}
 use Rattle.bt_rowtype.specs.declared.refusal.Refusal.{Refusal}
@@ -40,6 +39,11 @@ after_op row (Add place n) = set row place (added n (get_or row place (value.Int
 abbrev pub after_ops : List Op → List Value → List Value
 after_ops [] row = row
 after_ops (op ∷ ops) row = after_ops ops (after_op row op)
+
+-- what an upsert does to the row of its key: operations in turn, and a row to begin with where the key has none
+pub record Change : Type 0 where
+  pub base : List Value
+  pub ops : List Op
 
 -- what an upsert makes of the row at its key, or of the default row where there is none
 abbrev pub merged : Option (List Value) → Change → List Value

@@ -1,12 +1,16 @@
--- Bytes in parts, by the places where the parts end.
-use Rattle.std.specs.Prelude.{ℕ, ◌≡◌, ◌≤◌, ◌-◌, List, [], ◌∷◌, take, drop}
+-- Fields as parts of bytes, by the places where they stand.
+use Rattle.std.specs.Prelude.{ℕ, ◌≤◌, ◌-◌, List, [], ◌∷◌, take, drop, map, ⊤}
+use Rattle.bt_rowtype.specs.declared.fields.Place.{Place}
 
--- the parts that end at these places, the first of them from a start on
-abbrev pub pieces : ℕ → List ℕ → List ℕ → List (List ℕ)
-pieces start [] bytes = []
-pieces start (end ∷ ends) bytes = take (end - start) (drop start bytes) ∷ pieces end ends bytes
+-- the part of bytes at a place
+abbrev pub part : List ℕ → Place → List ℕ
+part bytes place = take (place.end - place.start) (drop place.start bytes)
 
--- places from a start on, none before an earlier one, and the last of them is this one
-abbrev pub AreEnds : ℕ → List ℕ → ℕ → Type 0
-AreEnds start [] last = start ≡ last
-AreEnds start (end ∷ ends) last = (start ≤ end) × AreEnds end ends last
+-- the parts of bytes at places
+abbrev pub pieces : List ℕ → List Place → List (List ℕ)
+pieces bytes places = map (λ place. part bytes place) places
+
+-- places that lie within so many bytes
+abbrev pub LieWithin : ℕ → List Place → Type 0
+LieWithin size [] = ⊤
+LieWithin size (place ∷ places) = (place.start ≤ place.end) × (place.end ≤ size) × LieWithin size places

@@ -1,5 +1,5 @@
 -- One record in a line: its fields, and its text.
-use Rattle.std.specs.Prelude.{ℕ, ◌≡◌, ◌==◌, ◌||◌, ◌++◌, ◌∷◌, [], Bool, false, List, length, Option, None, option_map, if◌then◌else◌}
+use Rattle.std.specs.Prelude.{ℕ, ◌≡◌, ◌==◌, ◌||◌, ◌++◌, ◌∷◌, [], Bool, false, List, length, Option, None, option_map, unwrap_or, if◌then◌else◌}
 use Rattle.std.specs.List.{list_any, slice_split}
 use Rattle.csv.specs.Machine.{next_record}
 use Rattle.csv.specs.Reading.{default_config, is_bom, strip_bom}
@@ -9,6 +9,10 @@ use Rattle.csv.specs.declared.parser.State.TheVariants as state
 -- the fields of the first record of a text, as csv reads it
 abbrev pub csv_record : List ℕ → Option (List (List ℕ))
 csv_record text = option_map (λ p. p.0) (next_record default_config state.StartRecord [] [] text)
+
+-- those fields, of a text that has line ends alone none
+abbrev pub fields_in : List ℕ → List (List ℕ)
+fields_in text = unwrap_or (csv_record text) []
 
 -- whether a text begins with a byte order mark
 abbrev pub has_mark : List ℕ → Bool

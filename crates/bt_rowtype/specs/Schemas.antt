@@ -10,7 +10,7 @@ use Rattle.bt_rowtype.specs.declared.value.Kind.TheVariants as kind
 use Rattle.bt_rowtype.specs.declared.value.Value.{Value}
 use Rattle.bt_rowtype.specs.declared.value.Value.TheVariants as value
 use Rattle.bt_rowtype.specs.Limits.{most_columns, most_keys}
-use Rattle.bt_rowtype.specs.Values.{is_text}
+use Rattle.bt_rowtype.specs.Texts.{is_text}
 
 -- what a contract sees of a schema: its columns, of which the first `keys` are the key
 pub record Schema : Type 0 where

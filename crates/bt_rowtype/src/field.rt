@@ -1,17 +1,19 @@
 //! Reading one field.
-ghost use Rattle.std.specs.Prelude.{◌≡◌, false, Some, None, Ok, Err, IfOk, if◌then◌else◌};
+ghost use Rattle.std.specs.Prelude.{◌≡◌, Err, IfSome, None, option_map};
 ghost use Rattle.bt_rowtype.specs.Answers.{Answers};
-ghost use Rattle.bt_rowtype.specs.Values.{flag_of, is_text, or_refused, value_of};
+ghost use Rattle.bt_rowtype.specs.Packing.{HasText};
+ghost use Rattle.bt_rowtype.specs.Texts.{is_text};
+ghost use Rattle.bt_rowtype.specs.Values.{flag_of, or_refused, value_of};
+ghost use Rattle.bt_rowtype.specs.Views.{shown};
+ghost use Rattle.bt_rowtype.specs.declared.value.Kind.TheVariants as kind;
 
 use crate::int::read_int;
 use crate::refusal::Refusal;
-use crate::text::Text;
+use crate::text::LONGEST_TEXT;
 use crate::value::{Kind, Value};
-use std::alloc::{AllocError, Global};
+use crate::value_ref::ValueRef;
+use std::alloc::Global;
 use std::str;
-
-/// The most bytes of a text.
-pub const LONGEST_TEXT: usize = 255;
 
 // Whether bytes are a text of a column.
 pub(crate) fn is_text(bytes: &[u8]) -> bool
@@ -20,21 +22,6 @@ pub(crate) fn is_text(bytes: &[u8]) -> bool
     match str::from_utf8(bytes) {
         Ok(_) => bytes.len() <= LONGEST_TEXT,
         Err(_) => false,
-    }
-}
-
-// The text that a field is.
-#[tactic(auto, using(crate::proofs::offered::Texts::short_text, crate::proofs::offered::Texts::long_text, crate::proofs::offered::Texts::no_text))]
-fn read_text(alloc: Global, field: &[u8]) -> Result<Option<Text>, AllocError>
-    ensures text { IfOk result (λ text. text ≡ (if is_text field.now then Some field.now else None)) }
-    ensures none { is_text field.now ≡ false → result ≡ Ok None }
-{
-    if field.len() > LONGEST_TEXT {
-        return Ok(None);
-    }
-    match str::from_utf8(field) {
-        Ok(text) => Ok(Some(Text::new(alloc, text)?)),
-        Err(_) => Ok(None),
     }
 }
 
@@ -51,15 +38,27 @@ fn read_flag(field: &[u8]) -> Option<bool>
     None
 }
 
+// The text that a field is.
+fn read_text(field: &[u8]) -> Option<ValueRef<'_>>
+    ensures value { option_map shown result ≡ value_of kind.Text field.now }
+    ensures text { IfSome result (λ value. HasText (shown value)) }
+{
+    if is_text(field) {
+        Some(ValueRef::Text(field))
+    } else {
+        None
+    }
+}
+
 // The value that a field spells in a column of a kind.
-fn read_value(alloc: Global, kind: Kind, field: &[u8]) -> Result<Option<Value>, AllocError>
-    ensures value { IfOk result (λ value. value ≡ value_of kind field.now) }
-    ensures none { value_of kind field.now ≡ None → result ≡ Ok None }
+pub(crate) fn read_value(kind: Kind, field: &[u8]) -> Option<ValueRef<'_>>
+    ensures value { option_map shown result ≡ value_of kind field.now }
+    ensures text { IfSome result (λ value. HasText (shown value)) }
 {
     match kind {
-        Kind::Int => Ok(read_int(field).map(Value::Int)),
-        Kind::Text => Ok(read_text(alloc, field)?.map(Value::Text)),
-        Kind::Flag => Ok(read_flag(field).map(Value::Flag)),
+        Kind::Int => Some(ValueRef::Int(read_int(field)?)),
+        Kind::Text => read_text(field),
+        Kind::Flag => Some(ValueRef::Flag(read_flag(field)?)),
     }
 }
 
@@ -71,8 +70,8 @@ pub fn read_field(alloc: Global, kind: Kind, field: &[u8]) -> Result<Value, Refu
     ensures answer { Answers (or_refused (Refusal.BadField 1) (value_of kind field.now)) result }
     ensures certain { value_of kind field.now ≡ None → result ≡ Err (Refusal.BadField 1) }
 {
-    match read_value(alloc, kind, field)? {
-        Some(value) => Ok(value),
+    match read_value(kind, field) {
+        Some(value) => Ok(value.to_value(alloc)?),
         None => Err(Refusal::BadField(1)),
     }
 }

@@ -1,9 +1,86 @@
-//! The fields of one record.
-ghost use Rattle.bt_rowtype.specs.Pieces.{AreEnds, pieces};
-ghost use Rattle.std.specs.Prelude.{◌≡◌, ◌==◌, ◌++◌, ◌∷◌, ◌<◌, [], Some, get_or, length, slice_get, IfOk, OnOk, OnErr};
+//! The fields of one record, lent or owned.
+ghost use Rattle.bt_rowtype.specs.Pieces.{LieWithin, part, pieces};
+ghost use Rattle.std.specs.Prelude.{◌≡◌, ◌==◌, ◌++◌, ◌∷◌, ◌<◌, ◌≤◌, [], Some, length, slice_get, OnOk, OnErr};
 
 use std::alloc::{AllocError, Global};
 use std::marker::Model;
+
+/// Where a field stands in bytes: from its start up to its end.
+#[derive(Debug, Clone, Copy)]
+pub(crate) struct Place {
+    pub start: usize,
+    pub end: usize,
+}
+
+// The bytes at a place.
+fn part_at(bytes: &[u8], place: Place) -> &[u8]
+    requires order { place.start ≤ place.end }
+    requires within { place.end ≤ length bytes.now }
+    ensures { result.now ≡ part bytes.now place }
+{
+    &bytes[place.start..place.end]
+}
+
+// One of the parts of bytes at places.
+#[tactic(auto, using(crate::proofs::Pieces::piece_at, crate::proofs::Pieces::in_bounds))]
+fn piece<'a>(bytes: &'a [u8], places: &[Place], place: usize) -> &'a [u8]
+    requires place { place < length places.now }
+    requires places { LieWithin (length bytes.now) places.now }
+    ensures { slice_get (pieces bytes.now places.now) place ≡ Some result.now }
+{
+    part_at(bytes, places[place])
+}
+
+/// The fields of one record, in order, lent. A contract sees the bytes of each.
+#[derive(Debug, Drop)]
+pub(crate) struct Record<'a> {
+    bytes: &'a [u8],
+    places: &'a [Place],
+}
+
+impl<'a> Model for Record<'a> {
+    ghost use Rattle.std.specs.Prelude.{List, ℕ, length};
+    ghost use Rattle.bt_rowtype.specs.Pieces.{LieWithin, pieces};
+
+    ghost Value = { List (List ℕ) };
+
+    ghost view = { λ a. pieces a.bytes.now a.places.now };
+
+    ghost invariant = { λ a. LieWithin (length a.bytes.now) a.places.now };
+}
+
+impl<'a> Record<'a> {
+    // The parts of bytes at places.
+    pub(crate) fn new(bytes: &'a [u8], places: &'a [Place]) -> Self
+        requires { LieWithin (length bytes.now) places.now }
+        ensures { result ≡ pieces bytes.now places.now }
+    {
+        Record { bytes, places }
+    }
+
+    #[tactic(auto, using(crate::proofs::Pieces::length_pieces))]
+    pub fn len(&self) -> usize
+        ensures { result ≡ length self.now }
+    {
+        self.places.len()
+    }
+
+    #[tactic(auto, using(crate::proofs::Pieces::length_pieces))]
+    pub fn is_empty(&self) -> bool
+        ensures { result ≡ (length self.now == 0) }
+    {
+        self.places.is_empty()
+    }
+
+    /// The field at a place, counted from 0.
+    #[tactic(auto, using(crate::proofs::Pieces::length_pieces))]
+    pub fn get(&self, place: usize) -> &'a [u8]
+        requires { place < length self.now }
+        ensures { slice_get self.now place ≡ Some result.now }
+    {
+        piece(self.bytes, self.places, place)
+    }
+}
 
 /// The fields of one record, in order. A contract sees the bytes of each.
 ///
@@ -11,38 +88,18 @@ use std::marker::Model;
 #[derive(Debug, Drop)]
 pub struct Fields {
     bytes: Vec<u8>,
-    // where each field ends in the bytes
-    ends: Vec<usize>,
+    places: Vec<Place>,
 }
 
 impl Model for Fields {
     ghost use Rattle.std.specs.Prelude.{List, ℕ, length};
-    ghost use Rattle.bt_rowtype.specs.Pieces.{AreEnds, pieces};
+    ghost use Rattle.bt_rowtype.specs.Pieces.{LieWithin, pieces};
 
     ghost Value = { List (List ℕ) };
 
-    ghost view = { λ a. pieces 0 a.ends.items a.bytes.items };
+    ghost view = { λ a. pieces a.bytes.items a.places.items };
 
-    ghost invariant = { λ a. AreEnds 0 a.ends.items (length a.bytes.items) };
-}
-
-// Where a field begins, whose predecessors end at these places.
-fn start_of(ends: &[usize], place: usize) -> usize
-    requires { place < length ends.now }
-    ensures { result ≡ get_or (0 ∷ ends.now) place 0 }
-{
-    if place == 0 { 0 } else { ends[place - 1] }
-}
-
-// One of the parts of bytes that end at these places.
-#[tactic(auto, using(crate::proofs::Pieces::piece_at, crate::proofs::Pieces::in_bounds))]
-fn piece<'a>(bytes: &'a [u8], ends: &[usize], place: usize) -> &'a [u8]
-    requires place { place < length ends.now }
-    requires ends { AreEnds 0 ends.now (length bytes.now) }
-    ensures { slice_get (pieces 0 ends.now bytes.now) place ≡ Some result.now }
-{
-    let start = start_of(ends, place);
-    &bytes[start..ends[place]]
+    ghost invariant = { λ a. LieWithin (length a.bytes.items) a.places.items };
 }
 
 impl Fields {
@@ -52,43 +109,50 @@ impl Fields {
     {
         Fields {
             bytes: Vec::new(alloc),
-            ends: Vec::new(alloc),
+            places: Vec::new(alloc),
         }
     }
 
-    // No field, with room for so many fields and bytes.
-    pub(crate) fn with_room(alloc: Global, fields: usize, bytes: usize) -> Result<Self, AllocError>
-        ensures { IfOk result (λ new. new ≡ []) }
+    // The parts of bytes at places.
+    pub(crate) fn from_parts(bytes: Vec<u8>, places: Vec<Place>) -> Self
+        requires { LieWithin (length bytes.items) places.items }
+        ensures { result ≡ pieces bytes.items places.items }
     {
-        Ok(Fields {
-            bytes: Vec::with_capacity(alloc, bytes)?,
-            ends: Vec::with_capacity(alloc, fields)?,
-        })
+        Fields { bytes, places }
+    }
+
+    // The fields, lent.
+    pub(crate) fn as_record(&self) -> Record<'_>
+        ensures { result ≡ self.now }
+    {
+        Record::new(self.bytes.as_slice(), self.places.as_slice())
     }
 
     #[tactic(auto, using(crate::proofs::Pieces::length_pieces))]
     pub fn len(&self) -> usize
         ensures { result ≡ length self.now }
     {
-        self.ends.len()
+        self.places.len()
     }
 
     #[tactic(auto, using(crate::proofs::Pieces::length_pieces))]
     pub fn is_empty(&self) -> bool
         ensures { result ≡ (length self.now == 0) }
     {
-        self.ends.is_empty()
+        self.places.is_empty()
     }
 
     /// Adds a copy of the field at the end. An `Err` changes nothing.
-    #[tactic(auto, using(crate::proofs::Pieces::more_ends, crate::proofs::Pieces::more_pieces))]
+    #[tactic(auto, using(crate::proofs::Pieces::pushed, crate::proofs::Pieces::pushed_within))]
     pub fn push(&mut self, field: &[u8]) -> Result<(), AllocError>
         ensures ok { OnOk result (self.new ≡ self.old ++ field.now ∷ []) }
         ensures err { OnErr result (self.new ≡ self.old) }
     {
-        self.ends.reserve(1)?;
+        self.places.reserve(1)?;
+        let start = self.bytes.len();
         self.bytes.extend_from_slice(field)?;
-        self.ends.push_reserved(self.bytes.len());
+        let end = self.bytes.len();
+        self.places.push_reserved(Place { start, end });
         Ok(())
     }
 
@@ -98,6 +162,6 @@ impl Fields {
         requires { place < length self.now }
         ensures { slice_get self.now place ≡ Some result.now }
     {
-        piece(self.bytes.as_slice(), self.ends.as_slice(), place)
+        self.as_record().get(place)
     }
 }

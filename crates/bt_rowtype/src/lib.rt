@@ -16,41 +16,57 @@
 //! fields.push(b"Oslo, west")?;
 //! fields.push(b"-5")?;
 //! let row = read_row(alloc, &schema, 1, &fields)?;
-//! write_record(&mut out, row.as_slice())?;                    // adds 7,"Oslo, west",-5
+//! write_row(&mut out, &row)?;                                 // adds 7,"Oslo, west",-5
 //! let row = apply_ops(alloc, row, &[Op::Add(2, 8)])?;         // the last value is 3
 //! ```
 #![tactic(auto)]
 
+mod addition;
 mod bytes;
+mod change;
 mod copies;
+mod cut;
 mod field;
 mod fields;
 mod int;
+mod line;
 mod op;
 mod op_faults;
+mod packed;
+mod packed_row;
 mod reader;
 mod reading;
 mod record;
+mod record_reader;
 mod refusal;
 mod row;
+mod row_bytes;
 mod schema;
 mod sequence;
 mod text;
 mod upsert;
 mod value;
+mod value_ref;
+mod values;
 
 pub use bytes::Bytes;
+pub use change::{Change, copy_change};
 pub use copies::{TryClone, clone_all};
-pub use field::{LONGEST_TEXT, read_field};
+pub use field::read_field;
 pub use fields::Fields;
-pub use op::{Change, MOST_OPS, Op, Ops, apply_ops, copy_change, default_row};
+pub use line::RecordLine;
+pub use op::{MOST_OPS, Op, Ops, apply_ops, default_row};
 pub use op_faults::check_ops;
+pub use packed_row::{Row, copy_row};
 pub use reading::Reading;
-pub use record::{read_record, write_record};
+pub use record::{read_record, write_record, write_row};
+pub use record_reader::RecordReader;
 pub use refusal::{Refusal, least_with};
 pub use row::{read_key, read_row};
 pub use schema::{Column, Columns, MOST_COLUMNS, MOST_KEYS, Schema};
 pub use sequence::Sequence;
-pub use text::{Text, Texts};
+pub use text::{LONGEST_TEXT, Text, Texts};
 pub use upsert::{Upsert, read_ops, read_upsert};
-pub use value::{Kind, Row, Value, copy_row};
+pub use value::{Kind, Value};
+pub use value_ref::ValueRef;
+pub use values::Values;

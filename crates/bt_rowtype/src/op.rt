@@ -1,13 +1,16 @@
 //! Operations on single columns, and what they do to a row.
 ghost use Rattle.std.specs.Prelude.{◌≡◌, IfOk, OnOk, drop};
 ghost use Rattle.bt_rowtype.specs.Ops as spec;
+ghost use Rattle.bt_rowtype.specs.Packing.{HasText};
 ghost use Rattle.bt_rowtype.specs.Values.{default_of};
+ghost use Rattle.bt_rowtype.specs.Views.{shown};
 
-use crate::copies::{TryClone, clone_all};
+use crate::copies::TryClone;
+use crate::packed_row::{Row, width_of_value};
 use crate::schema::{Column, Schema};
 use crate::sequence::Sequence;
-use crate::text::Text;
-use crate::value::{Kind, Row, Value, copy_row};
+use crate::value::{Kind, Value};
+use crate::value_ref::ValueRef;
 use std::alloc::{AllocError, Global};
 
 /// The most operations of an upsert.
@@ -25,15 +28,6 @@ pub enum Op {
 /// Operations in order.
 pub type Ops = Sequence<Op>;
 
-/// What an upsert does to the row of its key.
-#[derive(Debug, Drop)]
-pub struct Change {
-    /// The row to begin with where the key has none: the key's values, and the default of each other column.
-    pub base: Row,
-    /// The operations, in turn.
-    pub ops: Ops,
-}
-
 // The columns behind the key.
 fn open_columns(schema: &Schema) -> &[Column]
     ensures { result.now ≡ drop schema.now.keys schema.now.columns }
@@ -42,14 +36,24 @@ fn open_columns(schema: &Schema) -> &[Column]
 }
 
 // The value of a column in which nothing was set.
-fn default_value(kind: Kind) -> Value
-    ensures { result ≡ default_of kind }
+fn default_value<'a>(kind: Kind) -> ValueRef<'a>
+    ensures value { shown result ≡ default_of kind }
+    ensures text { HasText (shown result) }
 {
     match kind {
-        Kind::Int => Value::Int(0),
-        Kind::Text => Value::Text(Text::empty()),
-        Kind::Flag => Value::Flag(false),
+        Kind::Int => ValueRef::Int(0),
+        Kind::Text => ValueRef::Text(&[]),
+        Kind::Flag => ValueRef::Flag(false),
     }
+}
+
+// The bytes that the defaults of these columns take.
+fn room_for_defaults(columns: &[Column]) -> usize {
+    let mut room: usize = 0;
+    for column in columns {
+        room = room.saturating_add(width_of_value(default_value(column.kind)));
+    }
+    room
 }
 
 /// The row of a key where there is none: the key's values, then 0, the empty text or `false` in each other column.
@@ -57,48 +61,21 @@ pub fn default_row(alloc: Global, schema: &Schema, key: Row) -> Result<Row, Allo
     ensures { IfOk result (λ row. row ≡ spec.default_row schema.now key) }
 {
     let columns = open_columns(schema);
-    let mut values = key.into_values();
-    values.reserve(columns.len())?;
+    let mut row = key.widened(alloc, room_for_defaults(columns))?;
     for column in columns {
-        values.push(default_value(column.kind))?;
+        row.push(alloc, default_value(column.kind))?;
     }
-    Ok(Row::new(values))
-}
-
-// Writes a copy of a value at a place, where the row has it.
-fn set_value(
-    alloc: Global,
-    values: &mut Vec<Value>,
-    place: usize,
-    value: &Value,
-) -> Result<(), AllocError>
-    ensures { OnOk result (values.new.items ≡ spec.after_op values.old.items (Op.Set place value.now)) }
-{
-    if place < values.len() {
-        values[place] = value.try_clone(alloc)?;
-    }
-    Ok(())
-}
-
-// Adds a number to the int at a place, which holds at the least and the greatest of 64 bits. Any other value stays.
-fn add_number(values: &mut Vec<Value>, place: usize, number: i64)
-    ensures { values.new.items ≡ spec.after_op values.old.items (Op.Add place number) }
-{
-    if place < values.len() {
-        if let Value::Int(old) = &values[place] {
-            values[place] = Value::Int(old.saturating_add(number));
-        }
-    }
+    Ok(row)
 }
 
 // Does one operation to a row.
-fn apply_op(alloc: Global, values: &mut Vec<Value>, op: &Op) -> Result<(), AllocError>
-    ensures { OnOk result (values.new.items ≡ spec.after_op values.old.items op.now) }
+fn apply_op(alloc: Global, row: &mut Row, op: &Op) -> Result<(), AllocError>
+    ensures { OnOk result (row.new ≡ spec.after_op row.old op.now) }
 {
     match op {
-        Op::Set(place, value) => set_value(alloc, values, *place, value),
+        Op::Set(place, value) => row.set(alloc, *place, value.as_ref()),
         Op::Add(place, number) => {
-            add_number(values, *place, *number);
+            row.add(*place, *number);
             Ok(())
         }
     }
@@ -109,11 +86,11 @@ fn apply_op(alloc: Global, values: &mut Vec<Value>, op: &Op) -> Result<(), Alloc
 pub fn apply_ops(alloc: Global, row: Row, ops: &[Op]) -> Result<Row, AllocError>
     ensures { IfOk result (λ after. after ≡ spec.after_ops ops.now row) }
 {
-    let mut values = row.into_values();
+    let mut after = row;
     for op in ops {
-        apply_op(alloc, &mut values, op)?;
+        apply_op(alloc, &mut after, op)?;
     }
-    Ok(Row::new(values))
+    Ok(after)
 }
 
 impl TryClone for Op {
@@ -123,14 +100,4 @@ impl TryClone for Op {
             Op::Add(place, number) => Ok(Op::Add(*place, *number)),
         }
     }
-}
-
-/// A copy of a change.
-pub fn copy_change(alloc: Global, change: &Change) -> Result<Change, AllocError>
-    ensures { IfOk result (λ copy. copy ≡ change.now) }
-{
-    Ok(Change {
-        base: copy_row(alloc, &change.base)?,
-        ops: Sequence::from_vec(clone_all(alloc, change.ops.as_slice())?),
-    })
 }

@@ -27,7 +27,7 @@ fn set_fault(item: u64, value: &Value, kind: Option<Kind>) -> Option<Refusal>
     let Some(kind) = kind else {
         return Some(Refusal::NoSuchColumn);
     };
-    if is_of_kind(kind, value) {
+    if is_of_kind(kind, value.as_ref()) {
         return None;
     }
     Some(Refusal::BadField(item))

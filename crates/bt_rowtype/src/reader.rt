@@ -2,15 +2,15 @@
 //!
 //! The library's own reader has a buffer of 8 KiB, which makes it dear for one line; these are its states with its default
 //! settings, without the buffer.
-ghost use Rattle.std.specs.Prelude.{◌≡◌, false, IfOk};
+ghost use Rattle.std.specs.Prelude.{◌≡◌, ◌<◌, ◌≤◌, false, is_some, length, true, IfOk};
 ghost use Rattle.csv.specs.Machine.{is_end, step as csv_step};
 ghost use Rattle.csv.specs.Reading.{default_config};
+ghost use Rattle.bt_rowtype.specs.Pieces.{LieWithin, pieces};
 ghost use Rattle.bt_rowtype.specs.Reader.{csv_action, csv_state};
-ghost use Rattle.bt_rowtype.specs.Records.{csv_record};
+ghost use Rattle.bt_rowtype.specs.Records.{csv_record, fields_in};
 
-use crate::fields::Fields;
-use crate::schema::MOST_COLUMNS;
-use std::alloc::{AllocError, Global};
+use crate::fields::Place;
+use std::alloc::AllocError;
 
 // Where the reader stands in a record.
 #[derive(Clone, Copy)]
@@ -76,32 +76,49 @@ fn step(state: State, byte: u8) -> (State, Action)
     }
 }
 
-/// The fields of the first record of a text, as `csv` reads it, or `None` where the text has line ends alone.
-pub(crate) fn read_quoted(alloc: Global, text: &[u8]) -> Result<Option<Fields>, AllocError>
-    ensures { IfOk result (λ found. found ≡ csv_record text.now) }
+/// Unescapes the first record of a text into bytes, each field at a place, as `csv` reads it, or answers `false` where its
+/// fields are more than these.
+pub(crate) fn unescape(
+    bytes: &mut Vec<u8>,
+    places: &mut Vec<Place>,
+    text: &[u8],
+    most: usize,
+) -> Result<bool, AllocError>
+    requires { is_some (csv_record text.now) ≡ true }
+    ensures fields { IfOk result (λ whole. whole ≡ true → fields_in text.now ≡ pieces bytes.new.items places.new.items) }
+    ensures few { IfOk result (λ whole. whole ≡ true → length places.new.items ≤ most) }
+    ensures within { IfOk result (λ whole. whole ≡ true → LieWithin (length bytes.new.items) places.new.items) }
+    ensures many { IfOk result (λ whole. whole ≡ false → most < length (fields_in text.now)) }
+    ensures full { IfOk result (λ whole. whole ≡ false → most ≤ length places.new.items) }
 {
-    let mut fields = Fields::with_room(alloc, MOST_COLUMNS, text.len())?;
-    let mut field = Vec::with_capacity(alloc, text.len())?;
+    bytes.clear();
+    places.clear();
+    let mut start = 0;
     let mut state = State::Record;
     for byte in text {
+        if places.len() >= most {
+            return Ok(false);
+        }
         let (next, action) = step(state, *byte);
+        let end = bytes.len();
         match action {
             Action::Skip => {}
-            Action::Copy => field.push(*byte)?,
+            Action::Copy => bytes.push(*byte)?,
             Action::EndField => {
-                fields.push(field.as_slice())?;
-                field.clear();
+                places.push(Place { start, end })?;
+                start = end;
             }
             Action::EndRecord => {
-                fields.push(field.as_slice())?;
-                return Ok(Some(fields));
+                places.push(Place { start, end })?;
+                return Ok(true);
             }
         }
         state = next;
     }
-    if let State::Record = state {
-        return Ok(None);
+    if places.len() >= most {
+        return Ok(false);
     }
-    fields.push(field.as_slice())?;
-    Ok(Some(fields))
+    let end = bytes.len();
+    places.push(Place { start, end })?;
+    Ok(true)
 }

@@ -1,81 +1,28 @@
 //! Reading the record that stands in a line, and writing the text of one.
-ghost use Rattle.std.specs.Prelude.{◌≡◌, ◌==◌, ◌++◌, ◌∷◌, [], IfOk, OnOk, OnErr, List, codes, if◌then◌else◌, length, map, ℕ};
+ghost use Rattle.std.specs.Prelude.{◌≡◌, ◌++◌, ◌∷◌, [], IfOk, OnOk, OnErr, List, codes, if◌then◌else◌, length, map, ℕ};
 ghost use Rattle.std.specs.Fmt.{signed_decimal};
-ghost use Rattle.std.specs.List.{list_any};
-ghost use Rattle.csv.specs.Reading.{strip_bom};
 ghost use Rattle.csv.specs.Writing.{default_writer, escaped, field_text, needs_quotes as text_needs_quotes, next_sep, quoted};
-ghost use Rattle.bt_rowtype.specs.Records.{Grows, has_mark as is_behind_mark, is_refused, is_special, parts_of, record_of, record_text};
+ghost use Rattle.bt_rowtype.specs.Records.{Grows, record_of, record_text};
 ghost use Rattle.bt_rowtype.specs.Values.{text_of};
+ghost use Rattle.bt_rowtype.specs.Views.{shown};
 
 use crate::fields::Fields;
-use crate::reader::read_quoted;
+use crate::line::RecordLine;
+use crate::packed_row::Row;
 use crate::value::Value;
+use crate::value_ref::ValueRef;
+use crate::values::Values;
 use itoa::Buffer;
 use std::alloc::{AllocError, Global};
 
-fn has_mark(text: &[u8]) -> bool
-    ensures { result ≡ is_behind_mark text.now }
-{
-    matches!(text, [0xEF, 0xBB, 0xBF, ..])
-}
-
-#[tactic(auto, using(crate::proofs::Marks::strip_by_test))]
-fn without_mark(text: &[u8]) -> &[u8]
-    ensures { result.now ≡ strip_bom text.now }
-{
-    if has_mark(text) { &text[3..] } else { text }
-}
-
-fn is_no_record(text: &[u8]) -> bool
-    ensures { result ≡ is_refused text.now }
-{
-    if text.is_empty() || has_mark(text) {
-        return true;
-    }
-    text.contains(&b'\r')
-}
-
-fn has_special(text: &[u8]) -> bool
-    ensures { result ≡ list_any is_special text.now }
-{
-    text.iter()
-        .any(|byte| *byte == b'"' || *byte == b'\r' || *byte == b'\n')
-}
-
-fn parts(alloc: Global, text: &[u8]) -> Result<Vec<&[u8]>, AllocError>
-    ensures { IfOk result (λ parts. map (λ p. p.now) parts.items ≡ parts_of text.now) }
-{
-    text.split(|byte| *byte == b',').collect(alloc)
-}
-
-// The fields of a text with no byte that csv reads in a way of its own: what stands between the commas.
-fn fields_of_plain(alloc: Global, text: &[u8]) -> Result<Fields, AllocError>
-    ensures { IfOk result (λ fields. fields ≡ parts_of text.now) }
-{
-    let parts = parts(alloc, text)?;
-    let mut fields = Fields::with_room(alloc, parts.len(), text.len())?;
-    for part in &parts {
-        fields.push(part)?;
-    }
-    Ok(fields)
-}
-
-/// The fields of the record that stands in a line, or `None` where none does: the line is empty, holds a CR, or begins with
-/// a byte order mark after one that is dropped.
-///
-/// A line that needs it is read byte by byte, by the states of csv's reader; any other one, which is cheaper, is cut at its
-/// commas.
+/// The fields of the record that stands in a line, or `None` where none does, as [`RecordLine::new`] says.
 pub fn read_record(alloc: Global, line: &[u8]) -> Result<Option<Fields>, AllocError>
     ensures { IfOk result (λ fields. fields ≡ record_of line.now) }
 {
-    let text = without_mark(line);
-    if is_no_record(text) {
-        return Ok(None);
+    match RecordLine::new(line) {
+        Some(line) => Ok(Some(line.fields(alloc)?)),
+        None => Ok(None),
     }
-    if !has_special(text) {
-        return Ok(Some(fields_of_plain(alloc, text)?));
-    }
-    read_quoted(alloc, text)
 }
 
 fn write_int(out: &mut Vec<u8>, number: i64) -> Result<(), AllocError>
@@ -152,14 +99,14 @@ fn write_flag(out: &mut Vec<u8>, flag: bool) -> Result<(), AllocError>
 }
 
 // Adds the text of a value, as a field of a record.
-fn write_value(out: &mut Vec<u8>, value: &Value) -> Result<(), AllocError>
-    ensures ok { OnOk result (out.new.items ≡ out.old.items ++ field_text default_writer (text_of value.now)) }
+fn write_value(out: &mut Vec<u8>, value: ValueRef<'_>) -> Result<(), AllocError>
+    ensures ok { OnOk result (out.new.items ≡ out.old.items ++ field_text default_writer (text_of (shown value.entry))) }
     ensures err { OnErr result (out.new.items ≡ out.old.items) }
 {
     match value {
-        Value::Int(number) => write_int(out, *number),
-        Value::Text(text) => write_text(out, text.as_bytes()),
-        Value::Flag(flag) => write_flag(out, *flag),
+        ValueRef::Int(number) => write_int(out, number),
+        ValueRef::Text(text) => write_text(out, text),
+        ValueRef::Flag(flag) => write_flag(out, flag),
     }
 }
 
@@ -173,8 +120,8 @@ fn write_separator(out: &mut Vec<u8>, place: usize) -> Result<(), AllocError>
 }
 
 // Adds the value at a place of a record.
-fn write_at(out: &mut Vec<u8>, place: usize, value: &Value) -> Result<(), AllocError>
-    ensures ok { OnOk result (out.new.items ≡ out.old.items ++ (next_sep default_writer place ++ field_text default_writer (text_of value.now))) }
+fn write_at(out: &mut Vec<u8>, place: usize, value: ValueRef<'_>) -> Result<(), AllocError>
+    ensures ok { OnOk result (out.new.items ≡ out.old.items ++ (next_sep default_writer place ++ field_text default_writer (text_of (shown value.entry)))) }
     ensures err { OnErr result (Grows out.old.items out.new.items) }
 {
     write_separator(out, place)?;
@@ -182,13 +129,16 @@ fn write_at(out: &mut Vec<u8>, place: usize, value: &Value) -> Result<(), AllocE
 }
 
 // Adds the text of a record, or a part of it before an `Err`.
-fn write_values(out: &mut Vec<u8>, values: &[Value]) -> Result<(), AllocError>
-    ensures ok { OnOk result (out.new.items ≡ out.old.items ++ record_text (map text_of values.now)) }
+fn write_values(out: &mut Vec<u8>, values: Values<'_>) -> Result<(), AllocError>
+    ensures ok { OnOk result (out.new.items ≡ out.old.items ++ record_text (map text_of values.entry)) }
     ensures err { OnErr result (Grows out.old.items out.new.items) }
 {
     let start = out.len();
-    for (place, value) in values.iter().enumerate() {
+    let mut rest = values;
+    let mut place = 0;
+    while let Some(value) = rest.next() {
         write_at(out, place, value)?;
+        place = 1;
     }
     if out.len() == start {
         out.extend_from_slice(b"\"\"")?;
@@ -196,10 +146,9 @@ fn write_values(out: &mut Vec<u8>, values: &[Value]) -> Result<(), AllocError>
     Ok(())
 }
 
-/// Adds the text of a record: its fields joined by commas, with quotes where a field needs them. After an `Err`, for want of
-/// memory, `out` is as it was.
-pub fn write_record(out: &mut Vec<u8>, values: &[Value]) -> Result<(), AllocError>
-    ensures ok { OnOk result (out.new.items ≡ out.old.items ++ record_text (map text_of values.now)) }
+// Adds the text of a record.
+fn write_all(out: &mut Vec<u8>, values: Values<'_>) -> Result<(), AllocError>
+    ensures ok { OnOk result (out.new.items ≡ out.old.items ++ record_text (map text_of values.entry)) }
     ensures err { OnErr result (out.new.items ≡ out.old.items) }
 {
     let start = out.len();
@@ -208,4 +157,21 @@ pub fn write_record(out: &mut Vec<u8>, values: &[Value]) -> Result<(), AllocErro
         out.truncate(start);
     }
     result
+}
+
+/// Adds the text of a record: its fields joined by commas, with quotes where a field needs them. After an `Err`, for want of
+/// memory, `out` is as it was.
+pub fn write_record(out: &mut Vec<u8>, values: &[Value]) -> Result<(), AllocError>
+    ensures ok { OnOk result (out.new.items ≡ out.old.items ++ record_text (map text_of values.now)) }
+    ensures err { OnErr result (out.new.items ≡ out.old.items) }
+{
+    write_all(out, Values::of(values))
+}
+
+/// Adds the record of a row, as [`write_record`] does that of its values.
+pub fn write_row(out: &mut Vec<u8>, row: &Row) -> Result<(), AllocError>
+    ensures ok { OnOk result (out.new.items ≡ out.old.items ++ record_text (map text_of row.now)) }
+    ensures err { OnErr result (out.new.items ≡ out.old.items) }
+{
+    write_all(out, row.values())
 }

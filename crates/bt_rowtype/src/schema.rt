@@ -1,12 +1,16 @@
 //! The columns of a table.
 ghost use Rattle.std.specs.Prelude.{◌≡◌, ◌≤◌, Ok, Err, if◌then◌else◌, length, take};
-ghost use Rattle.bt_rowtype.specs.Schemas.{are_apart, checked_as, fits_kind, has_column as has_column_named, is_schema};
+ghost use Rattle.bt_rowtype.specs.Schemas.{are_apart, checked_as, fit_columns, fits_kind, has_column as has_column_named, is_schema};
+ghost use Rattle.bt_rowtype.specs.Views.{shown};
 
 use crate::field::is_text;
+use crate::packed_row::Row;
 use crate::refusal::Refusal;
 use crate::sequence::Sequence;
 use crate::text::Text;
-use crate::value::{Kind, Row, Value};
+use crate::value::Kind;
+use crate::value_ref::ValueRef;
+use crate::values::Values;
 use std::marker::Model;
 
 /// The most columns of a table.
@@ -84,26 +88,40 @@ impl Schema {
         ensures { result ≡ checked_as self.now.columns item row.now }
     {
         let columns = self.columns.as_slice();
-        let values = row.as_slice();
-        if values.len() != columns.len() {
+        if row.len() != columns.len() {
             return Err(Refusal::BadLength(item));
         }
-        for (place, column) in columns.iter().enumerate() {
-            if !is_of_kind(column.kind, &values[place]) {
-                return Err(Refusal::BadField(item));
-            }
+        if are_of_columns(columns, row.values()) {
+            Ok(())
+        } else {
+            Err(Refusal::BadField(item))
         }
-        Ok(())
     }
 }
 
-pub(crate) fn is_of_kind(kind: Kind, value: &Value) -> bool
-    ensures { result ≡ fits_kind kind value.now }
+// Whether values are of the kinds of their columns, one for each.
+fn are_of_columns(columns: &[Column], values: Values<'_>) -> bool
+    ensures { result ≡ fit_columns columns.now values.entry }
+{
+    let mut rest = values;
+    for column in columns {
+        let Some(value) = rest.next() else {
+            return false;
+        };
+        if !is_of_kind(column.kind, value) {
+            return false;
+        }
+    }
+    rest.is_empty()
+}
+
+pub(crate) fn is_of_kind(kind: Kind, value: ValueRef<'_>) -> bool
+    ensures { result ≡ fits_kind kind (shown value.entry) }
 {
     match (kind, value) {
-        (Kind::Int, Value::Int(_)) => true,
-        (Kind::Text, Value::Text(text)) => is_text(text.as_bytes()),
-        (Kind::Flag, Value::Flag(_)) => true,
+        (Kind::Int, ValueRef::Int(_)) => true,
+        (Kind::Text, ValueRef::Text(text)) => is_text(text),
+        (Kind::Flag, ValueRef::Flag(_)) => true,
         _ => false,
     }
 }

@@ -1,31 +1,48 @@
 //! Texts that contracts see as their bytes, and lists of them.
-ghost use Rattle.std.specs.Prelude.{◌≡◌, ◌++◌, ◌∷◌, [], IfOk, OnOk, OnErr, map, string_bytes};
+ghost use Rattle.std.specs.Prelude.{◌≡◌, ◌≤◌, ◌++◌, ◌∷◌, [], IfOk, OnOk, OnErr, length, map, string_bytes, true};
+ghost use Rattle.bt_rowtype.specs.Texts.{is_text};
 
 use crate::bytes::Bytes;
 use std::alloc::{AllocError, Global};
 use std::marker::Model;
 
-/// A text, as a value, or the name of a column or of a tree. A contract sees its bytes.
+/// The most bytes of a text.
+pub const LONGEST_TEXT: usize = 255;
+
+/// A text of at most 255 bytes, as a value, or the name of a column or of a tree. A contract sees its bytes, which are UTF-8.
 #[derive(Debug, Drop)]
 pub struct Text {
     bytes: Bytes,
 }
 
 impl Model for Text {
-    ghost use Rattle.std.specs.Prelude.{List, ℕ};
+    ghost use Rattle.std.specs.Prelude.{List, ℕ, ◌≡◌, true};
+    ghost use Rattle.bt_rowtype.specs.Texts.{is_text};
 
     ghost Value = { List ℕ };
 
     ghost view = { λ a. a.bytes };
+
+    ghost invariant = { λ a. is_text a.bytes ≡ true };
 }
 
 impl Text {
     /// A copy of the text.
+    #[tactic(auto, using(crate::proofs::offered::Texts::short_text))]
     pub fn new(alloc: Global, text: &str) -> Result<Self, AllocError>
+        requires { length text.now ≤ LONGEST_TEXT }
         ensures { IfOk result (λ copy. copy ≡ text.now) }
     {
+        Text::from_bytes(alloc, text.as_bytes())
+    }
+
+    /// A copy of the text of these bytes.
+    pub fn from_bytes(alloc: Global, bytes: &[u8]) -> Result<Self, AllocError>
+        requires { is_text bytes.now ≡ true }
+        ensures { IfOk result (λ copy. copy ≡ bytes.now) }
+    {
         Ok(Text {
-            bytes: Bytes::from_slice(alloc, text.as_bytes())?,
+            bytes: Bytes::from_slice(alloc, bytes)?,
         })
     }
 
@@ -47,9 +64,10 @@ impl Text {
         })
     }
 
-    /// The bytes, which are UTF-8.
+    /// The bytes.
     pub fn as_bytes(&self) -> &[u8]
-        ensures { result.now ≡ self.now }
+        ensures value { result.now ≡ self.now }
+        ensures text { is_text self.now ≡ true }
     {
         self.bytes.as_slice()
     }

@@ -9,14 +9,15 @@ ghost use Rattle.bt_rowtype.specs.Refusals.{least};
 ghost use Rattle.bt_rowtype.specs.Values.{or_refused};
 ghost use Rattle.bt_rowtype.specs.declared.value.Value.{Value};
 
-use crate::fields::Fields;
+use crate::fields::{Fields, Record};
 use crate::int::read_int;
 use crate::op::{MOST_OPS, Op, Ops};
+use crate::packed_row::Row;
 use crate::reading::Reading;
 use crate::refusal::Refusal;
 use crate::row::{read_at, read_fields};
 use crate::schema::Schema;
-use crate::value::{Kind, Row};
+use crate::value::Kind;
 use std::alloc::{AllocError, Global};
 
 /// The key and the operations of an upsert.
@@ -66,7 +67,7 @@ fn read_set(
     let Some((place, kind)) = find_column(schema, name) else {
         return Err(Refusal::NoSuchColumn);
     };
-    Ok(Op::Set(place, read_at(alloc, kind, item, argument)?))
+    Ok(Op::Set(place, read_at(kind, item, argument)?.to_value(alloc)?))
 }
 
 // The operation `add` with a column's name and an argument, or its refusal.
@@ -119,7 +120,7 @@ fn read_groups(
     alloc: Global,
     schema: &Schema,
     item: u64,
-    fields: &Fields,
+    fields: &Record<'_>,
 ) -> Result<Reading<Op>, AllocError>
     requires { schema.now.keys ≤ length fields.now }
     ensures values { IfOk result (λ read. read.values ≡ filter_map result_ok (spec.ops_of schema.now item (drop schema.now.keys fields.now))) }
@@ -141,13 +142,13 @@ fn read_groups(
     Ok(reading)
 }
 
-/// The operations that the record of an upsert spells: the fields of the key, then 1 to 16 groups of a word, `set` or `add`, the
-/// name of a column and an argument.
-///
-/// `BadLength` where the number of fields is another. An operation's one fault is the first of: the word (`BadField`), a column
-/// that is not there or is one of the key (`NoSuchColumn`), `add` to a column that is not int (`NotInt`), the argument
-/// (`BadField`). Of several operations the least is answered.
-pub fn read_ops(alloc: Global, schema: &Schema, item: u64, fields: &Fields) -> Result<Ops, Refusal>
+// The operations that the record of an upsert spells.
+fn read_ops_record(
+    alloc: Global,
+    schema: &Schema,
+    item: u64,
+    fields: &Record<'_>,
+) -> Result<Ops, Refusal>
     ensures answer { Answers (spec.ops_as schema.now item fields.now) result }
     ensures certain { spec.is_upsert schema.now.keys (length fields.now) ≡ false → result ≡ Err (Refusal.BadLength item) }
 {
@@ -158,23 +159,30 @@ pub fn read_ops(alloc: Global, schema: &Schema, item: u64, fields: &Fields) -> R
     reading.finish()
 }
 
-// The values of the key that the first fields spell, or their refusal as this item. There is room for a row.
+/// The operations that the record of an upsert spells: the fields of the key, then 1 to 16 groups of a word, `set` or `add`, the
+/// name of a column and an argument.
+///
+/// `BadLength` where the number of fields is another. An operation's one fault is the first of: the word (`BadField`), a column
+/// that is not there or is one of the key (`NoSuchColumn`), `add` to a column that is not int (`NotInt`), the argument
+/// (`BadField`). Of several operations the least is answered.
+pub fn read_ops(alloc: Global, schema: &Schema, item: u64, fields: &Fields) -> Result<Ops, Refusal>
+    ensures answer { Answers (spec.ops_as schema.now item fields.now) result }
+    ensures certain { spec.is_upsert schema.now.keys (length fields.now) ≡ false → result ≡ Err (Refusal.BadLength item) }
+{
+    read_ops_record(alloc, schema, item, &fields.as_record())
+}
+
+// The values of the key that the first fields spell, or their refusal as this item.
 fn read_key_fields(
     alloc: Global,
     schema: &Schema,
     item: u64,
-    fields: &Fields,
+    fields: &Record<'_>,
 ) -> Result<Row, Refusal>
     requires { schema.now.keys ≤ length fields.now }
     ensures { Answers (spec.key_as schema.now item fields.now) result }
 {
-    read_fields(
-        alloc,
-        schema.key_columns(),
-        schema.columns().len(),
-        item,
-        fields,
-    )
+    read_fields(alloc, schema.key_columns(), item, fields)
 }
 
 // The lesser of the key's refusal and that of the operations, if they have one.
@@ -182,15 +190,38 @@ fn refusal_with_ops(
     alloc: Global,
     schema: &Schema,
     item: u64,
-    fields: &Fields,
+    fields: &Record<'_>,
     refusal: Refusal,
 ) -> Refusal
     ensures { result ≢ Refusal.OutOfMemory → spec.both_read {S = List Value} (Err refusal) (spec.ops_as schema.now item fields.now) ≡ Err result }
 {
-    match read_ops(alloc, schema, item, fields) {
+    match read_ops_record(alloc, schema, item, fields) {
         Ok(_) => refusal,
         Err(Refusal::OutOfMemory) => Refusal::OutOfMemory,
         Err(other) => refusal.lesser(other),
+    }
+}
+
+// The key and the operations that the record of an upsert spells.
+pub(crate) fn read_upsert_record(
+    alloc: Global,
+    schema: &Schema,
+    item: u64,
+    fields: &Record<'_>,
+) -> Result<Upsert, Refusal>
+    ensures answer { Answers (spec.upsert_as schema.now item fields.now) (result_map_both (λ upsert. (upsert.key, upsert.ops)) (λ e. e) result) }
+    ensures certain { spec.is_upsert schema.now.keys (length fields.now) ≡ false → result ≡ Err (Refusal.BadLength item) }
+{
+    if !is_upsert(schema.keys(), fields.len()) {
+        return Err(Refusal::BadLength(item));
+    }
+    match read_key_fields(alloc, schema, item, fields) {
+        Ok(key) => {
+            let ops = read_ops_record(alloc, schema, item, fields)?;
+            Ok(Upsert { key, ops })
+        }
+        Err(Refusal::OutOfMemory) => Err(Refusal::OutOfMemory),
+        Err(refusal) => Err(refusal_with_ops(alloc, schema, item, fields, refusal)),
     }
 }
 
@@ -205,15 +236,5 @@ pub fn read_upsert(
     ensures answer { Answers (spec.upsert_as schema.now item fields.now) (result_map_both (λ upsert. (upsert.key, upsert.ops)) (λ e. e) result) }
     ensures certain { spec.is_upsert schema.now.keys (length fields.now) ≡ false → result ≡ Err (Refusal.BadLength item) }
 {
-    if !is_upsert(schema.keys(), fields.len()) {
-        return Err(Refusal::BadLength(item));
-    }
-    match read_key_fields(alloc, schema, item, fields) {
-        Ok(key) => {
-            let ops = read_ops(alloc, schema, item, fields)?;
-            Ok(Upsert { key, ops })
-        }
-        Err(Refusal::OutOfMemory) => Err(Refusal::OutOfMemory),
-        Err(refusal) => Err(refusal_with_ops(alloc, schema, item, fields, refusal)),
-    }
+    read_upsert_record(alloc, schema, item, &fields.as_record())
 }

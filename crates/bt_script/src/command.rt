@@ -1,19 +1,19 @@
 //! Commands, and what stands at a place of a script.
-use bt_rowtype::{Columns, Fields, Refusal, Sequence, Text};
+use bt_rowtype::{Columns, RecordLine, Refusal, Sequence, Text};
 
-/// A message of a batch.
+/// A message of a batch. Its record lies in the script, and is cut when it is read.
 #[derive(Debug, Drop)]
-pub enum Item {
+pub enum Item<'a> {
     /// The fields of a row, one for each column.
-    Put(Fields),
+    Put(RecordLine<'a>),
     /// The fields of a key, one for each key column.
-    Del(Fields),
+    Del(RecordLine<'a>),
     /// The fields of a key, and three for each operation.
-    Ups(Fields),
+    Ups(RecordLine<'a>),
 }
 
 /// The messages of a batch, in order.
-pub type Items = Sequence<Item>;
+pub type Items<'a> = Sequence<Item<'a>>;
 
 /// What a table is made of.
 #[derive(Debug, Drop)]
@@ -31,13 +31,13 @@ pub struct TableForm {
 
 /// A command.
 #[derive(Debug, Drop)]
-pub enum Command {
+pub enum Command<'a> {
     /// `table F C L K name:kind ..`
     Table(TableForm),
     /// `batch` and its messages.
-    Batch(Items),
+    Batch(Items<'a>),
     /// `get rec`: the row of the key that these fields spell.
-    Get(Fields),
+    Get(RecordLine<'a>),
     /// `scan TREE`: all rows of a tree.
     Scan(Text),
     /// `image TREE`: the nodes of a tree.
@@ -46,11 +46,11 @@ pub enum Command {
 
 /// What stands at a place of a script.
 #[derive(Debug, Drop)]
-pub enum Parsed {
+pub enum Parsed<'a> {
     /// No further command.
     End,
     /// What is no command (`Syntax`), or one whose block is cut off (`Unfinished`), and the place behind it.
     Bad { refusal: Refusal, next: usize },
     /// A command, and the place behind it.
-    Good { command: Command, next: usize },
+    Good { command: Command<'a>, next: usize },
 }

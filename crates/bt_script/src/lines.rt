@@ -5,6 +5,7 @@ ghost use Rattle.bt_rowtype.specs.Ints.{is_digit, number_written};
 ghost use Rattle.bt_script.specs.Lines as text;
 
 use bt_rowtype::Text;
+use memchr::memchr;
 use std::alloc::{AllocError, Global};
 use std::str;
 
@@ -12,7 +13,10 @@ use std::str;
 fn line_len(text: &[u8]) -> usize
     ensures { result ≡ length (take_while (λ b. not (b == 10)) text.now) }
 {
-    text.iter().take_while(|byte| **byte != b'\n').count()
+    match memchr(b'\n', text) {
+        Some(place) => place,
+        None => text.len(),
+    }
 }
 
 /// The line that stands at a place, and the place after it.

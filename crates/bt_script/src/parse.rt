@@ -10,7 +10,7 @@ use crate::lines::{
     colon_parts, is_blank, next_line, parse_name, parse_number, without_return, without_spaces,
     words,
 };
-use bt_rowtype::{Column, Columns, Fields, Kind, Refusal, read_record};
+use bt_rowtype::{Column, Columns, Kind, RecordLine, Refusal};
 use std::alloc::{AllocError, Global};
 
 fn is_word(text: &[u8], word: &[u8]) -> bool
@@ -42,34 +42,34 @@ fn behind_prefix<'a>(prefix: &[u8], line: &'a [u8]) -> Option<&'a [u8]>
     line.strip_prefix(prefix)
 }
 
-fn record_behind(alloc: Global, prefix: &[u8], line: &[u8]) -> Result<Option<Fields>, AllocError>
-    ensures { IfOk result (λ fields. fields ≡ spec.record_behind prefix.now line.now) }
+fn record_behind<'a>(prefix: &[u8], line: &'a [u8]) -> Option<RecordLine<'a>>
+    ensures { result ≡ spec.record_behind prefix.now line.now }
 {
     match behind_prefix(prefix, line) {
-        Some(record) => read_record(alloc, record),
-        None => Ok(None),
+        Some(record) => RecordLine::new(record),
+        None => None,
     }
 }
 
 // The message of a line of a batch, which begins with its word.
-fn parse_item(alloc: Global, text: &[u8]) -> Result<Option<Item>, AllocError>
-    ensures { IfOk result (λ item. item ≡ spec.item_from text.now) }
+fn parse_item(text: &[u8]) -> Option<Item<'_>>
+    ensures { result ≡ spec.item_from text.now }
 {
     if let Some(record) = behind_prefix(b"put ", text) {
-        return Ok(read_record(alloc, record)?.map(Item::Put));
+        return RecordLine::new(record).map(Item::Put);
     }
     if let Some(record) = behind_prefix(b"del ", text) {
-        return Ok(read_record(alloc, record)?.map(Item::Del));
+        return RecordLine::new(record).map(Item::Del);
     }
     if let Some(record) = behind_prefix(b"ups ", text) {
-        return Ok(read_record(alloc, record)?.map(Item::Ups));
+        return RecordLine::new(record).map(Item::Ups);
     }
-    Ok(None)
+    None
 }
 
 // The messages of some lines, and that of one more, which has no carriage return at its end.
-fn and_item(alloc: Global, items: Option<Items>, line: &[u8]) -> Result<Option<Items>, AllocError>
-    ensures { IfOk result (λ all. all ≡ and_line items line.now) }
+fn and_item<'a>(items: Option<Items<'a>>, line: &'a [u8]) -> Result<Option<Items<'a>>, AllocError>
+    ensures { IfOk result (λ all. all ≡ and_line items.entry line.now) }
 {
     let text = without_spaces(line);
     if text.is_empty() {
@@ -78,7 +78,7 @@ fn and_item(alloc: Global, items: Option<Items>, line: &[u8]) -> Result<Option<I
     let Some(mut items) = items else {
         return Ok(None);
     };
-    let Some(item) = parse_item(alloc, text)? else {
+    let Some(item) = parse_item(text) else {
         return Ok(None);
     };
     items.push(item)?;
@@ -93,11 +93,11 @@ struct Block<T> {
 }
 
 // The block of a batch: its messages, or `None` where a line is wrong.
-fn read_items(
+fn read_items<'a>(
     alloc: Global,
-    script: &[u8],
+    script: &'a [u8],
     start: usize,
-) -> Result<Block<Option<Items>>, AllocError>
+) -> Result<Block<Option<Items<'a>>>, AllocError>
     requires { start ≤ length script.now }
     ensures block { IfOk result (λ read. (block : List (List ℕ)) × (read.content ≡ spec.items_of block)
         × IsBlock script.now start (codes "end") block read.closed read.next) }
@@ -115,7 +115,7 @@ fn read_items(
                 closed: true,
             });
         }
-        items = and_item(alloc, items, line)?;
+        items = and_item(items, line)?;
         at = next;
     }
     Ok(Block {
@@ -201,7 +201,7 @@ fn parse_columns(alloc: Global, words: &[&[u8]]) -> Result<Option<Columns>, Allo
 }
 
 #[tactic(auto, unfolding(crate::specs::Commands::table_of))]
-fn table_command(alloc: Global, words: &[&[u8]]) -> Result<Option<Command>, AllocError>
+fn table_command<'a>(alloc: Global, words: &[&[u8]]) -> Result<Option<Command<'a>>, AllocError>
     ensures { IfOk result (λ command. command ≡ spec.table_of (map (λ w. w.now) words.now)) }
 {
     if words.len() < 6 {
@@ -231,8 +231,8 @@ fn table_command(alloc: Global, words: &[&[u8]]) -> Result<Option<Command>, Allo
     })))
 }
 
-fn batch_command(words: &[&[u8]], items: Option<Items>) -> Option<Command>
-    ensures { result ≡ spec.batch_of (map (λ w. w.now) words.now) items }
+fn batch_command<'a>(words: &[&[u8]], items: Option<Items<'a>>) -> Option<Command<'a>>
+    ensures { result ≡ spec.batch_of (map (λ w. w.now) words.now) items.entry }
 {
     if words.len() == 1 {
         items.map(Command::Batch)
@@ -241,7 +241,11 @@ fn batch_command(words: &[&[u8]], items: Option<Items>) -> Option<Command>
     }
 }
 
-fn scan_command(alloc: Global, words: &[&[u8]], blank: bool) -> Result<Option<Command>, AllocError>
+fn scan_command<'a>(
+    alloc: Global,
+    words: &[&[u8]],
+    blank: bool,
+) -> Result<Option<Command<'a>>, AllocError>
     ensures { IfOk result (λ command. command ≡ spec.scan_of (map (λ w. w.now) words.now) blank) }
 {
     if words.len() != 2 || !blank {
@@ -253,13 +257,13 @@ fn scan_command(alloc: Global, words: &[&[u8]], blank: bool) -> Result<Option<Co
     }
 }
 
-fn get_command(alloc: Global, head: &[u8]) -> Result<Option<Command>, AllocError>
-    ensures { IfOk result (λ command. command ≡ spec.get_of head.now) }
+fn get_command(head: &[u8]) -> Option<Command<'_>>
+    ensures { result ≡ spec.get_of head.now }
 {
-    Ok(record_behind(alloc, b"get ", without_spaces(head))?.map(Command::Get))
+    record_behind(b"get ", without_spaces(head)).map(Command::Get)
 }
 
-fn image_command(alloc: Global, words: &[&[u8]]) -> Result<Option<Command>, AllocError>
+fn image_command<'a>(alloc: Global, words: &[&[u8]]) -> Result<Option<Command<'a>>, AllocError>
     ensures { IfOk result (λ command. command ≡ spec.image_of (map (λ w. w.now) words.now)) }
 {
     if words.len() != 2 {
@@ -271,8 +275,8 @@ fn image_command(alloc: Global, words: &[&[u8]]) -> Result<Option<Command>, Allo
     }
 }
 
-fn parsed(command: Option<Command>, closed: bool, next: usize) -> Parsed
-    ensures found { (script : List ℕ) → spec.Finds result script (ended closed command ∷ spec.commands (drop next script)) }
+fn parsed<'a>(command: Option<Command<'a>>, closed: bool, next: usize) -> Parsed<'a>
+    ensures found { (script : List ℕ) → spec.Finds result script (ended closed command.entry ∷ spec.commands (drop next script)) }
     ensures past { (at : ℕ) (script : List ℕ) → at < next → next ≤ length script → spec.NextPast result at script }
 {
     match (command, closed) {
@@ -288,13 +292,13 @@ fn parsed(command: Option<Command>, closed: bool, next: usize) -> Parsed
     }
 }
 
-fn parse_batch(
+fn parse_batch<'a>(
     alloc: Global,
-    script: &[u8],
+    script: &'a [u8],
     head: &[u8],
     words: &[&[u8]],
     at: usize,
-) -> Result<Parsed, AllocError>
+) -> Result<Parsed<'a>, AllocError>
     requires within { at ≤ length script.now }
     requires words { map (λ w. w.now) words.now ≡ text.words head.now }
     requires batch { spec.begins (map (λ w. w.now) words.now) (codes "batch") ≡ true }
@@ -309,13 +313,13 @@ fn parse_batch(
     Ok(parsed(batch_command(words, content), closed, next))
 }
 
-fn parse_scan(
+fn parse_scan<'a>(
     alloc: Global,
     script: &[u8],
     head: &[u8],
     words: &[&[u8]],
     at: usize,
-) -> Result<Parsed, AllocError>
+) -> Result<Parsed<'a>, AllocError>
     requires within { at ≤ length script.now }
     requires words { map (λ w. w.now) words.now ≡ text.words head.now }
     requires no_batch { spec.begins (map (λ w. w.now) words.now) (codes "batch") ≡ false }
@@ -334,7 +338,11 @@ fn parse_scan(
 
 // The command of a head line that has no block.
 #[tactic(auto, unfolding(crate::specs::Commands::command_of))]
-fn line_command(alloc: Global, head: &[u8], words: &[&[u8]]) -> Result<Option<Command>, AllocError>
+fn line_command<'a>(
+    alloc: Global,
+    head: &'a [u8],
+    words: &[&[u8]],
+) -> Result<Option<Command<'a>>, AllocError>
     requires words { map (λ w. w.now) words.now ≡ text.words head.now }
     requires no_batch { spec.begins (map (λ w. w.now) words.now) (codes "batch") ≡ false }
     requires no_scan { spec.begins (map (λ w. w.now) words.now) (codes "scan") ≡ false }
@@ -344,7 +352,7 @@ fn line_command(alloc: Global, head: &[u8], words: &[&[u8]]) -> Result<Option<Co
         return table_command(alloc, words);
     }
     if begins(words, b"get") {
-        return get_command(alloc, head);
+        return Ok(get_command(head));
     }
     if begins(words, b"image") {
         return image_command(alloc, words);
@@ -352,7 +360,12 @@ fn line_command(alloc: Global, head: &[u8], words: &[&[u8]]) -> Result<Option<Co
     Ok(None)
 }
 
-fn parse_line(alloc: Global, head: &[u8], words: &[&[u8]], at: usize) -> Result<Parsed, AllocError>
+fn parse_line<'a>(
+    alloc: Global,
+    head: &'a [u8],
+    words: &[&[u8]],
+    at: usize,
+) -> Result<Parsed<'a>, AllocError>
     requires words { map (λ w. w.now) words.now ≡ text.words head.now }
     requires no_batch { spec.begins (map (λ w. w.now) words.now) (codes "batch") ≡ false }
     requires no_scan { spec.begins (map (λ w. w.now) words.now) (codes "scan") ≡ false }
@@ -364,7 +377,12 @@ fn parse_line(alloc: Global, head: &[u8], words: &[&[u8]], at: usize) -> Result<
 }
 
 // The command of a head line, behind which its block starts at a place.
-fn parse_headed(alloc: Global, script: &[u8], head: &[u8], at: usize) -> Result<Parsed, AllocError>
+fn parse_headed<'a>(
+    alloc: Global,
+    script: &'a [u8],
+    head: &'a [u8],
+    at: usize,
+) -> Result<Parsed<'a>, AllocError>
     requires { at ≤ length script.now }
     ensures found { IfOk result (λ parsed. FindsHeaded parsed script.now head.now at) }
     ensures past { IfOk result (λ parsed. NextBehind parsed script.now at) }
@@ -380,7 +398,7 @@ fn parse_headed(alloc: Global, script: &[u8], head: &[u8], at: usize) -> Result<
 }
 
 /// The command that stands at a place of a script, or its refusal, `Syntax` or `Unfinished`, and the place behind it.
-pub fn parse_command(alloc: Global, script: &[u8], at: usize) -> Result<Parsed, AllocError>
+pub fn parse_command(alloc: Global, script: &[u8], at: usize) -> Result<Parsed<'_>, AllocError>
     ensures found { IfOk result (λ parsed. spec.Finds parsed script.now (spec.commands (drop at script.now))) }
     ensures past { IfOk result (λ parsed. spec.NextPast parsed at script.now) }
 {

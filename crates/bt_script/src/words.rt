@@ -37,6 +37,17 @@ impl From<AllocError> for WordsError {
     }
 }
 
+// What the help text says behind the options: the commands of a script.
+const COMMANDS: &str = "\
+A script is a list of commands:
+  table F C L K name:kind ..  makes the table: fanout, buffer and leaf of its tree, number of key columns, columns
+  batch                       applies the lines up to 'end': put RECORD, del KEY, ups KEY,OPERATIONS
+  get KEY                     prints the row of a key
+  scan primary                prints all rows; its last line is 'go'
+  image primary               prints the tree
+A command that cannot be carried out is answered by 'refused', a number and a name.
+docs/SCRIPT.md has the whole language, and examples/ has scripts.";
+
 // The program's command line.
 fn command<'a>(alloc: Global) -> Result<Command<'a>, AllocError>
     ensures { IfOk result (λ command. app_of command ≡ betable) }
@@ -48,6 +59,7 @@ fn command<'a>(alloc: Global) -> Result<Command<'a>, AllocError>
         .help("Reads the script from FILE and not from standard input");
     Command::new(alloc, "betable")
         .about("Runs a script of table commands")
+        .after_help(COMMANDS)
         .arg(script)
 }
 

@@ -1,8 +1,7 @@
 -- A table, and what a batch leaves of it.
 use Rattle.std.specs.Prelude.{List, [], Option}
-use Rattle.bt_rowtype.specs.Ops.{merged}
+use Rattle.bt_rowtype.specs.Ops.{Change, merged}
 use Rattle.bt_rowtype.specs.Schemas.{Schema}
-use Rattle.bt_rowtype.specs.declared.op.Change.{Change}
 use Rattle.bt_rowtype.specs.declared.value.Value.{Value}
 use Rattle.bt_messages.specs.Effects.{effect_of}
 use Rattle.bt_messages.specs.Messages.{sorted_batch}

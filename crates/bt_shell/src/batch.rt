@@ -1,5 +1,5 @@
 //! The messages of a batch, and what they do to a table.
-ghost use Rattle.std.specs.Prelude.{◌≡◌, ◌∷◌, [], Some, IfErr, IfOk, OnOk, length, take};
+ghost use Rattle.std.specs.Prelude.{◌≡◌, ◌∷◌, [], Some, IfErr, IfOk, OnOk, length};
 ghost use Rattle.std.specs.List.{filter_map};
 ghost use Rattle.std.specs.Result.{result_err};
 ghost use Rattle.bt_rowtype.specs.Answers.{Answers};
@@ -9,11 +9,11 @@ ghost use Rattle.bt_script.specs.declared.command.Command.TheVariants.{Batch};
 ghost use Rattle.bt_script.specs.declared.command.Item.TheVariants as line;
 
 use crate::table::Table;
-use bt_keycode::{Key, encode};
+use bt_keycode::{Key, encode_row};
 use bt_messages::Message;
 use bt_rowtype::{
-    Change, Fields, Reading, Refusal, Row, Schema, Upsert, Value, default_row, least_with,
-    read_key, read_row, read_upsert,
+    Change, Reading, RecordLine, RecordReader, Refusal, Row, Schema, Upsert, default_row,
+    least_with,
 };
 use bt_script::Item;
 use std::alloc::{AllocError, Global};
@@ -21,73 +21,65 @@ use std::alloc::{AllocError, Global};
 /// The most messages of a batch.
 pub const MOST_MESSAGES: usize = 65_536;
 
-// The key of a row, its first `keys` values.
-fn key_of(row: &Row, keys: usize) -> &[Value]
-    ensures { result.now ≡ take keys row.now }
-{
-    let values = row.as_slice();
-    if keys < values.len() {
-        &values[..keys]
-    } else {
-        values
-    }
-}
-
-// The message to put the row that fields spell, or its refusal as this item.
+// The message to put the row that a line spells, or its refusal as this item.
 fn read_put(
     alloc: Global,
+    reader: &mut RecordReader,
     schema: &Schema,
     item: u64,
-    fields: &Fields,
+    fields: &RecordLine<'_>,
 ) -> Result<(Key, Message<Row>), Refusal>
     ensures { Answers (step.read_message schema.now item (line.Put fields.now)) result }
 {
-    let row = read_row(alloc, schema, item, fields)?;
-    let key = encode(alloc, key_of(&row, schema.keys()))?;
+    let row = reader.read_row(alloc, schema, item, fields)?;
+    let key = encode_row(alloc, &row, schema.keys())?;
     Ok((key, Message::Put(row)))
 }
 
-// The message to remove the row of the key that fields spell, or its refusal as this item.
+// The message to remove the row of the key that a line spells, or its refusal as this item.
 fn read_del(
     alloc: Global,
+    reader: &mut RecordReader,
     schema: &Schema,
     item: u64,
-    fields: &Fields,
+    fields: &RecordLine<'_>,
 ) -> Result<(Key, Message<Row>), Refusal>
     ensures { Answers (step.read_message schema.now item (line.Del fields.now)) result }
 {
-    let key = read_key(alloc, schema, item, fields)?;
-    Ok((encode(alloc, key.as_slice())?, Message::Del))
+    let key = reader.read_key(alloc, schema, item, fields)?;
+    Ok((encode_row(alloc, &key, key.len())?, Message::Del))
 }
 
-// The message to change the row of the key that fields spell, or its refusal as this item.
+// The message to change the row of the key that a line spells, or its refusal as this item.
 fn read_ups(
     alloc: Global,
+    reader: &mut RecordReader,
     schema: &Schema,
     item: u64,
-    fields: &Fields,
+    fields: &RecordLine<'_>,
 ) -> Result<(Key, Message<Row>), Refusal>
     ensures { Answers (step.read_message schema.now item (line.Ups fields.now)) result }
 {
-    let Upsert { key, ops } = read_upsert(alloc, schema, item, fields)?;
-    let code = encode(alloc, key.as_slice())?;
+    let Upsert { key, ops } = reader.read_upsert(alloc, schema, item, fields)?;
+    let code = encode_row(alloc, &key, key.len())?;
     let base = default_row(alloc, schema, key)?;
-    Ok((code, Message::Ups(Change { base, ops })))
+    Ok((code, Message::Ups(Change::new(alloc, base, ops)?)))
 }
 
 // The message that a line spells, or its refusal as this item.
 fn read_message(
     alloc: Global,
+    reader: &mut RecordReader,
     schema: &Schema,
     item: u64,
-    line: &Item,
+    line: &Item<'_>,
 ) -> Result<(Key, Message<Row>), Refusal>
     ensures { Answers (step.read_message schema.now item line.now) result }
 {
     match line {
-        Item::Put(fields) => read_put(alloc, schema, item, fields),
-        Item::Del(fields) => read_del(alloc, schema, item, fields),
-        Item::Ups(fields) => read_ups(alloc, schema, item, fields),
+        Item::Put(fields) => read_put(alloc, reader, schema, item, fields),
+        Item::Del(fields) => read_del(alloc, reader, schema, item, fields),
+        Item::Ups(fields) => read_ups(alloc, reader, schema, item, fields),
     }
 }
 
@@ -95,14 +87,15 @@ fn read_message(
 fn read_batch(
     alloc: Global,
     schema: &Schema,
-    items: &[Item],
+    items: &[Item<'_>],
 ) -> Result<Reading<(Key, Message<Row>)>, AllocError>
     ensures messages { IfOk result (λ read. read.values ≡ step.messages_of schema.now items.now) }
     ensures refusal { IfOk result (λ read. read.refusal ≡ least (filter_map result_err (step.read_batch schema.now 1 items.now))) }
 {
+    let mut reader = RecordReader::new(alloc);
     let mut reading = Reading::new(alloc);
     for (place, line) in items.iter().enumerate() {
-        reading.add(read_message(alloc, schema, place as u64 + 1, line))?;
+        reading.add(read_message(alloc, &mut reader, schema, place as u64 + 1, line))?;
     }
     Ok(reading)
 }
@@ -110,13 +103,14 @@ fn read_batch(
 // The refusal of a line as this item, if it spells no message.
 fn refusal_of(
     alloc: Global,
+    reader: &mut RecordReader,
     schema: &Schema,
     item: u64,
-    line: &Item,
+    line: &Item<'_>,
 ) -> Result<Option<Refusal>, AllocError>
     ensures { IfOk result (λ refusal. refusal ≡ result_err (step.read_message schema.now item line.now)) }
 {
-    match read_message(alloc, schema, item, line) {
+    match read_message(alloc, reader, schema, item, line) {
         Ok(_message) => Ok(None),
         Err(Refusal::OutOfMemory) => Err(AllocError),
         Err(other) => Ok(Some(other)),
@@ -125,12 +119,13 @@ fn refusal_of(
 
 // The refusal of a batch that has too many lines: no message is kept, and the least of the lines' refusals goes before the
 // limit's where it is less.
-fn refuse_many(alloc: Global, schema: &Schema, items: &[Item]) -> Result<Refusal, AllocError>
+fn refuse_many(alloc: Global, schema: &Schema, items: &[Item<'_>]) -> Result<Refusal, AllocError>
     ensures { IfOk result (λ refusal. least_from (least (filter_map result_err (step.read_batch schema.now 1 items.now))) (Refusal.TooMany ∷ []) ≡ Some refusal) }
 {
+    let mut reader = RecordReader::new(alloc);
     let mut found = None;
     for (place, line) in items.iter().enumerate() {
-        if let Some(refusal) = refusal_of(alloc, schema, place as u64 + 1, line)? {
+        if let Some(refusal) = refusal_of(alloc, &mut reader, schema, place as u64 + 1, line)? {
             found = Some(least_with(found, refusal));
         }
     }
@@ -139,7 +134,7 @@ fn refuse_many(alloc: Global, schema: &Schema, items: &[Item]) -> Result<Refusal
 
 /// Applies a batch and gives the number of its messages. The least refusal that applies is answered, and then, unless it is
 /// `OutOfMemory`, the table is as it was.
-pub fn apply_batch(alloc: Global, table: &mut Table, items: &[Item]) -> Result<usize, Refusal>
+pub fn apply_batch(alloc: Global, table: &mut Table, items: &[Item<'_>]) -> Result<usize, Refusal>
     ensures done { OnOk result (step.IsCarriedOut (Some table.old) (Some table.new) (Batch items.now)) }
     ensures count { IfOk result (λ count. count ≡ length items.now) }
     ensures refused { IfErr result (step.IsRefused (Some table.old) (Some table.new) (Batch items.now)) }

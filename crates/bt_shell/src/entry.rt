@@ -1,18 +1,19 @@
 //! The program over any runtime and streams.
-ghost use Rattle.std.specs.Prelude.{◌≡◌, ◌≤◌, ◌+◌, ◌⊎◌, [], false, true, OnOk, OnErr, IsErrOf};
+ghost use Rattle.std.specs.Prelude.{◌≡◌, ◌≤◌, ◌+◌, ◌⊎◌, [], false, true, IfSome, OnOk, OnErr, IsErrOf, ℕ, List};
 ghost use Rattle.bt_script.specs.Options.{AsksHelp, IsFaulty, IsToReadInput, MustBeRefused};
 ghost use Rattle.bt_script.specs.Streams.{FailsToGive, GaveAtMost, Took, count_of, has_failed, source_of};
 ghost use Rattle.bt_shell.specs.Programs.{AnswersPrefix, AnswersReplies, AnswersScript, AreHealthy, IsToRun, LeavesInput};
-ghost use Rattle.bt_shell.specs.Runs.{WritesPrefix, WritesReplies, WritesRun};
+ghost use Rattle.bt_shell.specs.Runs.{WritesPrefix, WritesReplies, WritesRun, state_after_commands};
+ghost use Rattle.bt_shell.specs.Standing.{IsSound};
 ghost use Rattle.std.specs.declared.option.Option.TheVariants.{None};
 
-use crate::run::{flush, run_script};
+use crate::run::{Session, flush};
 use bt_rowtype::Texts;
 use bt_script::{Counted, RunFault, SCRIPT_LIMIT, WordsError, read_words, write_text};
 use std::alloc::AllocError;
-use std::fs;
 use std::io::{Read, Write};
 use std::rt::Files;
+use std::{fs, mem};
 use thiserror::Error;
 
 /// Why the program ends with a status other than 0.
@@ -69,6 +70,7 @@ impl ProgramFault {
 fn run_file<R: Files + AllocGlobal, W: Write>(
     rt: &R,
     path: &str,
+    session: &mut Session,
     output: &mut Counted<W>,
 ) -> Result<(), RunFault>
     requires writes { has_failed output.old ≡ false }
@@ -83,13 +85,14 @@ fn run_file<R: Files + AllocGlobal, W: Write>(
     let Ok(file) = fs::open(rt, path) else {
         return Err(RunFault::Read);
     };
-    run_script(rt.alloc(), &mut Counted::new(file), output)
+    session.run(rt.alloc(), &mut Counted::new(file), output)
 }
 
 // Does what the words ask for. After a fault what was written is not flushed.
 fn run_words<R: Files + AllocGlobal, I: Read, W: Write>(
     rt: &R,
     words: &Texts,
+    session: &mut Session,
     input: &mut Counted<I>,
     output: &mut Counted<W>,
 ) -> Result<(), ProgramFault>
@@ -121,8 +124,8 @@ fn run_words<R: Files + AllocGlobal, I: Read, W: Write>(
         Err(WordsError::OutOfMemory) => return Err(ProgramFault::Run(RunFault::OutOfMemory)),
     };
     match &said.script {
-        None => run_script(rt.alloc(), input, output)?,
-        Some(path) => run_file(rt, path.as_str(), output)?,
+        None => session.run(rt.alloc(), input, output)?,
+        Some(path) => run_file(rt, path.as_str(), session, output)?,
     }
     Ok(())
 }
@@ -131,6 +134,7 @@ fn run_words<R: Files + AllocGlobal, I: Read, W: Write>(
 fn answer<R: Files + AllocGlobal, I: Read, W: Write>(
     rt: &R,
     words: &Texts,
+    session: &mut Session,
     input: &mut Counted<I>,
     output: &mut Counted<W>,
 ) -> Result<(), ProgramFault>
@@ -155,7 +159,7 @@ fn answer<R: Files + AllocGlobal, I: Read, W: Write>(
     ensures untouched { LeavesInput words.now input.old input.new }
     ensures at_most { GaveAtMost I.remaining input.old input.new (SCRIPT_LIMIT + 1) }
 {
-    let ended = run_words(rt, words, input, output);
+    let ended = run_words(rt, words, session, input, output);
     let flushed = flush(output);
     ended?;
     Ok(flushed?)
@@ -190,11 +194,18 @@ pub fn program<R: Files + AllocGlobal, I: Read, W: Write, E: Write>(
     ensures refused { MustBeRefused words.now → (result ≡ 2) ⊎ (result ≡ 1) }
     ensures unwritten { MustBeRefused words.now → Took W.contents output.old output.new [] }
 
+    // Between any two commands of any script the table, where there is one, is sound.
+    ensures sound { (script : List ℕ) (n : ℕ) → IfSome (state_after_commands script n) IsSound }
+
     // What is read.
     ensures untouched { LeavesInput words.now input.old input.new }
     ensures at_most { GaveAtMost I.remaining input.old input.new (SCRIPT_LIMIT + 1) }
 {
-    match answer(rt, words, input, output) {
+    let mut session = Session::new(rt.alloc());
+    let ended = answer(rt, words, &mut session, input, output);
+    // The process ends now, which gives the memory back at once: the nodes of the table are not walked for it.
+    mem::forget(session);
+    match ended {
         Ok(()) => 0,
         Err(fault) => fault.report(errors),
     }

@@ -1,5 +1,5 @@
 //! The text of a tree.
-ghost use Rattle.std.specs.Prelude.{◌≡◌, ◌<◌, ◌-◌, ◌^◌, ◌++◌, ◌∷◌, [], IfOk, OnOk, flat_map, get_or, length, map, min, option_map, slice_get};
+ghost use Rattle.std.specs.Prelude.{◌≡◌, ◌<◌, ◌≤◌, ◌-◌, ◌^◌, ◌++◌, ◌∷◌, [], IfOk, OnOk, flat_map, get_or, length, map, min, option_map, slice_get};
 ghost use Rattle.bt_rowtype.specs.declared.value.Value.TheVariants as value;
 ghost use Rattle.bt_messages.specs.declared.message.Message.TheVariants as message;
 ghost use Rattle.bt_node.specs.Trees as trees;
@@ -11,7 +11,7 @@ use crate::reply::write_number;
 use bt_keycode::Key;
 use bt_messages::Message;
 use bt_node::Walk;
-use bt_rowtype::{Change, Column, Op, Row, Text, TryClone, Value, write_record};
+use bt_rowtype::{Change, Column, LONGEST_TEXT, Op, Row, Text, TryClone, Value, write_row};
 use itoa::Buffer;
 use std::alloc::{AllocError, Global};
 
@@ -25,14 +25,14 @@ fn deeper(alloc: Global, indent: &[u8]) -> Result<Vec<u8>, AllocError>
 }
 
 // Adds the record of values behind a space, where there are values.
-fn write_values(out: &mut Vec<u8>, values: Option<&[Value]>) -> Result<(), AllocError>
+fn write_values(out: &mut Vec<u8>, values: Option<&Row>) -> Result<(), AllocError>
     ensures { OnOk result (out.new.items ≡ out.old.items ++ spec.values_text (option_map (λ vs. vs.now) values.entry)) }
 {
     let Some(values) = values else {
         return Ok(());
     };
     out.push(b' ')?;
-    write_record(out, values)
+    write_row(out, values)
 }
 
 /// Adds a line behind an indent, with a mark, a key and the record of values where there are some.
@@ -41,7 +41,7 @@ pub fn write_key_line(
     indent: &[u8],
     mark: u8,
     key: &Key,
-    values: Option<&[Value]>,
+    values: Option<&Row>,
 ) -> Result<(), AllocError>
     ensures { OnOk result (out.new.items ≡ out.old.items ++ spec.key_line indent.now (mark ∷ []) key.now (option_map (λ vs. vs.now) values.entry)) }
 {
@@ -62,7 +62,7 @@ pub fn write_row_line(
 ) -> Result<(), AllocError>
     ensures { OnOk result (out.new.items ≡ out.old.items ++ spec.row_line indent.now (key.now, row.now)) }
 {
-    write_key_line(out, indent, b'=', key, Some(row.as_slice()))
+    write_key_line(out, indent, b'=', key, Some(row))
 }
 
 // A copy of the name of the column at a place, or the empty text where there is none.
@@ -83,6 +83,7 @@ fn push_op(
     name: Text,
     argument: Value,
 ) -> Result<(), AllocError>
+    requires { length word.now ≤ LONGEST_TEXT }
     ensures { OnOk result (values.new.items ≡ values.old.items ++ (value.Text word.now ∷ value.Text name ∷ argument ∷ [])) }
 {
     values.push(Value::Text(Text::new(alloc, word)?))?;
@@ -135,8 +136,10 @@ fn write_upsert_line(
 ) -> Result<(), AllocError>
     ensures { OnOk result (out.new.items ≡ out.old.items ++ spec.message_line columns.now indent.now (key.now, message.Ups change.now)) }
 {
-    let values = values_of_ops(alloc, columns, change.ops.as_slice())?;
-    write_key_line(out, indent, b'~', key, Some(values.as_slice()))
+    let ops = change.ops(alloc)?;
+    let values = values_of_ops(alloc, columns, ops.as_slice())?;
+    let row = Row::from_values(alloc, values.as_slice())?;
+    write_key_line(out, indent, b'~', key, Some(&row))
 }
 
 /// Adds the line of a message that is pending, to a row with these columns.
@@ -151,7 +154,7 @@ pub fn write_message_line(
     ensures { OnOk result (out.new.items ≡ out.old.items ++ spec.message_line columns.now indent.now (key.now, message.now)) }
 {
     match message {
-        Message::Put(row) => write_key_line(out, indent, b'+', key, Some(row.as_slice())),
+        Message::Put(row) => write_key_line(out, indent, b'+', key, Some(row)),
         Message::Del => write_key_line(out, indent, b'-', key, None),
         Message::Ups(change) => write_upsert_line(alloc, out, columns, indent, key, change),
     }

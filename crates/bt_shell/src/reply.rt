@@ -4,7 +4,7 @@ ghost use Rattle.bt_shell.specs.Steps.{count_line, item_text, refused_text, row_
 ghost use Rattle.bt_shell.specs.Steps as step;
 
 use bt_keycode::Key;
-use bt_rowtype::{Refusal, Row, write_record};
+use bt_rowtype::{Refusal, Row, write_row};
 use itoa::Buffer;
 use std::alloc::{AllocError, Global};
 
@@ -33,11 +33,11 @@ pub fn count_reply(alloc: Global, word: &[u8], count: usize) -> Result<Vec<u8>, 
     Ok(text)
 }
 
-fn write_row(out: &mut Vec<u8>, row: &Row) -> Result<(), AllocError>
+fn write_row_line(out: &mut Vec<u8>, row: &Row) -> Result<(), AllocError>
     ensures { OnOk result (out.new.items ≡ out.old.items ++ row_line row.now) }
 {
     out.extend_from_slice(b"row ")?;
-    write_record(out, row.as_slice())?;
+    write_row(out, row)?;
     out.push(b'\n')?;
     Ok(())
 }
@@ -50,7 +50,7 @@ pub fn row_reply(alloc: Global, row: Option<Row>) -> Result<Vec<u8>, AllocError>
         return Vec::from_slice(alloc, b"none\n");
     };
     let mut text = Vec::new(alloc);
-    write_row(&mut text, &row)?;
+    write_row_line(&mut text, &row)?;
     Ok(text)
 }
 
@@ -59,7 +59,7 @@ pub fn write_rows(out: &mut Vec<u8>, rows: &[(Key, Row)]) -> Result<(), AllocErr
     ensures { OnOk result (out.new.items ≡ out.old.items ++ flat_map row_line (map (λ p. p.1) rows.now)) }
 {
     for row in rows {
-        write_row(out, &row.1)?;
+        write_row_line(out, &row.1)?;
     }
     Ok(())
 }

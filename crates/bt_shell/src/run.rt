@@ -6,6 +6,7 @@ ghost use Rattle.bt_shell.specs.Runs.{Runs, TookReplies, WritesPrefix, WritesRep
 ghost use Rattle.bt_shell.specs.Standing.{IsSound};
 
 use crate::session::next_reply;
+use crate::table::Table;
 use bt_script::{Counted, RunFault, SCRIPT_LIMIT, read_script, write_text};
 use std::alloc::Global;
 use std::io::{Read, Write};
@@ -23,10 +24,11 @@ pub(crate) fn flush<W: Write>(writer: &mut Counted<W>) -> Result<(), RunFault>
     Ok(())
 }
 
-// Writes the replies to the commands of a script, and flushes them.
+// Writes the replies to the commands of a script, and flushes them. The commands begin with no table.
 fn write_replies<W: Write>(
     alloc: Global,
     script: &[u8],
+    table: &mut Option<Table>,
     writer: &mut Counted<W>,
 ) -> Result<(), RunFault>
     ensures ok { OnOk result (Took W.contents writer.old writer.new (run script.now)) }
@@ -36,14 +38,55 @@ fn write_replies<W: Write>(
     ensures write { IsErrOf result RunFault.Write → has_failed writer.new ≡ true }
     ensures memory { IsErrOf result RunFault.OutOfMemory → (has_failed writer.new ≡ has_failed writer.old) × TookReplies W.contents writer.old writer.new script.now }
 {
-    let mut table = None;
+    *table = None;
     let mut at = 0;
-    'commands: while let Some(step) = next_reply(alloc, script, &mut table, at)? {
+    'commands: while let Some(step) = next_reply(alloc, script, table, at)? {
         write_text(writer, step.text.as_slice())?;
         at = step.next;
     }
     flush(writer)?;
     Ok(())
+}
+
+/// What a run has in memory between commands: the script, and the table where there is one. The caller says what becomes of
+/// it after the run.
+#[derive(Drop)]
+pub(crate) struct Session {
+    script: Vec<u8>,
+    table: Option<Table>,
+}
+
+impl Session {
+    pub(crate) fn new(alloc: Global) -> Self {
+        Session {
+            script: Vec::new(alloc),
+            table: None,
+        }
+    }
+
+    // Runs a script, as `run_script` says, whatever the session had before.
+    pub(crate) fn run<R: Read, W: Write>(
+        &mut self,
+        alloc: Global,
+        reader: &mut Counted<R>,
+        writer: &mut Counted<W>,
+    ) -> Result<(), RunFault>
+        requires reads { has_failed reader.old ≡ false }
+        requires writes { has_failed writer.old ≡ false }
+        ensures ok { OnOk result (Runs R.remaining W.contents reader.old reader.new writer.old writer.new) }
+        ensures err { OnErr result (WritesPrefix W.contents (R.remaining (source_of reader.old)) writer.old writer.new) }
+        ensures healthy { OnOk result ((has_failed reader.new ≡ false) × (has_failed writer.new ≡ false)) }
+        ensures read { IsErrOf result RunFault.Read → FailsToGive R.remaining reader.old reader.new SCRIPT_LIMIT }
+        ensures unread { IsErrOf result RunFault.Read → writer.new ≡ writer.old }
+        ensures write { IsErrOf result RunFault.Write → has_failed writer.new ≡ true }
+        ensures memory { IsErrOf result RunFault.OutOfMemory → (has_failed reader.new ≡ false) × (has_failed writer.new ≡ false) }
+        ensures within { IsErrOf result RunFault.OutOfMemory → GaveAtMost R.remaining reader.old reader.new SCRIPT_LIMIT }
+        ensures replies { IsErrOf result RunFault.OutOfMemory → WritesReplies W.contents (R.remaining (source_of reader.old)) writer.old writer.new }
+        ensures at_most { GaveAtMost R.remaining reader.old reader.new (SCRIPT_LIMIT + 1) }
+    {
+        self.script = read_script(alloc, reader)?;
+        write_replies(alloc, self.script.as_slice(), &mut self.table, writer)
+    }
 }
 
 /// Runs a script: reads it whole, and then writes the reply to each of its commands and flushes them.
@@ -76,6 +119,5 @@ pub fn run_script<R: Read, W: Write>(
     // No more than one byte over the limit is read.
     ensures at_most { GaveAtMost R.remaining reader.old reader.new (SCRIPT_LIMIT + 1) }
 {
-    let script = read_script(alloc, reader)?;
-    write_replies(alloc, script.as_slice(), writer)
+    Session::new(alloc).run(alloc, reader, writer)
 }

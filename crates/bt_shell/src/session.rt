@@ -11,7 +11,7 @@ use crate::image::image_text;
 use crate::reply::{count_reply, refusal_reply, row_reply, write_count, write_rows};
 use crate::table::Table;
 use bt_node::Shape;
-use bt_rowtype::{Fields, Refusal, Schema, Text, read_key};
+use bt_rowtype::{RecordLine, RecordReader, Refusal, Schema, Text};
 use bt_script::{Command, Items, Parsed, TableForm, parse_command};
 use std::alloc::{AllocError, Global};
 
@@ -33,7 +33,7 @@ fn create_table(alloc: Global, table: &mut Option<Table>, form: TableForm) -> Re
     Ok(count)
 }
 
-fn batch(alloc: Global, table: &mut Option<Table>, items: &Items) -> Result<usize, Refusal>
+fn batch(alloc: Global, table: &mut Option<Table>, items: &Items<'_>) -> Result<usize, Refusal>
     ensures done { OnOk result (step.IsCarriedOut table.old table.new (command.Batch items.now)) }
     ensures count { IfOk result (λ count. count ≡ length items.now) }
     ensures refused { IfErr result (step.IsRefused table.old table.new (command.Batch items.now)) }
@@ -84,7 +84,7 @@ fn scan(alloc: Global, table: &Option<Table>, tree: &Text) -> Result<Vec<u8>, Re
     Ok(scan_text(alloc, table_with(table, tree)?)?)
 }
 
-fn get(alloc: Global, table: &Option<Table>, fields: &Fields) -> Result<Vec<u8>, Refusal>
+fn get(alloc: Global, table: &Option<Table>, fields: &RecordLine<'_>) -> Result<Vec<u8>, Refusal>
     ensures done { OnOk result (step.IsCarriedOut table.now table.now (command.Get fields.now)) }
     ensures text { IfOk result (λ text. text.items ≡ step.reply_to table.now (command.Get fields.now)) }
     ensures refused { IfErr result (step.IsRefused table.now table.now (command.Get fields.now)) }
@@ -92,8 +92,9 @@ fn get(alloc: Global, table: &Option<Table>, fields: &Fields) -> Result<Vec<u8>,
     let Some(table) = table else {
         return Err(Refusal::NoTable);
     };
-    let key = read_key(alloc, table.schema(), 1, fields)?;
-    let row = table.get(alloc, key.as_slice())?;
+    let mut reader = RecordReader::new(alloc);
+    let key = reader.read_key(alloc, table.schema(), 1, fields)?;
+    let row = table.get(alloc, &key)?;
     Ok(row_reply(alloc, row)?)
 }
 
@@ -108,10 +109,14 @@ fn image(alloc: Global, table: &Option<Table>, tree: &Text) -> Result<Vec<u8>, R
 }
 
 // The reply to a command that is not refused, or its refusal.
-fn answer(alloc: Global, table: &mut Option<Table>, command: Command) -> Result<Vec<u8>, Refusal>
-    ensures done { OnOk result (step.IsCarriedOut table.old table.new command) }
-    ensures text { IfOk result (λ text. text.items ≡ step.reply_to table.old command) }
-    ensures refused { IfErr result (step.IsRefused table.old table.new command) }
+fn answer(
+    alloc: Global,
+    table: &mut Option<Table>,
+    command: Command<'_>,
+) -> Result<Vec<u8>, Refusal>
+    ensures done { OnOk result (step.IsCarriedOut table.old table.new command.entry) }
+    ensures text { IfOk result (λ text. text.items ≡ step.reply_to table.old command.entry) }
+    ensures refused { IfErr result (step.IsRefused table.old table.new command.entry) }
 {
     match command {
         Command::Table(form) => {
@@ -132,10 +137,10 @@ fn answer(alloc: Global, table: &mut Option<Table>, command: Command) -> Result<
 fn take_turn(
     alloc: Global,
     table: &mut Option<Table>,
-    command: Command,
+    command: Command<'_>,
 ) -> Result<Vec<u8>, AllocError>
-    ensures text { IfOk result (λ text. text.items ≡ (step.turn table.old (Ok command)).1) }
-    ensures state { OnOk result (table.new ≡ (step.turn table.old (Ok command)).0) }
+    ensures text { IfOk result (λ text. text.items ≡ (step.turn table.old (Ok command.entry)).1) }
+    ensures state { OnOk result (table.new ≡ (step.turn table.old (Ok command.entry)).0) }
 {
     match answer(alloc, table, command) {
         Ok(text) => Ok(text),

@@ -6,10 +6,10 @@ ghost use Rattle.bt_keycode.specs.Keys.{key_cmp};
 ghost use Rattle.bt_shell.specs.Standing.{AreOfSchema, KeysRise};
 ghost use Rattle.bt_shell.specs.Tables.{after_batch, empty_table};
 
-use bt_keycode::{Key, encode};
+use bt_keycode::{Key, encode_row};
 use bt_messages::{Message, Packet};
 use bt_node::{Shape, Tree, Walk};
-use bt_rowtype::{Row, Schema, Value};
+use bt_rowtype::{Row, Schema};
 use std::alloc::{AllocError, Global};
 use std::marker::Model;
 use std::mem;
@@ -71,10 +71,10 @@ impl Table {
     }
 
     /// The row of a key, where it has one.
-    pub fn get(&self, alloc: Global, key: &[Value]) -> Result<Option<Row>, AllocError>
+    pub fn get(&self, alloc: Global, key: &Row) -> Result<Option<Row>, AllocError>
         ensures { IfOk result (λ row. row ≡ find key_cmp (code_of key.now) self.now.rows) }
     {
-        let key = encode(alloc, key)?;
+        let key = encode_row(alloc, key, key.len())?;
         self.tree.get(alloc, &key)
     }
 

@@ -7,6 +7,8 @@
 #[cfg(test)]
 mod codes;
 #[cfg(test)]
+mod jobs;
+#[cfg(test)]
 mod messages;
 #[cfg(test)]
 mod operations;

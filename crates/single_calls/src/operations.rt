@@ -1,8 +1,8 @@
 //! The operations of upserts.
 use crate::samples::{fields, refusal_text, row_text, shops};
 use bt_rowtype::{
-    Change, Op, Ops, Refusal, Upsert, Value, apply_ops, check_ops, copy_change, default_row,
-    read_ops, read_upsert, write_record,
+    Change, Op, Ops, RecordLine, RecordReader, Refusal, Upsert, Value, apply_ops, check_ops,
+    copy_change, copy_row, default_row, read_ops, read_upsert, write_record,
 };
 use std::alloc::{AllocError, Global};
 use std::test::Fail;
@@ -75,6 +75,16 @@ fn upsert_of(alloc: Global, line: &str) -> Result<Vec<u8>, Refusal> {
     Ok(upsert_text(alloc, read_upsert(alloc, &schema, 4, &fields))?)
 }
 
+// The same, read of the line by a reader.
+fn upsert_of_line(alloc: Global, line: &str) -> Result<Vec<u8>, Refusal> {
+    let schema = shops(alloc)?;
+    let mut reader = RecordReader::new(alloc);
+    match RecordLine::new(line.as_bytes()) {
+        Some(line) => Ok(upsert_text(alloc, reader.read_upsert(alloc, &schema, 4, &line))?),
+        None => Ok(Vec::new(alloc)),
+    }
+}
+
 #[test]
 fn upserts_are_read(rt: HostRuntime) -> Result<(), Fail> {
     for (line, expected) in [
@@ -83,10 +93,12 @@ fn upserts_are_read(rt: HostRuntime) -> Result<(), Fail> {
         ("9,add,city,1", "NotInt 0"),
         ("x", "BadLength 4"),
     ] {
-        assert_eq!(rt;
-            upsert_of(rt.alloc(), line)?.as_slice(),
-            expected.as_bytes()
-        );
+        for text in [
+            upsert_of(rt.alloc(), line)?,
+            upsert_of_line(rt.alloc(), line)?,
+        ] {
+            assert_eq!(rt; text.as_slice(), expected.as_bytes());
+        }
     }
     Ok(())
 }
@@ -97,13 +109,14 @@ fn change_of(alloc: Global, line: &str) -> Result<Change, Refusal> {
     let upsert = read_upsert(alloc, &schema, 1, &fields(alloc, line)?)?;
     let Upsert { key, ops } = upsert;
     let base = default_row(alloc, &schema, key)?;
-    Ok(Change { base, ops })
+    Ok(Change::new(alloc, base, ops)?)
 }
 
 // The row of a key that had none after the upsert of a line.
 fn row_after(alloc: Global, line: &str) -> Result<Vec<u8>, Refusal> {
-    let Change { base, ops } = change_of(alloc, line)?;
-    let row = apply_ops(alloc, base, ops.as_slice())?;
+    let change = change_of(alloc, line)?;
+    let ops = change.ops(alloc)?;
+    let row = apply_ops(alloc, copy_row(alloc, change.base())?, ops.as_slice())?;
     Ok(row_text(alloc, Ok(row))?)
 }
 
@@ -117,8 +130,9 @@ fn operations_change_the_default_row(rt: HostRuntime) -> Result<(), Fail> {
 // A copy of what the upsert of a line does.
 fn copy_of(alloc: Global, line: &str) -> Result<Vec<u8>, Refusal> {
     let copy = copy_change(alloc, &change_of(alloc, line)?)?;
-    let Change { base, ops } = copy;
-    Ok(upsert_text(alloc, Ok(Upsert { key: base, ops }))?)
+    let key = copy_row(alloc, copy.base())?;
+    let ops = copy.ops(alloc)?;
+    Ok(upsert_text(alloc, Ok(Upsert { key, ops }))?)
 }
 
 #[test]

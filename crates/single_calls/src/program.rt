@@ -1,7 +1,7 @@
 //! Commands, command lines, and the statuses of the program.
 use crate::samples::{fields, row_text};
 use crate::streams::{Failing, Full};
-use bt_rowtype::{Fields, Schema, Texts, read_row};
+use bt_rowtype::{RecordLine, Schema, Texts, read_row};
 use bt_shell::{Command, Counted, Item, Parsed, WordsError, parse_command, program, read_words};
 use std::alloc::{AllocError, Global};
 use std::test::Fail;
@@ -29,13 +29,26 @@ fn said(alloc: Global, line: &str) -> Result<String, AllocError> {
     }
 }
 
-// Whether a help text names the option and itself.
+// What a help text is to name: the options, the commands of a script, and where its language stands.
+const NAMED: [&str; 8] = [
+    "--script <FILE>",
+    "--help",
+    "\n  table F C L K name:kind ..  ",
+    "\n  batch  ",
+    "\n  get KEY  ",
+    "\n  scan primary  ",
+    "\n  image primary  ",
+    "docs/SCRIPT.md",
+];
+
+// Whether a help text names all of it, and else the first that it does not name.
 fn help_text(alloc: Global, text: &String) -> Result<String, AllocError> {
-    if text.contains("--script <FILE>") && text.contains("--help") {
-        String::from_str(alloc, "help")
-    } else {
-        String::from_str(alloc, "no help")
+    for name in NAMED {
+        if !text.contains(name) {
+            return format!(in alloc; "no help on {name}");
+        }
     }
+    String::from_str(alloc, "help")
 }
 
 #[test]
@@ -97,7 +110,13 @@ fn statuses(rt: HostRuntime) -> Result<(), Fail> {
 }
 
 // Adds the sign of a message and its fields, each behind a bar.
-fn add_item(out: &mut Vec<u8>, sign: &str, fields: &Fields) -> Result<(), AllocError> {
+fn add_item(
+    alloc: Global,
+    out: &mut Vec<u8>,
+    sign: &str,
+    line: &RecordLine<'_>,
+) -> Result<(), AllocError> {
+    let fields = line.fields(alloc)?;
     out.extend_from_slice(sign.as_bytes())?;
     for place in 0..fields.len() {
         out.extend_from_slice(b"|")?;
@@ -116,9 +135,9 @@ fn batch_text(alloc: Global, script: &[u8]) -> Result<Vec<u8>, AllocError> {
     {
         for item in items.into_vec() {
             match item {
-                Item::Put(fields) => add_item(&mut out, "+", &fields)?,
-                Item::Del(fields) => add_item(&mut out, "-", &fields)?,
-                Item::Ups(fields) => add_item(&mut out, "~", &fields)?,
+                Item::Put(line) => add_item(alloc, &mut out, "+", &line)?,
+                Item::Del(line) => add_item(alloc, &mut out, "-", &line)?,
+                Item::Ups(line) => add_item(alloc, &mut out, "~", &line)?,
             }
         }
     }

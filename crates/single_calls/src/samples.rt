@@ -2,10 +2,18 @@
 use bt_keycode::Key;
 use bt_messages::{Buffer, Entry, Merge, Message, Messages, Packet};
 use bt_rowtype::{
-    Change, Column, Columns, Fields, Kind, Op, Ops, Refusal, Row, Schema, Text, Value, read_record,
-    write_record,
+    Change, Column, Columns, Fields, Kind, LONGEST_TEXT, Op, Ops, Refusal, Row, Schema, Text,
+    ValueRef, read_record, write_row,
 };
 use std::alloc::{AllocError, Global};
+
+/// A text, or the empty one in place of one that is too long.
+pub(crate) fn short_text(alloc: Global, text: &str) -> Result<Text, AllocError> {
+    if text.len() > LONGEST_TEXT {
+        return Ok(Text::empty());
+    }
+    Text::new(alloc, text)
+}
 
 /// Shops by their id, which is the key.
 pub(crate) fn shops(alloc: Global) -> Result<Schema, Refusal> {
@@ -16,7 +24,7 @@ pub(crate) fn shops(alloc: Global) -> Result<Schema, Refusal> {
         ("city", Kind::Text),
         ("open", Kind::Flag),
     ] {
-        let name = Text::new(alloc, name)?;
+        let name = short_text(alloc, name)?;
         columns.push(Column { name, kind })?;
     }
     Schema::new(columns, 1)
@@ -42,7 +50,7 @@ pub(crate) fn row_text(alloc: Global, read: Result<Row, Refusal>) -> Result<Vec<
     match read {
         Ok(row) => {
             let mut out = Vec::new(alloc);
-            write_record(&mut out, row.as_slice())?;
+            write_row(&mut out, &row)?;
             Ok(out)
         }
         Err(refusal) => refusal_text(alloc, refusal),
@@ -59,50 +67,48 @@ pub(crate) trait Sample: Merge {
     fn number(&self) -> i64;
 
     /// The number that an upsert carries.
-    fn delta_number(delta: &Self::Delta) -> i64;
+    fn delta_number(alloc: Global, delta: &Self::Delta) -> Result<i64, AllocError>;
 }
 
 impl Sample for Row {
     fn of(alloc: Global, number: u32) -> Result<Row, AllocError> {
-        let mut values = Vec::new(alloc);
-        values.push(Value::Int(i64::from(number)))?;
-        Ok(Row::new(values))
+        let mut row = Row::new();
+        row.push(alloc, ValueRef::Int(i64::from(number)))?;
+        Ok(row)
     }
 
     fn delta(alloc: Global, number: u32) -> Result<Change, AllocError> {
         let mut ops = Ops::new(alloc);
         ops.push(Op::Add(0, i64::from(number)))?;
-        Ok(Change {
-            base: Row::of(alloc, 0)?,
-            ops,
-        })
+        Change::new(alloc, Row::of(alloc, 0)?, ops)
     }
 
     fn number(&self) -> i64 {
-        only_int(self.as_slice())
+        only_int(self)
     }
 
-    fn delta_number(delta: &Change) -> i64 {
-        match delta.ops.as_slice() {
-            [Op::Add(0, number)] => *number,
-            _ => -1,
+    fn delta_number(alloc: Global, delta: &Change) -> Result<i64, AllocError> {
+        match delta.ops(alloc)?.as_slice() {
+            [Op::Add(0, number)] => Ok(*number),
+            _ => Ok(-1),
         }
     }
 }
 
-// The number of values that are one int.
-fn only_int(values: &[Value]) -> i64 {
-    match values {
-        [Value::Int(number)] => *number,
+// The number of a row that is one int.
+fn only_int(row: &Row) -> i64 {
+    if row.len() != 1 {
+        return -1;
+    }
+    match row.get(0) {
+        ValueRef::Int(number) => number,
         _ => -1,
     }
 }
 
 impl Sample for Entry {
     fn of(alloc: Global, number: u32) -> Result<Entry, AllocError> {
-        let mut values = Vec::new(alloc);
-        values.push(Value::Int(i64::from(number)))?;
-        Ok(Entry::new(values))
+        Ok(Entry::new(Row::of(alloc, number)?))
     }
 
     fn delta(alloc: Global, number: u32) -> Result<Entry, AllocError> {
@@ -110,11 +116,11 @@ impl Sample for Entry {
     }
 
     fn number(&self) -> i64 {
-        only_int(self.as_slice())
+        only_int(self.as_row())
     }
 
-    fn delta_number(delta: &Entry) -> i64 {
-        delta.number()
+    fn delta_number(_alloc: Global, delta: &Entry) -> Result<i64, AllocError> {
+        Ok(delta.number())
     }
 }
 
@@ -177,7 +183,7 @@ pub(crate) fn add_message<V: Sample>(
     match message {
         Message::Put(value) => add_item(alloc, out, "+", key, value.number()),
         Message::Del => add_item(alloc, out, "-", key, 0),
-        Message::Ups(delta) => add_item(alloc, out, "~", key, V::delta_number(delta)),
+        Message::Ups(delta) => add_item(alloc, out, "~", key, V::delta_number(alloc, delta)?),
     }
 }
 

@@ -1,8 +1,8 @@
 //! Fields, records and rows.
-use crate::samples::{fields, refusal_text, row_text, shops};
+use crate::samples::{fields, refusal_text, row_text, shops, short_text};
 use bt_rowtype::{
-    Kind, Reading, Refusal, Row, Text, Texts, Value, clone_all, copy_row, read_field, read_key,
-    read_record, read_row, write_record,
+    Kind, Reading, RecordLine, RecordReader, Refusal, Row, Texts, Value, clone_all, copy_row,
+    read_field, read_key, read_record, read_row, write_record,
 };
 use std::alloc::{AllocError, Global};
 use std::test::Fail;
@@ -13,7 +13,7 @@ fn field_text(alloc: Global, kind: Kind, field: &str) -> Result<Vec<u8>, AllocEr
         Ok(value) => {
             let mut values = Vec::new(alloc);
             values.push(value)?;
-            row_text(alloc, Ok(Row::new(values)))
+            row_text(alloc, Ok(Row::from_values(alloc, values.as_slice())?))
         }
         Err(refusal) => refusal_text(alloc, refusal),
     }
@@ -114,7 +114,7 @@ fn zeros(alloc: Global, count: u32) -> Result<Row, AllocError> {
     for _ in 0..count {
         values.push(Value::Int(0))?;
     }
-    Ok(Row::new(values))
+    Row::from_values(alloc, values.as_slice())
 }
 
 #[test]
@@ -159,11 +159,53 @@ fn records_are_read(rt: HostRuntime) -> Result<(), Fail> {
     Ok(())
 }
 
+// The rows that one reader reads of lines of the shops in turn, and behind each the keys, each behind a bar.
+fn rows_in_turn(alloc: Global, lines: &[&str]) -> Result<Vec<u8>, Refusal> {
+    let schema = shops(alloc)?;
+    let mut reader = RecordReader::new(alloc);
+    let mut out = Vec::new(alloc);
+    for line in lines {
+        if let Some(line) = RecordLine::new(line.as_bytes()) {
+            let row = reader.read_row(alloc, &schema, 3, &line);
+            let key = reader.read_key(alloc, &schema, 5, &line);
+            for text in [row_text(alloc, row)?, row_text(alloc, key)?] {
+                out.extend_from_slice(b"|")?;
+                out.extend_from_slice(text.as_slice())?;
+            }
+        }
+    }
+    Ok(out)
+}
+
+#[test]
+fn lines_are_read_in_turn(rt: HostRuntime) -> Result<(), Fail> {
+    let long = "|BadLength 3|BadLength 5";
+    for (lines, expected) in [
+        (
+            ["1,2,Bonn,true", "\"3\"", "4,5,,no"],
+            "|1,2,Bonn,true|BadLength 5|BadLength 3|3|BadField 3|BadLength 5",
+        ),
+        (
+            ["\"3\",4,\"a, b\",false", "5", "\r"],
+            "|3,4,\"a, b\",false|BadLength 5|BadLength 3|5",
+        ),
+        (["", "8,9,x,true,10", ""], long),
+        (["", "\"8\",9,x,true,10", ""], long),
+        (["", "\"8,9,x\",true", "\n"], long),
+    ] {
+        assert_eq!(rt;
+            rows_in_turn(rt.alloc(), &lines)?.as_slice(),
+            expected.as_bytes()
+        );
+    }
+    Ok(())
+}
+
 // The record of the texts between bars, behind a word.
 fn texts_record(alloc: Global, texts: &str) -> Result<Vec<u8>, AllocError> {
     let mut values = Vec::new(alloc);
     for text in texts.split('|') {
-        values.push(Value::Text(Text::new(alloc, text)?))?;
+        values.push(Value::Text(short_text(alloc, text)?))?;
     }
     let mut out = Vec::from_slice(alloc, b"row ")?;
     write_record(&mut out, values.as_slice())?;
@@ -226,13 +268,13 @@ fn one_is_read_after_another(rt: HostRuntime) -> Result<(), Fail> {
 // Copies of pairs of a number and a text, as one record.
 fn copied_pairs(alloc: Global, number: i64, text: &str) -> Result<Vec<u8>, AllocError> {
     let mut pairs = Vec::new(alloc);
-    pairs.push((Value::Int(number), Value::Text(Text::new(alloc, text)?)))?;
+    pairs.push((Value::Int(number), Value::Text(short_text(alloc, text)?)))?;
     let mut values = Vec::new(alloc);
     for (first, second) in clone_all(alloc, pairs.as_slice())? {
         values.push(first)?;
         values.push(second)?;
     }
-    row_text(alloc, Ok(Row::new(values)))
+    row_text(alloc, Ok(Row::from_values(alloc, values.as_slice())?))
 }
 
 #[test]

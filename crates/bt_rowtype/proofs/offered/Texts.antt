@@ -1,11 +1,11 @@
 -- Whether bytes are a text of a column. Serves readers of texts.
-use Rattle.std.proofs.Common.{◌≡◌, ◌∙◌, sym, ap, List, ℕ, length, true, false, Bool, ◌&&◌, nat_le, inl, inr, refl, ◌≤◌, ◌<◌}
-use Rattle.std.proofs.lemmas.Bool.{cases_Bool, le-leb, lt-leb}
+use Rattle.std.proofs.Common.{◌≡◌, ◌∙◌, sym, ap, List, [], ℕ, arith, length, true, false, Bool, ◌&&◌, nat_le, inl, inr, refl, ◌≤◌, ◌<◌}
+use Rattle.std.proofs.lemmas.Bool.{cases_Bool, le-leb, leb-true, lt-leb}
 use Rattle.std.specs.Prelude.{IsUtf8}
 use Rattle.std.specs.Str.{is_utf8}
-use Rattle.std.proofs.lemmas.Str.{is_utf8-from_IsUtf8, IsUtf8-from_is_utf8}
+use Rattle.std.proofs.lemmas.Str.{IsUtf8-nil, is_utf8-from_IsUtf8, IsUtf8-from_is_utf8}
 use Rattle.bt_rowtype.specs.Limits.{longest_text}
-use Rattle.bt_rowtype.specs.Values.{is_text}
+use Rattle.bt_rowtype.specs.Texts.{is_text}
 
 and_true : (b : Bool) → b ≡ (b && true)
 and_true true = refl
@@ -29,3 +29,13 @@ short_text bytes short utf8 = sym (text_by_length bytes utf8) ∙ le-leb (length
 
 pub long_text : (bytes : List ℕ) → longest_text < length bytes → is_text bytes ≡ false
 long_text bytes long = rw (lt-leb (length bytes) longest_text long) refl
+
+pub no_bytes : is_text [] ≡ true
+no_bytes = short_text [] (omega arith) IsUtf8-nil
+
+pub text_length : (bytes : List ℕ) → is_text bytes ≡ true → length bytes ≤ longest_text
+text_length bytes text = leb-true (length bytes) longest_text (first_of_both (nat_le (length bytes) longest_text) (is_utf8 bytes) text)
+  where
+    first_of_both : (a b : Bool) → (a && b) ≡ true → a ≡ true
+    first_of_both true b both = refl
+    first_of_both false b both = absurd cc

@@ -21,3 +21,8 @@ pub returns-in-Err-clause-none : goal.returns-in-Err-clause-none
 returns-in-Err-clause-none c = λ _.
     let text = take c.in-Some.len c.unescape.new.text in
     no_text_code c.args.bytes.now text c.in-Some.rest.now c.in-Some.ensures.found (sym (no_text text c.in-Err.ensures.cases.0))
+
+pub new-requires : goal.new-requires
+new-requires c =
+    let short = part_bound c.in-Some.len 255 c.unescape.new.text c.in-Some.ensures.bound in
+    search (rules, short)

@@ -4,4 +4,4 @@ use Rattle.bt_keycode.proofs.decoder.read_values.Given as goal
 
 -- the values so far are those of the kinds so far, and the bytes that are left come after them
 abbrev pub invariant-loop-kind : goal.invariant-loop-kind
-invariant-loop-kind l = BeginsWithAll (take l.kind-index l.kinds) l.bytes l.values.items l.code
+invariant-loop-kind l = BeginsWithAll (take l.kind-index l.kinds) l.bytes l.row l.code

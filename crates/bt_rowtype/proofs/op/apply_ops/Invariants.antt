@@ -4,4 +4,4 @@ use Rattle.bt_rowtype.proofs.op.apply_ops.Given as goal
 
 -- the operations from here on are to be done
 abbrev pub invariant-loop-op : goal.invariant-loop-op
-invariant-loop-op l = after_ops l.ops l.fn.row ≡ after_ops (drop l.op-index l.ops) l.values.items
+invariant-loop-op l = after_ops l.ops l.fn.row ≡ after_ops (drop l.op-index l.ops) l.after

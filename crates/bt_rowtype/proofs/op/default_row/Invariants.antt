@@ -6,4 +6,4 @@ use Rattle.bt_rowtype.proofs.op.default_row.Given as goal
 
 -- the values so far stand before the defaults of the columns from here on
 abbrev pub invariant-loop-column : goal.invariant-loop-column
-invariant-loop-column l = default_row l.schema l.fn.key ≡ l.values.items ++ map (λ c. default_of c.kind) (drop l.column-index l.columns)
+invariant-loop-column l = default_row l.schema l.fn.key ≡ l.row ++ map (λ c. default_of c.kind) (drop l.column-index l.columns)

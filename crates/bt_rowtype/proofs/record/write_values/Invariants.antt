@@ -1,8 +1,10 @@
-use Rattle.std.proofs.Common.{◌≡◌, ◌++◌, map, take}
-use Rattle.csv.specs.Writing.{default_writer, row_body}
-use Rattle.bt_rowtype.specs.Values.{text_of}
+use Rattle.std.proofs.Common.{length}
+use Rattle.bt_rowtype.proofs.RecordTexts.{Wrote}
 use Rattle.bt_rowtype.proofs.record.write_values.Given as goal
 
 -- the fields so far were added
-abbrev pub invariant-loop-place : goal.invariant-loop-place
-invariant-loop-place l = l.out.items ≡ l.fn.out.items ++ row_body default_writer (take l.place (map text_of l.values))
+abbrev pub invariant-loop-value : goal.invariant-loop-value
+invariant-loop-value l = Wrote l.fn.values l.rest l.place l.fn.out.items l.out.items
+
+abbrev pub decreases-loop-value : goal.decreases-loop-value
+decreases-loop-value l = length l.rest

@@ -8,16 +8,16 @@ use Rattle.bt_script.proofs.parse.and_item.Goals as goal
 pub returns-then-is_empty : goal.returns-then-is_empty
 returns-then-is_empty c = sym (and-blank c.args.items c.args.line.now c.without_spaces-text.result.now c.without_spaces-text.ensures (sym c.is_empty.ensures ∙ c.if-is_empty.true))
 
-pub returns-in_default-2 : goal.returns-in_default-2
-returns-in_default-2 c =
+pub returns-in_default-parse_item : goal.returns-in_default-parse_item
+returns-in_default-parse_item c =
     let text = c.without_spaces-text.result.now in
     let one = and-item c.args.items c.args.line.now text c.without_spaces-text.ensures (sym c.is_empty.ensures ∙ c.if-is_empty.false) in
-    let none : item_from text ≡ None = sym c.in_ok-item.ensures ∙ c.in_default-2.is in
+    let none : item_from text ≡ None = sym c.parse_item.ensures ∙ c.in_default-parse_item.is in
     sym (one ∙ ap (λ (items : Option (List Item)). with_last items (item_from text)) c.in-Some.is ∙ ap (with_last (Some c.in-Some.items)) none)
 
 pub returns : goal.returns
 returns c =
     let text = c.without_spaces-text.result.now in
     let one = and-item c.args.items c.args.line.now text c.without_spaces-text.ensures (sym c.is_empty.ensures ∙ c.if-is_empty.false) in
-    let some : item_from text ≡ Some c.in-Some-2.item = sym c.in_ok-item.ensures ∙ c.in-Some-2.is in
+    let some : item_from text ≡ Some c.in-Some-parse_item.item = sym c.parse_item.ensures ∙ c.in-Some-parse_item.is in
     ap Some c.in_ok-push.ensures.ok ∙ sym (one ∙ ap (λ (items : Option (List Item)). with_last items (item_from text)) c.in-Some.is ∙ ap (with_last (Some c.in-Some.items)) some)

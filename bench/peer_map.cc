@@ -1,0 +1,29 @@
+// No engine at all: a B-tree map in memory, absl::btree_map.
+#include <absl/container/btree_map.h>
+
+#include "peer.h"
+
+class Store {
+  absl::btree_map<std::string, std::string, std::less<>> rows;
+
+ public:
+  void begin() {}
+  void commit() {}
+  bool get(View key, View &value) {
+    auto found = rows.find(key);
+    if (found == rows.end()) return false;
+    value = found->second;
+    return true;
+  }
+  void put(View key, View value) { rows.insert_or_assign(std::string(key), std::string(value)); }
+  void del(View key) {
+    auto found = rows.find(key);
+    if (found != rows.end()) rows.erase(found);
+  }
+  template <class Each>
+  void scan(Each each) {
+    for (const auto &[key, value] : rows) each(View(key), View(value));
+  }
+};
+
+int main(int count, char **words) { return run<OverStore<Store>>(count, words); }

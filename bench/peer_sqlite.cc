@@ -1,0 +1,134 @@
+// SQLite in memory, without journal: prepared statements, a transaction a batch. A key of one int is the rowid.
+#include <sqlite3.h>
+
+#include <unordered_map>
+
+#include "peer.h"
+
+class Sqlite {
+  const Table &table;
+  sqlite3 *db = nullptr;
+  sqlite3_stmt *put = nullptr, *del = nullptr, *find = nullptr, *all = nullptr;
+  std::unordered_map<std::string, sqlite3_stmt *> upserts;  // by operation and column
+  std::deque<std::string> held;                             // texts of the last get
+
+  void check(int code) {
+    if (code != SQLITE_OK && code != SQLITE_DONE && code != SQLITE_ROW) fail(sqlite3_errmsg(db));
+  }
+  void execute(const std::string &sql) { check(sqlite3_exec(db, sql.c_str(), nullptr, nullptr, nullptr)); }
+  sqlite3_stmt *prepare(const std::string &sql) {
+    sqlite3_stmt *statement;
+    check(sqlite3_prepare_v3(db, sql.c_str(), -1, SQLITE_PREPARE_PERSISTENT, &statement, nullptr));
+    return statement;
+  }
+  void bind(sqlite3_stmt *statement, size_t at, Kind kind, const Value &value) {
+    if (kind == Kind::Text) sqlite3_bind_text(statement, int(at), value.text.data(), int(value.text.size()), SQLITE_STATIC);
+    else sqlite3_bind_int64(statement, int(at), value.number);
+  }
+  void bind_key(sqlite3_stmt *statement, const Value *key) {
+    for (size_t c = 0; c < table.keys; c++) bind(statement, c + 1, table.kinds[c], key[c]);
+  }
+  void step_once(sqlite3_stmt *statement) { check(sqlite3_step(statement)), check(sqlite3_reset(statement)); }
+  void read_row(sqlite3_stmt *statement, Value *row) {
+    for (size_t c = 0; c < table.columns(); c++) {
+      if (table.kinds[c] != Kind::Text) {
+        row[c].number = sqlite3_column_int64(statement, int(c));
+        continue;
+      }
+      auto text = reinterpret_cast<const char *>(sqlite3_column_text(statement, int(c)));
+      row[c].text = View(text, size_t(sqlite3_column_bytes(statement, int(c))));
+    }
+  }
+
+  // A list of the columns from a place on, each as `text` makes it of its name.
+  template <class Text>
+  std::string listed(size_t from, size_t to, const char *between, Text text) {
+    std::string list;
+    for (size_t c = from; c < to; c++) list += (c == from ? "" : between) + text(c);
+    return list;
+  }
+  std::string name(size_t c) { return '"' + table.names[c] + '"'; }
+
+  // One statement for each list of operations and columns. Its arguments follow the key.
+  sqlite3_stmt *upsert(const Batch &batch, const Message &m) {
+    std::string shape;
+    for (size_t i = 0; i < m.operation_count; i++) {
+      const Operation &o = batch.operations[m.operations + i];
+      shape += char(o.is_add), shape += char(o.column);
+    }
+    sqlite3_stmt *&statement = upserts[shape];
+    if (statement) return statement;
+    std::vector<std::string> fresh(table.columns()), kept(table.columns());
+    for (size_t c = 0; c < table.columns(); c++) {
+      fresh[c] = c < table.keys ? "?" + std::to_string(c + 1) : table.kinds[c] == Kind::Text ? "''" : "0";
+      kept[c] = name(c);
+    }
+    for (size_t i = 0; i < m.operation_count; i++) {
+      const Operation &o = batch.operations[m.operations + i];
+      std::string argument = "?" + std::to_string(table.keys + i + 1);
+      for (auto *row : {&fresh, &kept}) (*row)[o.column] = o.is_add ? (*row)[o.column] + "+" + argument : argument;
+    }
+    auto set = [&](size_t c) { return name(c) + "=" + kept[c]; };
+    std::string values = listed(0, table.columns(), ",", [&](size_t c) { return fresh[c]; });
+    std::string key = listed(0, table.keys, ",", [&](size_t c) { return name(c); });
+    std::string sets = listed(table.keys, table.columns(), ",", set);
+    return statement = prepare("INSERT INTO t VALUES(" + values + ") ON CONFLICT(" + key + ") DO UPDATE SET " + sets);
+  }
+
+ public:
+  explicit Sqlite(const Table &given) : table(given) {
+    sqlite3_config(SQLITE_CONFIG_MEMSTATUS, 0);
+    check(sqlite3_open_v2(":memory:", &db, SQLITE_OPEN_READWRITE | SQLITE_OPEN_CREATE | SQLITE_OPEN_NOMUTEX, nullptr));
+    execute("PRAGMA journal_mode=OFF; PRAGMA synchronous=OFF; PRAGMA locking_mode=EXCLUSIVE; PRAGMA page_size=16384");
+    bool is_rowid = table.keys == 1 && table.kinds[0] == Kind::Int;
+    auto column = [&](size_t c) {
+      return name(c) + (table.kinds[c] == Kind::Text ? " TEXT" : " INTEGER") + (is_rowid && c == 0 ? " PRIMARY KEY" : " NOT NULL");
+    };
+    std::string columns = listed(0, table.columns(), ",", column);
+    std::string key = listed(0, table.keys, ",", [&](size_t c) { return name(c); });
+    execute("CREATE TABLE t(" + columns + (is_rowid ? ")" : ", PRIMARY KEY(" + key + ")) WITHOUT ROWID"));
+    std::string is_key = " WHERE " + listed(0, table.keys, " AND ", [&](size_t c) { return name(c) + "=?"; });
+    put = prepare("REPLACE INTO t VALUES(" + listed(0, table.columns(), ",", [](size_t) { return std::string("?"); }) + ")");
+    del = prepare("DELETE FROM t" + is_key);
+    find = prepare("SELECT * FROM t" + is_key);
+    all = prepare("SELECT * FROM t ORDER BY " + key);
+  }
+  void apply(const Batch &batch) {
+    execute("BEGIN");
+    for (uint32_t at : order_of(table, batch)) {
+      const Message &m = batch.messages[at];
+      const Value *row = batch.row(m);
+      sqlite3_stmt *statement = m.kind == Message::Put ? put : m.kind == Message::Del ? del : upsert(batch, m);
+      bind_key(statement, row);
+      for (size_t c = table.keys; m.kind == Message::Put && c < table.columns(); c++) bind(statement, c + 1, table.kinds[c], row[c]);
+      for (size_t i = 0; i < m.operation_count; i++) {
+        const Operation &o = batch.operations[m.operations + i];
+        bind(statement, table.keys + i + 1, table.kinds[o.column], o.argument);
+      }
+      step_once(statement);
+    }
+    execute("COMMIT");
+  }
+  bool get(const Value *key, Value *row) {
+    bind_key(find, key);
+    int code = sqlite3_step(find);
+    check(code);
+    held.clear();
+    if (code == SQLITE_ROW) read_row(find, row);
+    for (size_t c = 0; code == SQLITE_ROW && c < table.columns(); c++)
+      if (table.kinds[c] == Kind::Text) row[c].text = held.emplace_back(row[c].text);
+    check(sqlite3_reset(find));
+    return code == SQLITE_ROW;
+  }
+  template <class Each>
+  void scan(Each each) {
+    Value row[MOST_COLUMNS];
+    while (sqlite3_step(all) == SQLITE_ROW) {
+      read_row(all, row);
+      each(row);
+    }
+    check(sqlite3_reset(all));
+  }
+};
+
+int main(int count, char **words) { return run<Sqlite>(count, words); }

@@ -1,0 +1,5 @@
+pub mod Numbers
+pub mod Accounts
+pub mod Rules
+pub mod Takers
+pub mod Serving

@@ -1,0 +1,90 @@
+-- Sums over lists of numbers.
+use Rattle.std.proofs.Common.{◌≡◌, ◌≢◌, ℕ, zero, suc, ◌+◌, ◌<◌, ◌≤◌, List, [], ◌∷◌, ◌++◌, length, length-append, map, set, get_or, take, refl, sym, ap, ◌∙◌, arith}
+use Rattle.std.proofs.lemmas.List.{take_more, take_all}
+use Rattle.std.proofs.lemmas.Bool.Decides.{nat_tests}
+use mathlib.Core.Option.{some, some-ne-none, some-injective}
+use lib.ListN.{get_elem?}
+use Rattle.bt_gang.specs.Numbers.{total, joined, is_it, times, below, once_below}
+
+module _ {X : Type 0} (f : X → ℕ) where
+  pub total-append : (xs ys : List X) → total f (xs ++ ys) ≡ total f xs + total f ys
+  total-append [] ys = omega arith
+  total-append (x ∷ xs) ys = omega (arith, total-append xs ys)
+
+  -- the total after a change at one place
+  pub total-set : (xs : List X) (i : ℕ) (v w : X) → get_elem? xs i ≡ some v → total f (set xs i w) + f v ≡ total f xs + f w
+  total-set [] i v w at = absurd (some-ne-none v (sym at))
+  total-set (x ∷ xs) zero v w at = let e : f x ≡ f v = ap f (some-injective x v at) in omega arith
+  total-set (x ∷ xs) (suc i) v w at = let e = total-set xs i v w at in omega arith
+
+  pub total-set_or : (xs : List X) (i : ℕ) (w d : X) → i < length xs → total f (set xs i w) + f (get_or xs i d) ≡ total f xs + f w
+  total-set_or [] i w d l = absurd (omega arith)
+  total-set_or (x ∷ xs) zero w d l = omega arith
+  total-set_or (x ∷ xs) (suc i) w d l = let e = total-set_or xs i w d (omega arith) in omega arith
+
+  -- one item adds at most the whole
+  pub total-one : (xs : List X) (i : ℕ) (v : X) → get_elem? xs i ≡ some v → f v ≤ total f xs
+  total-one [] i v at = absurd (some-ne-none v (sym at))
+  total-one (x ∷ xs) zero v at = let e : f x ≡ f v = ap f (some-injective x v at) in omega arith
+  total-one (x ∷ xs) (suc i) v at = let e = total-one xs i v at in omega arith
+
+  -- so do two items at different places
+  pub total-two : (xs : List X) (i j : ℕ) (v u : X) → get_elem? xs i ≡ some v → get_elem? xs j ≡ some u → j ≢ i → f v + f u ≤ total f xs
+  total-two [] i j v u at at' ne = absurd (some-ne-none v (sym at))
+  total-two (a ∷ xs) zero zero v u at at' ne = absurd (ne refl)
+  total-two (a ∷ xs) zero (suc j) v u at at' ne = let e : f a ≡ f v = ap f (some-injective a v at) in let l = total-one xs j u at' in omega arith
+  total-two (a ∷ xs) (suc i) zero v u at at' ne = let e : f a ≡ f u = ap f (some-injective a u at') in let l = total-one xs i v at in omega arith
+  total-two (a ∷ xs) (suc i) (suc j) v u at at' ne = let l = total-two xs i j v u at at' (λ e. ne (ap suc e)) in omega arith
+
+module _ {X Y : Type 0} where
+  pub total-map : (f : Y → ℕ) (g : X → Y) (xs : List X) → total f (map g xs) ≡ total (λ x. f (g x)) xs
+  total-map f g [] = refl
+  total-map f g (x ∷ xs) = let e = total-map f g xs in omega arith
+
+pub total-joined : (f : ℕ → ℕ) (ls : List (List ℕ)) → total f (joined ls) ≡ total (λ l. total f l) ls
+total-joined f [] = refl
+total-joined f (l ∷ ls) = let e = total-joined f ls in let a = total-append f l (joined ls) in omega arith
+
+pub total-length : {X : Type 0} (xs : List X) → total (λ _. 1) xs ≡ length xs
+total-length [] = refl
+total-length (x ∷ xs) = omega (arith, total-length xs)
+
+pub length-below : (n : ℕ) → length (below n) ≡ n
+length-below zero = refl
+length-below (suc n) = omega (arith, length-append (below n) (n ∷ []), length-below n)
+
+-- a number stands among those below n once, if it is one of them
+pub times-below : (x n : ℕ) → times x (below n) ≡ once_below x n
+times-below x zero = grind (arith, nat_tests)
+times-below x (suc n) = let e = times-below x n in let f = total-append (is_it x) (below n) (n ∷ []) in grind (arith, nat_tests, e, f)
+
+module _ {X : Type 0} where
+  pub at_more : (xs ys : List X) (i : ℕ) (x : X) → get_elem? xs i ≡ some x → get_elem? (xs ++ ys) i ≡ some x
+  at_more [] ys i x at = absurd (some-ne-none x (sym at))
+  at_more (a ∷ xs) ys zero x at = at
+  at_more (a ∷ xs) ys (suc i) x at = at_more xs ys i x at
+
+  pub at_end : (xs : List X) (x : X) → get_elem? (xs ++ x ∷ []) (length xs) ≡ some x
+  at_end [] x = refl
+  at_end (a ∷ xs) x = at_end xs x
+
+  pub at_below : (xs : List X) (i : ℕ) (x : X) → get_elem? xs i ≡ some x → i < length xs
+  at_below [] i x e = absurd (some-ne-none x (sym e))
+  at_below (y ∷ ys) zero x e = omega arith
+  at_below (y ∷ ys) (suc i) x e = let l = at_below ys i x e in omega arith
+
+module _ {X : Type 0} (f : X → ℕ) (d : X) (xs : List X) where
+  total-first_places : (n : ℕ) → n ≤ length xs → total (λ i. f (get_or xs i d)) (below n) ≡ total f (take n xs)
+  total-first_places zero l = refl
+  total-first_places (suc n) l =
+      let g : ℕ → ℕ = λ i. f (get_or xs i d) in
+      let a = total-append g (below n) (n ∷ []) in
+      let b = total-first_places n (omega arith) in
+      let one : suc n ≡ n + 1 = omega arith in
+      let c : total f (take (suc n) xs) ≡ total f (take n xs ++ get_or xs n d ∷ []) = ap (λ k. total f (take k xs)) one ∙ ap (total f) (take_more xs n d (omega arith)) in
+      let e = total-append f (take n xs) (get_or xs n d ∷ []) in
+      omega (arith, a, b, c, e)
+
+  -- f of each place of the list
+  pub total-places : (n : ℕ) → length xs ≡ n → total (λ i. f (get_or xs i d)) (below n) ≡ total f xs
+  total-places n len = total-first_places n (omega arith) ∙ ap (total f) (take_all n xs (omega arith))

@@ -1,0 +1,341 @@
+-- Each step keeps the rule of the queue.
+use Rattle.std.proofs.Common.{◌≡◌, ◌≢◌, ℕ, zero, suc, ◌+◌, ◌<◌, ◌≤◌, List, [], ◌∷◌, ◌++◌, length, length-append, map, set, get_or, replicate, sym, refl, ap, ◌∙◌, subst, ⊎_elim, arith}
+use Rattle.std.proofs.lemmas.List.{map-append, get_or-set_same, get_or-set_other}
+use Rattle.std.proofs.lemmas.Bool.Decides.{nat_tests}
+use mathlib.Core.Option.{some, some-ne-none, some-injective}
+use lib.ListN.{get_elem?}
+use Rattle.crossbeam_queue.specs.Fifo.{Pushes, Pops, Forks, Merges, Learns}
+use Rattle.crossbeam_queue.proofs.Lists.{at_set, at_snoc, set_else}
+use Rattle.bt_gang.specs.declared.rule.Known.{Known}
+use Rattle.bt_gang.specs.declared.rule.NumberedJob.{NumberedJob}
+use Rattle.bt_gang.specs.declared.rule.TakenList.{TakenList}
+use Rattle.bt_gang.specs.Numbers.{total, joined, is_it, times, below, once_below}
+use Rattle.bt_gang.specs.Board.{State, start, after_put, after_take}
+use Rattle.bt_gang.specs.Board.Event.{Put, Take}
+use Rattle.bt_gang.specs.Queue.{taken_list, no_lists, given, kept, workers_of, numbers_of, AreTaken, known, HasList, queued, Stand, EachPass, IsBoard, Pushed, Popped, Accounts}
+use Rattle.bt_gang.proofs.Numbers.{total-append, total-set, total-one, total-two, total-length, total-joined, total-places, length-below, times-below, at_more, at_end}
+use Rattle.bt_gang.proofs.Accounts.{accounted, freed}
+
+pub count_lists : (ls : List TakenList) → total (λ _. 1) (workers_of ls) ≡ length ls
+count_lists [] = refl
+count_lists (l ∷ ls) = let e = count_lists ls in omega arith
+
+at_most_once : (x n : ℕ) → once_below x n ≤ 1
+at_most_once x n = grind (arith, nat_tests)
+
+once_itself : (x : ℕ) → is_it x x ≡ 1
+once_itself x = grind (arith, nat_tests)
+
+nowhere_here : (x y k : ℕ) → is_it x y + k ≡ 0 → y ≢ x
+nowhere_here x y k e same = grind (arith, nat_tests, e, same)
+
+below_once : (x n : ℕ) → 1 ≤ once_below x n → x < n
+below_once x n l = grind (arith, nat_tests, l)
+
+-- what one worker took besides stays out of the lists of the others
+taken_else : (taken : List (List ℕ)) (w : ℕ) (new : List ℕ) (ls : List TakenList) → times w (workers_of ls) ≡ 0 → AreTaken taken ls → AreTaken (set taken w new) ls
+taken_else taken w new [] none are = tt
+taken_else taken w new (l ∷ ls) none are = (
+  get_or-set_other taken w l.worker new [] (nowhere_here w l.worker (times w (workers_of ls)) none) ∙ are.0,
+  taken_else taken w new ls (omega arith) are.1,
+)
+
+taken-append : (taken : List (List ℕ)) (xs ys : List TakenList) → AreTaken taken xs → AreTaken taken ys → AreTaken taken (xs ++ ys)
+taken-append taken [] ys a b = b
+taken-append taken (x ∷ xs) ys a b = (a.0, taken-append taken xs ys a.1 b)
+
+taken_kept : (taken : List (List ℕ)) (ls : List TakenList) → AreTaken taken ls → AreTaken taken (kept ls)
+taken_kept taken [] are = are
+taken_kept taken (a ∷ []) are = are
+taken_kept taken (a ∷ b ∷ ls) are = (are.0, are.1.1)
+
+taken_given : (taken : List (List ℕ)) (ls : List TakenList) → AreTaken taken ls → AreTaken taken (given ls)
+taken_given taken [] are = tt
+taken_given taken (a ∷ []) are = tt
+taken_given taken (a ∷ b ∷ ls) are = (are.1.0, tt)
+
+kept_given : (h : ℕ → ℕ) (ls : List TakenList) → total h (workers_of (kept ls)) + total h (workers_of (given ls)) ≡ total h (workers_of ls)
+kept_given h [] = refl
+kept_given h (a ∷ []) = omega arith
+kept_given h (a ∷ b ∷ ls) = omega arith
+
+kept_some : (ls : List TakenList) → 0 < length (kept ls) → 0 < length ls
+kept_some [] l = l
+kept_some (a ∷ ls) l = omega arith
+
+given_some : (ls : List TakenList) → 0 < length (given ls) → 0 < length ls
+given_some [] l = l
+given_some (a ∷ ls) l = omega arith
+
+workers-append : (h : ℕ → ℕ) (xs ys : List TakenList) → total h (workers_of (xs ++ ys)) ≡ total h (workers_of xs) + total h (workers_of ys)
+workers-append h [] ys = omega arith
+workers-append h (x ∷ xs) ys = omega (arith, workers-append h xs ys)
+
+-- the numbers of some lists weigh what their workers took
+weigh_lists : (h : ℕ → ℕ) (taken : List (List ℕ)) (ls : List TakenList) → AreTaken taken ls → total h (numbers_of ls) ≡ total (λ w. total h (get_or taken w [])) (workers_of ls)
+weigh_lists h taken [] are = refl
+weigh_lists h taken (l ∷ ls) are =
+    let e = weigh_lists h taken ls are.1 in
+    let a = total-append h l.numbers (numbers_of ls) in
+    let m = ap (total h) are.0 in
+    omega (arith, e, a, m)
+
+empty_at : (n i : ℕ) → get_or {A = List ℕ} (replicate n []) i [] ≡ []
+empty_at zero i = refl
+empty_at (suc n) zero = refl
+empty_at (suc n) (suc i) = empty_at n i
+
+taken_none : (n : ℕ) (workers : List ℕ) → AreTaken (replicate n []) (map (λ w. taken_list w []) workers)
+taken_none n [] = tt
+taken_none n (w ∷ ws) = (empty_at n w, taken_none n ws)
+
+workers_none : (workers : List ℕ) → workers_of (map (λ w. taken_list w []) workers) ≡ workers
+workers_none [] = refl
+workers_none (w ∷ ws) = ap (λ l. w ∷ l) (workers_none ws)
+
+no_workers : (h : ℕ → ℕ) (ls : List TakenList) → total (λ _. 1) (workers_of ls) ≡ 0 → total h (workers_of ls) ≡ 0
+no_workers h [] e = refl
+no_workers h (l ∷ ls) e = absurd (omega arith)
+
+module _ {J : Type 0} where
+  stand-snoc : (jobs more : List J) (items : List (NumberedJob J)) (x : NumberedJob J) → Stand jobs items → get_elem? (jobs ++ more) x.number ≡ some x.job → Stand (jobs ++ more) (items ++ x ∷ [])
+  stand-snoc jobs more [] x all at = (at, tt)
+  stand-snoc jobs more (t ∷ ts) x all at = (at_more jobs more t.number t.job all.0, stand-snoc jobs more ts x all.1 at)
+
+  each_set : (P : Known J → Type 0) (views : List (Known J)) (port : ℕ) (w : Known J) → P w → ((j : ℕ) (u : Known J) → j ≢ port → get_elem? views j ≡ some u → P u) → EachPass P (set views port w)
+  each_set P views port w new old j u e = ⊎_elim (λ (x : (j ≡ port) × (w ≡ u)). subst P x.1 new) (λ (x : (j ≢ port) × (get_elem? views j ≡ some u)). old j u x.0 x.1) (at_set views port j w u e)
+
+  each_snoc : (P : Known J → Type 0) (views : List (Known J)) (w : Known J) → P w → EachPass P views → EachPass P (views ++ w ∷ [])
+  each_snoc P views w new old j u e = ⊎_elim (λ (x : get_elem? views j ≡ some u). old j u x) (λ (x : w ≡ u). subst P x new) (at_snoc views w u j e)
+
+  each_one : (P : Known J → Type 0) (w : Known J) → P w → EachPass P (w ∷ [])
+  each_one P w new zero u e = subst P (some-injective w u e) new
+  each_one P w new (suc j) u e = absurd (some-ne-none u (sym e))
+
+  pub begins : (n : ℕ) → IsBoard {J = J} n [] (known [] (no_lists n) ∷ [])
+  begins n = record {
+    jobs = [];
+    board = start n;
+    reached = ([], refl);
+    put = refl;
+    waiting = refl;
+    stand = tt;
+    taken = each_one (λ v. AreTaken (replicate n []) v.lists) (known [] (no_lists n)) (taken_none n (below n));
+    apart = λ h. let e = ap (total h) (workers_none (below n)) in omega arith;
+    know = each_one (λ v. HasList v → v.jobs ≡ []) (known [] (no_lists n)) (λ _. refl);
+  }
+
+  pub pushes : (n room port : ℕ) (v : Known J) (x : NumberedJob J) → length v.lists ≡ n → 0 < n → x.number ≡ length v.jobs → Pushes (IsBoard n) room port v x (Pushed v x)
+  pushes n room port v x every some_worker next items views free b at =
+      let w : Known J = known (v.jobs ++ x.job ∷ []) v.lists in
+      let same : v.jobs ≡ b.jobs = b.know port v at (omega arith) in
+      let new : List J = b.jobs ++ x.job ∷ [] in
+      let here : x.number ≡ length b.jobs = next ∙ ap length same in
+      let f : Known J → ℕ = λ u. total (λ _. 1) (workers_of u.lists) in (
+        w,
+        record {
+          jobs = new;
+          board = after_put b.board;
+          reached = (Put ∷ b.reached.0, (b.board, b.reached.1, refl));
+          put = let p = b.put in let a = length-append b.jobs (x.job ∷ []) in let g : suc b.board.put ≡ length new = omega arith in g;
+          waiting = ap (λ l. l ++ b.board.put ∷ []) b.waiting ∙ (ap (λ k. queued items ++ k ∷ []) (b.put ∙ sym here) ∙ sym (map-append (λ (item : NumberedJob J). item.number) items (x ∷ [])));
+          stand = stand-snoc b.jobs (x.job ∷ []) items x b.stand (subst (λ k. get_elem? new k ≡ some x.job) (sym here) (at_end b.jobs x.job));
+          taken = each_set (λ u. AreTaken b.board.taken u.lists) views port w (b.taken port v at) (λ j u _ e. b.taken j u e);
+          apart = λ h. let t = total-set (λ (u : Known J). total h (workers_of u.lists)) views port v w at in let p = b.apart h in omega arith;
+          know = each_set (λ u. HasList u → u.jobs ≡ new) views port w (λ _. ap (λ js. js ++ x.job ∷ []) same)
+              (λ j u ne e some_list.
+              let two = total-two f views port j v u at e ne in
+              let p = b.apart (λ _. 1) in
+              let a = count_lists v.lists in
+              let c = count_lists u.lists in
+              let l = total-length (below n) in
+              let m = length-below n in
+              absurd (omega arith));
+        },
+        refl,
+      )
+
+  -- a worker's list is in one pass, once
+  only_here : (n port : ℕ) (items : List (NumberedJob J)) (views : List (Known J)) (jobs : List J) (l : TakenList) (rest : List TakenList)
+      → IsBoard n items views → get_elem? views port ≡ some (known jobs (l ∷ rest)) → (l.worker < n) × (times l.worker (workers_of rest) ≡ 0)
+  only_here n port items views jobs l rest b at =
+      let w : ℕ = l.worker in
+      let f : Known J → ℕ = λ u. times w (workers_of u.lists) in
+      let one = total-one f views port (known jobs (l ∷ rest)) at in
+      let p = b.apart (is_it w) in
+      let q = times-below w n in
+      let r = at_most_once w n in
+      let s = once_itself w in
+      (below_once w n (omega arith), omega arith)
+
+  not_there : (n port j : ℕ) (items : List (NumberedJob J)) (views : List (Known J)) (jobs : List J) (l : TakenList) (rest : List TakenList) (u : Known J)
+      → IsBoard n items views → get_elem? views port ≡ some (known jobs (l ∷ rest)) → j ≢ port → get_elem? views j ≡ some u → times l.worker (workers_of u.lists) ≡ 0
+  not_there n port j items views jobs l rest u b at ne at' =
+      let w : ℕ = l.worker in
+      let f : Known J → ℕ = λ u. times w (workers_of u.lists) in
+      let two = total-two f views port j (known jobs (l ∷ rest)) u at at' ne in
+      let p = b.apart (is_it w) in
+      let q = times-below w n in
+      let r = at_most_once w n in
+      let s = once_itself w in
+      omega arith
+
+  -- what all workers took, by the passes
+  by_passes : (n : ℕ) (items : List (NumberedJob J)) (views : List (Known J)) (h : ℕ → ℕ) (b : IsBoard n items views)
+      → total (λ (u : Known J). total (λ w. total h (get_or b.board.taken w [])) (workers_of u.lists)) views ≡ total h (joined b.board.taken)
+  by_passes n items views h b =
+      b.apart (λ w. total h (get_or b.board.taken w []))
+      ∙ (total-places (λ t. total h t) [] b.board.taken n (accounted n b.board b.reached).taken ∙ sym (total-joined h b.board.taken))
+
+  lists_le : (n port : ℕ) (items : List (NumberedJob J)) (views : List (Known J)) (v : Known J) (h : ℕ → ℕ) (b : IsBoard n items views)
+      → get_elem? views port ≡ some v → total h (numbers_of v.lists) ≤ total h (joined b.board.taken)
+  lists_le n port items views v h b at =
+      let f : Known J → ℕ = λ u. total (λ w. total h (get_or b.board.taken w [])) (workers_of u.lists) in
+      let one = total-one f views port v at in
+      let a = by_passes n items views h b in
+      let m = weigh_lists h b.board.taken v.lists (b.taken port v at) in
+      omega (arith, one, a, m)
+
+  pops_from : (n port : ℕ) (jobs : List J) (l : TakenList) (rest : List TakenList) → Pops (IsBoard n) port (known jobs (l ∷ rest)) (Popped (known jobs (l ∷ rest)))
+  pops_from n port jobs l rest x items views b at =
+      let v : Known J = known jobs (l ∷ rest) in
+      let w : Known J = known jobs (taken_list l.worker (l.numbers ++ x.number ∷ []) ∷ rest) in
+      let only = only_here n port (x ∷ items) views jobs l rest b at in
+      let f = freed n l.worker b.board b.reached only.0 in
+      let t : State = f.0 in
+      let s : State = after_take l.worker x.number (queued items) t in
+      let sizes = accounted n t f.1 in
+      let are = b.taken port v at in
+      let same : jobs ≡ b.jobs = b.know port v at (omega arith) in
+      let was : get_or t.taken l.worker [] ≡ l.numbers = ap (λ ts. get_or ts l.worker []) f.3 ∙ are.0 in
+      let new : List ℕ = get_or t.taken l.worker [] ++ x.number ∷ [] in (
+        w,
+        record {
+          jobs = b.jobs;
+          board = s;
+          reached = (Take l.worker ∷ f.1.0, (t, f.1.1, (x.number, queued items, (let e = sizes.held in let o = only.0 in omega arith), f.2, f.4 ∙ b.waiting, refl)));
+          put = f.5 ∙ b.put;
+          waiting = refl;
+          stand = b.stand.1;
+          taken = each_set (λ u. AreTaken s.taken u.lists) views port w (
+            get_or-set_same t.taken l.worker new [] (let e = sizes.taken in let o = only.0 in omega arith) ∙ ap (λ q. q ++ x.number ∷ []) was,
+            taken_else t.taken l.worker new rest only.1 (subst (λ ts. AreTaken ts rest) (sym f.3) are.1),
+          )
+              (λ j u ne e. taken_else t.taken l.worker new u.lists (not_there n port j (x ∷ items) views jobs l rest u b at ne e) (subst (λ ts. AreTaken ts u.lists) (sym f.3) (b.taken j u e)));
+          apart = λ h. let q = total-set (λ (u : Known J). total h (workers_of u.lists)) views port v w at in let p = b.apart h in omega arith;
+          know = each_set (λ u. HasList u → u.jobs ≡ b.jobs) views port w (λ _. same) (λ j u _ e. b.know j u e);
+        },
+        (
+          refl,
+          subst (λ js. get_elem? js x.number ≡ some x.job) (sym same) b.stand.0,
+          (let one : ℕ → ℕ = λ _. 1 in
+              let a = accounted n b.board b.reached in
+              let p = a.all one in
+              let q = a.lists one in
+              let le = lists_le n port (x ∷ items) views v one b at in
+              let c = total-length (numbers_of (l ∷ rest)) in
+              let d = ap (total one) b.waiting in
+              let e = total-length (below b.board.put) ∙ length-below b.board.put in
+              let g = b.put in
+              let k : length jobs ≡ length b.jobs = ap length same in
+              omega (arith, p, q, le, c, d, e, g, k)),
+        ),
+      )
+
+  pub pops : (n port : ℕ) (v : Known J) (lists : List TakenList) → v.lists ≡ lists → HasList v → Pops (IsBoard n) port v (Popped v)
+  pops n port v [] is some_list = absurd (let e = ap length is in omega arith)
+  pops n port v (l ∷ rest) is some_list = subst (λ ls. Pops (IsBoard n) port (known v.jobs ls) (Popped (known v.jobs ls))) (sym is) (pops_from n port v.jobs l rest)
+
+  pub forks : (n port : ℕ) (v : Known J) → Forks (IsBoard n) port v (known v.jobs (kept v.lists)) (known v.jobs (given v.lists))
+  forks n port v items views b at =
+      let l : Known J = known v.jobs (kept v.lists) in
+      let r : Known J = known v.jobs (given v.lists) in
+      let vs : List (Known J) = set views port l in
+      record {
+        jobs = b.jobs;
+        board = b.board;
+        reached = b.reached;
+        put = b.put;
+        waiting = b.waiting;
+        stand = b.stand;
+        taken = each_snoc (λ u. AreTaken b.board.taken u.lists) vs r (taken_given b.board.taken v.lists (b.taken port v at))
+            (each_set (λ u. AreTaken b.board.taken u.lists) views port l (taken_kept b.board.taken v.lists (b.taken port v at)) (λ j u _ e. b.taken j u e));
+        apart = λ h.
+            let f : Known J → ℕ = λ u. total h (workers_of u.lists) in
+            let t = total-set f views port v l at in
+            let q = total-append f vs (r ∷ []) in
+            let k = kept_given h v.lists in
+            let p = b.apart h in
+            omega arith;
+        know = each_snoc (λ u. HasList u → u.jobs ≡ b.jobs) vs r (λ some. b.know port v at (given_some v.lists some))
+            (each_set (λ u. HasList u → u.jobs ≡ b.jobs) views port l (λ some. b.know port v at (kept_some v.lists some)) (λ j u _ e. b.know j u e));
+      }
+
+  pub merges : (n port : ℕ) (v : Known J) (other : ℕ) (u : Known J) → HasList v → Merges (IsBoard n) port v other u (known v.jobs (v.lists ++ u.lists)) (known [] [])
+  merges n port v other u some_list items views b at two at' =
+      let both : Known J = known v.jobs (v.lists ++ u.lists) in
+      let spent : Known J = known [] [] in
+      let vs : List (Known J) = set views port both in
+      let there : get_elem? views other ≡ some u = sym (set_else views port other both two) ∙ at' in
+      record {
+        jobs = b.jobs;
+        board = b.board;
+        reached = b.reached;
+        put = b.put;
+        waiting = b.waiting;
+        stand = b.stand;
+        taken = each_set (λ x. AreTaken b.board.taken x.lists) vs other spent tt
+            (λ j x _ e. each_set (λ y. AreTaken b.board.taken y.lists) views port both (taken-append b.board.taken v.lists u.lists (b.taken port v at) (b.taken other u there)) (λ i y _ f. b.taken i y f) j x e);
+        apart = λ h.
+            let f : Known J → ℕ = λ x. total h (workers_of x.lists) in
+            let s = total-set f views port v both at in
+            let t = total-set f vs other u spent at' in
+            let a = workers-append h v.lists u.lists in
+            let p = b.apart h in
+            omega arith;
+        know = each_set (λ x. HasList x → x.jobs ≡ b.jobs) vs other spent (λ none. absurd (omega arith))
+            (λ j x _ e. each_set (λ y. HasList y → y.jobs ≡ b.jobs) views port both (λ _. b.know port v at some_list) (λ i y _ f. b.know i y f) j x e);
+      }
+
+  none_of : (p f : Known J → ℕ) → ((u : Known J) → p u ≡ 0 → f u ≡ 0) → (views : List (Known J)) → total p views ≡ 0 → total f views ≡ 0
+  none_of p f zeros [] all = refl
+  none_of p f zeros (u ∷ us) all = let z = zeros u (omega arith) in let r = none_of p f zeros us (omega arith) in omega arith
+
+  -- where one pass has all of p, no other adds to f
+  alone : (p f : Known J → ℕ) → ((u : Known J) → p u ≡ 0 → f u ≡ 0) → (views : List (Known J)) (port : ℕ) (v : Known J) → get_elem? views port ≡ some v → total p views ≡ p v → total f views ≡ f v
+  alone p f zeros [] port v at all = absurd (some-ne-none v (sym at))
+  alone p f zeros (u ∷ us) zero v at all =
+      let e : u ≡ v = some-injective u v at in
+      let q : p u ≡ p v = ap p e in
+      let g : f u ≡ f v = ap f e in
+      let r = none_of p f zeros us (omega arith) in
+      omega arith
+  alone p f zeros (u ∷ us) (suc port) v at all =
+      let more = total-one p us port v at in
+      let z = zeros u (omega arith) in
+      let r = alone p f zeros us port v at (omega arith) in
+      omega arith
+
+  learns_of : (n port : ℕ) (v : Known J) (items : List (NumberedJob J)) (views : List (Known J)) → HasList v → IsBoard n items views → get_elem? views port ≡ some v → (h : ℕ → ℕ)
+      → (total h (numbers_of v.lists) ≤ total h (below (length v.jobs))) × (length v.lists ≡ n → total h (numbers_of v.lists) + total h (queued items) ≡ total h (below (length v.jobs)))
+  learns_of n port v items views some_list b at h =
+      let a = accounted n b.board b.reached in
+      let p = a.all h in
+      let q = a.lists h in
+      let le = lists_le n port items views v h b at in
+      let g : length v.jobs ≡ b.board.put = ap length (b.know port v at some_list) ∙ sym b.put in
+      let k : total h (below (length v.jobs)) ≡ total h (below b.board.put) = ap (λ i. total h (below i)) g in
+      let w = ap (total h) b.waiting in (
+        omega (arith, p, q, le, k, w),
+        (λ every.
+            let weight : ℕ → ℕ = λ i. total h (get_or b.board.taken i []) in
+            let counts : total (λ (u : Known J). total (λ _. 1) (workers_of u.lists)) views ≡ total (λ _. 1) (workers_of v.lists) =
+            b.apart (λ _. 1) ∙ (total-length (below n) ∙ (length-below n ∙ (sym every ∙ sym (count_lists v.lists)))) in
+            let mine = alone (λ u. total (λ _. 1) (workers_of u.lists)) (λ u. total weight (workers_of u.lists)) (λ u. no_workers weight u.lists) views port v at counts in
+            let by = by_passes n items views h b in
+            let m = weigh_lists h b.board.taken v.lists (b.taken port v at) in
+            omega (arith, p, q, k, w, mine, by, m)),
+      )
+
+  pub learns : (port : ℕ) (v : Known J) → HasList v → Learns (IsBoard 64) port v (Accounts v)
+  learns port v some_list items views b at h = learns_of 64 port v items views some_list b at h

@@ -1,0 +1,34 @@
+use Rattle.std.proofs.Common.{refl, ap, subst, rules, ◌≡◌}
+use mathlib.Core.Option.{some}
+use lib.ListN.{get_elem?}
+use Rattle.crossbeam_queue.specs.Passes.{view}
+use Rattle.bt_gang.proofs.Rules.{pops, learns}
+use Rattle.bt_gang.proofs.Serving.{gained_list, gains_none, gains_more, spare_left, found_nothing, at_all}
+use Rattle.bt_gang.proofs.worker_loop.serve.Goals as goal
+
+pub loop-init : goal.loop-init
+loop-init g c = record { pass = c.requires.pass.0; gains = gains_none (g.W.Work.allows c.args.work.now) (view c.args.pass.now) c.args.out.now }
+
+pub pop_as-requires-clause-rule : goal.pop_as-requires-clause-rule
+pop_as-requires-clause-rule g c =
+    let some_list = gained_list _ _ _ c.loop.invariant.gains.pass c.requires.pass.1 in
+    (pops 64 _ _ _ refl some_list, learns _ _ some_list)
+
+pub run-value-requires : goal.run-value-requires
+run-value-requires g c =
+    let was = view c.args.pass.now in
+    let item = c.in-Some-pop_as.item in
+    let at : get_elem? was.jobs item.number ≡ some item.job = subst (λ js. get_elem? js item.number ≡ some item.job) (ap (λ y. y.jobs) c.loop.invariant.gains.pass) c.in-Some-pop_as.ensures.rule.1 in
+    at_all (g.W.Work.accepts c.args.work.now) was.jobs item.number item.job c.requires.accepts at
+
+pub add-requires : goal.add-requires
+add-requires g c = spare_left (g.W.Work.allows c.args.work.now) (view c.args.pass.now) _ _ c.args.out.now c.loop.out _ c.loop.invariant.gains c.in-Some-pop_as.ensures.rule c.requires.pass.1 c.requires.spare
+
+pub loop-preserved : goal.loop-preserved
+loop-preserved g c = record {
+  pass = search rules;
+  gains = gains_more (g.W.Work.allows c.args.work.now) (view c.args.pass.now) _ _ c.args.out.now c.loop.out _ c.in-Some-pop_as.item _ c.loop.invariant.gains c.in-Some-pop_as.ensures.rule c.run-value.ensures c.add.ensures.list c.add.ensures.spare;
+}
+
+pub returns-in-None-pop_as-clause-last : goal.returns-in-None-pop_as-clause-last
+returns-in-None-pop_as-clause-last g c = found_nothing _ _ c.in-None-pop_as.ensures.rule.0 c.in-None-pop_as.ensures.rule.1

@@ -1,0 +1,35 @@
+-- What the answers of some jobs say.
+use Rattle.std.specs.Prelude.{◌≡◌, ℕ, ◌+◌, ◌≤◌, List, [], ◌∷◌, ◌++◌, length, Result, ⊤}
+use mathlib.Core.Option.{some}
+use lib.ListN.{get_elem?}
+use Rattle.bt_gang.specs.declared.answers.Answer.{Answer}
+use Rattle.bt_gang.specs.declared.answers.Answers.{Answers}
+use Rattle.bt_gang.specs.declared.rule.Known.{Known}
+use Rattle.bt_gang.specs.Numbered.{numbered}
+use Rattle.bt_gang.specs.Numbers.{times, once_below}
+use Rattle.bt_gang.specs.Queue.{gained, numbers_of, HasAll}
+
+module _ {J D F : Type 0} (allows : J → Result D F → Type 0) where
+  -- the job of this number may answer so
+  abbrev pub MayAnswer : List J → ℕ → Result D F → Type 0
+  MayAnswer jobs number value = (job : J) × (get_elem? jobs number ≡ some job) × allows job value
+
+  abbrev pub AllMay : List J → List (Answer D F) → Type 0
+  AllMay jobs [] = ⊤
+  AllMay jobs (a ∷ rest) = MayAnswer jobs a.number a.value × AllMay jobs rest
+
+  -- the answers gained just the numbers that the list of the pass gained, in that order, each with an answer that its job may give; the spare room fell by one with each
+  pub record Gains (before after : Known J) (old new : Answers D F) : Type 0 where
+    pub added : List (Answer D F)
+    pub list : new.list.items ≡ old.list.items ++ added
+    pub pass : after ≡ gained before (numbered added)
+    pub may : AllMay before.jobs added
+    pub spare : new.spare + length added ≡ old.spare
+
+module _ {J : Type 0} where
+  -- the last pop found nothing: the lists of the pass have no job twice, and where it has all lists they have each job
+  abbrev pub FoundNothing : Known J → Type 0
+  FoundNothing v =
+      (job : ℕ)
+      → (times job (numbers_of v.lists) ≤ once_below job (length v.jobs))
+      × (HasAll v → times job (numbers_of v.lists) ≡ once_below job (length v.jobs))

@@ -1,0 +1,112 @@
+-- The rule of the queue: what waits in it and what the passes took is a state of the board.
+use Rattle.std.specs.Prelude.{◌≡◌, ℕ, ◌+◌, ◌<◌, ◌≤◌, List, [], ◌∷◌, ◌++◌, length, map, get_or, ⊤}
+use mathlib.Core.Option.{some}
+use lib.ListN.{get_elem?}
+use Rattle.bt_gang.specs.declared.rule.Known.{Known}
+use Rattle.bt_gang.specs.declared.rule.NumberedJob.{NumberedJob}
+use Rattle.bt_gang.specs.declared.rule.TakenList.{TakenList}
+use Rattle.bt_gang.specs.Numbers.{total, joined, below}
+use Rattle.bt_gang.specs.Board.{State, IsReached}
+
+-- the most workers of a crew
+abbrev pub most_workers : ℕ
+most_workers = 64
+
+abbrev pub TakenLists : Type 0
+TakenLists = List TakenList
+
+abbrev pub taken_list : ℕ → List ℕ → TakenList
+taken_list worker numbers = record { worker = worker; numbers = numbers }
+
+-- the lists of this many workers that took nothing
+abbrev pub no_lists : ℕ → List TakenList
+no_lists workers = map (λ worker. taken_list worker []) (below workers)
+
+-- the lists after the first grew by these numbers
+abbrev pub grown : List ℕ → List TakenList → List TakenList
+grown more [] = []
+grown more (l ∷ ls) = taken_list l.worker (l.numbers ++ more) ∷ ls
+
+-- the second list, which is given to a new pass
+abbrev pub given : List TakenList → List TakenList
+given [] = []
+given (a ∷ []) = []
+given (a ∷ b ∷ ls) = b ∷ []
+
+-- the lists that are kept
+abbrev pub kept : List TakenList → List TakenList
+kept [] = []
+kept (a ∷ []) = a ∷ []
+kept (a ∷ b ∷ ls) = a ∷ ls
+
+-- whose lists they are
+abbrev pub workers_of : List TakenList → List ℕ
+workers_of ls = map (λ (l : TakenList). l.worker) ls
+
+-- the numbers in all the lists
+abbrev pub numbers_of : List TakenList → List ℕ
+numbers_of ls = joined (map (λ (l : TakenList). l.numbers) ls)
+
+-- each list is the one of its worker, of these that the workers took
+abbrev pub AreTaken : List (List ℕ) → List TakenList → Type 0
+AreTaken taken [] = ⊤
+AreTaken taken (l ∷ ls) = (get_or taken l.worker [] ≡ l.numbers) × AreTaken taken ls
+
+module _ {J : Type 0} where
+  abbrev pub known : List J → List TakenList → Known J
+  known jobs lists = record { jobs = jobs; lists = lists }
+
+  -- the pass took these numbers too
+  abbrev pub gained : Known J → List ℕ → Known J
+  gained v more = known v.jobs (grown more v.lists)
+
+  -- it has a list, so it belongs to a worker
+  abbrev pub HasList : Known J → Type 0
+  HasList v = 0 < length v.lists
+
+  -- it has the lists of all workers
+  abbrev pub HasAll : Known J → Type 0
+  HasAll v = length v.lists ≡ most_workers
+
+  -- the numbers of the jobs in the queue
+  abbrev pub queued : List (NumberedJob J) → List ℕ
+  queued items = map (λ (item : NumberedJob J). item.number) items
+
+  -- each job in the queue is the one of its number
+  abbrev pub Stand : List J → List (NumberedJob J) → Type 0
+  Stand jobs [] = ⊤
+  Stand jobs (item ∷ items) = (get_elem? jobs item.number ≡ some item.job) × Stand jobs items
+
+  -- P of what each pass knows
+  abbrev pub EachPass : (Known J → Type 0) → List (Known J) → Type 0
+  EachPass P views = (port : ℕ) (v : Known J) → get_elem? views port ≡ some v → P v
+
+  -- a run of the board leads to a state with these queued jobs and taken lists; each worker's list is in one pass, once, however the workers are weighed; and a pass with a list knows the jobs
+  pub record IsBoard (workers : ℕ) (items : List (NumberedJob J)) (views : List (Known J)) : Type 0 where
+    pub jobs : List J
+    pub board : State
+    pub reached : IsReached workers board
+    pub put : board.put ≡ length jobs
+    pub waiting : board.waiting ≡ queued items
+    pub stand : Stand jobs items
+    pub taken : EachPass (λ v. AreTaken board.taken v.lists) views
+    pub apart : (h : ℕ → ℕ) → total (λ (v : Known J). total h (workers_of v.lists)) views ≡ total h (below workers)
+    pub know : EachPass (λ v. HasList v → v.jobs ≡ jobs) views
+
+  abbrev pub IsQueue : List (NumberedJob J) → List (Known J) → Type 0
+  IsQueue items views = IsBoard most_workers items views
+
+  -- the job joined at the back
+  abbrev pub Pushed : Known J → NumberedJob J → Known J → Type 0
+  Pushed v item w = w ≡ known (v.jobs ++ item.job ∷ []) v.lists
+
+  -- the pass took the item, which is the job of its number; there were jobs that its lists had not
+  abbrev pub Popped : Known J → NumberedJob J → Known J → Type 0
+  Popped v item w = (w ≡ gained v (item.number ∷ [])) × (get_elem? v.jobs item.number ≡ some item.job) × (length (numbers_of v.lists) < length v.jobs)
+
+  -- however the numbers are weighed: the lists of a pass have no job more than once; and where it has all lists, a job is in them or in the queue
+  abbrev pub Accounts : Known J → List (NumberedJob J) → Type 0
+  Accounts v items =
+      (h : ℕ → ℕ)
+      → (total h (numbers_of v.lists) ≤ total h (below (length v.jobs)))
+      × (HasAll v → total h (numbers_of v.lists) + total h (queued items) ≡ total h (below (length v.jobs)))

@@ -1,0 +1,62 @@
+//! Who works, and what is called around each job.
+ghost use Rattle.std.specs.Prelude.{◌≡◌, ◌<◌, ◌≤◌, ◌⊎◌, IfErr, IfOk, OnErr};
+ghost use Rattle.bt_rowtype.specs.declared.refusal.Refusal.TheVariants.{BadCrew};
+ghost use Rattle.bt_gang.specs.Crews.{IsCrew};
+
+use bt_rowtype::Refusal;
+
+/// The most workers of a crew.
+pub const MOST_WORKERS: usize = 64;
+/// The deepest cut of a tree into jobs.
+pub const DEEPEST_CUT: usize = 3;
+/// The largest packet that may be worked without jobs.
+pub const LARGEST_GRAIN: usize = 65_536;
+
+/// What a worker calls before and after it runs a job, with the job's number. No lock is held meanwhile.
+pub trait Gate {
+    fn enter(&self, job: usize);
+
+    fn leave(&self, job: usize);
+}
+
+/// Does nothing.
+#[derive(Drop)]
+pub struct NoGate;
+
+impl Gate for NoGate {
+    fn enter(&self, _job: usize) {}
+
+    fn leave(&self, _job: usize) {}
+}
+
+/// How many workers there are, of which the caller is one; at which depth trees are cut into jobs; and from how many messages
+/// on a packet is worked by jobs.
+#[derive(Drop)]
+pub struct Crew<G> {
+    pub workers: usize,
+    pub cut: usize,
+    pub grain: usize,
+    pub gate: G,
+    pub ghost sizes: { IsCrew workers cut grain },
+}
+
+impl<G: Drop> Crew<G> {
+    /// 1 to 64 workers, a cut of 1 to 3 and a grain of 1 to 65,536, else `BadCrew`.
+    pub fn new(workers: usize, cut: usize, grain: usize, gate: G) -> Result<Crew<G>, Refusal>
+        ensures ok { IfOk result (λ crew. (crew.workers ≡ workers) × (crew.cut ≡ cut) × (crew.grain ≡ grain) × (crew.gate ≡ gate)) }
+        ensures refused { IfErr result (λ e. (e ≡ BadCrew) × ¬ (IsCrew workers cut grain)) }
+    {
+        let few = 1 <= workers && workers <= MOST_WORKERS;
+        let shallow = 1 <= cut && cut <= DEEPEST_CUT;
+        let fine = 1 <= grain && grain <= LARGEST_GRAIN;
+        if few && shallow && fine {
+            return Ok(Crew {
+                workers,
+                cut,
+                grain,
+                gate,
+            });
+        }
+        Err(Refusal::BadCrew)
+    }
+}

@@ -1,0 +1,31 @@
+//! Jobs that workers draw from one queue, each of them once.
+//!
+//! A [`Board`] says by numbers which jobs wait, which are held by workers and which are handed in. The queue of a call
+//! ([`Jobs`]) follows it: whatever the threads do, what waits in the queue and what the passes took is a state that a run of
+//! the board reaches ([`JobRule`]). A worker runs [`serve`] with its pass: it adds an answer for each job that it took, and
+//! ends only after a pop that found nothing.
+//!
+//! ```text
+//! let (jobs, mut pass) = Jobs::new(&rt, alloc, numbers)?;
+//! let mut out = Answers::new(alloc, 3)?;
+//! let crew = Crew::new(1, 1, 1, NoGate)?;
+//! serve(&rt, alloc, &Doubling, &jobs, &mut pass, &crew, &mut out);    // of three jobs: out.numbers is 0, 1, 2
+//! ```
+#![tactic(auto)]
+
+mod answers;
+mod board;
+mod crew;
+mod jobs;
+mod places;
+mod rule;
+mod work;
+mod worker_loop;
+
+pub use answers::{Answer, Answers};
+pub use board::Board;
+pub use crew::{Crew, DEEPEST_CUT, Gate, LARGEST_GRAIN, MOST_WORKERS, NoGate};
+pub use jobs::{JobPass, Jobs};
+pub use rule::{JobQueue, JobRule, Known, NumberedJob, Pop, Push, TakenList, WorkerPass};
+pub use work::Work;
+pub use worker_loop::serve;

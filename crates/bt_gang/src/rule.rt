@@ -1,0 +1,88 @@
+//! The rule of the queue of jobs, and what a pass knows.
+use crossbeam_queue::RuledArrayQueue;
+use crossbeam_queue::protocol::{Join, Lesson, Outcome, Protocol, Split};
+use std::collections::LinkedList;
+
+/// A job with its number.
+#[derive(Drop)]
+pub struct NumberedJob<J> {
+    pub number: usize,
+    pub job: J,
+}
+
+/// The numbers that a worker took, in order. No value of it is made.
+pub struct TakenList {
+    pub worker: usize,
+    pub numbers: LinkedList<usize>,
+}
+
+/// What a pass knows: the jobs that were pushed, and the lists that it has. The first is the list of the worker that holds the
+/// pass, the others are those that it has not given away yet or has taken in. No value of it is made.
+pub struct Known<J> {
+    pub jobs: LinkedList<J>,
+    pub lists: LinkedList<TakenList>,
+}
+
+/// The queue and the passes are in a state of the board. The first pass has the lists of all workers.
+pub struct JobRule;
+
+impl<J> Protocol<NumberedJob<J>, Known<J>> for JobRule {
+    ghost use Rattle.std.specs.Prelude.{[]};
+    ghost use Rattle.bt_gang.specs.Queue.{IsQueue, known, most_workers, no_lists};
+
+    ghost holds = { IsQueue };
+
+    ghost first = { known [] (no_lists most_workers) };
+}
+
+/// How a pass is split off for a worker, and taken in: it gets the list of that worker, and brings it back.
+pub struct WorkerPass;
+
+impl<J> Split<Known<J>> for WorkerPass {
+    ghost use Rattle.bt_gang.specs.Queue.{given, kept, known};
+
+    ghost left = { λ v. known v.jobs (kept v.lists) };
+
+    ghost right = { λ v. known v.jobs (given v.lists) };
+}
+
+impl<J> Join<Known<J>> for WorkerPass {
+    ghost use Rattle.std.specs.Prelude.{[], ◌++◌};
+    ghost use Rattle.bt_gang.specs.Queue.{known};
+
+    ghost both = { λ v w. known v.jobs (v.lists ++ w.lists) };
+
+    ghost spent = { known [] [] };
+}
+
+/// A push by the caller. Where the queue is full, the pass learns what it holds.
+pub struct Push;
+
+impl<J> Outcome<NumberedJob<J>, Known<J>> for Push {
+    ghost use Rattle.bt_gang.specs.Queue.{Pushed};
+
+    ghost then = { Pushed };
+}
+
+impl<J> Lesson<NumberedJob<J>, Known<J>> for Push {
+    ghost use Rattle.bt_gang.specs.Queue.{Accounts};
+
+    ghost fact = { Accounts };
+}
+
+/// A pop that takes the front, or one that finds nothing, by which the pass learns that no job waits.
+pub struct Pop;
+
+impl<J> Outcome<NumberedJob<J>, Known<J>> for Pop {
+    ghost use Rattle.bt_gang.specs.Queue.{Popped};
+
+    ghost then = { Popped };
+}
+
+impl<J> Lesson<NumberedJob<J>, Known<J>> for Pop {
+    ghost use Rattle.bt_gang.specs.Queue.{Accounts};
+
+    ghost fact = { Accounts };
+}
+
+pub type JobQueue<J> = RuledArrayQueue<NumberedJob<J>, Known<J>, JobRule>;

@@ -1,0 +1,46 @@
+//! One worker's loop.
+ghost use Rattle.std.specs.Prelude.{◌+◌, ◌≤◌, All, length};
+ghost use Rattle.crossbeam_queue.specs.Passes.{IsPassOf, view};
+ghost use Rattle.bt_gang.specs.Queue.{HasList, numbers_of};
+ghost use Rattle.bt_gang.specs.Answers.{FoundNothing, Gains};
+
+use crate::answers::Answers;
+use crate::crew::{Crew, Gate};
+use crate::jobs::{JobPass, Jobs};
+use crate::rule::Pop;
+use crate::work::Work;
+use std::alloc::Global;
+use std::sync::Wait;
+
+/// Pops jobs with this pass until none waits, runs each, and adds its number and its answer. Only the runs take memory, and
+/// the fault of a run is its answer.
+pub fn serve<W: Work, G: Gate, R: Wait>(
+    rt: &R,
+    alloc: Global,
+    work: &W,
+    jobs: &Jobs<W::Job>,
+    pass: &mut JobPass<W::Job>,
+    crew: &Crew<G>,
+    out: &mut Answers<W::Done, W::Fault>,
+)
+    requires pass { IsPassOf jobs.now.queue pass.old × HasList (view pass.old) }
+    requires accepts { All (λ job. W.accepts work.now job) (view pass.old).jobs }
+    requires spare { length (view pass.old).jobs ≤ out.old.spare + length (numbers_of (view pass.old).lists) }
+    ensures pass { IsPassOf jobs.now.queue pass.new }
+    ensures gains { Gains (W.allows work.now) (view pass.old) (view pass.new) out.old out.new }
+    ensures last { FoundNothing (view pass.new) }
+{
+    for _ in rt.forever() {
+        match jobs.queue.pop_as::<Pop, R>(rt, pass) {
+            Some(item) => {
+                let number = item.number;
+                crew.gate.enter(number);
+                let value = work.run(alloc, item.job);
+                crew.gate.leave(number);
+                out.add(number, value);
+            }
+            None => return,
+        }
+    }
+    unreachable!()
+}

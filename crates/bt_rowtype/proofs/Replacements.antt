@@ -1,0 +1,131 @@
+-- One value of the bytes of values is replaced by another.
+use Rattle.std.proofs.Common.{◌≡◌, ℕ, zero, suc, ◌+◌, ◌-◌, ◌<◌, ◌≤◌, ◌==◌, Bool, true, false, if◌then◌else◌, List, [], ◌∷◌, ◌++◌, length, length-drop, append_assoc, take, drop, get_or, set, Some, None, refl, sym, ap, subst, ◌∙◌, ℤ, pos, negsuc, SFits, w64, ◌+ℤ◌, arith}
+use Rattle.std.proofs.lemmas.Bool.Decides.{nat_tests}
+use Rattle.std.proofs.lemmas.List.{drop-drop, drop_all}
+use Rattle.std.specs.Int.{saturate_to_bits}
+use Rattle.bt_rowtype.specs.Ops.{added, after_op}
+use Rattle.bt_rowtype.specs.declared.op.Op.TheVariants.{Add}
+use Rattle.bt_rowtype.specs.declared.value.Value.{Value}
+use Rattle.bt_rowtype.specs.declared.value.Value.TheVariants as value
+use Rattle.bt_rowtype.specs.Additions.{number_of}
+use Rattle.bt_rowtype.specs.Packing.{AreInRange, IsAt, IsInRange, IsPacked, first_of, int_bytes, packed, packed_value, unpacked, width_of}
+use Rattle.bt_rowtype.proofs.Packing.{are_packed, has_first, in_range-append, in_range-take, packed-append, unpacked-packed}
+use Rattle.bt_rowtype.proofs.Walks.{take_one_more, unpacked_none}
+
+-- new bytes are old ones with the value that begins at a byte replaced
+pub record Replaces (old new : List ℕ) (at : ℕ) (v : Value) : Type 0 where
+  pub bytes : new ≡ take at old ++ (packed_value v ++ drop (at + width_of (drop at old)) old)
+
+set_dropped : (n : ℕ) (vs : List Value) (v w : Value) (rest : List Value) → drop n vs ≡ v ∷ rest → set vs n w ≡ take n vs ++ w ∷ rest
+set_dropped zero [] v w rest e = (cc)
+set_dropped zero (u ∷ vs) v w rest e = (cc)
+set_dropped (suc n) [] v w rest e = (cc)
+set_dropped (suc n) (u ∷ vs) v w rest e = ap (λ z. u ∷ z) (set_dropped n vs v w rest e)
+
+replaced_are : (old : List ℕ) (place at : ℕ) (v : Value) → IsPacked old → IsAt old place at → at < length old → IsInRange v →
+    AreInRange (set (unpacked old) place v) × (packed (set (unpacked old) place v) ≡ take at old ++ (packed_value v ++ drop (at + width_of (drop at old)) old))
+replaced_are old place at v h here more fits =
+    let vs = unpacked old in
+    let first = has_first (drop at old) here.rest (omega (arith, length-drop at old)) in
+    let width : ℕ = width_of (drop at old) in
+    let rest : List Value = unpacked (drop width (drop at old)) in
+    let values : drop place (unpacked old) ≡ first_of (drop at old) ∷ rest = sym here.values ∙ first.values in
+    let replaced = set_dropped place (unpacked old) _ v rest values in
+    let fits_rest : AreInRange rest = first.rest.in_range in (
+      subst AreInRange (sym replaced) (in_range-append (take place (unpacked old)) (v ∷ rest) (in_range-take place (unpacked old) h.in_range) (fits, fits_rest)),
+      ap packed replaced ∙ packed-append (take place (unpacked old)) (v ∷ rest)
+          ∙ ap (λ z. z ++ (packed_value v ++ packed rest)) here.front
+          ∙ ap (λ z. take at old ++ (packed_value v ++ z)) (first.rest.same ∙ drop-drop width at old),
+    )
+
+pub replaced_packed : (old new : List ℕ) (place at : ℕ) (v : Value) → IsPacked old → IsAt old place at → at < length old → IsInRange v → Replaces old new at v → IsPacked new
+replaced_packed old new place at v h here more fits r =
+    let both = replaced_are old place at v h here more fits in
+    subst IsPacked (both.1 ∙ sym r.bytes) (are_packed _ both.0)
+
+pub replaced : (old new : List ℕ) (place at : ℕ) (v : Value) → IsPacked old → IsAt old place at → at < length old → IsInRange v → Replaces old new at v → unpacked new ≡ set (unpacked old) place v
+replaced old new place at v h here more fits r =
+    let both = replaced_are old place at v h here more fits in
+    ap unpacked (r.bytes ∙ sym both.1) ∙ unpacked-packed _ both.0
+
+-- a place past the end
+pub set_past_end : (bytes : List ℕ) (place at : ℕ) (v : Value) → IsAt bytes place at → length bytes ≤ at → set (unpacked bytes) place v ≡ unpacked bytes
+set_past_end bytes place at v here past =
+    let none : drop place (unpacked bytes) ≡ [] = sym here.values ∙ ap unpacked (drop_all at bytes past) ∙ unpacked_none in
+    past_last place (unpacked bytes) v none
+  where
+    past_last : (n : ℕ) (vs : List Value) (w : Value) → drop n vs ≡ [] → set vs n w ≡ vs
+    past_last n [] w e = refl
+    past_last zero (u ∷ vs) w e = absurd cc
+    past_last (suc n) (u ∷ vs) w e = ap (λ z. u ∷ z) (past_last n vs w e)
+
+-- ---- an int with a number added
+
+-- bytes from a place on begin with no more than there is
+pub width_fits : (bytes : List ℕ) → IsPacked bytes → width_of bytes ≤ length bytes
+width_fits [] h = omega arith
+width_fits (b ∷ bs) h = (has_first (b ∷ bs) h (omega arith)).within
+
+none_is_none : (n : ℤ) → None ≡ Some n → ⊥
+none_is_none n e = (cc)
+
+no_int : (b flag : Bool) (text : List ℕ) (n : ℤ) → number_of (if b then value.Text text else value.Flag flag) ≡ Some n → ⊥
+no_int true flag text n e = none_is_none n e
+no_int false flag text n e = none_is_none n e
+
+int_first : (bytes : List ℕ) (n : ℤ) → number_of (first_of bytes) ≡ Some n → (first_of bytes ≡ value.Int n) × (width_of bytes ≡ 9) × (bytes ≡ 0 ∷ drop 1 bytes)
+int_first [] n e = absurd (cc)
+int_first (zero ∷ bs) n e = ((cc), refl, refl)
+int_first (suc t ∷ bs) n e = let other : (suc t == 0) ≡ false = grind (arith, nat_tests) in absurd (no_int (suc t == 1) _ _ n (rw other at e))
+
+get_dropped : (n : ℕ) (vs : List Value) (v d : Value) (rest : List Value) → drop n vs ≡ v ∷ rest → get_or vs n d ≡ v
+get_dropped zero [] v d rest e = (cc)
+get_dropped zero (u ∷ vs) v d rest e = (cc)
+get_dropped (suc n) [] v d rest e = (cc)
+get_dropped (suc n) (u ∷ vs) v d rest e = get_dropped n vs v d rest e
+
+saturated : (z : ℤ) → SFits w64 (saturate_to_bits 63 z)
+saturated (pos n) = record { sfits = search arith }
+saturated (negsuc n) = record { sfits = search arith }
+
+-- what is at the byte where an int begins
+pub record HasInt (bytes : List ℕ) (place at : ℕ) (m : ℤ) : Type 0 where
+  pub more : at < length bytes
+  pub within : at + 9 ≤ length bytes
+  pub width : width_of (drop at bytes) ≡ 9
+  pub front : take (at + 1) bytes ≡ take at bytes ++ 0 ∷ []
+  pub old : (d : Value) → get_or (unpacked bytes) place d ≡ value.Int m
+
+pub has_int : (bytes : List ℕ) (place at : ℕ) (m : ℤ) → IsAt bytes place at → number_of (first_of (drop at bytes)) ≡ Some m → HasInt bytes place at m
+has_int bytes place at m here e =
+    let found = int_first (drop at bytes) m e in
+    let fits = width_fits (drop at bytes) here.rest in
+    let many : 9 ≤ length bytes - at = omega (arith, fits, found.1, length-drop at bytes) in
+    let first = has_first (drop at bytes) here.rest (omega (arith, length-drop at bytes)) in
+    record {
+      more = omega arith;
+      within = omega arith;
+      width = found.1;
+      front = take_one_more at bytes 0 _ found.2;
+      old = λ d. get_dropped place (unpacked bytes) _ d _ (sym here.values ∙ first.values) ∙ found.0;
+    }
+
+written : (old new : List ℕ) (place at : ℕ) (m k : ℤ) → HasInt old place at m → new ≡ take (at + 1) old ++ (int_bytes k ++ drop (at + 9) old) → Replaces old new at (value.Int k)
+written old new place at m k has e = record {
+  bytes =
+      e ∙ ap (λ z. z ++ (int_bytes k ++ drop (at + 9) old)) has.front ∙ append_assoc (take at old) (0 ∷ []) (int_bytes k ++ drop (at + 9) old)
+      ∙ ap (λ w. take at old ++ (0 ∷ (int_bytes k ++ drop (at + w) old))) (sym has.width);
+}
+
+pub added_packed : (old new : List ℕ) (place at : ℕ) (m n k : ℤ) → IsPacked old → IsAt old place at → number_of (first_of (drop at old)) ≡ Some m → k ≡ saturate_to_bits 63 (m +ℤ n) →
+    new ≡ take (at + 1) old ++ (int_bytes k ++ drop (at + 9) old) → IsPacked new
+added_packed old new place at m n k h here e sum r =
+    let has = has_int old place at m here e in
+    replaced_packed old new place at (value.Int k) h here has.more (subst (SFits w64) (sym sum) (saturated (m +ℤ n))) (written old new place at m k has r)
+
+pub added_values : (old new : List ℕ) (place at : ℕ) (m n k : ℤ) → IsPacked old → IsAt old place at → number_of (first_of (drop at old)) ≡ Some m → k ≡ saturate_to_bits 63 (m +ℤ n) →
+    new ≡ take (at + 1) old ++ (int_bytes k ++ drop (at + 9) old) → unpacked new ≡ after_op (unpacked old) (Add place n)
+added_values old new place at m n k h here e sum r =
+    let has = has_int old place at m here e in
+    replaced old new place at (value.Int k) h here has.more (subst (SFits w64) (sym sum) (saturated (m +ℤ n))) (written old new place at m k has r)
+    ∙ ap (λ z. set (unpacked old) place (value.Int z)) sum ∙ sym (ap (λ z. set (unpacked old) place (added n z)) (has.old (value.Int (pos 0))))

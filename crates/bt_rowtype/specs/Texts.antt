@@ -1,0 +1,8 @@
+-- Which bytes are a text of a column.
+use Rattle.std.specs.Prelude.{ℕ, ◌&&◌, Bool, List, length, nat_le}
+use Rattle.std.specs.Str.{is_utf8}
+use Rattle.bt_rowtype.specs.Limits.{longest_text}
+
+-- whether bytes are a text of a column: UTF-8, and not too long
+abbrev pub is_text : List ℕ → Bool
+is_text bytes = nat_le (length bytes) longest_text && is_utf8 bytes

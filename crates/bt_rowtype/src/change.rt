@@ -1,0 +1,144 @@
+//! What an upsert does to the row of its key.
+ghost use Rattle.std.specs.Prelude.{◌≡◌, ◌∷◌, [], IfOk};
+ghost use Rattle.bt_rowtype.specs.Changes.{ops_of};
+ghost use Rattle.bt_rowtype.specs.Ops as spec;
+
+use crate::copies::clone_all;
+use crate::op::{Op, Ops, apply_ops};
+use crate::packed_row::{Row, copy_row};
+use crate::sequence::Sequence;
+use std::alloc::{AllocError, Global};
+use std::marker::Model;
+
+#[derive(Debug, Drop)]
+enum Work {
+    // one number is added at one place
+    Addition(u16, i64),
+    // any other operations
+    List(Box<Ops>),
+}
+
+/// What an upsert does to the row of its key: operations in turn, and the row to begin with where the key has none, which is
+/// the key's values and the default of each other column. A contract sees `base` and `ops`.
+///
+/// One addition stands in the change itself, and takes no memory of its own.
+#[derive(Debug, Drop)]
+pub struct Change {
+    base: Row,
+    work: Work,
+}
+
+const _: () = prove!(size_of::<Change>() == 48);
+
+impl Model for Change {
+    ghost use Rattle.bt_rowtype.specs.Changes.{ops_of};
+    ghost use Rattle.bt_rowtype.specs.Ops as spec;
+
+    ghost Value = { spec.Change };
+
+    ghost view = { λ a. record { base = a.base; ops = ops_of a.work } };
+}
+
+// The operations, in the form in which a change keeps them.
+fn work_of(alloc: Global, ops: Ops) -> Result<Work, AllocError>
+    ensures { IfOk result (λ work. ops_of work ≡ ops) }
+{
+    if let [Op::Add(place, number)] = ops.as_slice() {
+        if *place <= u16::MAX as usize {
+            return Ok(Work::Addition(*place as u16, *number));
+        }
+    }
+    Ok(Work::List(Box::new(alloc, ops)?))
+}
+
+// A copy of operations.
+fn copy_ops(alloc: Global, ops: &Ops) -> Result<Ops, AllocError>
+    ensures { IfOk result (λ copy. copy ≡ ops.now) }
+{
+    Ok(Sequence::from_vec(clone_all(alloc, ops.as_slice())?))
+}
+
+// A copy of the operations.
+fn copy_work(alloc: Global, work: &Work) -> Result<Work, AllocError>
+    ensures { IfOk result (λ copy. ops_of copy ≡ ops_of work.now) }
+{
+    match work {
+        Work::Addition(place, number) => Ok(Work::Addition(*place, *number)),
+        Work::List(ops) => Ok(Work::List(Box::new(alloc, copy_ops(alloc, ops)?)?)),
+    }
+}
+
+// The one operation that is an addition.
+fn addition(alloc: Global, place: u16, number: i64) -> Result<Ops, AllocError>
+    ensures { IfOk result (λ ops. ops ≡ Op.Add place number ∷ []) }
+{
+    let mut ops = Ops::with_capacity(alloc, 1)?;
+    ops.push(Op::Add(place as usize, number))?;
+    Ok(ops)
+}
+
+// The row after the operations.
+fn after(alloc: Global, row: Row, work: &Work) -> Result<Row, AllocError>
+    ensures { IfOk result (λ after. after ≡ spec.after_ops (ops_of work.now) row) }
+{
+    match work {
+        Work::Addition(place, number) => {
+            let mut row = row;
+            row.add(*place as usize, *number);
+            Ok(row)
+        }
+        Work::List(ops) => apply_ops(alloc, row, ops.as_slice()),
+    }
+}
+
+impl Change {
+    /// The change with this row to begin with and these operations.
+    pub fn new(alloc: Global, base: Row, ops: Ops) -> Result<Self, AllocError>
+        ensures base { IfOk result (λ change. change.base ≡ base) }
+        ensures ops { IfOk result (λ change. change.ops ≡ ops) }
+    {
+        Ok(Change {
+            base,
+            work: work_of(alloc, ops)?,
+        })
+    }
+
+    /// The row to begin with where the key has none.
+    pub fn base(&self) -> &Row
+        ensures { result.now ≡ self.now.base }
+    {
+        &self.base
+    }
+
+    /// A copy of the operations.
+    pub fn ops(&self, alloc: Global) -> Result<Ops, AllocError>
+        ensures { IfOk result (λ ops. ops ≡ self.now.ops) }
+    {
+        match &self.work {
+            Work::Addition(place, number) => addition(alloc, *place, *number),
+            Work::List(ops) => copy_ops(alloc, ops),
+        }
+    }
+
+    /// The row after the change, or what it makes of the row to begin with where there is none. One addition is written in
+    /// place.
+    pub fn apply(&self, alloc: Global, old: Option<Row>) -> Result<Row, AllocError>
+        ensures { IfOk result (λ new. new ≡ spec.merged old self.now) }
+    {
+        let row = match old {
+            Some(row) => row,
+            None => copy_row(alloc, &self.base)?,
+        };
+        after(alloc, row, &self.work)
+    }
+}
+
+/// A copy of a change.
+pub fn copy_change(alloc: Global, change: &Change) -> Result<Change, AllocError>
+    ensures { IfOk result (λ copy. copy ≡ change.now) }
+{
+    Ok(Change {
+        base: copy_row(alloc, &change.base)?,
+        work: copy_work(alloc, &change.work)?,
+    })
+}

@@ -1,0 +1,47 @@
+//! Cutting a text at its commas.
+ghost use Rattle.std.specs.Prelude.{◌≡◌, ◌≤◌, is_some, length, true, IfOk};
+ghost use Rattle.bt_rowtype.specs.Pieces.{LieWithin, pieces};
+ghost use Rattle.bt_rowtype.specs.Records.{csv_record, fields_in, is_special as is_quote_or_end};
+
+use crate::fields::Place;
+use std::alloc::AllocError;
+
+// Whether csv reads a byte in a way of its own.
+fn is_special(byte: u8) -> bool
+    ensures { result ≡ is_quote_or_end byte }
+{
+    matches!(byte, b'"' | b'\r' | b'\n')
+}
+
+/// Finds the places of the fields of a text, which stand between its commas, or answers `false` where they are too many or the text has a byte that csv
+/// reads in a way of its own.
+pub(crate) fn cut_plain(
+    places: &mut Vec<Place>,
+    text: &[u8],
+    most: usize,
+) -> Result<bool, AllocError>
+    requires { is_some (csv_record text.now) ≡ true }
+    ensures fields { IfOk result (λ plain. plain ≡ true → fields_in text.now ≡ pieces text.now places.new.items) }
+    ensures few { IfOk result (λ plain. plain ≡ true → length places.new.items ≤ most) }
+    ensures within { IfOk result (λ plain. plain ≡ true → LieWithin (length text.now) places.new.items) }
+{
+    places.clear();
+    let mut start = 0;
+    for (place, byte) in text.iter().enumerate() {
+        if *byte == b',' {
+            if places.len() >= most {
+                return Ok(false);
+            }
+            places.push(Place { start, end: place })?;
+            start = place + 1;
+        } else if is_special(*byte) {
+            return Ok(false);
+        }
+    }
+    if places.len() >= most {
+        return Ok(false);
+    }
+    let end = text.len();
+    places.push(Place { start, end })?;
+    Ok(true)
+}

@@ -1,0 +1,107 @@
+//! Reading values in a string of bytes.
+ghost use Rattle.std.specs.Prelude.{◌≡◌, ◌≤◌, ◌<◌, drop, length, take};
+ghost use Rattle.bt_rowtype.specs.Packing.{IsAt, IsPacked, first_of, int_from, unpacked, width_of};
+ghost use Rattle.bt_rowtype.specs.Views.{shown};
+
+use crate::value_ref::ValueRef;
+
+// The bytes from a place on.
+pub(crate) fn tail<'a>(bytes: &'a [u8], at: usize) -> &'a [u8]
+    requires { at ≤ length bytes.now }
+    ensures { result.now ≡ drop at bytes.now }
+{
+    &bytes[at..]
+}
+
+// The bytes before a place.
+pub(crate) fn front<'a>(bytes: &'a [u8], at: usize) -> &'a [u8]
+    requires { at ≤ length bytes.now }
+    ensures { result.now ≡ take at bytes.now }
+{
+    &bytes[..at]
+}
+
+// The int of the eight bytes behind a tag.
+#[tactic(auto, unfolding(crate::specs::Packing::int_from))]
+pub(crate) fn int_at(bytes: &[u8]) -> i64
+    requires { 9 ≤ length bytes.now }
+    ensures { result ≡ int_from (drop 1 bytes.now) }
+{
+    u64::from_le_bytes([
+        bytes[1], bytes[2], bytes[3], bytes[4], bytes[5], bytes[6], bytes[7], bytes[8],
+    ])
+    .cast_signed()
+}
+
+// How many bytes the first value takes.
+pub(crate) fn width(bytes: &[u8]) -> usize
+    ensures { result ≡ width_of bytes.now }
+{
+    match bytes {
+        [] => 0,
+        [0, ..] => 9,
+        [1, len, ..] => *len as usize + 2,
+        [1] => 2,
+        _ => 1,
+    }
+}
+
+// The first value.
+pub(crate) fn first<'a>(bytes: &'a [u8]) -> ValueRef<'a>
+    requires some { 0 < length bytes.now }
+    requires within { width_of bytes.now ≤ length bytes.now }
+    ensures { shown result ≡ first_of bytes.now }
+{
+    match bytes[0] {
+        0 => ValueRef::Int(int_at(bytes)),
+        1 => ValueRef::Text(&bytes[2..bytes[1] as usize + 2]),
+        tag => ValueRef::Flag(tag == 3),
+    }
+}
+
+// How many bytes the value takes that begins here.
+pub(crate) fn width_at(bytes: &[u8], at: usize) -> usize
+    requires { at ≤ length bytes.now }
+    ensures { result ≡ width_of (drop at bytes.now) }
+{
+    width(tail(bytes, at))
+}
+
+// The value that begins here.
+pub(crate) fn value_at<'a>(bytes: &'a [u8], at: usize) -> ValueRef<'a>
+    requires some { at < length bytes.now }
+    requires left { 0 < length (drop at bytes.now) }
+    requires within { width_of (drop at bytes.now) ≤ length (drop at bytes.now) }
+    ensures { shown result ≡ first_of (drop at bytes.now) }
+{
+    first(tail(bytes, at))
+}
+
+// Where the value at a place begins, or the end where there are fewer.
+pub(crate) fn offset(bytes: &[u8], place: usize) -> usize
+    requires { IsPacked bytes.now }
+    ensures { IsAt bytes.now place result }
+{
+    let mut at = 0;
+    let mut passed = 0;
+    while passed < place && at < bytes.len() {
+        at += width_at(bytes, at);
+        passed += 1;
+    }
+    at
+}
+
+// How many values there are.
+#[tactic(auto, using(crate::proofs::Walks::walked_all, crate::proofs::Walks::walk_begins))]
+pub(crate) fn count(bytes: &[u8]) -> usize
+    requires { IsPacked bytes.now }
+    ensures { result ≡ length (unpacked bytes.now) }
+{
+    let mut at = 0;
+    let mut passed = 0;
+    while at < bytes.len() {
+        at += width_at(bytes, at);
+        passed += 1;
+    }
+    passed
+}

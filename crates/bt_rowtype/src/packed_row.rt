@@ -1,0 +1,275 @@
+//! Rows.
+ghost use Rattle.std.specs.Prelude.{◌≡◌, ◌≤◌, ◌<◌, ◌++◌, ◌∷◌, [], IfOk, OnOk, OnErr, Some, drop, length, slice_get, take, true};
+ghost use Rattle.bt_rowtype.specs.Ops.{after_op};
+ghost use Rattle.bt_rowtype.specs.Packing.{HasText, IsInRange, IsPacked, int_bytes, packed, packed_value, unpacked};
+ghost use Rattle.bt_rowtype.specs.Texts.{is_text};
+ghost use Rattle.bt_rowtype.specs.Views.{shown};
+ghost use Rattle.bt_rowtype.specs.declared.op.Op.TheVariants.{Set, Add};
+ghost use Rattle.bt_rowtype.specs.declared.value.Value.TheVariants as value;
+
+use crate::packed::{count, front, offset, tail, value_at, width_at};
+use crate::row_bytes::RowBytes;
+use crate::value::Value;
+use crate::value_ref::ValueRef;
+use crate::values::Values;
+use std::alloc::{AllocError, Global};
+use std::marker::Model;
+
+/// The values of a row, column by column. A contract sees the list of them.
+///
+/// They lie one after another in one string of bytes: of each a tag, and behind it the eight bytes of an int, or the length
+/// and the bytes of a text; a flag is its tag alone. Up to 30 bytes are kept in the row itself, and take no memory of their
+/// own. A row has the size of four words.
+#[derive(Debug, Drop)]
+pub struct Row {
+    bytes: RowBytes,
+}
+
+const _: () = prove!(size_of::<Row>() == 32);
+
+const _: () = prove!(size_of::<Option<Row>>() == 40);
+
+impl Model for Row {
+    ghost use Rattle.std.specs.Prelude.{List};
+    ghost use Rattle.bt_rowtype.specs.declared.value.Value.{Value as value};
+    ghost use Rattle.bt_rowtype.specs.Packing.{IsPacked, unpacked};
+
+    ghost Value = { List value };
+
+    ghost view = { λ a. unpacked a.bytes };
+
+    ghost invariant = { λ a. IsPacked a.bytes };
+}
+
+// The eight bytes of an int.
+#[tactic(auto, unfolding(crate::specs::Packing::int_bytes))]
+fn bytes_of_int(number: i64) -> [u8; 8]
+    ensures { result ≡ int_bytes number }
+{
+    number.cast_unsigned().to_le_bytes()
+}
+
+// Adds the bytes of an int. An `Err` changes nothing.
+fn add_int(bytes: &mut RowBytes, alloc: Global, number: i64) -> Result<(), AllocError>
+    ensures ok { OnOk result (bytes.new ≡ bytes.old ++ packed_value (value.Int number)) }
+    ensures err { OnErr result (bytes.new ≡ bytes.old) }
+{
+    bytes.push(alloc, &[0], &bytes_of_int(number))
+}
+
+// Adds the bytes of a text. An `Err` changes nothing.
+#[tactic(auto, using(crate::proofs::offered::Texts::text_length))]
+fn add_text(bytes: &mut RowBytes, alloc: Global, text: &[u8]) -> Result<(), AllocError>
+    requires { is_text text.now ≡ true }
+    ensures ok { OnOk result (bytes.new ≡ bytes.old ++ packed_value (value.Text text.now)) }
+    ensures err { OnErr result (bytes.new ≡ bytes.old) }
+{
+    bytes.push(alloc, &[1, text.len() as u8], text)
+}
+
+// Adds the byte of a flag. An `Err` changes nothing.
+fn add_flag(bytes: &mut RowBytes, alloc: Global, flag: bool) -> Result<(), AllocError>
+    ensures ok { OnOk result (bytes.new ≡ bytes.old ++ packed_value (value.Flag flag)) }
+    ensures err { OnErr result (bytes.new ≡ bytes.old) }
+{
+    let tag = if flag { 3 } else { 2 };
+    bytes.push(alloc, &[tag], &[])
+}
+
+// Adds the bytes of a value. An `Err` changes nothing.
+fn add_value(bytes: &mut RowBytes, alloc: Global, value: ValueRef<'_>) -> Result<(), AllocError>
+    requires { HasText (shown value) }
+    ensures ok { OnOk result (bytes.new ≡ bytes.old ++ packed_value (shown value.entry)) }
+    ensures err { OnErr result (bytes.new ≡ bytes.old) }
+    ensures in_range { IsInRange (shown value.entry) }
+{
+    match value {
+        ValueRef::Int(number) => add_int(bytes, alloc, number),
+        ValueRef::Text(text) => add_text(bytes, alloc, text),
+        ValueRef::Flag(flag) => add_flag(bytes, alloc, flag),
+    }
+}
+
+// How many bytes a value takes.
+#[tactic(auto, using(crate::proofs::Packing::length_int_bytes))]
+pub(crate) fn width_of_value(value: ValueRef<'_>) -> usize
+    ensures { result ≤ length (packed_value (shown value.entry)) }
+{
+    match value {
+        ValueRef::Int(_) => 9,
+        ValueRef::Text(text) => text.len().saturating_add(2),
+        ValueRef::Flag(_) => 1,
+    }
+}
+
+// The bytes with those of a value in place of what stands between two places.
+fn replaced(
+    alloc: Global,
+    bytes: &[u8],
+    at: usize,
+    end: usize,
+    value: ValueRef<'_>,
+) -> Result<RowBytes, AllocError>
+    requires order { at ≤ end }
+    requires within { end ≤ length bytes.now }
+    requires text { HasText (shown value) }
+    ensures bytes { IfOk result (λ new. new ≡ take at bytes.now ++ (packed_value (shown value.entry) ++ drop end bytes.now)) }
+    ensures in_range { IfOk result (λ _. IsInRange (shown value.entry)) }
+{
+    let rest = tail(bytes, end);
+    let room = width_of_value(value)
+        .saturating_add(at)
+        .saturating_add(rest.len());
+    let mut new = RowBytes::with_room(alloc, room)?;
+    new.push(alloc, front(bytes, at), &[])?;
+    add_value(&mut new, alloc, value)?;
+    new.push(alloc, rest, &[])?;
+    Ok(new)
+}
+
+impl Row {
+    /// The row of no value.
+    #[tactic(auto, using(crate::proofs::Walks::unpacked_none, crate::proofs::Walks::none_packed))]
+    pub fn new() -> Self
+        ensures { result ≡ [] }
+    {
+        Row {
+            bytes: RowBytes::new(),
+        }
+    }
+
+    // The row of no value, with room for so many bytes.
+    #[tactic(auto, using(crate::proofs::Walks::unpacked_none, crate::proofs::Walks::none_packed))]
+    pub(crate) fn with_room(alloc: Global, room: usize) -> Result<Self, AllocError>
+        ensures { IfOk result (λ row. row ≡ []) }
+    {
+        Ok(Row {
+            bytes: RowBytes::with_room(alloc, room)?,
+        })
+    }
+
+    /// The row of these values.
+    pub fn from_values(alloc: Global, values: &[Value]) -> Result<Self, AllocError>
+        ensures { IfOk result (λ row. row ≡ values.now) }
+    {
+        let mut row = Row::with_room(alloc, room_for(values))?;
+        for value in values {
+            row.push(alloc, value.as_ref())?;
+        }
+        Ok(row)
+    }
+
+    /// Adds a value at the end. An `Err` changes nothing.
+    pub fn push(&mut self, alloc: Global, value: ValueRef<'_>) -> Result<(), AllocError>
+        requires { HasText (shown value) }
+        ensures ok { OnOk result (self.new ≡ self.old ++ shown value.entry ∷ []) }
+        ensures err { OnErr result (self.new ≡ self.old) }
+    {
+        add_value(&mut self.bytes, alloc, value)?;
+        Ok(())
+    }
+
+    // The same row, with room for so many bytes more.
+    pub(crate) fn widened(self, alloc: Global, room: usize) -> Result<Self, AllocError>
+        ensures { IfOk result (λ row. row ≡ self) }
+    {
+        let bytes = self.bytes.as_slice();
+        let mut wider = RowBytes::with_room(alloc, bytes.len().saturating_add(room))?;
+        wider.push(alloc, bytes, &[])?;
+        Ok(Row { bytes: wider })
+    }
+
+    // The bytes of the values.
+    pub(crate) fn as_bytes(&self) -> &[u8]
+        ensures packed { IsPacked result.now }
+        ensures values { unpacked result.now ≡ self.now }
+    {
+        self.bytes.as_slice()
+    }
+
+    /// How many values the row has.
+    pub fn len(&self) -> usize
+        ensures { result ≡ length self.now }
+    {
+        count(self.as_bytes())
+    }
+
+    /// The value at a place, counted from 0.
+    pub fn get(&self, place: usize) -> ValueRef<'_>
+        requires { place < length self.now }
+        ensures value { slice_get self.now place ≡ Some (shown result) }
+        ensures in_range { IsInRange (shown result) }
+    {
+        let bytes = self.as_bytes();
+        let at = offset(bytes, place);
+        value_at(bytes, at)
+    }
+
+    /// The values, to go through.
+    pub fn values(&self) -> Values<'_>
+        ensures { result ≡ self.now }
+    {
+        Values::of_bytes(self.as_bytes())
+    }
+
+    /// The first values, or all where there are fewer, to go through.
+    #[tactic(auto, using(crate::proofs::Walks::are_first, crate::proofs::Walks::are_first_packed))]
+    pub fn first_values(&self, count: usize) -> Values<'_>
+        ensures { result ≡ take count self.now }
+    {
+        let bytes = self.as_bytes();
+        let end = offset(bytes, count);
+        Values::of_bytes(front(bytes, end))
+    }
+
+    /// Sets the value at a place, where the row has it. An `Err` changes nothing.
+    pub(crate) fn set(
+        &mut self,
+        alloc: Global,
+        place: usize,
+        value: ValueRef<'_>,
+    ) -> Result<(), AllocError>
+        requires { HasText (shown value) }
+        ensures ok { OnOk result (self.new ≡ after_op self.old (Set place (shown value.entry))) }
+        ensures err { OnErr result (self.new ≡ self.old) }
+    {
+        let bytes = self.bytes.as_slice();
+        let at = offset(bytes, place);
+        if at == bytes.len() {
+            return Ok(());
+        }
+        let end = at + width_at(bytes, at);
+        let new = replaced(alloc, bytes, at, end, value)?;
+        self.bytes = new;
+        Ok(())
+    }
+
+    /// Adds a number to the int at a place, which holds at the least and the greatest of 64 bits. Any other value stays, and
+    /// so does a row without that place.
+    pub(crate) fn add(&mut self, place: usize, number: i64)
+        ensures { self.new ≡ after_op self.old (Add place number) }
+    {
+        self.bytes.add_at(place, number);
+    }
+}
+
+// The bytes that values take.
+#[tactic(auto, using(crate::proofs::Packing::length_packed))]
+fn room_for(values: &[Value]) -> usize
+    ensures { result ≤ length (packed values.now) }
+{
+    let mut room: usize = 0;
+    for value in values {
+        room = room.saturating_add(width_of_value(value.as_ref()));
+    }
+    room
+}
+
+/// A copy of the row.
+pub fn copy_row(alloc: Global, row: &Row) -> Result<Row, AllocError>
+    ensures { IfOk result (λ copy. copy ≡ row.now) }
+{
+    Ok(Row {
+        bytes: row.bytes.copy(alloc)?,
+    })
+}

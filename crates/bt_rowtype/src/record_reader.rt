@@ -1,0 +1,106 @@
+//! Reading lines by a schema, one after the other.
+ghost use Rattle.std.specs.Prelude.{◌≡◌, ◌<◌, is_some, length, take, true, IfNone, IfOk, IfSome};
+ghost use Rattle.std.specs.Result.{result_map_both};
+ghost use Rattle.bt_rowtype.specs.Answers.{Answers};
+ghost use Rattle.bt_rowtype.specs.Ops as spec;
+ghost use Rattle.bt_rowtype.specs.Records.{csv_record, fields_in};
+ghost use Rattle.bt_rowtype.specs.Values.{read_as};
+
+use crate::cut::cut_plain;
+use crate::fields::{Place, Record};
+use crate::line::RecordLine;
+use crate::op::MOST_OPS;
+use crate::packed_row::Row;
+use crate::reader::unescape;
+use crate::refusal::Refusal;
+use crate::row::read_values;
+use crate::schema::Schema;
+use crate::upsert::{Upsert, read_upsert_record};
+use std::alloc::{AllocError, Global};
+
+/// What lines are cut into, one after the other: the places of the fields, and the bytes of the fields where the line has
+/// quotes. A line takes no memory that one before it has taken, and one of too many fields no more than one of the most.
+#[derive(Drop)]
+pub struct RecordReader {
+    bytes: Vec<u8>,
+    places: Vec<Place>,
+}
+
+impl RecordReader {
+    /// Nothing was cut.
+    pub fn new(alloc: Global) -> Self {
+        RecordReader {
+            bytes: Vec::new(alloc),
+            places: Vec::new(alloc),
+        }
+    }
+
+    // The fields of a text, unless they are more than these.
+    //
+    // A text without quotes lends its own bytes, and is cut at its commas; any other, which is dearer, is read byte by byte, by
+    // the states of csv's reader.
+    fn read<'a>(&'a mut self, text: &'a [u8], most: usize) -> Result<Option<Record<'a>>, AllocError>
+        requires { is_some (csv_record text.now) ≡ true }
+        ensures few { IfOk result (λ found. IfSome found (λ fields. fields ≡ fields_in text.now)) }
+        ensures many { IfOk result (λ found. IfNone found (most < length (fields_in text.now))) }
+    {
+        if cut_plain(&mut self.places, text, most)? {
+            return Ok(Some(Record::new(text, self.places.as_slice())));
+        }
+        if unescape(&mut self.bytes, &mut self.places, text, most)? {
+            return Ok(Some(Record::new(self.bytes.as_slice(), self.places.as_slice())));
+        }
+        Ok(None)
+    }
+
+    /// The row that a line spells, as `read_row` reads it of the line's fields.
+    pub fn read_row(
+        &mut self,
+        alloc: Global,
+        schema: &Schema,
+        item: u64,
+        line: &RecordLine<'_>,
+    ) -> Result<Row, Refusal>
+        ensures { Answers (read_as schema.now.columns item line.now) result }
+    {
+        let columns = schema.columns();
+        match self.read(line.text(), columns.len())? {
+            Some(fields) => read_values(alloc, columns, item, &fields),
+            None => Err(Refusal::BadLength(item)),
+        }
+    }
+
+    /// The values of the key that a line spells, as `read_key` reads them of the line's fields.
+    pub fn read_key(
+        &mut self,
+        alloc: Global,
+        schema: &Schema,
+        item: u64,
+        line: &RecordLine<'_>,
+    ) -> Result<Row, Refusal>
+        ensures { Answers (read_as (take schema.now.keys schema.now.columns) item line.now) result }
+    {
+        let columns = schema.key_columns();
+        match self.read(line.text(), columns.len())? {
+            Some(fields) => read_values(alloc, columns, item, &fields),
+            None => Err(Refusal::BadLength(item)),
+        }
+    }
+
+    /// The key and the operations that a line spells, as `read_upsert` reads them of the line's fields.
+    pub fn read_upsert(
+        &mut self,
+        alloc: Global,
+        schema: &Schema,
+        item: u64,
+        line: &RecordLine<'_>,
+    ) -> Result<Upsert, Refusal>
+        ensures { Answers (spec.upsert_as schema.now item line.now) (result_map_both (λ upsert. (upsert.key, upsert.ops)) (λ e. e) result) }
+    {
+        let keys = schema.key_columns().len();
+        match self.read(line.text(), keys + 3 * MOST_OPS)? {
+            Some(fields) => read_upsert_record(alloc, schema, item, &fields),
+            None => Err(Refusal::BadLength(item)),
+        }
+    }
+}

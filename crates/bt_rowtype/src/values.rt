@@ -1,0 +1,121 @@
+//! Going through values, in a list of them or in a row.
+ghost use Rattle.std.specs.Prelude.{◌≡◌, ◌∷◌, ◌==◌, [], Some, IfSome, IfNone, length};
+ghost use Rattle.bt_rowtype.specs.Packing.{HasText, IsInRange, IsPacked, first_of, unpacked, width_of};
+ghost use Rattle.bt_rowtype.specs.Sources.{IsSource, left};
+ghost use Rattle.bt_rowtype.specs.Views.{shown};
+
+use crate::packed::{first, tail, width};
+use crate::value::Value;
+use crate::value_ref::ValueRef;
+use std::marker::Model;
+
+// Where the values lie.
+#[derive(Clone, Copy, Drop)]
+enum Source<'a> {
+    Listed(&'a [Value]),
+    // the bytes of a row
+    Packed(&'a [u8]),
+}
+
+/// The values that are left. A contract sees the list of them.
+#[derive(Drop)]
+pub struct Values<'a> {
+    source: Source<'a>,
+}
+
+impl<'a> Model for Values<'a> {
+    ghost use Rattle.std.specs.Prelude.{List};
+    ghost use Rattle.bt_rowtype.specs.declared.value.Value.{Value as value};
+    ghost use Rattle.bt_rowtype.specs.Sources.{IsSource, left};
+
+    ghost Value = { List value };
+
+    ghost view = { λ a. left a.source };
+
+    ghost invariant = { λ a. IsSource a.source };
+}
+
+// The first value of bytes, and the bytes behind it.
+#[tactic(auto, using(crate::proofs::Packing::has_first, crate::proofs::Walks::none_of_none))]
+fn next_packed(bytes: &[u8]) -> Option<(ValueRef<'_>, &[u8])>
+    requires { IsPacked bytes.now }
+    ensures some { IfSome result (λ read. unpacked bytes.now ≡ shown read.0 ∷ unpacked read.1.now) }
+    ensures text { IfSome result (λ read. IsInRange (shown read.0)) }
+    ensures packed { IfSome result (λ read. IsPacked read.1.now) }
+    ensures none { IfNone result (unpacked bytes.now ≡ []) }
+{
+    if bytes.is_empty() {
+        return None;
+    }
+    Some((first(bytes), tail(bytes, width(bytes))))
+}
+
+// Whether bytes are those of no value.
+#[tactic(auto, using(crate::proofs::Walks::none_left))]
+fn holds_none(bytes: &[u8]) -> bool
+    requires { IsPacked bytes.now }
+    ensures { result ≡ (length (unpacked bytes.now) == 0) }
+{
+    bytes.is_empty()
+}
+
+impl<'a> Values<'a> {
+    /// These values.
+    pub fn of(values: &'a [Value]) -> Self
+        ensures { result ≡ values.now }
+    {
+        Values {
+            source: Source::Listed(values),
+        }
+    }
+
+    // The values of these bytes.
+    pub(crate) fn of_bytes(bytes: &'a [u8]) -> Self
+        requires { IsPacked bytes.now }
+        ensures { result ≡ unpacked bytes.now }
+    {
+        Values {
+            source: Source::Packed(bytes),
+        }
+    }
+
+    /// The same values, to go through once more.
+    pub fn copy(&self) -> Self
+        ensures { result ≡ self.now }
+    {
+        Values {
+            source: self.source,
+        }
+    }
+
+    pub fn is_empty(&self) -> bool
+        ensures { result ≡ (length self.now == 0) }
+    {
+        match self.source {
+            Source::Listed(values) => values.is_empty(),
+            Source::Packed(bytes) => holds_none(bytes),
+        }
+    }
+
+    /// The next value, if one is left.
+    pub fn next(&mut self) -> Option<ValueRef<'a>>
+        ensures some { IfSome result (λ value. self.old ≡ shown value ∷ self.new) }
+        ensures text { IfSome result (λ value. HasText (shown value)) }
+        ensures none { IfNone result ((self.old ≡ []) × (self.new ≡ [])) }
+    {
+        match self.source {
+            Source::Listed(values) => {
+                let [value, rest @ ..] = values else {
+                    return None;
+                };
+                self.source = Source::Listed(rest);
+                Some(value.as_ref())
+            }
+            Source::Packed(bytes) => {
+                let (value, rest) = next_packed(bytes)?;
+                self.source = Source::Packed(rest);
+                Some(value)
+            }
+        }
+    }
+}

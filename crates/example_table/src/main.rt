@@ -1,0 +1,31 @@
+//! A crate of one's own on the library: it runs a script that stands in memory, and prints the replies.
+#![tactic(auto)]
+
+use anyhow::Result;
+use bt_shell::{Counted, RunFault, run_script};
+use std::alloc::Global;
+
+const SCRIPT: &str = "\
+table 16 1024 256 1 id:int city:text qty:int
+batch
+put 3,Oslo,30
+put 1,Bergen,10
+ups 3,add,qty,4
+end
+scan primary
+go
+";
+
+// The replies to a script.
+fn replies(alloc: Global, script: &[u8]) -> Result<Vec<u8>, RunFault> {
+    let mut reader = Counted::new(script);
+    let mut text = Vec::new(alloc);
+    run_script(alloc, &mut reader, &mut Counted::new(&mut text))?;
+    Ok(text)
+}
+
+fn main(rt: HostRuntime) -> Result<()> {
+    let text = replies(rt.alloc(), SCRIPT.as_bytes())?;
+    print!(rt; "{}", String::from_utf8_lossy(rt.alloc(), text.as_slice())?)?;
+    Ok(())
+}
