@@ -12,6 +12,7 @@ use bt_keycode::Key;
 use bt_messages::Message;
 use bt_node::Walk;
 use bt_rowtype::{Change, Column, LONGEST_TEXT, Op, Row, Text, TryClone, Value, write_row};
+use itoa::Buffer;
 use std::alloc::{AllocError, Global};
 
 // The indent of what is one level deeper.
@@ -182,7 +183,7 @@ pub fn write_inner_line(
     out: &mut Vec<u8>,
     indent: &[u8],
     children: usize,
-    messages: usize,
+    messages: u128,
 ) -> Result<(), AllocError>
     ensures { OnOk result (out.new.items ≡ out.old.items ++ spec.inner_line indent.now children messages) }
 {
@@ -190,7 +191,7 @@ pub fn write_inner_line(
     out.extend_from_slice(b"inner ")?;
     write_number(out, children as u64)?;
     out.push(b' ')?;
-    write_number(out, messages as u64)?;
+    out.extend_from_slice(Buffer::new().format(messages).as_bytes())?;
     out.push(b'\n')?;
     Ok(())
 }

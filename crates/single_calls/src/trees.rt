@@ -1,7 +1,7 @@
 //! Trees of rows, and of index values.
-use crate::samples::{Sample, Sent, add_message, add_value, buffer_text, key, packet};
+use crate::samples::{Sample, Sent, add_message, add_value, key, packet};
 use bt_keycode::Key;
-use bt_messages::{Buffer, Entry, Packet};
+use bt_messages::{Bins, Entry, Packet};
 use bt_node::{Node, Parts, Shape, Siblings, Tree, Walk, absorb_alone, crown, plan, regroup};
 use bt_rowtype::{Refusal, Row};
 use std::alloc::{AllocError, Global};
@@ -250,10 +250,11 @@ fn add_inner<V: Sample>(
     alloc: Global,
     out: &mut Vec<u8>,
     children: Siblings<V>,
-    buffer: Buffer<V>,
+    bins: Bins<V>,
 ) -> Result<(), AllocError> {
-    let messages = buffer_text(alloc, &buffer)?;
-    out.extend_from_slice(messages.as_slice())?;
+    for (key, message) in bins.iter() {
+        add_message(alloc, out, key, message)?;
+    }
     let (nodes, pivots) = children.apart();
     for pivot in &pivots {
         out.extend_from_slice(pivot.as_slice())?;
@@ -266,38 +267,8 @@ fn add_inner<V: Sample>(
 fn add_parts<V: Sample>(alloc: Global, out: &mut Vec<u8>, node: Node<V>) -> Result<(), AllocError> {
     match node.apart() {
         Parts::Leaf(_leaf) => out.extend_from_slice(b"leaf "),
-        Parts::Inner { children, buffer } => add_inner(alloc, out, children, buffer),
+        Parts::Inner { children, bins } => add_inner(alloc, out, children, bins),
     }
-}
-
-// What two children and a buffer are dealt into: no node where there are not two, or too many messages.
-fn regrouped<V: Sample>(
-    alloc: Global,
-    shape: Shape,
-    children: Siblings<V>,
-    buffer: Buffer<V>,
-) -> Result<Vec<Node<V>>, AllocError> {
-    let (mut old_nodes, mut old_pivots) = children.apart();
-    let mut nodes = Vec::new(alloc);
-    let mut pivots = Vec::new(alloc);
-    let Some(right) = old_nodes.pop() else {
-        return Ok(nodes);
-    };
-    let Some(left) = old_nodes.pop() else {
-        return Ok(nodes);
-    };
-    let Some(pivot) = old_pivots.pop() else {
-        return Ok(nodes);
-    };
-    if buffer.count() > shape.buffer() {
-        return Ok(nodes);
-    }
-    nodes.push(left)?;
-    nodes.push(right)?;
-    pivots.push(pivot)?;
-    let siblings = regroup(alloc, shape, Siblings::new(nodes, pivots), buffer)?;
-    let (parts, _pivots) = siblings.apart();
-    Ok(parts)
 }
 
 // The parts of what the parts of a root are dealt into.
@@ -306,8 +277,9 @@ fn regrouped_text(alloc: Global) -> Result<Vec<u8>, Refusal> {
     let (shape, root) = pending::<Entry>(alloc)?.apart();
     match root.apart() {
         Parts::Leaf(_leaf) => {}
-        Parts::Inner { children, buffer } => {
-            for node in regrouped(alloc, shape, children, buffer)? {
+        Parts::Inner { children, bins } => {
+            let (nodes, _pivots) = regroup(alloc, shape, children, bins)?.apart();
+            for node in nodes {
                 add_parts(alloc, &mut out, node)?;
             }
         }

@@ -6,8 +6,8 @@ use Rattle.bt_node.specs.Messages.{rows_after}
 use Rattle.bt_node.proofs.lemmas.flushes.Laws.{anywhere}
 use Rattle.bt_node.proofs.tree.Tree.sink.Goals as goal
 
-pub absorb_alone-siblings-requires : goal.absorb_alone-siblings-requires
-absorb_alone-siblings-requires g c = let has = c.apart-shape.ensures.fits in (has.levels, None, None, has.fits.lies)
+pub absorb_alone-requires : goal.absorb_alone-requires
+absorb_alone-requires g c = let has = c.apart-shape.ensures.fits in record { in_order = (has.levels, None, None, has.fits.lies) }
 
 pub crown-requires : goal.crown-requires
 crown-requires g c =
