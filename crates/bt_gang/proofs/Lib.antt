@@ -3,3 +3,5 @@ pub mod Accounts
 pub mod Rules
 pub mod Takers
 pub mod Serving
+pub mod Placing
+pub mod Working
