@@ -33,4 +33,4 @@ pub use rule::{JobQueue, JobRule, Known, NumberedJob, Pop, Push, TakenList, Work
 pub use run::{GangFault, Ran, run_jobs};
 pub use work::Work;
 pub use worker_loop::serve;
-pub use workers::{Serving, Worker};
+pub use workers::{GivesBack, Worker};

@@ -12,7 +12,7 @@ use crate::places::empty_places;
 use crate::slots::{JobFault, Slots, is_full, place, values};
 use crate::work::Work;
 use crate::worker_loop::serve;
-use crate::workers::{Serving, Worker, join_all, split, start, take_in};
+use crate::workers::{GivesBack, Worker, join_all, split, start, take_in};
 use std::alloc::{AllocError, Global};
 use std::snapshot::Snapshot;
 use std::sync::Wait;
@@ -43,7 +43,7 @@ struct Room<W: Work> {
     out: Answers<W::Done, W::Fault>,
     outs: Vec<Answers<W::Done, W::Fault>>,
     workers: Vec<Worker<W::Job, W::Done, W::Fault>>,
-    children: Vec<Option<PromisedHandle<Worker<W::Job, W::Done, W::Fault>, Serving<W>>>>,
+    children: Vec<Option<PromisedHandle<Worker<W::Job, W::Done, W::Fault>, GivesBack<W>>>>,
     back: Vec<Option<Worker<W::Job, W::Done, W::Fault>>>,
     came: Vec<Option<Answers<W::Done, W::Fault>>>,
 }
@@ -101,7 +101,7 @@ fn serve_all<'s, E, W: Work + Sync, G: Gate + Sync, R: Threads + Wait + Sync>(
     crew: &'s Crew<G>,
     mut mine: Worker<W::Job, W::Done, W::Fault>,
     workers: Vec<Worker<W::Job, W::Done, W::Fault>>,
-    children: Vec<Option<PromisedHandle<Worker<W::Job, W::Done, W::Fault>, Serving<W>>>>,
+    children: Vec<Option<PromisedHandle<Worker<W::Job, W::Done, W::Fault>, GivesBack<W>>>>,
     back: Vec<Option<Worker<W::Job, W::Done, W::Fault>>>,
 ) -> Served<W::Job, W::Done, W::Fault> {
     let children = start(scope, rt, alloc, work, jobs, all, crew, workers, children);

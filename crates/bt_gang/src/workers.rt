@@ -29,18 +29,18 @@ pub(crate) type WorkerOf<W> = Worker<<W as Work>::Job, <W as Work>::Done, <W as 
 
 /// That a thread gives back its pass with an answer for each job that it took.
 #[derive(Drop)]
-pub struct Serving<W: Work> {
+pub struct GivesBack<W: Work> {
     work: Snapshot<W>,
     jobs: Snapshot<Jobs<W::Job>>,
     all: Snapshot<Snapshot<Vec<W::Job>>>,
 }
 
-impl<W: Work> Promise<Worker<W::Job, W::Done, W::Fault>> for Serving<W> {
+impl<W: Work> Promise<Worker<W::Job, W::Done, W::Fault>> for GivesBack<W> {
     ghost kept_by = { λ p r. HasServed (W.allows p.work.value) p.jobs.value p.all.value.value.items [] r };
 }
 
 /// The thread of a worker, or nothing where it could not be started.
-pub(crate) type Child<W> = Option<PromisedHandle<WorkerOf<W>, Serving<W>>>;
+pub(crate) type Child<W> = Option<PromisedHandle<WorkerOf<W>, GivesBack<W>>>;
 
 /// A worker for each list of answers: its pass gets the list of one worker.
 pub(crate) fn split<J: Drop, D: Drop, F: Drop>(
@@ -93,8 +93,8 @@ pub(crate) fn start<'s, E, W: Work + Sync, G: Gate + Sync, R: Threads + Wait + S
     all: &'s Snapshot<Vec<W::Job>>,
     crew: &'s Crew<G>,
     workers: Vec<Worker<W::Job, W::Done, W::Fault>>,
-    mut children: Vec<Option<PromisedHandle<Worker<W::Job, W::Done, W::Fault>, Serving<W>>>>,
-) -> Vec<Option<PromisedHandle<Worker<W::Job, W::Done, W::Fault>, Serving<W>>>>
+    mut children: Vec<Option<PromisedHandle<Worker<W::Job, W::Done, W::Fault>, GivesBack<W>>>>,
+) -> Vec<Option<PromisedHandle<Worker<W::Job, W::Done, W::Fault>, GivesBack<W>>>>
     requires workers { All (λ w. IsReady jobs.now all.now.value.items [] w) workers.items }
     requires room { (children.items ≡ []) × (vec_len workers ≤ vec_capacity children) }
     requires accepts { All (λ job. W.accepts work.now job) all.now.value.items }
@@ -106,7 +106,7 @@ pub(crate) fn start<'s, E, W: Work + Sync, G: Gate + Sync, R: Threads + Wait + S
             requires { IsReady jobs.now all.now.value.items [] worker × All (λ job. W.accepts work.now job) all.now.value.items }
             ensures { HasServed (W.allows work.entry.now) jobs.entry.now all.entry.now.value.items [] result }
         { served(rt, alloc, work, jobs, all, crew, worker) };
-        let promise = Serving {
+        let promise = GivesBack {
             work: Snapshot::of(work),
             jobs: Snapshot::of(jobs),
             all: Snapshot::of(all),
@@ -125,7 +125,7 @@ pub(crate) fn join_all<W: Work, R: Threads>(
     work: &W,
     jobs: &Jobs<W::Job>,
     all: &Snapshot<Vec<W::Job>>,
-    children: Vec<Option<PromisedHandle<Worker<W::Job, W::Done, W::Fault>, Serving<W>>>>,
+    children: Vec<Option<PromisedHandle<Worker<W::Job, W::Done, W::Fault>, GivesBack<W>>>>,
     mut back: Vec<Option<Worker<W::Job, W::Done, W::Fault>>>,
 ) -> Vec<Option<Worker<W::Job, W::Done, W::Fault>>>
     requires children { All (λ child. IfSome child (λ h. (h.promise.jobs.value ≡ jobs.now) × (h.promise.work.value ≡ work.now) × (h.promise.all.value ≡ all.now))) children.items }
