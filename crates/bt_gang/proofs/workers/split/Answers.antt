@@ -18,7 +18,7 @@ loop-out-init g c =
       caller = subst (λ k. IsCaller all k (view c.args.pass.now)) (sym zero) (caller_first all _ c.requires.pass.1);
       outs = search rules;
       count = search rules;
-      few = c.requires.room.1.0;
+      few = c.requires.room.1;
       room = search rules;
       each = search rules;
     }

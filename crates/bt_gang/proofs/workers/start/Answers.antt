@@ -19,7 +19,7 @@ loop-worker-preserved-in-Ok g c =
     let s = c.in-Some.ensures.steps in
     let P : Worker g.row.W-Job.Denot g.row.W-Done.Denot g.row.W-Fault.Denot → Type 0 = λ w. IsReady c.args.jobs.now c.args.all.now.value.items [] w in
     let H : PromisedHandle (Worker g.row.W-Job.Denot g.row.W-Done.Denot g.row.W-Fault.Denot) (GivesBack g.row.W.Denot g.row.W-Job.Denot g.row.W-Done.Denot g.row.W-Fault.Denot) → Type 0 = λ h. (h.promise.jobs.value ≡ c.args.jobs.now) × (h.promise.work.value ≡ c.args.work.now) × (h.promise.all.value ≡ c.args.all.now) in
-    let one : H c.in-Ok.child = (ap (λ p. p.jobs.value) c.in-Ok.ensures.ok ∙ c.of-in-Some.ensures, ap (λ p. p.work.value) c.in-Ok.ensures.ok ∙ c.of.ensures, ap (λ p. p.all.value) c.in-Ok.ensures.ok ∙ c.of-in-Some-2.ensures) in
+    let one : H c.in-Ok.child = (ap (λ p. p.jobs.value) c.in-Ok.ensures.ok ∙ c.of-in-loop-worker.ensures, ap (λ p. p.work.value) c.in-Ok.ensures.ok ∙ c.of.ensures, ap (λ p. p.all.value) c.in-Ok.ensures.ok ∙ c.of-in-loop-worker-2.ensures) in
     record {
       workers = All-rest P c.in-Some.worker _ _ s.0 i.workers;
       started = All-same (λ o. IfSome o H) _ _ c.push_reserved.ensures.items (All-push (λ o. IfSome o H) c.loop-worker.children.items (Some c.in-Ok.child) i.started one);
