@@ -5,3 +5,4 @@ pub mod Takers
 pub mod Serving
 pub mod Placing
 pub mod Working
+pub mod Filling

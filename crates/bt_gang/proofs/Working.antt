@@ -61,6 +61,9 @@ module _ {J : Type 0} where
   pub took_nothing : (v : Known J) → TookIn v v 0 []
   took_nothing v = record { more = []; knows = sym (λ i. known v.jobs (append-nil v.lists i)); count = refl; numbers = refl }
 
+  pub took_list : (before v : Known J) (back : ℕ) (lists : List (List ℕ)) → TookIn before v back lists → HasList before → HasList v
+  took_list before v back lists t some_list = let k = ap (λ (y : Known J). length y.lists) t.knows in let l = length-append before.lists t.more in omega arith
+
   -- one more pass came back
   pub took_more : (before v w u : Known J) (all : List J) (back : ℕ) (lists : List (List ℕ)) (number : ℕ) (numbers : List ℕ)
       → TookIn before v back lists → u ≡ known all (taken_list number numbers ∷ []) → w ≡ known v.jobs (v.lists ++ u.lists) → TookIn before w (back + 1) (lists ++ numbers ∷ [])
@@ -82,6 +85,35 @@ module _ {J : Type 0} where
     count = t.count;
     numbers = t.numbers ∙ (sym (append-nil (joined lists)) ∙ sym (joined-append lists ([] ∷ [])));
   }
+
+  -- what the caller's pass knows once all passes that can be had came back
+  pub took_all : (all : List J) (number : ℕ) (own : List ℕ) (others : TakenLists) (back : ℕ) (lists : List (List ℕ)) (v w : Known J)
+      → v ≡ known all (taken_list number own ∷ others) → (t : TookIn v w back lists) → w ≡ known all (taken_list number own ∷ (others ++ t.more))
+  took_all all number own others back lists v w e t = t.knows ∙ ap (λ (y : Known J). known y.jobs (y.lists ++ t.more)) e
+
+  numbers_all : (others : TakenLists) (back : ℕ) (lists : List (List ℕ)) (v w : Known J) → numbers_of others ≡ [] → (t : TookIn v w back lists) → numbers_of (others ++ t.more) ≡ joined lists
+  numbers_all others back lists v w none t = numbers-append others t.more ∙ ((λ i. none i ++ numbers_of t.more) ∙ t.numbers)
+
+  -- all numbers that were taken, once the caller's pass took these too, and how many lists it has
+  pub took_last : (all : List J) (number : ℕ) (own added : List ℕ) (others : TakenLists) (back : ℕ) (lists : List (List ℕ)) (v w u : Known J)
+      → v ≡ known all (taken_list number own ∷ others) → numbers_of others ≡ [] → TookIn v w back lists → u ≡ gained w added
+      → (u.jobs ≡ all) × (numbers_of u.lists ≡ (own ++ added) ++ joined lists) × (length u.lists ≡ length others + back + 1)
+  took_last all number own added others back lists v w u e none t g =
+      let last : u ≡ known all (taken_list number (own ++ added) ∷ (others ++ t.more)) = g ∙ ap (λ y. gained y added) (took_all all number own others back lists v w e t) in (
+        ap (λ (y : Known J). y.jobs) last,
+        ap (λ (y : Known J). numbers_of y.lists) last ∙ ap (λ l. (own ++ added) ++ l) (numbers_all others back lists v w none t),
+        (let l = ap (λ (y : Known J). length y.lists) last in let m = length-append others t.more in let c = t.count in omega arith),
+      )
+
+  -- the caller has room for the answers of the jobs that no list has
+  pub room_left : (all : List J) (number spare : ℕ) (own : List ℕ) (others : TakenLists) (back : ℕ) (lists : List (List ℕ)) (v w : Known J)
+      → v ≡ known all (taken_list number own ∷ others) → TookIn v w back lists → spare + length own ≡ length all → length w.jobs ≤ spare + length (numbers_of w.lists)
+  room_left all number spare own others back lists v w e t s =
+      let k = took_all all number own others back lists v w e t in
+      let j : length w.jobs ≡ length all = ap (λ (y : Known J). length y.jobs) k in
+      let n : length (numbers_of w.lists) ≡ length (own ++ numbers_of (others ++ t.more)) = ap (λ (y : Known J). length (numbers_of y.lists)) k in
+      let l = length-append own (numbers_of (others ++ t.more)) in
+      omega arith
 
 module _ {J D F : Type 0} (allows : J → Result D F → Type 0) where
   -- a worker that had taken nothing has the answers that were added

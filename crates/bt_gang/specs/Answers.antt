@@ -49,6 +49,11 @@ module _ {D F : Type 0} where
   ok_slots [] = []
   ok_slots (d ∷ ds) = Some (Ok d) ∷ ok_slots ds
 
+  -- a worker's answers: none where it was not started
+  abbrev pub answers_in : Option (Answers D F) → List (Answer D F)
+  answers_in None = []
+  answers_in (Some a) = a.list.items
+
   -- the numbers of a worker's answers: none where it was not started
   abbrev pub numbers_in : Option (Answers D F) → List ℕ
   numbers_in None = []

@@ -39,3 +39,19 @@ module _ {J : Type 0} where
     pub knows : after ≡ known before.jobs (before.lists ++ more)
     pub count : length more ≡ back
     pub numbers : numbers_of more ≡ joined lists
+
+module _ {J D F : Type 0} where
+  -- the caller before its loop, after this many passes were split off: it took nothing, and there is room for each job's answer
+  pub record IsReadyCaller (jobs : Jobs J) (all : List J) (given_away : ℕ) (mine : Worker J D F) : Type 0 where
+    pub pass : IsPassOf jobs.queue mine.pass
+    pub knows : IsCaller all given_away (view mine.pass)
+    pub list : mine.out.list.items ≡ []
+    pub spare : mine.out.spare ≡ length all
+
+  -- the caller after its loop: the further lists of its pass have no number, and there is room for the answers that it has not
+  pub record HasServedCaller (allows : J → Result D F → Type 0) (jobs : Jobs J) (all : List J) (given_away : ℕ) (mine : Worker J D F) : Type 0 where
+    pub others : TakenLists
+    pub served : HasServed allows jobs all others mine
+    pub empty : numbers_of others ≡ []
+    pub left : length others + given_away ≡ 63
+    pub spare : mine.out.spare + length mine.out.list.items ≡ length all

@@ -1,9 +1,11 @@
 //! All jobs of a call, run by a crew.
 ghost use Rattle.std.specs.Prelude.{◌≡◌, ◌+◌, ◌-◌, ◌<◌, ◌≤◌, ℕ, List, [], ◌++◌, All, IfErr, IfOk, IfSome, length, map, None, Option, replicate, vec_capacity, vec_len};
 ghost use Rattle.crossbeam_queue.specs.Passes.{IsPassOf, view};
-ghost use Rattle.bt_gang.specs.Answers.{AllMay, numbers_in};
+ghost use Rattle.bt_gang.specs.Numbers.{joined};
+ghost use Rattle.bt_gang.specs.Answers.{AllBelow, AllMay, answers_in, numbers_in, puts};
+ghost use Rattle.bt_gang.specs.declared.run.GangFault.TheVariants.{OutOfMemory};
 ghost use Rattle.bt_gang.specs.Run.{Answered, AreValues, EachOnce, Filled, IsLeast, listed};
-ghost use Rattle.bt_gang.specs.Workers.{HasServed, IsCaller, IsReady};
+ghost use Rattle.bt_gang.specs.Workers.{HasServed, HasServedCaller, IsReady, IsReadyCaller};
 
 use crate::answers::Answers;
 use crate::crew::{Crew, Gate};
@@ -67,6 +69,15 @@ fn empty_answers<D: Drop, F: Drop>(
 impl<W: Work> Room<W> {
     fn new(alloc: Global, workers: usize, n: usize) -> Result<Room<W>, AllocError>
         requires { 0 < workers }
+        ensures slots { IfOk result (λ r. r.slots.items ≡ replicate n None) }
+        ensures done { IfOk result (λ r. (r.done.items ≡ []) × (n ≤ vec_capacity r.done)) }
+        ensures taken { IfOk result (λ r. (r.taken.items ≡ []) × (workers ≤ vec_capacity r.taken)) }
+        ensures out { IfOk result (λ r. (r.out.list.items ≡ []) × (r.out.spare ≡ n)) }
+        ensures outs { IfOk result (λ r. All (λ a. (a.list.items ≡ []) × (a.spare ≡ n)) r.outs.items × (vec_len r.outs + 1 ≡ workers)) }
+        ensures workers { IfOk result (λ r. (r.workers.items ≡ []) × (workers ≤ vec_capacity r.workers + 1)) }
+        ensures children { IfOk result (λ r. (r.children.items ≡ []) × (workers ≤ vec_capacity r.children + 1)) }
+        ensures back { IfOk result (λ r. (r.back.items ≡ []) × (workers ≤ vec_capacity r.back + 1)) }
+        ensures came { IfOk result (λ r. (r.came.items ≡ []) × (workers ≤ vec_capacity r.came + 1)) }
     {
         let others = workers - 1;
         Ok(Room {
@@ -103,7 +114,16 @@ fn serve_all<'s, E, W: Work + Sync, G: Gate + Sync, R: Threads + Wait + Sync>(
     workers: Vec<Worker<W::Job, W::Done, W::Fault>>,
     children: Vec<Option<PromisedHandle<Worker<W::Job, W::Done, W::Fault>, GivesBack<W>>>>,
     back: Vec<Option<Worker<W::Job, W::Done, W::Fault>>>,
-) -> Served<W::Job, W::Done, W::Fault> {
+) -> Served<W::Job, W::Done, W::Fault>
+    requires mine { IsReadyCaller jobs.now all.now.value.items (vec_len workers) mine }
+    requires workers { All (λ w. IsReady jobs.now all.now.value.items [] w) workers.items }
+    requires children { (children.items ≡ []) × (vec_len workers ≤ vec_capacity children) }
+    requires back { (back.items ≡ []) × (vec_len workers ≤ vec_capacity back) }
+    requires accepts { All (λ job. W.accepts work.now job) all.now.value.items }
+    ensures mine { HasServedCaller (W.allows work.now) jobs.now all.now.value.items (vec_len workers) result.mine }
+    ensures others { All (λ w. IfSome w (λ w. HasServed (W.allows work.now) jobs.now all.now.value.items [] w)) result.others.items }
+    ensures len { vec_len result.others ≡ vec_len workers }
+{
     let children = start(scope, rt, alloc, work, jobs, all, crew, workers, children);
     serve(rt, alloc, work, jobs, &mut mine.pass, crew, &mut mine.out);
     let others = join_all(rt, work, jobs, all, children, back);
@@ -115,7 +135,11 @@ fn place_some<D: Drop, F: Drop>(
     alloc: Global,
     out: Option<Answers<D, F>>,
     slots: &mut Slots<D, F>,
-) -> Vec<usize> {
+) -> Vec<usize>
+    requires { AllBelow (length slots.old.items) (answers_in out) }
+    ensures slots { slots.new.items ≡ puts slots.old.items (answers_in out) }
+    ensures numbers { result.items ≡ numbers_in out }
+{
     match out {
         Some(out) => place(out, slots),
         None => Vec::new(alloc),
@@ -128,7 +152,13 @@ fn place_all<D: Drop, F: Drop>(
     outs: Vec<Option<Answers<D, F>>>,
     slots: &mut Slots<D, F>,
     mut taken: Vec<Vec<usize>>,
-) -> Vec<Vec<usize>> {
+) -> Vec<Vec<usize>>
+    requires numbers { AllBelow (length slots.old.items) (joined (map answers_in outs.items)) }
+    requires room { vec_len taken + vec_len outs ≤ vec_capacity taken }
+    ensures slots { slots.new.items ≡ puts slots.old.items (joined (map answers_in outs.items)) }
+    ensures numbers { listed result.items ≡ listed taken.items ++ joined (map numbers_in outs.items) }
+    ensures len { vec_len result ≡ vec_len taken + vec_len outs }
+{
     for out in outs {
         taken.push_reserved(place_some(alloc, out, slots));
     }
@@ -148,7 +178,19 @@ fn finish<W: Work, G: Gate, R: Wait>(
     mut slots: Slots<W::Done, W::Fault>,
     mut taken: Vec<Vec<usize>>,
     done: Vec<W::Done>,
-) -> Result<Ran<W::Done>, GangFault<W::Fault>> {
+) -> Result<Ran<W::Done>, GangFault<W::Fault>>
+    requires mine { HasServedCaller (W.allows work.now) jobs.now all.now.value.items (vec_len served.others) served.mine }
+    requires others { All (λ w. IfSome w (λ w. HasServed (W.allows work.now) jobs.now all.now.value.items [] w)) served.others.items }
+    requires came { (came.items ≡ []) × (vec_len served.others ≤ vec_capacity came) }
+    requires slots { slots.items ≡ replicate (length all.now.value.items) None }
+    requires taken { (taken.items ≡ []) × (vec_len served.others + 1 ≤ vec_capacity taken) }
+    requires done { (done.items ≡ []) × (length all.now.value.items ≤ vec_capacity done) }
+    requires accepts { All (λ job. W.accepts work.now job) all.now.value.items }
+    ensures lists { IfOk result (λ r. vec_len r.taken ≡ vec_len served.others + 1) }
+    ensures once { IfOk result (λ r. EachOnce (length all.now.value.items) r.taken.items) }
+    ensures done { IfOk result (λ r. Answered (W.allows work.now) all.now.value.items r.done.items) }
+    ensures fault { IfErr result (IsLeast (W.allows work.now) all.now.value.items) }
+{
     let Served { mine, others } = served;
     let Worker { mut pass, mut out } = mine;
     let started = others.len();
@@ -169,7 +211,12 @@ fn finish<W: Work, G: Gate, R: Wait>(
 }
 
 // No job: an empty list for each worker.
-fn ran_nothing<D: Drop, F: Drop>(alloc: Global, workers: usize) -> Result<Ran<D>, GangFault<F>> {
+fn ran_nothing<D: Drop, F: Drop>(alloc: Global, workers: usize) -> Result<Ran<D>, GangFault<F>>
+    ensures done { IfOk result (λ r. r.done.items ≡ []) }
+    ensures len { IfOk result (λ r. vec_len r.taken ≡ workers) }
+    ensures taken { IfOk result (λ r. listed r.taken.items ≡ []) }
+    ensures refused { IfErr result (λ fault. fault ≡ OutOfMemory) }
+{
     let Ok(mut taken) = Vec::with_capacity(alloc, workers) else {
         return Err(GangFault::OutOfMemory);
     };
@@ -226,7 +273,16 @@ pub fn run_jobs<W: Work + Sync, G: Gate + Sync, R: Threads + Wait + Sync>(
     let served = thread::scope(
         thread::scope_env(),
         rt,
-        move |scope| -> Served<W::Job, W::Done, W::Fault> {
+        move |scope| -> Served<W::Job, W::Done, W::Fault>
+            requires { IsReadyCaller jobs.now all.now.value.items (vec_len workers) mine
+                × All (λ w. IsReady jobs.now all.now.value.items [] w) workers.items
+                × (children.items ≡ []) × (vec_len workers ≤ vec_capacity children)
+                × (back.items ≡ []) × (vec_len workers ≤ vec_capacity back)
+                × All (λ job. W.accepts work.now job) all.now.value.items }
+            ensures { HasServedCaller (W.allows work.entry.now) jobs.entry.now all.entry.now.value.items (vec_len workers) result.mine
+                × All (λ w. IfSome w (λ w. HasServed (W.allows work.entry.now) jobs.entry.now all.entry.now.value.items [] w)) result.others.items
+                × (vec_len result.others ≡ vec_len workers) }
+        {
             serve_all(
                 scope, rt, alloc, work, jobs, all, crew, mine, workers, children, back,
             )

@@ -161,7 +161,8 @@ pub(crate) fn take_in<W: Work>(
     let mut back = 0;
     for worker in workers {
         match worker {
-            Some(Worker { pass: theirs, out }) => {
+            Some(served) => {
+                let Worker { pass: theirs, out } = served;
                 jobs.queue.absorb::<WorkerPass>(pass, theirs);
                 outs.push_reserved(Some(out));
                 back += 1;
