@@ -79,7 +79,7 @@ module _ {J D F : Type 0} (allows : J → Result D F → Type 0) where
   may_joined jobs [] all = tt
   may_joined jobs (o ∷ os) all =
       let P : Option (Answers D F) → Type 0 = λ o. IfSome o (λ a. AllMay allows jobs a.list.items) in
-      may-append allows jobs (answers_in o) (joined (map answers_in os)) (may_one jobs o (All-head P o os all)) (may_joined jobs os (All-rest P o (o ∷ os) os refl all))
+      may-append allows jobs (answers_in o) (joined (map answers_in os)) (may_one jobs o (All-head P o os all)) (may_joined jobs os (All-rest P o os (o ∷ os) refl all))
 
   filled_put : (jobs : List J) (slots : List (Option (Result D F))) (came : List ℕ) (n : ℕ) (v : Result D F) → Filled allows jobs slots came → MayAnswer allows jobs n v → Filled allows jobs (set slots n (Some v)) (came ++ n ∷ [])
   filled_put jobs slots came n v f may = record {
@@ -186,6 +186,13 @@ module _ {J D F : Type 0} (allows : J → Result D F → Type 0) (value : J → 
       let rest : ds ≡ map value js = values_are js ds ((let l = a.0 in omega arith), λ i x e. a.1 (suc i) x e) in
       (λ i. head i ∷ rest i)
 
+listed-snoc : (vs : List (Vec ℕ Global)) (x : Vec ℕ Global) → listed (vs ++ x ∷ []) ≡ listed vs ++ x.items
+listed-snoc [] x = append-nil x.items
+listed-snoc (v ∷ vs) x = ap (λ l. v.items ++ l) (listed-snoc vs x) ∙ sym (append_assoc v.items (listed vs) x.items)
+
+pub listed_one : (vs ws : List (Vec ℕ Global)) (x : Vec ℕ Global) (ns : List ℕ) → vs ≡ [] → ws ≡ vs ++ x ∷ [] → x.items ≡ ns → listed ws ≡ ns
+listed_one vs ws x ns none e f = ap listed e ∙ (listed-snoc vs x ∙ (ap (λ l. listed l ++ x.items) none ∙ f))
+
 module _ {D F : Type 0} where
   -- one more worker's answers were placed
   pub placed_more : (old new all : List (Option (Result D F))) (o : Option (Answers D F)) (left rest : List (Option (Answers D F)))
@@ -201,13 +208,6 @@ module _ {D F : Type 0} where
   below_more old new o left rest e f all =
       subst (λ n. AllBelow n (joined (map answers_in rest))) (sym (ap length f ∙ length-puts old (answers_in o)))
       (below-back (length old) (answers_in o) (joined (map answers_in rest)) (subst (λ l. AllBelow (length old) (joined (map answers_in l))) e all))
-
-  listed-snoc : (vs : List (Vec ℕ Global)) (x : Vec ℕ Global) → listed (vs ++ x ∷ []) ≡ listed vs ++ x.items
-  listed-snoc [] x = append-nil x.items
-  listed-snoc (v ∷ vs) x = ap (λ l. v.items ++ l) (listed-snoc vs x) ∙ sym (append_assoc v.items (listed vs) x.items)
-
-  pub listed_one : (vs ws : List (Vec ℕ Global)) (x : Vec ℕ Global) (ns : List ℕ) → vs ≡ [] → ws ≡ vs ++ x ∷ [] → x.items ≡ ns → listed ws ≡ ns
-  listed_one vs ws x ns none e f = ap listed e ∙ (listed-snoc vs x ∙ (ap (λ l. listed l ++ x.items) none ∙ f))
 
   -- one more worker's numbers were listed
   pub listed_more : (vs ws : List (Vec ℕ Global)) (x : Vec ℕ Global) (all : List ℕ) (o : Option (Answers D F)) (left rest : List (Option (Answers D F)))

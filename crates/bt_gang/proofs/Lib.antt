@@ -6,3 +6,4 @@ pub mod Serving
 pub mod Placing
 pub mod Working
 pub mod Filling
+pub mod Finishing

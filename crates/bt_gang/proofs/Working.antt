@@ -13,7 +13,7 @@ use Rattle.bt_gang.specs.Numbers.{joined, below}
 use Rattle.bt_gang.specs.Queue.{TakenLists, taken_list, no_lists, given, kept, grown, numbers_of, known, gained, HasList}
 use Rattle.bt_gang.specs.Numbered.{numbered}
 use Rattle.bt_gang.specs.Answers.{AllMay, Gains, numbers_in}
-use Rattle.bt_gang.specs.Workers.{IsReady, HasServed, IsCaller, TookIn}
+use Rattle.bt_gang.specs.Workers.{IsReady, IsReadyCaller, HasServed, HasServedCaller, IsCaller, TookIn}
 
 both_nil : (xs ys : List ℕ) → xs ++ ys ≡ [] → (xs ≡ []) × (ys ≡ [])
 both_nil [] ys e = (refl, e)
@@ -86,6 +86,15 @@ module _ {J : Type 0} where
     numbers = t.numbers ∙ (sym (append-nil (joined lists)) ∙ sym (joined-append lists ([] ∷ [])));
   }
 
+  pub caller_list : (all : List J) (k : ℕ) (v : Known J) → IsCaller all k v → HasList v
+  caller_list all k v c = let l = ap (λ (y : Known J). length y.lists) c.knows in omega arith
+
+  pub caller_jobs : (all : List J) (k : ℕ) (v : Known J) → IsCaller all k v → v.jobs ≡ all
+  caller_jobs all k v c = ap (λ (y : Known J). y.jobs) c.knows
+
+  pub caller_room : (all : List J) (k : ℕ) (v : Known J) (spare : ℕ) → IsCaller all k v → spare ≡ length all → length v.jobs ≤ spare + length (numbers_of v.lists)
+  caller_room all k v spare c s = let l = ap length (caller_jobs all k v c) in omega arith
+
   -- what the caller's pass knows once all passes that can be had came back
   pub took_all : (all : List J) (number : ℕ) (own : List ℕ) (others : TakenLists) (back : ℕ) (lists : List (List ℕ)) (v w : Known J)
       → v ≡ known all (taken_list number own ∷ others) → (t : TookIn v w back lists) → w ≡ known all (taken_list number own ∷ (others ++ t.more))
@@ -133,3 +142,17 @@ module _ {J D F : Type 0} (allows : J → Result D F → Type 0) where
 
   pub ready_spare : (jobs : Jobs J) (all : List J) (others : TakenLists) (w : Worker J D F) → IsReady jobs all others w → length (view w.pass).jobs ≤ w.out.spare + length (numbers_of (view w.pass).lists)
   ready_spare jobs all others w r = let l = ap (λ (y : Known J). length y.jobs) r.knows in let s = r.spare in omega arith
+
+  -- the caller has the answers that were added
+  pub served_caller : (jobs : Jobs J) (all : List J) (k : ℕ) (old new : Worker J D F) → IsReadyCaller jobs all k old → IsPassOf jobs.queue new.pass
+      → Gains allows (view old.pass) (view new.pass) old.out new.out → HasServedCaller allows jobs all k new
+  served_caller jobs all k old new r p g =
+      let c = r.knows in
+      let ready : IsReady jobs all c.others old = record { pass = r.pass; number = 0; knows = c.knows; list = r.list; spare = r.spare } in
+      record {
+        others = c.others;
+        served = served jobs all c.others old new ready p g;
+        empty = c.empty;
+        left = c.left;
+        spare = let l = ap length g.list in let m = length-append old.out.list.items g.added in let n = ap length r.list in let s = g.spare in let t = r.spare in omega arith;
+      }
