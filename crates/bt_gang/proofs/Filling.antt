@@ -11,8 +11,10 @@ use Rattle.bt_gang.specs.declared.answers.Answers.{Answers}
 use Rattle.bt_gang.specs.Numbers.{is_it, joined, times, once_below}
 use Rattle.bt_gang.specs.Numbered.{numbered}
 use Rattle.bt_gang.specs.Answers.{MayAnswer, AllMay, AllBelow, puts, ok_slots, answers_in, numbers_in}
-use Rattle.bt_gang.specs.Run.{Filled, Answered, AllRun, listed}
-use Rattle.bt_gang.proofs.Numbers.{total-append, at_below}
+use Rattle.bt_gang.specs.declared.run.GangFault.{GangFault}
+use Rattle.bt_gang.specs.declared.run.GangFault.TheVariants.{OutOfMemory}
+use Rattle.bt_gang.specs.Run.{Filled, Answered, AreValues, AllRun, EachOnce, IsLeast, listed}
+use Rattle.bt_gang.proofs.Numbers.{total-append, times-below, at_below}
 use Rattle.bt_gang.proofs.Rules.{at_most_once, below_once}
 use Rattle.bt_gang.proofs.Serving.{numbered-append, may-append, read_at}
 
@@ -215,3 +217,16 @@ module _ {D F : Type 0} where
   listed_more vs ws x all o left rest e f n g =
       ap (λ l. listed l ++ joined (map numbers_in rest)) f ∙ (ap (λ l. l ++ joined (map numbers_in rest)) (listed-snoc vs x ∙ ap (λ l. listed vs ++ l) n)
       ∙ (append_assoc (listed vs) (numbers_in o) (joined (map numbers_in rest)) ∙ (ap (λ l. listed vs ++ joined (map numbers_in l)) (sym e) ∙ g)))
+
+module _ {J D F : Type 0} (allows : J → Result D F → Type 0) where
+  pub values_stand : (jobs : List J) (ds : List D) → Answered allows jobs ds → AreValues allows jobs ds
+  values_stand jobs ds a = λ value only. values_are allows value only jobs ds a
+
+  pub none_answered : (jobs : List J) (ds : List D) → length jobs ≡ 0 → ds ≡ [] → Answered allows jobs ds
+  none_answered jobs ds none e = (ap length e ∙ sym none, λ i d x. absurd (let l = at_below ds i d x in let k = ap length e in omega arith))
+
+  pub no_room : (jobs : List J) (fault : GangFault F) → fault ≡ OutOfMemory → IsLeast allows jobs fault
+  no_room jobs fault e = subst (IsLeast allows jobs) (sym e) tt
+
+pub none_listed : (n : ℕ) (vs : List (Vec ℕ Global)) → n ≡ 0 → listed vs ≡ [] → EachOnce n vs
+none_listed n vs none e x = ap (times x) e ∙ (times-below x 0 ∙ ap (once_below x) (sym none))

@@ -15,7 +15,7 @@ use Rattle.bt_gang.specs.Run.{Filled, listed}
 use Rattle.bt_gang.specs.Workers.{HasServedCaller, TookIn}
 use Rattle.bt_gang.proofs.Serving.{may-append, numbered-append}
 use Rattle.bt_gang.proofs.Working.{room_left, took_all, took_last}
-use Rattle.bt_gang.proofs.Filling.{below-back, below-front, below_all, filled, length-puts, may_joined, numbers_joined, puts-append}
+use Rattle.bt_gang.proofs.Filling.{below-back, below-front, below_all, filled, length-puts, listed_one, may_joined, numbers_joined, puts-append}
 
 module _ {J D F : Type 0} (allows : J → Result D F → Type 0) where
   -- each is an answer that its job may give, no number came twice, and where all passes came back each came
@@ -72,6 +72,8 @@ module _ {J D F : Type 0} (allows : J → Result D F → Type 0) where
 
 module _ {D F : Type 0} where
   -- the lists of numbers are those of the answers
-  pub listed_all : (vs ws : List (Vec ℕ Global)) (own : List (Answer D F)) (outs : List (Option (Answers D F)))
-      → listed vs ≡ numbered own → listed ws ≡ listed vs ++ joined (map numbers_in outs) → listed ws ≡ numbered (own ++ joined (map answers_in outs))
-  listed_all vs ws own outs e f = f ∙ ((λ i. e i ++ sym (numbers_joined outs) i) ∙ sym (numbered-append own (joined (map answers_in outs))))
+  pub listed_all : (own : List (Answer D F)) (outs : List (Option (Answers D F))) (ws was vs : List (Vec ℕ Global)) (x : Vec ℕ Global)
+      → was ≡ [] → vs ≡ was ++ x ∷ [] → x.items ≡ numbered own → listed ws ≡ listed vs ++ joined (map numbers_in outs) → listed ws ≡ numbered (own ++ joined (map answers_in outs))
+  listed_all own outs ws was vs x none e f k =
+      let here : listed vs ≡ numbered own = listed_one was vs x (numbered own) none e f in
+      k ∙ ((λ i. here i ++ sym (numbers_joined outs) i) ∙ sym (numbered-append own (joined (map answers_in outs))))

@@ -1,6 +1,6 @@
 use Rattle.std.proofs.Common.{◌≡◌, ◌≤◌, ℕ, All, IsFalse, IsTrue, vec_len, length, ap, ◌∙◌, sym, subst, rules, arith}
 use Rattle.bt_gang.specs.Numbers.{times}
-use Rattle.bt_gang.proofs.Filling.{all_once, all_run, answered, least, listed_one, none_empty}
+use Rattle.bt_gang.proofs.Filling.{all_once, all_run, answered, least, none_empty}
 use Rattle.bt_gang.proofs.Finishing.{below_own, below_rest, filled_all, have_come, jobs_last, listed_all}
 use Rattle.bt_gang.proofs.run.finish.Goals as goal
 
@@ -54,7 +54,7 @@ returns-in-Ok-clause-once g c =
     let filled = filled_all allows all _ _ c.serve.new.out.list.items _ _ _ _ come c.requires.slots c.place.ensures.slots c.place_all-taken.ensures.slots in
     let is : IsTrue c.is_full.result = search rules in
     let full = c.is_full.ensures.full is in
-    let lists = listed_all _ _ c.serve.new.out.list.items _ (listed_one _ _ _ _ c.requires.taken.0 c.push_reserved.ensures.items c.place.ensures.numbers) c.place_all-taken.ensures.numbers in
+    let lists = listed_all c.serve.new.out.list.items c.take_in-outs.result.0.items c.place_all-taken.result.items _ _ _ c.requires.taken.0 c.push_reserved.ensures.items c.place.ensures.numbers c.place_all-taken.ensures.numbers in
     λ x. ap (times x) lists ∙ all_once allows all _ _ filled full come.most x
 
 pub returns-in-Ok-clause-done : goal.returns-in-Ok-clause-done
