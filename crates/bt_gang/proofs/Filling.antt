@@ -230,3 +230,6 @@ module _ {J D F : Type 0} (allows : J → Result D F → Type 0) where
 
 pub none_listed : (n : ℕ) (vs : List (Vec ℕ Global)) → n ≡ 0 → listed vs ≡ [] → EachOnce n vs
 none_listed n vs none e x = ap (times x) e ∙ (times-below x 0 ∙ ap (once_below x) (sym none))
+
+pub listed_none : (vs ws : List (Vec ℕ Global)) (x : Vec ℕ Global) → ws ≡ vs ++ x ∷ [] → x.items ≡ [] → listed vs ≡ [] → listed ws ≡ []
+listed_none vs ws x e f k = ap listed e ∙ (listed-snoc vs x ∙ (λ i. k i ++ f i))

@@ -12,13 +12,13 @@ same_len : (n len a b : ℕ) → n ≡ len → len ≡ a → b ≡ a → n ≡ b
 same_len n len a b e f k = e ∙ (f ∙ sym k)
 
 pub split-workers-requires-clause-outs : goal.split-workers-requires-clause-outs
-split-workers-requires-clause-outs g c = λ k d l. let o = c.in-Ok-new.ensures.outs.0 k d l in (o.0, o.1 ∙ same_len _ _ _ _ c.len-n.ensures c.args.jobs.ok.0 (ap (λ v. length v.items) c.of-snapshot.ensures))
+split-workers-requires-clause-outs g c = λ k d l. let o = c.in-Ok.ensures.outs.0 k d l in (o.0, o.1 ∙ same_len _ _ _ _ c.len-n.ensures c.args.jobs.ok.0 (ap (λ v. length v.items) c.of-snapshot.ensures))
 
 pub scoped-served-requires : goal.scoped-served-requires
 scoped-served-requires g c =
     let all : c.args.jobs.items ≡ c.of-snapshot.result.value.items = sym (ap (λ v. v.items) c.of-snapshot.ensures) in
     let n : c.len-n.result ≡ length c.of-snapshot.result.value.items = same_len _ _ _ _ c.len-n.ensures c.args.jobs.ok.0 (ap (λ v. length v.items) c.of-snapshot.ensures) in
-    let r = c.in-Ok-new.ensures in
+    let r = c.in-Ok.ensures in
     let s = c.split-workers.ensures in
     record {
       at = λ x. (
