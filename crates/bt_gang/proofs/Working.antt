@@ -70,7 +70,7 @@ module _ {J : Type 0} where
   took_more before v w u all back lists number numbers t e f =
       let one : TakenLists = taken_list number numbers ∷ [] in
       let g : known v.jobs (v.lists ++ u.lists) ≡ known before.jobs ((before.lists ++ t.more) ++ one) =
-          (λ i. known (t.knows i).jobs ((t.knows i).lists ++ (e i).lists)) in
+      (λ i. known (t.knows i).jobs ((t.knows i).lists ++ (e i).lists)) in
       record {
         more = t.more ++ one;
         knows = f ∙ (g ∙ (λ i. known before.jobs (append_assoc before.lists t.more one i)));

@@ -39,6 +39,6 @@ module _ {J D F : Type 0} (allows : J → Result D F → Type 0) where
   -- the job may answer this fault, each job of a lower number may answer a value, and all were run
   abbrev pub IsLeast : List J → GangFault F → Type 0
   IsLeast jobs = elim [
-    OutOfMemory ↦ Unit
+    | OutOfMemory ↦ Unit
     | Job number fault ↦ MayAnswer allows jobs number (Err fault) × ((i : ℕ) → i < number → (d : D) × MayAnswer allows jobs i (Ok d)) × AllRun jobs
   ]

@@ -48,7 +48,7 @@ pub returns-clause-values : goal.returns-clause-values
 returns-clause-values g c =
     let allows = g.W.Work.allows c.args.work.now in
     IfOk-weaker c.finish.result (λ r. Answered allows c.args.jobs.items r.done.items) (λ r. AreValues allows c.args.jobs.items r.done.items) (λ r a. values_stand allows c.args.jobs.items r.done.items a)
-        (subst (λ v. IfOk c.finish.result (λ r. Answered allows v.items r.done.items)) c.of-snapshot.ensures c.finish.ensures.done)
+    (subst (λ v. IfOk c.finish.result (λ r. Answered allows v.items r.done.items)) c.of-snapshot.ensures c.finish.ensures.done)
 
 pub returns-clause-fault : goal.returns-clause-fault
 returns-clause-fault g c = subst (λ v. IfErr c.finish.result (IsLeast (g.W.Work.allows c.args.work.now) v.items)) c.of-snapshot.ensures c.finish.ensures.fault
