@@ -3,3 +3,7 @@ pub mod Accounts
 pub mod Rules
 pub mod Takers
 pub mod Serving
+pub mod Placing
+pub mod Working
+pub mod Filling
+pub mod Finishing

@@ -20,7 +20,7 @@ pub count_lists : (ls : List TakenList) → total (λ _. 1) (workers_of ls) ≡ 
 count_lists [] = refl
 count_lists (l ∷ ls) = let e = count_lists ls in omega arith
 
-at_most_once : (x n : ℕ) → once_below x n ≤ 1
+pub at_most_once : (x n : ℕ) → once_below x n ≤ 1
 at_most_once x n = grind (arith, nat_tests)
 
 once_itself : (x : ℕ) → is_it x x ≡ 1
@@ -29,7 +29,7 @@ once_itself x = grind (arith, nat_tests)
 nowhere_here : (x y k : ℕ) → is_it x y + k ≡ 0 → y ≢ x
 nowhere_here x y k e same = grind (arith, nat_tests, e, same)
 
-below_once : (x n : ℕ) → 1 ≤ once_below x n → x < n
+pub below_once : (x n : ℕ) → 1 ≤ once_below x n → x < n
 below_once x n l = grind (arith, nat_tests, l)
 
 -- what one worker took besides stays out of the lists of the others

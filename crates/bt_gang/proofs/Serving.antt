@@ -46,7 +46,7 @@ numbers-grown more (l ∷ ls) some_list =
     let c = length-append l.numbers (numbers_of ls) in
     omega arith
 
-read_at : {X : Type 0} (xs : List X) (i : ℕ) (x : X) → get_elem? xs i ≡ some x → get_or xs i x ≡ x
+pub read_at : {X : Type 0} (xs : List X) (i : ℕ) (x : X) → get_elem? xs i ≡ some x → get_or xs i x ≡ x
 read_at [] i x e = refl
 read_at (y ∷ ys) zero x e = some-injective y x e
 read_at (y ∷ ys) (suc i) x e = read_at ys i x e

@@ -5,3 +5,5 @@ pub mod Queue
 pub mod Crews
 pub mod Numbered
 pub mod Answers
+pub mod Workers
+pub mod Run

@@ -19,13 +19,18 @@ mod crew;
 mod jobs;
 mod places;
 mod rule;
+mod run;
+mod slots;
 mod work;
 mod worker_loop;
+mod workers;
 
 pub use answers::{Answer, Answers};
 pub use board::Board;
 pub use crew::{Crew, DEEPEST_CUT, Gate, LARGEST_GRAIN, MOST_WORKERS, NoGate};
 pub use jobs::{JobPass, Jobs};
 pub use rule::{JobQueue, JobRule, Known, NumberedJob, Pop, Push, TakenList, WorkerPass};
+pub use run::{GangFault, Ran, run_jobs};
 pub use work::Work;
 pub use worker_loop::serve;
+pub use workers::{GivesBack, Worker};

@@ -1,0 +1,235 @@
+-- From the answers that came in to what a run of all jobs promises.
+use Rattle.std.proofs.Common.{◌≡◌, ◌≢◌, ℕ, zero, suc, ◌+◌, ◌<◌, ◌≤◌, List, [], ◌∷◌, ◌++◌, All, length, length-append, set, map, replicate, Vec, Global, Option, Some, None, IfSome, Result, Ok, Err, sym, refl, ap, ◌∙◌, subst, ⊎_elim, append_assoc, append-nil, arith, nat_eq, if◌then◌else◌}
+use Rattle.std.proofs.lemmas.List.{length-set, length-replicate, get_or-replicate}
+use Rattle.std.proofs.lemmas.Bool.Decides.{nat_tests}
+use Rattle.std.proofs.lemmas.List.Elements.{All-head, All-rest}
+use mathlib.Core.Option.{some, some-ne-none, some-injective}
+use lib.ListN.{get_elem?}
+use Rattle.crossbeam_queue.proofs.Lists.{at_set}
+use Rattle.bt_gang.specs.declared.answers.Answer.{Answer}
+use Rattle.bt_gang.specs.declared.answers.Answers.{Answers}
+use Rattle.bt_gang.specs.Numbers.{is_it, joined, times, once_below}
+use Rattle.bt_gang.specs.Numbered.{numbered}
+use Rattle.bt_gang.specs.Answers.{MayAnswer, AllMay, AllBelow, puts, ok_slots, answers_in, numbers_in}
+use Rattle.bt_gang.specs.declared.run.GangFault.{GangFault}
+use Rattle.bt_gang.specs.declared.run.GangFault.TheVariants.{OutOfMemory}
+use Rattle.bt_gang.specs.Run.{Filled, Answered, AreValues, AllRun, EachOnce, IsLeast, listed}
+use Rattle.bt_gang.proofs.Numbers.{total-append, times-below, at_below}
+use Rattle.bt_gang.proofs.Rules.{at_most_once, below_once}
+use Rattle.bt_gang.proofs.Serving.{numbered-append, may-append, read_at}
+
+abbrev value_or : {A : Type 0} → A → Option A → A
+value_or d (Some x) = x
+value_or d None = d
+
+abbrev HasValue : {A : Type 0} → Option A → Type 0
+HasValue (Some x) = Unit
+HasValue None = ⊥
+
+none_more : (i n : ℕ) (came : List ℕ) → i ≢ n → times i came ≡ 0 → times i (came ++ n ∷ []) ≡ 0
+none_more i n came ne e = let f = total-append (is_it i) came (n ∷ []) in grind (arith, nat_tests, e, f)
+
+one_more : (i n : ℕ) (came : List ℕ) → i ≡ n → 0 < times i (came ++ n ∷ [])
+one_more i n came e = let f = total-append (is_it i) came (n ∷ []) in grind (arith, nat_tests, e, f)
+
+still_there : (i n : ℕ) (came : List ℕ) → 0 < times i came → 0 < times i (came ++ n ∷ [])
+still_there i n came l = let f = total-append (is_it i) came (n ∷ []) in omega arith
+
+-- a number that stands at most once, and at least once below n
+exactly_once : (x n k : ℕ) → k ≤ once_below x n → (x < n → 0 < k) → k ≡ once_below x n
+exactly_once x n k l f = by (once_below x n) refl where
+  by : (b : ℕ) → once_below x n ≡ b → k ≡ once_below x n
+  by zero e = omega arith
+  by (suc b) e = let p = f (below_once x n (omega arith)) in let m = at_most_once x n in omega arith
+
+module _ {D F : Type 0} where
+  pub puts-append : (slots : List (Option (Result D F))) (xs ys : List (Answer D F)) → puts slots (xs ++ ys) ≡ puts (puts slots xs) ys
+  puts-append slots [] ys = refl
+  puts-append slots (x ∷ xs) ys = puts-append (set slots x.number (Some x.value)) xs ys
+
+  pub length-puts : (slots : List (Option (Result D F))) (xs : List (Answer D F)) → length (puts slots xs) ≡ length slots
+  length-puts slots [] = refl
+  length-puts slots (x ∷ xs) = length-puts (set slots x.number (Some x.value)) xs ∙ length-set slots x.number (Some x.value)
+
+  pub below-front : (n : ℕ) (xs ys : List (Answer D F)) → AllBelow n (xs ++ ys) → AllBelow n xs
+  below-front n [] ys all = tt
+  below-front n (x ∷ xs) ys all = (all.0, below-front n xs ys all.1)
+
+  pub below-back : (n : ℕ) (xs ys : List (Answer D F)) → AllBelow n (xs ++ ys) → AllBelow n ys
+  below-back n [] ys all = all
+  below-back n (x ∷ xs) ys all = below-back n xs ys all.1
+
+  numbers_of_one : (o : Option (Answers D F)) → numbered (answers_in o) ≡ numbers_in o
+  numbers_of_one None = refl
+  numbers_of_one (Some a) = refl
+
+  -- the numbers of the answers of all workers
+  pub numbers_joined : (outs : List (Option (Answers D F))) → numbered (joined (map answers_in outs)) ≡ joined (map numbers_in outs)
+  numbers_joined [] = refl
+  numbers_joined (o ∷ os) = numbered-append (answers_in o) (joined (map answers_in os)) ∙ (λ i. numbers_of_one o i ++ numbers_joined os i)
+
+module _ {J D F : Type 0} (allows : J → Result D F → Type 0) where
+  pub below_all : (jobs : List J) (n : ℕ) (xs : List (Answer D F)) → n ≡ length jobs → AllMay allows jobs xs → AllBelow n xs
+  below_all jobs n [] e all = tt
+  below_all jobs n (x ∷ xs) e all = (let l = at_below jobs x.number all.0.0 all.0.1 in omega arith, below_all jobs n xs e all.1)
+
+  may_one : (jobs : List J) (o : Option (Answers D F)) → IfSome o (λ a. AllMay allows jobs a.list.items) → AllMay allows jobs (answers_in o)
+  may_one jobs None all = tt
+  may_one jobs (Some a) all = all
+
+  pub may_joined : (jobs : List J) (outs : List (Option (Answers D F))) → All (λ o. IfSome o (λ a. AllMay allows jobs a.list.items)) outs → AllMay allows jobs (joined (map answers_in outs))
+  may_joined jobs [] all = tt
+  may_joined jobs (o ∷ os) all =
+      let P : Option (Answers D F) → Type 0 = λ o. IfSome o (λ a. AllMay allows jobs a.list.items) in
+      may-append allows jobs (answers_in o) (joined (map answers_in os)) (may_one jobs o (All-head P o os all)) (may_joined jobs os (All-rest P o os (o ∷ os) refl all))
+
+  filled_put : (jobs : List J) (slots : List (Option (Result D F))) (came : List ℕ) (n : ℕ) (v : Result D F) → Filled allows jobs slots came → MayAnswer allows jobs n v → Filled allows jobs (set slots n (Some v)) (came ++ n ∷ [])
+  filled_put jobs slots came n v f may = record {
+    size = length-set slots n (Some v) ∙ f.size;
+    may = λ i value e. ⊎_elim
+        (λ (x : (i ≡ n) × (Some v ≡ Some value)). subst (λ k. MayAnswer allows jobs k value) (sym x.0) (subst (λ w. MayAnswer allows jobs n w) (ap (value_or v) x.1) may))
+        (λ (x : (i ≢ n) × (get_elem? slots i ≡ some (Some value))). f.may i value x.1)
+        (at_set slots n i (Some v) (Some value) e);
+    full = λ i value e. ⊎_elim
+        (λ (x : (i ≡ n) × (Some v ≡ Some value)). one_more i n came x.0)
+        (λ (x : (i ≢ n) × (get_elem? slots i ≡ some (Some value))). still_there i n came (f.full i value x.1))
+        (at_set slots n i (Some v) (Some value) e);
+    empty = λ i e. ⊎_elim
+        (λ (x : (i ≡ n) × (Some v ≡ None)). absurd (subst HasValue x.1 tt))
+        (λ (x : (i ≢ n) × (get_elem? slots i ≡ some None)). none_more i n came x.0 (f.empty i x.1))
+        (at_set slots n i (Some v) None e);
+  }
+
+  filled_more : (jobs : List J) (xs : List (Answer D F)) (slots : List (Option (Result D F))) (came : List ℕ) → Filled allows jobs slots came → AllMay allows jobs xs → Filled allows jobs (puts slots xs) (came ++ numbered xs)
+  filled_more jobs [] slots came f all = subst (λ l. Filled allows jobs slots l) (sym (append-nil came)) f
+  filled_more jobs (x ∷ xs) slots came f all =
+      subst (λ l. Filled allows jobs (puts (set slots x.number (Some x.value)) xs) l) (append_assoc came (x.number ∷ []) (numbered xs))
+      (filled_more jobs xs (set slots x.number (Some x.value)) (came ++ x.number ∷ []) (filled_put jobs slots came x.number x.value f all.0) all.1)
+
+  empty_at : (n i : ℕ) (o : Option (Result D F)) → get_elem? (replicate n None) i ≡ some o → None ≡ o
+  empty_at n i o e =
+      let l = at_below (replicate n None) i o e in
+      let k = length-replicate {A = Option (Result D F)} n None in
+      sym (get_or-replicate n i None o (omega arith)) ∙ read_at (replicate n None) i o e
+
+  filled_empty : (jobs : List J) → Filled allows jobs (replicate (length jobs) None) []
+  filled_empty jobs = record {
+    size = length-replicate (length jobs) None;
+    may = λ i value x. absurd (subst HasValue (sym (empty_at (length jobs) i (Some value) x)) tt);
+    full = λ i value x. absurd (subst HasValue (sym (empty_at (length jobs) i (Some value) x)) tt);
+    empty = λ i x. refl;
+  }
+
+  -- the answers in places that were empty
+  pub filled : (jobs : List J) (xs : List (Answer D F)) (slots : List (Option (Result D F))) → slots ≡ puts (replicate (length jobs) None) xs → AllMay allows jobs xs → Filled allows jobs slots (numbered xs)
+  filled jobs xs slots e all = subst (λ l. Filled allows jobs l (numbered xs)) (sym e) (filled_more jobs xs (replicate (length jobs) None) [] (filled_empty jobs) all)
+
+  ok_at : (ds : List D) (i : ℕ) (d : D) (rest : List (Option (Result D F))) → get_elem? ds i ≡ some d → get_elem? (ok_slots ds ++ rest) i ≡ some (Some (Ok d))
+  ok_at [] i d rest e = absurd (some-ne-none d (sym e))
+  ok_at (x ∷ xs) zero d rest e = ap (λ y. some (Some (Ok y))) (some-injective x d e)
+  ok_at (x ∷ xs) (suc i) d rest e = ok_at xs i d rest e
+
+  length-ok : (ds : List D) → length (ok_slots {F = F} ds) ≡ length ds
+  length-ok [] = refl
+  length-ok (d ∷ ds) = let e = length-ok ds in omega arith
+
+  pub answered : (jobs : List J) (slots : List (Option (Result D F))) (came : List ℕ) (ds : List D) → Filled allows jobs slots came → slots ≡ ok_slots ds → Answered allows jobs ds
+  answered jobs slots came ds f e = (
+    sym (length-ok ds) ∙ (ap length (sym e) ∙ f.size),
+    (λ i d x. f.may i (Ok d) (ap (λ l. get_elem? l i) (e ∙ sym (append-nil (ok_slots ds))) ∙ ok_at ds i d [] x)),
+  )
+
+  at_err : (ds : List D) (fault : F) (rest : List (Option (Result D F))) → get_elem? (ok_slots ds ++ Some (Err fault) ∷ rest) (length ds) ≡ some (Some (Err fault))
+  at_err [] fault rest = refl
+  at_err (d ∷ ds) fault rest = at_err ds fault rest
+
+  -- the item at a place of a list
+  pub some_at : {A : Type 0} (ds : List A) (i : ℕ) → i < length ds → (d : A) × (get_elem? ds i ≡ some d)
+  some_at [] i l = absurd (omega arith)
+  some_at (d ∷ ds) zero l = (d, refl)
+  some_at (d ∷ ds) (suc i) l = some_at ds i (omega arith)
+
+  -- where no place is empty, each has a value
+  full_at : (slots : List (Option (Result D F))) (i : ℕ) → ((k : ℕ) → ¬ (get_elem? slots k ≡ some None)) → i < length slots → (value : Result D F) × (get_elem? slots i ≡ some (Some value))
+  full_at slots i full l = by (some_at slots i l).0 (some_at slots i l).1 where
+    by : (o : Option (Result D F)) → get_elem? slots i ≡ some o → (value : Result D F) × (get_elem? slots i ≡ some (Some value))
+    by None e = absurd (full i e)
+    by (Some value) e = (value, e)
+
+  pub all_run : (jobs : List J) (slots : List (Option (Result D F))) (came : List ℕ) → Filled allows jobs slots came → ((k : ℕ) → ¬ (get_elem? slots k ≡ some None)) → AllRun allows jobs
+  all_run jobs slots came f full i l = let v = full_at slots i full (let s = f.size in omega arith) in (v.0, f.may i v.0 v.1)
+
+  pub least : (jobs : List J) (slots : List (Option (Result D F))) (came : List ℕ) (number : ℕ) (fault : F) (before : List D) (after : List (Option (Result D F)))
+      → Filled allows jobs slots came → length before ≡ number → slots ≡ ok_slots before ++ Some (Err fault) ∷ after
+      → MayAnswer allows jobs number (Err fault) × ((i : ℕ) → i < number → (d : D) × MayAnswer allows jobs i (Ok d))
+  least jobs slots came number fault before after f n e = (
+    f.may number (Err fault) (ap (λ l. get_elem? l number) e ∙ subst (λ k. get_elem? (ok_slots before ++ Some (Err fault) ∷ after) k ≡ some (Some (Err fault))) n (at_err before fault after)),
+    (λ i l. let d = some_at before i (omega arith) in (d.0, f.may i (Ok d.0) (ap (λ k. get_elem? k i) e ∙ ok_at before i d.0 (Some (Err fault) ∷ after) d.1))),
+  )
+
+  -- where no place is empty and no number came twice, each came once
+  pub all_once : (jobs : List J) (slots : List (Option (Result D F))) (came : List ℕ) → Filled allows jobs slots came → ((k : ℕ) → ¬ (get_elem? slots k ≡ some None))
+      → ((x : ℕ) → times x came ≤ once_below x (length jobs)) → (x : ℕ) → times x came ≡ once_below x (length jobs)
+  all_once jobs slots came f full most x = exactly_once x (length jobs) (times x came) (most x) (λ l. let v = full_at slots x full (let s = f.size in omega arith) in f.full x v.0 v.1)
+
+  -- where each number came once, no place is empty
+  pub none_empty : (jobs : List J) (slots : List (Option (Result D F))) (came : List ℕ) → Filled allows jobs slots came → ((x : ℕ) → times x came ≡ once_below x (length jobs)) → (i : ℕ) → ¬ (get_elem? slots i ≡ some None)
+  none_empty jobs slots came f once i e = let l = at_below slots i None e in let a = f.size in let b = f.empty i e in let c = once i in absurd (grind (arith, nat_tests, a, b, c, l))
+
+module _ {J D F : Type 0} (allows : J → Result D F → Type 0) (value : J → D) (only : (job : J) (d : D) → allows job (Ok d) → d ≡ value job) where
+  -- where a job may answer only its value, the values are those of the jobs, in order
+  pub values_are : (jobs : List J) (ds : List D) → Answered allows jobs ds → ds ≡ map value jobs
+  values_are [] [] a = refl
+  values_are [] (d ∷ ds) a = let l = a.0 in absurd (omega arith)
+  values_are (j ∷ js) [] a = let l = a.0 in absurd (omega arith)
+  values_are (j ∷ js) (d ∷ ds) a =
+      let m = a.1 0 d refl in
+      let head : d ≡ value j = only m.0 d m.2 ∙ ap value (sym (some-injective j m.0 m.1)) in
+      let rest : ds ≡ map value js = values_are js ds ((let l = a.0 in omega arith), λ i x e. a.1 (suc i) x e) in
+      (λ i. head i ∷ rest i)
+
+listed-snoc : (vs : List (Vec ℕ Global)) (x : Vec ℕ Global) → listed (vs ++ x ∷ []) ≡ listed vs ++ x.items
+listed-snoc [] x = append-nil x.items
+listed-snoc (v ∷ vs) x = ap (λ l. v.items ++ l) (listed-snoc vs x) ∙ sym (append_assoc v.items (listed vs) x.items)
+
+pub listed_one : (vs ws : List (Vec ℕ Global)) (x : Vec ℕ Global) (ns : List ℕ) → vs ≡ [] → ws ≡ vs ++ x ∷ [] → x.items ≡ ns → listed ws ≡ ns
+listed_one vs ws x ns none e f = ap listed e ∙ (listed-snoc vs x ∙ (ap (λ l. listed l ++ x.items) none ∙ f))
+
+module _ {D F : Type 0} where
+  -- one more worker's answers were placed
+  pub placed_more : (old new all : List (Option (Result D F))) (o : Option (Answers D F)) (left rest : List (Option (Answers D F)))
+      → left ≡ o ∷ rest → new ≡ puts old (answers_in o) → puts old (joined (map answers_in left)) ≡ all → puts new (joined (map answers_in rest)) ≡ all
+  placed_more old new all o left rest e f g =
+      ap (λ l. puts l (joined (map answers_in rest))) f ∙ (sym (puts-append old (answers_in o) (joined (map answers_in rest))) ∙ (ap (λ l. puts old (joined (map answers_in l))) (sym e) ∙ g))
+
+  pub below_one : (n : ℕ) (o : Option (Answers D F)) (left rest : List (Option (Answers D F))) → left ≡ o ∷ rest → AllBelow n (joined (map answers_in left)) → AllBelow n (answers_in o)
+  below_one n o left rest e all = below-front n (answers_in o) (joined (map answers_in rest)) (subst (λ l. AllBelow n (joined (map answers_in l))) e all)
+
+  pub below_more : (old new : List (Option (Result D F))) (o : Option (Answers D F)) (left rest : List (Option (Answers D F)))
+      → left ≡ o ∷ rest → new ≡ puts old (answers_in o) → AllBelow (length old) (joined (map answers_in left)) → AllBelow (length new) (joined (map answers_in rest))
+  below_more old new o left rest e f all =
+      subst (λ n. AllBelow n (joined (map answers_in rest))) (sym (ap length f ∙ length-puts old (answers_in o)))
+      (below-back (length old) (answers_in o) (joined (map answers_in rest)) (subst (λ l. AllBelow (length old) (joined (map answers_in l))) e all))
+
+  -- one more worker's numbers were listed
+  pub listed_more : (vs ws : List (Vec ℕ Global)) (x : Vec ℕ Global) (all : List ℕ) (o : Option (Answers D F)) (left rest : List (Option (Answers D F)))
+      → left ≡ o ∷ rest → ws ≡ vs ++ x ∷ [] → x.items ≡ numbers_in o → listed vs ++ joined (map numbers_in left) ≡ all → listed ws ++ joined (map numbers_in rest) ≡ all
+  listed_more vs ws x all o left rest e f n g =
+      ap (λ l. listed l ++ joined (map numbers_in rest)) f ∙ (ap (λ l. l ++ joined (map numbers_in rest)) (listed-snoc vs x ∙ ap (λ l. listed vs ++ l) n)
+      ∙ (append_assoc (listed vs) (numbers_in o) (joined (map numbers_in rest)) ∙ (ap (λ l. listed vs ++ joined (map numbers_in l)) (sym e) ∙ g)))
+
+module _ {J D F : Type 0} (allows : J → Result D F → Type 0) where
+  pub values_stand : (jobs : List J) (ds : List D) → Answered allows jobs ds → AreValues allows jobs ds
+  values_stand jobs ds a = λ value only. values_are allows value only jobs ds a
+
+  pub none_answered : (jobs : List J) (ds : List D) → length jobs ≡ 0 → ds ≡ [] → Answered allows jobs ds
+  none_answered jobs ds none e = (ap length e ∙ sym none, λ i d x. absurd (let l = at_below ds i d x in let k = ap length e in omega arith))
+
+  pub no_room : (jobs : List J) (fault : GangFault F) → fault ≡ OutOfMemory → IsLeast allows jobs fault
+  no_room jobs fault e = subst (IsLeast allows jobs) (sym e) tt
+
+pub none_listed : (n : ℕ) (vs : List (Vec ℕ Global)) → n ≡ 0 → listed vs ≡ [] → EachOnce n vs
+none_listed n vs none e x = ap (times x) e ∙ (times-below x 0 ∙ ap (once_below x) (sym none))
+
+pub listed_none : (vs ws : List (Vec ℕ Global)) (x : Vec ℕ Global) → ws ≡ vs ++ x ∷ [] → x.items ≡ [] → listed vs ≡ [] → listed ws ≡ []
+listed_none vs ws x e f k = ap listed e ∙ (listed-snoc vs x ∙ (λ i. k i ++ f i))

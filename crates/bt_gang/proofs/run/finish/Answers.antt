@@ -1,0 +1,78 @@
+use Rattle.std.proofs.Common.{◌≡◌, ◌≤◌, ℕ, All, IsFalse, IsTrue, vec_len, length, ap, ◌∙◌, sym, subst, rules, arith}
+use Rattle.bt_gang.specs.Numbers.{times}
+use Rattle.bt_gang.proofs.Filling.{all_once, all_run, answered, least, none_empty}
+use Rattle.bt_gang.proofs.Finishing.{below_own, below_rest, filled_all, have_come, jobs_last, listed_all}
+use Rattle.bt_gang.proofs.run.finish.Goals as goal
+
+fits : (n len : ℕ) {items room : ℕ} → items ≡ n → len ≡ items → n ≤ room → len ≤ room
+fits n len e f l = omega arith
+
+pub serve-requires-clause-accepts : goal.serve-requires-clause-accepts
+serve-requires-clause-accepts g c κs within = subst (All (λ job. g.W.Work.accepts c.args.work.now job)) (sym (jobs_last (g.W.Work.allows c.args.work.now) _ _ _ _ _ _ _ c.requires.mine c.take_in-outs.ensures.pass.1)) c.requires.accepts
+
+pub place-requires : goal.place-requires
+place-requires g c =
+    let all = c.args.all.now.value.items in
+    let allows = g.W.Work.allows c.args.work.now in
+    let come = have_come allows _ all _ _ _ _ _ _ c.serve.new.out c.requires.mine c.take_in-outs.ensures.pass.1 c.take_in-outs.ensures.each c.serve.ensures.gains c.serve.ensures.last in
+    record { numbers = below_own allows all _ _ c.serve.new.out.list.items _ _ come c.requires.slots }
+
+pub place_all-taken-requires-clause-numbers : goal.place_all-taken-requires-clause-numbers
+place_all-taken-requires-clause-numbers g c =
+    let all = c.args.all.now.value.items in
+    let allows = g.W.Work.allows c.args.work.now in
+    let come = have_come allows _ all _ _ _ _ _ _ c.serve.new.out c.requires.mine c.take_in-outs.ensures.pass.1 c.take_in-outs.ensures.each c.serve.ensures.gains c.serve.ensures.last in
+    below_rest allows all _ _ c.serve.new.out.list.items _ _ _ come c.requires.slots c.place.ensures.slots
+
+pub unreachable-requires : goal.unreachable-requires
+unreachable-requires g c =
+    let all = c.args.all.now.value.items in
+    let allows = g.W.Work.allows c.args.work.now in
+    let come = have_come allows _ all _ _ _ _ _ _ c.serve.new.out c.requires.mine c.take_in-outs.ensures.pass.1 c.take_in-outs.ensures.each c.serve.ensures.gains c.serve.ensures.last in
+    let filled = filled_all allows all _ _ c.serve.new.out.list.items _ _ _ _ come c.requires.slots c.place.ensures.slots c.place_all-taken.ensures.slots in
+    let is : IsFalse c.is_full.result = search rules in
+    let free = c.is_full.ensures.free is in
+    let back : c.take_in-outs.result.1 ≡ vec_len c.args.served.others = search rules in
+    none_empty allows all _ _ filled (come.each back) free.0 free.1
+
+pub values-requires-clause-full : goal.values-requires-clause-full
+values-requires-clause-full g c = let is : IsTrue c.is_full.result = search rules in c.is_full.ensures.full is
+
+pub values-requires-clause-done : goal.values-requires-clause-done
+values-requires-clause-done g c =
+    let all = c.args.all.now.value.items in
+    let allows = g.W.Work.allows c.args.work.now in
+    let come = have_come allows _ all _ _ _ _ _ _ c.serve.new.out c.requires.mine c.take_in-outs.ensures.pass.1 c.take_in-outs.ensures.each c.serve.ensures.gains c.serve.ensures.last in
+    let filled = filled_all allows all _ _ c.serve.new.out.list.items _ _ _ _ come c.requires.slots c.place.ensures.slots c.place_all-taken.ensures.slots in
+    (c.requires.done.0, fits _ _ filled.size c.place_all-taken.new.slots.ok.0 c.requires.done.1)
+
+pub returns-in-Ok-clause-once : goal.returns-in-Ok-clause-once
+returns-in-Ok-clause-once g c =
+    let all = c.args.all.now.value.items in
+    let allows = g.W.Work.allows c.args.work.now in
+    let come = have_come allows _ all _ _ _ _ _ _ c.serve.new.out c.requires.mine c.take_in-outs.ensures.pass.1 c.take_in-outs.ensures.each c.serve.ensures.gains c.serve.ensures.last in
+    let filled = filled_all allows all _ _ c.serve.new.out.list.items _ _ _ _ come c.requires.slots c.place.ensures.slots c.place_all-taken.ensures.slots in
+    let is : IsTrue c.is_full.result = search rules in
+    let full = c.is_full.ensures.full is in
+    let lists = listed_all c.serve.new.out.list.items c.take_in-outs.result.0.items c.place_all-taken.result.items _ _ _ c.requires.taken.0 c.push_reserved.ensures.items c.place.ensures.numbers c.place_all-taken.ensures.numbers in
+    λ x. ap (times x) lists ∙ all_once allows all _ _ filled full come.most x
+
+pub returns-in-Ok-clause-done : goal.returns-in-Ok-clause-done
+returns-in-Ok-clause-done g c =
+    let all = c.args.all.now.value.items in
+    let allows = g.W.Work.allows c.args.work.now in
+    let come = have_come allows _ all _ _ _ _ _ _ c.serve.new.out c.requires.mine c.take_in-outs.ensures.pass.1 c.take_in-outs.ensures.each c.serve.ensures.gains c.serve.ensures.last in
+    let filled = filled_all allows all _ _ c.serve.new.out.list.items _ _ _ _ come c.requires.slots c.place.ensures.slots c.place_all-taken.ensures.slots in
+    answered allows all _ _ _ filled c.in-Ok.ensures.ok
+
+pub returns-clause-fault : goal.returns-clause-fault
+returns-clause-fault g c =
+    let all = c.args.all.now.value.items in
+    let allows = g.W.Work.allows c.args.work.now in
+    let come = have_come allows _ all _ _ _ _ _ _ c.serve.new.out c.requires.mine c.take_in-outs.ensures.pass.1 c.take_in-outs.ensures.each c.serve.ensures.gains c.serve.ensures.last in
+    let filled = filled_all allows all _ _ c.serve.new.out.list.items _ _ _ _ come c.requires.slots c.place.ensures.slots c.place_all-taken.ensures.slots in
+    let is : IsTrue c.is_full.result = search rules in
+    let full = c.is_full.ensures.full is in
+    let e = c.in-Err.ensures.err in
+    let l = least allows all _ _ _ _ e.0 e.1 filled e.2 e.3 in
+    (l.0, l.1, all_run allows all _ _ filled full)

@@ -1,0 +1,54 @@
+use Rattle.std.proofs.Common.{◌≡◌, ◌≤◌, ◌+◌, ℕ, [], All, IfErr, IfOk, length, vec_len, vec_capacity, ap, ◌∙◌, sym, subst, rules, arith}
+use Rattle.std.proofs.lemmas.Result.{IfOk-weaker, IfErr-weaker}
+use denote.Param.Send.{sendable}
+use Rattle.crossbeam_queue.specs.Passes.{view}
+use Rattle.bt_gang.specs.Queue.{known, no_lists}
+use Rattle.bt_gang.specs.Run.{Answered, AreValues, EachOnce, IsLeast, listed}
+use Rattle.bt_gang.specs.Workers.{IsCaller}
+use Rattle.bt_gang.proofs.Filling.{no_room, none_answered, none_listed, values_stand}
+use Rattle.bt_gang.proofs.run.run_jobs.Goals as goal
+
+same_len : (n len a b : ℕ) → n ≡ len → len ≡ a → b ≡ a → n ≡ b
+same_len n len a b e f k = e ∙ (f ∙ sym k)
+
+pub split-workers-requires-clause-outs : goal.split-workers-requires-clause-outs
+split-workers-requires-clause-outs g c = λ k d l. let o = c.in-Ok.ensures.outs.0 k d l in (o.0, o.1 ∙ same_len _ _ _ _ c.len-n.ensures c.args.jobs.ok.0 (ap (λ v. length v.items) c.of-snapshot.ensures))
+
+pub scoped-served-requires : goal.scoped-served-requires
+scoped-served-requires g c =
+    let all : c.args.jobs.items ≡ c.of-snapshot.result.value.items = sym (ap (λ v. v.items) c.of-snapshot.ensures) in
+    let n : c.len-n.result ≡ length c.of-snapshot.result.value.items = same_len _ _ _ _ c.len-n.ensures c.args.jobs.ok.0 (ap (λ v. length v.items) c.of-snapshot.ensures) in
+    let r = c.in-Ok.ensures in
+    let s = c.split-workers.ensures in
+    record {
+      at = λ x. (
+        (
+          (record { pass = s.pass.0; knows = subst (λ k. IsCaller c.of-snapshot.result.value.items k (view c.split-workers.new.pass)) (sym s.len) s.pass.1; list = r.out.0; spare = r.out.1 ∙ n }),
+          s.each,
+          r.children.0,
+          (omega (arith, s.len, r.outs.1, r.children.1)),
+          r.back.0,
+          (omega (arith, s.len, r.outs.1, r.back.1)),
+          subst (All (λ job. g.W.Work.accepts c.args.work.now job)) all c.requires.accepts,
+        ),
+        (search sendable depth 20, search sendable depth 20, search sendable depth 20, search sendable depth 20, search sendable depth 20, search sendable depth 20),
+      );
+    }
+
+pub finish-requires-clause-accepts : goal.finish-requires-clause-accepts
+finish-requires-clause-accepts g c κs within = subst (λ v. All (λ job. g.W.Work.accepts c.args.work.now job) v.items) (sym c.of-snapshot.ensures) c.requires.accepts
+
+pub returns-clause-once : goal.returns-clause-once
+returns-clause-once g c = subst (λ v. IfOk c.finish.result (λ r. EachOnce (length v.items) r.taken.items)) c.of-snapshot.ensures c.finish.ensures.once
+
+pub returns-clause-done : goal.returns-clause-done
+returns-clause-done g c = subst (λ v. IfOk c.finish.result (λ r. Answered (g.W.Work.allows c.args.work.now) v.items r.done.items)) c.of-snapshot.ensures c.finish.ensures.done
+
+pub returns-clause-values : goal.returns-clause-values
+returns-clause-values g c =
+    let allows = g.W.Work.allows c.args.work.now in
+    IfOk-weaker c.finish.result (λ r. Answered allows c.args.jobs.items r.done.items) (λ r. AreValues allows c.args.jobs.items r.done.items) (λ r a. values_stand allows c.args.jobs.items r.done.items a)
+    (subst (λ v. IfOk c.finish.result (λ r. Answered allows v.items r.done.items)) c.of-snapshot.ensures c.finish.ensures.done)
+
+pub returns-clause-fault : goal.returns-clause-fault
+returns-clause-fault g c = subst (λ v. IfErr c.finish.result (IsLeast (g.W.Work.allows c.args.work.now) v.items)) c.of-snapshot.ensures c.finish.ensures.fault

@@ -1,0 +1,16 @@
+use Rattle.std.proofs.Common.{◌≡◌, ap, arith, rules, length, length-append, Some, Ok, [], ◌∷◌}
+use Rattle.bt_gang.proofs.Placing.{step_ok, none_at}
+use Rattle.bt_gang.proofs.slots.values.Goals as goal
+
+pub unreachable-requires : goal.unreachable-requires
+unreachable-requires g c = c.requires.full _ (none_at _ c.loop-slot.done.items _ _ _ c.loop-slot.invariant.so_far c.in-Some.ensures.steps.0 c.in-None-slot.is)
+
+pub loop-slot-preserved : goal.loop-slot-preserved
+loop-slot-preserved g c =
+    let e : c.in-Some.slot ≡ Some (Ok c.in-Some-Ok.value) = cc in
+    record {
+      so_far = step_ok _ c.loop-slot.done.items _ c.in-Some-Ok.value _ _ _ c.loop-slot.invariant.so_far c.in-Some.ensures.steps.0 e c.push_reserved.ensures.items;
+      number = let l = ap length c.push_reserved.ensures.items in omega (arith, length-append c.loop-slot.done.items (c.in-Some-Ok.value ∷ []));
+      count = search rules;
+      room = let s = c.in-Some.ensures.steps.1 in search rules;
+    }

@@ -1,0 +1,48 @@
+use Rattle.std.proofs.Common.{◌≡◌, ◌+◌, ◌<◌, List, [], ◌∷◌, ◌++◌, All, length, vec_len, refl, sym, ap, ◌∙◌, subst, rules, arith}
+use Rattle.std.proofs.lemmas.List.Elements.{All-head, All-push, All-rest, All-same}
+use Rattle.std.specs.Vec.Iter.{into_iter_items}
+use Rattle.crossbeam_queue.specs.Passes.{view}
+use Rattle.bt_gang.specs.declared.answers.Answers.{Answers}
+use Rattle.bt_gang.specs.declared.workers.Worker.{Worker}
+use Rattle.bt_gang.specs.Workers.{IsCaller, IsReady}
+use Rattle.bt_gang.proofs.Rules.{forks}
+use Rattle.bt_gang.proofs.Working.{caller_first, caller_next}
+use Rattle.bt_gang.proofs.workers.split.Goals as goal
+
+pub loop-out-init : goal.loop-out-init
+loop-out-init g c =
+    let all = c.args.all.now.value.items in
+    let zero : vec_len c.args.workers ≡ 0 = omega (arith, ap length c.requires.room.0, c.args.workers.ok.0) in
+    record {
+      pass = c.requires.pass.0;
+      caller = subst (λ k. IsCaller all k (view c.args.pass.now)) (sym zero) (caller_first all _ c.requires.pass.1);
+      outs = search rules;
+      count = search rules;
+      few = c.requires.room.1;
+      room = search rules;
+      each = search rules;
+    }
+
+pub another-theirs-requires-clause-rule : goal.another-theirs-requires-clause-rule
+another-theirs-requires-clause-rule g c = forks 64 _ _
+
+pub loop-out-preserved : goal.loop-out-preserved
+loop-out-preserved g c =
+    let i = c.loop-out.invariant in
+    let s = c.in-Some.ensures.steps in
+    let all = c.args.all.now.value.items in
+    let P : Answers g.row.D.Denot g.row.F.Denot → Type 0 = λ a. (a.list.items ≡ []) × (a.spare ≡ length all) in
+    let Q : Worker g.row.J.Denot g.row.D.Denot g.row.F.Denot → Type 0 = λ w. IsReady c.args.jobs.now all [] w in
+    let few : vec_len c.loop-out.workers < 63 = omega (arith, i.count, i.few, s.1) in
+    let n = caller_next all _ _ (view c.loop-out.pass) _ _ i.caller few c.push_reserved.ensures.len c.another-theirs.ensures.rule.0 c.another-theirs.ensures.rule.1 in
+    let one : P c.in-Some.out = All-head P c.in-Some.out _ (All-same P _ _ (sym s.0) i.outs) in
+    let ready : Q (record { pass = c.another-theirs.result; out = c.in-Some.out }) = record { pass = c.another-theirs.ensures.queue.1; number = n.1.0; knows = n.1.1; list = one.0; spare = one.1 } in
+    record {
+      pass = search rules;
+      caller = n.0;
+      outs = All-rest P c.in-Some.out _ _ s.0 i.outs;
+      count = search rules;
+      few = i.few;
+      room = search rules;
+      each = All-same Q _ _ c.push_reserved.ensures.items (All-push Q c.loop-out.workers.items _ i.each ready);
+    }

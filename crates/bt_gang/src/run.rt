@@ -1,0 +1,294 @@
+//! All jobs of a call, run by a crew.
+ghost use Rattle.std.specs.Prelude.{◌≡◌, ◌+◌, ◌-◌, ◌<◌, ◌≤◌, ℕ, List, [], ◌++◌, All, IfErr, IfOk, IfSome, length, map, None, Option, replicate, vec_capacity, vec_len};
+ghost use Rattle.crossbeam_queue.specs.Passes.{IsPassOf, view};
+ghost use Rattle.bt_gang.specs.Numbers.{joined};
+ghost use Rattle.bt_gang.specs.Answers.{AllBelow, AllMay, answers_in, numbers_in, puts};
+ghost use Rattle.bt_gang.specs.declared.run.GangFault.TheVariants.{OutOfMemory};
+ghost use Rattle.bt_gang.specs.Run.{Answered, AreValues, EachOnce, Filled, IsLeast, listed};
+ghost use Rattle.bt_gang.specs.Workers.{HasServed, HasServedCaller, IsReady, IsReadyCaller};
+
+use crate::answers::Answers;
+use crate::crew::{Crew, Gate};
+use crate::jobs::{JobPass, Jobs};
+use crate::places::empty_places;
+use crate::slots::{JobFault, Slots, is_full, place, values};
+use crate::work::Work;
+use crate::worker_loop::serve;
+use crate::workers::{GivesBack, Worker, join_all, split, start, take_in};
+use std::alloc::{AllocError, Global};
+use std::snapshot::Snapshot;
+use std::sync::Wait;
+use std::thread;
+use std::thread::{PromisedHandle, Scope, Threads};
+
+/// What a run of all jobs gives: the value of each job, and for each worker, the caller first, the numbers that it took. The
+/// list of a worker that could not be started is empty.
+#[derive(Drop)]
+pub struct Ran<D> {
+    pub done: Vec<D>,
+    pub taken: Vec<Vec<usize>>,
+}
+
+/// Why a run gives no values: room was refused, or jobs faulted, of which the least number is answered.
+#[derive(Drop)]
+pub enum GangFault<F> {
+    OutOfMemory,
+    Job { number: usize, fault: F },
+}
+
+/// All room of a run, made before the first push.
+#[derive(Drop)]
+struct Room<W: Work> {
+    slots: Slots<W::Done, W::Fault>,
+    done: Vec<W::Done>,
+    taken: Vec<Vec<usize>>,
+    out: Answers<W::Done, W::Fault>,
+    outs: Vec<Answers<W::Done, W::Fault>>,
+    workers: Vec<Worker<W::Job, W::Done, W::Fault>>,
+    children: Vec<Option<PromisedHandle<Worker<W::Job, W::Done, W::Fault>, GivesBack<W>>>>,
+    back: Vec<Option<Worker<W::Job, W::Done, W::Fault>>>,
+    came: Vec<Option<Answers<W::Done, W::Fault>>>,
+}
+
+// Empty answers for each of k workers.
+fn empty_answers<D: Drop, F: Drop>(
+    alloc: Global,
+    k: usize,
+    n: usize,
+) -> Result<Vec<Answers<D, F>>, AllocError>
+    ensures each { IfOk result (λ v. All (λ a. (a.list.items ≡ []) × (a.spare ≡ n)) v.items) }
+    ensures len { IfOk result (λ v. vec_len v ≡ k) }
+{
+    let mut made = Vec::with_capacity(alloc, k)?;
+    for _ in 0..k {
+        made.push_reserved(Answers::new(alloc, n)?);
+    }
+    Ok(made)
+}
+
+impl<W: Work> Room<W> {
+    fn new(alloc: Global, workers: usize, n: usize) -> Result<Room<W>, AllocError>
+        requires { 0 < workers }
+        ensures slots { IfOk result (λ r. r.slots.items ≡ replicate n None) }
+        ensures done { IfOk result (λ r. (r.done.items ≡ []) × (n ≤ vec_capacity r.done)) }
+        ensures taken { IfOk result (λ r. (r.taken.items ≡ []) × (workers ≤ vec_capacity r.taken)) }
+        ensures out { IfOk result (λ r. (r.out.list.items ≡ []) × (r.out.spare ≡ n)) }
+        ensures outs { IfOk result (λ r. All (λ a. (a.list.items ≡ []) × (a.spare ≡ n)) r.outs.items × (vec_len r.outs + 1 ≡ workers)) }
+        ensures workers { IfOk result (λ r. (r.workers.items ≡ []) × (workers ≤ vec_capacity r.workers + 1)) }
+        ensures children { IfOk result (λ r. (r.children.items ≡ []) × (workers ≤ vec_capacity r.children + 1)) }
+        ensures back { IfOk result (λ r. (r.back.items ≡ []) × (workers ≤ vec_capacity r.back + 1)) }
+        ensures came { IfOk result (λ r. (r.came.items ≡ []) × (workers ≤ vec_capacity r.came + 1)) }
+    {
+        let others = workers - 1;
+        Ok(Room {
+            slots: empty_places(alloc, n)?,
+            done: Vec::with_capacity(alloc, n)?,
+            taken: Vec::with_capacity(alloc, workers)?,
+            out: Answers::new(alloc, n)?,
+            outs: empty_answers(alloc, others, n)?,
+            workers: Vec::with_capacity(alloc, others)?,
+            children: Vec::with_capacity(alloc, others)?,
+            back: Vec::with_capacity(alloc, others)?,
+            came: Vec::with_capacity(alloc, others)?,
+        })
+    }
+}
+
+/// The caller and the other workers, after their loops.
+#[derive(Drop)]
+struct Served<J: Drop, D, F> {
+    mine: Worker<J, D, F>,
+    others: Vec<Option<Worker<J, D, F>>>,
+}
+
+// Starts the workers, serves as worker 0, and joins the others.
+fn serve_all<'s, E, W: Work + Sync, G: Gate + Sync, R: Threads + Wait + Sync>(
+    scope: &'s Scope<'s, E>,
+    rt: &'s R,
+    alloc: Global,
+    work: &'s W,
+    jobs: &'s Jobs<W::Job>,
+    all: &'s Snapshot<Vec<W::Job>>,
+    crew: &'s Crew<G>,
+    mut mine: Worker<W::Job, W::Done, W::Fault>,
+    workers: Vec<Worker<W::Job, W::Done, W::Fault>>,
+    children: Vec<Option<PromisedHandle<Worker<W::Job, W::Done, W::Fault>, GivesBack<W>>>>,
+    back: Vec<Option<Worker<W::Job, W::Done, W::Fault>>>,
+) -> Served<W::Job, W::Done, W::Fault>
+    requires mine { IsReadyCaller jobs.now all.now.value.items (vec_len workers) mine }
+    requires workers { All (λ w. IsReady jobs.now all.now.value.items [] w) workers.items }
+    requires children { (children.items ≡ []) × (vec_len workers ≤ vec_capacity children) }
+    requires back { (back.items ≡ []) × (vec_len workers ≤ vec_capacity back) }
+    requires accepts { All (λ job. W.accepts work.now job) all.now.value.items }
+    ensures mine { HasServedCaller (W.allows work.now) jobs.now all.now.value.items (vec_len workers) result.mine }
+    ensures others { All (λ w. IfSome w (λ w. HasServed (W.allows work.now) jobs.now all.now.value.items [] w)) result.others.items }
+    ensures len { vec_len result.others ≡ vec_len workers }
+{
+    let children = start(scope, rt, alloc, work, jobs, all, crew, workers, children);
+    serve(rt, alloc, work, jobs, &mut mine.pass, crew, &mut mine.out);
+    let others = join_all(rt, work, jobs, all, children, back);
+    Served { mine, others }
+}
+
+// The answers of one worker into their places; of one that was not started there are none.
+fn place_some<D: Drop, F: Drop>(
+    alloc: Global,
+    out: Option<Answers<D, F>>,
+    slots: &mut Slots<D, F>,
+) -> Vec<usize>
+    requires { AllBelow (length slots.old.items) (answers_in out) }
+    ensures slots { slots.new.items ≡ puts slots.old.items (answers_in out) }
+    ensures numbers { result.items ≡ numbers_in out }
+{
+    match out {
+        Some(out) => place(out, slots),
+        None => Vec::new(alloc),
+    }
+}
+
+// The answers of all workers into their places, in the order of the workers.
+fn place_all<D: Drop, F: Drop>(
+    alloc: Global,
+    outs: Vec<Option<Answers<D, F>>>,
+    slots: &mut Slots<D, F>,
+    mut taken: Vec<Vec<usize>>,
+) -> Vec<Vec<usize>>
+    requires numbers { AllBelow (length slots.old.items) (joined (map answers_in outs.items)) }
+    requires room { vec_len taken + vec_len outs ≤ vec_capacity taken }
+    ensures slots { slots.new.items ≡ puts slots.old.items (joined (map answers_in outs.items)) }
+    ensures numbers { listed result.items ≡ listed taken.items ++ joined (map numbers_in outs.items) }
+    ensures len { vec_len result ≡ vec_len taken + vec_len outs }
+{
+    for out in outs {
+        taken.push_reserved(place_some(alloc, out, slots));
+    }
+    taken
+}
+
+// Takes in the passes, runs what is left of the jobs, and places the answers.
+fn finish<W: Work, G: Gate, R: Wait>(
+    rt: &R,
+    alloc: Global,
+    work: &W,
+    jobs: &Jobs<W::Job>,
+    all: &Snapshot<Vec<W::Job>>,
+    crew: &Crew<G>,
+    served: Served<W::Job, W::Done, W::Fault>,
+    came: Vec<Option<Answers<W::Done, W::Fault>>>,
+    mut slots: Slots<W::Done, W::Fault>,
+    mut taken: Vec<Vec<usize>>,
+    done: Vec<W::Done>,
+) -> Result<Ran<W::Done>, GangFault<W::Fault>>
+    requires mine { HasServedCaller (W.allows work.now) jobs.now all.now.value.items (vec_len served.others) served.mine }
+    requires others { All (λ w. IfSome w (λ w. HasServed (W.allows work.now) jobs.now all.now.value.items [] w)) served.others.items }
+    requires came { (came.items ≡ []) × (vec_len served.others ≤ vec_capacity came) }
+    requires slots { slots.items ≡ replicate (length all.now.value.items) None }
+    requires taken { (taken.items ≡ []) × (vec_len served.others + 1 ≤ vec_capacity taken) }
+    requires done { (done.items ≡ []) × (length all.now.value.items ≤ vec_capacity done) }
+    requires accepts { All (λ job. W.accepts work.now job) all.now.value.items }
+    ensures lists { IfOk result (λ r. vec_len r.taken ≡ vec_len served.others + 1) }
+    ensures once { IfOk result (λ r. EachOnce (length all.now.value.items) r.taken.items) }
+    ensures done { IfOk result (λ r. Answered (W.allows work.now) all.now.value.items r.done.items) }
+    ensures fault { IfErr result (IsLeast (W.allows work.now) all.now.value.items) }
+{
+    let Served { mine, others } = served;
+    let Worker { mut pass, mut out } = mine;
+    let started = others.len();
+    let (outs, back) = take_in(work, jobs, all, &mut pass, others, came);
+    serve(rt, alloc, work, jobs, &mut pass, crew, &mut out);
+    taken.push_reserved(place(out, &mut slots));
+    let taken = place_all(alloc, outs, &mut slots, taken);
+    if !is_full(&slots) {
+        if back == started {
+            unreachable!()
+        }
+        return Err(GangFault::OutOfMemory);
+    }
+    match values(slots, done) {
+        Ok(done) => Ok(Ran { done, taken }),
+        Err(JobFault { number, fault }) => Err(GangFault::Job { number, fault }),
+    }
+}
+
+// No job: an empty list for each worker.
+fn ran_nothing<D: Drop, F: Drop>(alloc: Global, workers: usize) -> Result<Ran<D>, GangFault<F>>
+    ensures done { IfOk result (λ r. r.done.items ≡ []) }
+    ensures len { IfOk result (λ r. vec_len r.taken ≡ workers) }
+    ensures taken { IfOk result (λ r. listed r.taken.items ≡ []) }
+    ensures refused { IfErr result (λ fault. fault ≡ OutOfMemory) }
+{
+    let Ok(mut taken) = Vec::with_capacity(alloc, workers) else {
+        return Err(GangFault::OutOfMemory);
+    };
+    for _ in 0..workers {
+        taken.push_reserved(Vec::new(alloc));
+    }
+    Ok(Ran {
+        done: Vec::new(alloc),
+        taken,
+    })
+}
+
+/// Runs every job by a crew, also after a fault; no job means no thread. The values stand by the numbers of their jobs.
+pub fn run_jobs<W: Work + Sync, G: Gate + Sync, R: Threads + Wait + Sync>(
+    rt: &R,
+    alloc: Global,
+    work: &W,
+    jobs: Vec<W::Job>,
+    crew: &Crew<G>,
+) -> Result<Ran<W::Done>, GangFault<W::Fault>>
+    requires accepts { All (λ job. W.accepts work.now job) jobs.items }
+    ensures lists { IfOk result (λ r. vec_len r.taken ≡ crew.now.workers) }
+    ensures once { IfOk result (λ r. EachOnce (length jobs.items) r.taken.items) }
+    ensures done { IfOk result (λ r. Answered (W.allows work.now) jobs.items r.done.items) }
+    ensures values { IfOk result (λ r. AreValues (W.allows work.now) jobs.items r.done.items) }
+    ensures fault { IfErr result (IsLeast (W.allows work.now) jobs.items) }
+{
+    let n = jobs.len();
+    if n == 0 {
+        return ran_nothing(alloc, crew.workers);
+    }
+    let Ok(room) = Room::<W>::new(alloc, crew.workers, n) else {
+        return Err(GangFault::OutOfMemory);
+    };
+    let Room {
+        slots,
+        done,
+        taken,
+        out,
+        outs,
+        workers,
+        children,
+        back,
+        came,
+    } = room;
+    let snapshot = Snapshot::of(&jobs);
+    let all = &snapshot;
+    let Ok((made, mut pass)) = Jobs::new(rt, alloc, jobs) else {
+        return Err(GangFault::OutOfMemory);
+    };
+    let jobs = &made;
+    let workers = split(jobs, all, &mut pass, outs, workers);
+    let mine = Worker { pass, out };
+    let served = thread::scope(
+        thread::scope_env(),
+        rt,
+        move |scope| -> Served<W::Job, W::Done, W::Fault>
+            requires { IsReadyCaller jobs.now all.now.value.items (vec_len workers) mine
+                × All (λ w. IsReady jobs.now all.now.value.items [] w) workers.items
+                × (children.items ≡ []) × (vec_len workers ≤ vec_capacity children)
+                × (back.items ≡ []) × (vec_len workers ≤ vec_capacity back)
+                × All (λ job. W.accepts work.now job) all.now.value.items }
+            ensures { HasServedCaller (W.allows work.entry.now) jobs.entry.now all.entry.now.value.items (vec_len workers) result.mine
+                × All (λ w. IfSome w (λ w. HasServed (W.allows work.entry.now) jobs.entry.now all.entry.now.value.items [] w)) result.others.items
+                × (vec_len result.others ≡ vec_len workers) }
+        {
+            serve_all(
+                scope, rt, alloc, work, jobs, all, crew, mine, workers, children, back,
+            )
+        },
+    );
+    finish(
+        rt, alloc, work, jobs, all, crew, served, came, slots, taken, done,
+    )
+}
