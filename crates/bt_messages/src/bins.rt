@@ -150,12 +150,7 @@ impl<V: Merge> Bins<V> {
 
     /// The messages of a bin with a key at or past `from` and before `to`, in order, found by halving. A bound that is absent doesn't
     /// limit.
-    pub fn bin_between(
-        &self,
-        child: usize,
-        from: Option<&Key>,
-        to: Option<&Key>,
-    ) -> Messages<'_, V>
+    pub fn bin_between(&self, child: usize, from: Option<&Key>, to: Option<&Key>) -> Messages<'_, V>
         requires { child < length self.now }
         ensures messages { result ≡ messages_between (option_copied from.entry) (option_copied to.entry) (slice_index_or self.now child []) }
         ensures sorted { IsSorted result }
