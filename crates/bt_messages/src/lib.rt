@@ -35,7 +35,7 @@ pub use division::Division;
 pub use entry::Entry;
 pub use iter::Messages;
 pub use joined::Joined;
-pub use message::{Merge, Message, effect};
+pub use message::{Merge, Message, effect, effect_borrowed};
 pub use packet::Packet;
 pub use rest::Rest;
 pub use sorted::between;

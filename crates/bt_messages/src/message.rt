@@ -86,3 +86,18 @@ pub fn effect<V: Merge>(
         Message::Ups(delta) => Ok(Some(V::merge(alloc, old, &delta)?)),
     }
 }
+
+/// What a message makes of the value at its key, as `effect`, but the message stays: what it puts is copied.
+pub fn effect_borrowed<V: Merge>(
+    alloc: Global,
+    old: Option<V>,
+    message: &Message<V>,
+) -> Result<Option<V>, AllocError>
+    ensures { IfOk result (λ new. new ≡ effect_of V.merged old message.now) }
+{
+    match message {
+        Message::Put(value) => Ok(Some(value.copy(alloc)?)),
+        Message::Del => Ok(None),
+        Message::Ups(delta) => Ok(Some(V::merge(alloc, old, delta)?)),
+    }
+}

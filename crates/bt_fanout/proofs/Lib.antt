@@ -1,0 +1,13 @@
+pub mod Batches
+pub mod BuildPackets
+pub mod Builds
+pub mod Entries
+pub mod Groups
+pub mod Lookups
+pub mod Naming
+pub mod offered
+pub mod Owners
+pub mod Picking
+pub mod Sendings
+pub mod Turning
+pub mod WorkedRows

@@ -1,0 +1,164 @@
+-- Names of columns, and the definition that they make.
+use Rattle.std.proofs.Common.{◌≡◌, ℕ, suc, ◌+◌, ◌<◌, ◌≤◌, ◌==◌, ◌&&◌, Bool, true, false, nat_le, List, [], ◌∷◌, ◌++◌, append_assoc, get_or, length, refl, sym, ap, subst, ◌∙◌, Option, Some, None, option_map, Result, Ok, Err, ℤ, arith, if◌then◌else◌}
+use Rattle.std.specs.Prelude.{option_and_then}
+use Rattle.std.specs.List.{All}
+use Rattle.std.specs.Cmp.Lexicographic.{pointwise}
+use Rattle.std.specs.Result.{result_map_both}
+use Rattle.std.proofs.lemmas.List.{length-map}
+use Rattle.bt_rowtype.specs.Ints.{int_of}
+use Rattle.bt_rowtype.specs.Ops.{at_column, both_read, named_from}
+use Rattle.bt_rowtype.specs.Texts.{is_text}
+use Rattle.bt_rowtype.specs.Values.{flag_of, or_refused, value_of}
+use Rattle.bt_rowtype.specs.declared.refusal.Refusal.{Refusal}
+use Rattle.bt_rowtype.specs.declared.refusal.Refusal.TheVariants.{BadField, NoSuchColumn, TooMany}
+use Rattle.bt_rowtype.specs.declared.schema.Column.{Column}
+use Rattle.bt_rowtype.specs.declared.value.Kind.{Kind}
+use Rattle.bt_rowtype.specs.declared.value.Kind.TheVariants as kind
+use Rattle.bt_rowtype.specs.declared.value.Value.{Value}
+use Rattle.bt_rowtype.specs.declared.value.Value.TheVariants as value
+use Rattle.bt_keycode.specs.Codes.{kind_of}
+use Rattle.bt_fanout.specs.Definitions.{chosen, condition_at, condition_in, kinds_of, most_included, most_on, places_of}
+use Rattle.bt_fanout.specs.Entries.{HasKind, HasPlace, SuitsKinds}
+use Rattle.bt_fanout.specs.declared.definition.Condition.{Condition}
+use Rattle.bt_fanout.specs.declared.definition.Filter.{Filter}
+use Rattle.bt_fanout.proofs.offered.Suiting.{all_more, all_none}
+
+-- ---- places one by one
+
+placed : (old : List ℕ) (place : ℕ) (found : Option (List ℕ)) →
+    option_map (λ others. old ++ others) (option_map (λ places. place ∷ places) found) ≡ option_map (λ others. (old ++ place ∷ []) ++ others) found
+placed old place None = refl
+placed old place (Some places) = ap Some (sym (append_assoc old (place ∷ []) places))
+
+-- the place of one name more
+pub one_place : (columns : List Column) (name : List ℕ) (names : List (List ℕ)) (c : ℕ × Kind) (old new : List ℕ) → named_from 0 name columns ≡ Some c → new ≡ old ++ c.0 ∷ [] →
+    option_map (λ others. old ++ others) (places_of columns (name ∷ names)) ≡ option_map (λ others. new ++ others) (places_of columns names)
+one_place columns name names c old new is more =
+    ap (λ found. option_map (λ others. old ++ others) (option_and_then (λ (d : ℕ × Kind). option_map (λ places. d.0 ∷ places) (places_of columns names)) found)) is
+    ∙ placed old c.0 (places_of columns names) ∙ ap (λ front. option_map (λ others. front ++ others) (places_of columns names)) (sym more)
+
+-- a name that is not there
+pub no_place : (columns : List Column) (name : List ℕ) (names : List (List ℕ)) → named_from 0 name columns ≡ None → places_of columns (name ∷ names) ≡ None
+no_place columns name names is = ap (λ found. option_and_then (λ (d : ℕ × Kind). option_map (λ places. d.0 ∷ places) (places_of columns names)) found) is
+
+-- ---- what a definition says of the columns
+
+-- a column with a name is one of the columns, of this kind
+abbrev IsThere : ℕ → List Column → ℕ × Kind → Type 0
+IsThere start columns c = (i : ℕ) × ((c.0 ≡ start + i) × ((i < length (kinds_of columns)) × (get_or (kinds_of columns) i kind.Flag ≡ c.1)))
+
+is_there : (start : ℕ) (name : List ℕ) (columns : List Column) (c : ℕ × Kind) → named_from start name columns ≡ Some c → IsThere start columns c
+is_there start name [] c e = cc
+is_there start name (column ∷ columns) c e = by_test (pointwise ◌==◌ column.name name) (is_there (suc start) name columns c) e
+  where
+    by_test : (b : Bool) → (named_from (suc start) name columns ≡ Some c → IsThere (suc start) columns c) →
+        (if b then Some (start, column.kind) else named_from (suc start) name columns) ≡ Some c → IsThere start (column ∷ columns) c
+    by_test true others f =
+        let same : (start, column.kind) ≡ c = cc in
+        (0, (ap (λ (d : ℕ × Kind). d.0) (sym same) ∙ omega arith, (omega arith, ap (λ (d : ℕ × Kind). d.1) same)))
+    by_test false others f =
+        let later = others f in
+        (suc later.0, (omega (arith, later.1.0), (omega (arith, later.1.1.0), later.1.1.1)))
+
+int_kind : (o : Option ℤ) (v : Value) → option_map value.Int o ≡ Some v → kind_of v ≡ kind.Int
+int_kind None v e = cc
+int_kind (Some n) v e = let same : value.Int n ≡ v = cc in ap kind_of (sym same)
+
+text_kind : (b : Bool) (bytes : List ℕ) (v : Value) → (if b then Some (value.Text bytes) else None) ≡ Some v → kind_of v ≡ kind.Text
+text_kind true bytes v e = let same : value.Text bytes ≡ v = cc in ap kind_of (sym same)
+text_kind false bytes v e = cc
+
+flag_kind : (o : Option Bool) (v : Value) → option_map value.Flag o ≡ Some v → kind_of v ≡ kind.Flag
+flag_kind None v e = cc
+flag_kind (Some flag) v e = let same : value.Flag flag ≡ v = cc in ap kind_of (sym same)
+
+-- a value that a field spells is of the kind
+value_kind : (k : Kind) (field : List ℕ) (v : Value) → value_of k field ≡ Some v → kind_of v ≡ k
+value_kind kind.Int field v e = int_kind (int_of field) v e
+value_kind kind.Text field v e = text_kind (is_text field) field v e
+value_kind kind.Flag field v e = flag_kind (flag_of field) v e
+
+abbrev Fits : List Column → Option Condition → Type 0
+Fits columns condition = HasPlace condition (length (kinds_of columns)) × HasKind condition (kinds_of columns)
+
+-- the condition of a filter is one of the columns
+condition_fits : (columns : List Column) (filter : Option Filter) (condition : Option Condition) → condition_in columns filter ≡ Ok condition → Fits columns condition
+condition_fits columns None condition e = let same : None ≡ condition = cc in subst (Fits columns) same (tt, tt)
+condition_fits columns (Some filter) condition e = by_column (named_from 0 filter.column columns) refl e
+  where
+    by_value : (c : ℕ × Kind) → IsThere 0 columns c → (o : Option Value) → value_of c.1 filter.constant ≡ o →
+        result_map_both Some (λ e. e) (or_refused (BadField 1) (option_map (λ constant. record { place = c.0; test = filter.test; constant = constant }) o)) ≡ Ok condition → Fits columns condition
+    by_value c there None is f = cc
+    by_value c there (Some v) is f =
+        let made : Condition = record { place = c.0; test = filter.test; constant = v } in
+        let same : Some made ≡ condition = cc in
+        let place : c.0 ≡ there.0 = there.1.0 ∙ omega arith in
+        subst (Fits columns) same
+        (subst (λ p. p < length (kinds_of columns)) (sym place) there.1.1.0, ap (λ p. get_or (kinds_of columns) p kind.Flag) place ∙ there.1.1.1 ∙ sym (value_kind c.1 filter.constant v is))
+
+    by_column : (o : Option (ℕ × Kind)) → named_from 0 filter.column columns ≡ o → result_map_both Some (λ e. e) (at_column (condition_at filter) o) ≡ Ok condition → Fits columns condition
+    by_column None is f = cc
+    by_column (Some c) is f = by_value c (is_there 0 filter.column columns c is) (value_of c.1 filter.constant) refl f
+
+-- the places of names are places of columns
+places_within : (columns : List Column) (names : List (List ℕ)) (places : List ℕ) → places_of columns names ≡ Some places → All (λ place. place < length (kinds_of columns)) places
+places_within columns [] places e = let same : [] ≡ places = cc in subst (All (λ place. place < length (kinds_of columns))) same (all_none (λ place. place < length (kinds_of columns)))
+places_within columns (name ∷ names) places e = by_parts (named_from 0 name columns) (places_of columns names) refl (places_within columns names) e
+  where
+    by_parts : (o : Option (ℕ × Kind)) (others : Option (List ℕ)) → named_from 0 name columns ≡ o →
+        ((more : List ℕ) → others ≡ Some more → All (λ place. place < length (kinds_of columns)) more) →
+        option_and_then (λ (c : ℕ × Kind). option_map (λ places. c.0 ∷ places) others) o ≡ Some places → All (λ place. place < length (kinds_of columns)) places
+    by_parts None others is within f = cc
+    by_parts (Some c) None is within f = cc
+    by_parts (Some c) (Some more) is within f =
+        let same : c.0 ∷ more ≡ places = cc in
+        let there = is_there 0 name columns c is in
+        let place : c.0 ≡ there.0 = there.1.0 ∙ omega arith in
+        subst (All (λ place. place < length (kinds_of columns))) same
+        (all_more (λ place. place < length (kinds_of columns)) c.0 more (subst (λ p. p < length (kinds_of columns)) (sym place) there.1.1.0) (within more refl))
+
+abbrev AreWithin : List Column → List ℕ × List ℕ → Type 0
+AreWithin columns places = All (λ place. place < length (kinds_of columns)) places.0 × All (λ place. place < length (kinds_of columns)) places.1
+
+chosen_within : (columns : List Column) (on include : List (List ℕ)) (places : List ℕ × List ℕ) → chosen columns on include ≡ Ok places → AreWithin columns places
+chosen_within columns on include places e = by_count (nat_le (length on) most_on && nat_le (length include) most_included) e
+  where
+    by_places : (first others : Option (List ℕ)) → places_of columns on ≡ first → places_of columns include ≡ others →
+        or_refused NoSuchColumn (option_and_then (λ (ps : List ℕ). option_map (λ (qs : List ℕ). (ps, qs)) others) first) ≡ Ok places → AreWithin columns places
+    by_places None others is are f = cc
+    by_places (Some ps) None is are f = cc
+    by_places (Some ps) (Some qs) is are f =
+        let same : (ps, qs) ≡ places = cc in
+        subst (AreWithin columns) same (places_within columns on ps is, places_within columns include qs are)
+
+    by_count : (b : Bool) → (if b then or_refused NoSuchColumn (option_and_then (λ first. option_map (λ others. (first, others)) (places_of columns include)) (places_of columns on)) else Err TooMany) ≡ Ok places → AreWithin columns places
+    by_count true f = by_places (places_of columns on) (places_of columns include) refl refl f
+    by_count false f = cc
+
+-- a definition that names make suits rows of the columns' kinds
+pub parts_suit : (columns schema : List Column) (on include : List (List ℕ)) (filter : Option Filter) (condition : Option Condition) (places : List ℕ × List ℕ) (keys : ℕ) →
+    columns ≡ schema → keys ≤ length schema → both_read (condition_in columns filter) (chosen columns on include) ≡ Ok (condition, places) →
+    SuitsKinds (record { on = places.0; include = places.1; condition = condition; keys = keys }) (kinds_of schema)
+parts_suit columns schema on include filter condition places keys same few e = by_parts (condition_in columns filter) (chosen columns on include) refl refl e
+  where
+    by_parts : (a : Result (Option Condition) Refusal) (b : Result (List ℕ × List ℕ) Refusal) → condition_in columns filter ≡ a → chosen columns on include ≡ b →
+        both_read a b ≡ Ok (condition, places) → SuitsKinds (record { on = places.0; include = places.1; condition = condition; keys = keys }) (kinds_of schema)
+    by_parts (Ok one) (Ok other) is are f =
+        let bound : keys ≤ length (kinds_of columns) = omega (arith, few, ap length same, length-map columns (λ (c : Column). c.kind)) in
+        let both : (one, other) ≡ (condition, places) = cc in
+        let fits = condition_fits columns filter condition (is ∙ ap (λ (z : Option Condition × (List ℕ × List ℕ)). Ok z.0) both) in
+        let within = chosen_within columns on include places (are ∙ ap (λ (z : Option Condition × (List ℕ × List ℕ)). Ok z.1) both) in
+        subst (λ cs. SuitsKinds (record { on = places.0; include = places.1; condition = condition; keys = keys }) (kinds_of cs)) same
+        (record {
+          within = record { on = within.0; include = within.1; condition = fits.0 };
+          constant = fits.1;
+          keys = bound;
+        })
+    by_parts (Ok one) (Err r) is are f = cc
+    by_parts (Err r) (Ok other) is are f = cc
+    by_parts (Err r) (Err s) is are f = cc
+
+-- a refusal of the first part, with the second
+pub both_refused : {S T : Type 0} (first : Result S Refusal) (second : Result T Refusal) (refusal result : Refusal) → first ≡ Err refusal → both_read {S = S} (Err refusal) second ≡ Err result →
+    both_read first second ≡ Err result
+both_refused first second refusal result is are = ap (λ a. both_read a second) is ∙ are

@@ -1,0 +1,25 @@
+-- Values of a row at places.
+use Rattle.std.proofs.Common.{◌≡◌, ◌<◌, ◌+◌, ◌++◌, ℕ, false, List, [], ◌∷◌, ap, append_assoc, sym, ◌∙◌, drop, get_or, length, slice_get, Some}
+use Rattle.std.proofs.lemmas.List.{drop_more}
+use Rattle.std.proofs.lemmas.Option.{get_or_from_slice_get}
+use Rattle.bt_rowtype.specs.Packing.{HasText, IsInRange}
+use Rattle.bt_rowtype.specs.declared.value.Value.{Value}
+use Rattle.bt_rowtype.specs.declared.value.Value.TheVariants as value
+use Rattle.bt_fanout.specs.Entries.{picked, value_in}
+
+-- a value in the range of its kind has a text, if it is one
+pub has_text : (v : Value) → IsInRange v → HasText v
+has_text (value.Int n) h = tt
+has_text (value.Text bytes) h = h
+has_text (value.Flag flag) h = tt
+
+-- the value that is found at a place
+pub value_seen : (row : List Value) (place : ℕ) (v : Value) → slice_get row place ≡ Some v → value_in row place ≡ v
+value_seen row place v is = get_or_from_slice_get row place v (value.Flag false) is
+
+-- the value at one place more
+pub one_more : (places : List ℕ) (i d : ℕ) (row : List Value) (v : Value) (whole old new : List Value) → i < length places → slice_get row (get_or places i d) ≡ Some v →
+    whole ≡ old ++ picked (drop i places) row → new ≡ old ++ v ∷ [] → whole ≡ new ++ picked (drop (i + 1) places) row
+one_more places i d row v whole old new within is so more =
+    so ∙ ap (λ ps. old ++ picked ps row) (drop_more places i d within) ∙ ap (λ x. old ++ x ∷ picked (drop (i + 1) places) row) (value_seen row (get_or places i d) v is)
+    ∙ sym (append_assoc old (v ∷ []) (picked (drop (i + 1) places) row)) ∙ ap (λ vs. vs ++ picked (drop (i + 1) places) row) (sym more)

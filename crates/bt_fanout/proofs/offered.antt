@@ -1,0 +1,4 @@
+-- What the crates above cite of the proofs of this one.
+pub mod Packets
+pub mod Standing
+pub mod Suiting

@@ -1,0 +1,48 @@
+-- Which keys an index covers, and how a step of its building moves that on.
+use Rattle.std.specs.Prelude.{ℕ, Bool, true, false, not, [], ◌∷◌, ◌++◌, take, length, nat_lt, Option, Some, None, if◌then◌else◌}
+use Rattle.bt_keycode.specs.Keys.{Key, is_before}
+use Rattle.bt_messages.specs.Effects.{Rows}
+use Rattle.bt_messages.specs.Messages.{Messages}
+use Rattle.bt_messages.specs.declared.message.Message.{Message}
+use Rattle.bt_messages.specs.declared.message.Message.TheVariants.{Put}
+use Rattle.bt_fanout.specs.Selections.{covered}
+use Rattle.bt_fanout.specs.declared.cover.Cover.{Cover}
+use Rattle.bt_fanout.specs.declared.cover.Cover.TheVariants.{Nothing, UpTo, Whole}
+
+-- whether a key is covered: none is, those at most a last one are, or all are
+abbrev pub is_covered : Cover → Key → Bool
+is_covered Nothing k = false
+is_covered (UpTo last) k = not (is_before last k)
+is_covered Whole k = true
+
+-- the rows that a step of building reads: the first n that aren't covered
+abbrev pub next_rows : {X : Type 0} → ℕ → Cover → Rows X → Rows X
+next_rows n cover rows = take n (covered (λ k. not (is_covered cover k)) rows)
+
+-- the last of keys, the first of which is this one
+abbrev pub last_key : {X : Type 0} → Key → Rows X → Key
+last_key k [] = k
+last_key k (r ∷ rows) = last_key r.0 rows
+
+-- up to the last key that was read; as it was, where none was read
+abbrev pub moved_to : {X : Type 0} → Cover → Rows X → Cover
+moved_to cover [] = cover
+moved_to cover (r ∷ rows) = UpTo (last_key r.0 rows)
+
+-- the cover after a step of building that was to read n rows and read these: whole, where they are fewer
+abbrev pub next_cover : {X : Type 0} → ℕ → Cover → Rows X → Cover
+next_cover n cover read = if nat_lt (length read) n then Whole else moved_to cover read
+
+-- the cover after a step of building on these rows
+abbrev pub cover_after : {X : Type 0} → ℕ → Cover → Rows X → Cover
+cover_after n cover rows = next_cover n cover (next_rows n cover rows)
+
+-- a put of an entry, if there is one
+abbrev pub put_of : {E D : Type 0} → Option (Key × E) → Messages (Message E D)
+put_of None = []
+put_of (Some e) = (e.0, Put e.1) ∷ []
+
+-- the entries of rows as puts
+abbrev pub puts_of : {X E D : Type 0} → (Key → X → Option (Key × E)) → Rows X → Messages (Message E D)
+puts_of entry [] = []
+puts_of entry (r ∷ rows) = put_of (entry r.0 r.1) ++ puts_of entry rows

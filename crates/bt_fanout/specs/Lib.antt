@@ -1,0 +1,7 @@
+pub mod Covers
+pub mod Definitions
+pub mod Effects
+pub mod Entries
+pub mod Groups
+pub mod Promises
+pub mod Selections

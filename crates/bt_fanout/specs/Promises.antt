@@ -1,0 +1,44 @@
+-- What is promised of the messages of an index.
+use Rattle.std.specs.Prelude.{◌≡◌, ◌++◌, ℕ, List, [], ◌∷◌, Some, T}
+use Rattle.std.specs.FinMap.{is_sorted}
+use Rattle.bt_rowtype.specs.declared.value.Kind.{Kind}
+use Rattle.bt_rowtype.specs.declared.value.Value.{Value}
+use Rattle.bt_keycode.specs.Keys.{key_cmp}
+use Rattle.bt_messages.specs.Effects.{Rows, rows_after}
+use Rattle.bt_messages.specs.Messages.{Messages, sorted_batch}
+use Rattle.bt_fanout.specs.Covers.{cover_after, is_covered, next_rows, put_of}
+use Rattle.bt_fanout.specs.Effects.{EntryMessage, RowMessage, effects_of, entry_effect, row_effect}
+use Rattle.bt_fanout.specs.Entries.{Definition, StandsUnder, entry_of, own_entry, same_values}
+use Rattle.bt_fanout.specs.Selections.{AllStand, covered, index_messages, select}
+use Rattle.bt_fanout.specs.declared.cover.Cover.{Cover}
+use Rattle.bt_fanout.specs.declared.effect.Effect.{Effect}
+
+-- the index of covered rows
+abbrev pub index_of : Definition → Cover → Rows (List Value) → Rows (List Value)
+index_of def cover rows = select (entry_of def) (covered (is_covered cover) rows)
+
+-- ---- batches
+
+-- a packet is that of a batch on rows, and turns the index of the covered rows before it into that of the covered rows after it
+pub record Turns (def : Definition) (cover : Cover) (batch : Messages RowMessage) (rows : Rows (List Value)) (packet : Messages EntryMessage) : Type 0 where
+  pub messages : packet ≡ sorted_batch (index_messages (entry_of def) same_values row_effect (is_covered cover) batch rows)
+  pub index : rows_after entry_effect packet (index_of def cover rows) ≡ index_of def cover (rows_after row_effect batch rows)
+
+-- whatever batch effects are of, where each row stands under the code of its key columns before and after it
+abbrev pub TurnsIndex : Definition → Cover → List Effect → Messages EntryMessage → Type 0
+TurnsIndex def cover effects packet =
+    (kinds : List Kind) (batch : Messages RowMessage) (rows : Rows (List Value)) → effects ≡ effects_of batch rows → T (is_sorted key_cmp rows) →
+    AllStand (StandsUnder def kinds) rows → AllStand (StandsUnder def kinds) (rows_after row_effect batch rows) → Turns def cover batch rows packet
+
+-- ---- steps of building
+
+-- the entries of rows under their own keys as puts
+abbrev pub own_puts : Definition → Rows (List Value) → Messages EntryMessage
+own_puts def [] = []
+own_puts def (r ∷ rows) = put_of (own_entry def (Some r.1)) ++ own_puts def rows
+
+-- where the rows are those that a step of building reads, the packet turns the index of the rows covered before it into that of the rows covered after it
+abbrev pub BuildsFrom : Definition → Rows (List Value) → Messages EntryMessage → Type 0
+BuildsFrom def read packet =
+    (kinds : List Kind) (n : ℕ) (cover : Cover) (rows : Rows (List Value)) → read ≡ next_rows n cover rows → T (is_sorted key_cmp rows) →
+    AllStand (StandsUnder def kinds) rows → rows_after entry_effect packet (index_of def cover rows) ≡ index_of def (cover_after n cover rows) rows

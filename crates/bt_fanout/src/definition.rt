@@ -1,0 +1,121 @@
+//! What an index is.
+ghost use Rattle.std.specs.Prelude.{◌≡◌, IfOk};
+ghost use Rattle.std.specs.Option.{option_copied};
+ghost use Rattle.bt_rowtype.specs.Answers.{Answers};
+ghost use Rattle.bt_fanout.specs.Definitions.{definition_as, kinds_of};
+ghost use Rattle.bt_fanout.specs.Entries.{SuitsKinds};
+
+use crate::reading::read_parts;
+use bt_rowtype::{Bytes, Refusal, Schema, Sequence, Text, Texts, Value};
+use std::alloc::Global;
+use std::marker::Model;
+
+/// The most columns that an index is ordered by.
+pub const MOST_ON: usize = 4;
+
+/// The most columns that an index includes.
+pub const MOST_INCLUDED: usize = 8;
+
+/// How the value of a column is compared with a constant.
+#[derive(Clone, Copy, Debug, PartialEq, Eq)]
+pub enum Test {
+    Equal,
+    Less,
+    AtLeast,
+}
+
+/// Which rows an index is asked to have: those whose value in a column passes the test against a constant.
+#[derive(Debug, Drop)]
+pub struct Filter {
+    /// The name of the column.
+    pub column: Text,
+    pub test: Test,
+    /// The bytes of a field, which spells a value of the column.
+    pub constant: Bytes,
+}
+
+/// Which rows an index has: those whose value at a place, counted from 0, passes the test against a constant.
+#[derive(Debug, Drop)]
+pub struct Condition {
+    pub place: usize,
+    pub test: Test,
+    pub constant: Value,
+}
+
+/// What an index is: the places of the columns that it is ordered by and of those that it includes, counted from 0 and each in the
+/// order in which they were named, the condition on its rows, and how many columns are the key of the table.
+#[derive(Debug, Drop)]
+pub struct IndexDef {
+    on: Sequence<usize>,
+    include: Sequence<usize>,
+    condition: Option<Condition>,
+    keys: usize,
+}
+
+impl Model for IndexDef {
+    ghost use Rattle.bt_fanout.specs.Entries.{Definition};
+
+    ghost Value = { Definition };
+
+    ghost view = { λ d. record { on = d.on; include = d.include; condition = d.condition; keys = d.keys } };
+}
+
+impl IndexDef {
+    /// The definition of an index on 1 to 4 columns, which includes up to 8, with these names; a name may stand twice.
+    ///
+    /// The least refusal that applies is answered: `BadField` of item 1 where the constant is no value of its column, which is not tested
+    /// where there is no such column; `TooMany` where one of the lists is too long; `NoSuchColumn` where a name is not of the schema.
+    pub fn new(
+        alloc: Global,
+        schema: &Schema,
+        on: &Texts,
+        include: &Texts,
+        filter: Option<&Filter>,
+    ) -> Result<Self, Refusal>
+        ensures answer { Answers (definition_as schema.now on.now include.now (option_copied filter.entry)) result }
+        ensures suits { IfOk result (λ def. SuitsKinds def (kinds_of schema.now.columns)) }
+        ensures keys { IfOk result (λ def. def.keys ≡ schema.now.keys) }
+    {
+        let (condition, chosen) = read_parts(
+            alloc,
+            schema.columns(),
+            on.as_slice(),
+            include.as_slice(),
+            filter,
+        )?;
+        Ok(IndexDef {
+            on: chosen.0,
+            include: chosen.1,
+            condition,
+            keys: schema.keys(),
+        })
+    }
+
+    /// The places of the columns that the index is ordered by.
+    pub fn on(&self) -> &[usize]
+        ensures { result.now ≡ self.now.on }
+    {
+        self.on.as_slice()
+    }
+
+    /// The places of the columns that the index includes.
+    pub fn include(&self) -> &[usize]
+        ensures { result.now ≡ self.now.include }
+    {
+        self.include.as_slice()
+    }
+
+    // The condition on the rows, if there is one.
+    pub(crate) fn condition(&self) -> &Option<Condition>
+        ensures { result.now ≡ self.now.condition }
+    {
+        &self.condition
+    }
+
+    // How many columns are the key of the table.
+    pub(crate) fn keys(&self) -> usize
+        ensures { result ≡ self.now.keys }
+    {
+        self.keys
+    }
+}

@@ -1,0 +1,143 @@
+//! The messages of an index for what a batch does to rows.
+ghost use Rattle.std.specs.Prelude.{◌≡◌, ◌++◌, IfOk, OnOk, Some};
+ghost use Rattle.std.specs.List.{All};
+ghost use Rattle.bt_rowtype.specs.Views.{shown};
+ghost use Rattle.bt_messages.specs.Messages.{sorted_batch};
+ghost use Rattle.bt_fanout.specs.Effects.{SuitsEffect, SuitsIn, sent_for, sent_for_all};
+ghost use Rattle.bt_fanout.specs.Entries as spec;
+ghost use Rattle.bt_fanout.specs.Promises.{TurnsIndex};
+ghost use Rattle.bt_fanout.specs.Selections.{between};
+
+use crate::cover::{Cover, covers};
+use crate::definition::IndexDef;
+use crate::effect::Effect;
+use crate::selecting::entry;
+use bt_keycode::Key;
+use bt_messages::{Entry, Message, Packet};
+use bt_rowtype::{Row, ValueRef, Values};
+use std::alloc::{AllocError, Global};
+use std::cmp::Ordering;
+
+fn same_value(left: ValueRef<'_>, right: ValueRef<'_>) -> bool
+    ensures { result ≡ spec.same_value (shown left.entry) (shown right.entry) }
+{
+    match (left, right) {
+        (ValueRef::Int(a), ValueRef::Int(b)) => a == b,
+        (ValueRef::Text(a), ValueRef::Text(b)) => a == b,
+        (ValueRef::Flag(a), ValueRef::Flag(b)) => a == b,
+        _ => false,
+    }
+}
+
+fn same_values(left: Values<'_>, right: Values<'_>) -> bool
+    ensures { result ≡ spec.same_values left.entry right.entry }
+{
+    let mut lefts = left;
+    let mut rights = right;
+    while let Some(a) = lefts.next() {
+        let Some(b) = rights.next() else {
+            return false;
+        };
+        if !same_value(a, b) {
+            return false;
+        }
+    }
+    rights.is_empty()
+}
+
+// Adds what takes an entry to another one that is there too.
+fn add_change(
+    messages: &mut Vec<(Key, Message<Entry>)>,
+    old: (Key, Entry),
+    new: (Key, Entry),
+) -> Result<(), AllocError>
+    ensures { OnOk result (messages.new.items ≡ messages.old.items ++ between spec.same_values (Some old) (Some new)) }
+{
+    let (old_key, old_value) = old;
+    let (key, value) = new;
+    if old_key.compare(&key) == Ordering::Equal {
+        if !same_values(old_value.as_row().values(), value.as_row().values()) {
+            messages.push((key, Message::Put(value)))?;
+        }
+        return Ok(());
+    }
+    let deletion = (old_key, Message::Del);
+    let insertion = (key, Message::Put(value));
+    messages.push(deletion)?;
+    messages.push(insertion)?;
+    Ok(())
+}
+
+// Adds what takes an entry, or none, to another one, or none.
+fn add_between(
+    messages: &mut Vec<(Key, Message<Entry>)>,
+    old: Option<(Key, Entry)>,
+    new: Option<(Key, Entry)>,
+) -> Result<(), AllocError>
+    ensures { OnOk result (messages.new.items ≡ messages.old.items ++ between spec.same_values old new) }
+{
+    match (old, new) {
+        (None, None) => Ok(()),
+        (None, Some((key, value))) => {
+            messages.push((key, Message::Put(value)))?;
+            Ok(())
+        }
+        (Some((key, _value)), None) => {
+            messages.push((key, Message::Del))?;
+            Ok(())
+        }
+        (Some(old), Some(new)) => add_change(messages, old, new),
+    }
+}
+
+// The entry of a row, if there is a row that has one.
+fn own_entry(
+    alloc: Global,
+    def: &IndexDef,
+    row: &Option<Row>,
+) -> Result<Option<(Key, Entry)>, AllocError>
+    requires { SuitsIn def.now row.now }
+    ensures { IfOk result (λ entry. entry ≡ spec.own_entry def.now row.now) }
+{
+    match row {
+        None => Ok(None),
+        Some(row) => entry(alloc, def, row),
+    }
+}
+
+// Adds what an effect sends.
+fn add_effect(
+    alloc: Global,
+    messages: &mut Vec<(Key, Message<Entry>)>,
+    def: &IndexDef,
+    cover: &Cover,
+    effect: &Effect,
+) -> Result<(), AllocError>
+    requires { SuitsEffect def.now effect.now }
+    ensures { OnOk result (messages.new.items ≡ messages.old.items ++ sent_for def.now cover.now effect.now) }
+{
+    if !covers(cover, &effect.key) {
+        return Ok(());
+    }
+    let old = own_entry(alloc, def, &effect.before)?;
+    let new = own_entry(alloc, def, &effect.after)?;
+    add_between(messages, old, new)
+}
+
+/// The packet of an index for the effects of a batch.
+pub fn index_packet(
+    alloc: Global,
+    def: &IndexDef,
+    cover: &Cover,
+    effects: &[Effect],
+) -> Result<Packet<Entry>, AllocError>
+    requires { All (SuitsEffect def.now) effects.now }
+    ensures packet { IfOk result (λ packet. packet ≡ sorted_batch (sent_for_all def.now cover.now effects.now)) }
+    ensures turns { IfOk result (λ packet. TurnsIndex def.now cover.now effects.now packet) }
+{
+    let mut messages = Vec::new(alloc);
+    for effect in effects {
+        add_effect(alloc, &mut messages, def, cover, effect)?;
+    }
+    Packet::from_batch(alloc, messages)
+}

@@ -1,0 +1,111 @@
+//! The entry of a row.
+ghost use Rattle.std.specs.Prelude.{◌≡◌, ◌<◌, ◌++◌, IfOk, OnOk, length, take};
+ghost use Rattle.std.specs.List.{All};
+ghost use Rattle.bt_rowtype.specs.Values.{value_cmp};
+ghost use Rattle.bt_rowtype.specs.Views.{shown};
+ghost use Rattle.bt_keycode.specs.Codes.{code_of};
+ghost use Rattle.bt_fanout.specs.Entries.{HasPlace, IsWithin, entry_of, key_of, meets, passes, picked};
+
+use crate::definition::{Condition, IndexDef, Test};
+use bt_keycode::{Key, encode_row};
+use bt_messages::Entry;
+use bt_rowtype::{Row, ValueRef};
+use std::alloc::{AllocError, Global};
+use std::cmp::Ordering;
+
+// Adds the values of a row at places.
+#[tactic(auto, using(crate::proofs::Picking::has_text, crate::proofs::Picking::value_seen))]
+fn add_picked(
+    alloc: Global,
+    values: &mut Row,
+    row: &Row,
+    places: &[usize],
+) -> Result<(), AllocError>
+    requires { All (λ place. place < length row.now) places.now }
+    ensures { OnOk result (values.new ≡ values.old ++ picked places.now row.now) }
+{
+    for place in places {
+        values.push(alloc, row.get(*place))?;
+    }
+    Ok(())
+}
+
+// Adds the first values of a row.
+fn add_first(alloc: Global, values: &mut Row, row: &Row, count: usize) -> Result<(), AllocError>
+    ensures { OnOk result (values.new ≡ values.old ++ take count row.now) }
+{
+    let mut rest = row.first_values(count);
+    while let Some(value) = rest.next() {
+        values.push(alloc, value)?;
+    }
+    Ok(())
+}
+
+// The order of two values of a kind.
+fn compare(left: ValueRef<'_>, right: ValueRef<'_>) -> Ordering
+    ensures { result ≡ value_cmp (shown left.entry) (shown right.entry) }
+{
+    match (left, right) {
+        (ValueRef::Int(a), ValueRef::Int(b)) => a.cmp(&b),
+        (ValueRef::Text(a), ValueRef::Text(b)) => a.cmp(b),
+        (ValueRef::Flag(a), ValueRef::Flag(b)) => a.cmp(&b),
+        _ => Ordering::Equal,
+    }
+}
+
+fn meets_test(test: Test, order: Ordering) -> bool
+    ensures { result ≡ meets test order }
+{
+    match test {
+        Test::Equal => order == Ordering::Equal,
+        Test::Less => order == Ordering::Less,
+        Test::AtLeast => order != Ordering::Less,
+    }
+}
+
+// Whether a row meets a condition, if there is one.
+#[tactic(auto, using(crate::proofs::Picking::value_seen))]
+fn meets_condition(condition: &Option<Condition>, row: &Row) -> bool
+    requires { HasPlace condition.now (length row.now) }
+    ensures { result ≡ passes condition.now row.now }
+{
+    match condition {
+        None => true,
+        Some(condition) => {
+            let order = compare(row.get(condition.place), condition.constant.as_ref());
+            meets_test(condition.test, order)
+        }
+    }
+}
+
+// The key of the entry of a row: the code of the columns that the index is ordered by, and of the key.
+fn entry_key(alloc: Global, def: &IndexDef, row: &Row) -> Result<Key, AllocError>
+    requires { IsWithin def.now (length row.now) }
+    ensures { IfOk result (λ key. key ≡ code_of (picked def.now.on row.now) ++ key_of def.now row.now) }
+{
+    let mut values = Row::new();
+    add_picked(alloc, &mut values, row, def.on())?;
+    add_first(alloc, &mut values, row, def.keys())?;
+    encode_row(alloc, &values, values.len())
+}
+
+// The included columns of a row.
+fn included(alloc: Global, def: &IndexDef, row: &Row) -> Result<Entry, AllocError>
+    requires { IsWithin def.now (length row.now) }
+    ensures { IfOk result (λ entry. entry ≡ picked def.now.include row.now) }
+{
+    let mut values = Row::new();
+    add_picked(alloc, &mut values, row, def.include())?;
+    Ok(Entry::new(values))
+}
+
+/// The entry of a row, if it passes the filter: its key and its value.
+pub fn entry(alloc: Global, def: &IndexDef, row: &Row) -> Result<Option<(Key, Entry)>, AllocError>
+    requires { IsWithin def.now (length row.now) }
+    ensures { IfOk result (λ entry. entry ≡ entry_of def.now (key_of def.now row.now) row.now) }
+{
+    if !meets_condition(def.condition(), row) {
+        return Ok(None);
+    }
+    Ok(Some((entry_key(alloc, def, row)?, included(alloc, def, row)?)))
+}
