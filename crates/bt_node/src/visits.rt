@@ -36,7 +36,11 @@ fn next_pivot<'a>(pivots: &'a [Key], place: usize, to: Option<&Key>) -> Option<&
     ensures { option_copied result ≡ next_bound (option_copied to.entry) place pivots.now }
 {
     let pivot = pivots.get(place)?;
-    if lies_before(pivot, to) { Some(pivot) } else { None }
+    if lies_before(pivot, to) {
+        Some(pivot)
+    } else {
+        None
+    }
 }
 
 /// Adds the parts of leaves that have the rows between the bounds which a node holds when all its messages, and then newer ones

@@ -106,14 +106,14 @@ loop-place-preserved g t c =
     omega (arith, c.loop-place-test.true, c.len-place-end.ensures.count, ap length c.nodes.ensures, length-map c.in-Inner.children (λ x. x.1)) in
     record {
       wanted = ap (λ n. all_rows c.add_parts_between.new.parts.items ++ between n to (rows_after effect c.take_before.new.self (holds effect c.args.node.now))) next_is
-      ∙ next_part effect c.args.node.now c.in-Inner.children (joined c.in-Inner.bins) here c.requires.order c.nodes.result.now pivots place c.index-nodes-place.result
-      c.nodes.ensures c.pivots-pivots.ensures.pivots c.pivots-pivots.ensures.some there c.index-nodes-place.is low high c.loop-place.newer c.in_ok-above-in-Inner.above c.bin_between.result c.in_ok-messages-in-Inner.messages
-      (λ q inside. belongs low to next high pivots place q so_far.begins c.next_pivot-next.ensures high_is inside)
-      (λ q inside. bin-between effect low high pivots c.in-Inner.bins place c.bin_between.result lie c.bin_between.ensures.messages q inside
-      (belongs low to next high pivots place q so_far.begins c.next_pivot-next.ensures high_is inside))
-      c.bin_between.ensures.sorted c.in_ok-above-in-Inner.ensures.taken c.in_ok-messages-in-Inner.ensures
-      (all_rows c.loop-place.parts.items) (all_rows c.add_parts_between.new.parts.items) _ to p c.take_before.new.self high_key left
-      (next_from low to p pivots place bound so_far.begins) (next_below low to p pivots place bound) so_far.wanted c.in_ok-add_parts_between-in-Inner.ensures;
+          ∙ next_part effect c.args.node.now c.in-Inner.children (joined c.in-Inner.bins) here c.requires.order c.nodes.result.now pivots place c.index-nodes-place.result
+          c.nodes.ensures c.pivots-pivots.ensures.pivots c.pivots-pivots.ensures.some there c.index-nodes-place.is low high c.loop-place.newer c.in_ok-above-in-Inner.above c.bin_between.result c.in_ok-messages-in-Inner.messages
+          (λ q inside. belongs low to next high pivots place q so_far.begins c.next_pivot-next.ensures high_is inside)
+          (λ q inside. bin-between effect low high pivots c.in-Inner.bins place c.bin_between.result lie c.bin_between.ensures.messages q inside
+          (belongs low to next high pivots place q so_far.begins c.next_pivot-next.ensures high_is inside))
+          c.bin_between.ensures.sorted c.in_ok-above-in-Inner.ensures.taken c.in_ok-messages-in-Inner.ensures
+          (all_rows c.loop-place.parts.items) (all_rows c.add_parts_between.new.parts.items) _ to p c.take_before.new.self high_key left
+          (next_from low to p pivots place bound so_far.begins) (next_below low to p pivots place bound) so_far.wanted c.in_ok-add_parts_between-in-Inner.ensures;
       sorted = subst IsSorted (sym left) (sorted-where (λ k. not (is_between None high k)) c.loop-place.newer so_far.sorted);
       within = subst (λ n. AllWithin n to c.take_before.new.self) (sym next_is) (subst (AllWithin (Some p) to) (sym rest) (rest-within low to p c.loop-place.newer so_far.within));
       begins = next_begins low to p pivots place bound rising ∙ ap (λ n. first_place n pivots) (sym next_is);
