@@ -271,18 +271,23 @@ fn add_parts<V: Sample>(alloc: Global, out: &mut Vec<u8>, node: Node<V>) -> Resu
     }
 }
 
-// The parts of what the parts of a root are dealt into.
-fn regrouped_text(alloc: Global) -> Result<Vec<u8>, Refusal> {
-    let mut out = Vec::new(alloc);
-    let (shape, root) = pending::<Entry>(alloc)?.apart();
+// What the parts of a root are dealt into: of a leaf, no node.
+fn regrouped<V: Sample>(alloc: Global, tree: Tree<V>) -> Result<Vec<Node<V>>, AllocError> {
+    let (shape, root) = tree.apart();
     match root.apart() {
-        Parts::Leaf(_leaf) => {}
+        Parts::Leaf(_leaf) => Ok(Vec::new(alloc)),
         Parts::Inner { children, bins } => {
             let (nodes, _pivots) = regroup(alloc, shape, children, bins)?.apart();
-            for node in nodes {
-                add_parts(alloc, &mut out, node)?;
-            }
+            Ok(nodes)
         }
+    }
+}
+
+// The parts of the nodes that the parts of a root are dealt into.
+fn regrouped_text(alloc: Global) -> Result<Vec<u8>, Refusal> {
+    let mut out = Vec::new(alloc);
+    for node in regrouped(alloc, pending::<Entry>(alloc)?)? {
+        add_parts(alloc, &mut out, node)?;
     }
     Ok(out)
 }
