@@ -13,11 +13,7 @@ use Rattle.bt_node.proofs.lemmas.flushes.Laws.{anywhere, fit_there, hold_rows_af
 use Rattle.bt_node.proofs.lemmas.flushes.RowsKept.{holds-lie}
 use Rattle.bt_node.proofs.lemmas.rows.RowsAfter.{rows-sorted}
 
-module _ {V M : Type 0} (effect : Option V → M → Option V) (shape : Shape) (t : Tree V M) (has : HasShape shape t) where
-  -- its keys strictly rise
-  pub holds-sorted : T (is_sorted key_cmp (holds effect t))
-  holds-sorted = rows-sorted None None (holds effect t) (holds-lie effect has.levels None None t has.fits.lies)
-
+module _ {V M : Type 0} (shape : Shape) (t : Tree V M) (has : HasShape shape t) where
   -- its keys are in order
   pub shaped-in_order : IsInOrder t
   shaped-in_order = (has.levels, None, None, has.fits.lies)
@@ -27,6 +23,11 @@ module _ {V M : Type 0} (effect : Option V → M → Option V) (shape : Shape) (
   shaped-inner xs buffer is =
       let sized = subst (IsSized shape) is has.fits.sized in
       (subst (λ ys. 2 ≤ length ys) (children-nodes xs) sized.0, sized.2)
+
+module _ {V M : Type 0} (effect : Option V → M → Option V) (shape : Shape) (t : Tree V M) (has : HasShape shape t) where
+  -- its keys strictly rise
+  pub holds-sorted : T (is_sorted key_cmp (holds effect t))
+  holds-sorted = rows-sorted None None (holds effect t) (holds-lie effect has.levels None None t has.fits.lies)
 
   module _ (packet : Messages M) where
     absorbed-fit : SiblingsFit shape has.levels None None (absorb effect shape t packet)
