@@ -2,7 +2,7 @@
 use bt_rowtype::{Columns, RecordLine, Refusal, Sequence, Text};
 
 /// A message of a batch. Its record lies in the script, and is cut when it is read.
-#[derive(Debug, Drop)]
+#[derive(Drop)]
 pub enum Item<'a> {
     /// The fields of a row, one for each column.
     Put(RecordLine<'a>),
@@ -16,7 +16,7 @@ pub enum Item<'a> {
 pub type Items<'a> = Sequence<Item<'a>>;
 
 /// What a table is made of.
-#[derive(Debug, Drop)]
+#[derive(Drop)]
 pub struct TableForm {
     /// The most children of an inner node.
     pub fanout: u32,
@@ -30,7 +30,7 @@ pub struct TableForm {
 }
 
 /// A command.
-#[derive(Debug, Drop)]
+#[derive(Drop)]
 pub enum Command<'a> {
     /// `table F C L K name:kind ..`
     Table(TableForm),
@@ -45,7 +45,7 @@ pub enum Command<'a> {
 }
 
 /// What stands at a place of a script.
-#[derive(Debug, Drop)]
+#[derive(Drop)]
 pub enum Parsed<'a> {
     /// No further command.
     End,

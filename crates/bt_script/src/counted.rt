@@ -8,7 +8,7 @@ use std::io;
 use std::io::{Read, Write};
 
 /// A reader or writer that passes its calls on, keeps whether one of them has failed, and counts its bytes.
-#[derive(Debug, Drop)]
+#[derive(Drop)]
 pub struct Counted<T> {
     inner: T,
     failed: bool,

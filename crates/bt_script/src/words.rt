@@ -9,14 +9,14 @@ use clap::{Arg, ArgAction, ArgMatches, Command, Error};
 use std::alloc::{AllocError, Global};
 
 /// What the words say.
-#[derive(Debug, Drop)]
+#[derive(Drop)]
 pub struct Words {
     /// The file of the script, where one is named. Otherwise the script is the standard input.
     pub script: Option<String>,
 }
 
 /// Why the words say nothing to run.
-#[derive(Debug, Drop)]
+#[derive(Drop)]
 pub enum WordsError {
     /// An unknown option, an option twice or without its value, or a word too many.
     Faulty,
