@@ -104,25 +104,31 @@ fn after_all(alloc: Global, row: &Row, ops: &[Op]) -> Result<Row, AllocError>
     values.pack(alloc)
 }
 
-// Whether more than one operation sets a value.
-fn set_several(ops: &[Op]) -> bool {
+// How many operations set a value.
+fn sets(ops: &[Op]) -> usize {
     let mut sets: usize = 0;
     for op in ops {
         if let Op::Set(_, _) = op {
             sets = sets.saturating_add(1);
         }
     }
-    sets > 1
+    sets
+}
+
+// Whether so many values are set that it takes less time to go through all values and to write the row once.
+fn sets_many(row: &Row, ops: &[Op]) -> bool {
+    let sets = sets(ops);
+    sets > 1 && sets > row.len() / 4
 }
 
 /// The row after operations in turn. An operation on a place that the row hasn't, or an addition to what is no int, does
 /// nothing.
 ///
-/// Additions alone are written in place. Where several values are set, the row is written once, behind the last operation.
+/// Additions alone are written in place, and take no memory.
 pub fn apply_ops(alloc: Global, row: Row, ops: &[Op]) -> Result<Row, AllocError>
     ensures { IfOk result (λ after. after ≡ spec.after_ops ops.now row) }
 {
-    if set_several(ops) {
+    if sets_many(&row, ops) {
         after_all(alloc, &row, ops)
     } else {
         after_each(alloc, row, ops)
