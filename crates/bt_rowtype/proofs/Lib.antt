@@ -3,6 +3,7 @@ pub mod Exits
 pub mod Found
 pub mod Groups
 pub mod IntTexts
+pub mod LentValues
 pub mod Marks
 pub mod offered
 pub mod Packing

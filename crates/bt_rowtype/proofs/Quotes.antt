@@ -1,6 +1,8 @@
 -- A text between quotes, byte by byte. Serves writing a record.
-use Rattle.std.proofs.Common.{ℕ, List, [], ◌∷◌, ◌++◌, ◌+◌, ◌<◌, ◌≡◌, ◌≢◌, ◌∙◌, refl, ap, length, take, get_or, append_assoc}
-use Rattle.csv.specs.Writing.{default_writer, escaped}
+use Rattle.std.proofs.Common.{ℕ, List, [], ◌∷◌, ◌++◌, ◌+◌, ◌<◌, ◌≤◌, ◌≡◌, ◌≢◌, ◌∙◌, refl, ap, length, take, get_or, append_assoc}
+use Rattle.std.proofs.lemmas.List.{take_all}
+use Rattle.csv.specs.Writing.{default_writer, escaped, quoted}
+use Rattle.bt_rowtype.specs.Records.{Grows}
 use Rattle.csv.proofs.WriteFacts.{escaped-double, escaped-other, quoted-step}
 
 -- a quote stands there twice
@@ -22,3 +24,14 @@ more_escaped old out new text i within so_far added =
     let first = 34 ∷ escaped default_writer (take i text) in
     let byte = escaped default_writer (get_or text i 0 ∷ []) in
     added ∙ ap (λ (t : List ℕ). t ++ byte) so_far ∙ append_assoc old first byte ∙ ap (λ (t : List ℕ). old ++ t) (quoted-step default_writer 34 text i within)
+
+-- all bytes, and the quote behind them
+pub all_quoted : (old out new text : List ℕ) (i : ℕ) → length text ≤ i → out ≡ old ++ (34 ∷ escaped default_writer (take i text)) → new ≡ out ++ 34 ∷ []
+    → new ≡ old ++ quoted default_writer text
+all_quoted old out new text i past so_far added =
+    added ∙ ap (λ (t : List ℕ). t ++ 34 ∷ []) so_far ∙ append_assoc old (34 ∷ escaped default_writer (take i text)) (34 ∷ [])
+    ∙ ap (λ (t : List ℕ). old ++ (34 ∷ (escaped default_writer t ++ 34 ∷ []))) (take_all i text past)
+
+-- quotes that were begun
+pub begun : (old out new : List ℕ) (more : List ℕ) → out ≡ old ++ more → new ≡ out → Grows old new
+begun old out new more so_far same = (more, same ∙ so_far)

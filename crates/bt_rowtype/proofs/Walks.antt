@@ -1,5 +1,5 @@
 -- A walk over the bytes of values.
-use Rattle.std.proofs.Common.{◌≡◌, ◌≢◌, ℕ, zero, suc, ◌+◌, ◌<◌, ◌≤◌, ◌==◌, List, [], ◌∷◌, ◌++◌, length, length-append, length-drop, append-nil, take, drop, get_or, set, slice_get, map, None, Some, refl, sym, ap, subst, ◌∙◌, arith}
+use Rattle.std.proofs.Common.{◌≡◌, ◌≢◌, ℕ, zero, suc, ◌+◌, ◌<◌, ◌≤◌, ◌==◌, true, false, List, [], ◌∷◌, ◌++◌, length, length-append, length-drop, append-nil, take, drop, get_or, set, slice_get, map, None, Some, refl, sym, ap, subst, ◌∙◌, arith}
 use Rattle.std.proofs.Math.Logic.{⊎_elim}
 use Rattle.std.proofs.lemmas.Bool.{cases_lt, ne_eqb}
 use Rattle.std.proofs.lemmas.List.{take_all, drop_all}
@@ -104,9 +104,13 @@ are_first_packed bytes count end h here = subst IsPacked here.front (are_packed 
 pub are_first : (bytes : List ℕ) (count end : ℕ) → IsPacked bytes → IsAt bytes count end → unpacked (take end bytes) ≡ take count (unpacked bytes)
 are_first bytes count end h here = ap unpacked (sym here.front) ∙ unpacked-packed _ (in_range-take count (unpacked bytes) h.in_range)
 
-pub none_of_none : (bytes : List ℕ) → length bytes ≡ 0 → unpacked bytes ≡ []
+pub none_of_none : (bytes : List ℕ) → (length bytes == 0) ≡ true → unpacked bytes ≡ []
 none_of_none [] e = unpacked_none
-none_of_none (b ∷ bs) e = absurd (omega arith)
+none_of_none (b ∷ bs) e = let other : (length (b ∷ bs) == 0) ≡ false = ne_eqb (length (b ∷ bs)) 0 (λ (z : length (b ∷ bs) ≡ 0). omega arith) in absurd cc
+
+pub some_byte : (bytes : List ℕ) → (length bytes == 0) ≡ false → 0 < length bytes
+some_byte [] e = absurd cc
+some_byte (b ∷ bs) e = omega arith
 
 -- there is no value just where there is no byte
 pub none_left : (bytes : List ℕ) → IsPacked bytes → (length bytes == 0) ≡ (length (unpacked bytes) == 0)

@@ -38,7 +38,7 @@ fn write_int(bytes: &mut [u8], at: usize, number: i64)
 }
 
 // The sum, held at the least and the greatest of 64 bits.
-fn sum(old: i64, number: i64) -> i64
+pub(crate) fn sum(old: i64, number: i64) -> i64
     ensures { result ≡ saturate_to_bits 63 (old +ℤ number) }
 {
     old.saturating_add(number)

@@ -29,6 +29,7 @@ mod cut;
 mod field;
 mod fields;
 mod int;
+mod lent_row;
 mod line;
 mod op;
 mod op_faults;

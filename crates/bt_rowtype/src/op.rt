@@ -6,6 +6,7 @@ ghost use Rattle.bt_rowtype.specs.Values.{default_of};
 ghost use Rattle.bt_rowtype.specs.Views.{shown};
 
 use crate::copies::TryClone;
+use crate::lent_row::LentRow;
 use crate::packed_row::{Row, width_of_value};
 use crate::schema::{Column, Schema};
 use crate::sequence::Sequence;
@@ -81,9 +82,8 @@ fn apply_op(alloc: Global, row: &mut Row, op: &Op) -> Result<(), AllocError>
     }
 }
 
-/// The row after operations in turn. An operation on a place that the row hasn't, or an addition to what is no int, does
-/// nothing.
-pub fn apply_ops(alloc: Global, row: Row, ops: &[Op]) -> Result<Row, AllocError>
+// The row after operations in turn, each of which writes it.
+fn after_each(alloc: Global, row: Row, ops: &[Op]) -> Result<Row, AllocError>
     ensures { IfOk result (λ after. after ≡ spec.after_ops ops.now row) }
 {
     let mut after = row;
@@ -91,6 +91,48 @@ pub fn apply_ops(alloc: Global, row: Row, ops: &[Op]) -> Result<Row, AllocError>
         apply_op(alloc, &mut after, op)?;
     }
     Ok(after)
+}
+
+// The row after operations in turn, which is written once.
+fn after_all(alloc: Global, row: &Row, ops: &[Op]) -> Result<Row, AllocError>
+    ensures { IfOk result (λ after. after ≡ spec.after_ops ops.now row.now) }
+{
+    let mut values = LentRow::of(alloc, row)?;
+    for op in ops {
+        values.apply(op);
+    }
+    values.pack(alloc)
+}
+
+// How many operations set a value.
+fn sets(ops: &[Op]) -> usize {
+    let mut sets: usize = 0;
+    for op in ops {
+        if let Op::Set(_, _) = op {
+            sets = sets.saturating_add(1);
+        }
+    }
+    sets
+}
+
+// Whether so many values are set that it takes less time to go through all values and to write the row once.
+fn sets_many(row: &Row, ops: &[Op]) -> bool {
+    let sets = sets(ops);
+    sets > 1 && sets > row.len() / 4
+}
+
+/// The row after operations in turn. An operation on a place that the row hasn't, or an addition to what is no int, does
+/// nothing.
+///
+/// Additions alone are written in place, and take no memory.
+pub fn apply_ops(alloc: Global, row: Row, ops: &[Op]) -> Result<Row, AllocError>
+    ensures { IfOk result (λ after. after ≡ spec.after_ops ops.now row) }
+{
+    if sets_many(&row, ops) {
+        after_all(alloc, &row, ops)
+    } else {
+        after_each(alloc, row, ops)
+    }
 }
 
 impl TryClone for Op {

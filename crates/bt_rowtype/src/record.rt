@@ -53,7 +53,6 @@ fn add_escaped(out: &mut Vec<u8>, byte: u8) -> Result<(), AllocError>
 }
 
 // Adds a text between quotes, with each quote in it doubled, or a part of that before an `Err`.
-#[tactic(auto, using(crate::proofs::Quotes::none_escaped, crate::proofs::Quotes::more_escaped))]
 fn add_quoted(out: &mut Vec<u8>, text: &[u8]) -> Result<(), AllocError>
     ensures ok { OnOk result (out.new.items ≡ out.old.items ++ quoted default_writer text.now) }
     ensures err { OnErr result (Grows out.old.items out.new.items) }

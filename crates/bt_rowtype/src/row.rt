@@ -26,18 +26,22 @@ pub(crate) fn read_at(kind: Kind, item: u64, field: &[u8]) -> Result<ValueRef<'_
     }
 }
 
-// The bytes that values of these columns take, of which texts have the bytes of their fields.
+// The bytes that a value of a kind takes, of which a text has the bytes of its field.
+fn room_of(kind: Kind, field: &[u8]) -> usize {
+    match kind {
+        Kind::Int => 9,
+        Kind::Text => field.len().saturating_add(2),
+        Kind::Flag => 1,
+    }
+}
+
+// The bytes that values of these columns take.
 fn room_for(columns: &[Column], fields: &Record<'_>) -> usize
     requires { length columns.now ≤ length fields.now }
 {
     let mut room: usize = 0;
     for (place, column) in columns.iter().enumerate() {
-        let width = match column.kind {
-            Kind::Int => 9,
-            Kind::Text => fields.get(place).len().saturating_add(2),
-            Kind::Flag => 1,
-        };
-        room = room.saturating_add(width);
+        room = room.saturating_add(room_of(column.kind, fields.get(place)));
     }
     room
 }

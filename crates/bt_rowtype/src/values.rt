@@ -36,7 +36,6 @@ impl<'a> Model for Values<'a> {
 }
 
 // The first value of bytes, and the bytes behind it.
-#[tactic(auto, using(crate::proofs::Packing::has_first, crate::proofs::Walks::none_of_none))]
 fn next_packed(bytes: &[u8]) -> Option<(ValueRef<'_>, &[u8])>
     requires { IsPacked bytes.now }
     ensures some { IfSome result (λ read. unpacked bytes.now ≡ shown read.0 ∷ unpacked read.1.now) }
@@ -51,7 +50,6 @@ fn next_packed(bytes: &[u8]) -> Option<(ValueRef<'_>, &[u8])>
 }
 
 // Whether bytes are those of no value.
-#[tactic(auto, using(crate::proofs::Walks::none_left))]
 fn holds_none(bytes: &[u8]) -> bool
     requires { IsPacked bytes.now }
     ensures { result ≡ (length (unpacked bytes.now) == 0) }

@@ -1,6 +1,6 @@
 use Rattle.std.proofs.Common.{◌≡◌, drop}
 use Rattle.bt_rowtype.specs.Ops.{after_ops}
-use Rattle.bt_rowtype.proofs.op.apply_ops.Given as goal
+use Rattle.bt_rowtype.proofs.op.after_each.Given as goal
 
 -- the operations from here on are to be done
 abbrev pub invariant-loop-op : goal.invariant-loop-op

@@ -1,0 +1,19 @@
+-- Values that are lent, one of which is replaced.
+use Rattle.std.proofs.Common.{◌≡◌, ℕ, ◌<◌, ◌≤◌, List, arith, sym, subst, ap, ◌∙◌, get_or, length, map, set, pos}
+use Rattle.std.proofs.lemmas.List.{get_or-map, length-map, map-set}
+use Rattle.std.proofs.lemmas.List.Elements.{All-set}
+use Rattle.std.specs.List.{All}
+use Rattle.bt_rowtype.specs.Ops.{added, after_op}
+use Rattle.bt_rowtype.specs.Packing.{HasText}
+use Rattle.bt_rowtype.specs.Views.{shown}
+use Rattle.bt_rowtype.specs.declared.op.Op.TheVariants.{Add}
+use Rattle.bt_rowtype.specs.declared.value.Value.{Value}
+use Rattle.bt_rowtype.specs.declared.value_ref.ValueRef.{ValueRef}
+
+-- each is still a text where it is one
+pub have_text : (lent : List ValueRef) (place : ℕ) (v : ValueRef) → HasText (shown v) → All HasText (map shown lent) → All HasText (map shown (set lent place v))
+have_text lent place v text each = subst (All HasText) (sym (map-set shown lent place v)) (All-set HasText (map shown lent) place (shown v) text each)
+
+-- one that is lent has its text
+pub has_text : (lent : List ValueRef) (place : ℕ) (d : ValueRef) → place < length lent → All HasText (map shown lent) → HasText (shown (get_or lent place d))
+has_text lent place d within each = subst HasText (get_or-map shown lent place d (shown d) within) (each place (shown d) (rw length-map within))

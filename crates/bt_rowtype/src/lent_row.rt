@@ -1,0 +1,104 @@
+//! The values of a row while operations change them.
+ghost use Rattle.std.specs.Prelude.{◌≡◌, IfOk, set};
+ghost use Rattle.bt_rowtype.specs.Ops.{added as added_to, after_op};
+ghost use Rattle.bt_rowtype.specs.Packing.{HasText};
+ghost use Rattle.bt_rowtype.specs.Views.{shown};
+
+use crate::addition::sum;
+use crate::op::Op;
+use crate::packed_row::{Row, width_of_value};
+use crate::schema::MOST_COLUMNS;
+use crate::value_ref::ValueRef;
+use std::alloc::{AllocError, Global};
+use std::marker::Model;
+
+/// The values of a row, each lent by the row or by the operation that set it. A contract sees the list of them.
+#[derive(Drop)]
+pub(crate) struct LentRow<'a> {
+    values: Vec<ValueRef<'a>>,
+}
+
+impl<'a> Model for LentRow<'a> {
+    ghost use Rattle.std.specs.Prelude.{List, map};
+    ghost use Rattle.std.specs.List.{All};
+    ghost use Rattle.bt_rowtype.specs.Packing.{HasText};
+    ghost use Rattle.bt_rowtype.specs.Views.{shown};
+    ghost use Rattle.bt_rowtype.specs.declared.value.Value.{Value as value};
+
+    ghost Value = { List value };
+
+    ghost view = { λ a. map shown a.values.items };
+
+    ghost invariant = { λ a. All HasText (map shown a.values.items) };
+}
+
+// An int with a number added. Any other value stays.
+fn added(value: ValueRef<'_>, number: i64) -> ValueRef<'_>
+    ensures value { shown result ≡ added_to number (shown value.entry) }
+    ensures text { HasText (shown value.entry) → HasText (shown result) }
+{
+    match value {
+        ValueRef::Int(old) => ValueRef::Int(sum(old, number)),
+        other => other,
+    }
+}
+
+impl<'a> LentRow<'a> {
+    /// The values of a row.
+    pub(crate) fn of(alloc: Global, row: &'a Row) -> Result<Self, AllocError>
+        ensures { IfOk result (λ lent. lent ≡ row.now) }
+    {
+        let mut values = Vec::with_capacity(alloc, MOST_COLUMNS)?;
+        let mut rest = row.values();
+        while let Some(value) = rest.next() {
+            values.push(value)?;
+        }
+        Ok(LentRow { values })
+    }
+
+    // Sets the value at a place, where there is one.
+    fn set(&mut self, place: usize, value: ValueRef<'a>)
+        requires { HasText (shown value) }
+        ensures { self.new ≡ set self.old place (shown value.entry) }
+    {
+        if place < self.values.len() {
+            self.values[place] = value;
+        }
+    }
+
+    /// Does one operation to the values.
+    pub(crate) fn apply(&mut self, op: &'a Op)
+        ensures { self.new ≡ after_op self.old op.now }
+    {
+        match op {
+            Op::Set(place, value) => self.set(*place, value.as_ref()),
+            Op::Add(place, number) => {
+                if *place < self.values.len() {
+                    let old = self.values[*place];
+                    self.set(*place, added(old, *number));
+                }
+            }
+        }
+    }
+
+    /// The row of the values.
+    pub(crate) fn pack(&self, alloc: Global) -> Result<Row, AllocError>
+        ensures { IfOk result (λ row. row ≡ self.now) }
+    {
+        let values = self.values.as_slice();
+        let mut row = Row::with_room(alloc, room_for(values))?;
+        for value in values {
+            row.push(alloc, *value)?;
+        }
+        Ok(row)
+    }
+}
+
+// The bytes that values take.
+fn room_for(values: &[ValueRef<'_>]) -> usize {
+    let mut room: usize = 0;
+    for value in values {
+        room = room.saturating_add(width_of_value(*value));
+    }
+    room
+}
