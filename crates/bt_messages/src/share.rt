@@ -103,7 +103,7 @@ fn merge_front<V: Merge>(
     merge_each(merged, older, stream, count)
 }
 
-// Moves the first messages of a stream to a packet, whose messages then stand where room was made for all.
+/// Moves the first messages of a stream to a packet, whose messages then stand where room was made for all.
 pub(crate) fn gain<V: Merge>(
     alloc: Global,
     packet: &mut Packet<V>,
