@@ -4,7 +4,8 @@ use Rattle.bt_rowtype.specs.declared.value.Kind.{Kind}
 use Rattle.bt_rowtype.specs.declared.value.Kind.TheVariants as kind
 use Rattle.bt_rowtype.specs.declared.value.Value.{Value}
 use Rattle.bt_rowtype.specs.declared.value.Value.TheVariants as value
-use Rattle.bt_keycode.specs.Codes.{AreInRange, IsCodeOf, code_of, code_of_value, escaped, kind_of, raised}
+use Rattle.bt_rowtype.specs.Packing.{AreInRange, IsInRange}
+use Rattle.bt_keycode.specs.Codes.{IsCodeOf, code_of, code_of_value, escaped, kind_of, raised}
 use Rattle.bt_keycode.specs.Prefixes.{eight_bytes, first_eight}
 use Rattle.bt_rowtype.specs.Texts.{is_text}
 use Rattle.bt_rowtype.proofs.offered.Texts.{long_text}
@@ -25,9 +26,9 @@ same_flag false true q r e = cc
 same_flag false false q r e = (refl, (cc))
 
 -- two values of one kind, and what comes after their codes
-same_value : (v w : Value) (q r : List ℕ) → kind_of v ≡ kind_of w → AreInRange (v ∷ []) → AreInRange (w ∷ []) →
+same_value : (v w : Value) (q r : List ℕ) → kind_of v ≡ kind_of w → IsInRange v → IsInRange w →
     code_of_value v ++ q ≡ code_of_value w ++ r → (v ≡ w) × (q ≡ r)
-same_value (value.Int a) (value.Int b) q r k f g e = let both = same_int a b q r f.0 g.0 e in (ap value.Int both.0, both.1)
+same_value (value.Int a) (value.Int b) q r k f g e = let both = same_int a b q r f g e in (ap value.Int both.0, both.1)
 same_value (value.Text s) (value.Text t) q r k f g e = let both = same_text s t q r e in (ap value.Text both.0, both.1)
 same_value (value.Flag a) (value.Flag b) q r k f g e = let both = same_flag a b q r e in (ap value.Flag both.0, both.1)
 same_value (value.Int a) (value.Text t) q r k f g e = cc
@@ -36,16 +37,6 @@ same_value (value.Text s) (value.Int b) q r k f g e = cc
 same_value (value.Text s) (value.Flag b) q r k f g e = cc
 same_value (value.Flag a) (value.Int b) q r k f g e = cc
 same_value (value.Flag a) (value.Text t) q r k f g e = cc
-
-pub first_in_range : (v : Value) (vs : List Value) → AreInRange (v ∷ vs) → AreInRange (v ∷ [])
-first_in_range (value.Int n) vs f = (f.0, tt)
-first_in_range (value.Text bytes) vs f = (f.0, tt)
-first_in_range (value.Flag flag) vs f = tt
-
-pub others_in_range : (v : Value) (vs : List Value) → AreInRange (v ∷ vs) → AreInRange vs
-others_in_range (value.Int n) vs f = f.1
-others_in_range (value.Text bytes) vs f = f.1
-others_in_range (value.Flag flag) vs f = f
 
 first_of_both : {A : Type 0} {x y : A} {xs ys : List A} → x ∷ xs ≡ y ∷ ys → (x ≡ y) × (xs ≡ ys)
 first_of_both e = ((cc), (cc))
@@ -60,16 +51,16 @@ next_value [] (w ∷ others) kind kinds rest more f g k e = (
   code_of others ++ more,
   record {
     of_kind = (first_of_both k).0;
-    in_range = first_in_range w others g;
+    in_range = g.0;
     code = sym (append_assoc (code_of_value w) (code_of others) more) ∙ sym e;
   },
 )
 next_value (v ∷ values) [] kind kinds rest more f g k e = cc
 next_value (v ∷ values) (w ∷ others) kind kinds rest more f g k e =
     let both = first_of_both k in
-    let same = same_value v w (code_of values ++ rest) (code_of others ++ more) (sym both.0) (first_in_range v values f) (first_in_range w others g)
+    let same = same_value v w (code_of values ++ rest) (code_of others ++ more) (sym both.0) f.0 g.0
     (sym (append_assoc (code_of_value v) (code_of values) rest) ∙ e ∙ append_assoc (code_of_value w) (code_of others) more) in
-    next_value values others kind kinds rest more (others_in_range v values f) (others_in_range w others g) both.1 same.1
+    next_value values others kind kinds rest more f.1 g.1 both.1 same.1
 
 -- two lists of values of the same kinds, and what comes after their codes
 pub same_values : (values others : List Value) (rest more : List ℕ) → AreInRange values → AreInRange others → map kind_of values ≡ map kind_of others →
@@ -79,9 +70,9 @@ same_values [] (w ∷ others) rest more f g k e = cc
 same_values (v ∷ values) [] rest more f g k e = cc
 same_values (v ∷ values) (w ∷ others) rest more f g k e =
     let both = first_of_both k in
-    let same = same_value v w (code_of values ++ rest) (code_of others ++ more) both.0 (first_in_range v values f) (first_in_range w others g)
+    let same = same_value v w (code_of values ++ rest) (code_of others ++ more) both.0 f.0 g.0
     (sym (append_assoc (code_of_value v) (code_of values) rest) ∙ e ∙ append_assoc (code_of_value w) (code_of others) more) in
-    let tail = same_values values others rest more (others_in_range v values f) (others_in_range w others g) both.1 same.1 in
+    let tail = same_values values others rest more f.1 g.1 both.1 same.1 in
     (cc, tail.1)
 
 -- an error that is passed on
@@ -104,7 +95,7 @@ int_begins : (z : ℤ) (number : ℕ) (bytes : List ℕ) → SFits w64 z → rai
     BeginsWith kind.Int bytes (value.Int z) (take (length bytes - 8) (drop 8 bytes))
 int_begins z number bytes fits up same long = record {
   of_kind = refl;
-  in_range = (fits, tt);
+  in_range = fits;
   code = ap (λ n. eight_bytes n ++ take (length bytes - 8) (drop 8 bytes)) up ∙ eight_and_others number bytes same long;
 }
 
@@ -122,7 +113,7 @@ part_bound n most xs h = omega (arith, length-take n xs)
 pub text_found : (bytes text rest : List ℕ) → unescaped bytes ≡ Some (text, rest) → is_text text ≡ true → BeginsWith kind.Text bytes (value.Text text) rest
 text_found bytes text rest read fits = record {
   of_kind = refl;
-  in_range = (fits, tt);
+  in_range = fits;
   code = split_end text rest ∙ spelled bytes text rest read;
 }
 
@@ -132,7 +123,7 @@ text_read bytes text rest b = ap unescaped (sym b.code ∙ split_end text rest) 
 -- where no text of at most 255 bytes is read, none is there, nor where what is read is out of range
 pub no_code : (bytes : List ℕ) → ((text rest : List ℕ) → unescaped bytes ≡ Some (text, rest) → 255 < length text) → BeginsWithNo kind.Text bytes
 no_code bytes long (value.Text text) rest b =
-    let fits : is_text text ≡ true = b.in_range.0 in
+    let fits : is_text text ≡ true = b.in_range in
     let past : is_text text ≡ false = long_text text (long text rest (text_read bytes text rest b)) in
     cc
 no_code bytes long (value.Int n) rest b = let k = b.of_kind in cc
@@ -141,7 +132,7 @@ no_code bytes long (value.Flag flag) rest b = let k = b.of_kind in cc
 pub no_text_code : (bytes text rest : List ℕ) → unescaped bytes ≡ Some (text, rest) → is_text text ≡ false → BeginsWithNo kind.Text bytes
 no_text_code bytes text rest read long (value.Text s) more b =
     let both = both_read text rest s more (sym read ∙ text_read bytes s more b) in
-    let fits : is_text s ≡ true = b.in_range.0 in
+    let fits : is_text s ≡ true = b.in_range in
     let same : is_text text ≡ is_text s = ap is_text both.0 in
     cc
 no_text_code bytes text rest read long (value.Int n) more b = let k = b.of_kind in cc
@@ -149,11 +140,9 @@ no_text_code bytes text rest read long (value.Flag flag) more b = let k = b.of_k
 
 -- ---- lists
 
-range-append : (values : List Value) (value : Value) → AreInRange values → AreInRange (value ∷ []) → AreInRange (values ++ value ∷ [])
-range-append [] value f g = g
-range-append (value.Int n ∷ values) value f g = (f.0, range-append values value f.1 g)
-range-append (value.Text text ∷ values) value f g = (f.0, range-append values value f.1 g)
-range-append (value.Flag flag ∷ values) value f g = range-append values value f g
+range-append : (values : List Value) (value : Value) → AreInRange values → IsInRange value → AreInRange (values ++ value ∷ [])
+range-append [] value f g = (g, tt)
+range-append (v ∷ values) value f g = (f.0, range-append values value f.1 g)
 
 code-append : (values : List Value) (value : Value) → code_of (values ++ value ∷ []) ≡ code_of values ++ code_of_value value
 code-append [] value = append-nil (code_of_value value)

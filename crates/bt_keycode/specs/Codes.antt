@@ -1,7 +1,6 @@
 -- The key code of values.
-use Rattle.std.specs.Int.{w64}
-use Rattle.std.specs.Prelude.{ℕ, suc, ◌≡◌, ◌==◌, ◌+◌, ◌-◌, ◌^◌, ◌++◌, true, List, [], ◌∷◌, map, if◌then◌else◌, ℤ, pos, negsuc, FitsSigned}
-use Rattle.bt_rowtype.specs.Texts.{is_text}
+use Rattle.std.specs.Prelude.{ℕ, suc, ◌≡◌, ◌==◌, ◌+◌, ◌-◌, ◌^◌, ◌++◌, List, [], ◌∷◌, map, if◌then◌else◌, ℤ, pos, negsuc}
+use Rattle.bt_rowtype.specs.Packing.{AreInRange}
 use Rattle.bt_rowtype.specs.declared.value.Kind.{Kind}
 use Rattle.bt_rowtype.specs.declared.value.Kind.TheVariants as kind
 use Rattle.bt_rowtype.specs.declared.value.Value.{Value}
@@ -43,13 +42,6 @@ HaveSameKinds left right = map kind_of left ≡ map kind_of right
 -- a list is not the beginning of a longer one
 abbrev pub IsNoProperPrefix : List ℕ → List ℕ → Type 0
 IsNoProperPrefix bytes other = (more : List ℕ) → other ≡ bytes ++ more → more ≡ []
-
--- values are within the ranges of their kinds: ints have 64 bits, texts are UTF-8 of at most 255 bytes
-abbrev pub AreInRange : List Value → Type 0
-AreInRange [] = Unit {0}
-AreInRange (value.Int n ∷ vs) = FitsSigned w64 n × AreInRange vs
-AreInRange (value.Text bytes ∷ vs) = (is_text bytes ≡ true) × AreInRange vs
-AreInRange (value.Flag flag ∷ vs) = AreInRange vs
 
 -- bytes are the code of values of these kinds
 pub record IsCodeOf (kinds : List Kind) (bytes : List ℕ) (values : List Value) : Type 0 where

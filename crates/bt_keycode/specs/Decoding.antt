@@ -2,12 +2,13 @@
 use Rattle.std.specs.Prelude.{ℕ, zero, suc, ◌≡◌, ◌==◌, ◌++◌, List, [], ◌∷◌, map, Option, Some, None, if◌then◌else◌}
 use Rattle.bt_rowtype.specs.declared.value.Kind.{Kind}
 use Rattle.bt_rowtype.specs.declared.value.Value.{Value}
-use Rattle.bt_keycode.specs.Codes.{AreInRange, IsCodeOf, code_of, code_of_value, kind_of}
+use Rattle.bt_rowtype.specs.Packing.{AreInRange, IsInRange}
+use Rattle.bt_keycode.specs.Codes.{IsCodeOf, code_of, code_of_value, kind_of}
 
 -- bytes begin with the code of a value of this kind, within range, and these come after it
 pub record BeginsWith (kind : Kind) (bytes : List ℕ) (value : Value) (rest : List ℕ) : Type 0 where
   pub of_kind : kind_of value ≡ kind
-  pub in_range : AreInRange (value ∷ [])
+  pub in_range : IsInRange value
   pub code : code_of_value value ++ rest ≡ bytes
 
 -- bytes begin with the code of values of these kinds, within range, and these come after it

@@ -1,4 +1,4 @@
--- Sorted messages cut at keys: what `take_range`, `Rest`, `iter_from` and `add` stand on.
+-- Sorted messages cut at keys: what `take_range` and `iter_from` stand on.
 use Rattle.std.proofs.Common.{◌≡◌, ℕ, zero, suc, ◌<◌, ◌≤◌, Bool, true, false, not, ◌&&◌, cond, List, [], ◌∷◌, ◌++◌, ◌-◌, length, take, drop, get_or, append_assoc, Option, Some, None, refl, sym, ap, subst, ◌∙◌, true≢false, arith}
 use Rattle.std.proofs.lemmas.List.{take_rest}
 use Rattle.std.proofs.lemmas.List.Filters.{length-filter_both}
@@ -6,14 +6,13 @@ use Rattle.std.specs.List.{filter}
 use Rattle.std.specs.List.Sorted.{IsPartitionedBy, IsPartitionPoint}
 use Rattle.bt_keycode.specs.Keys.{AllFrom, IsSorted, is_before, is_before_lower, is_before_upper, is_between}
 use Rattle.bt_messages.specs.Messages.{Messages, messages_before, messages_between, messages_from, messages_outside, with_messages}
-use Rattle.bt_messages.specs.Merges.{messages_ahead, messages_not_ahead}
 use Rattle.bt_keycode.proofs.offered.Order.{from_earlier, later_chain, not_after, not_before_itself}
 use Rattle.bt_messages.proofs.offered.Placed.{first_stays}
 
 module _ {M : Type 0} where
   -- ---- a search for a key
 
-  from_first : (k : List ℕ) (ms : Messages M) (j : ℕ) (d : List ℕ × M) → AllFrom k ms → j < length ms → is_before (get_or ms j d).0 k ≡ false
+  pub from_first : (k : List ℕ) (ms : Messages M) (j : ℕ) (d : List ℕ × M) → AllFrom k ms → j < length ms → is_before (get_or ms j d).0 k ≡ false
   from_first k [] j d h l = absurd (omega arith)
   from_first k (m ∷ ms) zero d h l = h.0
   from_first k (m ∷ ms) (suc j) d h l = from_first k ms j d h.1 (omega arith)
@@ -171,25 +170,6 @@ module _ {M : Type 0} where
             ap (λ zs. zs ++ with_messages newer (e ∷ messages_from k es)) others.0 ∙ ap (λ zs. with_messages newer (e ∷ zs)) others.1
       ] refl
 
-  pub all_from_first : (m : List ℕ × M) (ms : Messages M) → IsSorted ms → m ≡ get_or ms 0 m → AllFrom m.0 ms
-  all_from_first m [] h e = tt
-  all_from_first m (n ∷ ns) h e = subst (λ (k : List ℕ × M). AllFrom k.0 (n ∷ ns)) (sym e) (not_before_itself n.0, h.0)
-
-  -- of sorted messages the first ones are those with a key before one
-  pub ahead_is : (k : List ℕ) (ms : Messages M) → IsSorted ms → messages_ahead k ms ≡ messages_before k ms
-  ahead_is k [] h = refl
-  ahead_is k (m ∷ ms) h = elim (is_before m.0 k) as (λ t. is_before m.0 k ≡ t → cond t (m ∷ messages_ahead k ms) [] ≡ cond t (m ∷ messages_before k ms) (messages_before k ms)) [
-    | true ↦ λ t. ap (λ zs. m ∷ zs) (ahead_is k ms h.1)
-    | false ↦ λ t. sym (none_before k m.0 ms t h.0).0
-  ] refl
-
-  pub not_ahead_is : (k : List ℕ) (ms : Messages M) → IsSorted ms → messages_not_ahead k ms ≡ messages_from k ms
-  not_ahead_is k [] h = refl
-  not_ahead_is k (m ∷ ms) h = elim (is_before m.0 k) as (λ t. is_before m.0 k ≡ t → cond t (messages_not_ahead k ms) (m ∷ ms) ≡ cond (not t) (m ∷ messages_from k ms) (messages_from k ms)) [
-    | true ↦ λ t. not_ahead_is k ms h.1
-    | false ↦ λ t. ap (λ zs. m ∷ zs) (sym (none_before k m.0 ms t h.0).1)
-  ] refl
-
   -- the last of sorted messages
   pub tail_sorted : (k : List ℕ) (ms xs : Messages M) (n : ℕ) → IsSorted ms → drop n xs ≡ messages_from k ms → IsSorted (take (length xs - n) (drop n xs))
   tail_sorted k ms xs n h e = sorted_part (λ m. not (is_before m.0 k)) ms (take (length xs - n) (drop n xs)) h (take_rest xs n ∙ e)
@@ -198,23 +178,6 @@ module _ {M : Type 0} where
   pub fewer_between : (from to : Option (List ℕ)) (ms part : Messages M) → part ≡ messages_between from to ms → length part ≤ length ms
   fewer_between from to ms part e =
       omega (arith, ap length e, length-filter_both (λ (m : List ℕ × M). is_between from to m.0) (λ (m : List ℕ × M). not (is_between from to m.0)) (λ m. refl) ms)
-
-  pub before_sorted : (k : List ℕ) (ms : Messages M) → IsSorted ms → IsSorted (messages_before k ms)
-  before_sorted k ms h = filter_sorted (λ m. is_before m.0 k) ms h
-
-  -- one more of the first messages
-  pub one_ahead : (k : List ℕ) (m : List ℕ × M) (ms rest ahead taken more : Messages M) → ms ≡ m ∷ rest → is_before m.0 k ≡ true →
-      ahead ≡ taken ++ messages_ahead k ms → more ≡ taken ++ m ∷ [] → ahead ≡ more ++ messages_ahead k rest
-  one_ahead k m ms rest ahead taken more e t h p =
-      h ∙ ap (λ zs. taken ++ messages_ahead k zs) e ∙ ap (λ b. taken ++ cond b (m ∷ messages_ahead k rest) []) t
-      ∙ sym (append_assoc taken (m ∷ []) (messages_ahead k rest)) ∙ ap (λ zs. zs ++ messages_ahead k rest) (sym p)
-
-  pub one_not_ahead : (k : List ℕ) (m : List ℕ × M) (ms rest behind : Messages M) → ms ≡ m ∷ rest → is_before m.0 k ≡ true →
-      behind ≡ messages_not_ahead k ms → behind ≡ messages_not_ahead k rest
-  one_not_ahead k m ms rest behind e t h = h ∙ ap (messages_not_ahead k) e ∙ ap (λ b. cond b (messages_not_ahead k rest) (m ∷ rest)) t
-
-  pub rest_sorted : (m : List ℕ × M) (ms rest : Messages M) → ms ≡ m ∷ rest → IsSorted ms → IsSorted rest
-  rest_sorted m ms rest e h = (subst (IsSorted {X = M}) e h).1
 
 pub nothing : {X : Type 0} (xs : List X) → length xs ≡ 0 → xs ≡ []
 nothing [] e = refl

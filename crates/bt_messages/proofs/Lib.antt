@@ -1,6 +1,5 @@
 pub mod Counts
 pub mod Cuts
-pub mod Dividing
 pub mod Merging
 pub mod Sharing
 pub mod Slices

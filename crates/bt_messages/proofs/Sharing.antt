@@ -7,8 +7,8 @@ use Rattle.bt_messages.specs.Merges.{messages_past, messages_up_to}
 use Rattle.bt_messages.specs.Messages.{Messages, messages_from, with_messages}
 use Rattle.bt_messages.specs.Rooms.{HasRoom, HaveRoom}
 use Rattle.bt_messages.proofs.Merging.{step}
+use Rattle.bt_messages.proofs.offered.Fronts.{one_taken, sorted_take}
 use Rattle.bt_messages.proofs.offered.Placed.{sorted-with_messages}
-use Rattle.bt_messages.proofs.Slices.{one_taken, sorted_take}
 
 -- what stands in a list stands there whatever is given for want of it
 pub any_default : {X : Type 0} (xs : List X) (i : ℕ) (d e : X) → i < length xs → get_or xs i d ≡ get_or xs i e
@@ -104,13 +104,3 @@ module _ {M : Type 0} where
 
     pub enough_next : s' ≡ drop n s → total (drop i ns) ≤ length s → total (drop (i + 1) ns) ≤ length s'
     enough_next left l = omega (arith, l, ap total shares_next, ap length left, length-drop n s)
-
-  -- ---- shares of all messages
-
-  pub length-parted : (ns : List ℕ) (s : Messages M) → length (parted ns s) ≡ length ns
-  length-parted [] s = refl
-  length-parted (n ∷ ns) s = omega (arith, length-parted ns (drop n s))
-
-  pub length-parts : (ks : List (List ℕ)) (ms : Messages M) → length (parts ks ms) ≡ length ks + 1
-  length-parts [] ms = refl
-  length-parts (k ∷ ks) ms = omega (arith, length-parts ks (messages_from k ms))

@@ -4,6 +4,7 @@ use Rattle.std.specs.List.Sorted.{IsPartitionPoint}
 use Rattle.bt_keycode.specs.Keys.{AllFrom, IsSorted, is_before}
 use Rattle.bt_messages.specs.Messages.{Messages, messages_before, messages_from}
 use Rattle.bt_messages.specs.Bins.{AllBefore}
+use Rattle.bt_messages.proofs.offered.Fronts.{from-take}
 use Rattle.bt_messages.proofs.offered.Parts.{cut_at}
 
 module _ {M : Type 0} where
@@ -38,11 +39,6 @@ module _ {M : Type 0} where
   from-drop k (suc p) zero ms l h = absurd (omega (arith, l))
   from-drop k (suc p) (suc n) [] l h = tt
   from-drop k (suc p) (suc n) (m ∷ ms) l h = from-drop k p n ms (omega (arith, l)) h
-
-  from-take : (k : List ℕ) (n : ℕ) (ms : Messages M) → AllFrom k ms → AllFrom k (take n ms)
-  from-take k zero ms h = tt
-  from-take k (suc n) [] h = tt
-  from-take k (suc n) (m ∷ ms) h = (h.0, from-take k n ms h.1)
 
   from-slice : (k : List ℕ) (d n : ℕ) (ms : Messages M) → AllFrom k (drop d ms) → AllFrom k (drop d (take n ms))
   from-slice k zero n ms h = from-take k n ms h
@@ -102,22 +98,3 @@ module _ {M : Type 0} where
   sorted_drop zero ms h = h
   sorted_drop (suc n) [] h = tt
   sorted_drop (suc n) (m ∷ ms) h = sorted_drop n ms h.1
-
-  pub sorted_take : (n : ℕ) (ms : Messages M) → IsSorted ms → IsSorted (take n ms)
-  sorted_take zero ms h = tt
-  sorted_take (suc n) [] h = tt
-  sorted_take (suc n) (m ∷ ms) h = (from-take m.0 n ms h.0, sorted_take n ms h.1)
-
-  -- the first messages, once the first of them is taken off
-  pub one_taken : (ms rest : Messages M) (m : List ℕ × M) (n i : ℕ) → i < n → ms ≡ m ∷ rest → (take (n - i) ms ≡ m ∷ take (n - (i + 1)) rest) × (drop (n - i) ms ≡ drop (n - (i + 1)) rest)
-  one_taken ms rest m n i l e =
-      let one : n - i ≡ suc (n - (i + 1)) = omega (arith, l) in (
-        ap (λ k. take k ms) one ∙ ap (take (suc (n - (i + 1)))) e,
-        ap (λ k. drop k ms) one ∙ ap (drop (suc (n - (i + 1)))) e,
-      )
-
-  -- the first messages, moved to an empty list
-  pub taken_off : (n : ℕ) (ms start taken : Messages M) → taken ≡ start ++ take n ms → start ≡ [] → IsSorted ms → (taken ≡ take n ms) × IsSorted taken
-  taken_off n ms start taken e f h =
-      let is : taken ≡ take n ms = e ∙ ap (λ zs. zs ++ take n ms) f in
-      (is, subst IsSorted (sym is) (sorted_take n ms h))

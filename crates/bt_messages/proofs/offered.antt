@@ -1,4 +1,5 @@
 -- What the crates above cite of the proofs of this one.
+pub mod Fronts
 pub mod Parts
 pub mod Placed
 pub mod Rows

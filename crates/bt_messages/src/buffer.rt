@@ -5,10 +5,8 @@ ghost use Rattle.bt_messages.specs.Messages.{messages_between, messages_from, me
 ghost use Rattle.std.specs.Option.{option_copied};
 
 use crate::iter::Messages;
-use crate::message::{Merge, Message};
+use crate::message::Merge;
 use crate::packet::Packet;
-use crate::rest::Rest;
-use crate::sorted;
 use bt_keycode::Key;
 use std::alloc::{AllocError, Global};
 use std::marker::Model;
@@ -16,19 +14,16 @@ use std::marker::Model;
 /// Messages that are pending, sorted by key, those of one key in the order in which they came.
 #[derive(Drop)]
 pub struct Buffer<V: Merge> {
-    messages: Vec<(Key, Message<V>)>,
+    messages: Packet<V>,
 }
 
 impl<V: Merge> Model for Buffer<V> {
     ghost use Rattle.std.specs.Prelude.{List, ℕ};
-    ghost use Rattle.bt_keycode.specs.Keys.{IsSorted};
     ghost use Rattle.bt_messages.specs.declared.message.Message.{Message};
 
     ghost Value = { List (List ℕ × Message V V.Delta) };
 
-    ghost view = { λ b. b.messages.items };
-
-    ghost invariant = { λ b. IsSorted b.messages.items };
+    ghost view = { λ b. b.messages };
 }
 
 impl<V: Merge> Buffer<V> {
@@ -37,7 +32,7 @@ impl<V: Merge> Buffer<V> {
         ensures { result ≡ [] }
     {
         Buffer {
-            messages: Vec::new(alloc),
+            messages: Packet::new(alloc),
         }
     }
 
@@ -54,7 +49,7 @@ impl<V: Merge> Buffer<V> {
         ensures messages { result ≡ self.now }
         ensures sorted { IsSorted self.now }
     {
-        Messages::of_sorted(self.messages.as_slice())
+        self.messages.iter()
     }
 
     /// The messages with a key at or past this one, in order. The first of them is found by halving.
@@ -62,25 +57,7 @@ impl<V: Merge> Buffer<V> {
         ensures messages { result ≡ messages_from key.now self.now }
         ensures sorted { IsSorted self.now }
     {
-        let place = sorted::place_of(self.messages.as_slice(), key);
-        Messages::of_sorted(&self.messages[place..])
-    }
-
-    /// The messages with a key at or past `from` and before `to`, in order, found by halving. A bound that is absent doesn't limit.
-    pub fn iter_between(&self, from: Option<&Key>, to: Option<&Key>) -> Messages<'_, V>
-        ensures messages { result ≡ messages_between (option_copied from.entry) (option_copied to.entry) self.now }
-        ensures sorted { IsSorted result }
-        ensures bound { length result < 2 ^ 63 }
-    {
-        Messages::of_sorted(sorted::between(self.messages.as_slice(), from, to))
-    }
-
-    /// The messages, to be taken off in order.
-    pub fn into_rest(self) -> Rest<V>
-        ensures { result ≡ self }
-    {
-        let Buffer { messages } = self;
-        Rest::from_sorted(messages)
+        self.messages.iter_from(key)
     }
 
     /// Adds the messages of a packet, each after those of its key. An `Err` changes nothing, and the packet is gone.
@@ -88,7 +65,10 @@ impl<V: Merge> Buffer<V> {
         ensures ok { OnOk result (self.new ≡ with_messages packet self.old) }
         ensures err { OnErr result (self.new ≡ self.old) }
     {
-        sorted::add(&mut self.messages, packet.into_messages())
+        let alloc = self.messages.allocator();
+        let mut stream = packet.into_stream();
+        let count = stream.len();
+        self.messages.add_front(alloc, &mut stream, count)
     }
 
     /// Takes out the messages with a key at or past `from` and before `to`, in order. A bound that is absent doesn't limit.
@@ -106,7 +86,6 @@ impl<V: Merge> Buffer<V> {
         if self.messages.is_empty() {
             return Ok(Packet::new(alloc));
         }
-        let taken = sorted::take_between(&mut self.messages, from, to)?;
-        Ok(Packet::from_sorted(taken))
+        self.messages.take_between(from, to)
     }
 }

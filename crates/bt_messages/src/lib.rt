@@ -17,26 +17,22 @@
 
 mod bins;
 mod buffer;
-mod division;
 mod entry;
 mod iter;
 mod joined;
 mod message;
 mod packet;
 mod places;
-mod rest;
 mod share;
 mod sorted;
 mod stream;
 
 pub use bins::Bins;
 pub use buffer::Buffer;
-pub use division::Division;
 pub use entry::Entry;
 pub use iter::Messages;
 pub use joined::Joined;
 pub use message::{Merge, Message, effect, effect_borrowed};
 pub use packet::Packet;
-pub use rest::Rest;
 pub use sorted::between;
 pub use stream::Stream;

@@ -1,13 +1,14 @@
 //! Packets: what is sent on at one time.
-ghost use Rattle.std.specs.Prelude.{◌≡◌, ◌==◌, ◌<◌, ◌^◌, [], IfOk, length};
+ghost use Rattle.std.specs.Prelude.{◌≡◌, ◌==◌, ◌<◌, ◌≤◌, ◌^◌, [], IfOk, OnOk, OnErr, drop, length, take};
 ghost use Rattle.bt_keycode.specs.Keys.{IsSorted};
 ghost use Rattle.bt_messages.specs.Effects.{DoTheSame, effect_of};
-ghost use Rattle.bt_messages.specs.Messages.{messages_between, messages_from, sorted_batch};
+ghost use Rattle.bt_messages.specs.Messages.{messages_between, messages_from, messages_outside, sorted_batch, with_messages};
 ghost use Rattle.bt_messages.specs.Rooms.{HasRoom};
 ghost use Rattle.std.specs.Option.{option_copied};
 
 use crate::iter::Messages;
 use crate::message::{Merge, Message};
+use crate::share::gain;
 use crate::sorted;
 use crate::stream::Stream;
 use bt_keycode::Key;
@@ -84,7 +85,8 @@ impl<V: Merge> Packet<V> {
 
     /// The messages with a key at or past this one, in order. The first of them is found by halving.
     pub(crate) fn iter_from(&self, key: &Key) -> Messages<'_, V>
-        ensures { result ≡ messages_from key.now self.now }
+        ensures messages { result ≡ messages_from key.now self.now }
+        ensures sorted { IsSorted self.now }
     {
         let place = sorted::place_of(self.messages.as_slice(), key);
         Messages::of_sorted(&self.messages[place..])
@@ -97,6 +99,44 @@ impl<V: Merge> Packet<V> {
         ensures bound { length result < 2 ^ 63 }
     {
         Messages::of_sorted(sorted::between(self.messages.as_slice(), from, to))
+    }
+
+    // What the messages take their memory from.
+    pub(crate) fn allocator(&self) -> Global {
+        *self.messages.allocator()
+    }
+
+    /// Adds the first messages of a stream, each after those of its key. They are gone from the stream. An `Err` changes nothing.
+    pub fn add_front(
+        &mut self,
+        alloc: Global,
+        stream: &mut Stream<V>,
+        count: usize,
+    ) -> Result<(), AllocError>
+        requires { count ≤ length stream.old }
+        ensures added { OnOk result (self.new ≡ with_messages (take count stream.old) self.old) }
+        ensures left { OnOk result (stream.new ≡ drop count stream.old) }
+        ensures err { OnErr result (self.new ≡ self.old) }
+        ensures err_stream { OnErr result (stream.new ≡ stream.old) }
+    {
+        let _bound = stream.len();
+        let mut room = self.room_with(alloc, count)?;
+        gain(alloc, self, &mut room, stream, count);
+        Ok(())
+    }
+
+    // Takes out the messages with a key at or past `from` and before `to`. An `Err` changes nothing.
+    pub(crate) fn take_between(
+        &mut self,
+        from: Option<&Key>,
+        to: Option<&Key>,
+    ) -> Result<Packet<V>, AllocError>
+        ensures taken { IfOk result (λ packet. packet ≡ messages_between (option_copied from.entry) (option_copied to.entry) self.old) }
+        ensures left { OnOk result (self.new ≡ messages_outside (option_copied from.entry) (option_copied to.entry) self.old) }
+        ensures err { OnErr result (self.new ≡ self.old) }
+    {
+        let taken = sorted::take_between(&mut self.messages, from, to)?;
+        Ok(Packet::from_sorted(taken))
     }
 
     // Room for the messages of the packet and for so many more, where there are more.

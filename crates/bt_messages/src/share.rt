@@ -1,5 +1,6 @@
 //! Shares of a stream, moved to packets.
 ghost use Rattle.std.specs.Prelude.{◌≡◌, ◌+◌, ◌<◌, ◌≤◌, ◌++◌, ◌^◌, IfOk, drop, length, take, vec_len, vec_capacity};
+ghost use Rattle.bt_keycode.specs.Keys.{IsSorted};
 ghost use Rattle.bt_messages.specs.Bins.{each_with, parted, total};
 ghost use Rattle.bt_messages.specs.Messages.{with_messages};
 ghost use Rattle.bt_messages.specs.Rooms.{HasRoom, HaveRoom};
@@ -35,15 +36,34 @@ pub(crate) fn room_for_each<V: Merge>(
 // Moves messages behind others for which there is room.
 fn push_all<V: Merge>(merged: &mut Vec<(Key, Message<V>)>, messages: VecDeque<(Key, Message<V>)>)
     requires { vec_len merged.old + length messages.items ≤ vec_capacity merged.old }
-    ensures { merged.new.items ≡ merged.old.items ++ messages.items }
+    ensures pushed { merged.new.items ≡ merged.old.items ++ messages.items }
+    ensures len { vec_len merged.new ≡ vec_len merged.old + length messages.items }
+    ensures capacity { vec_capacity merged.new ≡ vec_capacity merged.old }
 {
     for entry in messages {
         merged.push_reserved(entry);
     }
 }
 
-// Moves older messages and the first ones of a stream to where there is room, an older one before a newer one of its key.
-fn merge_front<V: Merge>(
+// Moves older messages and, behind all of them, the first ones of a stream to where there is room.
+fn append_front<V: Merge>(
+    merged: &mut Vec<(Key, Message<V>)>,
+    older: Vec<(Key, Message<V>)>,
+    stream: &mut Stream<V>,
+    count: usize,
+)
+    requires count { count ≤ length stream.old }
+    requires room { vec_len merged.old + vec_len older + count ≤ vec_capacity merged.old }
+    ensures appended { merged.new.items ≡ merged.old.items ++ (older.items ++ take count stream.old) }
+    ensures left { stream.new ≡ drop count stream.old }
+{
+    push_all(merged, VecDeque::from(older));
+    stream.move_front(count, merged);
+}
+
+// Moves older messages and the first ones of a stream to where there is room, one by one, an older one before a newer one of
+// its key.
+fn merge_each<V: Merge>(
     merged: &mut Vec<(Key, Message<V>)>,
     older: Vec<(Key, Message<V>)>,
     stream: &mut Stream<V>,
@@ -64,8 +84,27 @@ fn merge_front<V: Merge>(
     push_all(merged, older);
 }
 
-// Moves the first messages of a stream to a packet, whose messages then stand where room was made for all.
-fn gain<V: Merge>(
+// Moves older messages and the first ones of a stream to where there is room, an older one before a newer one of its key.
+fn merge_front<V: Merge>(
+    merged: &mut Vec<(Key, Message<V>)>,
+    older: Vec<(Key, Message<V>)>,
+    stream: &mut Stream<V>,
+    count: usize,
+)
+    requires count { count ≤ length stream.old }
+    requires room { vec_len merged.old + vec_len older + count ≤ vec_capacity merged.old }
+    requires sorted { IsSorted older.items }
+    ensures merged { merged.new.items ≡ merged.old.items ++ with_messages (take count stream.old) older.items }
+    ensures left { stream.new ≡ drop count stream.old }
+{
+    if stream.is_behind(older.as_slice()) {
+        return append_front(merged, older, stream, count);
+    }
+    merge_each(merged, older, stream, count)
+}
+
+/// Moves the first messages of a stream to a packet, whose messages then stand where room was made for all.
+pub(crate) fn gain<V: Merge>(
     alloc: Global,
     packet: &mut Packet<V>,
     room: &mut Vec<(Key, Message<V>)>,

@@ -1,11 +1,10 @@
 //! Streams: sorted messages that are taken off at the front.
-ghost use Rattle.std.specs.Prelude.{◌≡◌, ◌+◌, ◌<◌, ◌≤◌, ◌^◌, ◌∷◌, ◌++◌, [], IfOk, OnOk, OnErr, MatchOption, drop, length, take, vec_len, vec_capacity};
+ghost use Rattle.std.specs.Prelude.{◌≡◌, ◌+◌, ◌<◌, ◌≤◌, ◌^◌, ◌∷◌, ◌++◌, [], ℕ, true, IfOk, MatchOption, drop, length, take, vec_len, vec_capacity};
 ghost use Rattle.bt_keycode.specs.Keys.{AllFrom, IsSorted};
 ghost use Rattle.bt_messages.specs.Bins.{AllBefore, parted, parts, total};
-ghost use Rattle.bt_messages.specs.Messages.{messages_before, messages_from};
+ghost use Rattle.bt_messages.specs.Messages.{messages_before, messages_from, with_messages};
 
 use crate::message::{Merge, Message};
-use crate::packet::Packet;
 use bt_keycode::Key;
 use std::alloc::{AllocError, Global};
 use std::cmp::Ordering;
@@ -126,15 +125,27 @@ impl<V: Merge> Stream<V> {
         Ok(shares)
     }
 
-    /// Takes off the first messages as a packet, with room for just as many. An `Err` changes nothing.
-    pub fn take_front(&mut self, alloc: Global, count: usize) -> Result<Packet<V>, AllocError>
-        requires { count ≤ length self.old }
-        ensures taken { IfOk result (λ packet. packet ≡ take count self.old) }
-        ensures left { OnOk result (self.new ≡ drop count self.old) }
-        ensures err { OnErr result (self.new ≡ self.old) }
+    // Moves the first messages to where there is room.
+    pub(crate) fn move_front(&mut self, count: usize, into: &mut Vec<(Key, Message<V>)>)
+        requires count { count ≤ length self.old }
+        requires room { vec_len into.old + count ≤ vec_capacity into.old }
+        ensures moved { into.new.items ≡ into.old.items ++ take count self.old }
+        ensures left { self.new ≡ drop count self.old }
     {
-        let mut taken = Vec::with_capacity(alloc, count)?;
-        move_front(&mut self.messages, count, &mut taken);
-        Ok(Packet::from_sorted(taken))
+        move_front(&mut self.messages, count, into)
+    }
+
+    // Whether no message goes before one of these, since the first has a key at or past that of the last of these.
+    pub(crate) fn is_behind(&self, older: &[(Key, Message<V>)]) -> bool
+        requires { IsSorted older.now }
+        ensures { result ≡ true → (count : ℕ) → with_messages (take count self.now) older.now ≡ older.now ++ take count self.now }
+    {
+        let Some(first) = self.messages.front() else {
+            return true;
+        };
+        let [.., last] = older else {
+            return true;
+        };
+        first.0.compare(&last.0) != Ordering::Less
     }
 }

@@ -7,7 +7,7 @@ ghost use Rattle.bt_node.specs.inside.Views.{children_of};
 
 use crate::node::{Child, Siblings};
 use bt_keycode::Key;
-use bt_messages::{Bins, Buffer, Merge, Packet, Stream};
+use bt_messages::{Bins, Merge, Packet, Stream};
 use std::alloc::{AllocError, Global};
 
 /// Siblings as the children of one node, each with the messages of its bin.
@@ -64,12 +64,7 @@ pub(crate) fn with_front<V: Merge>(
     ensures packet { IfOk result (λ packet. packet ≡ with_messages (take count stream.old) pending) }
     ensures left { OnOk result (stream.new ≡ drop count stream.old) }
 {
-    if count == 0 {
-        return Ok(pending);
-    }
-    let newer = stream.take_front(alloc, count)?;
-    let mut all = Buffer::new(alloc);
-    all.add(pending)?;
-    all.add(newer)?;
-    Ok(all.into_rest().take_all())
+    let mut all = pending;
+    all.add_front(alloc, stream, count)?;
+    Ok(all)
 }

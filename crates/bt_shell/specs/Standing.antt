@@ -4,7 +4,8 @@ use Rattle.std.specs.FinMap.{is_sorted}
 use Rattle.bt_rowtype.specs.Schemas.{Schema, fit_columns}
 use Rattle.bt_rowtype.specs.Values.{values_cmp}
 use Rattle.bt_rowtype.specs.declared.value.Value.{Value}
-use Rattle.bt_keycode.specs.Codes.{AreInRange, code_of}
+use Rattle.bt_rowtype.specs.Packing.{AreInRange}
+use Rattle.bt_keycode.specs.Codes.{code_of}
 use Rattle.bt_node.specs.Fits.{HasShape}
 use Rattle.bt_node.specs.Flushes.{holds}
 use Rattle.bt_keycode.specs.Keys.{Key}

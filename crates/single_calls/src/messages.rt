@@ -101,24 +101,6 @@ fn ranges_are_taken_out(rt: HostRuntime) -> Result<(), Fail> {
     Ok(())
 }
 
-// The messages before a key, a bar, and the others.
-fn divided_text(alloc: Global, at: &str) -> Result<Vec<u8>, AllocError> {
-    let at = key(alloc, at)?;
-    let mut rest = filled::<Row>(alloc)?.into_rest();
-    let mut out = packet_text(alloc, rest.take_before(alloc, &at)?)?;
-    let left = packet_text(alloc, rest.take_all())?;
-    out.extend_from_slice(b"|")?;
-    out.extend_from_slice(left.as_slice())?;
-    Ok(out)
-}
-
-#[test]
-fn messages_are_taken_off_in_order(rt: HostRuntime) -> Result<(), Fail> {
-    let text = divided_text(rt.alloc(), "c")?;
-    assert_eq!(rt; text.as_slice(), b"+a1 ~a5 +b2 |+c3 -c0 ~c4 ".as_slice());
-    Ok(())
-}
-
 // Adds the number of a value, or a bar where there is none.
 fn add_number<V: Sample>(
     alloc: Global,

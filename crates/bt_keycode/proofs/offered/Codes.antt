@@ -4,13 +4,14 @@ use Rattle.std.specs.Ordering.{ordering_then}
 use Rattle.bt_rowtype.specs.Values.{value_cmp, values_cmp}
 use Rattle.bt_rowtype.specs.declared.value.Value.{Value}
 use Rattle.bt_rowtype.specs.declared.value.Value.TheVariants as value
-use Rattle.bt_keycode.specs.Codes.{AreInRange, HaveSameKinds, IsNoProperPrefix, code_of, code_of_value, kind_of}
+use Rattle.bt_rowtype.specs.Packing.{AreInRange, IsInRange}
+use Rattle.bt_keycode.specs.Codes.{HaveSameKinds, IsNoProperPrefix, code_of, code_of_value, kind_of}
 use Rattle.bt_keycode.specs.Keys.{key_cmp}
 use Rattle.bt_keycode.proofs.Codes.{codes_compare, flags_compare, ints_compare, no_prefix, texts_compare}
-use Rattle.bt_keycode.proofs.Decoding.{first_in_range, others_in_range, same_values}
+use Rattle.bt_keycode.proofs.Decoding.{same_values}
 
-value_ordered : (v w : Value) → kind_of v ≡ kind_of w → AreInRange (v ∷ []) → AreInRange (w ∷ []) → key_cmp (code_of_value v) (code_of_value w) ≡ value_cmp v w
-value_ordered (value.Int m) (value.Int n) same f g = ints_compare m n f.0 g.0
+value_ordered : (v w : Value) → kind_of v ≡ kind_of w → IsInRange v → IsInRange w → key_cmp (code_of_value v) (code_of_value w) ≡ value_cmp v w
+value_ordered (value.Int m) (value.Int n) same f g = ints_compare m n f g
 value_ordered (value.Text a) (value.Text b) same f g = texts_compare a b
 value_ordered (value.Flag a) (value.Flag b) same f g = flags_compare a b
 value_ordered v w same f g = cc
@@ -24,8 +25,8 @@ codes_ordered (v ∷ vs) (w ∷ ws) kinds f g =
     let first : kind_of v ≡ kind_of w = cc in
     let others : HaveSameKinds vs ws = cc in
     codes_compare v w first (code_of vs) (code_of ws)
-    ∙ ap (λ o. ordering_then o (key_cmp (code_of vs) (code_of ws))) (value_ordered v w first (first_in_range v vs f) (first_in_range w ws g))
-    ∙ ap (ordering_then (value_cmp v w)) (codes_ordered vs ws others (others_in_range v vs f) (others_in_range w ws g))
+    ∙ ap (λ o. ordering_then o (key_cmp (code_of vs) (code_of ws))) (value_ordered v w first f.0 g.0)
+    ∙ ap (ordering_then (value_cmp v w)) (codes_ordered vs ws others f.1 g.1)
 
 -- no code begins another one
 pub no_proper_prefix : (vs ws : List Value) → HaveSameKinds vs ws → IsNoProperPrefix (code_of vs) (code_of ws)

@@ -9,6 +9,7 @@ use Rattle.std.specs.Prelude.{FitsSigned, option_map}
 use Rattle.std.specs.Result.{result_err, result_ok}
 use Rattle.bt_rowtype.specs.Ints.{int_of, is_numeral, number_up_to, number_written}
 use Rattle.bt_rowtype.specs.Ops.{add_of, add_of_kind, added, after_op, after_ops, all_read, at_column, both_read, default_row, is_upsert, key_as, op_of, open_column, ops_as, ops_of, set_of, unless, upsert_as}
+use Rattle.bt_rowtype.specs.Packing.{AreInRange, IsInRange}
 use Rattle.bt_rowtype.specs.Refusals.{least}
 use Rattle.bt_rowtype.specs.Schemas.{Schema}
 use Rattle.bt_rowtype.specs.Texts.{is_text}
@@ -22,24 +23,17 @@ use Rattle.bt_rowtype.specs.declared.value.Kind.{Kind}
 use Rattle.bt_rowtype.specs.declared.value.Kind.TheVariants as kind
 use Rattle.bt_rowtype.specs.declared.value.Value.{Value}
 use Rattle.bt_rowtype.specs.declared.value.Value.TheVariants as value
-use Rattle.bt_keycode.specs.Codes.{AreInRange}
-use Rattle.bt_keycode.proofs.Decoding.{first_in_range, others_in_range}
 
 -- ---- lists of values in range
-
-cons_in_range : (v : Value) (vs : List Value) → AreInRange (v ∷ []) → AreInRange vs → AreInRange (v ∷ vs)
-cons_in_range (value.Int n) vs h rest = (h.0, rest)
-cons_in_range (value.Text bytes) vs h rest = (h.0, rest)
-cons_in_range (value.Flag flag) vs h rest = rest
 
 pub take_in_range : (n : ℕ) (row : List Value) → AreInRange row → AreInRange (take n row)
 take_in_range zero row h = tt
 take_in_range (suc n) [] h = tt
-take_in_range (suc n) (v ∷ vs) h = cons_in_range v (take n vs) (first_in_range v vs h) (take_in_range n vs (others_in_range v vs h))
+take_in_range (suc n) (v ∷ vs) h = (h.0, take_in_range n vs h.1)
 
 append_in_range : (vs ws : List Value) → AreInRange vs → AreInRange ws → AreInRange (vs ++ ws)
 append_in_range [] ws h rest = rest
-append_in_range (v ∷ vs) ws h rest = cons_in_range v (vs ++ ws) (first_in_range v vs h) (append_in_range vs ws (others_in_range v vs h) rest)
+append_in_range (v ∷ vs) ws h rest = (h.0, append_in_range vs ws h.1 rest)
 
 -- ---- values that fields spell
 
@@ -70,24 +64,24 @@ int_in_range field =
       | false ↦ above (number_up_to (2 ^ 63 - 1) field) (number_within (2 ^ 63 - 1) field)
     ]
 
-int_value : (o : Option ℤ) → IfSome o (FitsSigned w64) → IfSome (option_map value.Int o) (λ v. AreInRange (v ∷ []))
+int_value : (o : Option ℤ) → IfSome o (FitsSigned w64) → IfSome (option_map value.Int o) IsInRange
 int_value None h = tt
-int_value (Some n) h = (h, tt)
+int_value (Some n) h = h
 
-flag_value : (o : Option Bool) → IfSome (option_map value.Flag o) (λ v. AreInRange (v ∷ []))
+flag_value : (o : Option Bool) → IfSome (option_map value.Flag o) IsInRange
 flag_value None = tt
 flag_value (Some flag) = tt
 
-value_in_range : (k : Kind) (field : List ℕ) → IfSome (value_of k field) (λ v. AreInRange (v ∷ []))
+value_in_range : (k : Kind) (field : List ℕ) → IfSome (value_of k field) IsInRange
 value_in_range kind.Int field = int_value (int_of field) (int_in_range field)
 value_in_range kind.Text field =
-    elim (is_text field) as (λ b. is_text field ≡ b → IfSome (if b then Some (value.Text field) else None) (λ v. AreInRange (v ∷ []))) [ true ↦ λ test. (test, tt) | false ↦ λ test. tt ] refl
+    elim (is_text field) as (λ b. is_text field ≡ b → IfSome (if b then Some (value.Text field) else None) IsInRange) [ true ↦ λ test. test | false ↦ λ test. tt ] refl
 value_in_range kind.Flag field = flag_value (flag_of field)
 
-with_first_in_range : (first : Option Value) (rest : Option (List Value)) → IfSome first (λ v. AreInRange (v ∷ [])) → IfSome rest AreInRange → IfSome (with_first first rest) AreInRange
+with_first_in_range : (first : Option Value) (rest : Option (List Value)) → IfSome first IsInRange → IfSome rest AreInRange → IfSome (with_first first rest) AreInRange
 with_first_in_range None rest h others = tt
 with_first_in_range (Some v) None h others = tt
-with_first_in_range (Some v) (Some vs) h others = cons_in_range v vs h others
+with_first_in_range (Some v) (Some vs) h others = (h, others)
 
 values_in_range : (columns : List Column) (fields : List (List ℕ)) → IfSome (values_of columns fields) AreInRange
 values_in_range [] [] = tt
@@ -111,14 +105,14 @@ read_in_range columns item fields =
 
 -- the new value of an operation is in range
 abbrev pub OpInRange : Op → Type 0
-OpInRange (Set place new) = AreInRange (new ∷ [])
+OpInRange (Set place new) = IsInRange new
 OpInRange (Add place n) = Unit {0}
 
 abbrev pub OpsInRange : List Op → Type 0
 OpsInRange [] = Unit {0}
 OpsInRange (op ∷ ops) = OpInRange op × OpsInRange ops
 
-set_made : (place : ℕ) (o : Option Value) → IfSome o (λ v. AreInRange (v ∷ [])) → IfSome (option_map (Set place) o) OpInRange
+set_made : (place : ℕ) (o : Option Value) → IfSome o IsInRange → IfSome (option_map (Set place) o) OpInRange
 set_made place None h = tt
 set_made place (Some v) h = h
 
@@ -188,22 +182,22 @@ upsert_in_range schema item fields = by_length (is_upsert schema.keys (length fi
 
 -- ---- rows after operations, and default rows
 
-set_value : (row : List Value) (place : ℕ) (new : Value) → AreInRange row → AreInRange (new ∷ []) → AreInRange (set row place new)
+set_value : (row : List Value) (place : ℕ) (new : Value) → AreInRange row → IsInRange new → AreInRange (set row place new)
 set_value [] place new h one = tt
-set_value (v ∷ vs) zero new h one = cons_in_range new vs one (others_in_range v vs h)
-set_value (v ∷ vs) (suc place) new h one = cons_in_range v (set vs place new) (first_in_range v vs h) (set_value vs place new (others_in_range v vs h) one)
+set_value (v ∷ vs) zero new h one = (one, h.1)
+set_value (v ∷ vs) (suc place) new h one = (h.0, set_value vs place new h.1 one)
 
-value_at : (row : List Value) (place : ℕ) (other : Value) → AreInRange row → AreInRange (other ∷ []) → AreInRange (get_or row place other ∷ [])
+value_at : (row : List Value) (place : ℕ) (other : Value) → AreInRange row → IsInRange other → IsInRange (get_or row place other)
 value_at [] place other h one = one
-value_at (v ∷ vs) zero other h one = first_in_range v vs h
-value_at (v ∷ vs) (suc place) other h one = value_at vs place other (others_in_range v vs h) one
+value_at (v ∷ vs) zero other h one = h.0
+value_at (v ∷ vs) (suc place) other h one = value_at vs place other h.1 one
 
 saturated : (z : ℤ) → FitsSigned w64 (saturate_to_bits 63 z)
 saturated (pos n) = record { sfits = omega arith }
 saturated (negsuc n) = record { sfits = omega arith }
 
-added_in_range : (n : ℤ) (v : Value) → AreInRange (v ∷ []) → AreInRange (added n v ∷ [])
-added_in_range n (value.Int old) h = (saturated _, tt)
+added_in_range : (n : ℤ) (v : Value) → IsInRange v → IsInRange (added n v)
+added_in_range n (value.Int old) h = saturated _
 added_in_range n (value.Text bytes) h = h
 added_in_range n (value.Flag flag) h = h
 
@@ -213,20 +207,20 @@ zero_fits = record { sfits = omega arith }
 after_op_in_range : (row : List Value) (op : Op) → OpInRange op → AreInRange row → AreInRange (after_op row op)
 after_op_in_range row (Set place new) one h = set_value row place new h one
 after_op_in_range row (Add place n) one h =
-    set_value row place (added n (get_or row place (value.Int (pos 0)))) h (added_in_range n (get_or row place (value.Int (pos 0))) (value_at row place (value.Int (pos 0)) h (zero_fits, tt)))
+    set_value row place (added n (get_or row place (value.Int (pos 0)))) h (added_in_range n (get_or row place (value.Int (pos 0))) (value_at row place (value.Int (pos 0)) h zero_fits))
 
 pub after_ops_in_range : (ops : List Op) (row : List Value) → OpsInRange ops → AreInRange row → AreInRange (after_ops ops row)
 after_ops_in_range [] row all h = h
 after_ops_in_range (op ∷ ops) row all h = after_ops_in_range ops (after_op row op) all.1 (after_op_in_range row op all.0 h)
 
-default_in_range : (k : Kind) → AreInRange (default_of k ∷ [])
-default_in_range kind.Int = (zero_fits, tt)
-default_in_range kind.Text = (is_utf8-from_IsUtf8 [] IsUtf8-nil, tt)
+default_in_range : (k : Kind) → IsInRange (default_of k)
+default_in_range kind.Int = zero_fits
+default_in_range kind.Text = is_utf8-from_IsUtf8 [] IsUtf8-nil
 default_in_range kind.Flag = tt
 
 defaults_in_range : (columns : List Column) → AreInRange (map (λ c. default_of c.kind) columns)
 defaults_in_range [] = tt
-defaults_in_range (c ∷ columns) = cons_in_range (default_of c.kind) (map (λ c. default_of c.kind) columns) (default_in_range c.kind) (defaults_in_range columns)
+defaults_in_range (c ∷ columns) = (default_in_range c.kind, defaults_in_range columns)
 
 pub default_row_in_range : (schema : Schema) (key : List Value) → AreInRange key → AreInRange (default_row schema key)
 default_row_in_range schema key h = append_in_range key (map (λ c. default_of c.kind) (drop schema.keys schema.columns)) h (defaults_in_range (drop schema.keys schema.columns))

@@ -4,7 +4,7 @@ use Rattle.std.proofs.lemmas.List.{map-append}
 use Rattle.std.specs.Vec.Iter.{into_iter_items}
 use Rattle.bt_messages.specs.Bins.{joined, parted, parts, total}
 use Rattle.bt_messages.specs.Effects.{effect_of}
-use Rattle.bt_messages.proofs.Slices.{sorted_take}
+use Rattle.bt_messages.proofs.offered.Fronts.{sorted_take}
 use Rattle.bt_messages.proofs.offered.Parts.{lie_length}
 use Rattle.bt_messages.proofs.offered.Placed.{alone}
 use Rattle.bt_node.specs.Flushes.{absorb}

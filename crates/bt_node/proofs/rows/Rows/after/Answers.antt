@@ -4,7 +4,7 @@ use Rattle.bt_messages.specs.Effects.{effect_of}
 use Rattle.bt_messages.specs.declared.message.Message.{Message}
 use Rattle.bt_keycode.specs.Keys.{Key, key_cmp}
 use Rattle.bt_node.proofs.lemmas.code.RowPass.{at_end, before_of, changed_sorted, pass_step, put_in_front, result_sorted, sorted_from}
-use Rattle.bt_messages.proofs.Slices.{one_taken, sorted_take}
+use Rattle.bt_messages.proofs.offered.Fronts.{one_taken, sorted_take}
 use Rattle.bt_node.proofs.rows.Rows.after.Goals as goal
 
 pub take_first-old-requires-clause-sorted : goal.take_first-old-requires-clause-sorted

@@ -2,9 +2,9 @@ use Rattle.std.proofs.Common.{◌≡◌, ◌∷◌, ◌++◌, [], ◌<◌, ◌�
 use Rattle.std.proofs.lemmas.Grind.{common_steps}
 use Rattle.bt_messages.specs.Merges.{messages_past}
 use Rattle.bt_messages.proofs.Sharing.{front_step}
-use Rattle.bt_messages.proofs.Slices.{one_taken}
-use Rattle.bt_messages.proofs.share.merge_front.Goals as goal
-use Rattle.bt_messages.proofs.share.merge_front.Goals.{in-Some, in_default}
+use Rattle.bt_messages.proofs.offered.Fronts.{one_taken}
+use Rattle.bt_messages.proofs.share.merge_each.Goals as goal
+use Rattle.bt_messages.proofs.share.merge_each.Goals.{in-Some, in_default}
 
 pub loop-preserved : goal.loop-preserved
 loop-preserved g c = elim c.match-pop.branch [

@@ -1,6 +1,6 @@
 use Rattle.std.proofs.Common.{◌≡◌, ◌+◌, ◌-◌, ◌≤◌, ◌++◌, drop, length, take, vec_len, vec_capacity}
 use Rattle.bt_messages.specs.Messages.{with_messages}
-use Rattle.bt_messages.proofs.share.merge_front.Given as goal
+use Rattle.bt_messages.proofs.share.merge_each.Given as goal
 
 abbrev pub invariant-loop : goal.invariant-loop
 invariant-loop g l = record {
