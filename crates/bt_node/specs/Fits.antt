@@ -59,10 +59,6 @@ abbrev pub AreHigh : {V M : Type 0} → ℕ → Siblings V M → Type 0
 AreHigh high [] = Unit {0}
 AreHigh high (x ∷ xs) = (height x.1 ≡ high) × AreHigh high xs
 
--- a tree that fits
-abbrev pub IsFit : {V M : Type 0} → Shape → Tree V M → Type 0
-IsFit shape t = (levels : ℕ) × NodeFits shape levels None None t
-
 -- room for three children in an inner node, so that no deal leaves a node with one child, and for a row in a leaf
 pub record IsRoomy (shape : Shape) : Type 0 where
   pub fanout : 3 ≤ shape.fanout

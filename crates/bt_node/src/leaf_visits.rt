@@ -1,5 +1,5 @@
 //! The rows of a leaf and the messages to it, gone through in one pass.
-ghost use Rattle.std.specs.Prelude.{◌≡◌, ◌++◌, [], IfOk, IsTrue, None, OnOk, fold, option_map};
+ghost use Rattle.std.specs.Prelude.{◌≡◌, [], IsTrue, None, OnOk, fold, option_map};
 ghost use Rattle.std.specs.FinMap.{find, is_sorted};
 ghost use Rattle.std.specs.Option.{option_copied, option_to_list};
 ghost use Rattle.bt_keycode.specs.Keys.{IsSorted, key_cmp};

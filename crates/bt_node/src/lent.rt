@@ -1,5 +1,5 @@
 //! Messages that are lent from the buffers where they are pending.
-ghost use Rattle.std.specs.Prelude.{◌≡◌, ◌++◌, ◌∷◌, ◌≤◌, [], false, true, IfOk, MatchOption, None, OnOk, length, map};
+ghost use Rattle.std.specs.Prelude.{◌≡◌, ◌++◌, ◌∷◌, [], false, true, IfOk, MatchOption, None, OnOk, map};
 ghost use Rattle.std.specs.Option.{option_copied};
 ghost use Rattle.bt_keycode.specs.Keys.{AllFrom, IsSorted, is_before, is_before_upper};
 ghost use Rattle.bt_messages.specs.Effects.{effect_of};

@@ -67,7 +67,7 @@ pub enum Parts<V: Merge> {
 }
 
 impl<V: Merge> Model for Node<V> {
-    ghost use Rattle.std.specs.Prelude.{◌*◌, ℕ};
+    ghost use Rattle.std.specs.Prelude.{◌*◌};
     ghost use Rattle.bt_messages.specs.declared.message.Message.{Message};
     ghost use Rattle.bt_node.specs.Trees as trees;
     ghost use Rattle.bt_node.specs.inside.Stored.{message_code, tree_code};
@@ -92,7 +92,7 @@ impl<V: Merge> Model for Node<V> {
 }
 
 impl<V: Merge> Model for Siblings<V> {
-    ghost use Rattle.std.specs.Prelude.{◌*◌, ◌+◌, ◌≡◌, length, ℕ};
+    ghost use Rattle.std.specs.Prelude.{◌*◌, ◌+◌, ◌≡◌, length};
     ghost use Rattle.std.specs.Coded.{coded×, coded_list, coded_ℕ};
     ghost use Rattle.bt_messages.specs.declared.message.Message.{Message};
     ghost use Rattle.bt_node.specs.Trees as trees;

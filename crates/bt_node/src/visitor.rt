@@ -1,5 +1,5 @@
 //! What is done with rows that are gone through one by one.
-ghost use Rattle.std.specs.Prelude.{◌≡◌, ◌++◌, ◌∷◌, [], IfOk, List, ℕ, OnOk, fold};
+ghost use Rattle.std.specs.Prelude.{◌≡◌, ◌++◌, ◌∷◌, [], List, ℕ, OnOk};
 
 use bt_keycode::Key;
 use bt_messages::Merge;

@@ -6,7 +6,6 @@ pub mod Groups
 pub mod Laws
 pub mod NodeSizes
 pub mod Passes
-pub mod PendingOrder
 pub mod Recursion
 pub mod RowsKept
 pub mod Shares

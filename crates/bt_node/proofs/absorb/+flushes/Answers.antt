@@ -16,7 +16,7 @@ use Rattle.bt_node.specs.inside.Marks.{marks_of}
 use Rattle.bt_node.specs.inside.Shares.{AreInOrder, sums}
 use Rattle.bt_node.specs.inside.Views.{child_of, children_of}
 use Rattle.bt_node.proofs.lemmas.code.AbsorbStep.{among, children_in_order, grouped_anew, if_ok, lower, marks-long, long, on_ok, parts_divided, parts_some, stays_here}
-use Rattle.bt_node.proofs.lemmas.code.FlushLoop.{one_flushed, one_kept, rest_fits, same_left, share_fits}
+use Rattle.bt_node.proofs.lemmas.code.FlushLoop.{one_kept, rest_fits, same_left}
 use Rattle.bt_node.proofs.lemmas.code.GroupLoops.{nothing_left}
 use Rattle.bt_node.proofs.lemmas.flushes.Divisions.{bins-length}
 use Rattle.bt_node.proofs.absorb.+flushes.Goals as goal

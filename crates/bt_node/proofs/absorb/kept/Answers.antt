@@ -1,4 +1,4 @@
-use Rattle.std.proofs.Common.{◌≡◌, ◌∷◌, ◌∙◌, [], ap, arith, length, subst, sym, take}
+use Rattle.std.proofs.Common.{◌∷◌, ◌∙◌, [], ap, arith, subst, sym, take}
 use Rattle.bt_messages.specs.Bins.{LieBetween, added, each_with, joined, total}
 use Rattle.bt_messages.proofs.offered.Parts.{added_lie, joined-added, lie_length}
 use Rattle.bt_node.specs.Lookups.{pivots_of}

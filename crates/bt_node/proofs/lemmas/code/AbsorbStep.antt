@@ -11,7 +11,7 @@ use Rattle.bt_node.specs.inside.Shares.{AreDivided, AreInOrder, beside, loaded, 
 use Rattle.bt_node.specs.inside.Marks.{marks_of, passed, set_all}
 use Rattle.bt_node.specs.Trees.{Shape, Siblings, Tree, leaf, inner, height, height_below, nodes}
 use Rattle.bt_messages.specs.Bins.{LieBetween, joined, parted, parts}
-use Rattle.bt_messages.proofs.offered.Parts.{joined_sorted, length-with_messages, lie_length}
+use Rattle.bt_messages.proofs.offered.Parts.{joined_sorted, length-with_messages}
 use Rattle.bt_messages.proofs.offered.Placed.{sorted-with_messages}
 use Rattle.std.specs.declared.option.Option.TheVariants.{None}
 use Rattle.bt_node.specs.Fits.{IsInOrder, IsLed}

@@ -1,5 +1,5 @@
 -- The bounds between which a child is entered, and the keys that belong to it.
-use Rattle.std.proofs.Common.{◌≡◌, ◌≤◌, ◌<◌, ◌+◌, Bor, ℕ, zero, suc, Bool, true, false, not, ◌&&◌, cond, List, [], ◌∷◌, get_or, length, slice_get, refl, sym, ap, ◌∙◌, true≢false, arith}
+use Rattle.std.proofs.Common.{◌≡◌, ◌≤◌, ◌<◌, ◌+◌, Bor, ℕ, zero, suc, true, false, cond, List, [], ◌∷◌, length, slice_get, refl, sym, ap, ◌∙◌, true≢false, arith}
 use Rattle.std.specs.declared.option.Option.{Option}
 use Rattle.std.specs.declared.option.Option.TheVariants.{None, Some}
 use Rattle.std.specs.Option.{is_none, option_copied, option_or}

@@ -1,8 +1,8 @@
 -- To empty the fullest in turn is to take the plan.
-use Rattle.std.proofs.Common.{◌≡◌, ℕ, zero, suc, ◌+◌, ◌<◌, ◌≤◌, ◌≢◌, cond, ltb, eqb, List, [], ◌∷◌, ◌++◌, length, get_or, set, refl, sym, ap, ◌∙◌, subst, arith, inl, inr, append_assoc, ne_eqb}
+use Rattle.std.proofs.Common.{◌≡◌, ℕ, zero, suc, ◌+◌, ◌<◌, ◌≤◌, ◌≢◌, cond, ltb, List, [], ◌∷◌, ◌++◌, length, get_or, set, refl, sym, ap, ◌∙◌, subst, arith, inl, inr, append_assoc}
 use Rattle.std.proofs.lemmas.Bool.{le-leb, lt-leb, cond-true, cond-false, lt-ltb, le-ltb}
 use Rattle.std.proofs.lemmas.List.{get_or_default, get_or_past}
-use Rattle.std.specs.List.{All, AllByRecursion, IsDistinct}
+use Rattle.std.specs.List.{All, AllByRecursion}
 use Rattle.bt_node.specs.Plans.{total, most, fullest, planned}
 use Rattle.bt_node.proofs.lemmas.plans.RenewedChoice.{le_or_lt, nothing, most-here, most-later, fullest-here, fullest-later, total-rest, renewed-planned}
 
@@ -131,19 +131,6 @@ planned-some (suc turns) ns capacity l = elim (le_or_lt (total ns) capacity) [
       (some, all-map _ _ (λ j h. (still-some ns (fullest ns) j h).1) (planned rest capacity) later)
 ]
 
-planned-distinct_in : (turns : ℕ) (ns : List ℕ) (capacity : ℕ) → total ns ≤ turns → IsDistinct eqb (planned ns capacity)
-unfolding IsDistinct
-planned-distinct_in zero ns capacity l = subst (IsDistinct eqb) (sym (planned-within ns capacity (omega arith))) tt
-planned-distinct_in (suc turns) ns capacity l = elim (le_or_lt (total ns) capacity) [
-  | inl within ↦ subst (IsDistinct eqb) (sym (planned-within ns capacity within)) tt
-  | inr over ↦
-      let rest = set ns (fullest ns) 0 in
-      let some = fullest-some ns capacity over in
-      let less : total rest ≤ turns = omega (arith, total-emptied ns capacity over) in
-      subst (IsDistinct eqb) (sym (planned-over ns capacity over))
-      (all-map _ _ (λ j h. ne_eqb (fullest ns) j (still-some ns (fullest ns) j h).0) (planned rest capacity) (planned-some (total rest) rest capacity (omega arith)), planned-distinct_in turns rest capacity less)
-]
-
 all-at : (P : ℕ → Type 0) (is : List ℕ) → AllByRecursion P is → (k d : ℕ) → k < length is → P (get_or is k d)
 all-at P [] all k d l = absurd (omega arith)
 all-at P (i ∷ is) all zero d l = all.0
@@ -153,7 +140,3 @@ all-at P (i ∷ is) all (suc k) d l = all-at P is all.1 k d (omega arith)
 pub planned-below : (counts : List ℕ) (capacity : ℕ) → All (λ i. i < length counts) (planned counts capacity)
 planned-below counts capacity k d l =
     place-below counts _ (all-at _ (planned counts capacity) (planned-some (total counts) counts capacity (omega arith)) k d l)
-
--- No place is planned twice.
-pub planned-distinct : (counts : List ℕ) (capacity : ℕ) → IsDistinct eqb (planned counts capacity)
-planned-distinct counts capacity = planned-distinct_in (total counts) counts capacity (omega arith)

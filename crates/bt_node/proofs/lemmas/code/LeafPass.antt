@@ -1,9 +1,9 @@
 -- One pass over the rows of a leaf and the messages to it, key by key.
-use Rattle.std.proofs.Common.{◌≡◌, ◌≤◌, suc, arith, length, Bool, true, false, not, cond, T, List, [], ◌∷◌, ◌++◌, ◌&&◌, fold, refl, sym, ap, subst, ◌∙◌, true≢false, option_to_list, option_map}
+use Rattle.std.proofs.Common.{◌≡◌, ◌≤◌, suc, arith, length, true, false, not, cond, [], ◌∷◌, ◌++◌, ◌&&◌, fold, refl, sym, ap, subst, ◌∙◌, true≢false, option_to_list, option_map}
 use Rattle.std.proofs.lemmas.Bool.{and_parts}
 use Rattle.std.proofs.lemmas.List.Sums.{fold-append}
 use Rattle.std.specs.Cmp.{tied_itself}
-use Rattle.std.specs.Ordering.{eq_by_cmp, is_eq, is_lt}
+use Rattle.std.specs.Ordering.{is_eq, is_lt}
 use Rattle.std.specs.FinMap.{find, is_sorted, nat_cmp-IsAntisymmetric, slice_cmp-IsAntisymmetric}
 use Rattle.std.specs.FinMap.Entries.{below_all, by_order, put}
 use Rattle.std.specs.declared.cmp.Ordering.{Ordering}

@@ -1,5 +1,5 @@
 -- Lent messages, taken off one by one and merged with others.
-use Rattle.std.proofs.Common.{◌≡◌, ℕ, Bool, true, false, not, cond, List, [], ◌∷◌, ◌++◌, append_assoc, append-nil, get_or, map, refl, sym, ap, subst, ◌∙◌, true≢false}
+use Rattle.std.proofs.Common.{◌≡◌, Bool, true, false, not, cond, List, [], ◌∷◌, ◌++◌, append_assoc, append-nil, get_or, map, refl, sym, ap, subst, ◌∙◌, true≢false}
 use Rattle.std.specs.Cmp.{tied_itself}
 use Rattle.std.specs.Ordering.{eq_by_cmp, is_eq}
 use Rattle.std.specs.declared.option.Option.{Option}
@@ -8,7 +8,7 @@ use Rattle.bt_keycode.specs.Keys.{AllFrom, IsSorted, Key, is_before, is_before_u
 use Rattle.bt_messages.specs.Merges.{messages_past, messages_up_to}
 use Rattle.bt_messages.specs.Messages.{messages_outside as outside}
 use Rattle.bt_node.specs.Messages.{Messages, before, between, from, value_after, with_messages}
-use Rattle.bt_keycode.proofs.offered.Order.{all_within-from, from_earlier, neither_before, not_after, not_before_itself, total_keys}
+use Rattle.bt_keycode.proofs.offered.Order.{all_within-from, from_earlier, neither_before, not_before_itself, total_keys}
 use Rattle.bt_messages.proofs.offered.Placed.{alone, first_stays, newer_first}
 use Rattle.bt_messages.proofs.offered.Rows.{value_before}
 use Rattle.bt_node.proofs.lemmas.keys.SortedLists.{sorted-where}

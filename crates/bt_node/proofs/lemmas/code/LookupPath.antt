@@ -14,7 +14,6 @@ use Rattle.bt_node.specs.Lookups.{pivots_up_to, value_at, value_below}
 use Rattle.bt_node.specs.inside.Held.{BeginsWith, Resets, begun, value_of}
 use Rattle.bt_node.specs.declared.held.Held.{Held}
 use Rattle.bt_keycode.proofs.offered.Order.{all_within-from, apart_back, not_before_itself, total_keys}
-use Rattle.bt_node.proofs.lemmas.keys.SortedLists.{sorted-where}
 use Rattle.bt_node.proofs.lemmas.rows.Values.{value-above}
 
 -- what a comparison says of the keys the other way round
@@ -135,6 +134,3 @@ module _ {V D : Type 0} (effect : Option V → Message V D → Option V) where
 
   pub left_from : (k : Key) (buffer ms : Messages (Message V D)) → ms ≡ from k buffer → AllFrom k ms
   left_from k buffer ms is = subst (AllFrom k) (sym is) (all_from k buffer)
-
-  pub left_sorted : (k : Key) (buffer ms : Messages (Message V D)) → ms ≡ from k buffer → IsSorted buffer → IsSorted ms
-  left_sorted k buffer ms is sorted = subst IsSorted (sym is) (sorted-where (λ x. not (is_before x k)) buffer sorted)

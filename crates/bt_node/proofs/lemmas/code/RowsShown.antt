@@ -1,9 +1,9 @@
 -- The rows of an inner node, shown child by child, each with the messages above it.
-use Rattle.std.proofs.Common.{◌≡◌, ◌≤◌, ◌<◌, ℕ, true, false, T, List, [], ◌∷◌, ◌++◌, append_assoc, append-nil, fold, get_or, length, map, refl, sym, ap, subst, ◌∙◌}
+use Rattle.std.proofs.Common.{◌≡◌, ◌≤◌, ◌<◌, ℕ, true, false, T, List, [], ◌∷◌, ◌++◌, append_assoc, append-nil, fold, get_or, length, map, sym, ap, subst, ◌∙◌}
 use Rattle.std.specs.FinMap.{find, is_sorted}
 use Rattle.std.specs.declared.option.Option.{Option}
 use Rattle.std.specs.declared.option.Option.TheVariants.{None, Some}
-use Rattle.bt_keycode.specs.Keys.{AllWithin, IsSorted, Key, is_before, is_before_lower, is_before_upper, is_between, key_cmp}
+use Rattle.bt_keycode.specs.Keys.{AllWithin, IsSorted, Key, is_before_lower, is_before_upper, is_between, key_cmp}
 use Rattle.bt_messages.specs.Messages.{messages_outside as outside}
 use Rattle.bt_messages.specs.declared.message.Message.{Message}
 use Rattle.bt_node.specs.Fits.{IsInOrder, SiblingsLie}

@@ -28,8 +28,6 @@ has_room shape e =
     record { fanout = omega (arith, four); leaf = omega (arith, two) }
 
 module _ {V D : Type 0} (shape : Shape) where
-  pub empty_has_shape : (t : Tree V (Message V D)) → IsRoomy shape → t ≡ leaf [] → HasShape shape t
-  empty_has_shape t roomy e = subst (HasShape shape) (sym e) (record { roomy = roomy; levels = 0; fits = record { lies = tt; sized = omega arith } })
 
   pub crown_has_shape : (t : Tree V (Message V D)) (xs : Siblings V (Message V D)) → IsRoomy shape → AreFit shape xs → t ≡ crown shape xs → HasShape shape t
   crown_has_shape t xs roomy fit e =

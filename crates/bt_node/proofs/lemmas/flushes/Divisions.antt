@@ -1,11 +1,10 @@
 -- Children beside their bins, and with their shares of the messages that come: what is pending for each of them.
 use Rattle.std.proofs.Common.{◌≡◌, ◌+◌, ◌≤◌, ℕ, zero, suc, List, [], ◌∷◌, ◌++◌, drop, length, map, take, refl, sym, ap, subst, ◌∙◌, arith}
 use Rattle.std.proofs.lemmas.List.{length-drop, length-map}
-use Rattle.std.specs.List.{flat_map}
 use Rattle.std.specs.declared.option.Option.{Option}
 use Rattle.std.specs.declared.option.Option.TheVariants.{Some}
 use Rattle.bt_keycode.specs.Keys.{AllFrom, AllWithin, IsSorted, Key}
-use Rattle.bt_messages.specs.Bins.{AllBefore, LieBetween, added, each_with, joined, parted, parts}
+use Rattle.bt_messages.specs.Bins.{AllBefore, LieBetween, each_with, joined, parted, parts}
 use Rattle.bt_messages.proofs.offered.Parts.{added_is, length-with_messages, lie_length, parts-joined}
 use Rattle.bt_node.specs.Fits.{SiblingsLie}
 use Rattle.bt_node.specs.Flushes.{Child, counts, shared}

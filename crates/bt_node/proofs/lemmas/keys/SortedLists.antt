@@ -33,20 +33,6 @@ module _ {X : Type 0} where
   from-joined k [] ys h i = i
   from-joined k (x ∷ xs) ys h i = (h.0, from-joined k xs ys h.1 i)
 
-  pub sorted-prefix : (xs ys : List (Key × X)) → IsSorted (xs ++ ys) → IsSorted xs
-  sorted-prefix [] ys h = tt
-  sorted-prefix (x ∷ xs) ys h = (from-prefix x.0 xs ys h.0, sorted-prefix xs ys h.1)
-
-  pub sorted-back : (xs ys : List (Key × X)) → IsSorted (xs ++ ys) → IsSorted ys
-  sorted-back [] ys h = h
-  sorted-back (x ∷ xs) ys h = sorted-back xs ys h.1
-
-  -- another list in the place of the last part, from every key that this part lies from
-  pub sorted-instead : (xs ys zs : List (Key × X)) → IsSorted (xs ++ ys) → IsSorted zs → ((k : Key) → AllFrom k ys → AllFrom k zs) → IsSorted (xs ++ zs)
-  sorted-instead [] ys zs h i from = i
-  sorted-instead (x ∷ xs) ys zs h i from =
-      (from-joined x.0 xs zs (from-prefix x.0 xs ys h.0) (from x.0 (from-back x.0 xs ys h.0)), sorted-instead xs ys zs h.1 i from)
-
   -- what lies between limits that are past a key lies from this key on
   from-limit : (a k : Key) (high : Option Key) (xs : List (Key × X)) → is_before a k ≡ true → AllWithin (Some k) high xs → AllFrom a xs
   from-limit a k high [] l w = tt

@@ -1,6 +1,6 @@
 -- The messages to a key are in the bin of the child to which the key belongs.
 use Rattle.std.proofs.Common.{◌≡◌, ◌+◌, ◌<◌, ◌≤◌, ℕ, suc, true, false, cond, List, [], ◌∷◌, ◌++◌, append-nil, get_or, length, refl, sym, ap, ◌∙◌, arith, Option}
-use Rattle.bt_keycode.specs.Keys.{AllFrom, Key, is_before, is_between, key_cmp}
+use Rattle.bt_keycode.specs.Keys.{Key, is_before, is_between}
 use Rattle.bt_keycode.proofs.offered.Order.{apart_back}
 use Rattle.bt_messages.specs.Bins.{AllBefore, LieBetween, joined}
 use Rattle.bt_messages.proofs.offered.Parts.{lie_length}

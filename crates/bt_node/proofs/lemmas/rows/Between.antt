@@ -1,14 +1,13 @@
 -- Rows between two bounds: those after messages come of the messages and the rows between the bounds.
 use Rattle.std.proofs.Common.{◌≡◌, Bool, true, false, cond, not, ◌&&◌, T, [], ◌∷◌, ◌++◌, refl, sym, ap, subst, ◌∙◌, true≢false}
-use Rattle.std.specs.Ordering.{eq_by_cmp, is_eq}
-use Rattle.std.specs.declared.cmp.Ordering.TheVariants.{Equal}
+use Rattle.std.specs.Ordering.{eq_by_cmp}
 use Rattle.std.specs.FinMap.{find, is_sorted, nat_cmp-IsAntisymmetric, slice_cmp-IsAntisymmetric}
 use Rattle.std.specs.FinMap.Entries.{below_all, find-where_key, is_sorted-where_key, same_entries}
 use Rattle.std.specs.declared.option.Option.{Option}
 use Rattle.std.specs.declared.option.Option.TheVariants.{None, Some}
 use Rattle.bt_keycode.specs.Keys.{Key, key_cmp, is_before, is_before_lower, is_before_upper, is_between, AllWithin, AllFrom, IsSorted}
 use Rattle.bt_node.specs.Messages.{Rows, Messages, between, from as from_key, rows_after, value_after}
-use Rattle.bt_keycode.proofs.offered.Order.{before_chain, before_later, from_earlier, later_chain, not_after, same_key, total_keys}
+use Rattle.bt_keycode.proofs.offered.Order.{before_chain, from_earlier, later_chain, not_after, same_key, total_keys}
 use Rattle.bt_node.proofs.lemmas.rows.RowsAfter.{rows_after-sorted, t_first, t_second, true_t}
 use Rattle.bt_node.proofs.lemmas.rows.Values.{find-rows}
 
@@ -27,12 +26,6 @@ module _ {V : Type 0} where
 
   dropped : (from to : Option Key) (r : Key × V) (rs : Rows V) → is_between from to r.0 ≡ false → between from to (r ∷ rs) ≡ between from to rs
   dropped from to r rs e = ap (λ b. cond b (r ∷ between from to rs) (between from to rs)) e
-
-  -- none are before the lower bound
-  pub none-under : (f k : Key) (low to : Option Key) (rs : Rows V) → is_before f k ≡ false → AllWithin low (Some k) rs → between (Some f) to rs ≡ []
-  none-under f k low to [] e w = refl
-  none-under f k low to (r ∷ rs) e w =
-      dropped (Some f) to r rs (ap (λ b. not b && is_before_upper to r.0) (before_later r.0 k f w.0.below e)) ∙ none-under f k low to rs e w.1
 
   -- none are past the upper bound
   pub none-over : (t k : Key) (from high : Option Key) (rs : Rows V) → is_before k t ≡ false → AllWithin (Some k) high rs → between from (Some t) rs ≡ []

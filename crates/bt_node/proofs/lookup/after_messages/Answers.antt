@@ -1,4 +1,4 @@
-use Rattle.std.proofs.Common.{◌≡◌, ◌∙◌, rules, sym}
+use Rattle.std.proofs.Common.{◌∙◌, sym}
 use Rattle.bt_messages.specs.Effects.{effect_of}
 use Rattle.bt_node.specs.inside.Held.{value_of}
 use Rattle.bt_node.proofs.lemmas.code.LookupPath.{none_left, one_more, rest_from, rest_sorted}
