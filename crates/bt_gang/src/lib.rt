@@ -18,6 +18,7 @@ mod board;
 mod crew;
 mod jobs;
 mod places;
+mod room;
 mod rule;
 mod run;
 mod slots;

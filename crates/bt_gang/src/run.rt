@@ -10,12 +10,12 @@ ghost use Rattle.bt_gang.specs.Workers.{HasServed, HasServedCaller, IsReady, IsR
 use crate::answers::Answers;
 use crate::crew::{Crew, Gate};
 use crate::jobs::{JobPass, Jobs};
-use crate::places::empty_places;
+use crate::room::Room;
 use crate::slots::{JobFault, Slots, is_full, place, values};
 use crate::work::Work;
 use crate::worker_loop::serve;
 use crate::workers::{GivesBack, Worker, join_all, split, start, take_in};
-use std::alloc::{AllocError, Global};
+use std::alloc::Global;
 use std::snapshot::Snapshot;
 use std::sync::Wait;
 use std::thread;
@@ -34,64 +34,6 @@ pub struct Ran<D> {
 pub enum GangFault<F> {
     OutOfMemory,
     Job { number: usize, fault: F },
-}
-
-/// All room of a run, made before the first push.
-#[derive(Drop)]
-struct Room<W: Work> {
-    slots: Slots<W::Done, W::Fault>,
-    done: Vec<W::Done>,
-    taken: Vec<Vec<usize>>,
-    out: Answers<W::Done, W::Fault>,
-    outs: Vec<Answers<W::Done, W::Fault>>,
-    workers: Vec<Worker<W::Job, W::Done, W::Fault>>,
-    children: Vec<Option<PromisedHandle<Worker<W::Job, W::Done, W::Fault>, GivesBack<W>>>>,
-    back: Vec<Option<Worker<W::Job, W::Done, W::Fault>>>,
-    came: Vec<Option<Answers<W::Done, W::Fault>>>,
-}
-
-// Empty answers for each of k workers.
-fn empty_answers<D: Drop, F: Drop>(
-    alloc: Global,
-    k: usize,
-    n: usize,
-) -> Result<Vec<Answers<D, F>>, AllocError>
-    ensures each { IfOk result (λ v. All (λ a. (a.list.items ≡ []) × (a.spare ≡ n)) v.items) }
-    ensures len { IfOk result (λ v. vec_len v ≡ k) }
-{
-    let mut made = Vec::with_capacity(alloc, k)?;
-    for _ in 0..k {
-        made.push_reserved(Answers::new(alloc, n)?);
-    }
-    Ok(made)
-}
-
-impl<W: Work> Room<W> {
-    fn new(alloc: Global, workers: usize, n: usize) -> Result<Room<W>, AllocError>
-        requires { 0 < workers }
-        ensures slots { IfOk result (λ r. r.slots.items ≡ replicate n None) }
-        ensures done { IfOk result (λ r. (r.done.items ≡ []) × (n ≤ vec_capacity r.done)) }
-        ensures taken { IfOk result (λ r. (r.taken.items ≡ []) × (workers ≤ vec_capacity r.taken)) }
-        ensures out { IfOk result (λ r. (r.out.list.items ≡ []) × (r.out.spare ≡ n)) }
-        ensures outs { IfOk result (λ r. All (λ a. (a.list.items ≡ []) × (a.spare ≡ n)) r.outs.items × (vec_len r.outs + 1 ≡ workers)) }
-        ensures workers { IfOk result (λ r. (r.workers.items ≡ []) × (workers ≤ vec_capacity r.workers + 1)) }
-        ensures children { IfOk result (λ r. (r.children.items ≡ []) × (workers ≤ vec_capacity r.children + 1)) }
-        ensures back { IfOk result (λ r. (r.back.items ≡ []) × (workers ≤ vec_capacity r.back + 1)) }
-        ensures came { IfOk result (λ r. (r.came.items ≡ []) × (workers ≤ vec_capacity r.came + 1)) }
-    {
-        let others = workers - 1;
-        Ok(Room {
-            slots: empty_places(alloc, n)?,
-            done: Vec::with_capacity(alloc, n)?,
-            taken: Vec::with_capacity(alloc, workers)?,
-            out: Answers::new(alloc, n)?,
-            outs: empty_answers(alloc, others, n)?,
-            workers: Vec::with_capacity(alloc, others)?,
-            children: Vec::with_capacity(alloc, others)?,
-            back: Vec::with_capacity(alloc, others)?,
-            came: Vec::with_capacity(alloc, others)?,
-        })
-    }
 }
 
 /// The caller and the other workers, after their loops.
@@ -128,6 +70,48 @@ fn serve_all<'s, E, W: Work + Sync, G: Gate + Sync, R: Threads + Wait + Sync>(
     serve(rt, alloc, work, jobs, &mut mine.pass, crew, &mut mine.out);
     let others = join_all(rt, work, jobs, all, children, back);
     Served { mine, others }
+}
+
+// All threads of a run, the caller's among them, from their first job to the end of the last.
+fn serve_threads<W: Work + Sync, G: Gate + Sync, R: Threads + Wait + Sync>(
+    rt: &R,
+    alloc: Global,
+    work: &W,
+    jobs: &Jobs<W::Job>,
+    all: &Snapshot<Vec<W::Job>>,
+    crew: &Crew<G>,
+    mine: Worker<W::Job, W::Done, W::Fault>,
+    workers: Vec<Worker<W::Job, W::Done, W::Fault>>,
+    children: Vec<Option<PromisedHandle<Worker<W::Job, W::Done, W::Fault>, GivesBack<W>>>>,
+    back: Vec<Option<Worker<W::Job, W::Done, W::Fault>>>,
+) -> Served<W::Job, W::Done, W::Fault>
+    requires mine { IsReadyCaller jobs.now all.now.value.items (vec_len workers) mine }
+    requires workers { All (λ w. IsReady jobs.now all.now.value.items [] w) workers.items }
+    requires children { (children.items ≡ []) × (vec_len workers ≤ vec_capacity children) }
+    requires back { (back.items ≡ []) × (vec_len workers ≤ vec_capacity back) }
+    requires accepts { All (λ job. W.accepts work.now job) all.now.value.items }
+    ensures mine { HasServedCaller (W.allows work.now) jobs.now all.now.value.items (vec_len workers) result.mine }
+    ensures others { All (λ w. IfSome w (λ w. HasServed (W.allows work.now) jobs.now all.now.value.items [] w)) result.others.items }
+    ensures len { vec_len result.others ≡ vec_len workers }
+{
+    thread::scope(
+        thread::scope_env(),
+        rt,
+        move |scope| -> Served<W::Job, W::Done, W::Fault>
+            requires { IsReadyCaller jobs.now all.now.value.items (vec_len workers) mine
+                × All (λ w. IsReady jobs.now all.now.value.items [] w) workers.items
+                × (children.items ≡ []) × (vec_len workers ≤ vec_capacity children)
+                × (back.items ≡ []) × (vec_len workers ≤ vec_capacity back)
+                × All (λ job. W.accepts work.now job) all.now.value.items }
+            ensures { HasServedCaller (W.allows work.entry.now) jobs.entry.now all.entry.now.value.items (vec_len workers) result.mine
+                × All (λ w. IfSome w (λ w. HasServed (W.allows work.entry.now) jobs.entry.now all.entry.now.value.items [] w)) result.others.items
+                × (vec_len result.others ≡ vec_len workers) }
+        {
+            serve_all(
+                scope, rt, alloc, work, jobs, all, crew, mine, workers, children, back,
+            )
+        },
+    )
 }
 
 // The answers of one worker into their places; of one that was not started there are none.
@@ -251,44 +235,30 @@ pub fn run_jobs<W: Work + Sync, G: Gate + Sync, R: Threads + Wait + Sync>(
     let Ok(room) = Room::<W>::new(alloc, crew.workers, n) else {
         return Err(GangFault::OutOfMemory);
     };
-    let Room {
-        slots,
-        done,
-        taken,
-        out,
-        outs,
-        workers,
-        children,
-        back,
-        came,
-    } = room;
     let snapshot = Snapshot::of(&jobs);
     let all = &snapshot;
     let Ok((made, mut pass)) = Jobs::new(rt, alloc, jobs) else {
         return Err(GangFault::OutOfMemory);
     };
     let jobs = &made;
-    let workers = split(jobs, all, &mut pass, outs, workers);
-    let mine = Worker { pass, out };
-    let served = thread::scope(
-        thread::scope_env(),
+    let workers = split(jobs, all, &mut pass, room.outs, room.workers);
+    let mine = Worker {
+        pass,
+        out: room.out,
+    };
+    let served = serve_threads(
         rt,
-        move |scope| -> Served<W::Job, W::Done, W::Fault>
-            requires { IsReadyCaller jobs.now all.now.value.items (vec_len workers) mine
-                × All (λ w. IsReady jobs.now all.now.value.items [] w) workers.items
-                × (children.items ≡ []) × (vec_len workers ≤ vec_capacity children)
-                × (back.items ≡ []) × (vec_len workers ≤ vec_capacity back)
-                × All (λ job. W.accepts work.now job) all.now.value.items }
-            ensures { HasServedCaller (W.allows work.entry.now) jobs.entry.now all.entry.now.value.items (vec_len workers) result.mine
-                × All (λ w. IfSome w (λ w. HasServed (W.allows work.entry.now) jobs.entry.now all.entry.now.value.items [] w)) result.others.items
-                × (vec_len result.others ≡ vec_len workers) }
-        {
-            serve_all(
-                scope, rt, alloc, work, jobs, all, crew, mine, workers, children, back,
-            )
-        },
+        alloc,
+        work,
+        jobs,
+        all,
+        crew,
+        mine,
+        workers,
+        room.children,
+        room.back,
     );
     finish(
-        rt, alloc, work, jobs, all, crew, served, came, slots, taken, done,
+        rt, alloc, work, jobs, all, crew, served, room.came, room.slots, room.taken, room.done,
     )
 }

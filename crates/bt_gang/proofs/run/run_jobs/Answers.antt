@@ -14,26 +14,15 @@ same_len n len a b e f k = e ∙ (f ∙ sym k)
 pub split-workers-requires-clause-outs : goal.split-workers-requires-clause-outs
 split-workers-requires-clause-outs g c = λ k d l. let o = c.in-Ok.ensures.outs.0 k d l in (o.0, o.1 ∙ same_len _ _ _ _ c.len-n.ensures c.args.jobs.ok.0 (ap (λ v. length v.items) c.of-snapshot.ensures))
 
-pub scoped-served-requires : goal.scoped-served-requires
-scoped-served-requires g c =
-    let all : c.args.jobs.items ≡ c.of-snapshot.result.value.items = sym (ap (λ v. v.items) c.of-snapshot.ensures) in
-    let n : c.len-n.result ≡ length c.of-snapshot.result.value.items = same_len _ _ _ _ c.len-n.ensures c.args.jobs.ok.0 (ap (λ v. length v.items) c.of-snapshot.ensures) in
-    let r = c.in-Ok.ensures in
+pub serve_threads-served-requires-clause-mine : goal.serve_threads-served-requires-clause-mine
+serve_threads-served-requires-clause-mine g c κs within =
     let s = c.split-workers.ensures in
-    record {
-      at = λ x. (
-        (
-          (record { pass = s.pass.0; knows = subst (λ k. IsCaller c.of-snapshot.result.value.items k (view c.split-workers.new.pass)) (sym s.len) s.pass.1; list = r.out.0; spare = r.out.1 ∙ n }),
-          s.each,
-          r.children.0,
-          (omega (arith, s.len, r.outs.1, r.children.1)),
-          r.back.0,
-          (omega (arith, s.len, r.outs.1, r.back.1)),
-          subst (All (λ job. g.W.Work.accepts c.args.work.now job)) all c.requires.accepts,
-        ),
-        (search sendable depth 20, search sendable depth 20, search sendable depth 20, search sendable depth 20, search sendable depth 20, search sendable depth 20),
-      );
-    }
+    let r = c.in-Ok.ensures in
+    let n : c.len-n.result ≡ length c.of-snapshot.result.value.items = same_len _ _ _ _ c.len-n.ensures c.args.jobs.ok.0 (ap (λ v. length v.items) c.of-snapshot.ensures) in
+    record { pass = s.pass.0; knows = subst (λ k. IsCaller c.of-snapshot.result.value.items k (view c.split-workers.new.pass)) (sym s.len) s.pass.1; list = r.out.0; spare = r.out.1 ∙ n }
+
+pub serve_threads-served-requires-clause-accepts : goal.serve_threads-served-requires-clause-accepts
+serve_threads-served-requires-clause-accepts g c κs within = subst (λ v. All (λ job. g.W.Work.accepts c.args.work.now job) v.items) (sym c.of-snapshot.ensures) c.requires.accepts
 
 pub finish-requires-clause-accepts : goal.finish-requires-clause-accepts
 finish-requires-clause-accepts g c κs within = subst (λ v. All (λ job. g.W.Work.accepts c.args.work.now job) v.items) (sym c.of-snapshot.ensures) c.requires.accepts

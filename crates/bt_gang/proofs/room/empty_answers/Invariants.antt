@@ -1,5 +1,5 @@
 use Rattle.std.proofs.Common.{◌≡◌, ◌≤◌, [], All, vec_len, vec_capacity}
-use Rattle.bt_gang.proofs.run.empty_answers.Given as goal
+use Rattle.bt_gang.proofs.room.empty_answers.Given as goal
 
 abbrev pub invariant-loop : goal.invariant-loop
 invariant-loop g l = record {

@@ -1,7 +1,7 @@
 use Rattle.std.proofs.Common.{◌≡◌, [], rules}
 use Rattle.std.proofs.lemmas.List.Elements.{All-push, All-same}
 use Rattle.bt_gang.specs.declared.answers.Answers.{Answers}
-use Rattle.bt_gang.proofs.run.empty_answers.Goals as goal
+use Rattle.bt_gang.proofs.room.empty_answers.Goals as goal
 
 pub loop-preserved : goal.loop-preserved
 loop-preserved g c =
