@@ -10,7 +10,7 @@ use Rattle.bt_node.specs.Trees.{Tree, leaf, inner, Nodes, none, node, Siblings, 
 use Rattle.bt_node.specs.Walks.{children_of}
 use Rattle.bt_shell.specs.Drawings.{child_text, highest, own_text, pivot_text, siblings_text}
 use Rattle.bt_shell.specs.Images.{deeper, inner_line, message_line, node_text, others_text, pivot_line}
-use Rattle.bt_shell.specs.Tables.{RowTree}
+use Rattle.bt_table.specs.Tables.{RowTree}
 
 pub same_item : {X : Type 0} (x y : X) → Some x ≡ Some y → x ≡ y
 same_item x y is = cc

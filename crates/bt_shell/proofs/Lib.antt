@@ -1,9 +1,6 @@
-pub mod Batches
 pub mod Drawings
-pub mod KeyOrder
 pub mod Lines
+pub mod Shown
 pub mod Sound
-pub mod Standing
 pub mod Turns
-pub mod Sinks
 pub mod WorkedRows

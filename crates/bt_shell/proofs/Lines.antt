@@ -4,7 +4,7 @@ use Rattle.std.specs.Prelude.{codes, flat_map}
 use Rattle.std.specs.declared.option.Option.TheVariants.{None}
 use Rattle.bt_node.specs.Messages.{Rows, between}
 use Rattle.bt_rowtype.specs.declared.value.Value.{Value}
-use Rattle.bt_shell.specs.Steps.{count_line, row_line, scan_reply, with_line}
+use Rattle.bt_shell.specs.Replies.{count_line, row_line, scan_reply, with_line}
 
 -- a line has a byte at least
 pub row_line-some : (row : List Value) → 1 ≤ length (row_line row)

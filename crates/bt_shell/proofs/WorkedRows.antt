@@ -13,7 +13,7 @@ use Rattle.bt_script.specs.Commands.{closing_of, column_of, command_of, commands
 use Rattle.bt_keycode.specs.Prefixes.{eight_bytes}
 use Rattle.bt_shell.specs.Images.{message_line}
 use Rattle.bt_shell.specs.Runs.{replies, run}
-use Rattle.bt_shell.specs.Steps.{read_message}
+use Rattle.bt_table.specs.Batches.{read_message}
 use Rattle.bt_script.specs.declared.command.Item.TheVariants as line
 
 -- a line of a batch that changes the row of a key

@@ -5,7 +5,7 @@ use Rattle.bt_keycode.specs.Keys.{Key}
 use Rattle.bt_node.specs.Trees.{Siblings, height}
 use Rattle.bt_node.specs.Walks.{children_of, is_leaf, messages_of, rows_of}
 use Rattle.bt_shell.specs.Images.{inner_line, leaf_line, message_line, node_text, pivot_line, row_line}
-use Rattle.bt_shell.specs.Tables.{RowTree}
+use Rattle.bt_table.specs.Tables.{RowTree}
 
 -- the lines of a node that speak of no other one
 abbrev pub own_text : List Column → List ℕ → List ℕ → RowTree → List ℕ

@@ -13,7 +13,7 @@ use Rattle.bt_messages.specs.declared.message.Message.{Message}
 use Rattle.bt_messages.specs.declared.message.Message.TheVariants as message
 use Rattle.bt_keycode.specs.Keys.{Key}
 use Rattle.bt_node.specs.Trees.{leaf, inner, Nodes, none, node, children, height}
-use Rattle.bt_shell.specs.Tables.{RowMessage, RowTree}
+use Rattle.bt_table.specs.Tables.{RowMessage, RowTree}
 
 -- the indent of what is one level deeper: two spaces more
 abbrev pub deeper : List ℕ → List ℕ

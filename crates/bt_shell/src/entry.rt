@@ -4,7 +4,7 @@ ghost use Rattle.bt_script.specs.Options.{AsksHelp, IsFaulty, IsToReadInput, Mus
 ghost use Rattle.bt_script.specs.Streams.{FailsToGive, GaveAtMost, Took, count_of, has_failed, source_of};
 ghost use Rattle.bt_shell.specs.Programs.{AnswersPrefix, AnswersReplies, AnswersScript, AreHealthy, IsToRun, LeavesInput};
 ghost use Rattle.bt_shell.specs.Runs.{WritesPrefix, WritesReplies, WritesRun, state_after_commands};
-ghost use Rattle.bt_shell.specs.Standing.{IsSound};
+ghost use Rattle.bt_table.specs.Standing.{IsSound};
 ghost use Rattle.std.specs.declared.option.Option.TheVariants.{None};
 
 use crate::run::{Session, flush};

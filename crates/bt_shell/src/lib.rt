@@ -12,13 +12,11 @@
 //! ```
 #![tactic(auto)]
 
-mod batch;
 mod entry;
 mod image;
 mod reply;
 mod run;
 mod session;
-mod table;
 
 pub use bt_script::{
     Command, Counted, Item, Items, Parsed, RunFault, SCRIPT_LIMIT, TableForm, Words, WordsError,

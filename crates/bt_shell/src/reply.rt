@@ -1,11 +1,12 @@
 //! The texts of replies.
 ghost use Rattle.std.specs.Prelude.{◌≡◌, ◌++◌, ◌+◌, [], IfOk, None, OnOk, Some, codes, decimal, length};
-ghost use Rattle.bt_shell.specs.Steps.{count_line, item_text, refused_text, row_line};
-ghost use Rattle.bt_shell.specs.Steps as step;
+ghost use Rattle.bt_shell.specs.Replies.{count_line, item_text, refused_text, row_line};
+ghost use Rattle.bt_shell.specs.Replies as spec;
 
 use bt_keycode::Key;
 use bt_node::Visitor;
 use bt_rowtype::{Refusal, Row, write_row};
+use bt_table::Reply;
 use itoa::Buffer;
 use std::alloc::{AllocError, Global};
 use std::marker::Model;
@@ -44,9 +45,9 @@ fn write_row_line(out: &mut Vec<u8>, row: &Row) -> Result<(), AllocError>
     Ok(())
 }
 
-/// The reply that is the row of a key, where it has one.
-pub fn row_reply(alloc: Global, row: Option<Row>) -> Result<Vec<u8>, AllocError>
-    ensures { IfOk result (λ text. text.items ≡ step.row_reply row) }
+// The reply that is the row of a key, where it has one.
+fn row_reply(alloc: Global, row: Option<Row>) -> Result<Vec<u8>, AllocError>
+    ensures { IfOk result (λ text. text.items ≡ spec.row_reply row) }
 {
     let Some(row) = row else {
         return Vec::from_slice(alloc, b"none\n");
@@ -54,6 +55,16 @@ pub fn row_reply(alloc: Global, row: Option<Row>) -> Result<Vec<u8>, AllocError>
     let mut text = Vec::new(alloc);
     write_row_line(&mut text, &row)?;
     Ok(text)
+}
+
+/// The text of what a call on a table answers.
+pub fn reply_text(alloc: Global, reply: Reply) -> Result<Vec<u8>, AllocError>
+    ensures { IfOk result (λ text. text.items ≡ spec.reply_text reply) }
+{
+    match reply {
+        Reply::Batch(count) => count_reply(alloc, b"batch ", count),
+        Reply::Row(row) => row_reply(alloc, row),
+    }
 }
 
 /// The lines of rows, written as the rows come. A contract sees the rows' lines and their number.
@@ -96,7 +107,7 @@ impl RowLines {
 }
 
 impl Visitor<Row> for RowLines {
-    ghost visited = { step.with_line };
+    ghost visited = { spec.with_line };
 
     fn visit(&mut self, _alloc: Global, _key: &Key, row: &Row) -> Result<(), AllocError> {
         if let Err(error) = write_row_line(&mut self.text, row) {

@@ -3,11 +3,11 @@ ghost use Rattle.std.specs.Prelude.{◌≡◌, ◌+◌, false, true, IfSome, IsE
 ghost use Rattle.std.specs.Io.KnownBytes.{Keeps};
 ghost use Rattle.bt_script.specs.Streams.{FailsToGive, GaveAtMost, Took, TookPrefix, count_of, has_failed, source_of};
 ghost use Rattle.bt_shell.specs.Runs.{Runs, TookReplies, WritesPrefix, WritesReplies, run, state_after_commands};
-ghost use Rattle.bt_shell.specs.Standing.{IsSound};
+ghost use Rattle.bt_table.specs.Standing.{IsSound};
 
 use crate::session::next_reply;
-use crate::table::Table;
 use bt_script::{Counted, RunFault, SCRIPT_LIMIT, read_script, write_text};
+use bt_table::Table;
 use std::alloc::Global;
 use std::io::{Read, Write};
 

@@ -1,25 +1,29 @@
 //! The table between commands, and the reply to each.
-ghost use Rattle.std.specs.Prelude.{◌≡◌, ◌≢◌, ◌++◌, ◌<◌, ◌≤◌, Ok, Err, None, Some, IfErr, IfOk, IfNone, IfSome, OnOk, [], codes, drop, length};
-ghost use Rattle.bt_rowtype.specs.Refusals.{least};
-ghost use Rattle.bt_script.specs.Commands.{commands, is_word};
+ghost use Rattle.std.specs.Prelude.{◌≡◌, ◌<◌, ◌≤◌, Ok, IfErr, IfOk, IfNone, IfSome, OnOk, [], drop, length};
+ghost use Rattle.bt_node.specs.Flushes.{holds};
+ghost use Rattle.bt_script.specs.Commands.{commands};
+ghost use Rattle.bt_script.specs.declared.command.Command.TheVariants as command;
+ghost use Rattle.bt_shell.specs.Replies.{scan_reply};
 ghost use Rattle.bt_shell.specs.Runs.{IsTurn};
 ghost use Rattle.bt_shell.specs.Steps as step;
-ghost use Rattle.bt_script.specs.declared.command.Command.TheVariants as command;
+ghost use Rattle.bt_table.specs.Tables.{row_effect};
 
-use crate::batch::apply_batch;
 use crate::image::image_text;
-use crate::reply::{RowLines, count_reply, refusal_reply, row_reply};
-use crate::table::Table;
+use crate::reply::{RowLines, count_reply, refusal_reply, reply_text};
 use bt_node::Shape;
-use bt_rowtype::{RecordLine, RecordReader, Refusal, Schema, Text};
+use bt_rowtype::{RecordLine, Refusal, Schema, Text};
 use bt_script::{Command, Items, Parsed, TableForm, parse_command};
+use bt_table::{Table, TreeRef};
 use std::alloc::{AllocError, Global};
 
-// Makes the table, and gives the number of its columns.
-fn create_table(alloc: Global, table: &mut Option<Table>, form: TableForm) -> Result<usize, Refusal>
-    ensures done { OnOk result (step.IsCarriedOut table.old table.new (command.Table form)) }
-    ensures count { IfOk result (λ count. count ≡ length form.columns) }
-    ensures refused { IfErr result (step.IsRefusedAs table.old table.new (command.Table form)) }
+// Makes the table.
+fn create_table(
+    alloc: Global,
+    table: &mut Option<Table>,
+    form: TableForm,
+) -> Result<Vec<u8>, Refusal>
+    ensures done { IfOk result (λ text. step.IsDone table.old table.new (command.Table form) text.items) }
+    ensures refused { IfErr result (step.IsRefused table.old table.new (command.Table form)) }
 {
     if table.is_some() {
         return Err(Refusal::TableExists);
@@ -30,80 +34,61 @@ fn create_table(alloc: Global, table: &mut Option<Table>, form: TableForm) -> Re
     };
     let shape = Shape::new(form.fanout, form.buffer, form.leaf)?;
     *table = Some(Table::new(alloc, schema, shape));
-    Ok(count)
+    Ok(count_reply(alloc, b"table ", count)?)
 }
 
-fn batch(alloc: Global, table: &mut Option<Table>, items: &Items<'_>) -> Result<usize, Refusal>
-    ensures done { OnOk result (step.IsCarriedOut table.old table.new (command.Batch items.now)) }
-    ensures count { IfOk result (λ count. count ≡ length items.now) }
+// Applies the messages of a batch.
+fn batch(alloc: Global, table: &mut Option<Table>, items: &Items<'_>) -> Result<Vec<u8>, Refusal>
+    ensures done { IfOk result (λ text. step.IsDone table.old table.new (command.Batch items.now) text.items) }
     ensures refused { IfErr result (step.IsRefused table.old table.new (command.Batch items.now)) }
-{
-    match table {
-        None => Err(Refusal::NoTable),
-        Some(table) => apply_batch(alloc, table, items.as_slice()),
-    }
-}
-
-// The lines of all rows, and their number.
-fn scan_text(alloc: Global, table: &Table) -> Result<Vec<u8>, AllocError>
-    ensures { IfOk result (λ text. text.items ≡ step.scan_reply table.now.rows) }
-{
-    let mut lines = RowLines::new(alloc);
-    table.visit(alloc, &mut lines)?;
-    lines.into_reply()
-}
-
-fn is_primary(tree: &Text) -> bool
-    ensures { result ≡ is_word tree.now (codes "primary") }
-{
-    tree.as_bytes() == b"primary".as_slice()
-}
-
-// The table whose tree is named: the primary one is the only one.
-fn table_with<'a>(table: &'a Option<Table>, tree: &Text) -> Result<&'a Table, Refusal>
-    ensures found { IfOk result (λ found. table.now ≡ Some found.now) }
-    ensures named { IfOk result (λ _. least (step.tree_refusals table.now tree.now) ≡ None) }
-    ensures refused { IfErr result (λ e. least (step.tree_refusals table.now tree.now) ≡ Some e) }
 {
     let Some(table) = table else {
         return Err(Refusal::NoTable);
     };
-    if !is_primary(tree) {
-        return Err(Refusal::NoSuchTree);
-    }
-    Ok(table)
-}
-
-fn scan(alloc: Global, table: &Option<Table>, tree: &Text) -> Result<Vec<u8>, Refusal>
-    ensures done { OnOk result (step.IsCarriedOut table.now table.now (command.Scan tree.now)) }
-    ensures text { IfOk result (λ text. text.items ≡ step.reply_to table.now (command.Scan tree.now)) }
-    ensures refused { IfErr result (step.IsRefused table.now table.now (command.Scan tree.now)) }
-{
-    Ok(scan_text(alloc, table_with(table, tree)?)?)
+    let reply = table.apply(alloc, items.as_slice())?;
+    Ok(reply_text(alloc, reply)?)
 }
 
 fn get(alloc: Global, table: &Option<Table>, fields: &RecordLine<'_>) -> Result<Vec<u8>, Refusal>
-    ensures done { OnOk result (step.IsCarriedOut table.now table.now (command.Get fields.now)) }
-    ensures text { IfOk result (λ text. text.items ≡ step.reply_to table.now (command.Get fields.now)) }
+    ensures done { IfOk result (λ text. step.IsDone table.now table.now (command.Get fields.now) text.items) }
     ensures refused { IfErr result (step.IsRefused table.now table.now (command.Get fields.now)) }
 {
     let Some(table) = table else {
         return Err(Refusal::NoTable);
     };
-    let mut reader = RecordReader::new(alloc);
-    let key = reader.read_key(alloc, table.schema(), 1, fields)?;
-    let row = table.get(alloc, &key)?;
-    Ok(row_reply(alloc, row)?)
+    let reply = table.get(alloc, fields)?;
+    Ok(reply_text(alloc, reply)?)
 }
 
-fn image(alloc: Global, table: &Option<Table>, tree: &Text) -> Result<Vec<u8>, Refusal>
-    ensures done { OnOk result (step.IsCarriedOut table.now table.now (command.Image tree.now)) }
-    ensures text { IfOk result (λ text. text.items ≡ step.reply_to table.now (command.Image tree.now)) }
-    ensures refused { IfErr result (step.IsRefused table.now table.now (command.Image tree.now)) }
+// The lines of all rows of a tree, and their number.
+fn scan_text(alloc: Global, tree: &TreeRef<'_>) -> Result<Vec<u8>, AllocError>
+    ensures { IfOk result (λ text. text.items ≡ scan_reply (holds row_effect tree.now.tree.now.1)) }
 {
-    let found = table_with(table, tree)?;
-    let columns = found.schema().columns();
-    Ok(image_text(alloc, columns, tree, &found.walk())?)
+    let mut lines = RowLines::new(alloc);
+    tree.tree.walk().visit(alloc, None, None, &mut lines)?;
+    lines.into_reply()
+}
+
+fn scan(alloc: Global, table: &Option<Table>, name: &Text) -> Result<Vec<u8>, Refusal>
+    ensures done { IfOk result (λ text. step.IsDone table.now table.now (command.Scan name.now) text.items) }
+    ensures refused { IfErr result (step.IsRefused table.now table.now (command.Scan name.now)) }
+{
+    let Some(table) = table else {
+        return Err(Refusal::NoTable);
+    };
+    let tree = table.tree(name)?;
+    Ok(scan_text(alloc, &tree)?)
+}
+
+fn image(alloc: Global, table: &Option<Table>, name: &Text) -> Result<Vec<u8>, Refusal>
+    ensures done { IfOk result (λ text. step.IsDone table.now table.now (command.Image name.now) text.items) }
+    ensures refused { IfErr result (step.IsRefused table.now table.now (command.Image name.now)) }
+{
+    let Some(table) = table else {
+        return Err(Refusal::NoTable);
+    };
+    let tree = table.tree(name)?;
+    Ok(image_text(alloc, tree.schema.columns(), name, &tree.tree.walk())?)
 }
 
 // The reply to a command that is not refused, or its refusal.
@@ -112,19 +97,12 @@ fn answer(
     table: &mut Option<Table>,
     command: Command<'_>,
 ) -> Result<Vec<u8>, Refusal>
-    ensures done { OnOk result (step.IsCarriedOut table.old table.new command.entry) }
-    ensures text { IfOk result (λ text. text.items ≡ step.reply_to table.old command.entry) }
+    ensures done { IfOk result (λ text. step.IsDone table.old table.new command.entry text.items) }
     ensures refused { IfErr result (step.IsRefused table.old table.new command.entry) }
 {
     match command {
-        Command::Table(form) => {
-            let count = create_table(alloc, table, form)?;
-            Ok(count_reply(alloc, b"table ", count)?)
-        }
-        Command::Batch(items) => {
-            let count = batch(alloc, table, &items)?;
-            Ok(count_reply(alloc, b"batch ", count)?)
-        }
+        Command::Table(form) => create_table(alloc, table, form),
+        Command::Batch(items) => batch(alloc, table, &items),
         Command::Get(fields) => get(alloc, table, &fields),
         Command::Scan(tree) => scan(alloc, table, &tree),
         Command::Image(tree) => image(alloc, table, &tree),

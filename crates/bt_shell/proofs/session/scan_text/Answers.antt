@@ -1,7 +1,7 @@
 use Rattle.std.proofs.Common.{◌≡◌, ◌∙◌}
 use Rattle.std.proofs.lemmas.Result.{IfOk-weaker}
 use Rattle.std.specs.Prelude.{◌++◌, codes}
-use Rattle.bt_shell.specs.Steps.{count_line, scan_reply}
+use Rattle.bt_shell.specs.Replies.{count_line, scan_reply}
 use Rattle.bt_shell.proofs.Lines.{scan_is}
 use Rattle.bt_shell.proofs.session.scan_text.Goals as goal
 

@@ -1,0 +1,72 @@
+-- Rows whose codes strictly rise have key columns whose values strictly rise. Serves the order of a table's rows.
+use Rattle.std.proofs.Common.{◌≡◌, ℕ, Bool, true, false, ◌&&◌, T, List, [], ◌∷◌, refl, sym, subst, ◌∙◌, map, take, suc, zero}
+use Rattle.std.specs.Ordering.{is_lt}
+use Rattle.std.specs.FinMap.{is_sorted}
+use Rattle.std.specs.FinMap.Entries.{below_all}
+use Rattle.bt_rowtype.specs.Schemas.{Schema, fit_columns, fits_kind}
+use Rattle.bt_rowtype.specs.Values.{values_cmp}
+use Rattle.bt_rowtype.specs.declared.schema.Column.{Column}
+use Rattle.bt_rowtype.specs.declared.value.Kind.{Kind}
+use Rattle.bt_rowtype.specs.declared.value.Kind.TheVariants as kind
+use Rattle.bt_rowtype.specs.declared.value.Value.{Value}
+use Rattle.bt_rowtype.specs.declared.value.Value.TheVariants as value
+use Rattle.bt_keycode.specs.Codes.{HaveSameKinds, code_of, kind_of}
+use Rattle.bt_keycode.proofs.offered.Codes.{codes_ordered}
+use Rattle.bt_keycode.specs.Keys.{Key, key_cmp}
+use Rattle.bt_node.specs.Messages.{Rows}
+use Rattle.bt_keycode.proofs.offered.Ranges.{take_in_range}
+use Rattle.bt_table.specs.Standing.{AllStand, KeysRise, Stands}
+
+-- ---- the key columns of rows of a schema
+
+kind_fits : (k : Kind) (v : Value) → fits_kind k v ≡ true → kind_of v ≡ k
+kind_fits kind.Int (value.Int n) e = refl
+kind_fits kind.Text (value.Text bytes) e = refl
+kind_fits kind.Flag (value.Flag flag) e = refl
+kind_fits k v e = cc
+
+key_kinds : (n : ℕ) (columns : List Column) (row : List Value) → fit_columns columns row ≡ true → map kind_of (take n row) ≡ map (λ c. c.kind) (take n columns)
+key_kinds zero columns row e = refl
+key_kinds (suc n) [] [] e = refl
+key_kinds (suc n) [] (v ∷ vs) e = cc
+key_kinds (suc n) (c ∷ cs) [] e = cc
+key_kinds (suc n) (c ∷ cs) (v ∷ vs) e = by_first (fits_kind c.kind v) refl e (λ others. key_kinds n cs vs others)
+  where
+    by_first : (b : Bool) → fits_kind c.kind v ≡ b → (b && fit_columns cs vs) ≡ true → (fit_columns cs vs ≡ true → map kind_of (take n vs) ≡ map (λ d. d.kind) (take n cs))
+        → map kind_of (v ∷ take n vs) ≡ map (λ d. d.kind) (c ∷ take n cs)
+    by_first true fits others rest = λ i. kind_fits c.kind v fits i ∷ rest others i
+    by_first false fits others rest = absurd cc
+
+-- ---- rows
+
+pair-rises : (schema : Schema) (k l : Key) (row other : List Value) → Stands schema k row → Stands schema l other → T (is_lt (key_cmp k l))
+    → T (is_lt (values_cmp (take schema.keys row) (take schema.keys other)))
+pair-rises schema k l row other left right rises =
+    let kinds : HaveSameKinds (take schema.keys row) (take schema.keys other) = key_kinds schema.keys schema.columns row left.fits ∙ sym (key_kinds schema.keys schema.columns other right.fits) in
+    let same = codes_ordered (take schema.keys row) (take schema.keys other) kinds (take_in_range schema.keys row left.in_range) (take_in_range schema.keys other right.in_range) in
+    let codes : key_cmp k l ≡ key_cmp (code_of (take schema.keys row)) (code_of (take schema.keys other)) = λ i. key_cmp (left.placed i) (right.placed i) in
+    subst (λ o. T (is_lt o)) (codes ∙ same) rises
+
+both : (a b : Bool) → T a → T b → T (a && b)
+both true b p q = q
+both false b p q = absurd p
+
+first : (a b : Bool) → T (a && b) → T a
+first true b p = tt
+first false b p = absurd p
+
+second : (a b : Bool) → T (a && b) → T b
+second true b p = p
+second false b p = absurd p
+
+below-rise : (schema : Schema) (k : Key) (row : List Value) (rows : Rows (List Value)) → Stands schema k row → AllStand schema rows → T (below_all key_cmp k rows)
+    → T (below_all values_cmp (take schema.keys row) (map (λ r. (take schema.keys r.1, r.1)) rows))
+below-rise schema k row [] stands all below = tt
+below-rise schema k row (r ∷ rs) stands all below =
+    both _ _ (pair-rises schema k r.0 row r.1 stands all.0 (first _ _ below)) (below-rise schema k row rs stands all.1 (second _ _ below))
+
+-- rows by rising code are rows by rising key
+pub keys_rise : (schema : Schema) (rows : Rows (List Value)) → AllStand schema rows → T (is_sorted key_cmp rows) → KeysRise schema rows
+keys_rise schema [] all sorted = tt
+keys_rise schema (r ∷ rs) all sorted =
+    both _ _ (below-rise schema r.0 r.1 rs all.0 all.1 (first _ _ sorted)) (keys_rise schema rs all.1 (second _ _ sorted))

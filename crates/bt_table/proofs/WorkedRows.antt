@@ -1,0 +1,82 @@
+-- Worked calls, computed by the definitions themselves. Serves as a test of the definitions.
+use Rattle.std.proofs.Common.{ℕ, List, [], ◌∷◌, ◌≡◌, refl, codes}
+use Rattle.std.specs.Prelude.{Result, Ok, Err, Some, None, pos}
+use Rattle.bt_rowtype.specs.Schemas.{Schema}
+use Rattle.bt_rowtype.specs.declared.refusal.Refusal.{Refusal}
+use Rattle.bt_rowtype.specs.declared.refusal.Refusal.TheVariants.{BadField, BadLength, Failed, NoSuchTree}
+use Rattle.bt_rowtype.specs.declared.value.Kind.TheVariants as kind
+use Rattle.bt_rowtype.specs.declared.value.Value.TheVariants as value
+use Rattle.bt_rowtype.proofs.offered.OnLiterals.{rowtype_on_literals}
+use Rattle.bt_keycode.specs.Prefixes.{eight_bytes}
+use Rattle.bt_script.specs.declared.command.Item.TheVariants.{Put, Del, Ups}
+use Rattle.bt_table.specs.Batches.{made}
+use Rattle.bt_table.specs.Calls.{Call, Apply, Get, step, table_named}
+use Rattle.bt_table.specs.Tables.{TableState, Intact, Lost, empty_table}
+use Rattle.bt_table.specs.declared.reply.Reply.{Reply}
+use Rattle.bt_table.specs.declared.reply.Reply.TheVariants.{Batch, Row}
+
+-- a key, and a number of each
+abbrev stock : Schema
+stock = record { columns = record { name = codes "id"; kind = kind.Int } ∷ record { name = codes "qty"; kind = kind.Int } ∷ []; keys = 1 }
+
+abbrev empty : TableState
+empty = Intact (empty_table stock (record { fanout = 4; buffer = 3; leaf = 2 }))
+
+-- what a call is answered
+abbrev reply_of : TableState → Call → Result Reply Refusal
+reply_of state call = made (λ (after : TableState × Reply). after.1) (step state call)
+
+abbrev left_by : TableState → Result (TableState × Reply) Refusal → TableState
+left_by state (Ok after) = after.0
+left_by state (Err refusal) = state
+
+-- what calls in turn leave
+abbrev after : TableState → List Call → TableState
+after state [] = state
+after state (call ∷ calls) = after (left_by state (step state call)) calls
+
+-- two puts of a key, a put and a del of another one, and an upsert
+abbrev batch : Call
+batch = Apply (Put (codes "3" ∷ codes "30" ∷ []) ∷ Put (codes "3" ∷ codes "31" ∷ []) ∷ Put (codes "1" ∷ codes "10" ∷ []) ∷ Del (codes "1" ∷ []) ∷ Ups (codes "9" ∷ codes "add" ∷ codes "qty" ∷ codes "5" ∷ []) ∷ [])
+
+pub batch_reply : reply_of empty batch ≡ Ok (Batch 5)
+unfolding eight_bytes rowtype_on_literals
+batch_reply = refl
+
+pub newer_put : reply_of (after empty (batch ∷ [])) (Get (codes "3" ∷ [])) ≡ Ok (Row (Some (value.Int (pos 3) ∷ value.Int (pos 31) ∷ [])))
+unfolding eight_bytes rowtype_on_literals
+newer_put = refl
+
+pub deleted : reply_of (after empty (batch ∷ [])) (Get (codes "1" ∷ [])) ≡ Ok (Row None)
+unfolding eight_bytes rowtype_on_literals
+deleted = refl
+
+pub new_key : reply_of (after empty (batch ∷ [])) (Get (codes "9" ∷ [])) ≡ Ok (Row (Some (value.Int (pos 9) ∷ value.Int (pos 5) ∷ [])))
+unfolding eight_bytes rowtype_on_literals
+new_key = refl
+
+-- the least refusal with the least item, and then the table stays
+abbrev faulty : Call
+faulty = Apply (Put (codes "1" ∷ []) ∷ Put (codes "5" ∷ codes "50" ∷ []) ∷ Put (codes "7" ∷ codes "x" ∷ []) ∷ Put (codes "y" ∷ codes "1" ∷ []) ∷ [])
+
+pub least_refusal : reply_of empty faulty ≡ Err (BadField 3)
+unfolding eight_bytes rowtype_on_literals
+least_refusal = refl
+
+pub refused_changes_nothing : reply_of (after empty (batch ∷ faulty ∷ [])) (Get (codes "5" ∷ [])) ≡ Ok (Row None)
+unfolding eight_bytes rowtype_on_literals
+refused_changes_nothing = refl
+
+pub key_of_two_fields : reply_of empty (Get (codes "1" ∷ codes "2" ∷ [])) ≡ Err (BadLength 1)
+unfolding eight_bytes rowtype_on_literals
+key_of_two_fields = refl
+
+-- a lost table refuses each call as failed, whatever else is wrong
+pub lost_first : reply_of Lost faulty ≡ Err Failed
+lost_first = refl
+
+pub lost_name : table_named Lost (codes "second") ≡ Err Failed
+lost_name = refl
+
+pub other_name : table_named empty (codes "second") ≡ Err NoSuchTree
+other_name = refl

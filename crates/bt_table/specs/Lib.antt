@@ -1,0 +1,4 @@
+pub mod Batches
+pub mod Calls
+pub mod Standing
+pub mod Tables

@@ -1,0 +1,24 @@
+//! A table: rows of a schema in a tree, under the codes of their keys.
+//!
+//! Each call is a step of a plain table, a map of rows beside a tree: the state before the call gives the state after it and a reply, or
+//! a refusal, and then the table stays. Whatever is called, each row stands under the code of its key columns and is of the schema, and
+//! the tree fits its shape and holds the rows. A batch is applied whole or not at all. Where memory is wanting once the tree is taken apart,
+//! the table is lost: from then on each call is refused as `Failed`.
+//!
+//! ```text
+//! let mut table = Table::new(alloc, schema, shape);
+//! let reply = table.apply(alloc, items)?;                      // Reply::Batch(3)
+//! let rows = table.tree(&primary)?.tree.rows(alloc)?;          // the rows by rising key
+//! ```
+//!
+//! `specs` has the definitions: `Tables` what a table is and what a batch leaves of it, `Batches` which messages records spell and why they are
+//! refused, `Calls` the step of each call, `Standing` what is true of a table between any two calls.
+#![tactic(auto)]
+
+mod batch;
+mod reply;
+mod table;
+
+pub use batch::MOST_MESSAGES;
+pub use reply::Reply;
+pub use table::{Table, TreeRef};
