@@ -9,7 +9,8 @@ use Rattle.bt_rowtype.specs.declared.op.Op.{Op}
 use Rattle.bt_rowtype.specs.declared.refusal.Refusal.{Refusal}
 use Rattle.bt_rowtype.specs.declared.value.Value.{Value}
 use Rattle.bt_rowtype.proofs.offered.Fits.{after_ops_fits, after_ops_key, default_row_fits, default_row_key, read_fits, upsert_fits}
-use Rattle.bt_keycode.specs.Codes.{AreInRange, code_of}
+use Rattle.bt_rowtype.specs.Packing.{AreInRange}
+use Rattle.bt_keycode.specs.Codes.{code_of}
 use Rattle.bt_keycode.proofs.offered.Ranges.{OpsInRange, after_ops_in_range, default_row_in_range, read_in_range, upsert_in_range}
 use Rattle.bt_node.specs.Messages.{rows_after}
 use Rattle.bt_script.specs.declared.command.Item.{Item}
