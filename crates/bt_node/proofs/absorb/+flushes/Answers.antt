@@ -7,16 +7,16 @@ use Rattle.bt_messages.specs.Effects.{effect_of}
 use Rattle.bt_messages.proofs.offered.Fronts.{sorted_take}
 use Rattle.bt_messages.proofs.offered.Parts.{lie_length}
 use Rattle.bt_messages.proofs.offered.Placed.{alone}
-use Rattle.bt_node.specs.Flushes.{absorb}
+use Rattle.bt_node.specs.Flushes.{absorb, pivot_first}
 use Rattle.bt_node.specs.Lookups.{pivots_of}
 use Rattle.bt_node.specs.Messages.{with_messages}
 use Rattle.bt_node.specs.Plans.{planned}
 use Rattle.bt_node.specs.Trees.{inner, nodes}
 use Rattle.bt_node.specs.inside.Marks.{marks_of}
 use Rattle.bt_node.specs.inside.Shares.{AreInOrder, sums}
-use Rattle.bt_node.specs.inside.Views.{child_of, children_of}
+use Rattle.bt_node.specs.inside.Views.{child_of, children_of, none_pending_of}
 use Rattle.bt_node.proofs.lemmas.code.AbsorbStep.{among, children_in_order, grouped_anew, if_ok, lower, marks-long, long, on_ok, parts_divided, parts_some, stays_here}
-use Rattle.bt_node.proofs.lemmas.code.FlushLoop.{one_kept, rest_fits, same_left}
+use Rattle.bt_node.proofs.lemmas.code.FlushLoop.{one_flushed, one_kept, rest_fits, same_left}
 use Rattle.bt_node.proofs.lemmas.code.GroupLoops.{nothing_left}
 use Rattle.bt_node.proofs.lemmas.flushes.Divisions.{bins-length}
 use Rattle.bt_node.proofs.absorb.+flushes.Goals as goal
@@ -157,6 +157,34 @@ flush-same-pivot-else-flushed g t c = refl
 
 pub flush-same-node : goal.flush-same-node
 flush-same-node g t c = refl
+
+pub flush-loop-child-preserved-in-Continue-branch-3 : goal.flush-loop-child-preserved-in-Continue-branch-3
+flush-loop-child-preserved-in-Continue-branch-3 g t c =
+    let child = c.in-Some.child in
+    let share = c.in-Some-Some.share in
+    let stream = c.loop-child.stream in
+    let done = c.loop-child.parts.items in
+    let left = c.next.new.self.rest.items in
+    let ns = into_iter_items c.next-in-loop-child.new.self in
+    let bs = into_iter_items c.next-in-loop-child-2.new.self in
+    let steps = c.in-Some.ensures.steps.0 in
+    let shares : into_iter_items c.loop-child.shares ≡ share ∷ ns = search rules in
+    let mark : into_iter_items c.loop-child.marks ≡ c.in-Some-Some.flushed ∷ bs = search rules in
+    let marks = mark ∙ ap (λ b. b ∷ bs) c.if-flushed.true in
+    let rest = c.in_ok-nodes.ensures.left in
+    let pushed = c.in_ok-add_parts.ensures ∙ ap (λ ts. children_of done ++ none_pending_of (pivot_first child.pivot ts)) c.in_ok-nodes.ensures.siblings in
+    let effect = effect_of g.V.Merge.merged in
+    let before = c.loop-child.invariant in
+    record {
+      parts = one_flushed effect c.args.shape child left c.loop-child.child-iterator.rest.items share ns (into_iter_items c.loop-child.shares) c.send.new.stream stream bs
+          steps shares rest done c.add_parts.new.children.items (into_iter_items c.loop-child.marks) marks pushed ∙ before.parts;
+      left = same_left share ns (into_iter_items c.loop-child.shares) c.send.new.stream stream shares rest _ before.left;
+      enough = rest_fits share ns (into_iter_items c.loop-child.shares) c.send.new.stream stream shares rest before.enough;
+      in_order = (subst (λ cs. AreInOrder (children_of cs)) steps before.in_order).1;
+      shares = omega (arith, ap length shares, ap length steps, before.shares);
+      marks = omega (arith, ap length marks, ap length steps, before.marks);
+      no_higher = (among child left c.loop-child.child-iterator.rest.items _ steps before.no_higher).1;
+    }
 
 pub flush-loop-child-preserved : goal.flush-loop-child-preserved
 flush-loop-child-preserved g t c =

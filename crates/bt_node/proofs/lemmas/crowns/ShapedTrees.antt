@@ -28,7 +28,6 @@ has_room shape e =
     record { fanout = omega (arith, four); leaf = omega (arith, two) }
 
 module _ {V D : Type 0} (shape : Shape) where
-
   pub crown_has_shape : (t : Tree V (Message V D)) (xs : Siblings V (Message V D)) → IsRoomy shape → AreFit shape xs → t ≡ crown shape xs → HasShape shape t
   crown_has_shape t xs roomy fit e =
       let top = crown-fits shape roomy fit.0 None None xs fit.1 in

@@ -2,6 +2,7 @@ use Rattle.std.proofs.Common.{◌≡◌, None, Some, ◌∙◌, ap, arith, rules
 use Rattle.bt_messages.specs.Bins.{LieBetween, joined}
 use Rattle.bt_messages.specs.Effects.{effect_of}
 use Rattle.bt_node.specs.Kinds.{IsDivided, tree_of}
+use Rattle.bt_node.specs.Lookups.{value_at}
 use Rattle.bt_node.specs.inside.Held.{value_of}
 use Rattle.bt_node.proofs.lemmas.code.AbsorbStep.{if_ok}
 use Rattle.bt_node.proofs.lemmas.code.LookupPath.{along, along_reset, begins_at}
@@ -27,6 +28,14 @@ pub since_reset-start-requires : goal.since_reset-start-requires
 since_reset-start-requires g t c =
     bin-there c.pivots.result.now c.in-Inner.bins c.pivots_up_to-place.result
     (subst (λ ps. LieBetween ps c.in-Inner.bins) (sym c.pivots.ensures.pivots) (subst IsDivided c.in-Inner.is c.kind.ensures.divided)) c.pivots_up_to-place.ensures.bound
+
+pub bounds-nodes-place : goal.bounds-nodes-place
+bounds-nodes-place g t c =
+    pivot_within c.in-Inner.children c.nodes.result.now c.pivots.result.now c.pivots_up_to-place.result c.nodes.ensures c.pivots.ensures.pivots c.pivots.ensures.some c.pivots_up_to-place.ensures.bound
+
+pub returns-in-Leaf : goal.returns-in-Leaf
+returns-in-Leaf g t c =
+    c.found.ensures ∙ c.find.ensures ∙ sym (ap (value_at (effect_of g.V.Merge.merged) c.args.key.now) (c.kind.ensures.tree ∙ ap tree_of c.in-Leaf.is))
 
 pub returns-in-Some : goal.returns-in-Some
 returns-in-Some g t c =

@@ -1,4 +1,4 @@
-use Rattle.std.proofs.Common.{◌≡◌, ◌∙◌, ◌++◌, ◌<◌, None, Some, [], false, ap, arith, get_or, length, not, rules, subst, sym}
+use Rattle.std.proofs.Common.{◌≡◌, ◌∙◌, ◌++◌, ◌<◌, None, Some, [], false, ap, arith, get_or, length, not, refl, rules, subst, sym}
 use Rattle.std.proofs.lemmas.List.{length-map}
 use Rattle.std.specs.Option.{is_none, option_copied, option_or}
 use Rattle.bt_keycode.specs.Keys.{AllWithin, IsSorted, is_between}
@@ -23,6 +23,19 @@ use Rattle.bt_node.proofs.visits.+add_parts_between.Goals as goal
 pub first_place-place-requires : goal.first_place-place-requires
 first_place-place-requires g t c =
     pivots_rise c.args.node.now c.in-Inner.children (joined c.in-Inner.bins) c.pivots-pivots.result.now (c.kind.ensures.tree ∙ ap tree_of c.in-Inner.is) c.pivots-pivots.ensures.pivots c.requires.order
+
+pub loop-place-init : goal.loop-place-init
+loop-place-init g t c = record {
+  wanted = refl;
+  sorted = c.requires.sorted;
+  within = c.requires.within;
+  begins = c.first_place-place.ensures.place;
+  few = c.first_place-place.ensures.bound;
+}
+
+pub bounds-nodes-place : goal.bounds-nodes-place
+bounds-nodes-place g t c =
+    omega (arith, c.loop-place-test.true, c.len-place-end.ensures.count, ap length c.nodes.ensures, length-map c.in-Inner.children (λ x. x.1))
 
 pub bin_between-requires : goal.bin_between-requires
 bin_between-requires g t c =
