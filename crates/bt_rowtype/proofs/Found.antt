@@ -1,5 +1,5 @@
 -- In which texts csv's reader finds a record, and how many fields it has at least. Serves lines and their reader.
-use Rattle.std.proofs.Common.{ℕ, Bool, List, [], ◌∷◌, ◌++◌, ◌≡◌, ◌==◌, ◌&&◌, ◌||◌, ◌<◌, ◌≤◌, ◌∙◌, refl, ap, sym, arith, true, false, inl, inr, length, length-append, Option, Some, None}
+use Rattle.std.proofs.Common.{ℕ, Bool, List, [], ◌∷◌, ◌++◌, ◌≡◌, ◌==◌, ◌||◌, ◌<◌, ◌≤◌, ◌∙◌, refl, ap, sym, arith, true, false, inl, inr, length, length-append, Option, Some, None}
 use Rattle.std.proofs.lemmas.Bool.{cases_Bool, false≢true, true≢false}
 use Rattle.std.proofs.Math.Dec.{eqb-suc-zero}
 use Rattle.std.specs.List.{list_all, list_any}

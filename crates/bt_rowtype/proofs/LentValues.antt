@@ -1,13 +1,10 @@
 -- Values that are lent, one of which is replaced.
-use Rattle.std.proofs.Common.{◌≡◌, ℕ, ◌<◌, ◌≤◌, List, arith, sym, subst, ap, ◌∙◌, get_or, length, map, set, pos}
+use Rattle.std.proofs.Common.{ℕ, ◌<◌, List, sym, subst, get_or, length, map, set}
 use Rattle.std.proofs.lemmas.List.{get_or-map, length-map, map-set}
 use Rattle.std.proofs.lemmas.List.Elements.{All-set}
 use Rattle.std.specs.List.{All}
-use Rattle.bt_rowtype.specs.Ops.{added, after_op}
 use Rattle.bt_rowtype.specs.Packing.{HasText}
 use Rattle.bt_rowtype.specs.Views.{shown}
-use Rattle.bt_rowtype.specs.declared.op.Op.TheVariants.{Add}
-use Rattle.bt_rowtype.specs.declared.value.Value.{Value}
 use Rattle.bt_rowtype.specs.declared.value_ref.ValueRef.{ValueRef}
 
 -- each is still a text where it is one

@@ -1,5 +1,5 @@
 -- Bytes with zeros behind them.
-use Rattle.std.proofs.Common.{ℕ, suc, ◌≡◌, List, [], ◌∷◌, length, refl, ap}
+use Rattle.std.proofs.Common.{ℕ, ◌≡◌, List, [], ◌∷◌, length, refl, ap}
 use Rattle.bt_rowtype.specs.Shorts.{padded}
 
 -- as many as there are

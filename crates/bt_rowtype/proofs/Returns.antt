@@ -1,5 +1,5 @@
 -- Whether a byte was found. Serves the search for a carriage return.
-use Rattle.std.proofs.Common.{ℕ, Bool, List, ◌≡◌, ◌==◌, ◌≤◌, refl, sym, arith, true, false, Option, Some, None, inl, inr, get_or}
+use Rattle.std.proofs.Common.{ℕ, List, ◌≡◌, ◌==◌, sym, arith, Option, Some, None, inl, inr, get_or}
 use Rattle.std.proofs.lemmas.Bool.{cases_Bool}
 use Rattle.std.proofs.lemmas.Grind.{get_or_default_zero}
 use Rattle.std.proofs.lemmas.List.Folds.{list_any_at, list_any_none}

@@ -1,6 +1,4 @@
 -- What contracts see of values that are gone through where they lie.
-use Rattle.std.specs.Prelude.{List}
-use Rattle.bt_rowtype.specs.Packing.{IsPacked, unpacked}
 use Rattle.bt_rowtype.specs.declared.value.Value.{Value}
 use Rattle.bt_rowtype.specs.declared.value.Value.TheVariants as value
 use Rattle.bt_rowtype.specs.declared.value_ref.ValueRef.{ValueRef}

@@ -1,4 +1,4 @@
-use Rattle.std.proofs.Common.{◌≡◌, ◌≢◌, ◌==◌, ◌++◌, ◌∷◌, [], ◌∙◌, ℕ, List, arith, ap, sym, refl, false, get_or, length}
+use Rattle.std.proofs.Common.{◌≡◌, ◌≢◌, ◌==◌, ◌∙◌, ℕ, arith, ap, sym, refl, false, get_or, length}
 use Rattle.std.proofs.lemmas.Bool.Decides.{nat_tests}
 use Rattle.bt_rowtype.specs.Records.{is_special}
 use Rattle.bt_rowtype.specs.declared.fields.Place.{Place}

@@ -1,4 +1,4 @@
-use Rattle.std.proofs.Common.{◌∷◌, [], refl, take}
+use Rattle.std.proofs.Common.{◌∷◌, take}
 use Rattle.csv.specs.Writing.{default_writer, escaped}
 use Rattle.bt_rowtype.proofs.Exits.{on_err}
 use Rattle.bt_rowtype.proofs.Quotes.{all_quoted, begun, more_escaped, none_escaped}

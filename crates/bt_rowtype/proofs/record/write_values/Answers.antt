@@ -1,4 +1,4 @@
-use Rattle.std.proofs.Common.{◌≡◌, ◌∙◌, ◌++◌, ◌==◌, ◌∷◌, [], ℕ, List, sym, ap, rules, arith, map, take, length, true, false, append_assoc, length-append, ◌≢◌}
+use Rattle.std.proofs.Common.{◌≡◌, ◌∙◌, ◌++◌, ◌==◌, ◌∷◌, [], ℕ, List, ap, rules, arith, map, length, true, false, append_assoc, length-append, ◌≢◌}
 use Rattle.std.proofs.lemmas.Bool.{eq-eqb, ne_eqb}
 use Rattle.std.proofs.lemmas.List.{append-nil}
 use Rattle.csv.specs.Writing.{default_writer, row_body}
@@ -6,7 +6,6 @@ use Rattle.bt_rowtype.specs.Records.{record_text}
 use Rattle.bt_rowtype.specs.Values.{text_of}
 use Rattle.bt_rowtype.specs.Views.{shown}
 use Rattle.bt_rowtype.specs.declared.value.Value.{Value}
-use Rattle.bt_rowtype.proofs.Exits.{on_err}
 use Rattle.bt_rowtype.proofs.RecordTexts.{blank_is_empty, wrote_all, wrote_more}
 use Rattle.bt_rowtype.proofs.record.write_values.Goals as goal
 

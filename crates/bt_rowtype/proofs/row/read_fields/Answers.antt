@@ -1,4 +1,4 @@
-use Rattle.std.proofs.Common.{◌≡◌, ◌≢◌, ◌∙◌, ◌++◌, ◌∷◌, ◌+◌, [], List, sym, ap, length, take, drop, Err}
+use Rattle.std.proofs.Common.{◌≢◌, ◌∙◌, ◌+◌, List, sym, ap, length, take, drop, Err}
 use Rattle.bt_rowtype.specs.Values.{or_refused, value_of, values_of}
 use Rattle.bt_rowtype.specs.Views.{shown}
 use Rattle.bt_rowtype.specs.declared.refusal.Refusal.TheVariants.{BadField, OutOfMemory}

@@ -1,4 +1,4 @@
-use Rattle.std.proofs.Common.{◌≡◌, ◌==◌, ◌<◌, ◌≤◌, ◌+◌, ◌∙◌, ℕ, List, Option, Bool, true, false, None, Some, add-one, ap, drop, get_or, length, refl, sym}
+use Rattle.std.proofs.Common.{◌≡◌, ◌==◌, ◌<◌, ◌+◌, ◌∙◌, ℕ, List, true, false, Some, add-one, ap, drop, get_or, length, refl, sym}
 use Rattle.std.proofs.lemmas.List.{drop_all, drop_more}
 use Rattle.std.specs.Cmp.Lexicographic.{pointwise}
 use Rattle.bt_rowtype.specs.Ops.{named_from}

@@ -1,4 +1,4 @@
-use Rattle.std.proofs.Common.{ℕ, List, ◌≡◌, ◌∙◌, sym, length, rules}
+use Rattle.std.proofs.Common.{ℕ, List, ◌≡◌, sym, length, rules}
 use Rattle.bt_rowtype.specs.Shorts.{padded}
 use Rattle.bt_rowtype.proofs.Paddings.{padded-all}
 use Rattle.bt_rowtype.proofs.bytes.Bytes.padded.Goals as goal
