@@ -1,5 +1,5 @@
 -- What the answers of all workers are, once all passes that can be had came back.
-use Rattle.std.proofs.Common.{◌≡◌, ℕ, ◌+◌, ◌≤◌, List, [], ◌∷◌, ◌++◌, All, length, map, replicate, Vec, Global, Option, Some, None, IfSome, Result, sym, refl, ap, ◌∙◌, subst, arith}
+use Rattle.std.proofs.Common.{◌≡◌, ℕ, ◌+◌, ◌≤◌, List, [], ◌∷◌, ◌++◌, All, length, map, replicate, Vec, Global, Option, None, IfSome, Result, sym, ap, ◌∙◌, subst, arith}
 use Rattle.std.proofs.lemmas.List.{length-map, length-replicate}
 use Rattle.crossbeam_queue.specs.Passes.{view}
 use Rattle.bt_gang.specs.declared.answers.Answer.{Answer}
@@ -9,7 +9,7 @@ use Rattle.bt_gang.specs.declared.rule.Known.{Known}
 use Rattle.bt_gang.specs.declared.workers.Worker.{Worker}
 use Rattle.bt_gang.specs.Numbers.{joined, times, once_below}
 use Rattle.bt_gang.specs.Numbered.{numbered}
-use Rattle.bt_gang.specs.Queue.{HasAll, HasList, numbers_of}
+use Rattle.bt_gang.specs.Queue.{HasList, numbers_of}
 use Rattle.bt_gang.specs.Answers.{AllBelow, AllMay, FoundNothing, Gains, answers_in, numbers_in, puts}
 use Rattle.bt_gang.specs.Run.{Filled, listed}
 use Rattle.bt_gang.specs.Workers.{HasServedCaller, TookIn}

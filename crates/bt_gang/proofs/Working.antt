@@ -1,18 +1,15 @@
 -- What the passes of the caller and of the workers know.
-use Rattle.std.proofs.Common.{◌≡◌, ℕ, zero, suc, ◌+◌, ◌<◌, ◌≤◌, List, [], ◌∷◌, ◌++◌, All, Option, None, Some, IfSome, length, length-append, map, Result, sym, refl, ap, ◌∙◌, subst, append_assoc, append-nil, arith}
-use Rattle.std.proofs.lemmas.List.{map-append, length-map}
-use Rattle.crossbeam_queue.specs.Passes.{view, IsPassOf, Pass}
-use Rattle.bt_gang.specs.declared.answers.Answer.{Answer}
-use Rattle.bt_gang.specs.declared.answers.Answers.{Answers}
+use Rattle.std.proofs.Common.{◌≡◌, ℕ, zero, suc, ◌+◌, ◌<◌, ◌≤◌, List, [], ◌∷◌, ◌++◌, length, length-append, Result, sym, refl, ap, ◌∙◌, subst, append_assoc, append-nil, arith}
+use Rattle.std.proofs.lemmas.List.{map-append}
+use Rattle.crossbeam_queue.specs.Passes.{view, IsPassOf}
 use Rattle.bt_gang.specs.declared.jobs.Jobs.{Jobs}
 use Rattle.bt_gang.specs.declared.rule.Known.{Known}
-use Rattle.bt_gang.specs.declared.rule.NumberedJob.{NumberedJob}
 use Rattle.bt_gang.specs.declared.rule.TakenList.{TakenList}
 use Rattle.bt_gang.specs.declared.workers.Worker.{Worker}
 use Rattle.bt_gang.specs.Numbers.{joined, below}
-use Rattle.bt_gang.specs.Queue.{TakenLists, taken_list, no_lists, given, kept, grown, numbers_of, known, gained, HasList}
+use Rattle.bt_gang.specs.Queue.{TakenLists, taken_list, no_lists, given, kept, numbers_of, known, gained, HasList}
 use Rattle.bt_gang.specs.Numbered.{numbered}
-use Rattle.bt_gang.specs.Answers.{AllMay, Gains, numbers_in}
+use Rattle.bt_gang.specs.Answers.{AllMay, Gains}
 use Rattle.bt_gang.specs.Workers.{IsReady, IsReadyCaller, HasServed, HasServedCaller, IsCaller, TookIn}
 
 both_nil : (xs ys : List ℕ) → xs ++ ys ≡ [] → (xs ≡ []) × (ys ≡ [])

@@ -1,4 +1,4 @@
-use Rattle.std.proofs.Common.{◌≡◌, ◌≤◌, ℕ, All, IsFalse, IsTrue, vec_len, length, ap, ◌∙◌, sym, subst, rules, arith}
+use Rattle.std.proofs.Common.{◌≡◌, ◌≤◌, ℕ, All, IsFalse, IsTrue, vec_len, ap, ◌∙◌, sym, subst, rules, arith}
 use Rattle.bt_gang.specs.Numbers.{times}
 use Rattle.bt_gang.proofs.Filling.{all_once, all_run, answered, least, none_empty}
 use Rattle.bt_gang.proofs.Finishing.{below_own, below_rest, filled_all, have_come, jobs_last, listed_all}

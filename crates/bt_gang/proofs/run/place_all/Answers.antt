@@ -1,4 +1,4 @@
-use Rattle.std.proofs.Common.{◌≡◌, ap, sym, rules}
+use Rattle.std.proofs.Common.{rules}
 use Rattle.bt_gang.proofs.Filling.{placed_more, below_one, below_more, listed_more}
 use Rattle.bt_gang.proofs.run.place_all.Goals as goal
 

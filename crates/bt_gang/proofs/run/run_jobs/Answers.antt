@@ -1,11 +1,9 @@
-use Rattle.std.proofs.Common.{◌≡◌, ◌≤◌, ◌+◌, ℕ, [], All, IfErr, IfOk, length, vec_len, vec_capacity, ap, ◌∙◌, sym, subst, rules, arith}
-use Rattle.std.proofs.lemmas.Result.{IfOk-weaker, IfErr-weaker}
-use denote.Param.Send.{sendable}
+use Rattle.std.proofs.Common.{◌≡◌, ℕ, All, IfErr, IfOk, length, ap, ◌∙◌, sym, subst}
+use Rattle.std.proofs.lemmas.Result.{IfOk-weaker}
 use Rattle.crossbeam_queue.specs.Passes.{view}
-use Rattle.bt_gang.specs.Queue.{known, no_lists}
-use Rattle.bt_gang.specs.Run.{Answered, AreValues, EachOnce, IsLeast, listed}
+use Rattle.bt_gang.specs.Run.{Answered, AreValues, EachOnce, IsLeast}
 use Rattle.bt_gang.specs.Workers.{IsCaller}
-use Rattle.bt_gang.proofs.Filling.{no_room, none_answered, none_listed, values_stand}
+use Rattle.bt_gang.proofs.Filling.{values_stand}
 use Rattle.bt_gang.proofs.run.run_jobs.Goals as goal
 
 same_len : (n len a b : ℕ) → n ≡ len → len ≡ a → b ≡ a → n ≡ b

@@ -1,7 +1,4 @@
-use Rattle.std.proofs.Common.{◌≡◌, ◌+◌, ◌≤◌, All, length, ap, sym, ◌∙◌, subst, rules}
-use Rattle.crossbeam_queue.specs.Passes.{view}
-use Rattle.bt_gang.specs.Queue.{HasList, numbers_of}
-use Rattle.bt_gang.specs.Workers.{HasServedCaller}
+use Rattle.std.proofs.Common.{All, sym, subst}
 use Rattle.bt_gang.proofs.Working.{caller_list, caller_jobs, caller_room, served_caller}
 use Rattle.bt_gang.proofs.run.serve_all.Goals as goal
 

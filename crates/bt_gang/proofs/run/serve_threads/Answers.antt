@@ -1,4 +1,3 @@
-use Rattle.std.proofs.Common.{◌≡◌, ◌≤◌, All, refl}
 use denote.Param.Send.{sendable}
 use Rattle.bt_gang.proofs.run.serve_threads.Goals as goal
 

@@ -1,4 +1,4 @@
-use Rattle.std.proofs.Common.{◌≡◌, [], All, ap, sym, subst}
+use Rattle.std.proofs.Common.{[], All, ap, sym, subst}
 use Rattle.bt_gang.proofs.Working.{ready_list, ready_spare, served}
 use Rattle.bt_gang.proofs.workers.served.Goals as goal
 

@@ -1,4 +1,4 @@
-use Rattle.std.proofs.Common.{◌≡◌, ◌+◌, ◌≤◌, [], All, IfSome, length, map, vec_len, vec_capacity}
+use Rattle.std.proofs.Common.{◌≡◌, ◌+◌, ◌≤◌, [], All, IfSome, map, vec_len, vec_capacity}
 use Rattle.std.specs.Vec.Iter.{into_iter_items, into_iter_len}
 use Rattle.crossbeam_queue.specs.Passes.{view, IsPassOf}
 use Rattle.bt_gang.specs.Answers.{AllMay, numbers_in}
