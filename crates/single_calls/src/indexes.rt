@@ -66,7 +66,7 @@ fn three_rows(alloc: Global) -> Result<Tree<Row>, Refusal> {
     let batch = vec![in alloc;
         put(alloc, 1, "1,10")?,
         put(alloc, 2, "2,20")?,
-        put(alloc, 3, "3,30")?
+        put(alloc, 3, "3,30")?,
     ]?;
     let tree = Tree::empty(alloc, Shape::new(4, 3, 2)?);
     Ok(tree.sink(alloc, Packet::from_batch(alloc, batch)?)?)
@@ -78,7 +78,7 @@ fn batch_effects(alloc: Global) -> Result<Vec<Effect>, Refusal> {
         put(alloc, 1, "1,11")?,
         (key(alloc, 2)?, Message::Del),
         put(alloc, 3, "3,30")?,
-        put(alloc, 4, "4,40")?
+        put(alloc, 4, "4,40")?,
     ]?;
     let packet = Packet::from_batch(alloc, batch)?;
     Ok(effects(alloc, &three_rows(alloc)?, &packet)?)
@@ -217,13 +217,7 @@ fn definitions(rt: HostRuntime) -> Result<(), Fail> {
         ("qty", "", "qty", "many", "BadField 1"),
         ("id qty id qty id", "nope", "qty", "many", "BadField 1"),
         ("id qty id qty id", "nope", "nope", "many", "TooMany 0"),
-        (
-            "id",
-            "id id id id id id id id id",
-            "qty",
-            "30",
-            "TooMany 0",
-        ),
+        ("id", "id id id id id id id id id", "qty", "30", "TooMany 0"),
         ("nope", "", "qty", "30", "NoSuchColumn 0"),
         ("qty", "nope", "qty", "30", "NoSuchColumn 0"),
         ("qty", "", "nope", "30", "NoSuchColumn 0"),
