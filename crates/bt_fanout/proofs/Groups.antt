@@ -1,5 +1,7 @@
 -- The effects of sorted messages, one key at a time.
-use Rattle.std.proofs.Common.{◌≡◌, ℕ, ◌<◌, ◌≤◌, Bool, true, false, cond, T, List, [], ◌∷◌, ◌++◌, append_assoc, length, refl, sym, ap, subst, ◌∙◌, Option, if◌then◌else◌, true≢false, arith}
+use Rattle.std.proofs.Common.{◌≡◌, ℕ, ◌<◌, ◌≤◌, Bool, true, false, cond, T, List, [], ◌∷◌, ◌++◌, append_assoc, length, map, refl, sym, ap, subst, ◌∙◌, Option, Some, None, if◌then◌else◌, true≢false, arith}
+use Rattle.std.proofs.lemmas.List.{map-append}
+use Rattle.std.specs.Option.{MatchOption}
 use Rattle.std.specs.Ordering.{eq_by_cmp, is_lt}
 use Rattle.std.specs.Cmp.{tied_itself}
 use Rattle.std.specs.FinMap.{find, put}
@@ -137,3 +139,53 @@ one_group m ms left later effect rows whole old new is sorted key before after b
       so ∙ ap (λ zs. old ++ effects_of zs rows) is ∙ ap (λ es. old ++ es) (effects-group m ms rows order) ∙ ap (λ z. old ++ z ∷ effects_of (behind_group m.0 ms) rows) (sym e)
           ∙ ap (λ zs. old ++ effect ∷ effects_of zs rows) (sym behind) ∙ sym (append_assoc old (effect ∷ []) (effects_of later rows)) ∙ ap (λ es. es ++ effects_of later rows) (sym more),
     )
+
+-- ---- the keys of groups
+
+module _ {M : Type 0} where
+  -- the keys that sorted messages name: that of the first group, and those of the others
+  pub names-group : (m : List ℕ × M) (ms : Messages M) → IsSorted (m ∷ ms) → named (m ∷ ms) ≡ (m.0, tt) ∷ named (behind_group m.0 ms)
+  names-group m ms h = named-group m.0 ms h.0 h.1
+
+  -- one key more
+  pub one_key : {K : Type 0} (seen : K → List ℕ) (m : List ℕ × M) (ms left later : Messages M) (key : K) (old new : List K) (whole : List (List ℕ)) → left ≡ m ∷ ms → IsSorted left → seen key ≡ m.0 →
+      later ≡ behind_group m.0 ms → whole ≡ map seen old ++ map (λ (k : List ℕ × Unit {0}). k.0) (named left) → new ≡ old ++ key ∷ [] →
+      IsSorted later × (whole ≡ map seen new ++ map (λ (k : List ℕ × Unit {0}). k.0) (named later))
+  one_key seen m ms left later key old new whole is sorted is_key behind so more =
+      let first : List (List ℕ × Unit {0}) → List (List ℕ) = map (λ k. k.0) in
+      let order : IsSorted (m ∷ ms) = subst IsSorted is sorted in (
+        subst IsSorted (sym behind) (sorted-behind m.0 ms order.1),
+        so ∙ ap (λ zs. map seen old ++ first (named zs)) is ∙ ap (λ ks. map seen old ++ first ks) (names-group m ms order)
+            ∙ ap (λ k. map seen old ++ k ∷ first (named (behind_group m.0 ms))) (sym is_key) ∙ ap (λ zs. map seen old ++ seen key ∷ first (named zs)) (sym behind)
+            ∙ sym (append_assoc (map seen old) (seen key ∷ []) (first (named later))) ∙ ap (λ ks. ks ++ first (named later)) (sym (map-append seen old (key ∷ [])) ∙ ap (map seen) (sym more)),
+      )
+
+  -- what keys have: that of the first group's key, and those of the others
+  pub one_found : {V : Type 0} (f : List ℕ → V) (m : List ℕ × M) (ms left later : Messages M) (values others : List V) (value : V) → left ≡ m ∷ ms → IsSorted left →
+      later ≡ behind_group m.0 ms → values ≡ map (λ (k : List ℕ × Unit {0}). f k.0) (named left) → values ≡ value ∷ others →
+      (value ≡ f m.0) × (others ≡ map (λ (k : List ℕ × Unit {0}). f k.0) (named later))
+  one_found f m ms left later values others value is sorted behind all first =
+      let both : value ∷ others ≡ f m.0 ∷ map (λ (k : List ℕ × Unit {0}). f k.0) (named (behind_group m.0 ms)) =
+      sym first ∙ all ∙ ap (λ zs. map (λ (k : List ℕ × Unit {0}). f k.0) (named zs)) is ∙ ap (map (λ (k : List ℕ × Unit {0}). f k.0)) (names-group m ms (subst IsSorted is sorted)) in
+      (cc, let tail : others ≡ map (λ (k : List ℕ × Unit {0}). f k.0) (named (behind_group m.0 ms)) = cc in tail ∙ ap (λ zs. map (λ (k : List ℕ × Unit {0}). f k.0) (named zs)) (sym behind))
+
+  -- a message that is left has a value
+  pub some_found : {V : Type 0} (f : List ℕ → V) (m : List ℕ × M) (ms left : Messages M) (values : List V) → left ≡ m ∷ ms → IsSorted left →
+      values ≡ map (λ (k : List ℕ × Unit {0}). f k.0) (named left) → values ≡ [] → ⊥
+  some_found f m ms left values is sorted all none =
+      let both : [] ≡ f m.0 ∷ map (λ (k : List ℕ × Unit {0}). f k.0) (named (behind_group m.0 ms)) =
+      sym none ∙ all ∙ ap (λ zs. map (λ (k : List ℕ × Unit {0}). f k.0) (named zs)) is ∙ ap (map (λ (k : List ℕ × Unit {0}). f k.0)) (names-group m ms (subst IsSorted is sorted)) in
+      cc
+
+-- what no step gives
+pub at_end : {A : Type 0} (r : Option A) (P : Type 0) (Q : A → Type 0) → MatchOption r P Q → ((x : A) → r ≡ Some x → ⊥) → P
+at_end None P Q steps none = steps
+at_end (Some x) P Q steps none = absurd (none x refl)
+
+through : {K A B : Type 0} (f : A → B) (g : K → A) (ks : List K) → map f (map g ks) ≡ map (λ k. f (g k)) ks
+through f g [] = refl
+through f g (k ∷ ks) = ap (λ zs. f (g k) ∷ zs) (through f g ks)
+
+-- what the same keys have
+pub same_found : {K L V : Type 0} (f : List ℕ → V) (seen : K → List ℕ) (named_as : L → List ℕ) (keys : List K) (ks : List L) → map seen keys ≡ map named_as ks → map (λ k. f (seen k)) keys ≡ map (λ k. f (named_as k)) ks
+same_found f seen named_as keys ks is = sym (through f seen keys) ∙ ap (map f) is ∙ through f named_as ks

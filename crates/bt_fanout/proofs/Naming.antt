@@ -1,12 +1,14 @@
 -- Names of columns, and the definition that they make.
-use Rattle.std.proofs.Common.{◌≡◌, ℕ, suc, ◌+◌, ◌<◌, ◌≤◌, ◌==◌, ◌&&◌, Bool, true, false, nat_le, List, [], ◌∷◌, ◌++◌, append_assoc, get_or, length, refl, sym, ap, subst, ◌∙◌, Option, Some, None, option_map, Result, Ok, Err, ℤ, arith, if◌then◌else◌}
+use Rattle.std.proofs.Common.{◌≡◌, ℕ, suc, ◌+◌, ◌<◌, ◌≤◌, ◌==◌, ◌&&◌, Bool, true, false, nat_le, List, [], ◌∷◌, ◌++◌, append_assoc, get_or, length, refl, sym, ap, subst, ◌∙◌, Option, Some, None, is_some, option_map, Result, Ok, Err, ℤ, arith, if◌then◌else◌}
 use Rattle.std.specs.Prelude.{option_and_then}
 use Rattle.std.specs.List.{All}
 use Rattle.std.specs.Cmp.Lexicographic.{pointwise}
-use Rattle.std.specs.Result.{result_map_both}
+use Rattle.std.specs.Option.{is_none}
+use Rattle.std.specs.Result.{IfErr, result_err, result_map_both}
 use Rattle.std.proofs.lemmas.List.{length-map}
 use Rattle.bt_rowtype.specs.Ints.{int_of}
 use Rattle.bt_rowtype.specs.Ops.{at_column, both_read, named_from}
+use Rattle.bt_rowtype.specs.Refusals.{lesser}
 use Rattle.bt_rowtype.specs.Texts.{is_text}
 use Rattle.bt_rowtype.specs.Values.{flag_of, or_refused, value_of}
 use Rattle.bt_rowtype.specs.declared.refusal.Refusal.{Refusal}
@@ -158,7 +160,49 @@ parts_suit columns schema on include filter condition places keys same few e = b
     by_parts (Err r) (Ok other) is are f = cc
     by_parts (Err r) (Err s) is are f = cc
 
--- a refusal of the first part, with the second
-pub both_refused : {S T : Type 0} (first : Result S Refusal) (second : Result T Refusal) (refusal result : Refusal) → first ≡ Err refusal → both_read {S = S} (Err refusal) second ≡ Err result →
-    both_read first second ≡ Err result
-both_refused first second refusal result is are = ap (λ a. both_read a second) is ∙ are
+-- ---- faults
+
+-- the other names decide whether all columns are there, where one is
+pub one_there : (columns : List Column) (name : List ℕ) (names : List (List ℕ)) → is_none (named_from 0 name columns) ≡ false →
+    is_some (places_of columns (name ∷ names)) ≡ is_some (places_of columns names)
+one_there columns name names there = by_column (named_from 0 name columns) (places_of columns names) there
+  where
+    by_column : (o : Option (ℕ × Kind)) (others : Option (List ℕ)) → is_none o ≡ false → is_some (option_and_then (λ (c : ℕ × Kind). option_map (λ places. c.0 ∷ places) others) o) ≡ is_some others
+    by_column None others e = cc
+    by_column (Some c) None e = refl
+    by_column (Some c) (Some places) e = refl
+
+pub one_absent : (columns : List Column) (name : List ℕ) (names : List (List ℕ)) → is_none (named_from 0 name columns) ≡ true → is_some (places_of columns (name ∷ names)) ≡ false
+one_absent columns name names absent = by_column (named_from 0 name columns) absent
+  where
+    by_column : (o : Option (ℕ × Kind)) → is_none o ≡ true → is_some (option_and_then (λ (c : ℕ × Kind). option_map (λ places. c.0 ∷ places) (places_of columns names)) o) ≡ false
+    by_column None e = refl
+    by_column (Some c) e = cc
+
+-- a fault of the second part, and what the first part makes of it
+pub both_faulty : {S T : Type 0} (first : Result S Refusal) (second : Result T Refusal) (fault result : Refusal) → Some fault ≡ result_err second →
+    both_read {T = Unit {0}} first (Err fault) ≡ Err result → both_read first second ≡ Err result
+both_faulty first (Ok y) fault result is e = cc
+both_faulty (Ok x) (Err other) fault result is e =
+    let same : fault ≡ other = cc in
+    let answer : fault ≡ result = cc in
+    ap Err (sym same ∙ answer)
+both_faulty (Err r) (Err other) fault result is e =
+    let same : fault ≡ other = cc in
+    let answer : lesser r fault ≡ result = cc in
+    ap Err (ap (lesser r) (sym same) ∙ answer)
+
+-- without one the first part decides
+pub first_refused : {S T : Type 0} (first : Result S Refusal) (second : Result T Refusal) (refusal : Refusal) → None ≡ result_err second → first ≡ Err refusal → both_read first second ≡ Err refusal
+first_refused first (Err other) refusal none is = cc
+first_refused (Ok x) (Ok y) refusal none is = cc
+first_refused (Err r) (Ok y) refusal none is = let same : r ≡ refusal = cc in ap Err same
+
+pub first_decides : {S T : Type 0} (first : Result S Refusal) (second : Result T Refusal) (P : Refusal → Type 0) → None ≡ result_err second → IfErr first P → IfErr (both_read first second) P
+first_decides first (Err other) P none certain = cc
+first_decides (Ok x) (Ok y) P none certain = tt
+first_decides (Err r) (Ok y) P none certain = certain
+
+pub stays_refused : {A : Type 0} (U : Type 0) (both : Result A Refusal) (refusal : Refusal) → both ≡ Err refusal → IfErr both (λ e. ◌≡◌ {A = Result U Refusal} (Err refusal) (Err e))
+stays_refused U (Ok a) refusal is = cc
+stays_refused U (Err e) refusal is = let same : refusal ≡ e = cc in ap Err same

@@ -1,5 +1,5 @@
 //! What an index is.
-ghost use Rattle.std.specs.Prelude.{◌≡◌, IfOk};
+ghost use Rattle.std.specs.Prelude.{◌≡◌, Err, IfErr, IfOk};
 ghost use Rattle.std.specs.Option.{option_copied};
 ghost use Rattle.bt_rowtype.specs.Answers.{Answers};
 ghost use Rattle.bt_fanout.specs.Definitions.{definition_as, kinds_of};
@@ -65,6 +65,7 @@ impl IndexDef {
     ///
     /// The least refusal that applies is answered: `BadField` of item 1 where the constant is no value of its column, which is not tested
     /// where there is no such column; `TooMany` where one of the lists is too long; `NoSuchColumn` where a name is not of the schema.
+    /// Each of them is found before memory is asked for.
     pub fn new(
         alloc: Global,
         schema: &Schema,
@@ -73,6 +74,7 @@ impl IndexDef {
         filter: Option<&Filter>,
     ) -> Result<Self, Refusal>
         ensures answer { Answers (definition_as schema.now on.now include.now (option_copied filter.entry)) result }
+        ensures certain { IfErr (definition_as schema.now on.now include.now (option_copied filter.entry)) (λ e. result ≡ Err e) }
         ensures suits { IfOk result (λ def. SuitsKinds def (kinds_of schema.now.columns)) }
         ensures keys { IfOk result (λ def. def.keys ≡ schema.now.keys) }
     {

@@ -1,10 +1,11 @@
 //! What messages do to the rows of their keys.
-ghost use Rattle.std.specs.Prelude.{◌≡◌, IfOk, option_map};
+ghost use Rattle.std.specs.Prelude.{◌≡◌, IfOk, map, option_map};
 ghost use Rattle.std.specs.FinMap.{find};
 ghost use Rattle.bt_keycode.specs.Keys.{key_cmp};
 ghost use Rattle.bt_node.specs.Flushes.{holds};
 ghost use Rattle.bt_fanout.specs.Effects.{effects_of, row_effect};
 ghost use Rattle.bt_fanout.specs.Groups.{behind_group, value_of_group, with_next};
+ghost use Rattle.bt_fanout.specs.Selections.{named};
 
 use crate::effect::Effect;
 use bt_keycode::Key;
@@ -59,8 +60,34 @@ fn after_group<'a>(
     Ok((after, None))
 }
 
+// The first message to another key, from which on messages are left.
+fn behind<'a>(key: &Key, messages: &mut Messages<'a, Row>) -> Option<(&'a Key, &'a Message<Row>)>
+    ensures { with_next (option_map (λ m. (m.0.now, m.1.now)) result) messages.new ≡ behind_group key.now messages.old }
+{
+    while let Some((at, message)) = messages.next() {
+        if key.compare(at) != Ordering::Equal {
+            return Some((at, message));
+        }
+    }
+    None
+}
+
+// The keys that a packet names, each once.
+fn named_keys<'a>(alloc: Global, packet: &'a Packet<Row>) -> Result<Vec<&'a Key>, AllocError>
+    ensures { IfOk result (λ keys. map (λ k. k.now) keys.items ≡ map (λ k. k.0) (named packet.now)) }
+{
+    let mut keys = Vec::new(alloc);
+    let mut messages = packet.iter();
+    let mut next = messages.next();
+    while let Some((key, _message)) = next {
+        keys.push(key)?;
+        next = behind(key, &mut messages);
+    }
+    Ok(keys)
+}
+
 /// What the messages of a packet do to the rows of a tree, which doesn't have them yet: for each key that they name, the row before
-/// and the row after, in order of the keys. Each key is looked up along one path.
+/// and the row after, in order of the keys. The tree is gone through once, and only where these keys lead.
 pub fn effects(
     alloc: Global,
     tree: &Tree<Row>,
@@ -68,11 +95,15 @@ pub fn effects(
 ) -> Result<Vec<Effect>, AllocError>
     ensures { IfOk result (λ effects. effects.items ≡ effects_of packet.now (holds row_effect tree.now.1)) }
 {
-    let mut found = Vec::new(alloc);
+    let keys = named_keys(alloc, packet)?;
+    let mut rows = tree.walk().values(alloc, keys.as_slice())?.into_iter();
+    let mut found = Vec::with_capacity(alloc, keys.len())?;
     let mut messages = packet.iter();
     let mut next = messages.next();
     while let Some((key, message)) = next {
-        let before = tree.get(alloc, key)?;
+        let Some(before) = rows.next() else {
+            unreachable!()
+        };
         let first = effect_on(alloc, &before, message)?;
         let (after, other) = after_group(alloc, key, first, &mut messages)?;
         let key = key.copy(alloc)?;

@@ -1,8 +1,10 @@
 //! Reading the names and the filter of an index.
-ghost use Rattle.std.specs.Prelude.{◌≡◌, ◌≢◌, Err, Option, map, string_bytes};
+ghost use Rattle.std.specs.Prelude.{◌≡◌, Err, IfErr, IfSome, None, Option, Result, is_some, map, string_bytes};
 ghost use Rattle.std.specs.Option.{option_copied};
+ghost use Rattle.std.specs.Result.{result_err};
 ghost use Rattle.bt_rowtype.specs.Answers.{Answers};
 ghost use Rattle.bt_rowtype.specs.Ops.{both_read, named_from};
+ghost use Rattle.bt_rowtype.specs.Refusals.{lesser};
 ghost use Rattle.bt_rowtype.specs.Values.{or_refused};
 ghost use Rattle.bt_fanout.specs.Definitions as spec;
 
@@ -24,7 +26,8 @@ fn find_column(columns: &[Column], name: &[u8]) -> Option<(usize, Kind)>
 
 // The condition of a filter.
 fn read_condition(alloc: Global, columns: &[Column], filter: &Filter) -> Result<Condition, Refusal>
-    ensures { Answers (spec.condition_of columns.now filter.now) result }
+    ensures answer { Answers (spec.condition_of columns.now filter.now) result }
+    ensures certain { IfErr (spec.condition_of columns.now filter.now) (λ e. result ≡ Err e) }
 {
     let Some((place, kind)) = find_column(columns, filter.column.as_bytes()) else {
         return Err(Refusal::NoSuchColumn);
@@ -43,11 +46,50 @@ fn read_condition_in(
     columns: &[Column],
     filter: Option<&Filter>,
 ) -> Result<Option<Condition>, Refusal>
-    ensures { Answers (spec.condition_in columns.now (option_copied filter.entry)) result }
+    ensures answer { Answers (spec.condition_in columns.now (option_copied filter.entry)) result }
+    ensures certain { IfErr (spec.condition_in columns.now (option_copied filter.entry)) (λ e. result ≡ Err e) }
 {
     match filter {
         Some(filter) => Ok(Some(read_condition(alloc, columns, filter)?)),
         None => Ok(None),
+    }
+}
+
+// Whether there are columns with all these names.
+fn are_there(columns: &[Column], names: &[String]) -> bool
+    ensures { result ≡ is_some (spec.places_of columns.now (map string_bytes names.now)) }
+{
+    for name in names {
+        if find_column(columns, name.as_bytes()).is_none() {
+            return false;
+        }
+    }
+    true
+}
+
+// The refusal of the columns that an index is ordered by and of those that it includes, if they have one. Takes no memory.
+fn chosen_fault(columns: &[Column], on: &[String], include: &[String]) -> Option<Refusal>
+    ensures fault { result ≡ result_err (spec.chosen columns.now (map string_bytes on.now) (map string_bytes include.now)) }
+    ensures least { IfSome result (λ fault. lesser Refusal.OutOfMemory fault ≡ fault) }
+{
+    if on.len() > MOST_ON || include.len() > MOST_INCLUDED {
+        return Some(Refusal::TooMany);
+    }
+    if are_there(columns, on) && are_there(columns, include) {
+        return None;
+    }
+    Some(Refusal::NoSuchColumn)
+}
+
+// The lesser of the refusal of a filter, if it has one, and a fault. Want of memory is the greater one of two.
+fn refusal_with(read: Result<Option<Condition>, Refusal>, fault: Refusal) -> Refusal
+    requires { lesser Refusal.OutOfMemory fault ≡ fault }
+    ensures { (answer : Result (Option Condition) Refusal) → Answers answer read → IfErr answer (λ e. read ≡ Err e) → both_read {T = Unit {0}} answer (Err fault) ≡ Err result }
+{
+    match read {
+        Ok(_) => fault,
+        Err(Refusal::OutOfMemory) => fault,
+        Err(refusal) => refusal.lesser(fault),
     }
 }
 
@@ -69,41 +111,22 @@ fn read_places(
     Ok(places)
 }
 
-// The places of the columns that an index is ordered by and of those that it includes.
+// The places of the columns that an index is ordered by and of those that it includes, which have no fault.
 fn read_chosen(
     alloc: Global,
     columns: &[Column],
     on: &[String],
     include: &[String],
 ) -> Result<(Sequence<usize>, Sequence<usize>), Refusal>
+    requires { result_err (spec.chosen columns.now (map string_bytes on.now) (map string_bytes include.now)) ≡ None }
     ensures { Answers (spec.chosen columns.now (map string_bytes on.now) (map string_bytes include.now)) result }
 {
-    if on.len() > MOST_ON || include.len() > MOST_INCLUDED {
-        return Err(Refusal::TooMany);
-    }
     let first = read_places(alloc, columns, on)?;
     let others = read_places(alloc, columns, include)?;
     Ok((first, others))
 }
 
-// The lesser of the refusal of a filter and that of the columns, if they have one.
-fn refusal_with_chosen(
-    alloc: Global,
-    columns: &[Column],
-    on: &[String],
-    include: &[String],
-    refusal: Refusal,
-) -> Refusal
-    ensures { result ≢ Refusal.OutOfMemory → both_read {S = Option Condition} (Err refusal) (spec.chosen columns.now (map string_bytes on.now) (map string_bytes include.now)) ≡ Err result }
-{
-    match read_chosen(alloc, columns, on, include) {
-        Ok(_) => refusal,
-        Err(Refusal::OutOfMemory) => Refusal::OutOfMemory,
-        Err(other) => refusal.lesser(other),
-    }
-}
-
-// The condition of a filter, if there is one, and the chosen columns.
+// The condition of a filter, if there is one, and the chosen columns. Faults go before want of memory.
 pub(crate) fn read_parts(
     alloc: Global,
     columns: &[Column],
@@ -111,14 +134,14 @@ pub(crate) fn read_parts(
     include: &[String],
     filter: Option<&Filter>,
 ) -> Result<(Option<Condition>, (Sequence<usize>, Sequence<usize>)), Refusal>
-    ensures { Answers (both_read (spec.condition_in columns.now (option_copied filter.entry)) (spec.chosen columns.now (map string_bytes on.now) (map string_bytes include.now))) result }
+    ensures answer { Answers (both_read (spec.condition_in columns.now (option_copied filter.entry)) (spec.chosen columns.now (map string_bytes on.now) (map string_bytes include.now))) result }
+    ensures certain { IfErr (both_read (spec.condition_in columns.now (option_copied filter.entry)) (spec.chosen columns.now (map string_bytes on.now) (map string_bytes include.now))) (λ e. result ≡ Err e) }
 {
-    match read_condition_in(alloc, columns, filter) {
-        Ok(condition) => {
-            let chosen = read_chosen(alloc, columns, on, include)?;
-            Ok((condition, chosen))
-        }
-        Err(Refusal::OutOfMemory) => Err(Refusal::OutOfMemory),
-        Err(refusal) => Err(refusal_with_chosen(alloc, columns, on, include, refusal)),
+    let read = read_condition_in(alloc, columns, filter);
+    if let Some(fault) = chosen_fault(columns, on, include) {
+        return Err(refusal_with(read, fault));
     }
+    let condition = read?;
+    let chosen = read_chosen(alloc, columns, on, include)?;
+    Ok((condition, chosen))
 }

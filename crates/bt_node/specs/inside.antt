@@ -4,4 +4,5 @@ pub mod Held
 pub mod Marks
 pub mod Shares
 pub mod Stored
+pub mod Together
 pub mod Views

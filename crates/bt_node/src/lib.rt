@@ -34,6 +34,7 @@ mod held;
 mod leaf_visits;
 mod lent;
 mod lookup;
+mod lookups;
 mod node;
 mod planning;
 mod rows;

@@ -53,8 +53,8 @@ fn since_reset<'a, V: Merge>(bins: &'a Bins<V>, place: usize, key: &Key) -> Newe
     Newest { start, left }
 }
 
-// What the messages to a key make of what it has.
-fn after_messages<'a, V: Merge>(
+/// What the messages to a key make of what it has.
+pub(crate) fn after_messages<'a, V: Merge>(
     alloc: Global,
     messages: Messages<'a, V>,
     key: &Key,

@@ -1,5 +1,5 @@
 //! What can be seen of a tree, node by node.
-ghost use Rattle.std.specs.Prelude.{◌≡◌, ◌<◌, Some, fold, length, option_map, slice_get, IfOk, IsTrue, OnOk};
+ghost use Rattle.std.specs.Prelude.{◌≡◌, ◌<◌, Some, fold, length, map, option_map, slice_get, IfOk, IsTrue, OnOk};
 ghost use Rattle.std.specs.FinMap.{find, is_sorted};
 ghost use Rattle.std.specs.Option.{option_copied};
 ghost use Rattle.bt_keycode.specs.Keys.{key_cmp};
@@ -10,6 +10,7 @@ ghost use Rattle.bt_node.specs.Messages.{between};
 ghost use Rattle.bt_node.specs.Walks as walk;
 
 use crate::lookup::value_at;
+use crate::lookups::{into_values, values_at};
 use crate::node::{Kind, Node};
 use crate::visitor::{Copies, Visitor};
 use crate::visits::visit_between;
@@ -133,6 +134,19 @@ impl<'a, V: Merge> Walk<'a, V> {
         ensures { IfOk result (λ value. value ≡ find key_cmp key.now (holds (effect_of V.merged) self.now)) }
     {
         value_at(alloc, self.node, key)?.into_value(alloc)
+    }
+
+    /// The values at keys when all messages here and below have had their effect. Neighbours that belong to one child go down together, so
+    /// keys that rise enter each node on the way once.
+    pub fn values<'k>(
+        &self,
+        alloc: Global,
+        keys: &'k [&'k Key],
+    ) -> Result<Vec<Option<V>>, AllocError>
+        requires { IsInOrder self.now }
+        ensures { IfOk result (λ values. values.items ≡ map (λ k. find key_cmp k.now (holds (effect_of V.merged) self.now)) keys.now) }
+    {
+        into_values(alloc, values_at(alloc, self.node, keys)?)
     }
 
     /// Shows a visitor the rows with a key at or past `from` and before `to`, when all messages here and below have had their effect, by

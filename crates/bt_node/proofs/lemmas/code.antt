@@ -18,3 +18,4 @@ pub mod RowsOfChildren
 pub mod RowsShown
 pub mod ShareLoop
 pub mod SiblingParts
+pub mod Together

@@ -1,0 +1,9 @@
+use Rattle.std.proofs.Common.{◌≡◌, length}
+use Rattle.bt_fanout.specs.Groups.{behind_group}
+use Rattle.bt_fanout.proofs.lookup.behind.Given as goal
+
+abbrev pub invariant-loop-at : goal.invariant-loop-at
+invariant-loop-at l = behind_group l.key l.fn.messages ≡ behind_group l.key l.messages
+
+abbrev pub decreases-loop-at : goal.decreases-loop-at
+decreases-loop-at l = length l.messages

@@ -1,0 +1,29 @@
+use Rattle.std.proofs.Common.{rules, [], ◌≡◌, ◌∷◌, ◌++◌, ap, get_or, map, ◌∙◌}
+use Rattle.std.proofs.lemmas.List.{nil_from_length}
+use Rattle.bt_messages.specs.Effects.{effect_of}
+use Rattle.bt_node.specs.inside.Held.{value_of}
+use Rattle.bt_node.specs.inside.Together.{values_after}
+use Rattle.bt_node.proofs.lemmas.code.LookupPath.{left_from}
+use Rattle.bt_node.proofs.lemmas.code.Together.{first_of, none_after, one_after}
+use Rattle.bt_node.proofs.lookups.add_after.Goals as goal
+
+pub after_messages-requires-clause-from : goal.after_messages-requires-clause-from
+after_messages-requires-clause-from g c = left_from (effect_of g.V.Merge.merged) c.key-item.result.now (get_or c.args.bins.now c.args.place []) c.bin_from-messages.result c.bin_from-messages.ensures.messages
+
+pub loop-old-preserved : goal.loop-old-preserved
+loop-old-preserved g c =
+    let effect = effect_of g.V.Merge.merged in
+    let bin = get_or c.args.bins.now c.args.place [] in
+    let seen = c.loop-old.values.items in
+    let left : c.loop-old.old-iterator.rest.items ≡ c.in-Some.old ∷ c.next.new.self.rest.items = search rules in
+    one_after effect bin c.bin_from-messages.result (λ k. k.now) value_of c.loop-old.rest.now _ c.key-item.result c.next.new.self.rest.items c.in-Some.old c.in_ok-after_messages.field-0 seen c.push.new.self.items _
+    (first_of c.loop-old.rest.now c.key-item.result c.in-len1-up.len_at_least c.key-item.is) c.bin_from-messages.ensures.messages c.in_ok-after_messages.ensures (search rules)
+    (c.loop-old.invariant ∙ ap (λ olds. map value_of seen ++ values_after effect bin (map (λ k. k.now) c.loop-old.rest.now) (map value_of olds)) left)
+
+pub returns : goal.returns
+returns g c =
+    let effect = effect_of g.V.Merge.merged in
+    let bin = get_or c.args.bins.now c.args.place [] in
+    let left : c.loop-old.old-iterator.rest.items ≡ [] = nil_from_length c.loop-old.old-iterator.rest.items (search rules) in
+    none_after effect bin (map (λ k. k.now) c.loop-old.rest.now) (map value_of c.loop-old.values.items) _
+    (c.loop-old.invariant ∙ ap (λ olds. map value_of c.loop-old.values.items ++ values_after effect bin (map (λ k. k.now) c.loop-old.rest.now) (map value_of olds)) left)

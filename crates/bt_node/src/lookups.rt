@@ -1,0 +1,145 @@
+//! The values at several keys, looked up together: neighbours that belong to one child go down together.
+ghost use Rattle.std.specs.Prelude.{◌≡◌, ◌<◌, ◌≤◌, ◌++◌, [], IfOk, OnOk, Some, drop, length, map, slice_get, slice_index_or, take};
+ghost use Rattle.std.specs.Option.{option_copied};
+ghost use Rattle.std.specs.FinMap.{find};
+ghost use Rattle.bt_keycode.specs.Keys.{key_cmp};
+ghost use Rattle.bt_messages.specs.Effects.{effect_of};
+ghost use Rattle.bt_node.specs.Fits.{IsInOrder};
+ghost use Rattle.bt_node.specs.Parts.{AreRising};
+ghost use Rattle.bt_node.specs.inside.Held.{value_of};
+ghost use Rattle.bt_node.specs.inside.Together.{AllBelong, count_between, values_after, values_at};
+
+use crate::held::Held;
+use crate::lent::lies_before;
+use crate::lookup::{after_messages, pivots_up_to};
+use crate::node::{Kind, Node};
+use crate::rows::Rows;
+use bt_keycode::Key;
+use bt_messages::{Bins, Merge};
+use std::alloc::{AllocError, Global};
+use std::cmp::Ordering;
+
+// How many of the first keys lie between bounds.
+fn count_between(keys: &[&Key], low: &Key, high: Option<&Key>) -> usize
+    ensures bound { result ≤ length keys.now }
+    ensures count { result ≡ count_between (Some low.now) (option_copied high.entry) (map (λ k. k.now) keys.now) }
+{
+    for (place, key) in keys.iter().enumerate() {
+        if key.compare(low) == Ordering::Less || !lies_before(key, high) {
+            return place;
+        }
+    }
+    keys.len()
+}
+
+// The pivot behind a child, where there is one.
+fn pivot_behind(pivots: &[Key], place: usize) -> Option<&Key>
+    ensures { option_copied result ≡ slice_get pivots.now place }
+{
+    pivots.get(place)
+}
+
+// The keys from a place on.
+fn keys_from<'k>(keys: &'k [&'k Key], place: usize) -> &'k [&'k Key]
+    requires { place ≤ length keys.now }
+    ensures { result.now ≡ drop place keys.now }
+{
+    &keys[place..]
+}
+
+// The child to which the first of keys belongs, and the first keys that belong to it.
+fn first_run<'k>(pivots: &[Key], keys: &'k [&'k Key]) -> (usize, &'k [&'k Key])
+    requires rising { AreRising pivots.now }
+    requires some { 0 < length keys.now }
+    ensures place { result.0 ≤ length pivots.now }
+    ensures count { length result.1.now ≤ length keys.now }
+    ensures own { result.1.now ≡ take (length result.1.now) keys.now }
+    ensures some { 0 < length result.1.now }
+    ensures belong { AllBelong pivots.now result.0 (map (λ k. k.now) result.1.now) }
+{
+    let first = keys[0];
+    let place = pivots_up_to(pivots, first);
+    let next = pivot_behind(pivots, place);
+    let count = count_between(keys_from(keys, 1), first, next) + 1;
+    (place, &keys[..count])
+}
+
+// What a leaf has at keys.
+fn found_at<'a, V: Merge>(
+    alloc: Global,
+    rows: &'a Rows<V>,
+    keys: &[&Key],
+) -> Result<Vec<Held<'a, V>>, AllocError>
+    ensures { IfOk result (λ values. map value_of values.items ≡ map (λ k. find key_cmp k.now rows.now) keys.now) }
+{
+    let mut values = Vec::with_capacity(alloc, keys.len())?;
+    for key in keys {
+        values.push(Held::found(rows.find(key)))?;
+    }
+    Ok(values)
+}
+
+// Adds what the messages in a bin make of the values that its child has at keys.
+fn add_after<'a, V: Merge>(
+    alloc: Global,
+    values: &mut Vec<Held<'a, V>>,
+    bins: &'a Bins<V>,
+    place: usize,
+    keys: &[&Key],
+    below: Vec<Held<'a, V>>,
+) -> Result<(), AllocError>
+    requires { place < length bins.now }
+    ensures { OnOk result (map value_of values.new.items ≡ map value_of values.old.items ++ values_after (effect_of V.merged) (slice_index_or bins.now place []) (map (λ k. k.now) keys.now) (map value_of below.entry.items)) }
+{
+    let mut rest = keys;
+    for old in below {
+        let [key, others @ ..] = rest else {
+            return Ok(());
+        };
+        let messages = bins.bin_from(place, key);
+        values.push(after_messages(alloc, messages, key, old)?)?;
+        rest = others;
+    }
+    Ok(())
+}
+
+/// What keys have below a node. A child is entered once for all keys that belong to it and follow each other; so keys that rise
+/// enter each node once. A value is lent unless an upsert changes it.
+pub(crate) fn values_at<'a, 'k, V: Merge>(
+    alloc: Global,
+    node: &'a Node<V>,
+    keys: &'k [&'k Key],
+) -> Result<Vec<Held<'a, V>>, AllocError>
+    requires { IsInOrder node.now }
+    ensures { IfOk result (λ values. map value_of values.items ≡ values_at (effect_of V.merged) (map (λ k. k.now) keys.now) node.now) }
+{
+    match node.kind() {
+        Kind::Leaf(rows) => found_at(alloc, rows, keys),
+        Kind::Inner { children, bins } => {
+            let pivots = children.pivots();
+            let mut values = Vec::with_capacity(alloc, keys.len())?;
+            let mut done = 0;
+            while done < keys.len() {
+                let (place, own) = first_run(pivots, keys_from(keys, done));
+                let below = values_at(alloc, &children.nodes()[place], own)?;
+                add_after(alloc, &mut values, bins, place, own, below)?;
+                done += own.len();
+            }
+            Ok(values)
+        }
+    }
+}
+
+/// The values by themselves: those that are lent are copied.
+pub(crate) fn into_values<V: Merge>(
+    alloc: Global,
+    values: Vec<Held<'_, V>>,
+) -> Result<Vec<Option<V>>, AllocError>
+    ensures { IfOk result (λ copies. copies.items ≡ map value_of values.entry.items) }
+{
+    let mut copies = Vec::with_capacity(alloc, values.len())?;
+    for value in values {
+        copies.push(value.into_value(alloc)?)?;
+    }
+    Ok(copies)
+}
