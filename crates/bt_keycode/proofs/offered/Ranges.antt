@@ -1,5 +1,5 @@
 -- What records spell lies in the ranges of its kinds, and operations leave it there. The codes of a table's rows stand on it.
-use Rattle.std.proofs.Common.{ℕ, zero, suc, ◌+◌, ◌-◌, ◌^◌, ◌≤◌, ◌<◌, ◌≡◌, ◌==◌, ◌&&◌, Bool, true, false, List, [], ◌∷◌, ◌++◌, refl, arith, length, take, drop, get_or, set, codes, map, nat_le, Option, Some, None, IfSome, IfOk, Result, Ok, Err, ℤ, pos, negsuc, neg_ℤ, if◌then◌else◌}
+use Rattle.std.proofs.Common.{ℕ, zero, suc, ◌-◌, ◌^◌, ◌≤◌, ◌≡◌, ◌==◌, ◌&&◌, Bool, true, false, List, [], ◌∷◌, ◌++◌, refl, arith, length, take, drop, get_or, set, codes, map, nat_le, Option, Some, None, IfSome, IfOk, Result, Ok, Err, ℤ, pos, negsuc, neg_ℤ, if◌then◌else◌}
 use Rattle.std.proofs.lemmas.Bool.Decides.{nat_tests}
 use Rattle.std.proofs.lemmas.Str.{IsUtf8-nil, is_utf8-from_IsUtf8}
 use Rattle.std.specs.Cmp.Lexicographic.{pointwise}
