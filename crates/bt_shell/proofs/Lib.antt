@@ -1,6 +1,5 @@
 pub mod Drawings
 pub mod Lines
-pub mod Shown
 pub mod Sound
 pub mod Turns
 pub mod WorkedRows

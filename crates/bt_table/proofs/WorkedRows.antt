@@ -1,5 +1,5 @@
 -- Worked calls, computed by the definitions themselves. Serves as a test of the definitions.
-use Rattle.std.proofs.Common.{ℕ, List, [], ◌∷◌, ◌≡◌, refl, codes}
+use Rattle.std.proofs.Common.{List, [], ◌∷◌, ◌≡◌, refl, codes}
 use Rattle.std.specs.Prelude.{Result, Ok, Err, Some, None, pos}
 use Rattle.bt_rowtype.specs.Schemas.{Schema}
 use Rattle.bt_rowtype.specs.declared.refusal.Refusal.{Refusal}

@@ -15,6 +15,7 @@ use Rattle.bt_script.specs.declared.command.Item.{Item}
 use Rattle.bt_script.specs.declared.command.Item.TheVariants.{Put, Del, Ups}
 use Rattle.bt_table.specs.Tables.{RowMessage, RowMessages}
 
+-- what is made of a value, where it could be read
 abbrev pub made : {A B : Type 0} → (A → B) → Result A Refusal → Result B Refusal
 made make (Ok value) = Ok (make value)
 made make (Err refusal) = Err refusal
@@ -50,6 +51,7 @@ read_batch schema item (line ∷ lines) = read_message schema item line ∷ read
 abbrev pub messages_of : Schema → List Item → RowMessages
 messages_of schema items = filter_map result_ok (read_batch schema 1 items)
 
+-- a refusal, where it applies
 abbrev pub one_if : Bool → Refusal → List Refusal
 one_if applies refusal = if applies then refusal ∷ [] else []
 

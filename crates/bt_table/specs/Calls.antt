@@ -24,6 +24,7 @@ pub data Call : Type 0 where
   -- for the row of the key that fields spell
   Get : (fields : List (List ℕ)) → Call
 
+-- a value, or the refusal where there is one
 abbrev pub unless_by : {A : Type 0} → Option Refusal → A → Result A Refusal
 unless_by (Some refusal) value = Err refusal
 unless_by None value = Ok value

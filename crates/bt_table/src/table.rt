@@ -1,7 +1,7 @@
 //! Tables and their calls.
 ghost use Rattle.std.specs.Prelude.{◌≡◌, Err, IfErr, IfOk, IsErrOf};
 ghost use Rattle.bt_table.specs.Calls.{Apply, Get, IsRefused, IsStep, Shows, StaysOrIsLost, is_primary, table_named};
-ghost use Rattle.bt_table.specs.Tables.{Intact, empty_table};
+ghost use Rattle.bt_table.specs.Tables.{Intact, Lost, empty_table};
 
 use crate::batch::read_messages;
 use crate::reply::Reply;
@@ -62,12 +62,13 @@ impl Table {
         }
     }
 
-    /// Applies the messages of a batch in order, and answers their number. The least refusal that applies is answered, after
-    /// `Failed`.
+    /// Applies the messages of a batch in order, and answers their number. A lost table answers `Failed`; else the least refusal that
+    /// applies is answered, and the table is as it was. After `OutOfMemory` it is as it was, or lost.
     pub fn apply(&mut self, alloc: Global, items: &[Item<'_>]) -> Result<Reply, Refusal>
         ensures done { IfOk result (IsStep self.old self.new (Apply items.now)) }
         ensures refused { IfErr result (IsRefused self.old self.new (Apply items.now)) }
         ensures memory { IsErrOf result Refusal.OutOfMemory → StaysOrIsLost self.old self.new }
+        ensures failed { self.old ≡ Lost → IsErrOf result Refusal.Failed }
     {
         if self.tree.is_none() {
             return Err(Refusal::Failed);
@@ -85,6 +86,7 @@ impl Table {
     pub fn get(&self, alloc: Global, fields: &RecordLine<'_>) -> Result<Reply, Refusal>
         ensures done { IfOk result (IsStep self.now self.now (Get fields.now)) }
         ensures refused { IfErr result (IsRefused self.now self.now (Get fields.now)) }
+        ensures failed { self.now ≡ Lost → IsErrOf result Refusal.Failed }
     {
         let Some(tree) = &self.tree else {
             return Err(Refusal::Failed);
