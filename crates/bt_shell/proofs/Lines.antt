@@ -1,5 +1,5 @@
 -- Lines of rows, written one after the other.
-use Rattle.std.proofs.Common.{◌≡◌, ◌+◌, ◌≤◌, ℕ, suc, List, [], ◌∷◌, ◌++◌, append_assoc, append-nil, fold, length, length-append, map, refl, sym, ap, ◌∙◌, arith}
+use Rattle.std.proofs.Common.{◌≡◌, ◌+◌, ◌≤◌, ℕ, List, [], ◌∷◌, ◌++◌, append_assoc, append-nil, fold, length, map, refl, sym, ap, ◌∙◌, arith}
 use Rattle.std.specs.Prelude.{codes, flat_map}
 use Rattle.std.specs.declared.option.Option.TheVariants.{None}
 use Rattle.bt_node.specs.Messages.{Rows, between}
