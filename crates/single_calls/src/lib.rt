@@ -7,8 +7,6 @@
 #[cfg(test)]
 mod codes;
 #[cfg(test)]
-mod indexes;
-#[cfg(test)]
 mod jobs;
 #[cfg(test)]
 mod messages;
