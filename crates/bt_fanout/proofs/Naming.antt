@@ -22,7 +22,7 @@ use Rattle.bt_keycode.specs.Codes.{kind_of}
 use Rattle.bt_fanout.specs.Definitions.{chosen, condition_at, condition_in, kinds_of, most_included, most_on, places_of}
 use Rattle.bt_fanout.specs.Entries.{HasKind, HasPlace, SuitsKinds}
 use Rattle.bt_fanout.specs.declared.definition.Condition.{Condition}
-use Rattle.bt_fanout.specs.declared.definition.Filter.{Filter}
+use Rattle.bt_rowtype.specs.declared.filter.Filter.{Filter}
 use Rattle.bt_fanout.proofs.offered.Suiting.{all_more, all_none}
 
 -- ---- places one by one

@@ -10,7 +10,7 @@ use Rattle.bt_rowtype.specs.declared.schema.Column.{Column}
 use Rattle.bt_rowtype.specs.declared.value.Kind.{Kind}
 use Rattle.bt_fanout.specs.Entries.{Definition}
 use Rattle.bt_fanout.specs.declared.definition.Condition.{Condition}
-use Rattle.bt_fanout.specs.declared.definition.Filter.{Filter}
+use Rattle.bt_rowtype.specs.declared.filter.Filter.{Filter}
 
 -- columns that an index is ordered by
 abbrev pub most_on : ℕ

@@ -13,8 +13,8 @@ use Rattle.bt_rowtype.specs.declared.value.Value.TheVariants as value
 use Rattle.bt_keycode.specs.Codes.{code_of, kind_of}
 use Rattle.bt_keycode.specs.Keys.{Key}
 use Rattle.bt_fanout.specs.declared.definition.Condition.{Condition}
-use Rattle.bt_fanout.specs.declared.definition.Test.{Test}
-use Rattle.bt_fanout.specs.declared.definition.Test.TheVariants as test
+use Rattle.bt_rowtype.specs.declared.filter.Test.{Test}
+use Rattle.bt_rowtype.specs.declared.filter.Test.TheVariants as test
 
 -- what a contract sees of a definition of an index: the places of the columns that it is ordered by and of those that it includes, the condition on its
 -- rows, if it has one, and how many columns are the key of the table

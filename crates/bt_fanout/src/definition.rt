@@ -6,7 +6,7 @@ ghost use Rattle.bt_fanout.specs.Definitions.{definition_as, kinds_of};
 ghost use Rattle.bt_fanout.specs.Entries.{SuitsKinds};
 
 use crate::reading::read_parts;
-use bt_rowtype::{Bytes, Refusal, Schema, Sequence, Text, Texts, Value};
+use bt_rowtype::{Filter, Refusal, Schema, Sequence, Test, Texts, Value};
 use std::alloc::Global;
 use std::marker::Model;
 
@@ -15,24 +15,6 @@ pub const MOST_ON: usize = 4;
 
 /// The most columns that an index includes.
 pub const MOST_INCLUDED: usize = 8;
-
-/// How the value of a column is compared with a constant.
-#[derive(Clone, Copy, Debug, PartialEq, Eq)]
-pub enum Test {
-    Equal,
-    Less,
-    AtLeast,
-}
-
-/// Which rows an index is asked to have: those whose value in a column passes the test against a constant.
-#[derive(Debug, Drop)]
-pub struct Filter {
-    /// The name of the column.
-    pub column: Text,
-    pub test: Test,
-    /// The bytes of a field, which spells a value of the column.
-    pub constant: Bytes,
-}
 
 /// Which rows an index has: those whose value at a place, counted from 0, passes the test against a constant.
 #[derive(Debug, Drop)]

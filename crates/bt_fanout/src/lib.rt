@@ -29,7 +29,7 @@ mod selecting;
 
 pub use building::{build_packet, cover_after};
 pub use cover::{Cover, covers};
-pub use definition::{Condition, Filter, IndexDef, MOST_INCLUDED, MOST_ON, Test};
+pub use definition::{Condition, IndexDef, MOST_INCLUDED, MOST_ON};
 pub use effect::Effect;
 pub use lookup::effects;
 pub use packet::index_packet;

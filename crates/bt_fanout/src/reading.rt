@@ -8,8 +8,8 @@ ghost use Rattle.bt_rowtype.specs.Refusals.{lesser};
 ghost use Rattle.bt_rowtype.specs.Values.{or_refused};
 ghost use Rattle.bt_fanout.specs.Definitions as spec;
 
-use crate::definition::{Condition, Filter, MOST_INCLUDED, MOST_ON};
-use bt_rowtype::{Column, Kind, Refusal, Sequence, read_field};
+use crate::definition::{Condition, MOST_INCLUDED, MOST_ON};
+use bt_rowtype::{Column, Filter, Kind, Refusal, Sequence, read_field};
 use std::alloc::Global;
 
 // The first column with this name: its place and its kind.

@@ -6,7 +6,7 @@ ghost use Rattle.bt_rowtype.specs.Views.{shown};
 ghost use Rattle.bt_keycode.specs.Codes.{code_of};
 ghost use Rattle.bt_fanout.specs.Entries.{HasPlace, IsWithin, entry_of, key_of, meets, passes, picked};
 
-use crate::definition::{Condition, IndexDef, Test};
+use crate::definition::{Condition, IndexDef};
 use bt_keycode::{Key, encode_row};
 use bt_messages::Entry;
 use bt_rowtype::{Row, ValueRef};

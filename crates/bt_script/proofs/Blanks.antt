@@ -6,7 +6,7 @@ use Rattle.std.specs.List.{prefix_len}
 use Rattle.bt_script.specs.Blocks.{and_line, with_last}
 use Rattle.bt_script.specs.Commands.{item_from}
 use Rattle.bt_script.specs.Lines.{is_blank, without_spaces}
-use Rattle.bt_script.specs.declared.command.Item.{Item}
+use Rattle.bt_rowtype.specs.declared.item.Item.{Item}
 use Rattle.bt_script.proofs.Cuts.{one_plus}
 
 blank_is_none : (line : List ℕ) → is_blank line ≡ (length (without_spaces line) == 0)

@@ -3,7 +3,7 @@ use Rattle.std.specs.Prelude.{ℕ, ◌<◌, ◌≡◌, Bool, true, false, List, 
 use Rattle.bt_script.specs.Commands.{Answer, Finds, Inside, NextPast, closing_of, command_of, commands, commands_from, item_from, opened, or_syntax, unfinished}
 use Rattle.bt_script.specs.Lines.{is_blank, lines, without_spaces, words}
 use Rattle.bt_script.specs.declared.command.Command.{Command}
-use Rattle.bt_script.specs.declared.command.Item.{Item}
+use Rattle.bt_rowtype.specs.declared.item.Item.{Item}
 use Rattle.bt_script.specs.declared.command.Parsed.{Parsed}
 
 -- some messages and one more, where all are there

@@ -1,18 +1,21 @@
 -- The commands of a script.
-use Rattle.std.specs.Prelude.{ℕ, ◌≡◌, ◌==◌, ◌&&◌, ◌<◌, ◌≤◌, not, Bool, List, [], ◌∷◌, ◌++◌, length, map, filter, take, drop, get_or, nat_le, Option, Some, None, Result, Ok, Err, if◌then◌else◌, codes, option_and_then, option_map, is_some, ⊤}
+use Rattle.std.specs.Prelude.{ℕ, ◌≡◌, ◌==◌, ◌&&◌, ◌<◌, ◌≤◌, ◌+◌, not, Bool, List, [], ◌∷◌, ◌++◌, length, map, filter, take, drop, get_or, nat_le, Option, Some, None, Result, Ok, Err, if◌then◌else◌, codes, option_and_then, option_map, is_some, ⊤}
 use Rattle.std.specs.List.{list_all, slice_split}
 use Rattle.std.specs.Cmp.Lexicographic.{pointwise}
 use Rattle.bt_rowtype.specs.Records.{record_of}
+use Rattle.bt_rowtype.specs.declared.filter.Filter.{Filter}
+use Rattle.bt_rowtype.specs.declared.filter.Test.{Test}
+use Rattle.bt_rowtype.specs.declared.filter.Test.TheVariants as test
 use Rattle.bt_rowtype.specs.declared.refusal.Refusal.{Refusal}
 use Rattle.bt_rowtype.specs.declared.refusal.Refusal.TheVariants.{Syntax, Unfinished}
 use Rattle.bt_rowtype.specs.declared.schema.Column.{Column}
 use Rattle.bt_rowtype.specs.declared.value.Kind.{Kind}
 use Rattle.bt_rowtype.specs.declared.value.Kind.TheVariants as kind
-use Rattle.bt_script.specs.Lines.{is_blank, is_name, lines, number_of, without_return, without_spaces, words}
+use Rattle.bt_script.specs.Lines.{behind_words, is_blank, is_name, lines, name_of, number_of, without_return, without_spaces, words}
 use Rattle.bt_script.specs.declared.command.Command.{Command}
-use Rattle.bt_script.specs.declared.command.Command.TheVariants.{Batch, Get, Image, Scan, Table}
-use Rattle.bt_script.specs.declared.command.Item.{Item}
-use Rattle.bt_script.specs.declared.command.Item.TheVariants.{Put, Del, Ups}
+use Rattle.bt_script.specs.declared.command.Command.TheVariants.{Batch, Drop, Get, Image, Index, Scan, Table}
+use Rattle.bt_rowtype.specs.declared.item.Item.{Item}
+use Rattle.bt_rowtype.specs.declared.item.Item.TheVariants.{Put, Del, Ups}
 use Rattle.bt_script.specs.declared.command.Parsed.{Parsed}
 use Rattle.bt_script.specs.declared.command.Parsed.TheVariants.{End, Bad, Good}
 
@@ -96,6 +99,65 @@ get_of head = option_map Get (record_behind (codes "get ") (without_spaces head)
 abbrev pub image_of : List (List ℕ) → Option Command
 image_of ws = if (length ws == 2) && is_name (word_at ws 1) then Some (Image (word_at ws 1)) else None
 
+-- drop and the name of an index
+abbrev pub drop_of : List (List ℕ) → Option Command
+drop_of ws = if (length ws == 2) && is_name (word_at ws 1) then Some (Drop (word_at ws 1)) else None
+
+-- the names that commas join
+unfoldable pub names_of : List ℕ → Option (List (List ℕ))
+names_of word = all_some (map name_of (slice_split (λ b. b == 44) word))
+
+-- how a test is spelled
+abbrev pub test_of : List ℕ → Option Test
+test_of word =
+    if is_word word (codes "=") then Some test.Equal
+    else (if is_word word (codes "<") then Some test.Less else (if is_word word (codes ">=") then Some test.AtLeast else None))
+
+-- the field of a record that has no other one
+abbrev pub only_field : List (List ℕ) → Option (List ℕ)
+only_field [] = None
+only_field (field ∷ []) = Some field
+only_field (field ∷ other ∷ fields) = None
+
+-- the constant of a filter: one space and a record of one field
+abbrev pub constant_of : List ℕ → Option (List ℕ)
+constant_of rest = option_and_then only_field (record_behind (codes " ") rest)
+
+-- the filter behind the word at a place: a column, a test and a constant
+unfoldable pub filter_of : List ℕ → List (List ℕ) → ℕ → Option Filter
+filter_of head ws at =
+    option_and_then (λ column. option_and_then (λ t. option_map (λ constant. record { column = column; test = t; constant = constant })
+    (constant_of (behind_words (at + 3) head))) (test_of (word_at ws (at + 2)))) (name_of (word_at ws (at + 1)))
+
+-- the filter of an index, which begins with the word at a place: none, where the line ends before it
+abbrev pub filter_from : List ℕ → List (List ℕ) → ℕ → Option (Option Filter)
+filter_from head ws at =
+    if length ws == at then Some None
+    else (if is_word (word_at ws at) (codes "where") then option_map Some (filter_of head ws at) else None)
+
+-- whether columns to include are named
+abbrev pub includes : List (List ℕ) → Bool
+includes ws = is_word (word_at ws 4) (codes "include")
+
+-- the names of the columns to include
+abbrev pub included_of : List (List ℕ) → Option (List (List ℕ))
+included_of ws = if includes ws then names_of (word_at ws 5) else Some []
+
+-- the filter of an index, which stands behind the columns
+abbrev pub condition_of : List ℕ → List (List ℕ) → Option (Option Filter)
+condition_of head ws = filter_from head ws (if includes ws then 6 else 4)
+
+abbrev pub index_from : List ℕ → List (List ℕ) → List (List ℕ) → Option Filter → Command
+index_from name on include filter = Index (record { name = name; on = on; include = include; filter = filter })
+
+-- index, its name, `on` and the names of columns, the columns to include and the filter, as far as they are there
+unfoldable pub index_of : List ℕ → List (List ℕ) → Option Command
+index_of head ws =
+    if is_word (word_at ws 2) (codes "on") then
+    option_and_then (λ name. option_and_then (λ on. option_and_then (λ include. option_map (index_from name on include)
+    (condition_of head ws)) (included_of ws)) (names_of (word_at ws 3))) (name_of (word_at ws 1))
+    else None
+
 -- whether the first of the words is this one
 abbrev pub begins : List (List ℕ) → List ℕ → Bool
 begins ws word = is_word (word_at ws 0) word
@@ -111,7 +173,9 @@ command_from head ws block =
     else (if begins ws (codes "scan") then scan_of ws (list_all is_blank_line block)
     else (if begins ws (codes "table") then table_of ws
     else (if begins ws (codes "get") then get_of head
-    else (if begins ws (codes "image") then image_of ws else None))))
+    else (if begins ws (codes "image") then image_of ws
+    else (if begins ws (codes "index") then index_of head ws
+    else (if begins ws (codes "drop") then drop_of ws else None))))))
 
 -- the command of its head line and the lines of its block, if it is one
 unfoldable pub command_of : List ℕ → List (List ℕ) → Option Command

@@ -1,5 +1,5 @@
 -- The lines of a script, the words of a line, and what a word spells.
-use Rattle.std.specs.Prelude.{ℕ, ◌==◌, ◌&&◌, ◌||◌, ◌-◌, not, Bool, List, [], ◌∷◌, length, take, drop, get_or, filter, Option, Some, None, if◌then◌else◌, nat_le}
+use Rattle.std.specs.Prelude.{ℕ, ◌==◌, ◌&&◌, ◌||◌, ◌-◌, not, Bool, List, [], ◌∷◌, length, take, drop, get_or, filter, Option, Some, None, if◌then◌else◌, map, nat_le, zero, suc}
 use Rattle.std.specs.List.{list_all, onto_first, slice_split, take_while}
 use Rattle.bt_rowtype.specs.Ints.{is_digit, number_written}
 
@@ -39,3 +39,15 @@ is_name_byte b = is_letter b || is_digit b || (b == 95)
 -- a name: 1 to 32 such bytes, the first one a letter
 abbrev pub is_name : List ℕ → Bool
 is_name word = nat_le 1 (length word) && nat_le (length word) 32 && is_letter (get_or word 0 0) && list_all is_name_byte word
+
+-- the name that a word is
+abbrev pub name_of : List ℕ → Option (List ℕ)
+name_of word = if is_name word then Some word else None
+
+-- what stands in a line behind its first word, and behind so many of its words
+abbrev pub behind_word : List ℕ → List ℕ
+behind_word line = drop (length (take_while (λ b. not (b == 32)) (without_spaces line))) (without_spaces line)
+
+abbrev pub behind_words : ℕ → List ℕ → List ℕ
+behind_words zero line = line
+behind_words (suc count) line = behind_words count (behind_word line)

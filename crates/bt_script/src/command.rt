@@ -1,16 +1,5 @@
 //! Commands, and what stands at a place of a script.
-use bt_rowtype::{Columns, RecordLine, Refusal, Sequence, Text};
-
-/// A message of a batch. Its record lies in the script, and is cut when it is read.
-#[derive(Drop)]
-pub enum Item<'a> {
-    /// The fields of a row, one for each column.
-    Put(RecordLine<'a>),
-    /// The fields of a key, one for each key column.
-    Del(RecordLine<'a>),
-    /// The fields of a key, and three for each operation.
-    Ups(RecordLine<'a>),
-}
+use bt_rowtype::{Columns, Filter, Item, RecordLine, Refusal, Sequence, Text, Texts};
 
 /// The messages of a batch, in order.
 pub type Items<'a> = Sequence<Item<'a>>;
@@ -29,6 +18,18 @@ pub struct TableForm {
     pub columns: Columns,
 }
 
+/// What an index is made of.
+#[derive(Drop)]
+pub struct IndexForm {
+    pub name: Text,
+    /// The names of the columns that it is ordered by.
+    pub on: Texts,
+    /// The names of the columns that it includes.
+    pub include: Texts,
+    /// Which rows it is asked to have: all, where there is no filter.
+    pub filter: Option<Filter>,
+}
+
 /// A command.
 #[derive(Drop)]
 pub enum Command<'a> {
@@ -42,6 +43,10 @@ pub enum Command<'a> {
     Scan(Text),
     /// `image TREE`: the nodes of a tree.
     Image(Text),
+    /// `index NAME on LIST ..`: a new index.
+    Index(IndexForm),
+    /// `drop NAME`: an index no more.
+    Drop(Text),
 }
 
 /// What stands at a place of a script.

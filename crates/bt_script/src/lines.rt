@@ -1,10 +1,11 @@
 //! Lines, words, numbers and names.
-ghost use Rattle.std.specs.Prelude.{◌≡◌, ◌==◌, ◌∷◌, ◌<◌, ◌≤◌, Bool, IfOk, drop, if◌then◌else◌, length, map, not, true, Some, None};
+ghost use Rattle.std.specs.Prelude.{◌≡◌, ◌==◌, ◌∷◌, ◌<◌, ◌≤◌, Bool, IfOk, IfSome, drop, length, map, not, option_map, true};
 ghost use Rattle.std.specs.List.{list_all, slice_split, take_while};
 ghost use Rattle.bt_rowtype.specs.Ints.{is_digit, number_written};
+ghost use Rattle.bt_script.specs.Commands.{names_of};
 ghost use Rattle.bt_script.specs.Lines as text;
 
-use bt_rowtype::Text;
+use bt_rowtype::{Text, Texts};
 use memchr::memchr;
 use std::alloc::{AllocError, Global};
 use std::str;
@@ -74,11 +75,30 @@ pub fn words(alloc: Global, line: &[u8]) -> Result<Vec<&[u8]>, AllocError>
         .collect(alloc)
 }
 
-/// What stands between the colons of a word.
-pub fn colon_parts(alloc: Global, word: &[u8]) -> Result<Vec<&[u8]>, AllocError>
-    ensures { IfOk result (λ parts. map (λ p. p.now) parts.items ≡ slice_split (λ b. b == 58) word.now) }
+/// What stands in a word between bytes that separate.
+pub fn parts(alloc: Global, word: &[u8], separator: u8) -> Result<Vec<&[u8]>, AllocError>
+    ensures { IfOk result (λ parts. map (λ p. p.now) parts.items ≡ slice_split (λ b. b == separator) word.now) }
 {
-    word.split(|byte| *byte == b':').collect(alloc)
+    word.split(|byte| *byte == separator).collect(alloc)
+}
+
+// What stands behind the first word of a line.
+fn behind_word(line: &[u8]) -> &[u8]
+    ensures { result.now ≡ text.behind_word line.now }
+{
+    let line = without_spaces(line);
+    let len = line.iter().take_while(|byte| **byte != b' ').count();
+    &line[len..]
+}
+
+/// What stands behind so many words of a line.
+pub fn behind_words(line: &[u8], count: usize) -> &[u8]
+    ensures { result.now ≡ text.behind_words count line.now }
+{
+    if count == 0 {
+        return line;
+    }
+    behind_words(behind_word(line), count - 1)
 }
 
 fn has_digits(word: &[u8]) -> bool
@@ -130,15 +150,37 @@ fn is_name(word: &[u8]) -> bool
     b'a' <= word[0] && word[0] <= b'z' && has_name_bytes(word)
 }
 
-/// The name that a word is: 1 to 32 letters, digits and `_`, the first one a letter.
-pub fn parse_name(alloc: Global, word: &[u8]) -> Result<Option<Text>, AllocError>
-    ensures { IfOk result (λ name. name ≡ (if text.is_name word.now then Some word.now else None)) }
+// The name that a word is.
+fn name_text(word: &[u8]) -> Option<&str>
+    ensures name { option_map (λ n. n.now) result ≡ text.name_of word.now }
+    ensures short { IfSome result (λ n. length n.now ≤ 32) }
 {
     if !is_name(word) {
-        return Ok(None);
+        return None;
     }
-    match str::from_utf8(word) {
-        Ok(name) => Ok(Some(Text::new(alloc, name)?)),
-        Err(_) => Ok(None),
+    str::from_utf8(word).ok()
+}
+
+/// The name that a word is: 1 to 32 letters, digits and `_`, the first one a letter.
+pub fn parse_name(alloc: Global, word: &[u8]) -> Result<Option<Text>, AllocError>
+    ensures { IfOk result (λ name. name ≡ text.name_of word.now) }
+{
+    match name_text(word) {
+        Some(name) => Ok(Some(Text::new(alloc, name)?)),
+        None => Ok(None),
     }
+}
+
+/// The names that commas join.
+pub fn parse_names(alloc: Global, word: &[u8]) -> Result<Option<Texts>, AllocError>
+    ensures { IfOk result (λ names. names ≡ names_of word.now) }
+{
+    let mut names = Texts::new(alloc);
+    for part in parts(alloc, word, b',')? {
+        let Some(name) = name_text(part) else {
+            return Ok(None);
+        };
+        names.push(name)?;
+    }
+    Ok(Some(names))
 }

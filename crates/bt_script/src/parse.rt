@@ -5,12 +5,12 @@ ghost use Rattle.bt_script.specs.Blocks.{FindsHeaded, IsBlock, NextBehind, and_l
 ghost use Rattle.bt_script.specs.Commands as spec;
 ghost use Rattle.bt_script.specs.Lines as text;
 
-use crate::command::{Command, Item, Items, Parsed, TableForm};
+use crate::command::{Command, IndexForm, Items, Parsed, TableForm};
 use crate::lines::{
-    colon_parts, is_blank, next_line, parse_name, parse_number, without_return, without_spaces,
-    words,
+    behind_words, is_blank, next_line, parse_name, parse_names, parse_number, parts, without_return,
+    without_spaces, words,
 };
-use bt_rowtype::{Column, Columns, Kind, RecordLine, Refusal};
+use bt_rowtype::{Bytes, Column, Columns, Filter, Item, Kind, RecordLine, Refusal, Test, Texts};
 use std::alloc::{AllocError, Global};
 
 fn is_word(text: &[u8], word: &[u8]) -> bool
@@ -174,7 +174,7 @@ fn parse_kind(word: &[u8]) -> Option<Kind>
 fn parse_column(alloc: Global, word: &[u8]) -> Result<Option<Column>, AllocError>
     ensures { IfOk result (λ column. column ≡ spec.column_of word.now) }
 {
-    let parts = colon_parts(alloc, word)?;
+    let parts = parts(alloc, word, b':')?;
     if parts.len() != 2 {
         return Ok(None);
     }
@@ -275,6 +275,155 @@ fn image_command<'a>(alloc: Global, words: &[&[u8]]) -> Result<Option<Command<'a
     }
 }
 
+fn drop_command<'a>(alloc: Global, words: &[&[u8]]) -> Result<Option<Command<'a>>, AllocError>
+    ensures { IfOk result (λ command. command ≡ spec.drop_of (map (λ w. w.now) words.now)) }
+{
+    if words.len() != 2 {
+        return Ok(None);
+    }
+    match parse_name(alloc, word_at(words, 1))? {
+        Some(name) => Ok(Some(Command::Drop(name))),
+        None => Ok(None),
+    }
+}
+
+fn parse_test(word: &[u8]) -> Option<Test>
+    ensures { result ≡ spec.test_of word.now }
+{
+    if is_word(word, b"=") {
+        return Some(Test::Equal);
+    }
+    if is_word(word, b"<") {
+        return Some(Test::Less);
+    }
+    if is_word(word, b">=") {
+        return Some(Test::AtLeast);
+    }
+    None
+}
+
+// The constant of a filter: one space, and a record of one field.
+fn parse_constant(alloc: Global, rest: &[u8]) -> Result<Option<Bytes>, AllocError>
+    ensures { IfOk result (λ constant. constant ≡ spec.constant_of rest.now) }
+{
+    let Some(record) = record_behind(b" ", rest) else {
+        return Ok(None);
+    };
+    let fields = record.fields(alloc)?;
+    if fields.len() != 1 {
+        return Ok(None);
+    }
+    Ok(Some(Bytes::from_slice(alloc, fields.get(0))?))
+}
+
+// The filter behind the word at a place.
+#[tactic(auto, unfolding(crate::specs::Commands::filter_of))]
+fn parse_filter(
+    alloc: Global,
+    head: &[u8],
+    words: &[&[u8]],
+    at: usize,
+) -> Result<Option<Filter>, AllocError>
+    requires { at ≤ 6 }
+    ensures { IfOk result (λ filter. filter ≡ spec.filter_of head.now (map (λ w. w.now) words.now) at) }
+{
+    let Some(column) = parse_name(alloc, word_at(words, at + 1))? else {
+        return Ok(None);
+    };
+    let Some(test) = parse_test(word_at(words, at + 2)) else {
+        return Ok(None);
+    };
+    match parse_constant(alloc, behind_words(head, at + 3))? {
+        Some(constant) => Ok(Some(Filter {
+            column,
+            test,
+            constant,
+        })),
+        None => Ok(None),
+    }
+}
+
+// The filter that begins with the word at a place; none, where the line ends before it.
+fn parse_filter_from(
+    alloc: Global,
+    head: &[u8],
+    words: &[&[u8]],
+    at: usize,
+) -> Result<Option<Option<Filter>>, AllocError>
+    requires { at ≤ 6 }
+    ensures { IfOk result (λ filter. filter ≡ spec.filter_from head.now (map (λ w. w.now) words.now) at) }
+{
+    if words.len() == at {
+        return Ok(Some(None));
+    }
+    if !is_word(word_at(words, at), b"where") {
+        return Ok(None);
+    }
+    match parse_filter(alloc, head, words, at)? {
+        Some(filter) => Ok(Some(Some(filter))),
+        None => Ok(None),
+    }
+}
+
+fn includes(words: &[&[u8]]) -> bool
+    ensures { result ≡ spec.includes (map (λ w. w.now) words.now) }
+{
+    is_word(word_at(words, 4), b"include")
+}
+
+// The names of the columns to include.
+fn parse_included(alloc: Global, words: &[&[u8]]) -> Result<Option<Texts>, AllocError>
+    ensures { IfOk result (λ names. names ≡ spec.included_of (map (λ w. w.now) words.now)) }
+{
+    if !includes(words) {
+        return Ok(Some(Texts::new(alloc)));
+    }
+    parse_names(alloc, word_at(words, 5))
+}
+
+// The filter behind the columns.
+fn parse_condition(
+    alloc: Global,
+    head: &[u8],
+    words: &[&[u8]],
+) -> Result<Option<Option<Filter>>, AllocError>
+    ensures { IfOk result (λ filter. filter ≡ spec.condition_of head.now (map (λ w. w.now) words.now)) }
+{
+    let at = if includes(words) { 6 } else { 4 };
+    parse_filter_from(alloc, head, words, at)
+}
+
+#[tactic(auto, unfolding(crate::specs::Commands::index_of))]
+fn index_command<'a>(
+    alloc: Global,
+    head: &[u8],
+    words: &[&[u8]],
+) -> Result<Option<Command<'a>>, AllocError>
+    ensures { IfOk result (λ command. command ≡ spec.index_of head.now (map (λ w. w.now) words.now)) }
+{
+    if !is_word(word_at(words, 2), b"on") {
+        return Ok(None);
+    }
+    let Some(name) = parse_name(alloc, word_at(words, 1))? else {
+        return Ok(None);
+    };
+    let Some(on) = parse_names(alloc, word_at(words, 3))? else {
+        return Ok(None);
+    };
+    let Some(include) = parse_included(alloc, words)? else {
+        return Ok(None);
+    };
+    match parse_condition(alloc, head, words)? {
+        Some(filter) => Ok(Some(Command::Index(IndexForm {
+            name,
+            on,
+            include,
+            filter,
+        }))),
+        None => Ok(None),
+    }
+}
+
 fn parsed<'a>(command: Option<Command<'a>>, closed: bool, next: usize) -> Parsed<'a>
     ensures found { (script : List ℕ) → spec.Finds result script (ended closed command.entry ∷ spec.commands (drop next script)) }
     ensures past { (at : ℕ) (script : List ℕ) → at < next → next ≤ length script → spec.NextPast result at script }
@@ -356,6 +505,12 @@ fn line_command<'a>(
     }
     if begins(words, b"image") {
         return image_command(alloc, words);
+    }
+    if begins(words, b"index") {
+        return index_command(alloc, head, words);
+    }
+    if begins(words, b"drop") {
+        return drop_command(alloc, words);
     }
     Ok(None)
 }

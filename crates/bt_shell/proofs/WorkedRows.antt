@@ -14,7 +14,7 @@ use Rattle.bt_keycode.specs.Prefixes.{eight_bytes}
 use Rattle.bt_shell.specs.Images.{message_line}
 use Rattle.bt_shell.specs.Runs.{replies, run}
 use Rattle.bt_table.specs.Batches.{read_message}
-use Rattle.bt_script.specs.declared.command.Item.TheVariants as line
+use Rattle.bt_rowtype.specs.declared.item.Item.TheVariants as line
 
 -- a line of a batch that changes the row of a key
 pub ups_line : item_of (codes "ups 1,add,qty,5") ≡ Some (line.Ups (codes "1" ∷ codes "add" ∷ codes "qty" ∷ codes "5" ∷ []))

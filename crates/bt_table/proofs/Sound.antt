@@ -13,8 +13,8 @@ use Rattle.bt_rowtype.specs.Packing.{AreInRange}
 use Rattle.bt_keycode.specs.Codes.{code_of}
 use Rattle.bt_keycode.proofs.offered.Ranges.{OpsInRange, after_ops_in_range, default_row_in_range, read_in_range, upsert_in_range}
 use Rattle.bt_node.specs.Messages.{rows_after}
-use Rattle.bt_script.specs.declared.command.Item.{Item}
-use Rattle.bt_script.specs.declared.command.Item.TheVariants.{Put, Del, Ups}
+use Rattle.bt_rowtype.specs.declared.item.Item.{Item}
+use Rattle.bt_rowtype.specs.declared.item.Item.TheVariants.{Put, Del, Ups}
 use Rattle.bt_table.specs.Batches.{del_of, made, messages_of, put_of, read_batch, read_key, read_message, ups_of}
 use Rattle.bt_table.specs.Standing.{AreOfSchema, IsOfSchema, IsSoundTable, Stands}
 use Rattle.bt_table.specs.Tables.{PlainTable, RowMessage, RowMessages, after_batch, row_effect}

@@ -7,7 +7,7 @@ use Rattle.bt_rowtype.specs.declared.refusal.Refusal.TheVariants.{NoSuchTree}
 use Rattle.bt_node.specs.Flushes.{holds, sunk}
 use Rattle.bt_node.specs.Trees.{Shape}
 use Rattle.bt_node.proofs.offered.ShapedTrees.{holds-sorted}
-use Rattle.bt_script.specs.declared.command.Item.{Item}
+use Rattle.bt_rowtype.specs.declared.item.Item.{Item}
 use Rattle.bt_table.specs.Batches.{batch_refusals, messages_of}
 use Rattle.bt_table.specs.Calls.{Apply, IsStep, Shows, is_primary, step, table_named, unless_by}
 use Rattle.bt_table.specs.Standing.{IsSoundTable, IsSoundUnlessLost}

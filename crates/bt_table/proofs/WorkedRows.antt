@@ -8,7 +8,7 @@ use Rattle.bt_rowtype.specs.declared.value.Kind.TheVariants as kind
 use Rattle.bt_rowtype.specs.declared.value.Value.TheVariants as value
 use Rattle.bt_rowtype.proofs.offered.OnLiterals.{rowtype_on_literals}
 use Rattle.bt_keycode.specs.Prefixes.{eight_bytes}
-use Rattle.bt_script.specs.declared.command.Item.TheVariants.{Put, Del, Ups}
+use Rattle.bt_rowtype.specs.declared.item.Item.TheVariants.{Put, Del, Ups}
 use Rattle.bt_table.specs.Batches.{made}
 use Rattle.bt_table.specs.Calls.{Call, Apply, Get, step, table_named}
 use Rattle.bt_table.specs.Tables.{TableState, Intact, Lost, empty_table}

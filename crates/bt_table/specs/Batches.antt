@@ -11,8 +11,8 @@ use Rattle.bt_rowtype.specs.declared.refusal.Refusal.TheVariants.{TooMany}
 use Rattle.bt_rowtype.specs.declared.value.Value.{Value}
 use Rattle.bt_keycode.specs.Codes.{code_of}
 use Rattle.bt_messages.specs.declared.message.Message.TheVariants as message
-use Rattle.bt_script.specs.declared.command.Item.{Item}
-use Rattle.bt_script.specs.declared.command.Item.TheVariants.{Put, Del, Ups}
+use Rattle.bt_rowtype.specs.declared.item.Item.{Item}
+use Rattle.bt_rowtype.specs.declared.item.Item.TheVariants.{Put, Del, Ups}
 use Rattle.bt_table.specs.Tables.{RowMessage, RowMessages}
 
 -- what is made of a value, where it could be read

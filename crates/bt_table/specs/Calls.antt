@@ -10,7 +10,7 @@ use Rattle.bt_keycode.specs.Codes.{code_of}
 use Rattle.bt_keycode.specs.Keys.{key_cmp}
 use Rattle.bt_node.specs.Flushes.{holds}
 use Rattle.bt_node.specs.Trees.{Shape}
-use Rattle.bt_script.specs.declared.command.Item.{Item}
+use Rattle.bt_rowtype.specs.declared.item.Item.{Item}
 use Rattle.bt_table.specs.Batches.{batch_refusals, made, messages_of, read_key}
 use Rattle.bt_table.specs.Standing.{KeysRise}
 use Rattle.bt_table.specs.Tables.{PlainTable, RowTree, TableState, Intact, Lost, after_batch, row_effect}

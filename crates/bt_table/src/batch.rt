@@ -6,15 +6,14 @@ ghost use Rattle.bt_rowtype.specs.Answers.{Answers};
 ghost use Rattle.bt_rowtype.specs.Refusals.{least, least_from};
 ghost use Rattle.bt_rowtype.specs.declared.refusal.Refusal.TheVariants.{OutOfMemory};
 ghost use Rattle.bt_table.specs.Batches as spec;
-ghost use Rattle.bt_script.specs.declared.command.Item.TheVariants as line;
+ghost use Rattle.bt_rowtype.specs.declared.item.Item.TheVariants as line;
 
 use bt_keycode::{Key, encode_row};
 use bt_messages::Message;
 use bt_rowtype::{
-    Change, Reading, RecordLine, RecordReader, Refusal, Row, Schema, Upsert, default_row,
+    Change, Item, Reading, RecordLine, RecordReader, Refusal, Row, Schema, Upsert, default_row,
     least_with,
 };
-use bt_script::Item;
 use std::alloc::{AllocError, Global};
 
 /// The most messages of a batch.

@@ -8,8 +8,7 @@ use crate::reply::Reply;
 use bt_keycode::encode_row;
 use bt_messages::Packet;
 use bt_node::{Shape, Tree};
-use bt_rowtype::{RecordLine, RecordReader, Refusal, Row, Schema, Text};
-use bt_script::Item;
+use bt_rowtype::{Item, RecordLine, RecordReader, Refusal, Row, Schema, Text};
 use std::alloc::Global;
 use std::marker::Model;
 

@@ -1,7 +1,7 @@
 use Rattle.std.proofs.Common.{List, Option, Some, None, ◌≡◌, ◌∙◌, sym, ap}
 use Rattle.bt_script.specs.Blocks.{with_last}
 use Rattle.bt_script.specs.Commands.{item_from}
-use Rattle.bt_script.specs.declared.command.Item.{Item}
+use Rattle.bt_rowtype.specs.declared.item.Item.{Item}
 use Rattle.bt_script.proofs.Blanks.{and-blank, and-item}
 use Rattle.bt_script.proofs.parse.and_item.Goals as goal
 

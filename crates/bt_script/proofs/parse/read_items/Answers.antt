@@ -2,7 +2,7 @@ use Rattle.std.proofs.Common.{List, Option, Some, [], ◌∷◌, ◌++◌, ◌�
 use Rattle.bt_script.specs.Blocks.{and_line}
 use Rattle.bt_script.specs.Commands.{items_of}
 use Rattle.bt_script.specs.Lines.{without_return}
-use Rattle.bt_script.specs.declared.command.Item.{Item}
+use Rattle.bt_rowtype.specs.declared.item.Item.{Item}
 use Rattle.bt_script.proofs.Machine.{items-more, leads-closed, leads-cut, leads-more, tested}
 use Rattle.bt_script.proofs.parse.read_items.Goals as goal
 
