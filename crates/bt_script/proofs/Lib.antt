@@ -1,7 +1,9 @@
+pub mod Behind
 pub mod Blanks
-pub mod Columns
 pub mod Cuts
 pub mod Feeds
+pub mod Joined
 pub mod Machine
 pub mod Names
+pub mod WorkedRows
 pub mod offered

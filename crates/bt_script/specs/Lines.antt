@@ -1,5 +1,5 @@
 -- The lines of a script, the words of a line, and what a word spells.
-use Rattle.std.specs.Prelude.{ℕ, ◌==◌, ◌&&◌, ◌||◌, ◌-◌, not, Bool, List, [], ◌∷◌, length, take, drop, get_or, filter, Option, Some, None, if◌then◌else◌, map, nat_le, zero, suc}
+use Rattle.std.specs.Prelude.{ℕ, ◌==◌, ◌&&◌, ◌||◌, ◌-◌, not, Bool, List, [], ◌∷◌, length, take, drop, get_or, filter, Option, Some, None, if◌then◌else◌, nat_le, zero, suc}
 use Rattle.std.specs.List.{list_all, onto_first, slice_split, take_while}
 use Rattle.bt_rowtype.specs.Ints.{is_digit, number_written}
 
@@ -44,10 +44,11 @@ is_name word = nat_le 1 (length word) && nat_le (length word) 32 && is_letter (g
 abbrev pub name_of : List ℕ → Option (List ℕ)
 name_of word = if is_name word then Some word else None
 
--- what stands in a line behind its first word, and behind so many of its words
+-- what stands in a line behind its first word
 abbrev pub behind_word : List ℕ → List ℕ
 behind_word line = drop (length (take_while (λ b. not (b == 32)) (without_spaces line))) (without_spaces line)
 
-abbrev pub behind_words : ℕ → List ℕ → List ℕ
+-- what stands in a line behind so many of its words
+unfoldable pub behind_words : ℕ → List ℕ → List ℕ
 behind_words zero line = line
 behind_words (suc count) line = behind_words count (behind_word line)

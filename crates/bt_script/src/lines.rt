@@ -82,16 +82,23 @@ pub fn parts(alloc: Global, word: &[u8], separator: u8) -> Result<Vec<&[u8]>, Al
     word.split(|byte| *byte == separator).collect(alloc)
 }
 
+// How many bytes stand before the first space, or in all.
+fn word_len(line: &[u8]) -> usize
+    ensures { result ≡ length (take_while (λ b. not (b == 32)) line.now) }
+{
+    line.iter().take_while(|byte| **byte != b' ').count()
+}
+
 // What stands behind the first word of a line.
 fn behind_word(line: &[u8]) -> &[u8]
     ensures { result.now ≡ text.behind_word line.now }
 {
-    let line = without_spaces(line);
-    let len = line.iter().take_while(|byte| **byte != b' ').count();
-    &line[len..]
+    let from_word = without_spaces(line);
+    &from_word[word_len(from_word)..]
 }
 
 /// What stands behind so many words of a line.
+#[tactic(auto, using(crate::proofs::Behind::behind_none, crate::proofs::Behind::behind_more))]
 pub fn behind_words(line: &[u8], count: usize) -> &[u8]
     ensures { result.now ≡ text.behind_words count line.now }
 {
@@ -172,11 +179,13 @@ pub fn parse_name(alloc: Global, word: &[u8]) -> Result<Option<Text>, AllocError
 }
 
 /// The names that commas join.
+#[tactic(auto, unfolding(crate::specs::Commands::names_of))]
 pub fn parse_names(alloc: Global, word: &[u8]) -> Result<Option<Texts>, AllocError>
     ensures { IfOk result (λ names. names ≡ names_of word.now) }
 {
+    let parts = parts(alloc, word, b',')?;
     let mut names = Texts::new(alloc);
-    for part in parts(alloc, word, b',')? {
+    for part in &parts {
         let Some(name) = name_text(part) else {
             return Ok(None);
         };

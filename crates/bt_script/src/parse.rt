@@ -303,6 +303,7 @@ fn parse_test(word: &[u8]) -> Option<Test>
 }
 
 // The constant of a filter: one space, and a record of one field.
+#[tactic(auto, using(crate::proofs::Behind::only_none, crate::proofs::Behind::only_first))]
 fn parse_constant(alloc: Global, rest: &[u8]) -> Result<Option<Bytes>, AllocError>
     ensures { IfOk result (λ constant. constant ≡ spec.constant_of rest.now) }
 {

@@ -1,4 +1,4 @@
--- Going over the words of columns one by one. Serves the reading of a table's columns.
+-- Going over words one by one, each of which must be there. Serves the reading of a table's columns and of a list of names.
 use Rattle.std.proofs.Common.{List, ◌++◌, Option}
 use Rattle.std.specs.Prelude.{option_map}
 

@@ -1,0 +1,30 @@
+-- What stands behind words of a line, and the one field of a record there. Serves the reading of a filter.
+use Rattle.std.proofs.Common.{ℕ, zero, suc, List, [], ◌∷◌, ◌≡◌, ◌≢◌, ◌≤◌, ◌-◌, refl, length, Option, Some, None, arith, ap}
+use Rattle.std.specs.Prelude.{slice_get}
+use Rattle.bt_script.specs.Commands.{only_field}
+use Rattle.bt_script.specs.Lines.{behind_word, behind_words}
+
+-- behind no word stands all of the line
+pub behind_none : (line : List ℕ) → behind_words 0 line ≡ line
+unfolding behind_words
+behind_none line = refl
+
+-- behind some words stands what stands behind all but one of them in what stands behind the first
+pub behind_more : (count : ℕ) (line : List ℕ) → 1 ≤ count → behind_words count line ≡ behind_words (count - 1) (behind_word line)
+unfolding behind_words
+behind_more zero line some = absurd (omega arith)
+behind_more (suc count) line some =
+    let less : suc count - 1 ≡ count = omega arith in
+    rw less refl
+
+-- a record of no field or of several has no only one
+pub only_none : (fields : List (List ℕ)) → length fields ≢ 1 → only_field fields ≡ None
+only_none [] other = refl
+only_none (field ∷ []) other = absurd (other refl)
+only_none (field ∷ second ∷ fields) other = refl
+
+-- the only field is the first
+pub only_first : (fields : List (List ℕ)) (field : List ℕ) → length fields ≡ 1 → slice_get fields 0 ≡ Some field → only_field fields ≡ Some field
+only_first [] field one first = absurd (omega arith)
+only_first (one_field ∷ []) field one first = first
+only_first (one_field ∷ second ∷ fields) field one first = absurd (omega arith)
