@@ -165,7 +165,10 @@ fn name_text(word: &[u8]) -> Option<&str>
     if !is_name(word) {
         return None;
     }
-    str::from_utf8(word).ok()
+    match str::from_utf8(word) {
+        Ok(name) => Some(name),
+        Err(_) => None,
+    }
 }
 
 /// The name that a word is: 1 to 32 letters, digits and `_`, the first one a letter.

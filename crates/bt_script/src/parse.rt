@@ -7,8 +7,8 @@ ghost use Rattle.bt_script.specs.Lines as text;
 
 use crate::command::{Command, IndexForm, Items, Parsed, TableForm};
 use crate::lines::{
-    behind_words, is_blank, next_line, parse_name, parse_names, parse_number, parts, without_return,
-    without_spaces, words,
+    behind_words, is_blank, next_line, parse_name, parse_names, parse_number, parts,
+    without_return, without_spaces, words,
 };
 use bt_rowtype::{Bytes, Column, Columns, Filter, Item, Kind, RecordLine, Refusal, Test, Texts};
 use std::alloc::{AllocError, Global};
