@@ -1,5 +1,5 @@
 -- What stands behind words of a line, and the one field of a record there. Serves the reading of a filter.
-use Rattle.std.proofs.Common.{ℕ, zero, suc, List, [], ◌∷◌, ◌≡◌, ◌≢◌, ◌≤◌, ◌-◌, refl, length, Option, Some, None, arith, ap}
+use Rattle.std.proofs.Common.{ℕ, zero, suc, List, [], ◌∷◌, ◌≡◌, ◌≢◌, ◌≤◌, ◌-◌, refl, length, Some, None, arith}
 use Rattle.std.specs.Prelude.{slice_get}
 use Rattle.bt_script.specs.Commands.{only_field}
 use Rattle.bt_script.specs.Lines.{behind_word, behind_words}

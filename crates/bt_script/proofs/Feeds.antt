@@ -1,5 +1,5 @@
 -- The first line feed of a text. Serves the cutting of a script into lines.
-use Rattle.std.proofs.Common.{ℕ, zero, suc, List, [], ◌∷◌, ◌<◌, ◌≤◌, ◌≡◌, ◌==◌, ◌∙◌, refl, sym, not, true, arith, get_or, inl, inr, length}
+use Rattle.std.proofs.Common.{ℕ, zero, suc, List, [], ◌∷◌, ◌<◌, ◌≡◌, ◌==◌, ◌∙◌, refl, sym, not, true, arith, get_or, inl, inr, length}
 use Rattle.std.proofs.lemmas.Bool.{cases_Bool}
 use Rattle.std.proofs.lemmas.List.Folds.{length-prefix_len}
 use Rattle.std.specs.List.{prefix_len, take_while}
