@@ -1,5 +1,5 @@
 //! The text of a tree.
-ghost use Rattle.std.specs.Prelude.{◌≡◌, ◌<◌, ◌≤◌, ◌-◌, ◌^◌, ◌++◌, ◌∷◌, [], IfOk, OnOk, codes, flat_map, length, min, slice_get};
+ghost use Rattle.std.specs.Prelude.{◌≡◌, ◌<◌, ◌-◌, ◌^◌, ◌++◌, ◌∷◌, [], IfOk, OnOk, codes, flat_map, length, min, slice_get};
 ghost use Rattle.bt_node.specs.Trees as trees;
 ghost use Rattle.bt_node.specs.Walks.{children_of, messages_of, rows_of};
 ghost use Rattle.bt_shell.specs.Drawings.{own_text, pivot_text};
@@ -264,11 +264,7 @@ pub fn row_image(
 }
 
 /// The image of a tree of an index, under its name.
-pub fn entry_image(
-    alloc: Global,
-    name: &Text,
-    walk: &Walk<Entry>,
-) -> Result<Vec<u8>, AllocError>
+pub fn entry_image(alloc: Global, name: &Text, walk: &Walk<Entry>) -> Result<Vec<u8>, AllocError>
     ensures { IfOk result (λ text. text.items ≡ spec.entry_image name.now walk.now) }
 {
     image_text(alloc, &EntryDrawing, name, walk)
