@@ -9,7 +9,7 @@ use Rattle.bt_script.specs.Commands.{Answer}
 use Rattle.bt_script.specs.declared.command.Command.{Command}
 use Rattle.bt_script.specs.declared.command.Command.TheVariants.{Batch, Get, Image, Scan, Table}
 use Rattle.bt_script.specs.declared.command.TableForm.{TableForm}
-use Rattle.bt_shell.specs.Images.{image_text}
+use Rattle.bt_shell.specs.Images.{row_image}
 use Rattle.bt_shell.specs.Replies.{count_line, scan_reply}
 use Rattle.bt_shell.specs.Runs.{after_commands}
 use Rattle.bt_shell.specs.Steps.{Done, State, form_refusals, or_refused, outcome, table_of, told, turn}
@@ -60,7 +60,7 @@ command_keeps_sound None (Image tree) sound = tt
 command_keeps_sound (Some table) (Batch items) sound = told_keeps_sound _ (step_keeps_sound table (call.Apply items) sound)
 command_keeps_sound (Some table) (Get fields) sound = told_keeps_sound _ (step_keeps_sound table (call.Get fields) sound)
 command_keeps_sound (Some table) (Scan tree) sound = shown_keeps_sound (λ named. scan_reply named.rows) table (table_named table tree) sound
-command_keeps_sound (Some table) (Image tree) sound = shown_keeps_sound (λ named. image_text named.schema.columns tree named.tree) table (table_named table tree) sound
+command_keeps_sound (Some table) (Image tree) sound = shown_keeps_sound (λ named. row_image named.schema.columns tree named.tree) table (table_named table tree) sound
 
 refused_keeps_sound : (state : State) (after : Result Done Refusal) → IfSome state IsSound → IsSoundAfter after → IfSome (or_refused state after).0 IsSound
 refused_keeps_sound state (Ok done) sound after = after

@@ -11,7 +11,8 @@ use Rattle.bt_rowtype.proofs.offered.OnLiterals.{rowtype_on_literals}
 use Rattle.bt_messages.specs.declared.message.Message.TheVariants as message
 use Rattle.bt_script.specs.Commands.{closing_of, column_of, command_of, commands_from, form_of, item_of, items_of, step, table_of}
 use Rattle.bt_keycode.specs.Prefixes.{eight_bytes}
-use Rattle.bt_shell.specs.Images.{message_line}
+use Rattle.bt_node.specs.Trees.{inner, leaf, node, none}
+use Rattle.bt_shell.specs.Images.{change_text, entry_image, entry_text, message_line, row_line, row_text}
 use Rattle.bt_shell.specs.Runs.{replies, run}
 use Rattle.bt_table.specs.Batches.{read_message}
 use Rattle.bt_rowtype.specs.declared.item.Item.TheVariants as line
@@ -118,17 +119,17 @@ unfolding eight_bytes rowtype_on_literals
 upsert_message = refl
 
 -- the line of an image for it, with one operation, with two, and with one on no column
-pub upsert_waits : message_line stock.columns [] (key_of_one, message.Ups (record { base = value.Int (pos 1) ∷ value.Int (pos 0) ∷ []; ops = op.Add 1 (pos 5) ∷ [] }))
+pub upsert_waits : message_line row_text (change_text stock.columns) [] (key_of_one, message.Ups (record { base = value.Int (pos 1) ∷ value.Int (pos 0) ∷ []; ops = op.Add 1 (pos 5) ∷ [] }))
     ≡ codes "~ 8000000000000001 add,qty,5\n"
 unfolding rowtype_on_literals
 upsert_waits = refl
 
-pub operations_wait : message_line stock.columns (codes "  ") (key_of_one, message.Ups (record { base = []; ops = op.Set 1 (value.Int (pos 7)) ∷ op.Add 1 (pos 5) ∷ [] }))
+pub operations_wait : message_line row_text (change_text stock.columns) (codes "  ") (key_of_one, message.Ups (record { base = []; ops = op.Set 1 (value.Int (pos 7)) ∷ op.Add 1 (pos 5) ∷ [] }))
     ≡ codes "  ~ 8000000000000001 set,qty,7,add,qty,5\n"
 unfolding rowtype_on_literals
 operations_wait = refl
 
-pub no_column : message_line stock.columns [] (key_of_one, message.Ups (record { base = []; ops = op.Add 2 (pos 5) ∷ [] })) ≡ codes "~ 8000000000000001 add,,5\n"
+pub no_column : message_line row_text (change_text stock.columns) [] (key_of_one, message.Ups (record { base = []; ops = op.Add 2 (pos 5) ∷ [] })) ≡ codes "~ 8000000000000001 add,,5\n"
 unfolding rowtype_on_literals
 no_column = refl
 
@@ -167,3 +168,26 @@ pub text_key_order : run (codes "table 4 3 8 2 name:text n:int\nbatch\nput a,1\n
     ≡ codes "table 2\nbatch 4\nrow ,-9223372036854775808\nrow ,-1\nrow a,1\nrow a" ++ (0 ∷ codes ",0\nrows 4\nimage primary height 1\nleaf 4\n  = 00010000000000000000 ,-9223372036854775808\n  = 00017fffffffffffffff ,-1\n  = 6100018000000000000001 a,1\n  = 6100ff00018000000000000000 a" ++ (0 ∷ codes ",0\nend\n"))
 unfolding replies commands_from step closing_of command_of items_of item_of column_of table_of eight_bytes rowtype_on_literals chars encode_utf8 is_utf8
 text_key_order = refl
+
+-- ---- images of indexes
+
+-- the line of an index value with included columns, and without
+pub entry_line : row_line entry_text [] (key_of_one, value.Text (codes "oslo") ∷ value.Int (pos 7) ∷ []) ≡ codes "= 8000000000000001 oslo,7\n"
+unfolding rowtype_on_literals
+entry_line = refl
+
+pub key_alone : row_line entry_text (codes "  ") (key_of_one, []) ≡ codes "  = 8000000000000001\n"
+unfolding rowtype_on_literals
+key_alone = refl
+
+-- an upsert of an index value, which is printed as a put is
+pub entry_upsert : message_line entry_text entry_text [] (key_of_one, message.Ups (value.Int (pos 7) ∷ [])) ≡ codes "~ 8000000000000001 7\n"
+unfolding rowtype_on_literals
+entry_upsert = refl
+
+-- an index of two leaves, with a put of no included column and a del that are pending
+pub index_image : entry_image (codes "by_city")
+    (inner (node [] (leaf ((key_of_one, value.Int (pos 7) ∷ []) ∷ [])) (node (2 ∷ []) (leaf ((2 ∷ [], []) ∷ [])) none)) ((key_of_one, message.Put []) ∷ (2 ∷ [], message.Del) ∷ []))
+    ≡ codes "image by_city height 2\ninner 2 2\n  + 8000000000000001\n  - 02\n  leaf 1\n    = 8000000000000001 7\n  | 02\n  leaf 1\n    = 02\nend\n"
+unfolding rowtype_on_literals
+index_image = refl

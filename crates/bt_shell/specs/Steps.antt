@@ -8,7 +8,7 @@ use Rattle.bt_script.specs.Commands.{Answer}
 use Rattle.bt_script.specs.declared.command.Command.{Command}
 use Rattle.bt_script.specs.declared.command.Command.TheVariants.{Batch, Get, Image, Scan, Table}
 use Rattle.bt_script.specs.declared.command.TableForm.{TableForm}
-use Rattle.bt_shell.specs.Images.{image_text}
+use Rattle.bt_shell.specs.Images.{row_image}
 use Rattle.bt_shell.specs.Replies.{count_line, refused_text, reply_text, scan_reply}
 use Rattle.bt_table.specs.Batches.{made, one_if}
 use Rattle.bt_table.specs.Calls as call
@@ -45,7 +45,7 @@ outcome None command = Err NoTable
 outcome (Some table) (Batch items) = told (step table (call.Apply items))
 outcome (Some table) (Get fields) = told (step table (call.Get fields))
 outcome (Some table) (Scan tree) = made (λ named. (Some table, scan_reply named.rows)) (table_named table tree)
-outcome (Some table) (Image tree) = made (λ named. (Some table, image_text named.schema.columns tree named.tree)) (table_named table tree)
+outcome (Some table) (Image tree) = made (λ named. (Some table, row_image named.schema.columns tree named.tree)) (table_named table tree)
 
 -- a command that is refused leaves the table as it is
 abbrev pub or_refused : State → Result Done Refusal → Done

@@ -1,17 +1,16 @@
 //! The text of a tree.
-ghost use Rattle.std.specs.Prelude.{◌≡◌, ◌<◌, ◌≤◌, ◌-◌, ◌^◌, ◌++◌, ◌∷◌, [], IfOk, OnOk, flat_map, get_or, length, map, min, option_map, slice_get};
-ghost use Rattle.bt_rowtype.specs.declared.value.Value.TheVariants as value;
-ghost use Rattle.bt_messages.specs.declared.message.Message.TheVariants as message;
+ghost use Rattle.std.specs.Prelude.{◌≡◌, ◌<◌, ◌-◌, ◌^◌, ◌++◌, ◌∷◌, [], IfOk, OnOk, codes, flat_map, length, min, slice_get};
 ghost use Rattle.bt_node.specs.Trees as trees;
 ghost use Rattle.bt_node.specs.Walks.{children_of, messages_of, rows_of};
 ghost use Rattle.bt_shell.specs.Drawings.{own_text, pivot_text};
 ghost use Rattle.bt_shell.specs.Images as spec;
 
+use crate::drawing::{Drawing, EntryDrawing, RowDrawing};
 use crate::reply::write_number;
 use bt_keycode::Key;
-use bt_messages::Message;
+use bt_messages::{Entry, Merge, Message};
 use bt_node::Walk;
-use bt_rowtype::{Change, Column, LONGEST_TEXT, Op, Row, Text, TryClone, Value, write_row};
+use bt_rowtype::{Column, Row, Text};
 use itoa::Buffer;
 use std::alloc::{AllocError, Global};
 
@@ -24,147 +23,74 @@ fn deeper(alloc: Global, indent: &[u8]) -> Result<Vec<u8>, AllocError>
     Ok(below)
 }
 
-// Adds the record of values behind a space, where there are values.
-fn write_values(out: &mut Vec<u8>, values: Option<&Row>) -> Result<(), AllocError>
-    ensures { OnOk result (out.new.items ≡ out.old.items ++ spec.values_text (option_map (λ vs. vs.now) values.entry)) }
-{
-    let Some(values) = values else {
-        return Ok(());
-    };
-    out.push(b' ')?;
-    write_row(out, values)
-}
-
-/// Adds a line behind an indent, with a mark, a key and the record of values where there are some.
-pub fn write_key_line(
-    out: &mut Vec<u8>,
-    indent: &[u8],
-    mark: u8,
-    key: &Key,
-    values: Option<&Row>,
-) -> Result<(), AllocError>
-    ensures { OnOk result (out.new.items ≡ out.old.items ++ spec.key_line indent.now (mark ∷ []) key.now (option_map (λ vs. vs.now) values.entry)) }
+// Adds the start of a line: its mark behind an indent, and a key.
+fn write_key(out: &mut Vec<u8>, indent: &[u8], mark: u8, key: &Key) -> Result<(), AllocError>
+    ensures { OnOk result (out.new.items ≡ out.old.items ++ spec.key_start indent.now (mark ∷ []) key.now) }
 {
     out.extend_from_slice(indent)?;
     out.extend_from_slice(&[mark, b' '])?;
-    key.write_hex(out)?;
-    write_values(out, values)?;
+    key.write_hex(out)
+}
+
+// Adds a line with a mark and a key, and nothing behind the key.
+fn write_key_line(out: &mut Vec<u8>, indent: &[u8], mark: u8, key: &Key) -> Result<(), AllocError>
+    ensures { OnOk result (out.new.items ≡ out.old.items ++ spec.key_line indent.now (mark ∷ []) key.now []) }
+{
+    write_key(out, indent, mark, key)?;
     out.push(b'\n')?;
     Ok(())
 }
 
-/// Adds the line of a row of a leaf.
-pub fn write_row_line(
+// Adds a line with a mark, a key and a value.
+fn write_value_line<V: Merge, D: Drawing<V>>(
     out: &mut Vec<u8>,
+    drawing: &D,
     indent: &[u8],
+    mark: u8,
     key: &Key,
-    row: &Row,
+    value: &V,
 ) -> Result<(), AllocError>
-    ensures { OnOk result (out.new.items ≡ out.old.items ++ spec.row_line indent.now (key.now, row.now)) }
+    ensures { OnOk result (out.new.items ≡ out.old.items ++ spec.key_line indent.now (mark ∷ []) key.now (D.value_text drawing.now value.now)) }
 {
-    write_key_line(out, indent, b'=', key, Some(row))
-}
-
-// A copy of the name of the column at a place, or the empty text where there is none.
-fn name_at(alloc: Global, columns: &[Column], place: usize) -> Result<Text, AllocError>
-    ensures { IfOk result (λ name. name ≡ get_or (map (λ c. c.name) columns.now) place []) }
-{
-    match columns.get(place) {
-        Some(column) => column.name.copy(alloc),
-        None => Ok(Text::empty()),
-    }
-}
-
-// Adds the values of an operation: its word, the name of its column, its argument.
-fn push_op(
-    alloc: Global,
-    values: &mut Vec<Value>,
-    word: &str,
-    name: Text,
-    argument: Value,
-) -> Result<(), AllocError>
-    requires { length word.now ≤ LONGEST_TEXT }
-    ensures { OnOk result (values.new.items ≡ values.old.items ++ (value.Text word.now ∷ value.Text name ∷ argument ∷ [])) }
-{
-    values.push(Value::Text(Text::new(alloc, word)?))?;
-    values.push(Value::Text(name))?;
-    values.push(argument)?;
+    write_key(out, indent, mark, key)?;
+    drawing.write_value(out, value)?;
+    out.push(b'\n')?;
     Ok(())
 }
 
-// Adds an operation on one of these columns as values.
-fn add_op(
-    alloc: Global,
-    values: &mut Vec<Value>,
-    columns: &[Column],
-    op: &Op,
-) -> Result<(), AllocError>
-    ensures { OnOk result (values.new.items ≡ values.old.items ++ spec.values_of_op columns.now op.now) }
-{
-    match op {
-        Op::Set(place, new) => {
-            let name = name_at(alloc, columns, *place)?;
-            let argument = new.try_clone(alloc)?;
-            push_op(alloc, values, "set", name, argument)
-        }
-        Op::Add(place, number) => {
-            let name = name_at(alloc, columns, *place)?;
-            push_op(alloc, values, "add", name, Value::Int(*number))
-        }
-    }
-}
-
-// Operations on these columns as values.
-fn values_of_ops(alloc: Global, columns: &[Column], ops: &[Op]) -> Result<Vec<Value>, AllocError>
-    ensures { IfOk result (λ values. values.items ≡ flat_map (spec.values_of_op columns.now) ops.now) }
-{
-    let mut values = Vec::new(alloc);
-    for op in ops {
-        add_op(alloc, &mut values, columns, op)?;
-    }
-    Ok(values)
-}
-
-// Adds the line of an upsert that is pending, to a row with these columns.
-fn write_upsert_line(
+// Adds the line of an upsert that is pending.
+fn write_upsert_line<V: Merge, D: Drawing<V>>(
     alloc: Global,
     out: &mut Vec<u8>,
-    columns: &[Column],
+    drawing: &D,
     indent: &[u8],
     key: &Key,
-    change: &Change,
+    delta: &V::Delta,
 ) -> Result<(), AllocError>
-    ensures { OnOk result (out.new.items ≡ out.old.items ++ spec.message_line columns.now indent.now (key.now, message.Ups change.now)) }
+    ensures { OnOk result (out.new.items ≡ out.old.items ++ spec.key_line indent.now (codes "~") key.now (D.delta_text drawing.now delta.now)) }
 {
-    let ops = change.ops(alloc)?;
-    let values = values_of_ops(alloc, columns, ops.as_slice())?;
-    let row = Row::from_values(alloc, values.as_slice())?;
-    write_key_line(out, indent, b'~', key, Some(&row))
+    write_key(out, indent, b'~', key)?;
+    drawing.write_delta(alloc, out, delta)?;
+    out.push(b'\n')?;
+    Ok(())
 }
 
-/// Adds the line of a message that is pending, to a row with these columns.
-pub fn write_message_line(
+// Adds the line of a message that is pending.
+fn write_message_line<V: Merge, D: Drawing<V>>(
     alloc: Global,
     out: &mut Vec<u8>,
-    columns: &[Column],
+    drawing: &D,
     indent: &[u8],
     key: &Key,
-    message: &Message<Row>,
+    message: &Message<V>,
 ) -> Result<(), AllocError>
-    ensures { OnOk result (out.new.items ≡ out.old.items ++ spec.message_line columns.now indent.now (key.now, message.now)) }
+    ensures { OnOk result (out.new.items ≡ out.old.items ++ spec.message_line (D.value_text drawing.now) (D.delta_text drawing.now) indent.now (key.now, message.now)) }
 {
     match message {
-        Message::Put(row) => write_key_line(out, indent, b'+', key, Some(row)),
-        Message::Del => write_key_line(out, indent, b'-', key, None),
-        Message::Ups(change) => write_upsert_line(alloc, out, columns, indent, key, change),
+        Message::Put(value) => write_value_line(out, drawing, indent, b'+', key, value),
+        Message::Del => write_key_line(out, indent, b'-', key),
+        Message::Ups(delta) => write_upsert_line(alloc, out, drawing, indent, key, delta),
     }
-}
-
-/// Adds the line of a pivot.
-pub fn write_pivot_line(out: &mut Vec<u8>, indent: &[u8], pivot: &Key) -> Result<(), AllocError>
-    ensures { OnOk result (out.new.items ≡ out.old.items ++ spec.pivot_line indent.now pivot.now) }
-{
-    write_key_line(out, indent, b'|', pivot, None)
 }
 
 /// Adds the first line of a leaf.
@@ -209,57 +135,62 @@ pub fn write_first_line(out: &mut Vec<u8>, name: &Text, height: u64) -> Result<(
 }
 
 // Adds the lines of the rows of a leaf.
-fn write_rows(out: &mut Vec<u8>, indent: &[u8], walk: &Walk<Row>) -> Result<(), AllocError>
-    ensures { OnOk result (out.new.items ≡ out.old.items ++ flat_map (spec.row_line indent.now) (rows_of walk.now)) }
+fn write_rows<V: Merge, D: Drawing<V>>(
+    out: &mut Vec<u8>,
+    drawing: &D,
+    indent: &[u8],
+    walk: &Walk<V>,
+) -> Result<(), AllocError>
+    ensures { OnOk result (out.new.items ≡ out.old.items ++ flat_map (spec.row_line (D.value_text drawing.now) indent.now) (rows_of walk.now)) }
 {
     for place in 0..walk.row_count() {
-        let (key, row) = walk.row(place);
-        write_row_line(out, indent, key, row)?;
+        let (key, value) = walk.row(place);
+        write_value_line(out, drawing, indent, b'=', key, value)?;
     }
     Ok(())
 }
 
 // Adds the lines of the messages of an inner node.
-fn write_messages(
+fn write_messages<V: Merge, D: Drawing<V>>(
     alloc: Global,
     out: &mut Vec<u8>,
-    columns: &[Column],
+    drawing: &D,
     indent: &[u8],
-    walk: &Walk<Row>,
+    walk: &Walk<V>,
 ) -> Result<(), AllocError>
-    ensures { OnOk result (out.new.items ≡ out.old.items ++ flat_map (spec.message_line columns.now indent.now) (messages_of walk.now)) }
+    ensures { OnOk result (out.new.items ≡ out.old.items ++ flat_map (spec.message_line (D.value_text drawing.now) (D.delta_text drawing.now) indent.now) (messages_of walk.now)) }
 {
     for (key, message) in walk.messages() {
-        write_message_line(alloc, out, columns, indent, key, message)?;
+        write_message_line(alloc, out, drawing, indent, key, message)?;
     }
     Ok(())
 }
 
 // Adds the lines of a node that speak of no other one; all but the first behind the deeper indent.
-fn write_own_lines(
+fn write_own_lines<V: Merge, D: Drawing<V>>(
     alloc: Global,
     out: &mut Vec<u8>,
-    columns: &[Column],
+    drawing: &D,
     indent: &[u8],
     below: &[u8],
-    walk: &Walk<Row>,
+    walk: &Walk<V>,
 ) -> Result<(), AllocError>
-    ensures { OnOk result (out.new.items ≡ out.old.items ++ own_text columns.now indent.now below.now walk.now) }
+    ensures { OnOk result (out.new.items ≡ out.old.items ++ own_text (D.value_text drawing.now) (D.delta_text drawing.now) indent.now below.now walk.now) }
 {
     if walk.is_leaf() {
         write_leaf_line(out, indent, walk.row_count())?;
-        write_rows(out, below, walk)
+        write_rows(out, drawing, below, walk)
     } else {
         write_inner_line(out, indent, walk.child_count(), walk.message_count())?;
-        write_messages(alloc, out, columns, below, walk)
+        write_messages(alloc, out, drawing, below, walk)
     }
 }
 
 // Adds the line of the pivot before a child, but not before the first.
-fn write_pivot(
+fn write_pivot<V: Merge>(
     out: &mut Vec<u8>,
     indent: &[u8],
-    walk: &Walk<Row>,
+    walk: &Walk<V>,
     place: usize,
 ) -> Result<(), AllocError>
     requires { place < length (children_of walk.now) }
@@ -268,32 +199,32 @@ fn write_pivot(
     if place == 0 {
         return Ok(());
     }
-    write_pivot_line(out, indent, walk.pivot(place))
+    write_key_line(out, indent, b'|', walk.pivot(place))
 }
 
 // Adds the lines of a node and of those below it.
-fn write_node(
+fn write_node<V: Merge, D: Drawing<V>>(
     alloc: Global,
     out: &mut Vec<u8>,
-    columns: &[Column],
+    drawing: &D,
     indent: &[u8],
-    walk: &Walk<Row>,
+    walk: &Walk<V>,
 ) -> Result<(), AllocError>
-    ensures { OnOk result (out.new.items ≡ out.old.items ++ spec.node_text columns.now indent.now walk.now) }
+    ensures { OnOk result (out.new.items ≡ out.old.items ++ spec.node_text (D.value_text drawing.now) (D.delta_text drawing.now) indent.now walk.now) }
 {
     let spaces = deeper(alloc, indent)?;
     let below = spaces.as_slice();
-    write_own_lines(alloc, out, columns, indent, below, walk)?;
+    write_own_lines(alloc, out, drawing, indent, below, walk)?;
     for place in 0..walk.child_count() {
         write_pivot(out, below, walk, place)?;
         let child = walk.child(place);
-        write_node(alloc, out, columns, below, &child)?;
+        write_node(alloc, out, drawing, below, &child)?;
     }
     Ok(())
 }
 
 // The height of a node, held at the greatest number.
-fn height(walk: &Walk<Row>) -> u64
+fn height<V: Merge>(walk: &Walk<V>) -> u64
     ensures { result ≡ min (trees.height walk.now) (2 ^ 64 - 1) }
 {
     let mut highest = 0u64;
@@ -304,18 +235,37 @@ fn height(walk: &Walk<Row>) -> u64
     highest.saturating_add(1)
 }
 
+// The image of a tree under its name.
+fn image_text<V: Merge, D: Drawing<V>>(
+    alloc: Global,
+    drawing: &D,
+    name: &Text,
+    walk: &Walk<V>,
+) -> Result<Vec<u8>, AllocError>
+    ensures { IfOk result (λ text. text.items ≡ spec.image_text (D.value_text drawing.now) (D.delta_text drawing.now) name.now walk.now) }
+{
+    let mut text = Vec::new(alloc);
+    write_first_line(&mut text, name, height(walk))?;
+    write_node(alloc, &mut text, drawing, &[], walk)?;
+    text.extend_from_slice(b"end\n")?;
+    Ok(text)
+}
+
 /// The image of a tree of rows with these columns, under its name.
-pub fn image_text(
+pub fn row_image(
     alloc: Global,
     columns: &[Column],
     name: &Text,
     walk: &Walk<Row>,
 ) -> Result<Vec<u8>, AllocError>
-    ensures { IfOk result (λ text. text.items ≡ spec.image_text columns.now name.now walk.now) }
+    ensures { IfOk result (λ text. text.items ≡ spec.row_image columns.now name.now walk.now) }
 {
-    let mut text = Vec::new(alloc);
-    write_first_line(&mut text, name, height(walk))?;
-    write_node(alloc, &mut text, columns, &[], walk)?;
-    text.extend_from_slice(b"end\n")?;
-    Ok(text)
+    image_text(alloc, &RowDrawing { columns }, name, walk)
+}
+
+/// The image of a tree of an index, under its name.
+pub fn entry_image(alloc: Global, name: &Text, walk: &Walk<Entry>) -> Result<Vec<u8>, AllocError>
+    ensures { IfOk result (λ text. text.items ≡ spec.entry_image name.now walk.now) }
+{
+    image_text(alloc, &EntryDrawing, name, walk)
 }

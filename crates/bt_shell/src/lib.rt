@@ -12,6 +12,7 @@
 //! ```
 #![tactic(auto)]
 
+mod drawing;
 mod entry;
 mod image;
 mod reply;

@@ -8,7 +8,7 @@ ghost use Rattle.bt_shell.specs.Runs.{IsTurn};
 ghost use Rattle.bt_shell.specs.Steps as step;
 ghost use Rattle.bt_table.specs.Tables.{row_effect};
 
-use crate::image::image_text;
+use crate::image::row_image;
 use crate::reply::{RowLines, count_reply, refusal_reply, reply_text};
 use bt_node::Shape;
 use bt_rowtype::{RecordLine, Refusal, Schema, Text};
@@ -88,7 +88,7 @@ fn image(alloc: Global, table: &Option<Table>, name: &Text) -> Result<Vec<u8>, R
         return Err(Refusal::NoTable);
     };
     let tree = table.tree(name)?;
-    Ok(image_text(alloc, tree.schema.columns(), name, &tree.tree.walk())?)
+    Ok(row_image(alloc, tree.schema.columns(), name, &tree.tree.walk())?)
 }
 
 // The reply to a command that is not refused, or its refusal.

@@ -6,7 +6,7 @@ use Rattle.bt_shell.proofs.image.+height.Given as goal
 
 -- the highest of the children so far
 abbrev pub invariant-loop-place : goal.invariant-loop-place
-invariant-loop-place l = l.highest ≡ min (highest (take l.place (children_of l.walk))) (2 ^ 64 - 1)
+invariant-loop-place g l = l.highest ≡ min (highest (take l.place (children_of l.walk))) (2 ^ 64 - 1)
 
 abbrev pub decreases-height : goal.decreases-height
-decreases-height l = trees.height l.walk.now
+decreases-height g l = trees.height l.walk.now

@@ -6,5 +6,6 @@ use Rattle.bt_shell.proofs.image.write_messages.Given as goal
 
 -- the lines so far, and then those of the messages that are left
 abbrev pub invariant-loop-key : goal.invariant-loop-key
-invariant-loop-key l =
-    l.out.items ++ flat_map (message_line l.columns l.indent) l.key-iterator ≡ l.fn.out.items ++ flat_map (message_line l.columns l.indent) (messages_of l.walk)
+invariant-loop-key g l =
+    let line = message_line (g.D.Drawing.value_text l.drawing) (g.D.Drawing.delta_text l.drawing) l.indent in
+    l.out.items ++ flat_map line l.key-iterator ≡ l.fn.out.items ++ flat_map line (messages_of l.walk)

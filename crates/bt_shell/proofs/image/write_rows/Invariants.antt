@@ -6,4 +6,4 @@ use Rattle.bt_shell.proofs.image.write_rows.Given as goal
 
 -- the lines of the rows so far were added
 abbrev pub invariant-loop-place : goal.invariant-loop-place
-invariant-loop-place l = l.out.items ≡ l.fn.out.items ++ flat_map (row_line l.indent) (take l.place (rows_of l.walk))
+invariant-loop-place g l = l.out.items ≡ l.fn.out.items ++ flat_map (row_line (g.D.Drawing.value_text l.drawing) l.indent) (take l.place (rows_of l.walk))
