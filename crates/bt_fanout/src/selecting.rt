@@ -9,7 +9,7 @@ ghost use Rattle.bt_fanout.specs.Entries.{HasPlace, IsWithin, entry_of, key_of, 
 use crate::definition::{Condition, IndexDef};
 use bt_keycode::{Key, encode_row};
 use bt_messages::Entry;
-use bt_rowtype::{Row, ValueRef};
+use bt_rowtype::{Row, Test, ValueRef};
 use std::alloc::{AllocError, Global};
 use std::cmp::Ordering;
 
