@@ -2,3 +2,4 @@
 pub mod Packets
 pub mod Standing
 pub mod Suiting
+pub mod Turns
