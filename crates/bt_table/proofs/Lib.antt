@@ -1,4 +1,5 @@
 pub mod Batches
+pub mod Indexes
 pub mod KeyOrder
 pub mod offered
 pub mod Sinks

@@ -1,5 +1,5 @@
 -- A tree after a batch fits its shape, and holds its rows after the batch. Serves a table that applies a batch.
-use Rattle.std.proofs.Common.{◌≡◌, ◌∙◌}
+use Rattle.std.proofs.Common.{◌≡◌, ◌∙◌, List}
 use Rattle.bt_messages.specs.Messages.{sorted_batch}
 use Rattle.bt_messages.proofs.offered.Rows.{rows_after-sorted_batch}
 use Rattle.bt_node.specs.Fits.{HasShape}
@@ -8,7 +8,9 @@ use Rattle.bt_node.specs.Messages.{rows_after}
 use Rattle.bt_node.specs.Trees.{Shape}
 use Rattle.bt_node.proofs.offered.ShapedTrees.{holds-sorted, sunk-has_shape, sunk-holds}
 use Rattle.bt_rowtype.specs.Schemas.{Schema}
+use Rattle.bt_table.specs.Indexes.{indexes_after}
 use Rattle.bt_table.specs.Tables.{RowMessages, RowTree, after_batch, held_by, row_effect}
+use Rattle.bt_table.specs.declared.index.Index.{Index}
 
 -- the batch is sorted for the tree, which changes no row
 pub holds-after_batch : (shape : Shape) (t : RowTree) (batch : RowMessages) → HasShape shape t
@@ -20,8 +22,8 @@ holds-after_batch shape t batch has =
 pub has_shape-after_batch : (shape : Shape) (t : RowTree) (batch : RowMessages) → HasShape shape t → HasShape shape (sunk row_effect shape t (sorted_batch batch))
 has_shape-after_batch shape t batch has = sunk-has_shape row_effect shape t has (sorted_batch batch)
 
--- the batch makes of it the state by the tree after the batch
-pub stepped : (schema : Schema) (shape : Shape) (t : RowTree) (batch : RowMessages) → HasShape shape t
-    → held_by schema shape (sunk row_effect shape t (sorted_batch batch)) ≡ after_batch (held_by schema shape t) batch
-stepped schema shape t batch has =
-    λ i. record { schema = schema; shape = shape; rows = holds-after_batch shape t batch has i; tree = sunk row_effect shape t (sorted_batch batch) }
+-- the batch makes of it the state by the trees after the batch
+pub stepped : (schema : Schema) (shape : Shape) (t : RowTree) (indexes after : List Index) (batch : RowMessages) → HasShape shape t → after ≡ indexes_after (holds row_effect t) batch indexes
+    → held_by schema (shape, sunk row_effect shape t (sorted_batch batch)) after ≡ after_batch (held_by schema (shape, t) indexes) batch
+stepped schema shape t indexes after batch has are =
+    λ i. record { schema = schema; shape = shape; rows = holds-after_batch shape t batch has i; tree = sunk row_effect shape t (sorted_batch batch); indexes = are i }

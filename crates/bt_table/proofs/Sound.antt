@@ -1,5 +1,6 @@
 -- Which messages the records of a batch spell, and that a table stays sound under them. Serves the invariant of a table.
-use Rattle.std.proofs.Common.{ℕ, ◌+◌, ◌≡◌, ◌∙◌, true, List, [], ◌∷◌, refl, sym, ap, take, Some, None, IfOk, Result, Ok, Err}
+use Rattle.std.proofs.Common.{ℕ, arith, ◌+◌, ◌≡◌, ◌∙◌, true, List, [], ◌∷◌, refl, sym, ap, subst, T, take, Some, None, IfOk, Result, Ok, Err}
+use Rattle.std.specs.FinMap.{is_sorted}
 use Rattle.std.specs.List.{filter_map}
 use Rattle.std.specs.Result.{result_ok}
 use Rattle.bt_rowtype.specs.Ops.{OpsFit, after_ops, default_row, upsert_as}
@@ -12,12 +13,19 @@ use Rattle.bt_rowtype.proofs.offered.Fits.{after_ops_fits, after_ops_key, defaul
 use Rattle.bt_rowtype.specs.Packing.{AreInRange}
 use Rattle.bt_keycode.specs.Codes.{code_of}
 use Rattle.bt_keycode.proofs.offered.Ranges.{OpsInRange, after_ops_in_range, default_row_in_range, read_in_range, upsert_in_range}
+use Rattle.bt_keycode.specs.Keys.{key_cmp}
 use Rattle.bt_node.specs.Messages.{rows_after}
-use Rattle.bt_rowtype.specs.declared.item.Item.{Item}
-use Rattle.bt_rowtype.specs.declared.item.Item.TheVariants.{Put, Del, Ups}
+use Rattle.bt_node.proofs.offered.ShapedTrees.{holds-sorted}
+use Rattle.bt_script.specs.declared.command.Item.{Item}
+use Rattle.bt_script.specs.declared.command.Item.TheVariants.{Put, Del, Ups}
 use Rattle.bt_table.specs.Batches.{del_of, made, messages_of, put_of, read_batch, read_key, read_message, ups_of}
-use Rattle.bt_table.specs.Standing.{AreOfSchema, IsOfSchema, IsSoundTable, Stands}
-use Rattle.bt_table.specs.Tables.{PlainTable, RowMessage, RowMessages, after_batch, row_effect}
+use Rattle.bt_table.specs.Standing.{AreOfSchema, IsOfSchema, IsSoundTable, Stands, Suits}
+use Rattle.bt_table.specs.Tables.{Intact, PlainTable, RowMessage, RowMessages, after_batch, row_effect}
+use Rattle.bt_fanout.specs.Entries.{Definition}
+use Rattle.bt_fanout.proofs.offered.Suiting.{of_nothing}
+use Rattle.bt_table.specs.Calls.{with_index, without_index}
+use Rattle.bt_table.specs.Indexes.{empty_index}
+use Rattle.bt_table.proofs.Indexes.{indexes_stay_sound, sound-append, sound-remove}
 use Rattle.bt_table.proofs.Sinks.{has_shape-after_batch, holds-after_batch}
 use Rattle.bt_table.proofs.Standing.{rows_after-stand}
 
@@ -77,10 +85,43 @@ batch_of_schema schema items = lines_of_schema schema 1 items
 
 -- ---- tables
 
+-- the rows of a sound table rise by their keys
+pub rows_sorted : (table : PlainTable) → IsSoundTable table → T (is_sorted key_cmp table.rows)
+rows_sorted table sound = subst (λ rows. T (is_sorted key_cmp rows)) sound.held (holds-sorted row_effect table.shape table.tree sound.tree)
+
 pub batch_keeps_sound : (table : PlainTable) (batch : RowMessages) → AreOfSchema table.schema batch → IsSoundTable table → IsSoundTable (after_batch table batch)
 batch_keeps_sound table batch fit sound =
+    let rows = rows_after-stand table.schema batch table.rows fit sound.rows in
     record {
       tree = has_shape-after_batch table.shape table.tree batch sound.tree;
       held = holds-after_batch table.shape table.tree batch sound.tree ∙ ap (rows_after row_effect batch) sound.held;
-      rows = rows_after-stand table.schema batch table.rows fit sound.rows;
+      rows = rows;
+      indexes = indexes_stay_sound table.schema table.shape table.rows batch (rows_sorted table sound) sound.rows rows table.indexes sound.indexes;
     }
+
+-- a new index of a definition of the schema
+pub with_index-sound : (table : PlainTable) (name : List ℕ) (def : Definition) → Suits (Intact table) def → IsSoundTable table → IsSoundTable (with_index table name def)
+with_index-sound table name def suits sound = record {
+  tree = sound.tree;
+  held = sound.held;
+  rows = sound.rows;
+  indexes = sound-append table.schema table.shape table.rows table.indexes (empty_index table.shape name def ∷ []) sound.indexes (
+    record {
+      suits = suits.0;
+      keys = suits.1;
+      shaped = refl;
+      tree = record { roomy = sound.tree.roomy; levels = 0; fits = record { lies = tt; sized = omega arith } };
+      held = sym (of_nothing def table.rows);
+    },
+    tt,
+  );
+}
+
+-- an index less
+pub without_index-sound : (table : PlainTable) (place : ℕ) → IsSoundTable table → IsSoundTable (without_index table place)
+without_index-sound table place sound = record {
+  tree = sound.tree;
+  held = sound.held;
+  rows = sound.rows;
+  indexes = sound-remove table.schema table.shape table.rows table.indexes place sound.indexes;
+}

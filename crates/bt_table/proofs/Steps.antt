@@ -1,48 +1,113 @@
--- A table with this tree takes a batch, or is shown. Serves the calls of a table.
-use Rattle.std.proofs.Common.{◌≡◌, ◌∙◌, true, List, Option, Some, None, Ok, Err, ap, sym, refl, subst, length, if◌then◌else◌}
-use Rattle.bt_messages.specs.Messages.{sorted_batch}
+-- A table with these trees takes a batch, gets or loses an index, or is shown. Serves the calls of a table.
+use Rattle.std.proofs.Common.{ℕ, ◌≡◌, ◌∙◌, ◌++◌, Bool, true, false, List, [], ◌∷◌, Option, IfSome, Some, None, Ok, ap, sym, refl, subst, length, map, if◌then◌else◌}
+use Rattle.std.specs.List.{All, remove}
 use Rattle.bt_rowtype.specs.Refusals.{least}
 use Rattle.bt_rowtype.specs.Schemas.{Schema}
-use Rattle.bt_rowtype.specs.declared.refusal.Refusal.TheVariants.{NoSuchTree}
-use Rattle.bt_node.specs.Flushes.{holds, sunk}
-use Rattle.bt_node.specs.Trees.{Shape}
-use Rattle.bt_node.proofs.offered.ShapedTrees.{holds-sorted}
-use Rattle.bt_rowtype.specs.declared.item.Item.{Item}
+use Rattle.bt_messages.specs.Effects.{rows_after}
+use Rattle.bt_messages.specs.Messages.{Messages, sorted_batch}
+use Rattle.bt_node.specs.Flushes.{sunk}
+use Rattle.bt_fanout.specs.Effects.{EntryMessage, SuitsEffect, effects_of}
+use Rattle.bt_script.specs.declared.command.Item.{Item}
 use Rattle.bt_table.specs.Batches.{batch_refusals, messages_of}
-use Rattle.bt_table.specs.Calls.{Apply, IsStep, Shows, is_primary, step, table_named, unless_by}
-use Rattle.bt_table.specs.Standing.{IsSoundTable, IsSoundUnlessLost}
-use Rattle.bt_table.specs.Tables.{PlainTable, RowTree, TableState, Intact, after_batch, held_by, row_effect, state_of}
-use Rattle.bt_table.specs.declared.reply.Reply.TheVariants.{Batch}
+use Rattle.bt_fanout.specs.Entries.{Definition}
+use Rattle.bt_table.specs.Calls.{Apply, DropIndex, IsStep, Primary, Secondary, ShowsIndex, ShowsRows, dropped, is_primary, secondary, step, tree_named, unless_by}
+use Rattle.bt_table.specs.Indexes.{empty_index, index_named, indexes_after, packet_for, packet_of, sent_count, sunk_indexes}
+use Rattle.bt_table.specs.Standing.{AllStand, IsSoundIndex, IsSoundTable, IsSoundUnlessLost, Suits}
+use Rattle.bt_table.specs.Tables.{PlainTable, RowMessages, TableState, Intact, after_batch, held_by, row_effect, state_of}
+use Rattle.bt_table.specs.declared.index.Index.{Index}
+use Rattle.bt_table.specs.declared.reply.Reply.TheVariants.{Batch, Dropped}
+use Rattle.bt_table.specs.declared.reply.SentCount.{SentCount}
+use Rattle.bt_table.specs.declared.table.Trees.{Trees}
+use Rattle.bt_table.proofs.Indexes.{counts_are, indexes_suit, sound-found, sunk_is}
 use Rattle.bt_table.proofs.KeyOrder.{keys_rise}
 use Rattle.bt_table.proofs.Sinks.{stepped}
-use Rattle.bt_table.proofs.Sound.{batch_keeps_sound, batch_of_schema}
+use Rattle.bt_table.proofs.Sound.{batch_keeps_sound, batch_of_schema, rows_sorted, with_index-sound, without_index-sound}
+use Rattle.bt_table.proofs.Standing.{rows_after-stand}
 
-module _ (schema : Schema) (kept : Option (Shape × RowTree)) (tree : Shape × RowTree) (is : kept ≡ Some tree) (sound : IsSoundUnlessLost (state_of schema kept)) where
+module _ (schema : Schema) (kept : Option Trees) (trees : Trees) (is : kept ≡ Some trees) (sound : IsSoundUnlessLost (state_of schema kept)) where
+  abbrev indexes : List Index
+  indexes = trees.indexes.items
+
   abbrev before : PlainTable
-  before = held_by schema tree.0 tree.1
+  before = held_by schema trees.rows indexes
 
-  was_sound : IsSoundTable before
+  pub was_sound : IsSoundTable before
   was_sound = subst (λ k. IsSoundUnlessLost (state_of schema k)) is sound
 
-  module _ (items : List Item) (new : Shape × RowTree) (after : new ≡ (tree.0, sunk row_effect tree.0 tree.1 (sorted_batch (messages_of schema items)))) where
-    stepped_to : held_by schema new.0 new.1 ≡ after_batch before (messages_of schema items)
-    stepped_to = ap (λ t. held_by schema t.0 t.1) after ∙ stepped schema tree.0 tree.1 (messages_of schema items) was_sound.tree
+  module _ (items : List Item) where
+    abbrev batch : RowMessages
+    batch = messages_of schema items
 
-    pub stays_sound : IsSoundTable (held_by schema new.0 new.1)
-    stays_sound = subst IsSoundTable (sym stepped_to) (batch_keeps_sound before (messages_of schema items) (batch_of_schema schema items) was_sound)
+    rows_stand : AllStand schema (rows_after row_effect batch before.rows)
+    rows_stand = rows_after-stand schema batch before.rows (batch_of_schema schema items) was_sound.rows
 
-    pub batch_is_step : (state : TableState) → state_of schema kept ≡ state → least (batch_refusals schema items) ≡ None → IsStep state (Intact (held_by schema new.0 new.1)) (Apply items) (Batch (length items))
-    batch_is_step state was allowed =
-        ap (λ s. step s (Apply items)) (sym was ∙ ap (state_of schema) is)
-        ∙ ap (λ o. unless_by o (Intact (after_batch before (messages_of schema items)), Batch (length items))) allowed
-        ∙ ap (λ table. Ok (Intact table, Batch (length items))) (sym stepped_to)
+    pub suit : All (λ index. All (SuitsEffect index.def) (effects_of (sorted_batch batch) before.rows)) indexes
+    suit = indexes_suit schema before.shape before.rows batch (rows_sorted before was_sound) was_sound.rows rows_stand indexes was_sound.indexes
 
-  pub shows : (state : TableState) (name : List _) → state_of schema kept ≡ state → is_primary name ≡ true → Shows state name schema tree
-  shows state name was primary = record {
-    table = before;
-    named = ap (λ s. table_named s name) (sym was ∙ ap (state_of schema) is) ∙ ap (λ b. if b then Ok before else Err NoSuchTree) primary;
-    schema_is = refl;
-    tree_is = refl;
-    held = refl;
-    order = keys_rise schema (holds row_effect tree.1) was_sound.rows (holds-sorted row_effect tree.0 tree.1 was_sound.tree);
-  }
+    module _ (packets : List (Messages EntryMessage)) (sent : List SentCount) (new : Trees)
+        (packets_are : packets ≡ map (packet_for (effects_of (sorted_batch batch) before.rows)) indexes)
+        (sent_are : sent ≡ map (λ index. sent_count index (packet_for (effects_of (sorted_batch batch) before.rows) index)) indexes)
+        (rows_are : new.rows ≡ (trees.rows.0, sunk row_effect trees.rows.0 trees.rows.1 (sorted_batch batch)))
+        (indexes_are : new.indexes.items ≡ sunk_indexes indexes packets) where
+      after_is : new.indexes.items ≡ indexes_after before.rows batch indexes
+      after_is =
+          indexes_are ∙ ap (sunk_indexes indexes) packets_are
+          ∙ sunk_is schema before.shape before.rows batch (rows_sorted before was_sound) was_sound.rows rows_stand indexes was_sound.indexes
+
+      stepped_to : held_by schema new.rows new.indexes.items ≡ after_batch before batch
+      stepped_to = ap (λ t. held_by schema t new.indexes.items) rows_are ∙ stepped schema trees.rows.0 trees.rows.1 indexes new.indexes.items batch was_sound.tree after_is
+
+      pub stays_sound : IsSoundTable (held_by schema new.rows new.indexes.items)
+      stays_sound = subst IsSoundTable (sym stepped_to) (batch_keeps_sound before batch (batch_of_schema schema items) was_sound)
+
+      pub batch_is_step : (state : TableState) → state_of schema kept ≡ state → least (batch_refusals schema items) ≡ None
+          → IsStep state (Intact (held_by schema new.rows new.indexes.items)) (Apply items) (Batch (length items) sent)
+      batch_is_step state was allowed =
+          let counts = sent_are ∙ counts_are schema before.shape before.rows batch (rows_sorted before was_sound) was_sound.rows rows_stand indexes was_sound.indexes in
+          ap (λ s. step s (Apply items)) (sym was ∙ ap (state_of schema) is)
+          ∙ ap (λ o. unless_by o (Intact (after_batch before batch), Batch (length items) (map (λ index. sent_count index (packet_of before.rows batch index)) indexes))) allowed
+          ∙ (λ i. Ok (Intact (sym stepped_to i), Batch (length items) (sym counts i)))
+
+  module _ (state : TableState) (was : state_of schema kept ≡ state) where
+    state_is : state ≡ Intact before
+    state_is = sym was ∙ ap (state_of schema) is
+
+    -- ---- indexes
+
+    -- behind the others, or not, where memory is wanting
+    pub pushed_is_sound : (name : List ℕ) (def : Definition) → Suits state def → (pushed : Bool) (items : List Index) →
+        items ≡ (if pushed then indexes ++ empty_index before.shape name def ∷ [] else indexes) → IsSoundTable (held_by schema trees.rows items)
+    pushed_is_sound name def suits pushed items are =
+        subst (λ (xs : List Index). IsSoundTable (held_by schema trees.rows xs)) (sym are)
+        (elim pushed as (λ b. IsSoundTable (held_by schema trees.rows (if b then indexes ++ empty_index before.shape name def ∷ [] else indexes))) [
+          | true ↦ with_index-sound before name def (subst (λ s. Suits s def) state_is suits) was_sound
+          | false ↦ was_sound
+        ])
+
+    pub removed_is_sound : (place : ℕ) (items : List Index) → items ≡ remove indexes place → IsSoundTable (held_by schema trees.rows items)
+    removed_is_sound place items are = subst (λ (xs : List Index). IsSoundTable (held_by schema trees.rows xs)) (sym are) (without_index-sound before place was_sound)
+
+    pub drop_is_step : (name own : List ℕ) (place : ℕ) (index : Index) (items : List Index) → index_named name indexes ≡ Some (place, index) → items ≡ remove indexes place → own ≡ name
+        → IsStep state (Intact (held_by schema trees.rows items)) (DropIndex name) (Dropped own)
+    drop_is_step name own place index items found are same =
+        ap (λ s. step s (DropIndex name)) state_is ∙ ap (dropped before name) found
+        ∙ (λ i. Ok (Intact (held_by schema trees.rows (sym are i)), Dropped (sym same i)))
+
+    -- ---- what is shown
+
+    pub shows_rows : (name : List ℕ) → is_primary name ≡ true → (tree_named state name ≡ Ok (Primary before)) × ShowsRows before schema trees.rows
+    shows_rows name primary = (
+      ap (λ s. tree_named s name) state_is ∙ ap (λ b. if b then Ok (Primary before) else secondary before (index_named name indexes)) primary,
+      record { schema_is = refl; tree_is = refl; held = refl; order = keys_rise schema before.rows was_sound.rows (rows_sorted before was_sound) },
+    )
+
+    pub shows_index : (name : List ℕ) (place : ℕ) (index : Index) → is_primary name ≡ false → index_named name indexes ≡ Some (place, index) →
+        (tree_named state name ≡ Ok (Secondary before index)) × ShowsIndex before index schema index
+    shows_index name place index other found = (
+      ap (λ s. tree_named s name) state_is ∙ ap (λ b. if b then Ok (Primary before) else secondary before (index_named name indexes)) other ∙ ap (secondary before) found,
+      record {
+        schema_is = refl;
+        index_is = refl;
+        held = (subst (λ f. IfSome f (λ g. IsSoundIndex schema before.shape before.rows g.1)) found (sound-found schema before.shape before.rows 0 name indexes was_sound.indexes)).held;
+      },
+    )

@@ -10,7 +10,7 @@ use Rattle.bt_rowtype.proofs.offered.OnLiterals.{rowtype_on_literals}
 use Rattle.bt_keycode.specs.Prefixes.{eight_bytes}
 use Rattle.bt_rowtype.specs.declared.item.Item.TheVariants.{Put, Del, Ups}
 use Rattle.bt_table.specs.Batches.{made}
-use Rattle.bt_table.specs.Calls.{Call, Apply, Get, step, table_named}
+use Rattle.bt_table.specs.Calls.{Call, Apply, Get, step, tree_named}
 use Rattle.bt_table.specs.Tables.{TableState, Intact, Lost, empty_table}
 use Rattle.bt_table.specs.declared.reply.Reply.{Reply}
 use Rattle.bt_table.specs.declared.reply.Reply.TheVariants.{Batch, Row}
@@ -39,7 +39,7 @@ after state (call ∷ calls) = after (left_by state (step state call)) calls
 abbrev batch : Call
 batch = Apply (Put (codes "3" ∷ codes "30" ∷ []) ∷ Put (codes "3" ∷ codes "31" ∷ []) ∷ Put (codes "1" ∷ codes "10" ∷ []) ∷ Del (codes "1" ∷ []) ∷ Ups (codes "9" ∷ codes "add" ∷ codes "qty" ∷ codes "5" ∷ []) ∷ [])
 
-pub batch_reply : reply_of empty batch ≡ Ok (Batch 5)
+pub batch_reply : reply_of empty batch ≡ Ok (Batch 5 [])
 unfolding eight_bytes rowtype_on_literals
 batch_reply = refl
 
@@ -75,8 +75,8 @@ key_of_two_fields = refl
 pub lost_first : reply_of Lost faulty ≡ Err Failed
 lost_first = refl
 
-pub lost_name : table_named Lost (codes "second") ≡ Err Failed
+pub lost_name : tree_named Lost (codes "second") ≡ Err Failed
 lost_name = refl
 
-pub other_name : table_named empty (codes "second") ≡ Err NoSuchTree
+pub other_name : tree_named empty (codes "second") ≡ Err NoSuchTree
 other_name = refl

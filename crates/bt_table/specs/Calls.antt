@@ -1,21 +1,30 @@
 -- What a table may be asked, what it is then, and what it answers.
-use Rattle.std.specs.Prelude.{ℕ, ◌≡◌, ◌≢◌, ◌==◌, ◌⊎◌, Bool, List, length, Option, Some, None, Result, Ok, Err, if◌then◌else◌, codes}
+use Rattle.std.specs.Prelude.{ℕ, ◌≡◌, ◌≢◌, ◌==◌, ◌||◌, ◌⊎◌, Bool, List, [], ◌∷◌, ◌++◌, is_some, length, map, nat_le, Option, Some, None, Result, Ok, Err, if◌then◌else◌, codes}
 use Rattle.std.specs.Cmp.Lexicographic.{pointwise}
 use Rattle.std.specs.FinMap.{find}
+use Rattle.std.specs.List.{remove}
 use Rattle.bt_rowtype.specs.Refusals.{least}
 use Rattle.bt_rowtype.specs.Schemas.{Schema}
 use Rattle.bt_rowtype.specs.declared.refusal.Refusal.{Refusal}
-use Rattle.bt_rowtype.specs.declared.refusal.Refusal.TheVariants.{Failed, NoSuchTree, OutOfMemory}
+use Rattle.bt_rowtype.specs.declared.refusal.Refusal.TheVariants.{Failed, NameTaken, NoSuchTree, OutOfMemory, TooMany}
 use Rattle.bt_keycode.specs.Codes.{code_of}
 use Rattle.bt_keycode.specs.Keys.{key_cmp}
 use Rattle.bt_node.specs.Flushes.{holds}
 use Rattle.bt_node.specs.Trees.{Shape}
-use Rattle.bt_rowtype.specs.declared.item.Item.{Item}
-use Rattle.bt_table.specs.Batches.{batch_refusals, made, messages_of, read_key}
+use Rattle.bt_script.specs.declared.command.Item.{Item}
+use Rattle.bt_fanout.specs.Effects.{entry_effect}
+use Rattle.bt_fanout.specs.Entries.{Definition}
+use Rattle.bt_fanout.specs.Promises.{index_of}
+use Rattle.bt_table.specs.Batches.{batch_refusals, made, messages_of, one_if, read_key}
+use Rattle.bt_table.specs.Indexes.{empty_index, index_named, packet_of, sent_count}
 use Rattle.bt_table.specs.Standing.{KeysRise}
-use Rattle.bt_table.specs.Tables.{PlainTable, RowTree, TableState, Intact, Lost, after_batch, row_effect}
+use Rattle.bt_table.specs.Tables.{PlainTable, RowMessages, RowTree, TableState, Intact, Lost, after_batch, row_effect}
+use Rattle.bt_table.specs.declared.index.Index.{Index}
+use Rattle.bt_table.specs.declared.table.TreeRef.{TreeRef}
+use Rattle.bt_table.specs.declared.table.TreeRef.TheVariants as shown
 use Rattle.bt_table.specs.declared.reply.Reply.{Reply}
-use Rattle.bt_table.specs.declared.reply.Reply.TheVariants.{Batch, Row}
+use Rattle.bt_table.specs.declared.reply.Reply.TheVariants.{Batch, Created, Dropped, Row}
+use Rattle.bt_table.specs.declared.reply.SentCount.{SentCount}
 
 -- what a table may be asked
 pub data Call : Type 0 where
@@ -23,6 +32,10 @@ pub data Call : Type 0 where
   Apply : (items : List Item) → Call
   -- for the row of the key that fields spell
   Get : (fields : List (List ℕ)) → Call
+  -- for a new index of a definition
+  CreateIndex : (name : List ℕ) → (def : Definition) → Call
+  -- to have an index no more
+  DropIndex : (name : List ℕ) → Call
 
 -- a value, or the refusal where there is one
 abbrev pub unless_by : {A : Type 0} → Option Refusal → A → Result A Refusal
@@ -33,11 +46,46 @@ unless_by None value = Ok value
 abbrev pub unless : {A : Type 0} → List Refusal → A → Result A Refusal
 unless refusals value = unless_by (least refusals) value
 
+-- whether a name is that of the tree of rows
+abbrev pub is_primary : List ℕ → Bool
+is_primary name = pointwise ◌==◌ name (codes "primary")
+
+-- the refusals that apply to a new index of this name: it is taken, or there are too many
+abbrev pub name_refusals : PlainTable → List ℕ → List Refusal
+name_refusals table name =
+    one_if (is_primary name || is_some (index_named name table.indexes)) NameTaken ++ one_if (nat_le 8 (length table.indexes)) TooMany
+
+-- those that apply to it in a state
+abbrev pub index_refusals : TableState → List ℕ → List Refusal
+index_refusals Lost name = Failed ∷ []
+index_refusals (Intact table) name = name_refusals table name
+
+-- a table with a new index
+abbrev pub with_index : PlainTable → List ℕ → Definition → PlainTable
+with_index table name def = record table { indexes = table.indexes ++ empty_index table.shape name def ∷ [] }
+
+-- a table without the index at a place
+abbrev pub without_index : PlainTable → ℕ → PlainTable
+without_index table place = record table { indexes = remove table.indexes place }
+
+-- the index of this name is taken out, or there is none
+abbrev pub dropped : PlainTable → List ℕ → Option (ℕ × Index) → Result (TableState × Reply) Refusal
+dropped table name None = Err NoSuchTree
+dropped table name (Some found) = Ok (Intact (without_index table found.0), Dropped name)
+
+-- how many messages of a batch each index is sent
+abbrev pub sent_counts : PlainTable → RowMessages → List SentCount
+sent_counts table batch = map (λ index. sent_count index (packet_of table.rows batch index)) table.indexes
+
 -- A call: the table after it and its reply, or its refusal, and then the table stays. That a table was lost is said first.
 abbrev pub step : TableState → Call → Result (TableState × Reply) Refusal
 step Lost call = Err Failed
-step (Intact table) (Apply items) = unless (batch_refusals table.schema items) (Intact (after_batch table (messages_of table.schema items)), Batch (length items))
+step (Intact table) (Apply items) =
+    unless (batch_refusals table.schema items)
+    (Intact (after_batch table (messages_of table.schema items)), Batch (length items) (sent_counts table (messages_of table.schema items)))
 step (Intact table) (Get fields) = made (λ key. (Intact table, Row (find key_cmp (code_of key) table.rows))) (read_key table.schema 1 fields)
+step (Intact table) (CreateIndex name def) = unless (name_refusals table name) (Intact (with_index table name def), Created name)
+step (Intact table) (DropIndex name) = dropped table name (index_named name table.indexes)
 
 -- a call leaves this table and is answered so
 abbrev pub IsStep : TableState → TableState → Call → Reply → Type 0
@@ -51,20 +99,40 @@ IsRefused old new call refusal = refusal ≢ OutOfMemory → (step old call ≡ 
 abbrev pub StaysOrIsLost : TableState → TableState → Type 0
 StaysOrIsLost old new = (new ≡ old) ⊎ (new ≡ Lost)
 
--- whether a name is that of the tree of rows
-abbrev pub is_primary : List ℕ → Bool
-is_primary name = pointwise ◌==◌ name (codes "primary")
+-- a tree of a table: that of its rows, or that of an index
+pub data NamedTree : Type 0 where
+  Primary : (table : PlainTable) → NamedTree
+  Secondary : (table : PlainTable) → (index : Index) → NamedTree
 
--- the table whose tree of rows has this name, the only one that there is, or the refusal
-abbrev pub table_named : TableState → List ℕ → Result PlainTable Refusal
-table_named Lost name = Err Failed
-table_named (Intact table) name = if is_primary name then Ok table else Err NoSuchTree
+-- the index of a table that was found
+abbrev pub secondary : PlainTable → Option (ℕ × Index) → Result NamedTree Refusal
+secondary table None = Err NoSuchTree
+secondary table (Some found) = Ok (Secondary table found.1)
 
--- the tree of this name is the tree of rows of a table, and holds its rows, which strictly rise by the values of their keys
-pub record Shows (state : TableState) (name : List ℕ) (schema : Schema) (tree : Shape × RowTree) : Type 0 where
-  pub table : PlainTable
-  pub named : table_named state name ≡ Ok table
+-- the tree of this name, or the refusal
+abbrev pub tree_named : TableState → List ℕ → Result NamedTree Refusal
+tree_named Lost name = Err Failed
+tree_named (Intact table) name = if is_primary name then Ok (Primary table) else secondary table (index_named name table.indexes)
+
+-- a tree is that of the rows of a table, and holds its rows, which strictly rise by the values of their keys
+pub record ShowsRows (table : PlainTable) (schema : Schema) (tree : Shape × RowTree) : Type 0 where
   pub schema_is : schema ≡ table.schema
   pub tree_is : tree ≡ (table.shape, table.tree)
   pub held : holds row_effect tree.1 ≡ table.rows
   pub order : KeysRise table.schema table.rows
+
+-- an index is one of a table, and its tree holds what its definition selects of the rows that it covers
+pub record ShowsIndex (table : PlainTable) (own : Index) (schema : Schema) (index : Index) : Type 0 where
+  pub schema_is : schema ≡ table.schema
+  pub index_is : index ≡ own
+  pub held : holds entry_effect index.tree.1 ≡ index_of index.def index.cover table.rows
+
+-- what is shown of the tree of a name
+abbrev pub ShowsNamed : NamedTree → TreeRef → Type 0
+ShowsNamed (Primary table) (shown.Rows schema tree) = ShowsRows table schema.now tree.now
+ShowsNamed (Primary table) (shown.Index schema index) = ⊥
+ShowsNamed (Secondary table own) (shown.Rows schema tree) = ⊥
+ShowsNamed (Secondary table own) (shown.Index schema index) = ShowsIndex table own schema.now index.now
+
+abbrev pub Shows : TableState → List ℕ → TreeRef → Type 0
+Shows state name shown = (tree : NamedTree) × (tree_named state name ≡ Ok tree) × ShowsNamed tree shown

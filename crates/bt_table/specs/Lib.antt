@@ -1,4 +1,5 @@
 pub mod Batches
 pub mod Calls
+pub mod Indexes
 pub mod Standing
 pub mod Tables

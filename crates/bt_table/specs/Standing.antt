@@ -10,6 +10,12 @@ use Rattle.bt_node.specs.Fits.{HasShape}
 use Rattle.bt_node.specs.Flushes.{holds}
 use Rattle.bt_keycode.specs.Keys.{Key}
 use Rattle.bt_node.specs.Messages.{Rows}
+use Rattle.bt_node.specs.Trees.{Shape}
+use Rattle.bt_fanout.specs.Definitions.{kinds_of}
+use Rattle.bt_fanout.specs.Effects.{entry_effect}
+use Rattle.bt_fanout.specs.Entries.{Definition, SuitsKinds}
+use Rattle.bt_fanout.specs.Promises.{index_of}
+use Rattle.bt_table.specs.declared.index.Index.{Index}
 use Rattle.bt_table.specs.Tables.{PlainTable, RowMessage, RowMessages, TableState, Intact, Lost, row_effect}
 
 -- a row stands under the code of its key columns, and is of the schema: one value of each column's kind, within the range of its kind
@@ -23,13 +29,27 @@ abbrev pub AllStand : Schema → Rows (List Value) → Type 0
 AllStand schema [] = Unit {0}
 AllStand schema (row ∷ rows) = Stands schema row.0 row.1 × AllStand schema rows
 
--- its tree fits its shape and holds its rows, and each row stands in its place and is of the schema
+-- an index is sound beside rows: its definition is one of the schema, its tree fits the shape of the table and holds what its definition selects of the rows that it covers
+pub record IsSoundIndex (schema : Schema) (shape : Shape) (rows : Rows (List Value)) (index : Index) : Type 0 where
+  pub suits : SuitsKinds index.def (kinds_of schema.columns)
+  pub keys : index.def.keys ≡ schema.keys
+  pub shaped : index.tree.0 ≡ shape
+  pub tree : HasShape shape index.tree.1
+  pub held : holds entry_effect index.tree.1 ≡ index_of index.def index.cover rows
+
+-- each of the indexes is
+abbrev pub AreSoundIndexes : Schema → Shape → Rows (List Value) → List Index → Type 0
+AreSoundIndexes schema shape rows [] = Unit {0}
+AreSoundIndexes schema shape rows (index ∷ indexes) = IsSoundIndex schema shape rows index × AreSoundIndexes schema shape rows indexes
+
+-- its tree fits its shape and holds its rows, each row stands in its place and is of the schema, and its indexes are sound
 pub record IsSoundTable (table : PlainTable) : Type 0 where
   pub tree : HasShape table.shape table.tree
   pub held : holds row_effect table.tree ≡ table.rows
   pub rows : AllStand table.schema table.rows
+  pub indexes : AreSoundIndexes table.schema table.shape table.rows table.indexes
 
--- A table is sound: it is intact, its tree fits its shape and holds its rows, and each row stands in its place and is of the schema.
+-- A table is sound: it is intact, its tree fits its shape and holds its rows, each row stands in its place and is of the schema, and each index holds what its definition selects of the rows that it covers.
 abbrev pub IsSound : TableState → Type 0
 IsSound (Intact table) = IsSoundTable table
 IsSound Lost = ⊥
@@ -52,3 +72,13 @@ AreOfSchema schema (message ∷ messages) = IsOfSchema schema message × AreOfSc
 -- the rows strictly rise by the values of their key columns
 abbrev pub KeysRise : Schema → Rows (List Value) → Type 0
 KeysRise schema rows = T (is_sorted values_cmp (map (λ row. (take schema.keys row.1, row.1)) rows))
+
+-- a definition is one of the schema of a table, if it is intact
+abbrev pub Suits : TableState → Definition → Type 0
+Suits Lost def = Unit {0}
+Suits (Intact table) def = SuitsKinds def (kinds_of table.schema.columns) × (def.keys ≡ table.schema.keys)
+
+-- a table is intact and has this schema
+abbrev pub HasSchema : TableState → Schema → Type 0
+HasSchema Lost schema = ⊥
+HasSchema (Intact table) schema = schema ≡ table.schema

@@ -10,6 +10,9 @@ use Rattle.bt_node.specs.Flushes.{holds, sunk}
 use Rattle.bt_keycode.specs.Keys.{Key}
 use Rattle.bt_node.specs.Messages.{Rows, rows_after}
 use Rattle.bt_node.specs.Trees.{Shape, Tree, leaf}
+use Rattle.bt_table.specs.Indexes.{indexes_after}
+use Rattle.bt_table.specs.declared.index.Index.{Index}
+use Rattle.bt_table.specs.declared.table.Trees.{Trees}
 
 -- a message to the key of a row, and messages
 abbrev pub RowMessage : Type 0
@@ -26,34 +29,36 @@ row_effect = effect_of merged
 abbrev pub RowTree : Type 0
 RowTree = Tree (List Value) (Message (List Value) Change)
 
--- a table: its columns, how large the nodes of its tree may be, its rows by their key codes, and its tree
+-- a table: its columns, how large the nodes of its trees may be, its rows by their key codes, the tree of its rows, and its indexes in order of creation
 pub record PlainTable : Type 0 where
   pub schema : Schema
   pub shape : Shape
   pub rows : Rows (List Value)
   pub tree : RowTree
+  pub indexes : List Index
 
--- what a contract sees of a table: it is intact, or it lost its tree when memory was wanting
+-- what a contract sees of a table: it is intact, or it lost its trees when memory was wanting
 pub data TableState : Type 0 where
   Intact : (table : PlainTable) → TableState
   Lost : TableState
 
--- a table with no rows: its tree is one leaf
+-- a table with no rows and no indexes: its tree is one leaf
 abbrev pub empty_table : Schema → Shape → PlainTable
-empty_table schema shape = record { schema = schema; shape = shape; rows = []; tree = leaf [] }
+empty_table schema shape = record { schema = schema; shape = shape; rows = []; tree = leaf []; indexes = [] }
 
--- a table whose rows are what its tree holds
-abbrev pub held_by : Schema → Shape → RowTree → PlainTable
-held_by schema shape t = record { schema = schema; shape = shape; rows = holds row_effect t; tree = t }
+-- a table with these indexes, whose rows are what its tree holds
+abbrev pub held_by : Schema → Shape × RowTree → List Index → PlainTable
+held_by schema tree indexes = record { schema = schema; shape = tree.0; rows = holds row_effect tree.1; tree = tree.1; indexes = indexes }
 
--- a table after the messages of a batch: its rows take them in order, and its tree takes them sorted by key
+-- a table after the messages of a batch: its rows take them in order, its tree takes them sorted by key, and each index what they mean for it
 abbrev pub after_batch : PlainTable → RowMessages → PlainTable
 after_batch table batch = record table {
   rows = rows_after row_effect batch table.rows;
   tree = sunk row_effect table.shape table.tree (sorted_batch batch);
+  indexes = indexes_after table.rows batch table.indexes;
 }
 
--- the table of a schema by its tree, where it still has one
-abbrev pub state_of : Schema → Option (Shape × RowTree) → TableState
+-- the table of a schema by its trees, where it still has them
+abbrev pub state_of : Schema → Option Trees → TableState
 state_of schema None = Lost
-state_of schema (Some tree) = Intact (held_by schema tree.0 tree.1)
+state_of schema (Some trees) = Intact (held_by schema trees.rows trees.indexes.items)

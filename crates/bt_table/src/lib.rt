@@ -16,9 +16,11 @@
 #![tactic(auto)]
 
 mod batch;
+mod index;
 mod reply;
 mod table;
 
 pub use batch::MOST_MESSAGES;
-pub use reply::Reply;
-pub use table::{Table, TreeRef};
+pub use index::Index;
+pub use reply::{Reply, SentCount};
+pub use table::{MOST_INDEXES, Table, TreeRef};

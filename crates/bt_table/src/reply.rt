@@ -1,11 +1,25 @@
 //! What a table answers.
-use bt_rowtype::Row;
+use bt_rowtype::{Row, Sequence, Text};
+
+/// How many messages of a batch an index was sent.
+#[derive(Drop)]
+pub struct SentCount {
+    pub name: Text,
+    pub count: usize,
+}
 
 /// What a call on a table answers where it is not refused.
 #[derive(Drop)]
 pub enum Reply {
-    /// A batch was applied, of so many messages.
-    Batch(usize),
+    /// A batch was applied, of so many messages, and each index was sent so many, in order of creation.
+    Batch {
+        count: usize,
+        sent: Sequence<SentCount>,
+    },
     /// The row of a key, where it has one.
     Row(Option<Row>),
+    /// The index of this name was created.
+    Created(Text),
+    /// The index of this name is there no more.
+    Dropped(Text),
 }

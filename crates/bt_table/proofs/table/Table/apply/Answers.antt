@@ -1,16 +1,53 @@
-use Rattle.std.proofs.Common.{rules, ◌≡◌, Some}
-use Rattle.bt_table.proofs.Steps.{batch_is_step, stays_sound}
+use Rattle.std.proofs.Common.{rules, ◌≡◌, ◌∙◌, Some, ap, subst, sym}
+use Rattle.bt_messages.specs.Messages.{sorted_batch}
+use Rattle.bt_node.specs.Flushes.{sunk}
+use Rattle.bt_fanout.specs.Effects.{row_effect}
+use Rattle.bt_table.specs.Batches.{messages_of}
+use Rattle.bt_table.specs.Indexes.{sunk_indexes}
+use Rattle.bt_table.specs.Standing.{IsSoundUnlessLost}
+use Rattle.bt_table.specs.Tables.{state_of}
+use Rattle.bt_table.proofs.Steps.{batch_is_step, stays_sound, suit}
 use Rattle.bt_table.proofs.table.Table.apply.Goals as goal
+
+pub fan_out-requires : goal.fan_out-requires
+fan_out-requires c =
+    let is : c.self.inside.trees ≡ Some c.in-Some.trees = search rules in
+    rw (c.as_slice.ensures.value, c.in_ok-packet.ensures.messages, c.in_ok-batch.ensures.messages)
+    (suit c.self.inside.schema c.self.inside.trees c.in-Some.trees is c.self.invariant c.args.items.now)
+
+-- the table is lost where memory is wanting
+pub invariant_of-self-in_err-indexes : goal.invariant_of-self-in_err-indexes
+invariant_of-self-in_err-indexes c = subst (λ trees. IsSoundUnlessLost (state_of c.self.inside.schema trees)) (sym c.take.ensures.after) tt
 
 -- the table is sound after the batch
 pub invariant_of-self-2 : goal.invariant_of-self-2
 invariant_of-self-2 c =
-    let is : c.self.inside.tree ≡ Some c.in-Some.tree = search rules in
-    let sunk = rw (c.in_ok-packet.ensures.messages, c.in_ok-batch.ensures.messages) at c.in_ok-sink.ensures.tree in
-    stays_sound c.self.inside.schema c.self.inside.tree c.in-Some.tree is c.self.invariant c.args.items.now c.in_ok-sink.field-0 sunk
+    let trees = c.in-Some.trees in
+    let schema = c.self.inside.schema in
+    let items = c.args.items.now in
+    let is : c.self.inside.trees ≡ Some trees = search rules in
+    let rows : c.in-Some-take.field-0.rows ≡ trees.rows = search rules in
+    let indexes : c.in-Some-take.field-0.indexes ≡ trees.indexes = search rules in
+    let packets = rw (c.in_ok-packet.ensures.messages, c.in_ok-batch.ensures.messages, c.as_slice.ensures.value) at c.in_ok-packets.ensures.packets in
+    let sent = rw (c.in_ok-packet.ensures.messages, c.in_ok-batch.ensures.messages, c.as_slice.ensures.value) at c.in_ok-packets.ensures.sent in
+    let batch = sorted_batch (messages_of schema items) in
+    let sunk_rows = (rw (c.in_ok-packet.ensures.messages, c.in_ok-batch.ensures.messages) at c.in_ok-rows.ensures.tree) ∙ ap (λ t. (t.0, sunk row_effect t.0 t.1 batch)) rows in
+    let sunk_entries = c.in_ok-indexes.ensures ∙ ap (λ v. sunk_indexes v.items c.in_ok-packets.field-0.packets.items) indexes in
+    stays_sound schema c.self.inside.trees trees is c.self.invariant items c.in_ok-packets.field-0.packets.items c.in_ok-packets.field-0.sent (record { rows = c.in_ok-rows.rows; indexes = c.in_ok-indexes.indexes })
+    packets sent sunk_rows sunk_entries
 
 pub returns-clause-done : goal.returns-clause-done
 returns-clause-done c =
-    let is : c.self.inside.tree ≡ Some c.in-Some.tree = search rules in
-    let sunk = rw (c.in_ok-packet.ensures.messages, c.in_ok-batch.ensures.messages) at c.in_ok-sink.ensures.tree in
-    batch_is_step c.self.inside.schema c.self.inside.tree c.in-Some.tree is c.self.invariant c.args.items.now c.in_ok-sink.field-0 sunk c.args.self.now c.self.view_is c.in_ok-batch.ensures.allowed
+    let trees = c.in-Some.trees in
+    let schema = c.self.inside.schema in
+    let items = c.args.items.now in
+    let is : c.self.inside.trees ≡ Some trees = search rules in
+    let rows : c.in-Some-take.field-0.rows ≡ trees.rows = search rules in
+    let indexes : c.in-Some-take.field-0.indexes ≡ trees.indexes = search rules in
+    let packets = rw (c.in_ok-packet.ensures.messages, c.in_ok-batch.ensures.messages, c.as_slice.ensures.value) at c.in_ok-packets.ensures.packets in
+    let sent = rw (c.in_ok-packet.ensures.messages, c.in_ok-batch.ensures.messages, c.as_slice.ensures.value) at c.in_ok-packets.ensures.sent in
+    let batch = sorted_batch (messages_of schema items) in
+    let sunk_rows = (rw (c.in_ok-packet.ensures.messages, c.in_ok-batch.ensures.messages) at c.in_ok-rows.ensures.tree) ∙ ap (λ t. (t.0, sunk row_effect t.0 t.1 batch)) rows in
+    let sunk_entries = c.in_ok-indexes.ensures ∙ ap (λ v. sunk_indexes v.items c.in_ok-packets.field-0.packets.items) indexes in
+    batch_is_step schema c.self.inside.trees trees is c.self.invariant items c.in_ok-packets.field-0.packets.items c.in_ok-packets.field-0.sent (record { rows = c.in_ok-rows.rows; indexes = c.in_ok-indexes.indexes })
+    packets sent sunk_rows sunk_entries c.args.self.now c.self.view_is c.in_ok-batch.ensures.allowed

@@ -1,0 +1,102 @@
+-- What a batch sends to the indexes of a table, and that they stay sound under it. Serves a table that applies a batch.
+use Rattle.std.proofs.Common.{ℕ, zero, suc, ◌≡◌, ◌∙◌, T, List, [], ◌∷◌, ◌++◌, ap, false, if◌then◌else◌, map, refl, subst, sym, true, IfSome, Some}
+use Rattle.std.specs.FinMap.{is_sorted}
+use Rattle.std.specs.List.{All, remove}
+use Rattle.bt_rowtype.specs.Schemas.{Schema}
+use Rattle.bt_rowtype.specs.declared.value.Value.{Value}
+use Rattle.bt_keycode.specs.Keys.{key_cmp}
+use Rattle.bt_messages.specs.Effects.{Rows, rows_after}
+use Rattle.bt_messages.specs.Messages.{sorted_batch}
+use Rattle.bt_node.specs.Fits.{HasShape}
+use Rattle.bt_node.specs.Flushes.{holds, sunk}
+use Rattle.bt_node.specs.Trees.{Shape}
+use Rattle.bt_node.proofs.offered.ShapedTrees.{sunk-has_shape, sunk-holds}
+use Rattle.bt_fanout.specs.Definitions.{kinds_of}
+use Rattle.bt_fanout.specs.Effects.{SuitsEffect, effects_of, entry_effect, row_effect, sent_for_all}
+use Rattle.bt_fanout.specs.Entries.{Definition, StandsUnder}
+use Rattle.bt_fanout.specs.Promises.{Turns, index_of}
+use Rattle.bt_fanout.specs.Selections as selection
+use Rattle.bt_fanout.proofs.offered.Packets.{effects-sorted_batch}
+use Rattle.bt_fanout.proofs.offered.Standing.{stands_under}
+use Rattle.bt_fanout.proofs.offered.Suiting.{all_more, all_none, suits_effects}
+use Rattle.bt_fanout.proofs.offered.Turns.{packet_turns}
+use Rattle.bt_table.specs.Indexes.{indexes_after, is_name_of, named_from, packet_for, packet_of, sent_count, sunk_index, sunk_indexes}
+use Rattle.bt_table.specs.Standing.{AllStand, AreSoundIndexes, IsSoundIndex}
+use Rattle.bt_table.specs.Tables.{RowMessages}
+use Rattle.bt_table.specs.declared.index.Index.{Index}
+
+-- rows of a schema stand as the laws of an index ask
+stand : (schema : Schema) (def : Definition) → def.keys ≡ schema.keys → (rows : Rows (List Value)) → AllStand schema rows → selection.AllStand (StandsUnder def (kinds_of schema.columns)) rows
+stand schema def keys [] all = tt
+stand schema def keys (row ∷ rows) all = (stands_under schema def row.0 row.1 keys all.0.fits all.0.placed, stand schema def keys rows all.1)
+
+module _ (schema : Schema) (shape : Shape) (rows : Rows (List Value)) (batch : RowMessages) (sorted : T (is_sorted key_cmp rows)) (before : AllStand schema rows) (after : AllStand schema (rows_after row_effect batch rows)) where
+  turns : (index : Index) → IsSoundIndex schema shape rows index → Turns index.def index.cover batch rows (sorted_batch (sent_for_all index.def index.cover (effects_of batch rows)))
+  turns index sound =
+      packet_turns index.def index.cover (kinds_of schema.columns) batch rows sorted (stand schema index.def sound.keys rows before) (stand schema index.def sound.keys (rows_after row_effect batch rows) after)
+
+  -- ---- what is sent
+
+  packet_is : (index : Index) → IsSoundIndex schema shape rows index → packet_for (effects_of (sorted_batch batch) rows) index ≡ packet_of rows batch index
+  packet_is index sound = ap (λ effects. packet_for effects index) (effects-sorted_batch batch rows sorted) ∙ (turns index sound).messages
+
+  pub sunk_is : (indexes : List Index) → AreSoundIndexes schema shape rows indexes →
+      sunk_indexes indexes (map (packet_for (effects_of (sorted_batch batch) rows)) indexes) ≡ indexes_after rows batch indexes
+  sunk_is [] sound = refl
+  sunk_is (index ∷ indexes) sound = λ i. sunk_index index (packet_is index sound.0 i) ∷ sunk_is indexes sound.1 i
+
+  pub counts_are : (indexes : List Index) → AreSoundIndexes schema shape rows indexes →
+      map (λ index. sent_count index (packet_for (effects_of (sorted_batch batch) rows) index)) indexes ≡ map (λ index. sent_count index (packet_of rows batch index)) indexes
+  counts_are [] sound = refl
+  counts_are (index ∷ indexes) sound = λ i. sent_count index (packet_is index sound.0 i) ∷ counts_are indexes sound.1 i
+
+  -- the definitions are those of rows as the effects have
+  pub indexes_suit : (indexes : List Index) → AreSoundIndexes schema shape rows indexes → All (λ index. All (SuitsEffect index.def) (effects_of (sorted_batch batch) rows)) indexes
+  indexes_suit [] sound = all_none (λ index. All (SuitsEffect index.def) (effects_of (sorted_batch batch) rows))
+  indexes_suit (index ∷ indexes) sound =
+      all_more (λ index. All (SuitsEffect index.def) (effects_of (sorted_batch batch) rows)) index indexes
+      (subst (All (SuitsEffect index.def)) (sym (effects-sorted_batch batch rows sorted))
+      (suits_effects index.def (kinds_of schema.columns) sound.0.suits batch rows (stand schema index.def sound.0.keys rows before) (stand schema index.def sound.0.keys (rows_after row_effect batch rows) after)))
+      (indexes_suit indexes sound.1)
+
+  -- ---- indexes after the batch
+
+  index_stays_sound : (index : Index) → IsSoundIndex schema shape rows index → IsSoundIndex schema shape (rows_after row_effect batch rows) (sunk_index index (packet_of rows batch index))
+  index_stays_sound index sound =
+      let packet = packet_of rows batch index in
+      let turned = turns index sound in
+      record {
+        suits = sound.suits;
+        keys = sound.keys;
+        shaped = sound.shaped;
+        tree = subst (λ s. HasShape shape (sunk entry_effect s index.tree.1 packet)) (sym sound.shaped) (sunk-has_shape entry_effect shape index.tree.1 sound.tree packet);
+        held = ap (λ s. holds entry_effect (sunk entry_effect s index.tree.1 packet)) sound.shaped ∙ sunk-holds entry_effect shape index.tree.1 sound.tree packet
+            ∙ ap (rows_after entry_effect packet) sound.held
+            ∙ subst (λ p. rows_after entry_effect p (index_of index.def index.cover rows) ≡ index_of index.def index.cover (rows_after row_effect batch rows)) turned.messages turned.index;
+      }
+
+  pub indexes_stay_sound : (indexes : List Index) → AreSoundIndexes schema shape rows indexes → AreSoundIndexes schema shape (rows_after row_effect batch rows) (indexes_after rows batch indexes)
+  indexes_stay_sound [] sound = tt
+  indexes_stay_sound (index ∷ indexes) sound = (index_stays_sound index sound.0, indexes_stay_sound indexes sound.1)
+
+-- ---- other lists of indexes
+
+module _ (schema : Schema) (shape : Shape) (rows : Rows (List Value)) where
+  pub sound-append : (indexes others : List Index) → AreSoundIndexes schema shape rows indexes → AreSoundIndexes schema shape rows others → AreSoundIndexes schema shape rows (indexes ++ others)
+  sound-append [] others sound also = also
+  sound-append (index ∷ indexes) others sound also = (sound.0, sound-append indexes others sound.1 also)
+
+  pub sound-remove : (indexes : List Index) (place : ℕ) → AreSoundIndexes schema shape rows indexes → AreSoundIndexes schema shape rows (remove indexes place)
+  sound-remove [] zero sound = tt
+  sound-remove [] (suc place) sound = tt
+  sound-remove (index ∷ indexes) zero sound = sound.1
+  sound-remove (index ∷ indexes) (suc place) sound = (sound.0, sound-remove indexes place sound.1)
+
+  -- the index that a name finds is one of them
+  pub sound-found : (place : ℕ) (name : List ℕ) (indexes : List Index) → AreSoundIndexes schema shape rows indexes → IfSome (named_from place name indexes) (λ found. IsSoundIndex schema shape rows found.1)
+  sound-found place name [] sound = tt
+  sound-found place name (index ∷ indexes) sound =
+      elim (is_name_of name index) as (λ b. IfSome (if b then Some (place, index) else named_from (suc place) name indexes) (λ found. IsSoundIndex schema shape rows found.1)) [
+        | true ↦ sound.0
+        | false ↦ sound-found (suc place) name indexes sound.1
+      ]

@@ -1,0 +1,67 @@
+-- The indexes of a table: how they are found, what a batch sends them, and what they are after it.
+use Rattle.std.specs.Prelude.{ℕ, suc, ◌==◌, Bool, List, [], ◌∷◌, length, map, Option, Some, None, if◌then◌else◌}
+use Rattle.std.specs.Cmp.Lexicographic.{pointwise}
+use Rattle.bt_rowtype.specs.declared.value.Value.{Value}
+use Rattle.bt_messages.specs.Effects.{Rows}
+use Rattle.bt_messages.specs.Messages.{Messages, sorted_batch}
+use Rattle.bt_node.specs.Flushes.{sunk}
+use Rattle.bt_node.specs.Trees.{Shape, Tree, leaf}
+use Rattle.bt_fanout.specs.Covers.{is_covered}
+use Rattle.bt_fanout.specs.Effects.{EntryMessage, RowMessage, entry_effect, row_effect, sent_for_all}
+use Rattle.bt_fanout.specs.Entries.{Definition, entry_of, same_values}
+use Rattle.bt_fanout.specs.Selections.{index_messages}
+use Rattle.bt_fanout.specs.declared.cover.Cover.TheVariants.{Nothing}
+use Rattle.bt_fanout.specs.declared.effect.Effect.{Effect}
+use Rattle.bt_table.specs.declared.index.Index.{Index}
+use Rattle.bt_table.specs.declared.reply.SentCount.{SentCount}
+
+-- a tree of the entries of an index
+abbrev pub EntryTree : Type 0
+EntryTree = Tree (List Value) EntryMessage
+
+-- ---- names
+
+abbrev pub is_name_of : List ℕ → Index → Bool
+is_name_of name index = pointwise ◌==◌ index.name name
+
+-- the first index of this name, and its place, counted from one
+abbrev pub named_from : ℕ → List ℕ → List Index → Option (ℕ × Index)
+named_from place name [] = None
+named_from place name (index ∷ indexes) = if is_name_of name index then Some (place, index) else named_from (suc place) name indexes
+
+abbrev pub index_named : List ℕ → List Index → Option (ℕ × Index)
+index_named = named_from 0
+
+-- ---- a new index
+
+-- it covers no row, and its tree is one leaf
+abbrev pub empty_index : Shape → List ℕ → Definition → Index
+empty_index shape name def = record { name = name; def = def; cover = Nothing; tree = (shape, leaf []) }
+
+-- ---- batches
+
+-- the packet that effects on rows mean for an index
+abbrev pub packet_for : List Effect → Index → Messages EntryMessage
+packet_for effects index = sorted_batch (sent_for_all index.def index.cover effects)
+
+-- the packet that a batch on rows means for an index
+abbrev pub packet_of : Rows (List Value) → Messages RowMessage → Index → Messages EntryMessage
+packet_of rows batch index = sorted_batch (index_messages (entry_of index.def) same_values row_effect (is_covered index.cover) batch rows)
+
+-- how many messages an index is sent
+abbrev pub sent_count : Index → Messages EntryMessage → SentCount
+sent_count index packet = record { name = index.name; count = length packet }
+
+-- an index after a packet
+abbrev pub sunk_index : Index → Messages EntryMessage → Index
+sunk_index index packet = record index { tree = (index.tree.0, sunk entry_effect index.tree.0 index.tree.1 packet) }
+
+-- indexes, each after its packet
+abbrev pub sunk_indexes : List Index → List (Messages EntryMessage) → List Index
+sunk_indexes [] packets = []
+sunk_indexes (index ∷ indexes) [] = []
+sunk_indexes (index ∷ indexes) (packet ∷ packets) = sunk_index index packet ∷ sunk_indexes indexes packets
+
+-- indexes after a batch on rows
+abbrev pub indexes_after : Rows (List Value) → Messages RowMessage → List Index → List Index
+indexes_after rows batch indexes = map (λ index. sunk_index index (packet_of rows batch index)) indexes

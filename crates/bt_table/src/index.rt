@@ -1,0 +1,134 @@
+//! The indexes of a table.
+ghost use Rattle.std.specs.Prelude.{◌≡◌, ◌<◌, IfOk, IfSome, Some, length, map, option_map, slice_get};
+ghost use Rattle.std.specs.List.{All};
+ghost use Rattle.bt_node.specs.Flushes.{holds};
+ghost use Rattle.bt_fanout.specs.Effects.{SuitsEffect, effects_of, row_effect};
+ghost use Rattle.bt_table.specs.Indexes as spec;
+
+use crate::reply::SentCount;
+use bt_fanout::{Cover, Effect, IndexDef, effects, index_packet};
+use bt_messages::{Entry, Packet};
+use bt_node::{Shape, Tree};
+use bt_rowtype::{Row, Sequence, Text};
+use std::alloc::{AllocError, Global};
+
+/// A secondary index of a table.
+#[derive(Drop)]
+pub struct Index {
+    pub name: Text,
+    pub def: IndexDef,
+    /// The keys whose rows it has.
+    pub cover: Cover,
+    /// Its entries.
+    pub tree: Tree<Entry>,
+}
+
+/// An index that has no row yet.
+pub fn empty_index(alloc: Global, shape: Shape, name: Text, def: IndexDef) -> Index
+    ensures { result ≡ spec.empty_index shape name def }
+{
+    Index {
+        name,
+        def,
+        cover: Cover::Nothing,
+        tree: Tree::empty(alloc, shape),
+    }
+}
+
+/// The index of this name, and its place, counted from 0.
+pub fn find_index<'a>(indexes: &'a [Index], name: &Text) -> Option<(usize, &'a Index)>
+    ensures found { option_map (λ f. (f.0, f.1.now)) result ≡ spec.index_named name.now indexes.now }
+    ensures within { IfSome result (λ f. f.0 < length indexes.now) }
+    ensures there { IfSome result (λ f. slice_get indexes.now f.0 ≡ Some f.1.now) }
+    ensures name { IfSome result (λ f. f.1.now.name ≡ name.now) }
+{
+    for (place, index) in indexes.iter().enumerate() {
+        if index.name.as_bytes() == name.as_bytes() {
+            return Some((place, index));
+        }
+    }
+    None
+}
+
+/// What a batch sends to indexes: a packet for each, and how many messages it has.
+pub struct FanOut {
+    pub packets: Vec<Packet<Entry>>,
+    pub sent: Sequence<SentCount>,
+}
+
+// What effects on rows send to indexes.
+fn packets_for(alloc: Global, indexes: &[Index], effects: &[Effect]) -> Result<FanOut, AllocError>
+    requires { All (λ index. All (SuitsEffect index.def) effects.now) indexes.now }
+    ensures packets { IfOk result (λ out. out.packets.items ≡ map (spec.packet_for effects.now) indexes.now) }
+    ensures sent { IfOk result (λ out. out.sent ≡ map (λ index. spec.sent_count index (spec.packet_for effects.now index)) indexes.now) }
+{
+    let mut packets = Vec::new(alloc);
+    let mut sent = Sequence::new(alloc);
+    for index in indexes {
+        let packet = index_packet(alloc, &index.def, &index.cover, effects)?;
+        let name = index.name.copy(alloc)?;
+        sent.push(SentCount {
+            name,
+            count: packet.len(),
+        })?;
+        packets.push(packet)?;
+    }
+    Ok(FanOut { packets, sent })
+}
+
+/// What a packet of rows sends to the indexes of a table with this tree of rows. Without an index nothing is read.
+pub fn fan_out(
+    alloc: Global,
+    tree: &Tree<Row>,
+    packet: &Packet<Row>,
+    indexes: &[Index],
+) -> Result<FanOut, AllocError>
+    requires { All (λ index. All (SuitsEffect index.def) (effects_of packet.now (holds row_effect tree.now.1))) indexes.now }
+    ensures packets { IfOk result (λ out. out.packets.items ≡ map (spec.packet_for (effects_of packet.now (holds row_effect tree.now.1))) indexes.now) }
+    ensures sent { IfOk result (λ out. out.sent ≡ map (λ index. spec.sent_count index (spec.packet_for (effects_of packet.now (holds row_effect tree.now.1)) index)) indexes.now) }
+{
+    if indexes.is_empty() {
+        return packets_for(alloc, indexes, &[]);
+    }
+    let effects = effects(alloc, tree, packet)?;
+    packets_for(alloc, indexes, effects.as_slice())
+}
+
+// An index after a packet.
+fn sink(alloc: Global, index: Index, packet: Packet<Entry>) -> Result<Index, AllocError>
+    ensures { IfOk result (λ after. after ≡ spec.sunk_index index packet) }
+{
+    let Index {
+        name,
+        def,
+        cover,
+        tree,
+    } = index;
+    let tree = tree.sink(alloc, packet)?;
+    Ok(Index {
+        name,
+        def,
+        cover,
+        tree,
+    })
+}
+
+/// Indexes, each after its packet.
+pub fn sink_all(
+    alloc: Global,
+    indexes: Vec<Index>,
+    packets: Vec<Packet<Entry>>,
+) -> Result<Vec<Index>, AllocError>
+    requires { length packets.items ≡ length indexes.items }
+    ensures { IfOk result (λ after. after.items ≡ spec.sunk_indexes indexes.items packets.items) }
+{
+    let mut after = Vec::with_capacity(alloc, indexes.len())?;
+    let mut packets = packets.into_iter();
+    for index in indexes {
+        let Some(packet) = packets.next() else {
+            unreachable!()
+        };
+        after.push(sink(alloc, index, packet)?)?;
+    }
+    Ok(after)
+}
