@@ -16,8 +16,8 @@ use Rattle.bt_keycode.proofs.offered.Ranges.{OpsInRange, after_ops_in_range, def
 use Rattle.bt_keycode.specs.Keys.{key_cmp}
 use Rattle.bt_node.specs.Messages.{rows_after}
 use Rattle.bt_node.proofs.offered.ShapedTrees.{holds-sorted}
-use Rattle.bt_script.specs.declared.command.Item.{Item}
-use Rattle.bt_script.specs.declared.command.Item.TheVariants.{Put, Del, Ups}
+use Rattle.bt_rowtype.specs.declared.item.Item.{Item}
+use Rattle.bt_rowtype.specs.declared.item.Item.TheVariants.{Put, Del, Ups}
 use Rattle.bt_table.specs.Batches.{del_of, made, messages_of, put_of, read_batch, read_key, read_message, ups_of}
 use Rattle.bt_table.specs.Standing.{AreOfSchema, IsOfSchema, IsSoundTable, Stands, Suits}
 use Rattle.bt_table.specs.Tables.{Intact, PlainTable, RowMessage, RowMessages, after_batch, row_effect}

@@ -7,7 +7,7 @@ use Rattle.bt_messages.specs.Effects.{rows_after}
 use Rattle.bt_messages.specs.Messages.{Messages, sorted_batch}
 use Rattle.bt_node.specs.Flushes.{sunk}
 use Rattle.bt_fanout.specs.Effects.{EntryMessage, SuitsEffect, effects_of}
-use Rattle.bt_script.specs.declared.command.Item.{Item}
+use Rattle.bt_rowtype.specs.declared.item.Item.{Item}
 use Rattle.bt_table.specs.Batches.{batch_refusals, messages_of}
 use Rattle.bt_fanout.specs.Entries.{Definition}
 use Rattle.bt_table.specs.Calls.{Apply, DropIndex, IsStep, Primary, Secondary, ShowsIndex, ShowsRows, dropped, is_primary, secondary, step, tree_named, unless_by}
