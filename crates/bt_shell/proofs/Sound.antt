@@ -1,23 +1,28 @@
 -- A table stays sound along the commands of a script. Serves the run.
-use Rattle.std.proofs.Common.{ℕ, ◌≡◌, not, Bool, true, false, List, [], ◌∷◌, ◌++◌, refl, length, Option, Some, None, IfSome, IfOk, Result, Ok, Err, codes}
+use Rattle.std.proofs.Common.{ℕ, ◌≡◌, ◌≤◌, arith, not, Bool, true, false, List, [], ◌∷◌, ◌++◌, refl, length, Option, Some, None, IfSome, IfOk, Result, Ok, Err, codes}
+use Rattle.std.proofs.lemmas.Bool.Decides.{nat_tests}
 use Rattle.bt_rowtype.specs.Refusals.{least}
 use Rattle.bt_rowtype.specs.Schemas.{is_schema}
+use Rattle.bt_rowtype.specs.declared.schema.Column.{Column}
 use Rattle.bt_rowtype.specs.declared.refusal.Refusal.{Refusal}
 use Rattle.bt_rowtype.specs.declared.refusal.Refusal.TheVariants.{BadSchema, BadShape, TableExists}
 use Rattle.bt_node.specs.Shapes.{is_shape}
 use Rattle.bt_script.specs.Commands.{Answer}
 use Rattle.bt_script.specs.declared.command.Command.{Command}
-use Rattle.bt_script.specs.declared.command.Command.TheVariants.{Batch, Get, Image, Scan, Table}
+use Rattle.bt_script.specs.declared.command.Command.TheVariants.{Batch, Drop, Get, Image, Index, Scan, Table}
+use Rattle.bt_script.specs.declared.command.IndexForm.{IndexForm}
 use Rattle.bt_script.specs.declared.command.TableForm.{TableForm}
-use Rattle.bt_shell.specs.Images.{row_image}
-use Rattle.bt_shell.specs.Replies.{count_line, scan_reply}
+use Rattle.bt_fanout.specs.Definitions.{definition_as}
+use Rattle.bt_fanout.specs.Entries.{Definition}
+use Rattle.bt_fanout.proofs.offered.Definitions.{definition_suits}
+use Rattle.bt_shell.specs.Replies.{count_line}
 use Rattle.bt_shell.specs.Runs.{after_commands}
-use Rattle.bt_shell.specs.Steps.{Done, State, form_refusals, or_refused, outcome, table_of, told, turn}
+use Rattle.bt_shell.specs.Steps.{Done, State, checked, created, definition_of, form_refusals, image_of, or_refused, outcome, scanned, table_of, told, turn}
 use Rattle.bt_table.specs.Batches.{made, one_if}
 use Rattle.bt_table.specs.Calls as call
-use Rattle.bt_table.specs.Calls.{step, table_named, unless_by}
+use Rattle.bt_table.specs.Calls.{NamedTree, Primary, Secondary, name_refusals, step, tree_named, unless_by}
 use Rattle.bt_table.specs.Standing.{IsSound}
-use Rattle.bt_table.specs.Tables.{PlainTable, TableState}
+use Rattle.bt_table.specs.Tables.{Intact, Lost, TableState}
 use Rattle.bt_table.specs.declared.reply.Reply.{Reply}
 use Rattle.bt_table.proofs.offered.Steps.{empty_is_sound, shape_is_roomy, step_keeps_sound}
 
@@ -27,6 +32,16 @@ shape_allowed true true false none = absurd cc
 shape_allowed true false false none = absurd cc
 shape_allowed false true false none = absurd cc
 shape_allowed false false false none = absurd cc
+
+schema_allowed : (exists schema shape : Bool) → least (one_if exists TableExists ++ (one_if (not schema) BadSchema ++ one_if (not shape) BadShape)) ≡ None → schema ≡ true
+schema_allowed exists true shape none = refl
+schema_allowed true false true none = absurd cc
+schema_allowed true false false none = absurd cc
+schema_allowed false false true none = absurd cc
+schema_allowed false false false none = absurd cc
+
+few_keys : (columns : List Column) (keys : ℕ) → is_schema columns keys ≡ true → keys ≤ length columns
+few_keys columns keys test = grind (arith, nat_tests)
 
 -- what a command leaves, where it leaves a table, is sound
 abbrev IsSoundAfter : Result Done Refusal → Type 0
@@ -40,16 +55,39 @@ form_keeps_sound : (state : State) (form : TableForm) → IsSoundAfter (outcome 
 form_keeps_sound state form =
     when_allowed (least (form_refusals state form)) (Some (table_of form), count_line (codes "table ") (length form.columns)) (λ none.
     let allowed = shape_allowed _ (is_schema form.columns form.keys) (is_shape form.fanout form.buffer form.leaf) none in
-    empty_is_sound (record { columns = form.columns; keys = form.keys }) (record { fanout = form.fanout; buffer = form.buffer; leaf = form.leaf })
+    empty_is_sound (record { columns = form.columns; keys = form.keys }) (few_keys form.columns form.keys (schema_allowed _ (is_schema form.columns form.keys) (is_shape form.fanout form.buffer form.leaf) none)) (record { fanout = form.fanout; buffer = form.buffer; leaf = form.leaf })
     (shape_is_roomy (record { fanout = form.fanout; buffer = form.buffer; leaf = form.leaf }) allowed))
 
 told_keeps_sound : (after : Result (TableState × Reply) Refusal) → IfOk after (λ (step : TableState × Reply). IsSound step.0) → IsSoundAfter (told after)
 told_keeps_sound (Ok step) sound = sound
 told_keeps_sound (Err refusal) sound = tt
 
-shown_keeps_sound : (text : PlainTable → List ℕ) (table : TableState) (named : Result PlainTable Refusal) → IsSound table → IsSoundAfter (made (λ shown. (Some table, text shown)) named)
+shown_keeps_sound : (text : NamedTree → List ℕ) (table : TableState) (named : Result NamedTree Refusal) → IsSound table → IsSoundAfter (made (λ shown. (Some table, text shown)) named)
 shown_keeps_sound text table (Ok shown) sound = sound
 shown_keeps_sound text table (Err refusal) sound = tt
+
+scanned_keeps_sound : (table : TableState) (named : Result NamedTree Refusal) → IsSound table → IsSoundAfter (scanned table named)
+scanned_keeps_sound table (Ok (Primary shown)) sound = sound
+scanned_keeps_sound table (Ok (Secondary shown index)) sound = tt
+scanned_keeps_sound table (Err refusal) sound = tt
+
+-- a definition that no refusal applies to is the one that was made
+checked_is : (def : Result Definition Refusal) (other : Option Refusal) (one : Definition) → checked def other ≡ Ok one → def ≡ Ok one
+checked_is (Ok def) None one is = is
+checked_is (Ok def) (Some other) one is = cc
+checked_is (Err refusal) None one is = cc
+checked_is (Err refusal) (Some other) one is = cc
+
+created_keeps_sound : (table : TableState) (form : IndexForm) → IsSound table → IsSoundAfter (created table form.name (definition_of table form))
+created_keeps_sound Lost form sound = tt
+created_keeps_sound (Intact table) form sound = by_definition (definition_of (Intact table) form) refl
+  where
+    by_definition : (def : Result Definition Refusal) → definition_of (Intact table) form ≡ def → IsSoundAfter (created (Intact table) form.name def)
+    by_definition (Ok def) is =
+        told_keeps_sound _ (step_keeps_sound (Intact table) (call.CreateIndex form.name def)
+        (definition_suits table.schema form.on form.include form.filter def sound.keys
+        (checked_is (definition_as table.schema form.on form.include form.filter) (least (name_refusals table form.name)) def is)) sound)
+    by_definition (Err refusal) is = tt
 
 command_keeps_sound : (state : State) (command : Command) → IfSome state IsSound → IsSoundAfter (outcome state command)
 command_keeps_sound state (Table form) sound = form_keeps_sound state form
@@ -57,10 +95,14 @@ command_keeps_sound None (Batch items) sound = tt
 command_keeps_sound None (Get fields) sound = tt
 command_keeps_sound None (Scan tree) sound = tt
 command_keeps_sound None (Image tree) sound = tt
-command_keeps_sound (Some table) (Batch items) sound = told_keeps_sound _ (step_keeps_sound table (call.Apply items) sound)
-command_keeps_sound (Some table) (Get fields) sound = told_keeps_sound _ (step_keeps_sound table (call.Get fields) sound)
-command_keeps_sound (Some table) (Scan tree) sound = shown_keeps_sound (λ named. scan_reply named.rows) table (table_named table tree) sound
-command_keeps_sound (Some table) (Image tree) sound = shown_keeps_sound (λ named. row_image named.schema.columns tree named.tree) table (table_named table tree) sound
+command_keeps_sound None (Index form) sound = tt
+command_keeps_sound None (Drop name) sound = tt
+command_keeps_sound (Some table) (Batch items) sound = told_keeps_sound _ (step_keeps_sound table (call.Apply items) tt sound)
+command_keeps_sound (Some table) (Get fields) sound = told_keeps_sound _ (step_keeps_sound table (call.Get fields) tt sound)
+command_keeps_sound (Some table) (Scan tree) sound = scanned_keeps_sound table (tree_named table tree) sound
+command_keeps_sound (Some table) (Image tree) sound = shown_keeps_sound (image_of tree) table (tree_named table tree) sound
+command_keeps_sound (Some table) (Index form) sound = created_keeps_sound table form sound
+command_keeps_sound (Some table) (Drop name) sound = told_keeps_sound _ (step_keeps_sound table (call.DropIndex name) tt sound)
 
 refused_keeps_sound : (state : State) (after : Result Done Refusal) → IfSome state IsSound → IsSoundAfter after → IfSome (or_refused state after).0 IsSound
 refused_keeps_sound state (Ok done) sound after = after

@@ -13,6 +13,7 @@ use Rattle.bt_messages.specs.declared.message.Message.{Message}
 use Rattle.bt_messages.specs.declared.message.Message.TheVariants as message
 use Rattle.bt_keycode.specs.Keys.{Key}
 use Rattle.bt_node.specs.Trees.{Tree, leaf, inner, Nodes, none, node, children, height}
+use Rattle.bt_table.specs.Indexes.{EntryTree}
 use Rattle.bt_table.specs.Tables.{RowTree}
 
 -- the indent of what is one level deeper: two spaces more
@@ -101,10 +102,6 @@ row_image columns = image_text row_text (change_text columns)
 abbrev pub entry_text : List Value → List ℕ
 entry_text [] = []
 entry_text (first ∷ others) = row_text (first ∷ others)
-
--- a tree of an index, whose upserts carry new index values
-abbrev pub EntryTree : Type 0
-EntryTree = Tree (List Value) (Message (List Value) (List Value))
 
 -- a tree of an index, under its name
 abbrev pub entry_image : List ℕ → EntryTree → List ℕ

@@ -8,7 +8,8 @@ use Rattle.bt_rowtype.specs.declared.value.Value.{Value}
 use Rattle.bt_keycode.specs.Keys.{Key}
 use Rattle.bt_node.specs.Messages.{Rows}
 use Rattle.bt_table.specs.declared.reply.Reply.{Reply}
-use Rattle.bt_table.specs.declared.reply.Reply.TheVariants.{Batch, Row}
+use Rattle.bt_table.specs.declared.reply.Reply.TheVariants.{Batch, Created, Dropped, Row}
+use Rattle.bt_table.specs.declared.reply.SentCount.{SentCount}
 
 -- a word, a number and a line end
 abbrev pub count_line : List ℕ → ℕ → List ℕ
@@ -31,10 +32,24 @@ abbrev pub row_reply : Option (List Value) → List ℕ
 row_reply None = codes "none\n"
 row_reply (Some row) = row_line row
 
+-- the name of an index and how many messages it was sent, behind a space
+abbrev pub sent_text : SentCount → List ℕ
+sent_text sent = codes " " ++ (sent.name ++ (codes ":" ++ decimal sent.count))
+
+-- the number of messages of a batch, and that of each index
+abbrev pub batch_reply : ℕ → List SentCount → List ℕ
+batch_reply count sent = codes "batch " ++ (decimal count ++ (flat_map sent_text sent ++ codes "\n"))
+
+-- a word, a name and a line end
+abbrev pub name_line : List ℕ → List ℕ → List ℕ
+name_line word name = word ++ (name ++ codes "\n")
+
 -- what a call on a table answers
 abbrev pub reply_text : Reply → List ℕ
-reply_text (Batch count) = count_line (codes "batch ") count
+reply_text (Batch count sent) = batch_reply count sent
 reply_text (Row row) = row_reply row
+reply_text (Created name) = name_line (codes "index ") name
+reply_text (Dropped name) = name_line (codes "dropped ") name
 
 -- the item of a refusal behind a space, where it has one
 abbrev pub item_text : Option ℕ → List ℕ

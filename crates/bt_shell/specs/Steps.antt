@@ -1,19 +1,23 @@
 -- What a command does to the table, what it is answered, and why it is refused.
 use Rattle.std.specs.Prelude.{ℕ, ◌≡◌, ◌≢◌, not, List, ◌++◌, length, Option, Some, None, is_some, Result, Ok, Err, codes}
+use Rattle.bt_rowtype.specs.Refusals.{least, lesser}
 use Rattle.bt_rowtype.specs.Schemas.{is_schema}
 use Rattle.bt_rowtype.specs.declared.refusal.Refusal.{Refusal}
-use Rattle.bt_rowtype.specs.declared.refusal.Refusal.TheVariants.{BadSchema, BadShape, NoTable, OutOfMemory, TableExists}
+use Rattle.bt_rowtype.specs.declared.refusal.Refusal.TheVariants.{BadSchema, BadShape, Building, Failed, NoTable, OutOfMemory, TableExists}
 use Rattle.bt_node.specs.Shapes.{is_shape}
 use Rattle.bt_script.specs.Commands.{Answer}
 use Rattle.bt_script.specs.declared.command.Command.{Command}
-use Rattle.bt_script.specs.declared.command.Command.TheVariants.{Batch, Get, Image, Scan, Table}
+use Rattle.bt_script.specs.declared.command.Command.TheVariants.{Batch, Drop, Get, Image, Index, Scan, Table}
+use Rattle.bt_script.specs.declared.command.IndexForm.{IndexForm}
 use Rattle.bt_script.specs.declared.command.TableForm.{TableForm}
-use Rattle.bt_shell.specs.Images.{row_image}
+use Rattle.bt_fanout.specs.Definitions.{definition_as}
+use Rattle.bt_fanout.specs.Entries.{Definition}
+use Rattle.bt_shell.specs.Images.{entry_image, row_image}
 use Rattle.bt_shell.specs.Replies.{count_line, refused_text, reply_text, scan_reply}
 use Rattle.bt_table.specs.Batches.{made, one_if}
 use Rattle.bt_table.specs.Calls as call
-use Rattle.bt_table.specs.Calls.{step, table_named, unless}
-use Rattle.bt_table.specs.Tables.{TableState, Intact, empty_table}
+use Rattle.bt_table.specs.Calls.{NamedTree, Primary, Secondary, name_refusals, step, tree_named, unless}
+use Rattle.bt_table.specs.Tables.{TableState, Intact, Lost, empty_table}
 use Rattle.bt_table.specs.declared.reply.Reply.{Reply}
 
 -- what the commands before one have left: no table so far, or the table
@@ -37,6 +41,34 @@ table_of form = Intact (empty_table (record { columns = form.columns; keys = for
 abbrev pub told : Result (TableState × Reply) Refusal → Result Done Refusal
 told after = made (λ step. (Some step.0, reply_text step.1)) after
 
+-- the image of a tree under its name
+abbrev pub image_of : List ℕ → NamedTree → List ℕ
+image_of name (Primary table) = row_image table.schema.columns name table.tree
+image_of name (Secondary table index) = entry_image name index.tree.1
+
+-- the rows of the tree of rows; an index has none to show until it covers all rows
+abbrev pub scanned : TableState → Result NamedTree Refusal → Result Done Refusal
+scanned state (Ok (Primary table)) = Ok (Some state, scan_reply table.rows)
+scanned state (Ok (Secondary table index)) = Err Building
+scanned state (Err refusal) = Err refusal
+
+-- a definition that no refusal applies to, or the least
+abbrev pub checked : Result Definition Refusal → Option Refusal → Result Definition Refusal
+checked (Ok def) None = Ok def
+checked (Ok def) (Some other) = Err other
+checked (Err refusal) None = Err refusal
+checked (Err refusal) (Some other) = Err (lesser other refusal)
+
+-- the definition of a new index of a table, or the least refusal of its name and of what it is made of
+abbrev pub definition_of : TableState → IndexForm → Result Definition Refusal
+definition_of Lost form = Err Failed
+definition_of (Intact table) form = checked (definition_as table.schema form.on form.include form.filter) (least (name_refusals table form.name))
+
+-- a new index of this definition
+abbrev pub created : TableState → List ℕ → Result Definition Refusal → Result Done Refusal
+created state name (Ok def) = told (step state (call.CreateIndex name def))
+created state name (Err refusal) = Err refusal
+
 -- A command: the table after it and what it is answered, or its refusal, the least that applies; that there is no table comes before
 -- all that a table would say.
 abbrev pub outcome : State → Command → Result Done Refusal
@@ -44,8 +76,10 @@ outcome state (Table form) = unless (form_refusals state form) (Some (table_of f
 outcome None command = Err NoTable
 outcome (Some table) (Batch items) = told (step table (call.Apply items))
 outcome (Some table) (Get fields) = told (step table (call.Get fields))
-outcome (Some table) (Scan tree) = made (λ named. (Some table, scan_reply named.rows)) (table_named table tree)
-outcome (Some table) (Image tree) = made (λ named. (Some table, row_image named.schema.columns tree named.tree)) (table_named table tree)
+outcome (Some table) (Scan tree) = scanned table (tree_named table tree)
+outcome (Some table) (Image tree) = made (λ named. (Some table, image_of tree named)) (tree_named table tree)
+outcome (Some table) (Index form) = created table form.name (definition_of table form)
+outcome (Some table) (Drop name) = told (step table (call.DropIndex name))
 
 -- a command that is refused leaves the table as it is
 abbrev pub or_refused : State → Result Done Refusal → Done

@@ -20,7 +20,7 @@ mod run;
 mod session;
 
 pub use bt_script::{
-    Command, Counted, Item, Items, Parsed, RunFault, SCRIPT_LIMIT, TableForm, Words, WordsError,
+    Command, Counted, IndexForm, Items, Parsed, RunFault, SCRIPT_LIMIT, TableForm, Words, WordsError,
     parse_command, read_words,
 };
 pub use entry::{ProgramFault, program};

@@ -1,12 +1,12 @@
 //! The texts of replies.
-ghost use Rattle.std.specs.Prelude.{◌≡◌, ◌++◌, ◌+◌, [], IfOk, None, OnOk, Some, codes, decimal, length};
+ghost use Rattle.std.specs.Prelude.{◌≡◌, ◌++◌, ◌+◌, [], IfOk, None, OnOk, Some, codes, decimal, flat_map, length};
 ghost use Rattle.bt_shell.specs.Replies.{count_line, item_text, refused_text, row_line};
 ghost use Rattle.bt_shell.specs.Replies as spec;
 
 use bt_keycode::Key;
 use bt_node::Visitor;
-use bt_rowtype::{Refusal, Row, write_row};
-use bt_table::Reply;
+use bt_rowtype::{Refusal, Row, Text, write_row};
+use bt_table::{Reply, SentCount};
 use itoa::Buffer;
 use std::alloc::{AllocError, Global};
 use std::marker::Model;
@@ -57,13 +57,56 @@ fn row_reply(alloc: Global, row: Option<Row>) -> Result<Vec<u8>, AllocError>
     Ok(text)
 }
 
+// Adds the name of an index and how many messages it was sent, behind a space.
+fn write_sent(out: &mut Vec<u8>, sent: &SentCount) -> Result<(), AllocError>
+    ensures { OnOk result (out.new.items ≡ out.old.items ++ spec.sent_text sent.now) }
+{
+    out.push(b' ')?;
+    out.extend_from_slice(sent.name.as_bytes())?;
+    out.push(b':')?;
+    write_number(out, sent.count as u64)
+}
+
+// Adds those of each index.
+fn write_each_sent(out: &mut Vec<u8>, sent: &[SentCount]) -> Result<(), AllocError>
+    ensures { OnOk result (out.new.items ≡ out.old.items ++ flat_map spec.sent_text sent.now) }
+{
+    for one in sent {
+        write_sent(out, one)?;
+    }
+    Ok(())
+}
+
+// The reply that is the number of messages of a batch, and that of each index.
+fn batch_reply(alloc: Global, count: usize, sent: &[SentCount]) -> Result<Vec<u8>, AllocError>
+    ensures { IfOk result (λ text. text.items ≡ spec.batch_reply count sent.now) }
+{
+    let mut text = Vec::from_slice(alloc, b"batch ")?;
+    write_number(&mut text, count as u64)?;
+    write_each_sent(&mut text, sent)?;
+    text.push(b'\n')?;
+    Ok(text)
+}
+
+// The reply that is a word, a name and a line end.
+fn name_reply(alloc: Global, word: &[u8], name: &Text) -> Result<Vec<u8>, AllocError>
+    ensures { IfOk result (λ text. text.items ≡ spec.name_line word.now name.now) }
+{
+    let mut text = Vec::from_slice(alloc, word)?;
+    text.extend_from_slice(name.as_bytes())?;
+    text.push(b'\n')?;
+    Ok(text)
+}
+
 /// The text of what a call on a table answers.
 pub fn reply_text(alloc: Global, reply: Reply) -> Result<Vec<u8>, AllocError>
     ensures { IfOk result (λ text. text.items ≡ spec.reply_text reply) }
 {
     match reply {
-        Reply::Batch(count) => count_reply(alloc, b"batch ", count),
+        Reply::Batch { count, sent } => batch_reply(alloc, count, sent.as_slice()),
         Reply::Row(row) => row_reply(alloc, row),
+        Reply::Created(name) => name_reply(alloc, b"index ", &name),
+        Reply::Dropped(name) => name_reply(alloc, b"dropped ", &name),
     }
 }
 

@@ -6,13 +6,16 @@ ghost use Rattle.bt_script.specs.declared.command.Command.TheVariants as command
 ghost use Rattle.bt_shell.specs.Replies.{scan_reply};
 ghost use Rattle.bt_shell.specs.Runs.{IsTurn};
 ghost use Rattle.bt_shell.specs.Steps as step;
+ghost use Rattle.bt_rowtype.specs.Answers.{Answers};
+ghost use Rattle.bt_table.specs.Standing.{Suits};
 ghost use Rattle.bt_table.specs.Tables.{row_effect};
 
-use crate::image::row_image;
+use crate::image::{entry_image, row_image};
 use crate::reply::{RowLines, count_reply, refusal_reply, reply_text};
-use bt_node::Shape;
-use bt_rowtype::{RecordLine, Refusal, Schema, Text};
-use bt_script::{Command, Items, Parsed, TableForm, parse_command};
+use bt_fanout::IndexDef;
+use bt_node::{Shape, Tree};
+use bt_rowtype::{RecordLine, Refusal, Row, Schema, Text, least_with};
+use bt_script::{Command, IndexForm, Items, Parsed, TableForm, parse_command};
 use bt_table::{Table, TreeRef};
 use std::alloc::{AllocError, Global};
 
@@ -60,12 +63,57 @@ fn get(alloc: Global, table: &Option<Table>, fields: &RecordLine<'_>) -> Result<
     Ok(reply_text(alloc, reply)?)
 }
 
+// The definition of a new index, or the least refusal of its name and of what it is made of.
+fn index_def(alloc: Global, table: &Table, form: &IndexForm) -> Result<IndexDef, Refusal>
+    ensures answer { Answers (step.definition_of table.now form.now) result }
+    ensures suits { IfOk result (λ def. Suits table.now def) }
+{
+    let schema = table.schema()?;
+    let def = IndexDef::new(alloc, schema, &form.on, &form.include, form.filter.as_ref());
+    match (def, table.check_index(&form.name)) {
+        (Err(Refusal::OutOfMemory), _) => Err(Refusal::OutOfMemory),
+        (Ok(def), Ok(())) => Ok(def),
+        (Ok(_def), Err(other)) => Err(other),
+        (Err(refusal), Ok(())) => Err(refusal),
+        (Err(refusal), Err(other)) => Err(least_with(Some(other), refusal)),
+    }
+}
+
+// Creates an index.
+fn create_index(
+    alloc: Global,
+    table: &mut Option<Table>,
+    form: IndexForm,
+) -> Result<Vec<u8>, Refusal>
+    ensures done { IfOk result (λ text. step.IsDone table.old table.new (command.Index form) text.items) }
+    ensures refused { IfErr result (step.IsRefused table.old table.new (command.Index form)) }
+{
+    let Some(table) = table else {
+        return Err(Refusal::NoTable);
+    };
+    let def = index_def(alloc, table, &form)?;
+    let reply = table.create_index(alloc, form.name, def)?;
+    Ok(reply_text(alloc, reply)?)
+}
+
+// Takes an index out of the table.
+fn drop_index(alloc: Global, table: &mut Option<Table>, name: &Text) -> Result<Vec<u8>, Refusal>
+    ensures done { IfOk result (λ text. step.IsDone table.old table.new (command.Drop name.now) text.items) }
+    ensures refused { IfErr result (step.IsRefused table.old table.new (command.Drop name.now)) }
+{
+    let Some(table) = table else {
+        return Err(Refusal::NoTable);
+    };
+    let reply = table.drop_index(name)?;
+    Ok(reply_text(alloc, reply)?)
+}
+
 // The lines of all rows of a tree, and their number.
-fn scan_text(alloc: Global, tree: &TreeRef<'_>) -> Result<Vec<u8>, AllocError>
-    ensures { IfOk result (λ text. text.items ≡ scan_reply (holds row_effect tree.now.tree.now.1)) }
+fn scan_text(alloc: Global, tree: &Tree<Row>) -> Result<Vec<u8>, AllocError>
+    ensures { IfOk result (λ text. text.items ≡ scan_reply (holds row_effect tree.now.1)) }
 {
     let mut lines = RowLines::new(alloc);
-    tree.tree.walk().visit(alloc, None, None, &mut lines)?;
+    tree.walk().visit(alloc, None, None, &mut lines)?;
     lines.into_reply()
 }
 
@@ -76,8 +124,10 @@ fn scan(alloc: Global, table: &Option<Table>, name: &Text) -> Result<Vec<u8>, Re
     let Some(table) = table else {
         return Err(Refusal::NoTable);
     };
-    let tree = table.tree(name)?;
-    Ok(scan_text(alloc, &tree)?)
+    match table.tree(name)? {
+        TreeRef::Rows { tree, .. } => Ok(scan_text(alloc, tree)?),
+        TreeRef::Index { .. } => Err(Refusal::Building),
+    }
 }
 
 fn image(alloc: Global, table: &Option<Table>, name: &Text) -> Result<Vec<u8>, Refusal>
@@ -87,8 +137,12 @@ fn image(alloc: Global, table: &Option<Table>, name: &Text) -> Result<Vec<u8>, R
     let Some(table) = table else {
         return Err(Refusal::NoTable);
     };
-    let tree = table.tree(name)?;
-    Ok(row_image(alloc, tree.schema.columns(), name, &tree.tree.walk())?)
+    match table.tree(name)? {
+        TreeRef::Rows { schema, tree } => {
+            Ok(row_image(alloc, schema.columns(), name, &tree.walk())?)
+        }
+        TreeRef::Index { index, .. } => Ok(entry_image(alloc, name, &index.tree.walk())?),
+    }
 }
 
 // The reply to a command that is not refused, or its refusal.
@@ -106,6 +160,8 @@ fn answer(
         Command::Get(fields) => get(alloc, table, &fields),
         Command::Scan(tree) => scan(alloc, table, &tree),
         Command::Image(tree) => image(alloc, table, &tree),
+        Command::Index(form) => create_index(alloc, table, form),
+        Command::Drop(name) => drop_index(alloc, table, &name),
     }
 }
 

@@ -96,6 +96,7 @@ batch_keeps_sound table batch fit sound =
       tree = has_shape-after_batch table.shape table.tree batch sound.tree;
       held = holds-after_batch table.shape table.tree batch sound.tree ∙ ap (rows_after row_effect batch) sound.held;
       rows = rows;
+      keys = sound.keys;
       indexes = indexes_stay_sound table.schema table.shape table.rows batch (rows_sorted table sound) sound.rows rows table.indexes sound.indexes;
     }
 
@@ -105,6 +106,7 @@ with_index-sound table name def suits sound = record {
   tree = sound.tree;
   held = sound.held;
   rows = sound.rows;
+  keys = sound.keys;
   indexes = sound-append table.schema table.shape table.rows table.indexes (empty_index table.shape name def ∷ []) sound.indexes (
     record {
       suits = suits.0;
@@ -123,5 +125,6 @@ without_index-sound table place sound = record {
   tree = sound.tree;
   held = sound.held;
   rows = sound.rows;
+  keys = sound.keys;
   indexes = sound-remove table.schema table.shape table.rows table.indexes place sound.indexes;
 }

@@ -121,18 +121,12 @@ pub record ShowsRows (table : PlainTable) (schema : Schema) (tree : Shape × Row
   pub held : holds row_effect tree.1 ≡ table.rows
   pub order : KeysRise table.schema table.rows
 
--- an index is one of a table, and its tree holds what its definition selects of the rows that it covers
-pub record ShowsIndex (table : PlainTable) (own : Index) (schema : Schema) (index : Index) : Type 0 where
+-- the tree of an index holds what its definition selects of the rows that it covers
+pub record ShowsIndex (table : PlainTable) (schema : Schema) (index : Index) : Type 0 where
   pub schema_is : schema ≡ table.schema
-  pub index_is : index ≡ own
   pub held : holds entry_effect index.tree.1 ≡ index_of index.def index.cover table.rows
 
--- what is shown of the tree of a name
-abbrev pub ShowsNamed : NamedTree → TreeRef → Type 0
-ShowsNamed (Primary table) (shown.Rows schema tree) = ShowsRows table schema.now tree.now
-ShowsNamed (Primary table) (shown.Index schema index) = ⊥
-ShowsNamed (Secondary table own) (shown.Rows schema tree) = ⊥
-ShowsNamed (Secondary table own) (shown.Index schema index) = ShowsIndex table own schema.now index.now
-
+-- what is shown is the tree of this name
 abbrev pub Shows : TableState → List ℕ → TreeRef → Type 0
-Shows state name shown = (tree : NamedTree) × (tree_named state name ≡ Ok tree) × ShowsNamed tree shown
+Shows state name (shown.Rows schema tree) = (table : PlainTable) × (tree_named state name ≡ Ok (Primary table)) × ShowsRows table schema.now tree.now
+Shows state name (shown.Index schema index) = (table : PlainTable) × (tree_named state name ≡ Ok (Secondary table index.now)) × ShowsIndex table schema.now index.now

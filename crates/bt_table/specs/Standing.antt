@@ -1,5 +1,5 @@
 -- Where the rows of a table stand, and what is true of a table between any two commands.
-use Rattle.std.specs.Prelude.{◌≡◌, true, List, [], ◌∷◌, Option, IfSome, T, map, take}
+use Rattle.std.specs.Prelude.{◌≡◌, ◌≤◌, length, true, List, [], ◌∷◌, Option, IfSome, T, map, take}
 use Rattle.std.specs.FinMap.{is_sorted}
 use Rattle.bt_rowtype.specs.Schemas.{Schema, fit_columns}
 use Rattle.bt_rowtype.specs.Values.{values_cmp}
@@ -42,11 +42,12 @@ abbrev pub AreSoundIndexes : Schema → Shape → Rows (List Value) → List Ind
 AreSoundIndexes schema shape rows [] = Unit {0}
 AreSoundIndexes schema shape rows (index ∷ indexes) = IsSoundIndex schema shape rows index × AreSoundIndexes schema shape rows indexes
 
--- its tree fits its shape and holds its rows, each row stands in its place and is of the schema, and its indexes are sound
+-- its tree fits its shape and holds its rows, each row stands in its place and is of the schema, whose key columns are columns of it, and its indexes are sound
 pub record IsSoundTable (table : PlainTable) : Type 0 where
   pub tree : HasShape table.shape table.tree
   pub held : holds row_effect table.tree ≡ table.rows
   pub rows : AllStand table.schema table.rows
+  pub keys : table.schema.keys ≤ length table.schema.columns
   pub indexes : AreSoundIndexes table.schema table.shape table.rows table.indexes
 
 -- A table is sound: it is intact, its tree fits its shape and holds its rows, each row stands in its place and is of the schema, and each index holds what its definition selects of the rows that it covers.

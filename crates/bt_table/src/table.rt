@@ -77,8 +77,9 @@ impl Table {
         ensures { result ≡ Intact (empty_table schema shape) }
     {
         let rows = Tree::empty(alloc, shape);
-        // An empty tree fits its shape, which a walk says of every tree.
+        // An empty tree fits its shape, which a walk says of every tree; and the key columns of a schema are columns of it.
         let _root = rows.walk();
+        let _keys = schema.keys();
         let indexes = Vec::new(alloc);
         Table {
             schema,

@@ -1,8 +1,8 @@
 //! Commands, command lines, and the statuses of the program.
 use crate::samples::{fields, row_text};
 use crate::streams::{Failing, Full};
-use bt_rowtype::{RecordLine, Schema, Texts, read_row};
-use bt_shell::{Command, Counted, Item, Parsed, WordsError, parse_command, program, read_words};
+use bt_rowtype::{Item, RecordLine, Schema, Texts, read_row};
+use bt_shell::{Command, Counted, Parsed, WordsError, parse_command, program, read_words};
 use std::alloc::{AllocError, Global};
 use std::test::Fail;
 

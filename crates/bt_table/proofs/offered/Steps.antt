@@ -1,5 +1,5 @@
 -- What a call leaves of a sound table is sound.
-use Rattle.std.proofs.Common.{ℕ, ◌≡◌, true, refl, length, arith, List, Option, Some, None, IfOk, Result, Ok, Err}
+use Rattle.std.proofs.Common.{ℕ, ◌≡◌, ◌≤◌, true, refl, length, arith, List, Option, Some, None, IfOk, Result, Ok, Err}
 use Rattle.std.specs.FinMap.{find}
 use Rattle.std.proofs.lemmas.Bool.Decides.{nat_tests}
 use Rattle.bt_rowtype.specs.Refusals.{least}
@@ -21,11 +21,12 @@ use Rattle.bt_table.specs.declared.reply.Reply.TheVariants.{Batch, Created, Row}
 use Rattle.bt_table.specs.declared.index.Index.{Index}
 use Rattle.bt_table.proofs.Sound.{batch_keeps_sound, batch_of_schema, with_index-sound, without_index-sound}
 
-pub empty_is_sound : (schema : Schema) (shape : Shape) → IsRoomy shape → IsSoundTable (empty_table schema shape)
-empty_is_sound schema shape roomy = record {
+pub empty_is_sound : (schema : Schema) (shape : Shape) → schema.keys ≤ length schema.columns → IsRoomy shape → IsSoundTable (empty_table schema shape)
+empty_is_sound schema shape few roomy = record {
   tree = record { roomy = roomy; levels = 0; fits = record { lies = tt; sized = omega arith } };
   held = refl;
   rows = tt;
+  keys = few;
   indexes = tt;
 }
 

@@ -10,7 +10,7 @@ use Rattle.bt_table.specs.Tables.{row_effect}
 
 pub returns : goal.returns
 returns c =
-    let held = holds row_effect c.args.tree.now.tree.now.1 in
+    let held = holds row_effect c.args.tree.now.1 in
     let lines = c.visit.new.visitor in
     let all : between None None (holds row_effect c.walk.result) ≡ held = without_bounds _ ∙ ap (holds row_effect) c.walk.ensures.root in
     let wanted = scan_is held c.new-lines.result lines c.new-lines.ensures (c.in_ok-visit.ensures ∙ ap (fold with_line c.new-lines.result) all) in

@@ -1,5 +1,5 @@
 use Rattle.std.proofs.Common.{rules, ◌≡◌, Some, false, true}
-use Rattle.bt_table.specs.Calls.{Primary, Secondary, is_primary}
+use Rattle.bt_table.specs.Calls.{is_primary}
 use Rattle.bt_table.specs.Indexes.{index_named}
 use Rattle.bt_table.proofs.Steps.{shows_index, shows_rows}
 use Rattle.bt_table.proofs.table.Table.tree.Goals as goal
@@ -9,7 +9,7 @@ returns-then-is_name_of_rows-clause-shown c =
     let is : c.self.inside.trees ≡ Some c.in-Some.trees = search rules in
     let primary : is_primary c.args.name.now ≡ true = search rules in
     let shows = shows_rows c.self.inside.schema c.self.inside.trees c.in-Some.trees is c.self.invariant c.args.self.now c.self.view_is c.args.name.now primary in
-    (Primary _, shows.0, shows.1)
+    (_, shows.0, shows.1)
 
 pub returns-in-Some-find_index-clause-shown : goal.returns-in-Some-find_index-clause-shown
 returns-in-Some-find_index-clause-shown c =
@@ -17,4 +17,4 @@ returns-in-Some-find_index-clause-shown c =
     let other : is_primary c.args.name.now ≡ false = search rules in
     let found : index_named c.args.name.now c.in-Some.trees.indexes.items ≡ Some (c.in-Some-find_index._place, c.in-Some-find_index.index.now) = search rules in
     let shows = shows_index c.self.inside.schema c.self.inside.trees c.in-Some.trees is c.self.invariant c.args.self.now c.self.view_is c.args.name.now _ _ other found in
-    (Secondary _ _, shows.0, shows.1)
+    (_, shows.0, shows.1)
