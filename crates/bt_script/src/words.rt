@@ -43,8 +43,10 @@ A script is a list of commands:
   table F C L K name:kind ..  makes the table: fanout, buffer and leaf of its tree, number of key columns, columns
   batch                       applies the lines up to 'end': put RECORD, del KEY, ups KEY,OPERATIONS
   get KEY                     prints the row of a key
-  scan primary                prints all rows; its last line is 'go'
-  image primary               prints the tree
+  scan TREE                   prints all rows of a tree; its last line is 'go'
+  image TREE                  prints the nodes of a tree: 'primary', or an index
+  index NAME on COLUMNS ..    makes an index: include COLUMNS, where COLUMN = < or >= RECORD
+  drop NAME                   takes an index away
 A command that cannot be carried out is answered by 'refused', a number and a name.
 docs/SCRIPT.md has the whole language, and examples/ has scripts.";
 

@@ -1,3 +1,4 @@
+pub mod Definitions
 pub mod Drawings
 pub mod Lines
 pub mod Sound

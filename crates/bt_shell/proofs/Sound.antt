@@ -55,7 +55,8 @@ form_keeps_sound : (state : State) (form : TableForm) → IsSoundAfter (outcome 
 form_keeps_sound state form =
     when_allowed (least (form_refusals state form)) (Some (table_of form), count_line (codes "table ") (length form.columns)) (λ none.
     let allowed = shape_allowed _ (is_schema form.columns form.keys) (is_shape form.fanout form.buffer form.leaf) none in
-    empty_is_sound (record { columns = form.columns; keys = form.keys }) (few_keys form.columns form.keys (schema_allowed _ (is_schema form.columns form.keys) (is_shape form.fanout form.buffer form.leaf) none)) (record { fanout = form.fanout; buffer = form.buffer; leaf = form.leaf })
+    let few = few_keys form.columns form.keys (schema_allowed _ (is_schema form.columns form.keys) (is_shape form.fanout form.buffer form.leaf) none) in
+    empty_is_sound (record { columns = form.columns; keys = form.keys }) (record { fanout = form.fanout; buffer = form.buffer; leaf = form.leaf }) few
     (shape_is_roomy (record { fanout = form.fanout; buffer = form.buffer; leaf = form.leaf }) allowed))
 
 told_keeps_sound : (after : Result (TableState × Reply) Refusal) → IfOk after (λ (step : TableState × Reply). IsSound step.0) → IsSoundAfter (told after)

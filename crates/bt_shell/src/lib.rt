@@ -20,8 +20,8 @@ mod run;
 mod session;
 
 pub use bt_script::{
-    Command, Counted, IndexForm, Items, Parsed, RunFault, SCRIPT_LIMIT, TableForm, Words, WordsError,
-    parse_command, read_words,
+    Command, Counted, IndexForm, Items, Parsed, RunFault, SCRIPT_LIMIT, TableForm, Words,
+    WordsError, parse_command, read_words,
 };
 pub use entry::{ProgramFault, program};
 pub use run::run_script;
