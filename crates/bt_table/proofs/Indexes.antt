@@ -1,7 +1,7 @@
 -- What a batch sends to the indexes of a table, and that they stay sound under it. Serves a table that applies a batch.
-use Rattle.std.proofs.Common.{ℕ, zero, suc, ◌≡◌, ◌∙◌, T, List, [], ◌∷◌, ◌++◌, ap, false, if◌then◌else◌, map, refl, subst, sym, true, IfSome, Some}
+use Rattle.std.proofs.Common.{ℕ, zero, suc, ◌≡◌, ◌∙◌, ◌&&◌, Bool, T, List, [], ◌∷◌, ◌++◌, ap, false, if◌then◌else◌, map, refl, subst, sym, true, IfSome, Some}
 use Rattle.std.specs.FinMap.{is_sorted}
-use Rattle.std.specs.List.{All, remove}
+use Rattle.std.specs.List.{All, list_all, remove}
 use Rattle.bt_rowtype.specs.Schemas.{Schema}
 use Rattle.bt_rowtype.specs.declared.value.Value.{Value}
 use Rattle.bt_keycode.specs.Keys.{key_cmp}
@@ -20,9 +20,12 @@ use Rattle.bt_fanout.proofs.offered.Packets.{effects-sorted_batch}
 use Rattle.bt_fanout.proofs.offered.Standing.{stands_under}
 use Rattle.bt_fanout.proofs.offered.Suiting.{all_more, all_none, suits_effects}
 use Rattle.bt_fanout.proofs.offered.Turns.{packet_turns}
-use Rattle.bt_table.specs.Indexes.{indexes_after, is_name_of, named_from, packet_for, packet_of, sent_count, sunk_index, sunk_indexes}
+use Rattle.bt_table.specs.Indexes.{covers_nothing, indexes_after, is_name_of, is_nothing, named_from, packet_for, packet_of, sent_count, sunk_index, sunk_indexes}
 use Rattle.bt_table.specs.Standing.{AllStand, AreSoundIndexes, IsSoundIndex}
 use Rattle.bt_table.specs.Tables.{RowMessages}
+use Rattle.bt_fanout.specs.declared.cover.Cover.{Cover}
+use Rattle.bt_fanout.specs.declared.cover.Cover.TheVariants.{Nothing, UpTo, Whole}
+use Rattle.bt_fanout.specs.declared.effect.Effect.{Effect}
 use Rattle.bt_table.specs.declared.index.Index.{Index}
 
 -- rows of a schema stand as the laws of an index ask
@@ -100,3 +103,36 @@ module _ (schema : Schema) (shape : Shape) (rows : Rows (List Value)) where
         | true ↦ sound.0
         | false ↦ sound-found (suc place) name indexes sound.1
       ]
+
+-- ---- indexes that have no row yet
+
+sent_nothing : (def : Definition) (effects : List Effect) → sent_for_all def Nothing effects ≡ []
+sent_nothing def [] = refl
+sent_nothing def (effect ∷ effects) = sent_nothing def effects
+
+is_nothing-cover : (cover : Cover) → is_nothing cover ≡ true → cover ≡ Nothing
+is_nothing-cover Nothing test = refl
+is_nothing-cover (UpTo last) test = cc
+is_nothing-cover Whole test = cc
+
+no_message : (effects : List Effect) (index : Index) → covers_nothing index ≡ true → packet_for [] index ≡ packet_for effects index
+no_message effects index test =
+    ap sorted_batch (sym (ap (λ cover. sent_for_all index.def cover effects) (is_nothing-cover index.cover test) ∙ sent_nothing index.def effects))
+
+both_hold : (a b : Bool) → (a && b) ≡ true → (a ≡ true) × (b ≡ true)
+both_hold true true h = (refl, refl)
+both_hold true false h = cc
+both_hold false b h = cc
+
+pub no_packets : (effects : List Effect) (indexes : List Index) → list_all covers_nothing indexes ≡ true → map (packet_for []) indexes ≡ map (packet_for effects) indexes
+no_packets effects [] test = refl
+no_packets effects (index ∷ indexes) test =
+    let both = both_hold _ _ test in
+    λ i. no_message effects index both.0 i ∷ no_packets effects indexes both.1 i
+
+pub no_counts : (effects : List Effect) (indexes : List Index) → list_all covers_nothing indexes ≡ true
+    → map (λ index. sent_count index (packet_for [] index)) indexes ≡ map (λ index. sent_count index (packet_for effects index)) indexes
+no_counts effects [] test = refl
+no_counts effects (index ∷ indexes) test =
+    let both = both_hold _ _ test in
+    λ i. sent_count index (no_message effects index both.0 i) ∷ no_counts effects indexes both.1 i

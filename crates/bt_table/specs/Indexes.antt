@@ -1,5 +1,5 @@
 -- The indexes of a table: how they are found, what a batch sends them, and what they are after it.
-use Rattle.std.specs.Prelude.{ℕ, suc, ◌==◌, Bool, List, [], ◌∷◌, length, map, Option, Some, None, if◌then◌else◌}
+use Rattle.std.specs.Prelude.{ℕ, suc, ◌==◌, Bool, true, false, List, [], ◌∷◌, length, map, Option, Some, None, if◌then◌else◌}
 use Rattle.std.specs.Cmp.Lexicographic.{pointwise}
 use Rattle.bt_rowtype.specs.declared.value.Value.{Value}
 use Rattle.bt_messages.specs.Effects.{Rows}
@@ -10,7 +10,8 @@ use Rattle.bt_fanout.specs.Covers.{is_covered}
 use Rattle.bt_fanout.specs.Effects.{EntryMessage, RowMessage, entry_effect, row_effect, sent_for_all}
 use Rattle.bt_fanout.specs.Entries.{Definition, entry_of, same_values}
 use Rattle.bt_fanout.specs.Selections.{index_messages}
-use Rattle.bt_fanout.specs.declared.cover.Cover.TheVariants.{Nothing}
+use Rattle.bt_fanout.specs.declared.cover.Cover.{Cover}
+use Rattle.bt_fanout.specs.declared.cover.Cover.TheVariants.{Nothing, UpTo, Whole}
 use Rattle.bt_fanout.specs.declared.effect.Effect.{Effect}
 use Rattle.bt_table.specs.declared.index.Index.{Index}
 use Rattle.bt_table.specs.declared.reply.SentCount.{SentCount}
@@ -34,9 +35,18 @@ index_named = named_from 0
 
 -- ---- a new index
 
+abbrev pub is_nothing : Cover → Bool
+is_nothing Nothing = true
+is_nothing (UpTo last) = false
+is_nothing Whole = false
+
 -- it covers no row, and its tree is one leaf
 abbrev pub empty_index : Shape → List ℕ → Definition → Index
 empty_index shape name def = record { name = name; def = def; cover = Nothing; tree = (shape, leaf []) }
+
+-- whether it covers no row
+abbrev pub covers_nothing : Index → Bool
+covers_nothing index = is_nothing index.cover
 
 -- ---- batches
 

@@ -1,6 +1,6 @@
 //! The indexes of a table.
 ghost use Rattle.std.specs.Prelude.{◌≡◌, ◌<◌, IfOk, IfSome, Some, length, map, option_map, slice_get};
-ghost use Rattle.std.specs.List.{All};
+ghost use Rattle.std.specs.List.{All, list_all};
 ghost use Rattle.bt_node.specs.Flushes.{holds};
 ghost use Rattle.bt_fanout.specs.Effects.{SuitsEffect, effects_of, row_effect};
 ghost use Rattle.bt_table.specs.Indexes as spec;
@@ -76,7 +76,19 @@ fn packets_for(alloc: Global, indexes: &[Index], effects: &[Effect]) -> Result<F
     Ok(FanOut { packets, sent })
 }
 
-/// What a packet of rows sends to the indexes of a table with this tree of rows. Without an index nothing is read.
+// Whether no index has a row yet.
+fn cover_nothing(indexes: &[Index]) -> bool
+    ensures { result ≡ list_all spec.covers_nothing indexes.now }
+{
+    for index in indexes {
+        if !matches!(index.cover, Cover::Nothing) {
+            return false;
+        }
+    }
+    true
+}
+
+/// What a packet of rows sends to the indexes of a table with this tree of rows. Nothing is read where no index has a row.
 pub fn fan_out(
     alloc: Global,
     tree: &Tree<Row>,
@@ -87,7 +99,7 @@ pub fn fan_out(
     ensures packets { IfOk result (λ out. out.packets.items ≡ map (spec.packet_for (effects_of packet.now (holds row_effect tree.now.1))) indexes.now) }
     ensures sent { IfOk result (λ out. out.sent ≡ map (λ index. spec.sent_count index (spec.packet_for (effects_of packet.now (holds row_effect tree.now.1)) index)) indexes.now) }
 {
-    if indexes.is_empty() {
+    if cover_nothing(indexes) {
         return packets_for(alloc, indexes, &[]);
     }
     let effects = effects(alloc, tree, packet)?;
