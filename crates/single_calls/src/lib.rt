@@ -7,6 +7,8 @@
 #[cfg(test)]
 mod codes;
 #[cfg(test)]
+mod indexes;
+#[cfg(test)]
 mod jobs;
 #[cfg(test)]
 mod messages;
