@@ -12,14 +12,14 @@ ghost use Rattle.single_calls.specs.Quantities as spec;
 
 use crate::samples::{refusal_text, short_text};
 use bt_fanout::{
-    Cover, Effect, Filter, IndexDef, Test, build_packet, cover_after, covers, effects, entry,
-    index_packet,
+    Cover, Effect, IndexDef, build_packet, cover_after, covers, effects, entry, index_packet,
 };
 use bt_keycode::{Key, encode};
 use bt_messages::{Entry, Message, Packet};
 use bt_node::{Shape, Tree};
 use bt_rowtype::{
-    Bytes, Column, Columns, Kind, Refusal, Row, Schema, Texts, Value, ValueRef, write_row,
+    Bytes, Column, Columns, Filter, Kind, Refusal, Row, Schema, Test, Texts, Value, ValueRef,
+    write_row,
 };
 use std::alloc::{AllocError, Global};
 use std::slice;
