@@ -262,13 +262,25 @@ fn keys_are_covered(rt: HostRuntime) -> Result<(), Fail> {
     Ok(())
 }
 
+// The rows with one behind them.
+fn with_row(
+    alloc: Global,
+    rows: Vec<(Key, Row)>,
+    id: i64,
+    quantity: i64,
+) -> Result<Vec<(Key, Row)>, AllocError>
+    ensures { IfOk result (λ new. new.items ≡ rows.items ++ (spec.key_of id, spec.row_of id quantity) ∷ []) }
+{
+    let mut new = rows;
+    new.push((key(alloc, id)?, row(alloc, id, quantity)?))?;
+    Ok(new)
+}
+
 fn two_rows(alloc: Global) -> Result<Vec<(Key, Row)>, AllocError>
     ensures { IfOk result (λ rows. rows.items ≡ spec.two_rows) }
 {
-    Ok(vec![in alloc;
-        (key(alloc, 1)?, row(alloc, 1, 10)?),
-        (key(alloc, 2)?, row(alloc, 2, 20)?),
-    ]?)
+    let first = with_row(alloc, Vec::new(alloc), 1, 10)?;
+    with_row(alloc, first, 2, 20)
 }
 
 // What a step of building that reads two rows sends, and whether it covers a key.
@@ -305,13 +317,18 @@ fn at_least(alloc: Global, column: &str, constant: &str) -> Result<Filter, Alloc
     })
 }
 
-// The entry of a row with a quantity, nothing where it has none, in an index of the quantities of 15 and more that includes the id.
-fn entry_text(alloc: Global, quantity: i64) -> Result<Vec<u8>, Refusal> {
+// The entry of a row with a quantity in an index of the quantities of 15 and more that includes the id.
+fn filtered_entry(alloc: Global, quantity: i64) -> Result<Option<(Key, Entry)>, Refusal> {
     let filter = at_least(alloc, "qty", "15")?;
     let def = index(alloc, "qty", "id", Some(&filter))?;
     let row = row(alloc, 3, quantity)?;
+    Ok(entry(alloc, &def, &row)?)
+}
+
+// The key of that entry and its value, nothing where there is none.
+fn entry_text(alloc: Global, quantity: i64) -> Result<Vec<u8>, Refusal> {
     let mut out = Vec::new(alloc);
-    if let Some((key, entry)) = entry(alloc, &def, &row)? {
+    if let Some((key, entry)) = filtered_entry(alloc, quantity)? {
         add_entry(&mut out, b"", &key, entry.as_row())?;
     }
     Ok(out)
