@@ -30,14 +30,16 @@ fn said(alloc: Global, line: &str) -> Result<String, AllocError> {
 }
 
 // What a help text is to name: the options, the commands of a script, and where its language stands.
-const NAMED: [&str; 8] = [
+const NAMED: [&str; 10] = [
     "--script <FILE>",
     "--help",
     "\n  table F C L K name:kind ..  ",
     "\n  batch  ",
     "\n  get KEY  ",
-    "\n  scan primary  ",
-    "\n  image primary  ",
+    "\n  scan TREE  ",
+    "\n  image TREE  ",
+    "\n  index NAME on COLUMNS ..  ",
+    "\n  drop NAME  ",
     "docs/SCRIPT.md",
 ];
 
