@@ -4,7 +4,8 @@
 //   explicit Engine(const Table &);           the table has its columns by now
 //   void apply(const Batch &);                the messages in order, as one transaction
 //   bool get(const Value *key, Value *row);   whether there is a row
-//   void scan(each);                          calls each(const Value *row) by rising key
+//   void scan(const Range &, each);           calls each(const Value *row) by rising key
+//   void sums(const Range &, const Grouping &, each);   calls each(int64_t count, int64_t total, const Value *group)
 // The script is one that the workloads make: it has no refusals, and of a table a single line.
 #pragma once
 #include <fcntl.h>
@@ -59,6 +60,16 @@ struct Batch {
   std::vector<Value> values;
   std::vector<Operation> operations;
   const Value *row(const Message &m) const { return &values[m.values]; }
+};
+
+// Bounds: values of the first key columns, and none where there is no bound.
+struct Range {
+  std::vector<Value> from, to;
+};
+
+// The first columns, so many, by which rows are grouped, and the column that is summed. No total of the workloads leaves 64 bits.
+struct Grouping {
+  size_t columns, summed;
 };
 
 constexpr size_t MOST_COLUMNS = 16;
@@ -164,7 +175,7 @@ inline std::vector<uint32_t> order_of(const Table &table, const Batch &batch) {
 // An engine over a store of keys and values:
 //   void begin();  void commit();
 //   bool get(View key, View &value);   void put(View key, View value);   void del(View key);
-//   void scan(each);                   calls each(View key, View value)
+//   void scan(View from, View to, each);   calls each(View key, View value); an empty bound is none
 template <class Store>
 class OverStore {
   const Table &table;
@@ -217,14 +228,33 @@ class OverStore {
     return true;
   }
   template <class Each>
-  void scan(Each each) {
+  void scan(const Range &range, Each each) {
     Value row[MOST_COLUMNS];
-    store.scan([&](View code, View bytes) {
+    std::string from, to;
+    for (size_t c = 0; c < range.from.size(); c++) add_code(from, table.kinds[c], range.from[c]);
+    for (size_t c = 0; c < range.to.size(); c++) add_code(to, table.kinds[c], range.to[c]);
+    store.scan(from, to, [&](View code, View bytes) {
       const char *at = code.data();
       for (size_t c = 0; c < table.keys; c++) at = read_code(at, table.kinds[c], row[c]);
       read_value(bytes, row);
       each(row);
     });
+  }
+  template <class Each>
+  void sums(const Range &range, const Grouping &by, Each each) {
+    Value group[MOST_COLUMNS];
+    int64_t count = 0, total = 0;
+    scan(range, [&](const Value *row) {
+      bool is_of = count > 0;
+      for (size_t c = 0; is_of && c < by.columns; c++) is_of = compare(table.kinds[c], group[c], row[c]) == 0;
+      if (!is_of) {
+        if (count > 0) each(count, total, group);
+        std::copy(row, row + by.columns, group);
+        count = total = 0;
+      }
+      count++, total += row[by.summed].number;
+    });
+    if (count > 0) each(count, total, group);
   }
 };
 
@@ -266,17 +296,18 @@ class Replies {
     }
     *end++ = '"';
   }
-  void add_row(const Table &table, const Value *row) {
-    add("row ");
-    for (size_t c = 0; c < table.columns(); c++) {
+  // The record of the first columns, and the end of the line.
+  void add_record(const Table &table, const Value *row, size_t columns) {
+    for (size_t c = 0; c < columns; c++) {
       if (c) *end++ = ',';
       if (table.kinds[c] == Kind::Int) add(row[c].number);
       else if (table.kinds[c] == Kind::Flag) add(row[c].number ? "true" : "false");
-      else if (table.columns() == 1 && row[c].text.empty()) add("\"\"");
+      else if (columns == 1 && row[c].text.empty()) add("\"\"");
       else add_text(row[c].text);
     }
     end_line();
   }
+  void add_row(const Table &table, const Value *row) { add("row ").add_record(table, row, table.columns()); }
 };
 
 // ---- the script ----
@@ -376,6 +407,18 @@ inline void read_batch(Script &script, const Table &table, std::vector<View> &fi
   }
 }
 
+// The bounds of a block, up to its closing line.
+inline void read_range(Script &script, const Table &table, std::vector<View> &fields, Range &range) {
+  View line;
+  range.from.clear(), range.to.clear();
+  while (script.next(line) && line != "go") {
+    bool is_from = line[0] == 'f';
+    script.read_record(line.substr(is_from ? 5 : 3), fields);
+    auto &bound = is_from ? range.from : range.to;
+    for (size_t c = 0; c < fields.size(); c++) bound.push_back(read_value(table.kinds[c], fields[c]));
+  }
+}
+
 // Answers the commands of `--script FILE`.
 template <class Engine>
 int run(int count, char **words) {
@@ -389,6 +432,7 @@ int run(int count, char **words) {
   replies.add("table ").add(int64_t(table.columns())).end_line();
   std::vector<View> fields;
   Batch batch;
+  Range range;
   Value key[MOST_COLUMNS], row[MOST_COLUMNS];
   while (script.next(line)) {
     if (line == "batch") {
@@ -403,9 +447,19 @@ int run(int count, char **words) {
       else replies.add("none").end_line();
     } else if (line == "scan primary") {
       int64_t rows = 0;
-      engine.scan([&](const Value *each) { rows++, replies.add_row(table, each); });
-      script.next(line);  // its closing line
+      read_range(script, table, fields, range);
+      engine.scan(range, [&](const Value *each) { rows++, replies.add_row(table, each); });
+      script.forget();
       replies.add("rows ").add(rows).end_line();
+    } else if (line.substr(0, 13) == "sums primary ") {
+      int64_t sums = 0;
+      Grouping by{size_t(line[13] - '0'), column_of(table, line.substr(15))};
+      read_range(script, table, fields, range);
+      engine.sums(range, by, [&](int64_t count, int64_t total, const Value *group) {
+        sums++, replies.add("sum ").add(count).add(" ").add(total).add(" ").add_record(table, group, by.columns);
+      });
+      script.forget();
+      replies.add("sums ").add(sums).end_line();
     } else {
       fail("no command of the workloads: " + std::string(line));
     }

@@ -57,9 +57,10 @@ class Store {
     if (mdb_cursor_get(cursor, &at, &found, MDB_SET) == 0) check(mdb_cursor_del(cursor, 0));
   }
   template <class Each>
-  void scan(Each each) {
-    MDB_val key, value;
-    for (int code = mdb_cursor_get(cursor, &key, &value, MDB_FIRST); code == 0; code = mdb_cursor_get(cursor, &key, &value, MDB_NEXT))
+  void scan(View from, View to, Each each) {
+    MDB_val key = of(from), value;
+    int code = mdb_cursor_get(cursor, &key, &value, from.empty() ? MDB_FIRST : MDB_SET_RANGE);
+    for (; code == 0 && (to.empty() || view(key) < to); code = mdb_cursor_get(cursor, &key, &value, MDB_NEXT))
       each(view(key), view(value));
   }
 };

@@ -21,8 +21,10 @@ class Store {
     if (found != rows.end()) rows.erase(found);
   }
   template <class Each>
-  void scan(Each each) {
-    for (const auto &[key, value] : rows) each(View(key), View(value));
+  void scan(View from, View to, Each each) {
+    if (!to.empty() && to < from) return;
+    auto end = to.empty() ? rows.end() : rows.lower_bound(to);
+    for (auto at = rows.lower_bound(from); at != end; ++at) each(View(at->first), View(at->second));
   }
 };
 

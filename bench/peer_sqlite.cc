@@ -8,8 +8,9 @@
 class Sqlite {
   const Table &table;
   sqlite3 *db = nullptr;
-  sqlite3_stmt *put = nullptr, *del = nullptr, *find = nullptr, *all = nullptr;
+  sqlite3_stmt *put = nullptr, *del = nullptr, *find = nullptr;
   std::unordered_map<std::string, sqlite3_stmt *> upserts;  // by operation and column
+  std::unordered_map<std::string, sqlite3_stmt *> ranges;   // by the lengths of the bounds, and how rows are grouped
   std::deque<std::string> held;                             // texts of the last get
 
   void check(int code) {
@@ -29,8 +30,8 @@ class Sqlite {
     for (size_t c = 0; c < table.keys; c++) bind(statement, c + 1, table.kinds[c], key[c]);
   }
   void step_once(sqlite3_stmt *statement) { check(sqlite3_step(statement)), check(sqlite3_reset(statement)); }
-  void read_row(sqlite3_stmt *statement, Value *row) {
-    for (size_t c = 0; c < table.columns(); c++) {
+  void read_row(sqlite3_stmt *statement, Value *row, size_t columns) {
+    for (size_t c = 0; c < columns; c++) {
       if (table.kinds[c] != Kind::Text) {
         row[c].number = sqlite3_column_int64(statement, int(c));
         continue;
@@ -48,6 +49,8 @@ class Sqlite {
     return list;
   }
   std::string name(size_t c) { return '"' + table.names[c] + '"'; }
+  std::string first_names(size_t count) { return listed(0, count, ",", [&](size_t c) { return name(c); }); }
+  std::string marks(size_t count) { return listed(0, count, ",", [](size_t) { return std::string("?"); }); }
 
   // One statement for each list of operations and columns. Its arguments follow the key.
   sqlite3_stmt *upsert(const Batch &batch, const Message &m) {
@@ -70,9 +73,24 @@ class Sqlite {
     }
     auto set = [&](size_t c) { return name(c) + "=" + kept[c]; };
     std::string values = listed(0, table.columns(), ",", [&](size_t c) { return fresh[c]; });
-    std::string key = listed(0, table.keys, ",", [&](size_t c) { return name(c); });
     std::string sets = listed(table.keys, table.columns(), ",", set);
-    return statement = prepare("INSERT INTO t VALUES(" + values + ") ON CONFLICT(" + key + ") DO UPDATE SET " + sets);
+    return statement = prepare("INSERT INTO t VALUES(" + values + ") ON CONFLICT(" + first_names(table.keys) + ") DO UPDATE SET " + sets);
+  }
+
+  // The rows of a range, or their groups, where they have columns: one statement for each form. Its arguments are the bounds.
+  sqlite3_stmt *of_range(const Range &range, const Grouping &by) {
+    size_t from = range.from.size(), to = range.to.size(), at = 0;
+    sqlite3_stmt *&statement = ranges[{char(from), char(to), char(by.columns), char(by.summed)}];
+    if (!statement) {
+      std::string groups = first_names(by.columns), sql = "SELECT ";
+      sql += (by.columns ? groups + ",COUNT(*),SUM(" + name(by.summed) + ")" : "*") + " FROM t";
+      if (from) sql += " WHERE (" + first_names(from) + ")>=(" + marks(from) + ")";
+      if (to) sql += (from ? " AND (" : " WHERE (") + first_names(to) + ")<(" + marks(to) + ")";
+      statement = prepare(sql + (by.columns ? " GROUP BY " + groups + " ORDER BY " + groups : " ORDER BY " + first_names(table.keys)));
+    }
+    for (auto *bound : {&range.from, &range.to})
+      for (size_t c = 0; c < bound->size(); c++) bind(statement, ++at, table.kinds[c], (*bound)[c]);
+    return statement;
   }
 
  public:
@@ -85,13 +103,11 @@ class Sqlite {
       return name(c) + (table.kinds[c] == Kind::Text ? " TEXT" : " INTEGER") + (is_rowid && c == 0 ? " PRIMARY KEY" : " NOT NULL");
     };
     std::string columns = listed(0, table.columns(), ",", column);
-    std::string key = listed(0, table.keys, ",", [&](size_t c) { return name(c); });
-    execute("CREATE TABLE t(" + columns + (is_rowid ? ")" : ", PRIMARY KEY(" + key + ")) WITHOUT ROWID"));
+    execute("CREATE TABLE t(" + columns + (is_rowid ? ")" : ", PRIMARY KEY(" + first_names(table.keys) + ")) WITHOUT ROWID"));
     std::string is_key = " WHERE " + listed(0, table.keys, " AND ", [&](size_t c) { return name(c) + "=?"; });
-    put = prepare("REPLACE INTO t VALUES(" + listed(0, table.columns(), ",", [](size_t) { return std::string("?"); }) + ")");
+    put = prepare("REPLACE INTO t VALUES(" + marks(table.columns()) + ")");
     del = prepare("DELETE FROM t" + is_key);
     find = prepare("SELECT * FROM t" + is_key);
-    all = prepare("SELECT * FROM t ORDER BY " + key);
   }
   void apply(const Batch &batch) {
     execute("BEGIN");
@@ -114,20 +130,31 @@ class Sqlite {
     int code = sqlite3_step(find);
     check(code);
     held.clear();
-    if (code == SQLITE_ROW) read_row(find, row);
+    if (code == SQLITE_ROW) read_row(find, row, table.columns());
     for (size_t c = 0; code == SQLITE_ROW && c < table.columns(); c++)
       if (table.kinds[c] == Kind::Text) row[c].text = held.emplace_back(row[c].text);
     check(sqlite3_reset(find));
     return code == SQLITE_ROW;
   }
   template <class Each>
-  void scan(Each each) {
+  void scan(const Range &range, Each each) {
     Value row[MOST_COLUMNS];
-    while (sqlite3_step(all) == SQLITE_ROW) {
-      read_row(all, row);
+    sqlite3_stmt *rows = of_range(range, {0, 0});
+    while (sqlite3_step(rows) == SQLITE_ROW) {
+      read_row(rows, row, table.columns());
       each(row);
     }
-    check(sqlite3_reset(all));
+    check(sqlite3_reset(rows));
+  }
+  template <class Each>
+  void sums(const Range &range, const Grouping &by, Each each) {
+    Value group[MOST_COLUMNS];
+    sqlite3_stmt *groups = of_range(range, by);
+    while (sqlite3_step(groups) == SQLITE_ROW) {
+      read_row(groups, group, by.columns);
+      each(sqlite3_column_int64(groups, int(by.columns)), sqlite3_column_int64(groups, int(by.columns) + 1), group);
+    }
+    check(sqlite3_reset(groups));
   }
 };
 

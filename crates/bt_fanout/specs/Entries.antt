@@ -1,11 +1,10 @@
 -- What an index is, and the entry of a row.
 use Rattle.std.specs.Prelude.{ℕ, ◌≡◌, ◌==◌, ◌<◌, ◌≤◌, ◌++◌, Bool, true, false, not, List, get_or, length, map, take, Option, Some, None, if◌then◌else◌}
 use Rattle.std.specs.List.{All}
-use Rattle.std.specs.Ordering.{int_eq, is_eq, is_lt}
-use Rattle.std.specs.Bool.{beq}
-use Rattle.std.specs.Cmp.Lexicographic.{pointwise}
+use Rattle.std.specs.Ordering.{is_eq, is_lt}
 use Rattle.std.specs.declared.cmp.Ordering.{Ordering}
 use Rattle.bt_rowtype.specs.Values.{value_cmp}
+pub use Rattle.bt_rowtype.specs.Values.{same_value, same_values}
 use Rattle.bt_rowtype.specs.declared.value.Kind.{Kind}
 use Rattle.bt_rowtype.specs.declared.value.Kind.TheVariants as kind
 use Rattle.bt_rowtype.specs.declared.value.Value.{Value}
@@ -55,16 +54,6 @@ key_of def row = code_of (take def.keys row)
 abbrev pub own_entry : Definition → Option (List Value) → Option (Key × List Value)
 own_entry def None = None
 own_entry def (Some row) = entry_of def (key_of def row) row
-
--- whether two values, and whether two lists of values, are the same
-abbrev pub same_value : Value → Value → Bool
-same_value (value.Int a) (value.Int b) = int_eq a b
-same_value (value.Text a) (value.Text b) = pointwise ◌==◌ a b
-same_value (value.Flag a) (value.Flag b) = beq a b
-same_value a b = false
-
-abbrev pub same_values : List Value → List Value → Bool
-same_values = pointwise same_value
 
 -- a row of these kinds under the code of its key columns
 pub record StandsUnder (def : Definition) (kinds : List Kind) (key : Key) (row : List Value) : Type 0 where

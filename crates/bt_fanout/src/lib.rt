@@ -33,4 +33,4 @@ pub use definition::{Condition, IndexDef, MOST_INCLUDED, MOST_ON};
 pub use effect::Effect;
 pub use lookup::effects;
 pub use packet::index_packet;
-pub use selecting::entry;
+pub use selecting::{add_first, entry};

@@ -14,36 +14,9 @@ use crate::effect::Effect;
 use crate::selecting::entry;
 use bt_keycode::Key;
 use bt_messages::{Entry, Message, Packet};
-use bt_rowtype::{Row, ValueRef, Values};
+use bt_rowtype::{Row, same_values};
 use std::alloc::{AllocError, Global};
 use std::cmp::Ordering;
-
-fn same_value(left: ValueRef<'_>, right: ValueRef<'_>) -> bool
-    ensures { result ≡ spec.same_value (shown left.entry) (shown right.entry) }
-{
-    match (left, right) {
-        (ValueRef::Int(a), ValueRef::Int(b)) => a == b,
-        (ValueRef::Text(a), ValueRef::Text(b)) => a == b,
-        (ValueRef::Flag(a), ValueRef::Flag(b)) => a == b,
-        _ => false,
-    }
-}
-
-fn same_values(left: Values<'_>, right: Values<'_>) -> bool
-    ensures { result ≡ spec.same_values left.entry right.entry }
-{
-    let mut lefts = left;
-    let mut rights = right;
-    while let Some(a) = lefts.next() {
-        let Some(b) = rights.next() else {
-            return false;
-        };
-        if !same_value(a, b) {
-            return false;
-        }
-    }
-    rights.is_empty()
-}
 
 // Adds what takes an entry to another one that is there too.
 fn add_change(

@@ -3,33 +3,21 @@ ghost use Rattle.std.specs.Prelude.{◌≡◌, Err, IfErr, IfSome, None, Option,
 ghost use Rattle.std.specs.Option.{option_copied};
 ghost use Rattle.std.specs.Result.{result_err};
 ghost use Rattle.bt_rowtype.specs.Answers.{Answers};
-ghost use Rattle.bt_rowtype.specs.Ops.{both_read, named_from};
+ghost use Rattle.bt_rowtype.specs.Ops.{both_read};
 ghost use Rattle.bt_rowtype.specs.Refusals.{lesser};
 ghost use Rattle.bt_rowtype.specs.Values.{or_refused};
 ghost use Rattle.bt_fanout.specs.Definitions as spec;
 
 use crate::definition::{Condition, MOST_INCLUDED, MOST_ON};
-use bt_rowtype::{Column, Filter, Kind, Refusal, Sequence, read_field};
+use bt_rowtype::{Column, Filter, Refusal, Sequence, find_column, read_field};
 use std::alloc::Global;
-
-// The first column with this name: its place and its kind.
-fn find_column(columns: &[Column], name: &[u8]) -> Option<(usize, Kind)>
-    ensures { result ≡ named_from 0 name.now columns.now }
-{
-    for (place, column) in columns.iter().enumerate() {
-        if column.name.as_bytes() == name {
-            return Some((place, column.kind));
-        }
-    }
-    None
-}
 
 // The condition of a filter.
 fn read_condition(alloc: Global, columns: &[Column], filter: &Filter) -> Result<Condition, Refusal>
     ensures answer { Answers (spec.condition_of columns.now filter.now) result }
     ensures certain { IfErr (spec.condition_of columns.now filter.now) (λ e. result ≡ Err e) }
 {
-    let Some((place, kind)) = find_column(columns, filter.column.as_bytes()) else {
+    let Some((place, kind)) = find_column(columns, 0, filter.column.as_bytes()) else {
         return Err(Refusal::NoSuchColumn);
     };
     let constant = read_field(alloc, kind, filter.constant.as_slice())?;
@@ -60,7 +48,7 @@ fn are_there(columns: &[Column], names: &[String]) -> bool
     ensures { result ≡ is_some (spec.places_of columns.now (map string_bytes names.now)) }
 {
     for name in names {
-        if find_column(columns, name.as_bytes()).is_none() {
+        if find_column(columns, 0, name.as_bytes()).is_none() {
             return false;
         }
     }
@@ -103,7 +91,7 @@ fn read_places(
 {
     let mut places = Sequence::with_capacity(alloc, names.len())?;
     for name in names {
-        let Some((place, _)) = find_column(columns, name.as_bytes()) else {
+        let Some((place, _)) = find_column(columns, 0, name.as_bytes()) else {
             return Err(Refusal::NoSuchColumn);
         };
         places.push(place)?;

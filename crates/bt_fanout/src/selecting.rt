@@ -30,8 +30,8 @@ fn add_picked(
     Ok(())
 }
 
-// Adds the first values of a row.
-fn add_first(alloc: Global, values: &mut Row, row: &Row, count: usize) -> Result<(), AllocError>
+/// Adds the first values of a row, or all where there are fewer, to other values.
+pub fn add_first(alloc: Global, values: &mut Row, row: &Row, count: usize) -> Result<(), AllocError>
     ensures { OnOk result (values.new ≡ values.old ++ take count row.now) }
 {
     let mut rest = row.first_values(count);

@@ -1,11 +1,12 @@
 -- Values, how fields spell them, and their order.
-use Rattle.std.specs.Prelude.{ℕ, ◌==◌, Bool, true, false, List, [], ◌∷◌, codes, length, Option, Some, None, option_map, option_and_then, Result, Ok, Err, if◌then◌else◌, pos}
+use Rattle.std.specs.Prelude.{ℕ, ◌==◌, ◌&&◌, Bool, true, false, List, [], ◌∷◌, codes, length, nat_le, nat_lt, take, Option, Some, None, option_map, option_and_then, Result, Ok, Err, if◌then◌else◌, pos}
+use Rattle.std.specs.Bool.{beq}
 use Rattle.std.specs.Fmt.{signed_decimal}
-use Rattle.std.specs.Ordering.{bool_cmp, int_cmp, nat_cmp}
+use Rattle.std.specs.Ordering.{bool_cmp, int_cmp, int_eq, nat_cmp}
 use Rattle.std.specs.Str.{str_eq_ignore_ascii_case}
 use Rattle.std.specs.declared.cmp.Ordering.{Ordering}
 use Rattle.std.specs.declared.cmp.Ordering.TheVariants.{Equal}
-use Rattle.std.specs.Cmp.Lexicographic.{slice_cmp}
+use Rattle.std.specs.Cmp.Lexicographic.{pointwise, slice_cmp}
 use Rattle.bt_rowtype.specs.Ints.{int_of}
 use Rattle.bt_rowtype.specs.Texts.{is_text}
 use Rattle.bt_rowtype.specs.declared.refusal.Refusal.{Refusal}
@@ -47,6 +48,11 @@ or_refused refusal (Some value) = Ok value
 abbrev pub read_as : List Column → ℕ → List (List ℕ) → Result (List Value) Refusal
 read_as columns item fields = if length fields == length columns then or_refused (BadField item) (values_of columns fields) else Err (BadLength item)
 
+-- what a record is read as by the first of these columns, at least one, one for each field, or its refusal as this item
+abbrev pub prefix_as : List Column → ℕ → List (List ℕ) → Result (List Value) Refusal
+prefix_as columns item fields =
+    if nat_lt 0 (length fields) && nat_le (length fields) (length columns) then or_refused (BadField item) (values_of (take (length fields) columns) fields) else Err (BadLength item)
+
 -- the text of a value
 abbrev pub text_of : Value → List ℕ
 text_of (value.Int n) = signed_decimal n
@@ -69,3 +75,13 @@ value_cmp a b = Equal
 -- the order of lists of values, value by value
 abbrev pub values_cmp : List Value → List Value → Ordering
 values_cmp = slice_cmp value_cmp
+
+-- whether two values, and whether two lists of values, are the same
+abbrev pub same_value : Value → Value → Bool
+same_value (value.Int a) (value.Int b) = int_eq a b
+same_value (value.Text a) (value.Text b) = pointwise ◌==◌ a b
+same_value (value.Flag a) (value.Flag b) = beq a b
+same_value a b = false
+
+abbrev pub same_values : List Value → List Value → Bool
+same_values = pointwise same_value

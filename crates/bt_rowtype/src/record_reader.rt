@@ -4,7 +4,7 @@ ghost use Rattle.std.specs.Result.{result_map_both};
 ghost use Rattle.bt_rowtype.specs.Answers.{Answers};
 ghost use Rattle.bt_rowtype.specs.Ops as spec;
 ghost use Rattle.bt_rowtype.specs.Records.{csv_record, fields_in};
-ghost use Rattle.bt_rowtype.specs.Values.{read_as};
+ghost use Rattle.bt_rowtype.specs.Values.{prefix_as, read_as};
 
 use crate::cut::cut_plain;
 use crate::fields::{Place, Record};
@@ -13,8 +13,8 @@ use crate::op::MOST_OPS;
 use crate::packed_row::Row;
 use crate::reader::unescape;
 use crate::refusal::Refusal;
-use crate::row::read_values;
-use crate::schema::Schema;
+use crate::row::{read_prefix, read_values};
+use crate::schema::{Column, Schema};
 use crate::upsert::{Upsert, read_upsert_record};
 use std::alloc::{AllocError, Global};
 
@@ -83,6 +83,23 @@ impl RecordReader {
         let columns = schema.key_columns();
         match self.read(line.text(), columns.len())? {
             Some(fields) => read_values(alloc, columns, item, &fields),
+            None => Err(Refusal::BadLength(item)),
+        }
+    }
+
+    /// The values of the first of these columns that a line spells, one for each field. `BadLength` where there is no field, or more than
+    /// columns, else `BadField` where a field is no value of its column, both with this item.
+    pub fn read_prefix(
+        &mut self,
+        alloc: Global,
+        columns: &[Column],
+        item: u64,
+        line: &RecordLine<'_>,
+    ) -> Result<Row, Refusal>
+        ensures { Answers (prefix_as columns.now item line.now) result }
+    {
+        match self.read(line.text(), columns.len())? {
+            Some(fields) => read_prefix(alloc, columns, item, &fields),
             None => Err(Refusal::BadLength(item)),
         }
     }

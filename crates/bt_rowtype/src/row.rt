@@ -3,7 +3,7 @@ ghost use Rattle.std.specs.Prelude.{◌≡◌, ◌≢◌, ◌≤◌, Err, IfOk, 
 ghost use Rattle.std.specs.Result.{result_map_both};
 ghost use Rattle.bt_rowtype.specs.Answers.{Answers};
 ghost use Rattle.bt_rowtype.specs.Packing.{HasText};
-ghost use Rattle.bt_rowtype.specs.Values.{or_refused, read_as, value_of, values_of};
+ghost use Rattle.bt_rowtype.specs.Values.{or_refused, prefix_as, read_as, value_of, values_of};
 ghost use Rattle.bt_rowtype.specs.Views.{shown};
 
 use crate::field::read_value;
@@ -77,6 +77,21 @@ pub(crate) fn read_values(
         return Err(Refusal::BadLength(item));
     }
     read_fields(alloc, columns, item, fields)
+}
+
+// The values that fields spell, each by one of the first columns.
+pub(crate) fn read_prefix(
+    alloc: Global,
+    columns: &[Column],
+    item: u64,
+    fields: &Record<'_>,
+) -> Result<Row, Refusal>
+    ensures { Answers (prefix_as columns.now item fields.now) result }
+{
+    if fields.len() == 0 || fields.len() > columns.len() {
+        return Err(Refusal::BadLength(item));
+    }
+    read_fields(alloc, &columns[..fields.len()], item, fields)
 }
 
 /// The row that a record spells, one field for each column. `BadLength` where their number differs, else `BadField` where a

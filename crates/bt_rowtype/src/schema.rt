@@ -1,5 +1,6 @@
 //! The columns of a table.
-ghost use Rattle.std.specs.Prelude.{◌≡◌, ◌≤◌, Ok, Err, if◌then◌else◌, length, take};
+ghost use Rattle.std.specs.Prelude.{◌≡◌, ◌≤◌, Ok, Err, if◌then◌else◌, drop, length, take};
+ghost use Rattle.bt_rowtype.specs.Ops.{named_from};
 ghost use Rattle.bt_rowtype.specs.Schemas.{are_apart, checked_as, fit_columns, fits_kind, has_column as has_column_named, is_schema};
 ghost use Rattle.bt_rowtype.specs.Views.{shown};
 
@@ -97,6 +98,19 @@ impl Schema {
             Err(Refusal::BadField(item))
         }
     }
+}
+
+/// The first column with this name from a place on, counted from 0: its place and its kind.
+pub fn find_column(columns: &[Column], start: usize, name: &[u8]) -> Option<(usize, Kind)>
+    ensures { result ≡ named_from start name.now (drop start columns.now) }
+{
+    for place in start..columns.len() {
+        let column = &columns[place];
+        if column.name.as_bytes() == name {
+            return Some((place, column.kind));
+        }
+    }
+    None
 }
 
 // Whether values are of the kinds of their columns, one for each.

@@ -16,7 +16,7 @@ use crate::packed_row::Row;
 use crate::reading::Reading;
 use crate::refusal::Refusal;
 use crate::row::{read_at, read_fields};
-use crate::schema::Schema;
+use crate::schema::{Schema, find_column};
 use crate::value::Kind;
 use std::alloc::{AllocError, Global};
 
@@ -30,17 +30,10 @@ pub struct Upsert {
 }
 
 // The column with this name that operations may change, and its kind.
-fn find_column(schema: &Schema, name: &[u8]) -> Option<(usize, Kind)>
+fn find_open_column(schema: &Schema, name: &[u8]) -> Option<(usize, Kind)>
     ensures { result ≡ spec.open_column schema.now name.now }
 {
-    let columns = schema.columns();
-    for place in schema.keys()..columns.len() {
-        let column = &columns[place];
-        if column.name.as_bytes() == name {
-            return Some((place, column.kind));
-        }
-    }
-    None
+    find_column(schema.columns(), schema.keys(), name)
 }
 
 // The number that a field spells, or its refusal as this item.
@@ -64,7 +57,7 @@ fn read_set(
     ensures answer { Answers (spec.at_column (spec.set_of item argument.now) (spec.open_column schema.now name.now)) result }
     ensures certain { IfErr (spec.at_column (spec.set_of item argument.now) (spec.open_column schema.now name.now)) (λ e. result ≡ Err e) }
 {
-    let Some((place, kind)) = find_column(schema, name) else {
+    let Some((place, kind)) = find_open_column(schema, name) else {
         return Err(Refusal::NoSuchColumn);
     };
     Ok(Op::Set(place, read_at(kind, item, argument)?.to_value(alloc)?))
@@ -74,7 +67,7 @@ fn read_set(
 fn read_add(schema: &Schema, item: u64, name: &[u8], argument: &[u8]) -> Result<Op, Refusal>
     ensures { result ≡ spec.at_column (spec.add_of item argument.now) (spec.open_column schema.now name.now) }
 {
-    let Some((place, kind)) = find_column(schema, name) else {
+    let Some((place, kind)) = find_open_column(schema, name) else {
         return Err(Refusal::NoSuchColumn);
     };
     if kind != Kind::Int {

@@ -2,6 +2,7 @@
 ghost use Rattle.std.specs.Prelude.{◌≡◌, ◌∷◌, ◌==◌, [], Some, IfSome, IfNone, length};
 ghost use Rattle.bt_rowtype.specs.Packing.{HasText, IsInRange, IsPacked, first_of, unpacked, width_of};
 ghost use Rattle.bt_rowtype.specs.Sources.{IsSource, left};
+ghost use Rattle.bt_rowtype.specs.Values as spec;
 ghost use Rattle.bt_rowtype.specs.Views.{shown};
 
 use crate::packed::{first, tail, width};
@@ -55,6 +56,34 @@ fn holds_none(bytes: &[u8]) -> bool
     ensures { result ≡ (length (unpacked bytes.now) == 0) }
 {
     bytes.is_empty()
+}
+
+fn same_value(left: ValueRef<'_>, right: ValueRef<'_>) -> bool
+    ensures { result ≡ spec.same_value (shown left.entry) (shown right.entry) }
+{
+    match (left, right) {
+        (ValueRef::Int(a), ValueRef::Int(b)) => a == b,
+        (ValueRef::Text(a), ValueRef::Text(b)) => a == b,
+        (ValueRef::Flag(a), ValueRef::Flag(b)) => a == b,
+        _ => false,
+    }
+}
+
+/// Whether values are the same, one by one.
+pub fn same_values(left: Values<'_>, right: Values<'_>) -> bool
+    ensures { result ≡ spec.same_values left.entry right.entry }
+{
+    let mut lefts = left;
+    let mut rights = right;
+    while let Some(a) = lefts.next() {
+        let Some(b) = rights.next() else {
+            return false;
+        };
+        if !same_value(a, b) {
+            return false;
+        }
+    }
+    rights.is_empty()
 }
 
 impl<'a> Values<'a> {

@@ -1,13 +1,12 @@
 -- Steps of the cutting of lines into commands. Serves the parser, which goes by places of a script.
-use Rattle.std.proofs.Common.{ℕ, Bool, List, [], ◌∷◌, ◌++◌, ◌≡◌, ◌∙◌, refl, sym, ap, true, false, not, Option, Some, None, drop, length, map, filter, codes, ◌&&◌, ◌≤◌, arith, inl, inr}
+use Rattle.std.proofs.Common.{ℕ, Bool, List, [], ◌∷◌, ◌++◌, ◌≡◌, ◌∙◌, refl, sym, ap, true, false, not, Option, Some, None, drop, length, map, filter, codes, ◌≤◌, arith, inl, inr}
 use Rattle.std.proofs.lemmas.Bool.{cases_Bool}
 use Rattle.std.proofs.lemmas.List.{append-nil, drop_all, map-append}
 use Rattle.std.proofs.lemmas.List.Elements.{filter-append}
-use Rattle.std.proofs.lemmas.List.Folds.{list_all-append}
-use Rattle.std.specs.List.{list_all}
+use Rattle.std.proofs.lemmas.List.Sums.{fold-append}
 use Rattle.std.specs.Prelude.{option_map}
 use Rattle.bt_script.specs.Blocks.{IsBlock, and_line, headed, with_last}
-use Rattle.bt_script.specs.Commands.{Inside, Outside, all_some, batch_of, begins, closing_of, command_of, commands_from, is_blank_line, is_word, item_of, items_of, or_syntax, scan_of, step, unfinished}
+use Rattle.bt_script.specs.Commands.{Inside, Outside, all_some, and_bound, batch_of, begins, bounds_of, closing_of, command_of, commands_from, is_blank_line, is_word, item_of, items_of, or_syntax, scan_of, step, sums_of, unbounded, unfinished}
 use Rattle.bt_script.specs.Lines.{lines, words, without_return}
 use Rattle.bt_script.specs.declared.command.Command.{Command}
 
@@ -32,13 +31,10 @@ items-more block line = elim (cases_Bool (is_blank_line line)) [
       (all_some-snoc (map item_of (filter (λ l. not (is_blank_line l)) block)) (item_of line))
 ]
 
--- one more line of a scan
-pub blank-more : (block : List (List ℕ)) (line : List ℕ) → list_all is_blank_line (block ++ line ∷ []) ≡ (list_all is_blank_line block && is_blank_line line)
-blank-more block line = list_all-append is_blank_line block (line ∷ []) ∙ ap (λ (b : Bool). list_all is_blank_line block && b) (and-true (is_blank_line line))
-  where
-    and-true : (b : Bool) → (b && true) ≡ b
-    and-true true = refl
-    and-true false = refl
+-- one more line of bounds
+pub bounds-more : (block : List (List ℕ)) (line : List ℕ) → bounds_of (block ++ line ∷ []) ≡ and_bound (bounds_of block) (without_return line)
+unfolding bounds_of
+bounds-more block line = fold-append (λ bounds one. and_bound bounds (without_return one)) (Some unbounded) block (line ∷ [])
 
 -- a line that does not close the block
 pub inside-more : (head closing : List ℕ) (block : List (List ℕ)) (line : List ℕ) (more : List (List ℕ)) → is_word (without_return line) closing ≡ false
@@ -92,19 +88,29 @@ pub headed-scan : (head : List ℕ) (more : List (List ℕ)) → begins (words h
 unfolding closing_of
 headed-scan head more other is = rw (other, is) refl
 
-pub headed-line : (head : List ℕ) (more : List (List ℕ)) (command : Option Command) → begins (words head) (codes "batch") ≡ false → begins (words head) (codes "scan") ≡ false
-    → command ≡ command_of head [] → headed head more ≡ or_syntax command ∷ commands_from Outside more
+pub headed-sums : (head : List ℕ) (more : List (List ℕ)) → begins (words head) (codes "batch") ≡ false → begins (words head) (codes "scan") ≡ false → begins (words head) (codes "sums") ≡ true
+    → headed head more ≡ commands_from (Inside head (codes "go") []) more
 unfolding closing_of
-headed-line head more command no_batch no_scan is = rw (no_batch, no_scan, is) refl
+headed-sums head more no_batch no_scan is = rw (no_batch, no_scan, is) refl
+
+pub headed-line : (head : List ℕ) (more : List (List ℕ)) (command : Option Command) → begins (words head) (codes "batch") ≡ false → begins (words head) (codes "scan") ≡ false
+    → begins (words head) (codes "sums") ≡ false → command ≡ command_of head [] → headed head more ≡ or_syntax command ∷ commands_from Outside more
+unfolding closing_of
+headed-line head more command no_batch no_scan no_sums is = rw (no_batch, no_scan, no_sums, is) refl
 
 pub command-batch : (head : List ℕ) (block : List (List ℕ)) → begins (words head) (codes "batch") ≡ true → command_of head block ≡ batch_of (words head) (items_of block)
 unfolding command_of
 command-batch head block is = rw is refl
 
 pub command-scan : (head : List ℕ) (block : List (List ℕ)) → begins (words head) (codes "batch") ≡ false → begins (words head) (codes "scan") ≡ true
-    → command_of head block ≡ scan_of (words head) (list_all is_blank_line block)
+    → command_of head block ≡ scan_of (words head) (bounds_of block)
 unfolding command_of
 command-scan head block other is = rw (other, is) refl
+
+pub command-sums : (head : List ℕ) (block : List (List ℕ)) → begins (words head) (codes "batch") ≡ false → begins (words head) (codes "scan") ≡ false → begins (words head) (codes "sums") ≡ true
+    → command_of head block ≡ sums_of (words head) (bounds_of block)
+unfolding command_of
+command-sums head block no_batch no_scan is = rw (no_batch, no_scan, is) refl
 
 -- a line outside of blocks: one that heads a command, and a blank one
 pub outside-head : (line : List ℕ) (more : List (List ℕ)) → is_blank_line line ≡ false → commands_from Outside (line ∷ more) ≡ headed (without_return line) more

@@ -1,6 +1,6 @@
 -- The commands of a script.
-use Rattle.std.specs.Prelude.{ℕ, ◌≡◌, ◌==◌, ◌&&◌, ◌<◌, ◌≤◌, ◌+◌, not, Bool, List, [], ◌∷◌, ◌++◌, length, map, filter, take, drop, get_or, nat_le, Option, Some, None, Result, Ok, Err, if◌then◌else◌, codes, option_and_then, option_map, is_some, ⊤}
-use Rattle.std.specs.List.{list_all, slice_split}
+use Rattle.std.specs.Prelude.{ℕ, ◌≡◌, ◌==◌, ◌&&◌, ◌<◌, ◌≤◌, ◌+◌, not, Bool, List, [], ◌∷◌, ◌++◌, length, map, filter, take, drop, get_or, nat_le, Option, Some, None, Result, Ok, Err, if◌then◌else◌, codes, option_and_then, option_map, is_some, is_none, fold, ⊤}
+use Rattle.std.specs.List.{slice_split}
 use Rattle.std.specs.Cmp.Lexicographic.{pointwise}
 use Rattle.bt_rowtype.specs.Records.{record_of}
 use Rattle.bt_rowtype.specs.declared.filter.Filter.{Filter}
@@ -13,7 +13,8 @@ use Rattle.bt_rowtype.specs.declared.value.Kind.{Kind}
 use Rattle.bt_rowtype.specs.declared.value.Kind.TheVariants as kind
 use Rattle.bt_script.specs.Lines.{behind_words, is_blank, is_name, lines, name_of, number_of, without_return, without_spaces, words}
 use Rattle.bt_script.specs.declared.command.Command.{Command}
-use Rattle.bt_script.specs.declared.command.Command.TheVariants.{Batch, Drop, Get, Image, Index, Scan, Table}
+use Rattle.bt_script.specs.declared.command.Command.TheVariants.{Batch, Drop, Get, Image, Index, Scan, Sums, Table}
+use Rattle.bt_script.specs.declared.command.Bounds.{Bounds}
 use Rattle.bt_rowtype.specs.declared.item.Item.{Item}
 use Rattle.bt_rowtype.specs.declared.item.Item.TheVariants.{Put, Del, Ups}
 use Rattle.bt_script.specs.declared.command.Parsed.{Parsed}
@@ -87,9 +88,39 @@ table_of ws =
 abbrev pub batch_of : List (List ℕ) → Option (List Item) → Option Command
 batch_of ws items = if length ws == 1 then option_map Batch items else None
 
--- scan and the name of a tree, with a block of blank lines
-abbrev pub scan_of : List (List ℕ) → Bool → Option Command
-scan_of ws blank = if (length ws == 2) && is_name (word_at ws 1) && blank then Some (Scan (word_at ws 1)) else None
+-- no bound
+abbrev pub unbounded : Bounds
+unbounded = record { from = None; to = None }
+
+-- bounds and that of one line more: from is the first one, and each stands once
+abbrev pub with_bound : Bounds → List ℕ → Option Bounds
+with_bound bounds line =
+    if is_some (behind_prefix (codes "from ") line)
+    then (if is_none bounds.from && is_none bounds.to then option_map (λ from. record { from = Some from; to = None }) (record_behind (codes "from ") line) else None)
+    else (if is_none bounds.to then option_map (λ to. record { from = bounds.from; to = Some to }) (record_behind (codes "to ") line) else None)
+
+-- and that of a line, where it is not blank
+abbrev pub and_bound : Option Bounds → List ℕ → Option Bounds
+and_bound bounds line = if is_blank line then bounds else option_and_then (λ own. with_bound own (without_spaces line)) bounds
+
+-- the bounds of a block
+unfoldable pub bounds_of : List (List ℕ) → Option Bounds
+bounds_of block = fold (λ bounds line. and_bound bounds (without_return line)) (Some unbounded) block
+
+-- scan and the name of a tree, with its bounds
+abbrev pub scan_of : List (List ℕ) → Option Bounds → Option Command
+scan_of ws bounds = if (length ws == 2) && is_name (word_at ws 1) then option_map (Scan (word_at ws 1)) bounds else None
+
+abbrev pub sums_from : List ℕ → ℕ → List ℕ → Bounds → Command
+sums_from tree columns column bounds = Sums (record { tree = tree; columns = columns; column = column; bounds = bounds })
+
+-- sums, the name of a tree, a number and the name of a column, with its bounds
+unfoldable pub sums_of : List (List ℕ) → Option Bounds → Option Command
+sums_of ws bounds =
+    if length ws == 4 then
+    option_and_then (λ tree. option_and_then (λ columns. option_and_then (λ column. option_map (sums_from tree columns column) bounds)
+    (name_of (word_at ws 3))) (number_of (word_at ws 2))) (name_of (word_at ws 1))
+    else None
 
 -- get, one space and a record
 abbrev pub get_of : List ℕ → Option Command
@@ -164,18 +195,21 @@ begins ws word = is_word (word_at ws 0) word
 
 -- the line that closes the block of a command, where it has one
 unfoldable pub closing_of : List (List ℕ) → Option (List ℕ)
-closing_of ws = if begins ws (codes "batch") then Some (codes "end") else (if begins ws (codes "scan") then Some (codes "go") else None)
+closing_of ws =
+    if begins ws (codes "batch") then Some (codes "end")
+    else (if begins ws (codes "scan") then Some (codes "go") else (if begins ws (codes "sums") then Some (codes "go") else None))
 
 -- the command of its head line, which has these words, and of the lines of its block, if it is one
 abbrev pub command_from : List ℕ → List (List ℕ) → List (List ℕ) → Option Command
 command_from head ws block =
     if begins ws (codes "batch") then batch_of ws (items_of block)
-    else (if begins ws (codes "scan") then scan_of ws (list_all is_blank_line block)
+    else (if begins ws (codes "scan") then scan_of ws (bounds_of block)
+    else (if begins ws (codes "sums") then sums_of ws (bounds_of block)
     else (if begins ws (codes "table") then table_of ws
     else (if begins ws (codes "get") then get_of head
     else (if begins ws (codes "image") then image_of ws
     else (if begins ws (codes "index") then index_of head ws
-    else (if begins ws (codes "drop") then drop_of ws else None))))))
+    else (if begins ws (codes "drop") then drop_of ws else None)))))))
 
 -- the command of its head line and the lines of its block, if it is one
 unfoldable pub command_of : List ℕ → List (List ℕ) → Option Command

@@ -30,6 +30,27 @@ pub struct IndexForm {
     pub filter: Option<Filter>,
 }
 
+/// The bounds of a range of rows, each a record of the first columns of a key, where it is there.
+#[derive(Drop)]
+pub struct Bounds<'a> {
+    /// The range begins at these values.
+    pub from: Option<RecordLine<'a>>,
+    /// The range ends before these values.
+    pub to: Option<RecordLine<'a>>,
+}
+
+/// What is summed.
+#[derive(Drop)]
+pub struct SumsForm<'a> {
+    /// The name of the tree.
+    pub tree: Text,
+    /// How many of its first columns make a group.
+    pub columns: u32,
+    /// The name of the column that is summed.
+    pub column: Text,
+    pub bounds: Bounds<'a>,
+}
+
 /// A command.
 #[derive(Drop)]
 pub enum Command<'a> {
@@ -39,8 +60,10 @@ pub enum Command<'a> {
     Batch(Items<'a>),
     /// `get rec`: the row of the key that these fields spell.
     Get(RecordLine<'a>),
-    /// `scan TREE`: all rows of a tree.
-    Scan(Text),
+    /// `scan TREE` and its bounds: the rows of a range.
+    Scan(Text, Bounds<'a>),
+    /// `sums TREE G COL` and its bounds: a count and a sum for each group of rows.
+    Sums(SumsForm<'a>),
     /// `image TREE`: the nodes of a tree.
     Image(Text),
     /// `index NAME on LIST ..`: a new index.

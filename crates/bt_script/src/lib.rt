@@ -21,7 +21,7 @@ mod parse;
 mod streams;
 mod words;
 
-pub use command::{Command, IndexForm, Items, Parsed, TableForm};
+pub use command::{Bounds, Command, IndexForm, Items, Parsed, SumsForm, TableForm};
 pub use counted::Counted;
 pub use parse::parse_command;
 pub use streams::{RunFault, SCRIPT_LIMIT, read_script, write_text};

@@ -5,7 +5,7 @@ ghost use Rattle.bt_script.specs.Blocks.{FindsHeaded, IsBlock, NextBehind, and_l
 ghost use Rattle.bt_script.specs.Commands as spec;
 ghost use Rattle.bt_script.specs.Lines as text;
 
-use crate::command::{Command, IndexForm, Items, Parsed, TableForm};
+use crate::command::{Bounds, Command, IndexForm, Items, Parsed, SumsForm, TableForm};
 use crate::lines::{
     behind_words, is_blank, next_line, parse_name, parse_names, parse_number, parts,
     without_return, without_spaces, words,
@@ -125,30 +125,65 @@ fn read_items<'a>(
     })
 }
 
-// The block of a scan: whether its lines are blank.
-fn read_bounds(script: &[u8], start: usize) -> Block<bool>
+// Bounds and that of one line more, which begins with its word.
+fn with_bound<'a>(bounds: Bounds<'a>, text: &'a [u8]) -> Option<Bounds<'a>>
+    ensures { result ≡ spec.with_bound bounds.entry text.now }
+{
+    let Bounds { from, to } = bounds;
+    if let Some(record) = behind_prefix(b"from ", text) {
+        if from.is_some() || to.is_some() {
+            return None;
+        }
+        let from = RecordLine::new(record)?;
+        return Some(Bounds {
+            from: Some(from),
+            to: None,
+        });
+    }
+    if to.is_some() {
+        return None;
+    }
+    let to = record_behind(b"to ", text)?;
+    Some(Bounds { from, to: Some(to) })
+}
+
+// Bounds and that of one line more, which has no carriage return at its end.
+fn and_bound<'a>(bounds: Option<Bounds<'a>>, line: &'a [u8]) -> Option<Bounds<'a>>
+    ensures { result ≡ spec.and_bound bounds.entry line.now }
+{
+    if is_blank(line) {
+        return bounds;
+    }
+    with_bound(bounds?, without_spaces(line))
+}
+
+// The block of a scan or of sums: its bounds, or `None` where a line is wrong.
+fn read_bounds<'a>(script: &'a [u8], start: usize) -> Block<Option<Bounds<'a>>>
     requires { start ≤ length script.now }
-    ensures block { (block : List (List ℕ)) × (result.content ≡ list_all spec.is_blank_line block)
+    ensures block { (block : List (List ℕ)) × (result.content ≡ spec.bounds_of block)
         × IsBlock script.now start (codes "go") block result.closed result.next }
     ensures within { (start ≤ result.next) × (result.next ≤ length script.now) }
 {
-    let mut blank = true;
+    let mut bounds = Some(Bounds {
+        from: None,
+        to: None,
+    });
     let mut at = start;
     while at < script.len() {
         let (bytes, next) = next_line(script, at);
         let line = without_return(bytes);
         if is_word(line, b"go") {
             return Block {
-                content: blank,
+                content: bounds,
                 next,
                 closed: true,
             };
         }
-        blank &= is_blank(line);
+        bounds = and_bound(bounds, line);
         at = next;
     }
     Block {
-        content: blank,
+        content: bounds,
         next: script.len(),
         closed: false,
     }
@@ -244,15 +279,49 @@ fn batch_command<'a>(words: &[&[u8]], items: Option<Items<'a>>) -> Option<Comman
 fn scan_command<'a>(
     alloc: Global,
     words: &[&[u8]],
-    blank: bool,
+    bounds: Option<Bounds<'a>>,
 ) -> Result<Option<Command<'a>>, AllocError>
-    ensures { IfOk result (λ command. command ≡ spec.scan_of (map (λ w. w.now) words.now) blank) }
+    ensures { IfOk result (λ command. command ≡ spec.scan_of (map (λ w. w.now) words.now) bounds.entry) }
 {
-    if words.len() != 2 || !blank {
+    if words.len() != 2 {
         return Ok(None);
     }
-    match parse_name(alloc, word_at(words, 1))? {
-        Some(tree) => Ok(Some(Command::Scan(tree))),
+    let Some(tree) = parse_name(alloc, word_at(words, 1))? else {
+        return Ok(None);
+    };
+    match bounds {
+        Some(bounds) => Ok(Some(Command::Scan(tree, bounds))),
+        None => Ok(None),
+    }
+}
+
+#[tactic(auto, unfolding(crate::specs::Commands::sums_of))]
+fn sums_command<'a>(
+    alloc: Global,
+    words: &[&[u8]],
+    bounds: Option<Bounds<'a>>,
+) -> Result<Option<Command<'a>>, AllocError>
+    ensures { IfOk result (λ command. command ≡ spec.sums_of (map (λ w. w.now) words.now) bounds.entry) }
+{
+    if words.len() != 4 {
+        return Ok(None);
+    }
+    let Some(tree) = parse_name(alloc, word_at(words, 1))? else {
+        return Ok(None);
+    };
+    let Some(columns) = parse_number(word_at(words, 2)) else {
+        return Ok(None);
+    };
+    let Some(column) = parse_name(alloc, word_at(words, 3))? else {
+        return Ok(None);
+    };
+    match bounds {
+        Some(bounds) => Ok(Some(Command::Sums(SumsForm {
+            tree,
+            columns,
+            column,
+            bounds,
+        }))),
         None => Ok(None),
     }
 }
@@ -465,7 +534,7 @@ fn parse_batch<'a>(
 
 fn parse_scan<'a>(
     alloc: Global,
-    script: &[u8],
+    script: &'a [u8],
     head: &[u8],
     words: &[&[u8]],
     at: usize,
@@ -486,6 +555,30 @@ fn parse_scan<'a>(
     Ok(parsed(command, closed, next))
 }
 
+fn parse_sums<'a>(
+    alloc: Global,
+    script: &'a [u8],
+    head: &[u8],
+    words: &[&[u8]],
+    at: usize,
+) -> Result<Parsed<'a>, AllocError>
+    requires within { at ≤ length script.now }
+    requires words { map (λ w. w.now) words.now ≡ text.words head.now }
+    requires no_batch { spec.begins (map (λ w. w.now) words.now) (codes "batch") ≡ false }
+    requires no_scan { spec.begins (map (λ w. w.now) words.now) (codes "scan") ≡ false }
+    requires sums { spec.begins (map (λ w. w.now) words.now) (codes "sums") ≡ true }
+    ensures found { IfOk result (λ parsed. FindsHeaded parsed script.now head.now at) }
+    ensures past { IfOk result (λ parsed. NextBehind parsed script.now at) }
+{
+    let Block {
+        content,
+        next,
+        closed,
+    } = read_bounds(script, at);
+    let command = sums_command(alloc, words, content)?;
+    Ok(parsed(command, closed, next))
+}
+
 // The command of a head line that has no block.
 #[tactic(auto, unfolding(crate::specs::Commands::command_of))]
 fn line_command<'a>(
@@ -496,6 +589,7 @@ fn line_command<'a>(
     requires words { map (λ w. w.now) words.now ≡ text.words head.now }
     requires no_batch { spec.begins (map (λ w. w.now) words.now) (codes "batch") ≡ false }
     requires no_scan { spec.begins (map (λ w. w.now) words.now) (codes "scan") ≡ false }
+    requires no_sums { spec.begins (map (λ w. w.now) words.now) (codes "sums") ≡ false }
     ensures { IfOk result (λ command. command ≡ spec.command_of head.now []) }
 {
     if begins(words, b"table") {
@@ -525,6 +619,7 @@ fn parse_line<'a>(
     requires words { map (λ w. w.now) words.now ≡ text.words head.now }
     requires no_batch { spec.begins (map (λ w. w.now) words.now) (codes "batch") ≡ false }
     requires no_scan { spec.begins (map (λ w. w.now) words.now) (codes "scan") ≡ false }
+    requires no_sums { spec.begins (map (λ w. w.now) words.now) (codes "sums") ≡ false }
     ensures found { IfOk result (λ parsed. (script : List ℕ) → FindsHeaded parsed script head.now at) }
     ensures past { IfOk result (λ parsed. (before : ℕ) (script : List ℕ) → before < at → at ≤ length script → spec.NextPast parsed before script) }
 {
@@ -549,6 +644,9 @@ fn parse_headed<'a>(
     }
     if begins(&words, b"scan") {
         return parse_scan(alloc, script, head, &words, at);
+    }
+    if begins(&words, b"sums") {
+        return parse_sums(alloc, script, head, &words, at);
     }
     parse_line(alloc, head, &words, at)
 }

@@ -43,7 +43,8 @@ A script is a list of commands:
   table F C L K name:kind ..  makes the table: fanout, buffer and leaf of its tree, number of key columns, columns
   batch                       applies the lines up to 'end': put RECORD, del KEY, ups KEY,OPERATIONS
   get KEY                     prints the row of a key
-  scan TREE                   prints all rows of a tree; its last line is 'go'
+  scan TREE                   prints the rows of a tree, in the bounds of the lines up to 'go': from KEY, to KEY
+  sums TREE G COLUMN          counts rows and sums a column, by the first G columns of the key; bounds as of scan
   image TREE                  prints the nodes of a tree: 'primary', or an index
   index NAME on COLUMNS ..    makes an index: include COLUMNS, where COLUMN = < or >= RECORD
   drop NAME                   takes an index away

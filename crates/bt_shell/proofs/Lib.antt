@@ -1,5 +1,4 @@
 pub mod Definitions
-pub mod Drawings
 pub mod Lines
 pub mod Sound
 pub mod Turns

@@ -9,7 +9,7 @@ use Rattle.bt_rowtype.specs.declared.refusal.Refusal.TheVariants.{BadSchema, Bad
 use Rattle.bt_node.specs.Shapes.{is_shape}
 use Rattle.bt_script.specs.Commands.{Answer}
 use Rattle.bt_script.specs.declared.command.Command.{Command}
-use Rattle.bt_script.specs.declared.command.Command.TheVariants.{Batch, Drop, Get, Image, Index, Scan, Table}
+use Rattle.bt_script.specs.declared.command.Command.TheVariants.{Batch, Drop, Get, Image, Index, Scan, Sums, Table}
 use Rattle.bt_script.specs.declared.command.IndexForm.{IndexForm}
 use Rattle.bt_script.specs.declared.command.TableForm.{TableForm}
 use Rattle.bt_fanout.specs.Definitions.{definition_as}
@@ -17,10 +17,10 @@ use Rattle.bt_fanout.specs.Entries.{Definition}
 use Rattle.bt_fanout.proofs.offered.Definitions.{definition_suits}
 use Rattle.bt_shell.specs.Replies.{count_line}
 use Rattle.bt_shell.specs.Runs.{after_commands}
-use Rattle.bt_shell.specs.Steps.{Done, State, checked, created, definition_of, form_refusals, image_of, or_refused, outcome, scanned, table_of, told, turn}
-use Rattle.bt_table.specs.Batches.{made, one_if}
+use Rattle.bt_shell.specs.Steps.{Done, State, checked, created, definition_of, form_refusals, or_refused, outcome, seen, table_of, told, turn}
+use Rattle.bt_table.specs.Batches.{one_if}
 use Rattle.bt_table.specs.Calls as call
-use Rattle.bt_table.specs.Calls.{NamedTree, Primary, Secondary, name_refusals, step, tree_named, unless_by}
+use Rattle.bt_table.specs.Calls.{name_refusals, step, unless_by}
 use Rattle.bt_table.specs.Standing.{IsSound}
 use Rattle.bt_table.specs.Tables.{Intact, Lost, TableState}
 use Rattle.bt_table.specs.declared.reply.Reply.{Reply}
@@ -63,14 +63,9 @@ told_keeps_sound : (after : Result (TableState × Reply) Refusal) → IfOk after
 told_keeps_sound (Ok step) sound = sound
 told_keeps_sound (Err refusal) sound = tt
 
-shown_keeps_sound : (text : NamedTree → List ℕ) (table : TableState) (named : Result NamedTree Refusal) → IsSound table → IsSoundAfter (made (λ shown. (Some table, text shown)) named)
-shown_keeps_sound text table (Ok shown) sound = sound
-shown_keeps_sound text table (Err refusal) sound = tt
-
-scanned_keeps_sound : (table : TableState) (named : Result NamedTree Refusal) → IsSound table → IsSoundAfter (scanned table named)
-scanned_keeps_sound table (Ok (Primary shown)) sound = sound
-scanned_keeps_sound table (Ok (Secondary shown index)) sound = tt
-scanned_keeps_sound table (Err refusal) sound = tt
+seen_keeps_sound : (table : TableState) (text : Result (List ℕ) Refusal) → IsSound table → IsSoundAfter (seen table text)
+seen_keeps_sound table (Ok text) sound = sound
+seen_keeps_sound table (Err refusal) sound = tt
 
 -- a definition that no refusal applies to is the one that was made
 checked_is : (def : Result Definition Refusal) (other : Option Refusal) (one : Definition) → checked def other ≡ Ok one → def ≡ Ok one
@@ -94,14 +89,16 @@ command_keeps_sound : (state : State) (command : Command) → IfSome state IsSou
 command_keeps_sound state (Table form) sound = form_keeps_sound state form
 command_keeps_sound None (Batch items) sound = tt
 command_keeps_sound None (Get fields) sound = tt
-command_keeps_sound None (Scan tree) sound = tt
+command_keeps_sound None (Scan tree bounds) sound = tt
+command_keeps_sound None (Sums form) sound = tt
 command_keeps_sound None (Image tree) sound = tt
 command_keeps_sound None (Index form) sound = tt
 command_keeps_sound None (Drop name) sound = tt
 command_keeps_sound (Some table) (Batch items) sound = told_keeps_sound _ (step_keeps_sound table (call.Apply items) tt sound)
 command_keeps_sound (Some table) (Get fields) sound = told_keeps_sound _ (step_keeps_sound table (call.Get fields) tt sound)
-command_keeps_sound (Some table) (Scan tree) sound = scanned_keeps_sound table (tree_named table tree) sound
-command_keeps_sound (Some table) (Image tree) sound = shown_keeps_sound (image_of tree) table (tree_named table tree) sound
+command_keeps_sound (Some table) (Scan tree bounds) sound = seen_keeps_sound table _ sound
+command_keeps_sound (Some table) (Sums form) sound = seen_keeps_sound table _ sound
+command_keeps_sound (Some table) (Image tree) sound = seen_keeps_sound table _ sound
 command_keeps_sound (Some table) (Index form) sound = created_keeps_sound table form sound
 command_keeps_sound (Some table) (Drop name) sound = told_keeps_sound _ (step_keeps_sound table (call.DropIndex name) tt sound)
 

@@ -1,5 +1,3 @@
-pub mod Drawings
-pub mod Images
 pub mod Programs
 pub mod Replies
 pub mod Runs

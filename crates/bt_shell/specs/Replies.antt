@@ -1,15 +1,15 @@
 -- The texts of replies.
 use Rattle.std.specs.Prelude.{ℕ, ◌+◌, List, [], ◌++◌, length, map, flat_map, Option, Some, None, codes, decimal}
+use Rattle.std.specs.Fmt.{signed_decimal}
 use Rattle.bt_rowtype.specs.Records.{record_text}
 use Rattle.bt_rowtype.specs.Refusals.{item_of, name_of, number_of}
 use Rattle.bt_rowtype.specs.Values.{text_of}
 use Rattle.bt_rowtype.specs.declared.refusal.Refusal.{Refusal}
 use Rattle.bt_rowtype.specs.declared.value.Value.{Value}
-use Rattle.bt_keycode.specs.Keys.{Key}
-use Rattle.bt_node.specs.Messages.{Rows}
 use Rattle.bt_table.specs.declared.reply.Reply.{Reply}
 use Rattle.bt_table.specs.declared.reply.Reply.TheVariants.{Batch, Created, Dropped, Row}
 use Rattle.bt_table.specs.declared.reply.SentCount.{SentCount}
+use Rattle.bt_view.specs.declared.groups.Sum.{Sum}
 
 -- a word, a number and a line end
 abbrev pub count_line : List ℕ → ℕ → List ℕ
@@ -19,13 +19,21 @@ count_line word count = word ++ (decimal count ++ codes "\n")
 abbrev pub row_line : List Value → List ℕ
 row_line row = codes "row " ++ (record_text (map text_of row) ++ codes "\n")
 
--- the lines of rows and their number, with one more row
-abbrev pub with_line : List ℕ × ℕ → Key × List Value → List ℕ × ℕ
-with_line lines row = (lines.0 ++ row_line row.1, lines.1 + 1)
+-- the line of a group: how many rows it has, the sum, and the columns by which rows are grouped
+abbrev pub sum_line : Sum → List ℕ
+sum_line sum = codes "sum " ++ (decimal sum.count ++ (codes " " ++ (signed_decimal sum.total ++ (codes " " ++ (record_text (map text_of sum.group) ++ codes "\n")))))
+
+-- lines and their number, with one more
+abbrev pub with_line : {T : Type 0} → (T → List ℕ) → List ℕ × ℕ → T → List ℕ × ℕ
+with_line line lines item = (lines.0 ++ line item, lines.1 + 1)
 
 -- the lines of all rows, and their number
-abbrev pub scan_reply : Rows (List Value) → List ℕ
-scan_reply rows = flat_map row_line (map (λ p. p.1) rows) ++ count_line (codes "rows ") (length rows)
+abbrev pub scan_reply : List (List Value) → List ℕ
+scan_reply rows = flat_map row_line rows ++ count_line (codes "rows ") (length rows)
+
+-- the lines of all groups, and their number
+abbrev pub sums_reply : List Sum → List ℕ
+sums_reply sums = flat_map sum_line sums ++ count_line (codes "sums ") (length sums)
 
 -- the row of a key, where it has one
 abbrev pub row_reply : Option (List Value) → List ℕ

@@ -3,20 +3,22 @@ use Rattle.std.specs.Prelude.{ℕ, ◌≡◌, ◌≢◌, not, List, ◌++◌, le
 use Rattle.bt_rowtype.specs.Refusals.{least, lesser}
 use Rattle.bt_rowtype.specs.Schemas.{is_schema}
 use Rattle.bt_rowtype.specs.declared.refusal.Refusal.{Refusal}
-use Rattle.bt_rowtype.specs.declared.refusal.Refusal.TheVariants.{BadSchema, BadShape, Building, Failed, NoTable, OutOfMemory, TableExists}
+use Rattle.bt_rowtype.specs.declared.refusal.Refusal.TheVariants.{BadSchema, BadShape, Failed, NoTable, OutOfMemory, TableExists}
 use Rattle.bt_node.specs.Shapes.{is_shape}
 use Rattle.bt_script.specs.Commands.{Answer}
 use Rattle.bt_script.specs.declared.command.Command.{Command}
-use Rattle.bt_script.specs.declared.command.Command.TheVariants.{Batch, Drop, Get, Image, Index, Scan, Table}
+use Rattle.bt_script.specs.declared.command.Command.TheVariants.{Batch, Drop, Get, Image, Index, Scan, Sums, Table}
 use Rattle.bt_script.specs.declared.command.IndexForm.{IndexForm}
 use Rattle.bt_script.specs.declared.command.TableForm.{TableForm}
 use Rattle.bt_fanout.specs.Definitions.{definition_as}
 use Rattle.bt_fanout.specs.Entries.{Definition}
-use Rattle.bt_shell.specs.Images.{entry_image, row_image}
-use Rattle.bt_shell.specs.Replies.{count_line, refused_text, reply_text, scan_reply}
+use Rattle.bt_view.specs.Groups.{sums}
+use Rattle.bt_view.specs.Images.{image}
+use Rattle.bt_view.specs.Ranges.{scan}
+use Rattle.bt_shell.specs.Replies.{count_line, refused_text, reply_text, scan_reply, sums_reply}
 use Rattle.bt_table.specs.Batches.{made, one_if}
 use Rattle.bt_table.specs.Calls as call
-use Rattle.bt_table.specs.Calls.{NamedTree, Primary, Secondary, name_refusals, step, tree_named, unless}
+use Rattle.bt_table.specs.Calls.{name_refusals, step, unless}
 use Rattle.bt_table.specs.Tables.{TableState, Intact, Lost, empty_table}
 use Rattle.bt_table.specs.declared.reply.Reply.{Reply}
 
@@ -41,16 +43,9 @@ table_of form = Intact (empty_table (record { columns = form.columns; keys = for
 abbrev pub told : Result (TableState × Reply) Refusal → Result Done Refusal
 told after = made (λ step. (Some step.0, reply_text step.1)) after
 
--- the image of a tree under its name
-abbrev pub image_of : List ℕ → NamedTree → List ℕ
-image_of name (Primary table) = row_image table.schema.columns name table.tree
-image_of name (Secondary table index) = entry_image name index.tree.1
-
--- the rows of the tree of rows; an index has none to show until it covers all rows
-abbrev pub scanned : TableState → Result NamedTree Refusal → Result Done Refusal
-scanned state (Ok (Primary table)) = Ok (Some state, scan_reply table.rows)
-scanned state (Ok (Secondary table index)) = Err Building
-scanned state (Err refusal) = Err refusal
+-- what is seen of a table, which stays
+abbrev pub seen : TableState → Result (List ℕ) Refusal → Result Done Refusal
+seen state text = made (λ text. (Some state, text)) text
 
 -- a definition that no refusal applies to, or the least
 abbrev pub checked : Result Definition Refusal → Option Refusal → Result Definition Refusal
@@ -76,8 +71,9 @@ outcome state (Table form) = unless (form_refusals state form) (Some (table_of f
 outcome None command = Err NoTable
 outcome (Some table) (Batch items) = told (step table (call.Apply items))
 outcome (Some table) (Get fields) = told (step table (call.Get fields))
-outcome (Some table) (Scan tree) = scanned table (tree_named table tree)
-outcome (Some table) (Image tree) = made (λ named. (Some table, image_of tree named)) (tree_named table tree)
+outcome (Some table) (Scan tree bounds) = seen table (made scan_reply (scan table tree bounds.from bounds.to))
+outcome (Some table) (Sums form) = seen table (made sums_reply (sums table form.tree form.columns form.column form.bounds.from form.bounds.to))
+outcome (Some table) (Image tree) = seen table (image table tree)
 outcome (Some table) (Index form) = created table form.name (definition_of table form)
 outcome (Some table) (Drop name) = told (step table (call.DropIndex name))
 

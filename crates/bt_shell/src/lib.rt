@@ -12,16 +12,14 @@
 //! ```
 #![tactic(auto)]
 
-mod drawing;
 mod entry;
-mod image;
 mod reply;
 mod run;
 mod session;
 
 pub use bt_script::{
-    Command, Counted, IndexForm, Items, Parsed, RunFault, SCRIPT_LIMIT, TableForm, Words,
-    WordsError, parse_command, read_words,
+    Bounds, Command, Counted, IndexForm, Items, Parsed, RunFault, SCRIPT_LIMIT, SumsForm,
+    TableForm, Words, WordsError, parse_command, read_words,
 };
 pub use entry::{ProgramFault, program};
 pub use run::run_script;

@@ -1,21 +1,14 @@
 //! The texts of replies.
-ghost use Rattle.std.specs.Prelude.{◌≡◌, ◌++◌, ◌+◌, [], IfOk, None, OnOk, Some, codes, decimal, flat_map, length};
-ghost use Rattle.bt_shell.specs.Replies.{count_line, item_text, refused_text, row_line};
+ghost use Rattle.std.specs.Prelude.{◌≡◌, ◌++◌, ◌+◌, [], IfOk, None, OnOk, Some, flat_map};
+ghost use Rattle.bt_shell.specs.Replies.{count_line, item_text, refused_text, row_line, sum_line};
 ghost use Rattle.bt_shell.specs.Replies as spec;
 
-use bt_keycode::Key;
-use bt_node::Visitor;
 use bt_rowtype::{Refusal, Row, Text, write_row};
 use bt_table::{Reply, SentCount};
+use bt_view::{Sink, Sum, write_number};
 use itoa::Buffer;
 use std::alloc::{AllocError, Global};
 use std::marker::Model;
-
-pub(crate) fn write_number(out: &mut Vec<u8>, number: u64) -> Result<(), AllocError>
-    ensures { OnOk result (out.new.items ≡ out.old.items ++ decimal number) }
-{
-    out.extend_from_slice(Buffer::new().format(number).as_bytes())
-}
 
 /// Adds a word, a number and a line end.
 pub fn write_count(out: &mut Vec<u8>, word: &[u8], count: usize) -> Result<(), AllocError>
@@ -110,14 +103,28 @@ pub fn reply_text(alloc: Global, reply: Reply) -> Result<Vec<u8>, AllocError>
     }
 }
 
-/// The lines of rows, written as the rows come. A contract sees the rows' lines and their number.
+// Adds the line of a group.
+fn write_sum_line(out: &mut Vec<u8>, sum: &Sum) -> Result<(), AllocError>
+    ensures { OnOk result (out.new.items ≡ out.old.items ++ sum_line sum.now) }
+{
+    out.extend_from_slice(b"sum ")?;
+    write_number(out, sum.count)?;
+    out.push(b' ')?;
+    out.extend_from_slice(Buffer::new().format(sum.total).as_bytes())?;
+    out.push(b' ')?;
+    write_row(out, &sum.group)?;
+    out.push(b'\n')?;
+    Ok(())
+}
+
+/// Lines, written as what they show comes. A contract sees them and their number.
 #[derive(Drop)]
-pub struct RowLines {
+pub struct Lines {
     text: Vec<u8>,
     count: usize,
 }
 
-impl Model for RowLines {
+impl Model for Lines {
     ghost use Rattle.std.specs.Prelude.{◌≤◌, List, length, ℕ};
 
     ghost Value = { List ℕ × ℕ };
@@ -128,33 +135,46 @@ impl Model for RowLines {
     ghost invariant = { λ l. l.count ≤ length l.text.items };
 }
 
-impl RowLines {
+impl Lines {
     /// No line.
     pub fn new(alloc: Global) -> Self
         ensures { result ≡ ([], 0) }
     {
-        RowLines {
+        Lines {
             text: Vec::new(alloc),
             count: 0,
         }
     }
 
-    /// The lines, and then their number.
-    pub fn into_reply(self) -> Result<Vec<u8>, AllocError>
-        ensures { IfOk result (λ text. text.items ≡ self.0 ++ count_line (codes "rows ") self.1) }
+    /// The lines, and then a word and their number.
+    pub fn into_reply(self, word: &[u8]) -> Result<Vec<u8>, AllocError>
+        ensures { IfOk result (λ text. text.items ≡ self.0 ++ count_line word.now self.1) }
     {
-        let RowLines { mut text, count } = self;
-        write_count(&mut text, b"rows ", count)?;
+        let Lines { mut text, count } = self;
+        write_count(&mut text, word, count)?;
         Ok(text)
     }
 }
 
-impl Visitor<Row> for RowLines {
-    ghost visited = { spec.with_line };
+impl Sink<Row> for Lines {
+    ghost added = { spec.with_line spec.row_line };
 
-    fn visit(&mut self, _alloc: Global, _key: &Key, row: &Row) -> Result<(), AllocError> {
+    fn add(&mut self, _alloc: Global, row: &Row) -> Result<(), AllocError> {
         if let Err(error) = write_row_line(&mut self.text, row) {
             // What stands in the text after an error is not known, so that no line counts.
+            self.count = 0;
+            return Err(error);
+        }
+        self.count += 1;
+        Ok(())
+    }
+}
+
+impl Sink<Sum> for Lines {
+    ghost added = { spec.with_line spec.sum_line };
+
+    fn add(&mut self, _alloc: Global, sum: &Sum) -> Result<(), AllocError> {
+        if let Err(error) = write_sum_line(&mut self.text, sum) {
             self.count = 0;
             return Err(error);
         }

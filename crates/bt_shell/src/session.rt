@@ -1,22 +1,18 @@
 //! The table between commands, and the reply to each.
 ghost use Rattle.std.specs.Prelude.{◌≡◌, ◌<◌, ◌≤◌, Ok, IfErr, IfOk, IfNone, IfSome, OnOk, [], drop, length};
-ghost use Rattle.bt_node.specs.Flushes.{holds};
 ghost use Rattle.bt_script.specs.Commands.{commands};
 ghost use Rattle.bt_script.specs.declared.command.Command.TheVariants as command;
-ghost use Rattle.bt_shell.specs.Replies.{scan_reply};
 ghost use Rattle.bt_shell.specs.Runs.{IsTurn};
 ghost use Rattle.bt_shell.specs.Steps as step;
 ghost use Rattle.bt_rowtype.specs.Answers.{Answers};
 ghost use Rattle.bt_table.specs.Standing.{Suits};
-ghost use Rattle.bt_table.specs.Tables.{row_effect};
 
-use crate::image::{entry_image, row_image};
-use crate::reply::{RowLines, count_reply, refusal_reply, reply_text};
+use crate::reply::{Lines, count_reply, refusal_reply, reply_text};
 use bt_fanout::IndexDef;
-use bt_node::{Shape, Tree};
-use bt_rowtype::{RecordLine, Refusal, Row, Schema, Text, least_with};
-use bt_script::{Command, IndexForm, Items, Parsed, TableForm, parse_command};
-use bt_table::{Table, TreeRef};
+use bt_node::Shape;
+use bt_rowtype::{RecordLine, Refusal, Schema, Text, least_with};
+use bt_script::{Bounds, Command, IndexForm, Items, Parsed, SumsForm, TableForm, parse_command};
+use bt_table::Table;
 use std::alloc::{AllocError, Global};
 
 // Makes the table.
@@ -108,26 +104,47 @@ fn drop_index(alloc: Global, table: &mut Option<Table>, name: &Text) -> Result<V
     Ok(reply_text(alloc, reply)?)
 }
 
-// The lines of all rows of a tree, and their number.
-fn scan_text(alloc: Global, tree: &Tree<Row>) -> Result<Vec<u8>, AllocError>
-    ensures { IfOk result (λ text. text.items ≡ scan_reply (holds row_effect tree.now.1)) }
-{
-    let mut lines = RowLines::new(alloc);
-    tree.walk().visit(alloc, None, None, &mut lines)?;
-    lines.into_reply()
-}
-
-fn scan(alloc: Global, table: &Option<Table>, name: &Text) -> Result<Vec<u8>, Refusal>
-    ensures done { IfOk result (λ text. step.IsDone table.now table.now (command.Scan name.now) text.items) }
-    ensures refused { IfErr result (step.IsRefused table.now table.now (command.Scan name.now)) }
+fn scan(
+    alloc: Global,
+    table: &Option<Table>,
+    name: &Text,
+    bounds: &Bounds<'_>,
+) -> Result<Vec<u8>, Refusal>
+    ensures done { IfOk result (λ text. step.IsDone table.now table.now (command.Scan name.now bounds.now) text.items) }
+    ensures refused { IfErr result (step.IsRefused table.now table.now (command.Scan name.now bounds.now)) }
 {
     let Some(table) = table else {
         return Err(Refusal::NoTable);
     };
-    match table.tree(name)? {
-        TreeRef::Rows { tree, .. } => Ok(scan_text(alloc, tree)?),
-        TreeRef::Index { .. } => Err(Refusal::Building),
-    }
+    let lines = bt_view::scan(
+        alloc,
+        table,
+        name,
+        bounds.from.as_ref(),
+        bounds.to.as_ref(),
+        Lines::new(alloc),
+    )?;
+    Ok(lines.into_reply(b"rows ")?)
+}
+
+fn sums(alloc: Global, table: &Option<Table>, form: &SumsForm<'_>) -> Result<Vec<u8>, Refusal>
+    ensures done { IfOk result (λ text. step.IsDone table.now table.now (command.Sums form.now) text.items) }
+    ensures refused { IfErr result (step.IsRefused table.now table.now (command.Sums form.now)) }
+{
+    let Some(table) = table else {
+        return Err(Refusal::NoTable);
+    };
+    let lines = bt_view::sums(
+        alloc,
+        table,
+        &form.tree,
+        form.columns,
+        &form.column,
+        form.bounds.from.as_ref(),
+        form.bounds.to.as_ref(),
+        Lines::new(alloc),
+    )?;
+    Ok(lines.into_reply(b"sums ")?)
 }
 
 fn image(alloc: Global, table: &Option<Table>, name: &Text) -> Result<Vec<u8>, Refusal>
@@ -137,12 +154,7 @@ fn image(alloc: Global, table: &Option<Table>, name: &Text) -> Result<Vec<u8>, R
     let Some(table) = table else {
         return Err(Refusal::NoTable);
     };
-    match table.tree(name)? {
-        TreeRef::Rows { schema, tree } => {
-            Ok(row_image(alloc, schema.columns(), name, &tree.walk())?)
-        }
-        TreeRef::Index { index, .. } => Ok(entry_image(alloc, name, &index.tree.walk())?),
-    }
+    bt_view::image(alloc, table, name)
 }
 
 // The reply to a command that is not refused, or its refusal.
@@ -158,7 +170,8 @@ fn answer(
         Command::Table(form) => create_table(alloc, table, form),
         Command::Batch(items) => batch(alloc, table, &items),
         Command::Get(fields) => get(alloc, table, &fields),
-        Command::Scan(tree) => scan(alloc, table, &tree),
+        Command::Scan(tree, bounds) => scan(alloc, table, &tree, &bounds),
+        Command::Sums(form) => sums(alloc, table, &form),
         Command::Image(tree) => image(alloc, table, &tree),
         Command::Index(form) => create_index(alloc, table, form),
         Command::Drop(name) => drop_index(alloc, table, &name),

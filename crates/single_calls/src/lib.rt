@@ -1,5 +1,5 @@
-//! Tests of calls by themselves. Each public call of the crates below that can want memory answers, where there is memory,
-//! what was worked out by hand; streams fail; the program ends with a status. Nothing stands on this crate.
+//! Tests of calls by themselves. Each public call of the crates of rows and trees that can want memory answers, where there is
+//! memory, what was worked out by hand. Nothing stands on this crate.
 //!
 //! What a script can show is a script of the program `replay`.
 #![tactic(auto)]
@@ -9,19 +9,11 @@ mod codes;
 #[cfg(test)]
 mod indexes;
 #[cfg(test)]
-mod jobs;
-#[cfg(test)]
 mod messages;
 #[cfg(test)]
 mod operations;
 #[cfg(test)]
-mod program;
-#[cfg(test)]
-mod runs;
-#[cfg(test)]
 mod samples;
-#[cfg(test)]
-mod streams;
 #[cfg(test)]
 mod trees;
 #[cfg(test)]

@@ -1,9 +1,16 @@
-use Rattle.std.specs.List.{list_all}
-use Rattle.std.proofs.Common.{Bool, ◌&&◌, [], ◌∷◌, ◌++◌, ◌∙◌, sym, ap, rules, codes, true, false}
-use Rattle.bt_script.specs.Commands.{is_blank_line}
-use Rattle.bt_script.specs.Lines.{is_blank}
-use Rattle.bt_script.proofs.Machine.{blank-more, leads-closed, leads-cut, leads-more, tested}
+use Rattle.std.proofs.Common.{Option, Some, [], ◌≡◌, refl, ◌∷◌, ◌++◌, ◌∙◌, sym, ap, rules, codes, true, false}
+use Rattle.bt_script.specs.Commands.{and_bound, bounds_of, unbounded}
+use Rattle.bt_script.specs.Lines.{without_return}
+use Rattle.bt_script.specs.declared.command.Bounds.{Bounds}
+use Rattle.bt_script.proofs.Machine.{bounds-more, leads-closed, leads-cut, leads-more, tested}
 use Rattle.bt_script.proofs.parse.read_bounds.Goals as goal
+
+no_bounds : bounds_of [] ≡ Some unbounded
+unfolding bounds_of
+no_bounds = refl
+
+pub loop-at-init : goal.loop-at-init
+loop-at-init c = record { within = search rules; past = search rules; so_far = ([], sym no_bounds, λ head. refl) }
 
 pub loop-at-preserved : goal.loop-at-preserved
 loop-at-preserved c =
@@ -15,7 +22,7 @@ loop-at-preserved c =
       past = search rules;
       so_far = (
         block.0 ++ line ∷ [],
-        ap (λ (b : Bool). b && c.is_blank-blank.result) block.1 ∙ ap (λ (b : Bool). list_all is_blank_line block.0 && b) (c.is_blank-blank.ensures ∙ ap is_blank c.without_return-line.ensures) ∙ sym (blank-more block.0 line),
+        c.and_bound-bounds.ensures ∙ ap (and_bound c.loop-at.bounds) c.without_return-line.ensures ∙ ap (λ (bounds : Option Bounds). and_bound bounds (without_return line)) block.1 ∙ sym (bounds-more block.0 line),
         leads-more c.args.script.now c.args.start c.loop-at.at c.next_line-next.result.1 (codes "go") line block.0 block.2 c.next_line-next.ensures.line other,
       );
     }

@@ -1,7 +1,6 @@
 use Rattle.std.proofs.Common.{length, ◌-◌, ◌≡◌, ◌≤◌, codes, ℕ, List}
-use Rattle.std.specs.List.{list_all}
 use Rattle.bt_script.proofs.Machine.{Leads}
-use Rattle.bt_script.specs.Commands.{is_blank_line}
+use Rattle.bt_script.specs.Commands.{bounds_of}
 use Rattle.bt_script.proofs.parse.read_bounds.Given as goal
 
 -- the lines so far are those of a block; what stands from the start on is what stands from here on behind them
@@ -9,7 +8,7 @@ abbrev pub invariant-loop-at : goal.invariant-loop-at
 invariant-loop-at l = record {
   within : l.at ≤ length l.script;
   past : l.start ≤ l.at;
-  so_far : (block : List (List ℕ)) × (l.blank ≡ list_all is_blank_line block) × Leads l.script l.start l.at (codes "go") block;
+  so_far : (block : List (List ℕ)) × (l.bounds ≡ bounds_of block) × Leads l.script l.start l.at (codes "go") block;
 }
 
 abbrev pub decreases-loop-at : goal.decreases-loop-at

@@ -1,0 +1,4 @@
+pub mod Drawings
+pub mod Groups
+pub mod Images
+pub mod Ranges

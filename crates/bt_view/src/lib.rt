@@ -1,0 +1,17 @@
+//! What can be seen of a table: the rows of a range, sums of groups of rows, and the images of its trees.
+#![tactic(auto)]
+
+mod columns;
+mod drawing;
+mod groups;
+mod number;
+mod range;
+mod sink;
+mod tree_image;
+mod view;
+
+pub use groups::Sum;
+pub use number::write_number;
+pub use range::KeyRange;
+pub use sink::Sink;
+pub use view::{image, scan, sums};

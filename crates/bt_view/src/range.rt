@@ -1,0 +1,57 @@
+//! The range of keys between two bounds.
+ghost use Rattle.std.specs.Prelude.{◌≡◌, ◌+◌, ◌++◌, IfOk, OnOk, length, map, take};
+ghost use Rattle.std.specs.Option.{option_copied};
+ghost use Rattle.bt_rowtype.specs.Answers.{Answers};
+ghost use Rattle.bt_fanout.specs.Definitions.{kinds_of};
+ghost use Rattle.bt_fanout.specs.Entries.{SuitsKinds};
+ghost use Rattle.bt_view.specs.Ranges as spec;
+
+use bt_keycode::{Key, encode_row};
+use bt_rowtype::{Column, RecordLine, RecordReader, Refusal, least_with};
+use std::alloc::Global;
+
+/// The keys at or past `from` and before `to`. A bound that is absent does not limit.
+#[derive(Drop)]
+pub struct KeyRange {
+    pub from: Option<Key>,
+    pub to: Option<Key>,
+}
+
+// The key that a bound spells, where there is one.
+fn read_bound(
+    alloc: Global,
+    columns: &[Column],
+    item: u64,
+    bound: Option<&RecordLine<'_>>,
+) -> Result<Option<Key>, Refusal>
+    ensures { Answers (spec.bound_as columns.now item (option_copied bound.entry)) result }
+{
+    let Some(line) = bound else {
+        return Ok(None);
+    };
+    let mut reader = RecordReader::new(alloc);
+    let values = reader.read_prefix(alloc, columns, item, line)?;
+    Ok(Some(encode_row(alloc, &values, values.len())?))
+}
+
+/// The range between two bounds of these key columns, each of which spells at least one of the first of them. Of their refusals, `BadField` and
+/// `BadLength` with item 1 for `from` and 2 for `to`, the least is answered.
+pub fn read_range(
+    alloc: Global,
+    columns: &[Column],
+    from: Option<&RecordLine<'_>>,
+    to: Option<&RecordLine<'_>>,
+) -> Result<KeyRange, Refusal>
+    ensures { Answers (spec.range_as columns.now (option_copied from.entry) (option_copied to.entry)) result }
+{
+    let from = read_bound(alloc, columns, 1, from);
+    let to = read_bound(alloc, columns, 2, to);
+    match (from, to) {
+        (Err(Refusal::OutOfMemory), _) => Err(Refusal::OutOfMemory),
+        (_, Err(Refusal::OutOfMemory)) => Err(Refusal::OutOfMemory),
+        (Ok(from), Ok(to)) => Ok(KeyRange { from, to }),
+        (Err(refusal), Ok(_to)) => Err(refusal),
+        (Ok(_from), Err(refusal)) => Err(refusal),
+        (Err(refusal), Err(other)) => Err(least_with(Some(refusal), other)),
+    }
+}

@@ -1,0 +1,163 @@
+//! Scans and grouped sums of the trees of a table.
+ghost use Rattle.std.specs.Prelude.{◌≡◌, ◌≢◌, Err, IfErr, IfOk, MatchResult, Ok, fold};
+ghost use Rattle.std.specs.Option.{option_copied};
+ghost use Rattle.bt_rowtype.specs.Answers.{Answers};
+ghost use Rattle.bt_node.specs.Flushes.{holds};
+ghost use Rattle.bt_table.specs.Batches.{made};
+ghost use Rattle.bt_table.specs.Tables.{row_effect};
+ghost use Rattle.bt_view.specs.Groups as groups;
+ghost use Rattle.bt_view.specs.Images as images;
+ghost use Rattle.bt_view.specs.Ranges as spec;
+
+use crate::columns::index_keys;
+use crate::drawing::{EntryDrawing, RowDrawing};
+use crate::groups::{Grouping, Sum, summed_place};
+use crate::range::{KeyRange, read_range};
+use crate::sink::Sink;
+use crate::tree_image::image_text;
+use bt_keycode::Key;
+use bt_node::{Tree, Visitor};
+use bt_rowtype::{RecordLine, Refusal, Row, Schema, Text};
+use bt_table::{Index, Table, TreeRef};
+use std::alloc::{AllocError, Global};
+use std::marker::Model;
+
+// Rows that go to a sink without their keys.
+#[derive(Drop)]
+struct Rows<S: Sink<Row>> {
+    sink: S,
+}
+
+impl<S: Sink<Row>> Model for Rows<S> {
+    ghost Value = { S };
+
+    ghost view = { λ r. r.sink };
+}
+
+impl<S: Sink<Row>> Visitor<Row> for Rows<S> {
+    ghost visited = { λ sink row. S.added sink row.1 };
+
+    fn visit(&mut self, alloc: Global, _key: &Key, row: &Row) -> Result<(), AllocError> {
+        self.sink.add(alloc, row)
+    }
+}
+
+// Shows a sink the rows of a range.
+fn show_rows<S: Sink<Row>>(
+    alloc: Global,
+    tree: &Tree<Row>,
+    range: &KeyRange,
+    sink: S,
+) -> Result<S, AllocError>
+    ensures { IfOk result (λ after. after ≡ fold S.added sink (spec.rows_within range.now (holds row_effect tree.now.1))) }
+{
+    let mut rows = Rows { sink };
+    tree.walk()
+        .visit(alloc, range.from.as_ref(), range.to.as_ref(), &mut rows)?;
+    let Rows { sink } = rows;
+    Ok(sink)
+}
+
+// Shows a sink the groups of the rows of a range by so many of the first columns, with the sum of the column at a place.
+fn sum_rows<S: Sink<Sum>>(
+    alloc: Global,
+    tree: &Tree<Row>,
+    range: &KeyRange,
+    columns: usize,
+    place: usize,
+    sink: S,
+) -> Result<S, Refusal>
+    ensures { Answers (made (fold S.added sink) (groups.groups_of columns place (spec.rows_within range.now (holds row_effect tree.now.1)))) result }
+{
+    let groups = Grouping::new(columns, place, sink);
+    show_rows(alloc, tree, range, groups)?.finish(alloc)
+}
+
+// Why an index has no rows to show: of its bounds, or since it is building.
+fn index_refusal(
+    alloc: Global,
+    schema: &Schema,
+    index: &Index,
+    from: Option<&RecordLine<'_>>,
+    to: Option<&RecordLine<'_>>,
+) -> Refusal
+    ensures { result ≢ Refusal.OutOfMemory → MatchResult (spec.range_as (spec.index_keys schema.now index.now.def.on) (option_copied from.entry) (option_copied to.entry)) (λ _. result ≡ Refusal.Building) (λ e. result ≡ e) }
+{
+    let columns = match index_keys(alloc, schema, index.def.on()) {
+        Ok(columns) => columns,
+        Err(error) => return error.into(),
+    };
+    match read_range(alloc, columns.as_slice(), from, to) {
+        Ok(_range) => Refusal::Building,
+        Err(refusal) => refusal,
+    }
+}
+
+/// Shows a sink the rows of the tree of a name in a range: those at or past the key that `from` spells and before the one that `to` spells, by rising key. A
+/// bound is a record of at least one of the first columns of the tree's key; one that is absent does not limit.
+///
+/// Refused with the first that applies: `Failed`, `NoSuchTree`, the least of `BadField` and `BadLength` with item 1 for `from` and 2 for `to`, `Building`.
+/// Only the subtrees that meet the range are entered.
+pub fn scan<S: Sink<Row>>(
+    alloc: Global,
+    table: &Table,
+    name: &Text,
+    from: Option<&RecordLine<'_>>,
+    to: Option<&RecordLine<'_>>,
+    sink: S,
+) -> Result<S, Refusal>
+    ensures { Answers (made (fold S.added sink) (spec.scan table.now name.now (option_copied from.entry) (option_copied to.entry))) result }
+{
+    match table.tree(name)? {
+        TreeRef::Rows { schema, tree } => {
+            let range = read_range(alloc, schema.key_columns(), from, to)?;
+            Ok(show_rows(alloc, tree, &range, sink)?)
+        }
+        TreeRef::Index { schema, index } => Err(index_refusal(alloc, schema, index, from, to)),
+    }
+}
+
+/// Shows a sink the groups of the rows that `scan` has, by so many of the first columns, with the sum of the column of a name, in order. One group is kept at a
+/// time.
+///
+/// Refused as `scan` is, and after that with `NoSuchColumn` where the columns of a group are none or more than those of the key, or the column of the name is not
+/// there, `NotInt` where it is not int, and `TooMany` where a group has more than 2^64 - 1 rows.
+pub fn sums<S: Sink<Sum>>(
+    alloc: Global,
+    table: &Table,
+    name: &Text,
+    grouping: u32,
+    column: &Text,
+    from: Option<&RecordLine<'_>>,
+    to: Option<&RecordLine<'_>>,
+    sink: S,
+) -> Result<S, Refusal>
+    ensures { Answers (made (fold S.added sink) (groups.sums table.now name.now grouping column.now (option_copied from.entry) (option_copied to.entry))) result }
+{
+    match table.tree(name)? {
+        TreeRef::Rows { schema, tree } => {
+            let range = read_range(alloc, schema.key_columns(), from, to)?;
+            let place = summed_place(schema.columns(), schema.keys(), grouping, column)?;
+            sum_rows(alloc, tree, &range, grouping as usize, place, sink)
+        }
+        TreeRef::Index { schema, index } => Err(index_refusal(alloc, schema, index, from, to)),
+    }
+}
+
+/// The image of the tree of a name: its nodes with their rows, pivots and messages. `Failed`, `NoSuchTree`.
+pub fn image(alloc: Global, table: &Table, name: &Text) -> Result<Vec<u8>, Refusal>
+    ensures done { IfOk result (λ text. images.image table.now name.now ≡ Ok text.items) }
+    ensures refused { IfErr result (λ refusal. refusal ≢ Refusal.OutOfMemory → images.image table.now name.now ≡ Err refusal) }
+{
+    match table.tree(name)? {
+        TreeRef::Rows { schema, tree } => {
+            let drawing = RowDrawing {
+                columns: schema.columns(),
+            };
+            Ok(image_text(alloc, &drawing, name, &tree.walk())?)
+        }
+        TreeRef::Index { index, .. } => {
+            Ok(image_text(alloc, &EntryDrawing, name, &index.tree.walk())?)
+        }
+    }
+}

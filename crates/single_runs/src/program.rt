@@ -1,0 +1,155 @@
+//! Commands, command lines, and the statuses of the program.
+use crate::streams::{Failing, Full};
+use bt_rowtype::{Item, RecordLine, Texts};
+use bt_shell::{Command, Counted, Parsed, WordsError, parse_command, program, read_words};
+use std::alloc::{AllocError, Global};
+use std::test::Fail;
+
+// The program's name and the words of a line.
+fn words_of(alloc: Global, line: &str) -> Result<Texts, AllocError> {
+    let mut words = Texts::new(alloc);
+    words.push("betable")?;
+    for word in line.split_whitespace() {
+        words.push(word)?;
+    }
+    Ok(words)
+}
+
+// What a command line says: its file behind a colon, `faulty`, or `help` where the text names the option.
+fn said(alloc: Global, line: &str) -> Result<String, AllocError> {
+    match read_words(alloc, &words_of(alloc, line)?) {
+        Ok(said) => match said.script {
+            Some(file) => format!(in alloc; "file:{file}"),
+            None => String::from_str(alloc, "input"),
+        },
+        Err(WordsError::Faulty) => String::from_str(alloc, "faulty"),
+        Err(WordsError::Help(text)) => help_text(alloc, &text),
+        Err(WordsError::OutOfMemory) => Err(AllocError),
+    }
+}
+
+// What a help text is to name: the options, the commands of a script, and where its language stands.
+const NAMED: [&str; 11] = [
+    "--script <FILE>",
+    "--help",
+    "\n  table F C L K name:kind ..  ",
+    "\n  batch  ",
+    "\n  get KEY  ",
+    "\n  scan TREE  ",
+    "\n  sums TREE G COLUMN  ",
+    "\n  image TREE  ",
+    "\n  index NAME on COLUMNS ..  ",
+    "\n  drop NAME  ",
+    "docs/SCRIPT.md",
+];
+
+// Whether a help text names all of it, and else the first that it does not name.
+fn help_text(alloc: Global, text: &String) -> Result<String, AllocError> {
+    for name in NAMED {
+        if !text.contains(name) {
+            return format!(in alloc; "no help on {name}");
+        }
+    }
+    String::from_str(alloc, "help")
+}
+
+#[test]
+fn command_lines(rt: HostRuntime) -> Result<(), Fail> {
+    let alloc = rt.alloc();
+    for (line, expected) in [
+        ("", "input"),
+        ("--script x", "file:x"),
+        ("--script=x", "file:x"),
+        ("--help", "help"),
+        ("--workers 0", "faulty"),
+        ("--script", "faulty"),
+        ("--script x --script x", "faulty"),
+        ("x", "faulty"),
+        ("--version", "faulty"),
+    ] {
+        assert_eq!(rt; said(alloc, line)?.as_str(), expected);
+    }
+    Ok(())
+}
+
+// The status of the program, then what it writes to its errors and the first of what it writes to its output. The input
+// gives `run`.
+fn answer(rt: &HostRuntime, line: &str, calls: u32, room: usize) -> Result<String, AllocError> {
+    let alloc = rt.alloc();
+    let mut input = Counted::new(Failing {
+        rest: b"run",
+        calls,
+    });
+    let mut taken = Vec::new(alloc);
+    let mut output = Counted::new(Full {
+        taken: &mut taken,
+        room,
+    });
+    let mut errors = Vec::new(alloc);
+    let words = words_of(alloc, line)?;
+    let status = program(rt, &words, &mut input, &mut output, &mut errors);
+    let start = &taken[..taken.len().min(16)];
+    errors.extend_from_slice(start)?;
+    let text = String::from_utf8_lossy(alloc, errors.as_slice())?;
+    format!(in alloc; "{status} {text}")
+}
+
+#[test]
+fn statuses(rt: HostRuntime) -> Result<(), Fail> {
+    for (line, calls, room, expected) in [
+        ("", 9, 4096, "0 refused 1 Syntax"),
+        ("", 1, 4096, "1 betable: read failed\n"),
+        ("", 9, 7, "1 betable: write failed\nrefused"),
+        ("--script missing", 9, 0, "1 betable: read failed\n"),
+        ("--workers 0", 9, 0, "2 betable: faulty command line\n"),
+        ("--help", 0, 4096, "0 Runs a script of"),
+        ("--help", 0, 5, "1 betable: write failed\nRuns "),
+    ] {
+        let text = answer(&rt, line, calls, room)?;
+        assert_eq!(rt; text.as_str(), expected);
+    }
+    Ok(())
+}
+
+// Adds the sign of a message and its fields, each behind a bar.
+fn add_item(
+    alloc: Global,
+    out: &mut Vec<u8>,
+    sign: &str,
+    line: &RecordLine<'_>,
+) -> Result<(), AllocError> {
+    let fields = line.fields(alloc)?;
+    out.extend_from_slice(sign.as_bytes())?;
+    for place in 0..fields.len() {
+        out.extend_from_slice(b"|")?;
+        out.extend_from_slice(fields.get(place))?;
+    }
+    Ok(())
+}
+
+// The messages of a batch that stands at the start of a script, and nothing where none does.
+fn batch_text(alloc: Global, script: &[u8]) -> Result<Vec<u8>, AllocError> {
+    let mut out = Vec::new(alloc);
+    if let Parsed::Good {
+        command: Command::Batch(items),
+        ..
+    } = parse_command(alloc, script, 0)?
+    {
+        for item in items.into_vec() {
+            match item {
+                Item::Put(line) => add_item(alloc, &mut out, "+", &line)?,
+                Item::Del(line) => add_item(alloc, &mut out, "-", &line)?,
+                Item::Ups(line) => add_item(alloc, &mut out, "~", &line)?,
+            }
+        }
+    }
+    Ok(out)
+}
+
+#[test]
+fn messages_of_a_block(rt: HostRuntime) -> Result<(), Fail> {
+    let script = b"batch\nput 1,\"a, b\"\n\n del 1\r\nups 1,add,qty,5\nend\n";
+    let text = batch_text(rt.alloc(), script)?;
+    assert_eq!(rt; text.as_slice(), b"+|1|a, b-|1~|1|add|qty|5".as_slice());
+    Ok(())
+}
