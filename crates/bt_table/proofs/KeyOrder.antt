@@ -16,26 +16,7 @@ use Rattle.bt_keycode.specs.Keys.{Key, key_cmp}
 use Rattle.bt_node.specs.Messages.{Rows}
 use Rattle.bt_keycode.proofs.offered.Ranges.{take_in_range}
 use Rattle.bt_table.specs.Standing.{AllStand, KeysRise, Stands}
-
--- ---- the key columns of rows of a schema
-
-kind_fits : (k : Kind) (v : Value) → fits_kind k v ≡ true → kind_of v ≡ k
-kind_fits kind.Int (value.Int n) e = refl
-kind_fits kind.Text (value.Text bytes) e = refl
-kind_fits kind.Flag (value.Flag flag) e = refl
-kind_fits k v e = cc
-
-key_kinds : (n : ℕ) (columns : List Column) (row : List Value) → fit_columns columns row ≡ true → map kind_of (take n row) ≡ map (λ c. c.kind) (take n columns)
-key_kinds zero columns row e = refl
-key_kinds (suc n) [] [] e = refl
-key_kinds (suc n) [] (v ∷ vs) e = cc
-key_kinds (suc n) (c ∷ cs) [] e = cc
-key_kinds (suc n) (c ∷ cs) (v ∷ vs) e = by_first (fits_kind c.kind v) refl e (λ others. key_kinds n cs vs others)
-  where
-    by_first : (b : Bool) → fits_kind c.kind v ≡ b → (b && fit_columns cs vs) ≡ true → (fit_columns cs vs ≡ true → map kind_of (take n vs) ≡ map (λ d. d.kind) (take n cs))
-        → map kind_of (v ∷ take n vs) ≡ map (λ d. d.kind) (c ∷ take n cs)
-    by_first true fits others rest = λ i. kind_fits c.kind v fits i ∷ rest others i
-    by_first false fits others rest = absurd cc
+use Rattle.bt_table.proofs.offered.Kinds.{key_kinds}
 
 -- ---- rows
 

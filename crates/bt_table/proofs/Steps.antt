@@ -98,7 +98,7 @@ module _ (schema : Schema) (kept : Option Trees) (trees : Trees) (is : kept ≡ 
     pub shows_rows : (name : List ℕ) → is_primary name ≡ true → (tree_named state name ≡ Ok (Primary before)) × ShowsRows before schema trees.rows
     shows_rows name primary = (
       ap (λ s. tree_named s name) state_is ∙ ap (λ b. if b then Ok (Primary before) else secondary before (index_named name indexes)) primary,
-      record { schema_is = refl; tree_is = refl; held = refl; order = keys_rise schema before.rows was_sound.rows (rows_sorted before was_sound) },
+      record { schema_is = refl; tree_is = refl; held = refl; stand = was_sound.rows; order = keys_rise schema before.rows was_sound.rows (rows_sorted before was_sound) },
     )
 
     pub shows_index : (name : List ℕ) (place : ℕ) (index : Index) → is_primary name ≡ false → index_named name indexes ≡ Some (place, index) →

@@ -17,7 +17,7 @@ use Rattle.bt_fanout.specs.Entries.{Definition}
 use Rattle.bt_fanout.specs.Promises.{index_of}
 use Rattle.bt_table.specs.Batches.{batch_refusals, made, messages_of, one_if, read_key}
 use Rattle.bt_table.specs.Indexes.{empty_index, index_named, packet_of, sent_count}
-use Rattle.bt_table.specs.Standing.{KeysRise}
+use Rattle.bt_table.specs.Standing.{AllStand, KeysRise}
 use Rattle.bt_table.specs.Tables.{PlainTable, RowMessages, RowTree, TableState, Intact, Lost, after_batch, row_effect}
 use Rattle.bt_table.specs.declared.index.Index.{Index}
 use Rattle.bt_table.specs.declared.table.TreeRef.{TreeRef}
@@ -114,11 +114,12 @@ abbrev pub tree_named : TableState → List ℕ → Result NamedTree Refusal
 tree_named Lost name = Err Failed
 tree_named (Intact table) name = if is_primary name then Ok (Primary table) else secondary table (index_named name table.indexes)
 
--- a tree is that of the rows of a table, and holds its rows, which strictly rise by the values of their keys
+-- a tree is that of the rows of a table, and holds its rows, each of which stands in its place, and which strictly rise by the values of their keys
 pub record ShowsRows (table : PlainTable) (schema : Schema) (tree : Shape × RowTree) : Type 0 where
   pub schema_is : schema ≡ table.schema
   pub tree_is : tree ≡ (table.shape, table.tree)
   pub held : holds row_effect tree.1 ≡ table.rows
+  pub stand : AllStand table.schema table.rows
   pub order : KeysRise table.schema table.rows
 
 -- the tree of an index holds what its definition selects of the rows that it covers

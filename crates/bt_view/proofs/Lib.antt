@@ -1,3 +1,5 @@
 pub mod Drawings
+pub mod GroupOrder
+pub mod RowOrder
 pub mod Summing
 pub mod Views

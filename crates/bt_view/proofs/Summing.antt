@@ -5,14 +5,13 @@ use Rattle.std.proofs.lemmas.List.Sums.{fold-append}
 use Rattle.bt_rowtype.specs.Values.{or_refused}
 use Rattle.bt_rowtype.specs.declared.refusal.Refusal.{Refusal}
 use Rattle.bt_rowtype.specs.declared.refusal.Refusal.TheVariants.{TooMany}
+use Rattle.bt_rowtype.specs.declared.value.Kind.{Kind}
 use Rattle.bt_rowtype.specs.declared.value.Value.{Value}
 use Rattle.bt_table.specs.Batches.{made}
-use Rattle.bt_view.specs.Groups.{Groups, ended, group_of, grouped, groups_of, is_of, joined, most_rows, summed, with_row}
+use Rattle.bt_view.specs.Groups.{group_of, groups_of, most_rows, with_row}
+use Rattle.bt_view.specs.Neighbours.{Ascend, Groups, ended, grouped, is_of, joined, listed, summed}
+use Rattle.bt_view.proofs.GroupOrder.{by_neighbours}
 use Rattle.bt_view.specs.declared.groups.Sum.{Sum}
-
--- a group at the end of a list
-abbrev listed : List Sum → Sum → List Sum
-listed sums sum = sums ++ sum ∷ []
 
 module _ {S : Type 0} (added : S → Sum → S) (begin : S) where
   -- the groups that ended, listed, as what is made of them
@@ -46,7 +45,7 @@ module _ {S : Type 0} (added : S → Sum → S) (begin : S) where
     refused None = refl
     refused (Some sums) = refl
 
-    pub of_list : (rows : List (List Value)) → summed added columns place begin rows ≡ made (fold added begin) (groups_of columns place rows)
+    of_list : (rows : List (List Value)) → summed added columns place begin rows ≡ made (fold added begin) (summed listed columns place [] rows)
     of_list rows =
         ap (or_refused TooMany) (ap (ended added) (all (Some ([], None)) rows) ∙ at_end (fold (grouped listed columns place) (Some ([], None)) rows))
         ∙ refused (ended listed (fold (grouped listed columns place) (Some ([], None)) rows))
@@ -59,8 +58,8 @@ module _ {S : Type 0} (added : S → Sum → S) (begin : S) where
     pairs [] groups = refl
     pairs (row ∷ rows) groups = pairs rows (grouped added columns place groups row)
 
-    pub of_rows : (rows : List (List Value)) (start groups : ℕ × ℕ × Groups S) → ◌≡◌ {A = ℕ × ℕ × Groups S} start (columns, place, Some (begin, None)) → groups ≡ fold taken start rows
-        → or_refused TooMany (ended added groups.2) ≡ made (fold added begin) (groups_of columns place rows)
-    of_rows rows start groups begins is =
+    pub of_rows : (kinds : List Kind) (rows : List (List Value)) (start groups : ℕ × ℕ × Groups S) → Ascend columns kinds rows → ◌≡◌ {A = ℕ × ℕ × Groups S} start (columns, place, Some (begin, None))
+        → groups ≡ fold taken start rows → or_refused TooMany (ended added groups.2) ≡ made (fold added begin) (groups_of columns place rows)
+    of_rows kinds rows start groups ascend begins is =
         ap (λ (g : ℕ × ℕ × Groups S). or_refused TooMany (ended added g.2)) (is ∙ ap (λ (s : ℕ × ℕ × Groups S). fold taken s rows) begins ∙ pairs rows (Some (begin, None)))
-        ∙ of_list rows
+        ∙ of_list rows ∙ ap (made (fold added begin)) (by_neighbours columns place kinds rows ascend)

@@ -1,7 +1,8 @@
 -- Groups of rows: how many rows each has, and the sum of a column.
-use Rattle.std.specs.Prelude.{ℕ, ◌+◌, ◌==◌, ◌&&◌, ◌++◌, Bool, false, List, [], ◌∷◌, fold, get_or, length, nat_le, take, Option, Some, None, Result, Ok, Err, if◌then◌else◌, ℤ, pos, neg_ℤ, ◌+ℤ◌, ◌≤ℤ◌, ◌*◌}
+use Rattle.std.specs.Prelude.{ℕ, ◌+◌, ◌==◌, ◌&&◌, false, List, [], fold, get_or, length, map, nat_le, take, Option, Some, None, option_map, Result, Ok, Err, if◌then◌else◌, ℤ, pos, ◌+ℤ◌}
+use Rattle.std.specs.FinMap.{find, put}
 use Rattle.bt_rowtype.specs.Ops.{at_column, named_from}
-use Rattle.bt_rowtype.specs.Values.{or_refused, same_values}
+use Rattle.bt_rowtype.specs.Values.{or_refused}
 use Rattle.bt_rowtype.specs.declared.refusal.Refusal.{Refusal}
 use Rattle.bt_rowtype.specs.declared.refusal.Refusal.TheVariants.{NoSuchColumn, NotInt, TooMany}
 use Rattle.bt_rowtype.specs.declared.schema.Column.{Column}
@@ -9,6 +10,9 @@ use Rattle.bt_rowtype.specs.declared.value.Kind.{Kind}
 use Rattle.bt_rowtype.specs.declared.value.Kind.TheVariants as kind
 use Rattle.bt_rowtype.specs.declared.value.Value.{Value}
 use Rattle.bt_rowtype.specs.declared.value.Value.TheVariants as value
+use Rattle.bt_keycode.specs.Codes.{code_of}
+use Rattle.bt_keycode.specs.Keys.{key_cmp}
+use Rattle.bt_node.specs.Messages.{Rows}
 use Rattle.bt_table.specs.Calls.{NamedTree, tree_named}
 use Rattle.bt_table.specs.Tables.{TableState}
 use Rattle.bt_view.specs.Ranges.{and_then, columns_of, key_columns_of, range_of, rows_of, rows_within}
@@ -31,49 +35,24 @@ group_of columns place row = record { group = take columns row; count = 1; total
 abbrev pub with_row : ℕ → Sum → List Value → Sum
 with_row place sum row = record sum { count = sum.count + 1; total = sum.total +ℤ number_in row place }
 
--- whether a row is of a group
-abbrev pub is_of : ℕ → Sum → List Value → Bool
-is_of columns sum row = same_values sum.group (take columns row)
-
 -- the most rows of a group
 abbrev pub most_rows : ℕ
 most_rows = 18446744073709551615
 
--- the total of so many numbers of 64 bits
-pub record IsBounded (sum : Sum) : Type 0 where
-  pub least : neg_ℤ (pos (9223372036854775808 * sum.count)) ≤ℤ sum.total
-  pub most : sum.total ≤ℤ pos (9223372036854775808 * sum.count)
+-- Groups are those of rows with the same first columns, and stand under the code of these, in the order of codes. A row is added to its group, or is the first
+-- of it; there are none, once a group has more rows than are counted.
+abbrev pub added_to : ℕ → ℕ → Rows Sum → List Value → Option Sum → Option (Rows Sum)
+added_to columns place groups row None = Some (put key_cmp (code_of (take columns row)) (group_of columns place row) groups)
+added_to columns place groups row (Some sum) =
+    if sum.count == most_rows then None else Some (put key_cmp (code_of (take columns row)) (with_row place sum row) groups)
 
--- what was made of the groups that ended, and the group at hand, if there is one; nothing, once a group has more rows than are counted
-abbrev pub Groups : Type 0 → Type 0
-Groups S = Option (S × Option Sum)
+abbrev pub and_row : ℕ → ℕ → Option (Rows Sum) → List Value → Option (Rows Sum)
+and_row columns place None row = None
+and_row columns place (Some groups) row = added_to columns place groups row (find key_cmp (code_of (take columns row)) groups)
 
--- Rows are gone through by rising key, so that those of a group come one after the other; a group that ended is added to what was made of those before it.
-module _ {S : Type 0} (added : S → Sum → S) where
-  -- a row of the group at hand, or of the next one
-  abbrev pub joined : ℕ → ℕ → S → Sum → List Value → Bool → Groups S
-  joined columns place made sum row same =
-      if same then (if sum.count == most_rows then None else Some (made, Some (with_row place sum row)))
-      else Some (added made sum, Some (group_of columns place row))
-
-  abbrev pub grouped : ℕ → ℕ → Groups S → List Value → Groups S
-  grouped columns place None row = None
-  grouped columns place (Some (made, None)) row = Some (made, Some (group_of columns place row))
-  grouped columns place (Some (made, Some sum)) row = joined columns place made sum row (is_of columns sum row)
-
-  -- what is made of all groups, the one at hand too
-  abbrev pub ended : Groups S → Option S
-  ended None = None
-  ended (Some (made, None)) = Some made
-  ended (Some (made, Some sum)) = Some (added made sum)
-
-  -- what is made of the groups of rows, or that one has too many
-  abbrev pub summed : ℕ → ℕ → S → List (List Value) → Result S Refusal
-  summed columns place made rows = or_refused TooMany (ended (fold (grouped columns place) (Some (made, None)) rows))
-
--- the groups of rows by their first columns, in order
+-- the groups of rows by so many first columns with the sum of the column at a place, in order, or that one has too many rows
 abbrev pub groups_of : ℕ → ℕ → List (List Value) → Result (List Sum) Refusal
-groups_of columns place rows = summed (λ sums sum. sums ++ sum ∷ []) columns place [] rows
+groups_of columns place rows = or_refused TooMany (option_map (map (λ group. group.1)) (fold (and_row columns place) (Some []) rows))
 
 -- the place of a column that is summed: it is int
 abbrev pub int_place : ℕ × Kind → Result ℕ Refusal

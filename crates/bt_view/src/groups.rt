@@ -1,10 +1,11 @@
 //! Groups of rows: how many rows each has, and the sum of a column.
-ghost use Rattle.std.specs.Prelude.{◌≡◌, ◌≢◌, IfOk, IfSome, IfNone, None, OnOk, Some, Err, take};
+ghost use Rattle.std.specs.Prelude.{◌≡◌, ◌≢◌, ◌≤◌, IfOk, IfSome, IfNone, None, OnOk, Some, Err, take};
 ghost use Rattle.std.specs.Result.{result_map_both};
 ghost use Rattle.bt_rowtype.specs.Answers.{Answers};
 ghost use Rattle.bt_rowtype.specs.Values.{or_refused};
 ghost use Rattle.bt_rowtype.specs.Views.{shown};
 ghost use Rattle.bt_view.specs.Groups as spec;
+ghost use Rattle.bt_view.specs.Neighbours.{IsBounded, ended, grouped};
 
 use crate::sink::Sink;
 use bt_fanout::add_first;
@@ -55,7 +56,7 @@ fn first_of(alloc: Global, row: &Row, count: usize) -> Result<Row, AllocError>
 // The group of one row.
 fn group_of(alloc: Global, columns: usize, place: usize, row: &Row) -> Result<Sum, AllocError>
     ensures sum { IfOk result (λ sum. sum ≡ spec.group_of columns place row.now) }
-    ensures bounded { IfOk result (λ sum. spec.IsBounded sum) }
+    ensures bounded { IfOk result (λ sum. IsBounded sum) }
 {
     Ok(Sum {
         group: first_of(alloc, row, columns)?,
@@ -66,11 +67,11 @@ fn group_of(alloc: Global, columns: usize, place: usize, row: &Row) -> Result<Su
 
 // A group with one more row, unless it has as many as are counted.
 fn with_row(sum: Sum, place: usize, row: &Row) -> Option<Sum>
-    requires { spec.IsBounded sum }
+    requires { IsBounded sum }
     ensures none { IfNone result (sum.count ≡ spec.most_rows) }
     ensures some { IfSome result (λ more. more ≡ spec.with_row place sum row.now) }
     ensures less { IfSome result (λ _. sum.count ≢ spec.most_rows) }
-    ensures bounded { IfSome result (λ more. spec.IsBounded more) }
+    ensures bounded { IfSome result (λ more. IsBounded more) }
 {
     let Sum {
         group,
@@ -99,7 +100,7 @@ pub(crate) struct Grouping<S: Sink<Sum>> {
 
 impl<S: Sink<Sum>> Model for Grouping<S> {
     ghost use Rattle.std.specs.Prelude.{ℕ, IfSome, None, Some, if◌then◌else◌};
-    ghost use Rattle.bt_view.specs.Groups.{Groups, IsBounded};
+    ghost use Rattle.bt_view.specs.Neighbours.{Groups, IsBounded};
 
     ghost Value = { ℕ × ℕ × Groups S };
 
@@ -124,7 +125,7 @@ impl<S: Sink<Sum>> Grouping<S> {
 
     /// What was made of all groups, the one at hand too, or `TooMany` where one has too many rows.
     pub(crate) fn finish(self, alloc: Global) -> Result<S, Refusal>
-        ensures { Answers (or_refused Refusal.TooMany (spec.ended S.added self.2)) result }
+        ensures { Answers (or_refused Refusal.TooMany (ended S.added self.2)) result }
     {
         let Grouping {
             mut made,
@@ -143,7 +144,7 @@ impl<S: Sink<Sum>> Grouping<S> {
 }
 
 impl<S: Sink<Sum>> Sink<Row> for Grouping<S> {
-    ghost added = { λ g row. (g.0, g.1, spec.grouped S.added g.0 g.1 g.2 row) };
+    ghost added = { λ g row. (g.0, g.1, grouped S.added g.0 g.1 g.2 row) };
 
     fn add(&mut self, alloc: Global, row: &Row) -> Result<(), AllocError> {
         if self.is_over {
@@ -172,7 +173,8 @@ pub fn summed_place(
     grouping: u32,
     name: &Text,
 ) -> Result<usize, Refusal>
-    ensures { result ≡ spec.summed_place columns.now keys grouping name.now }
+    ensures place { result ≡ spec.summed_place columns.now keys grouping name.now }
+    ensures few { IfOk result (λ _. grouping ≤ keys) }
 {
     let grouping = grouping as usize;
     if grouping == 0 || grouping > keys {

@@ -1,12 +1,14 @@
 //! Scans and grouped sums of the trees of a table.
-ghost use Rattle.std.specs.Prelude.{◌≡◌, ◌≢◌, Err, IfErr, IfOk, MatchResult, Ok, fold};
+ghost use Rattle.std.specs.Prelude.{◌≡◌, ◌≢◌, Err, IfErr, IfOk, List, MatchResult, Ok, fold};
 ghost use Rattle.std.specs.Option.{option_copied};
 ghost use Rattle.bt_rowtype.specs.Answers.{Answers};
 ghost use Rattle.bt_node.specs.Flushes.{holds};
 ghost use Rattle.bt_table.specs.Batches.{made};
 ghost use Rattle.bt_table.specs.Tables.{row_effect};
+ghost use Rattle.bt_rowtype.specs.declared.value.Kind.{Kind};
 ghost use Rattle.bt_view.specs.Groups as groups;
 ghost use Rattle.bt_view.specs.Images as images;
+ghost use Rattle.bt_view.specs.Neighbours.{Ascend};
 ghost use Rattle.bt_view.specs.Ranges as spec;
 
 use crate::columns::index_keys;
@@ -67,6 +69,7 @@ fn sum_rows<S: Sink<Sum>>(
     place: usize,
     sink: S,
 ) -> Result<S, Refusal>
+    requires ascend { (kinds : List Kind) × Ascend columns kinds (spec.rows_within range.now (holds row_effect tree.now.1)) }
     ensures { Answers (made (fold S.added sink) (groups.groups_of columns place (spec.rows_within range.now (holds row_effect tree.now.1)))) result }
 {
     let groups = Grouping::new(columns, place, sink);

@@ -9,4 +9,4 @@ use Rattle.bt_view.proofs.view.sum_rows.Goals as goal
 pub returns : goal.returns
 returns g c =
     subst (λ answer. Answers answer c.finish.result)
-    (of_rows g.S.Sink.added c.args.sink c.args.columns c.args.place (rows_within c.args.range.now (holds row_effect c.args.tree.now.1)) c.new-groups.result c.in_ok-show_rows.field-0 c.new-groups.ensures c.in_ok-show_rows.ensures) c.finish.ensures
+    (of_rows g.S.Sink.added c.args.sink c.args.columns c.args.place c.requires.ascend.0 (rows_within c.args.range.now (holds row_effect c.args.tree.now.1)) c.new-groups.result c.in_ok-show_rows.field-0 c.requires.ascend.1 c.new-groups.ensures c.in_ok-show_rows.ensures) c.finish.ensures

@@ -1,8 +1,12 @@
-use Rattle.std.proofs.Common.{rules, subst}
+use Rattle.std.proofs.Common.{◌≤◌, rules, ap, map, subst, sym, take}
 use Rattle.std.specs.Option.{option_copied}
+use Rattle.bt_node.specs.Flushes.{holds}
 use Rattle.bt_table.specs.Calls.{Shows}
+use Rattle.bt_table.specs.Tables.{row_effect}
 use Rattle.bt_table.specs.declared.table.TreeRef.TheVariants as shown
-use Rattle.bt_view.specs.Ranges.{index_keys, range_as}
+use Rattle.bt_view.specs.Neighbours.{Ascend}
+use Rattle.bt_view.specs.Ranges.{index_keys, range_as, rows_within}
+use Rattle.bt_view.proofs.RowOrder.{ascend}
 use Rattle.bt_view.proofs.Views.{IsOfIndex, no_sums}
 use Rattle.bt_view.proofs.view.sums.Goals as goal
 
@@ -14,3 +18,14 @@ returns-in-Index g c = λ certain.
     let shows : Shows c.args.table.now c.args.name.now (shown.Index c.in-Index.schema c.in-Index.index) = search rules in
     let is = subst (λ schema. IsOfIndex (range_as (index_keys schema index.def.on) from to) c.index_refusal.result) shows.2.schema_is (c.index_refusal.ensures certain) in
     no_sums c.args.table.now c.args.name.now from to shows.0 index c.index_refusal.result shows.1 is g.S.Sink.added c.args.sink c.args.grouping c.args.column.now
+
+pub sum_rows-requires : goal.sum_rows-requires
+sum_rows-requires g c =
+    let range = c.in_ok-range-in-Rows.range in
+    let grouping = c.args.grouping in
+    let shows : Shows c.args.table.now c.args.name.now (shown.Rows c.in-Rows.schema c.in-Rows.tree) = search rules in
+    let schema = shows.0.schema in
+    let within : grouping ≤ c.in-Rows.schema.now.keys = search rules in
+    let few : grouping ≤ schema.keys = subst (λ s. grouping ≤ s.keys) shows.2.schema_is within in
+    let rows = ascend schema grouping few range shows.0.rows shows.2.stand shows.2.order in
+    record { ascend = (map (λ c. c.kind) (take grouping schema.columns), subst (λ rows. Ascend grouping (map (λ c. c.kind) (take grouping schema.columns)) (rows_within range rows)) (sym shows.2.held) rows) }

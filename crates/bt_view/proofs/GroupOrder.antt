@@ -1,0 +1,162 @@
+-- Groups of rows that come one after the other are the groups by the codes of their first columns. Serves grouped sums.
+use Rattle.std.proofs.Common.{◌≡◌, ◌∙◌, ◌++◌, ◌==◌, ℕ, Bool, true, false, true≢false, List, [], ◌∷◌, Option, Some, None, inl, inr, refl, sym, ap, fold, map, take, cond, ◌&&◌, if◌then◌else◌}
+use Rattle.std.specs.Prelude.{option_map}
+use Rattle.std.specs.Cmp.{tied_itself}
+use Rattle.std.specs.FinMap.{find, put}
+use Rattle.std.specs.FinMap.Entries.{by_order}
+use Rattle.std.specs.Ordering.{eq_by_cmp, is_eq, is_lt, ordering_reverse}
+use Rattle.std.specs.declared.cmp.Ordering.{Ordering}
+use Rattle.std.specs.declared.cmp.Ordering.TheVariants.{Less, Equal, Greater}
+use Rattle.bt_rowtype.specs.Values.{or_refused, same_values}
+use Rattle.bt_rowtype.specs.declared.refusal.Refusal.{Refusal}
+use Rattle.bt_rowtype.specs.declared.refusal.Refusal.TheVariants.{TooMany}
+use Rattle.bt_rowtype.specs.declared.value.Kind.{Kind}
+use Rattle.bt_rowtype.specs.declared.value.Value.{Value}
+use Rattle.bt_rowtype.specs.Packing.{AreInRange}
+use Rattle.bt_keycode.specs.Codes.{code_of, kind_of}
+use Rattle.bt_keycode.specs.Keys.{Key, is_before, key_cmp}
+use Rattle.bt_keycode.proofs.offered.Codes.{same_code}
+use Rattle.bt_keycode.proofs.offered.Order.{before_chain, is_less, neither_before, sides, total_keys}
+use Rattle.bt_node.specs.Messages.{Rows}
+use Rattle.bt_view.specs.Groups.{added_to, and_row, group_of, groups_of, most_rows, with_row}
+use Rattle.bt_view.specs.Neighbours.{Ascend, Groups, IsOfKinds, NoneBefore, ended, grouped, joined, listed, summed}
+use Rattle.bt_view.specs.declared.groups.Sum.{Sum}
+use Rattle.bt_view.proofs.RowOrder.{same_values-complete, same_values-sound}
+
+-- ---- groups in a list, by the codes of their columns
+
+abbrev entries : List Sum → Rows Sum
+entries sums = map (λ s. (code_of s.group, s)) sums
+
+entries-append : (sums more : List Sum) → entries (sums ++ more) ≡ entries sums ++ entries more
+entries-append [] more = refl
+entries-append (s ∷ sums) more = ap (λ es. (code_of s.group, s) ∷ es) (entries-append sums more)
+
+-- each comes before a key
+abbrev AreBefore : Key → List Sum → Type 0
+AreBefore k [] = Unit {0}
+AreBefore k (s ∷ sums) = (is_before (code_of s.group) k ≡ true) × AreBefore k sums
+
+before-more : (k : Key) (sums : List Sum) (s : Sum) → AreBefore k sums → is_before (code_of s.group) k ≡ true → AreBefore k (listed sums s)
+before-more k [] s before one = (one, tt)
+before-more k (t ∷ sums) s before one = (before.0, before-more k sums s before.1 one)
+
+before-later : (j k : Key) (sums : List Sum) → is_before j k ≡ true → AreBefore j sums → AreBefore k sums
+before-later j k [] later before = tt
+before-later j k (s ∷ sums) later before = (before_chain (code_of s.group) j k before.0 later, before-later j k sums later before.1)
+
+-- a key behind another one
+behind : (j k : Key) → is_before j k ≡ true → key_cmp k j ≡ Greater
+behind j k before = total_keys.antisymm k j ∙ ap ordering_reverse (is_less (key_cmp j k) before)
+
+find_none : (k : Key) (sums : List Sum) → AreBefore k sums → find key_cmp k (entries sums) ≡ None
+find_none k [] before = refl
+find_none k (s ∷ sums) before = ap (λ o. cond (is_eq o) (Some s) (find key_cmp k (entries sums))) (behind (code_of s.group) k before.0) ∙ find_none k sums before.1
+
+put_behind : (k : Key) (new : Sum) (sums : List Sum) → AreBefore k sums → put key_cmp k new (entries sums) ≡ entries sums ++ (k, new) ∷ []
+put_behind k new [] before = refl
+put_behind k new (s ∷ sums) before =
+    ap (λ o. by_order o ((k, new) ∷ (code_of s.group, s) ∷ entries sums) ((code_of s.group, new) ∷ entries sums) ((code_of s.group, s) ∷ put key_cmp k new (entries sums))) (behind (code_of s.group) k before.0)
+    ∙ ap (λ es. (code_of s.group, s) ∷ es) (put_behind k new sums before.1)
+
+find_last : (s : Sum) (sums : List Sum) → AreBefore (code_of s.group) sums → find key_cmp (code_of s.group) (entries (listed sums s)) ≡ Some s
+find_last s [] before = ap (λ o. cond (is_eq o) (Some s) None) (tied_itself total_keys (code_of s.group))
+find_last s (t ∷ sums) before =
+    ap (λ o. cond (is_eq o) (Some t) (find key_cmp (code_of s.group) (entries (listed sums s)))) (behind (code_of t.group) (code_of s.group) before.0) ∙ find_last s sums before.1
+
+put_last : (s new : Sum) (sums : List Sum) → AreBefore (code_of s.group) sums → new.group ≡ s.group → put key_cmp (code_of s.group) new (entries (listed sums s)) ≡ entries (listed sums new)
+put_last s new [] before same =
+    ap (λ o. by_order o ((code_of s.group, new) ∷ (code_of s.group, s) ∷ []) ((code_of s.group, new) ∷ []) ((code_of s.group, s) ∷ (code_of s.group, new) ∷ [])) (tied_itself total_keys (code_of s.group))
+    ∙ ap (λ group. (code_of group, new) ∷ []) (sym same)
+put_last s new (t ∷ sums) before same =
+    ap (λ o. by_order o ((code_of s.group, new) ∷ (code_of t.group, t) ∷ entries (listed sums s)) ((code_of t.group, new) ∷ entries (listed sums s)) ((code_of t.group, t) ∷ put key_cmp (code_of s.group) new (entries (listed sums s))))
+    (behind (code_of t.group) (code_of s.group) before.0)
+    ∙ ap (λ es. (code_of t.group, t) ∷ es) (put_last s new sums before.1 same)
+
+-- ---- groups that come one after the other
+
+-- those that ended and the one at hand, by their codes
+abbrev over : Groups (List Sum) → Option (Rows Sum)
+over None = None
+over (Some (sums, None)) = Some (entries sums)
+over (Some (sums, Some sum)) = Some (entries (listed sums sum))
+
+module _ (columns place : ℕ) (kinds : List Kind) where
+  none_stays : (rows : List (List Value)) → fold (and_row columns place) None rows ≡ None
+  none_stays [] = refl
+  none_stays (row ∷ rows) = none_stays rows
+
+  none_stays_none : (rows : List (List Value)) → fold (grouped listed columns place) None rows ≡ None
+  none_stays_none [] = refl
+  none_stays_none (row ∷ rows) = none_stays_none rows
+
+  -- the first values of a row are of these kinds
+  abbrev IsGroup : List Value → Type 0
+  IsGroup group = (map kind_of group ≡ kinds) × AreInRange group
+
+  -- what is left to be shown of rows
+  abbrev IsAll : List (List Value) → List Sum → Sum → Type 0
+  IsAll rows sums sum = fold (and_row columns place) (Some (entries (listed sums sum))) rows ≡ over (fold (grouped listed columns place) (Some (sums, Some sum)) rows)
+
+  all : (rows : List (List Value)) (sums : List Sum) (sum : Sum) → IsGroup sum.group → AreBefore (code_of sum.group) sums → NoneBefore columns (code_of sum.group) rows → Ascend columns kinds rows → IsAll rows sums sum
+  all [] sums sum of before none ascend = refl
+  all (row ∷ rows) sums sum of before none ascend =
+      by_same (same_values sum.group (take columns row)) refl (λ ss s is_group are_before none_before. all rows ss s is_group are_before none_before ascend.2)
+    where
+      key : Key
+      key = code_of (take columns row)
+
+      Others : Type 0
+      Others = (ss : List Sum) (s : Sum) → IsGroup s.group → AreBefore (code_of s.group) ss → NoneBefore columns (code_of s.group) rows → IsAll rows ss s
+
+      same_key : same_values sum.group (take columns row) ≡ true → code_of sum.group ≡ key
+      same_key same = ap code_of (same_values-sound sum.group (take columns row) same)
+
+      by_full : (full : Bool) → same_values sum.group (take columns row) ≡ true → Others
+          → fold (and_row columns place) (if full then None else Some (put key_cmp key (with_row place sum row) (entries (listed sums sum)))) rows
+          ≡ over (fold (grouped listed columns place) (if full then None else Some (sums, Some (with_row place sum row))) rows)
+      by_full true same others = none_stays rows ∙ sym (ap over (none_stays_none rows))
+      by_full false same others =
+          ap (λ es. fold (and_row columns place) (Some es) rows)
+          (ap (λ k. put key_cmp k (with_row place sum row) (entries (listed sums sum))) (sym (same_key same)) ∙ put_last sum (with_row place sum row) sums before refl)
+          ∙ others sums (with_row place sum row) of before none.1
+
+      apart : same_values sum.group (take columns row) ≡ false → is_before (code_of sum.group) key ≡ true
+      apart other = elim (sides (code_of sum.group) key) [
+        | inl is ↦ is
+        | inr not_before ↦
+            let one = neither_before (code_of sum.group) key not_before none.0 in
+            let same = same_code sum.group (take columns row) (of.0 ∙ sym ascend.0.of_kinds) of.1 ascend.0.in_range one in
+            absurd (true≢false (sym (same_values-complete sum.group (take columns row) same) ∙ other))
+      ]
+
+      by_same : (same : Bool) → same_values sum.group (take columns row) ≡ same → Others
+          → fold (and_row columns place) (and_row columns place (Some (entries (listed sums sum))) row) rows ≡ over (fold (grouped listed columns place) (joined listed columns place sums sum row same) rows)
+      by_same true is others =
+          ap (λ o. fold (and_row columns place) (added_to columns place (entries (listed sums sum)) row o) rows)
+          (ap (λ k. find key_cmp k (entries (listed sums sum))) (sym (same_key is)) ∙ find_last sum sums before)
+          ∙ by_full (sum.count == most_rows) is others
+      by_same false is others =
+          let after = before-more key sums sum (before-later (code_of sum.group) key sums (apart is) before) (apart is) in
+          ap (λ o. fold (and_row columns place) (added_to columns place (entries (listed sums sum)) row o) rows) (find_none key (listed sums sum) after)
+          ∙ ap (λ es. fold (and_row columns place) (Some es) rows)
+          (put_behind key (group_of columns place row) (listed sums sum) after ∙ sym (entries-append (listed sums sum) (group_of columns place row ∷ [])))
+          ∙ others (listed sums sum) (group_of columns place row) (ascend.0.of_kinds, ascend.0.in_range) after ascend.1
+
+  from_first : (rows : List (List Value)) → Ascend columns kinds rows → fold (and_row columns place) (Some []) rows ≡ over (fold (grouped listed columns place) (Some ([], None)) rows)
+  from_first [] ascend = refl
+  from_first (row ∷ rows) ascend = all rows [] (group_of columns place row) (ascend.0.of_kinds, ascend.0.in_range) tt ascend.1 ascend.2
+
+  values : (sums : List Sum) → map (λ group. group.1) (entries sums) ≡ sums
+  values [] = refl
+  values (s ∷ sums) = ap (λ ss. s ∷ ss) (values sums)
+
+  at_end : (groups : Groups (List Sum)) → ended listed groups ≡ option_map (map (λ group. group.1)) (over groups)
+  at_end None = refl
+  at_end (Some (sums, None)) = ap Some (sym (values sums))
+  at_end (Some (sums, Some sum)) = ap Some (sym (values (listed sums sum)))
+
+  pub by_neighbours : (rows : List (List Value)) → Ascend columns kinds rows → summed listed columns place [] rows ≡ groups_of columns place rows
+  by_neighbours rows ascend =
+      ap (or_refused TooMany)
+      (at_end (fold (grouped listed columns place) (Some ([], None)) rows) ∙ ap (option_map (map (λ group. group.1))) (sym (from_first rows ascend)))
