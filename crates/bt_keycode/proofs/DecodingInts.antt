@@ -8,7 +8,7 @@ use Rattle.std.proofs.Math.Seq.{take-length}
 use Rattle.bt_rowtype.specs.Shorts.{padded}
 use Rattle.bt_keycode.specs.Prefixes.{eight_bytes, first_eight}
 
-raised_below : (a : ℤ) → SFits w64 a → raised a < 2 ^ 64
+pub raised_below : (a : ℤ) → SFits w64 a → raised a < 2 ^ 64
 raised_below (pos n) fits = let f = fits.sfits in omega arith
 raised_below (negsuc n) fits = let f = fits.sfits in omega arith
 

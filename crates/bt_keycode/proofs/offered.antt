@@ -1,5 +1,6 @@
 -- What the crates above cite of the proofs of this one.
 pub mod Codes
+pub mod Decoded
 pub mod FirstNumbers
 pub mod Order
 pub mod Ranges

@@ -1,5 +1,8 @@
 -- What bytes begin with: the code of a value, and the code of a list of values.
-use Rattle.std.specs.Prelude.{ℕ, zero, suc, ◌≡◌, ◌==◌, ◌++◌, List, [], ◌∷◌, map, Option, Some, None, if◌then◌else◌}
+use Rattle.std.specs.Int.{from_be_bytes, w64}
+use Rattle.std.specs.Prelude.{ℕ, zero, suc, ◌≡◌, ◌==◌, ◌-◌, ◌^◌, ◌++◌, List, [], ◌∷◌, drop, get_or, map, nat_le, take, Option, Some, None, option_and_then, option_map, if◌then◌else◌, ℤ, pos, negsuc}
+use Rattle.bt_rowtype.specs.declared.value.Kind.TheVariants as kind
+use Rattle.bt_rowtype.specs.declared.value.Value.TheVariants as value
 use Rattle.bt_rowtype.specs.declared.value.Kind.{Kind}
 use Rattle.bt_rowtype.specs.declared.value.Value.{Value}
 use Rattle.bt_rowtype.specs.Packing.{AreInRange, IsInRange}
@@ -49,3 +52,20 @@ unescaped [] = None
 unescaped (suc n ∷ bytes) = after_bytes (suc n ∷ []) (unescaped bytes)
 unescaped (zero ∷ []) = None
 unescaped (zero ∷ b ∷ bytes) = if b == 1 then Some ([], bytes) else (if b == 255 then after_bytes (0 ∷ []) (unescaped bytes) else None)
+
+-- ---- the values of a code
+
+-- an int that was moved up by 2^63
+abbrev pub lowered : ℕ → ℤ
+lowered n = if nat_le (2 ^ 63) n then pos (n - 2 ^ 63) else negsuc (2 ^ 63 - suc n)
+
+-- the value of this kind with whose code bytes begin, if they do, and what comes after it
+unfoldable pub first_value : Kind → List ℕ → Option (Value × List ℕ)
+first_value kind.Int bytes = Some (value.Int (lowered (from_be_bytes w64 (take 8 bytes))), drop 8 bytes)
+first_value kind.Text bytes = option_map (λ read. (value.Text read.0, read.1)) (unescaped bytes)
+first_value kind.Flag bytes = Some (value.Flag (get_or bytes 0 0 == 1), drop 1 bytes)
+
+-- the values of these kinds whose code bytes are, if they are the code of such values
+unfoldable pub decoded : List Kind → List ℕ → Option (List Value)
+decoded [] bytes = Some []
+decoded (kind ∷ kinds) bytes = option_and_then (λ read. option_map (λ values. read.0 ∷ values) (decoded kinds read.1)) (first_value kind bytes)

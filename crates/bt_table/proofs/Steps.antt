@@ -103,10 +103,15 @@ module _ (schema : Schema) (kept : Option Trees) (trees : Trees) (is : kept ≡ 
 
     pub shows_index : (name : List ℕ) (place : ℕ) (index : Index) → is_primary name ≡ false → index_named name indexes ≡ Some (place, index) →
         (tree_named state name ≡ Ok (Secondary before index)) × ShowsIndex before schema index
-    shows_index name place index other found = (
-      ap (λ s. tree_named s name) state_is ∙ ap (λ b. if b then Ok (Primary before) else secondary before (index_named name indexes)) other ∙ ap (secondary before) found,
-      record {
-        schema_is = refl;
-        held = (subst (λ f. IfSome f (λ g. IsSoundIndex schema before.shape before.rows g.1)) found (sound-found schema before.shape before.rows 0 name indexes was_sound.indexes)).held;
-      },
-    )
+    shows_index name place index other found =
+        let sound = subst (λ f. IfSome f (λ g. IsSoundIndex schema before.shape before.rows g.1)) found (sound-found schema before.shape before.rows 0 name indexes was_sound.indexes) in (
+          ap (λ s. tree_named s name) state_is ∙ ap (λ b. if b then Ok (Primary before) else secondary before (index_named name indexes)) other ∙ ap (secondary before) found,
+          record {
+            schema_is = refl;
+            held = sound.held;
+            suits = sound.suits;
+            keys = sound.keys;
+            few = was_sound.keys;
+            stand = was_sound.rows;
+          },
+        )

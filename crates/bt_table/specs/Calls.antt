@@ -1,5 +1,5 @@
 -- What a table may be asked, what it is then, and what it answers.
-use Rattle.std.specs.Prelude.{ℕ, ◌≡◌, ◌≢◌, ◌==◌, ◌||◌, ◌⊎◌, Bool, List, [], ◌∷◌, ◌++◌, is_some, length, map, nat_le, Option, Some, None, Result, Ok, Err, if◌then◌else◌, codes}
+use Rattle.std.specs.Prelude.{ℕ, ◌≡◌, ◌≢◌, ◌≤◌, ◌==◌, ◌||◌, ◌⊎◌, Bool, List, [], ◌∷◌, ◌++◌, is_some, length, map, nat_le, Option, Some, None, Result, Ok, Err, if◌then◌else◌, codes}
 use Rattle.std.specs.Cmp.Lexicographic.{pointwise}
 use Rattle.std.specs.FinMap.{find}
 use Rattle.std.specs.List.{remove}
@@ -13,7 +13,8 @@ use Rattle.bt_node.specs.Flushes.{holds}
 use Rattle.bt_node.specs.Trees.{Shape}
 use Rattle.bt_rowtype.specs.declared.item.Item.{Item}
 use Rattle.bt_fanout.specs.Effects.{entry_effect}
-use Rattle.bt_fanout.specs.Entries.{Definition}
+use Rattle.bt_fanout.specs.Definitions.{kinds_of}
+use Rattle.bt_fanout.specs.Entries.{Definition, SuitsKinds}
 use Rattle.bt_fanout.specs.Promises.{index_of}
 use Rattle.bt_table.specs.Batches.{batch_refusals, made, messages_of, one_if, read_key}
 use Rattle.bt_table.specs.Indexes.{empty_index, index_named, packet_of, sent_count}
@@ -122,10 +123,14 @@ pub record ShowsRows (table : PlainTable) (schema : Schema) (tree : Shape × Row
   pub stand : AllStand table.schema table.rows
   pub order : KeysRise table.schema table.rows
 
--- the tree of an index holds what its definition selects of the rows that it covers
+-- the tree of an index holds what its definition, which is one of the schema, selects of the rows that it covers
 pub record ShowsIndex (table : PlainTable) (schema : Schema) (index : Index) : Type 0 where
   pub schema_is : schema ≡ table.schema
   pub held : holds entry_effect index.tree.1 ≡ index_of index.def index.cover table.rows
+  pub suits : SuitsKinds index.def (kinds_of table.schema.columns)
+  pub keys : index.def.keys ≡ table.schema.keys
+  pub few : table.schema.keys ≤ length table.schema.columns
+  pub stand : AllStand table.schema table.rows
 
 -- what is shown is the tree of this name
 abbrev pub Shows : TableState → List ℕ → TreeRef → Type 0

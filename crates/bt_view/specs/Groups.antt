@@ -1,5 +1,5 @@
 -- Groups of rows: how many rows each has, and the sum of a column.
-use Rattle.std.specs.Prelude.{ℕ, ◌+◌, ◌==◌, ◌&&◌, false, List, [], fold, get_or, length, map, nat_le, take, Option, Some, None, option_map, Result, Ok, Err, if◌then◌else◌, ℤ, pos, ◌+ℤ◌}
+use Rattle.std.specs.Prelude.{ℕ, ◌+◌, ◌==◌, ◌&&◌, false, List, [], fold, get_or, map, nat_le, take, Option, Some, None, option_map, Result, Ok, Err, if◌then◌else◌, ℤ, pos, ◌+ℤ◌}
 use Rattle.std.specs.FinMap.{find, put}
 use Rattle.bt_rowtype.specs.Ops.{at_column, named_from}
 use Rattle.bt_rowtype.specs.Values.{or_refused}
@@ -15,7 +15,7 @@ use Rattle.bt_keycode.specs.Keys.{key_cmp}
 use Rattle.bt_node.specs.Messages.{Rows}
 use Rattle.bt_table.specs.Calls.{NamedTree, tree_named}
 use Rattle.bt_table.specs.Tables.{TableState}
-use Rattle.bt_view.specs.Ranges.{and_then, columns_of, key_columns_of, range_of, rows_of, rows_within}
+use Rattle.bt_view.specs.Ranges.{and_then, range_of, rows_of, rows_within, schema_of}
 use Rattle.bt_view.specs.declared.groups.Sum.{Sum}
 
 -- the number that a value is; 0 where it is no int
@@ -69,7 +69,7 @@ summed_place columns keys grouping name =
 abbrev pub sums_of : ℕ → List ℕ → Option (List (List ℕ)) → Option (List (List ℕ)) → NamedTree → Result (List Sum) Refusal
 sums_of grouping column from to tree =
     and_then (λ range. and_then (λ rows. and_then (λ place. groups_of grouping place (rows_within range rows))
-    (summed_place (columns_of tree) (length (key_columns_of tree)) grouping column)) (rows_of tree)) (range_of tree from to)
+    (summed_place (schema_of tree).columns (schema_of tree).keys grouping column)) (rows_of tree)) (range_of tree from to)
 
 -- the groups of a range of the tree of a name
 abbrev pub sums : TableState → List ℕ → ℕ → List ℕ → Option (List (List ℕ)) → Option (List (List ℕ)) → Result (List Sum) Refusal

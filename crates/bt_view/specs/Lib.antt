@@ -1,4 +1,5 @@
 pub mod Drawings
+pub mod Entries
 pub mod Groups
 pub mod Images
 pub mod Neighbours

@@ -1,5 +1,5 @@
 -- The rows of a tree of a table, and those of a range.
-use Rattle.std.specs.Prelude.{ℕ, ◌++◌, List, [], get_or, map, take, Option, Some, None, Result, Ok, Err}
+use Rattle.std.specs.Prelude.{ℕ, ◌+◌, ◌++◌, Bool, true, false, List, [], get_or, length, map, take, Option, Some, None, option_map, Result, Ok, Err, if◌then◌else◌}
 use Rattle.bt_rowtype.specs.Ops.{both_read}
 use Rattle.bt_rowtype.specs.Schemas.{Schema}
 use Rattle.bt_rowtype.specs.Values.{prefix_as}
@@ -11,6 +11,10 @@ use Rattle.bt_rowtype.specs.declared.value.Value.{Value}
 use Rattle.bt_keycode.specs.Codes.{code_of}
 use Rattle.bt_keycode.specs.Keys.{Key}
 use Rattle.bt_node.specs.Messages.{Rows, between}
+use Rattle.bt_fanout.specs.Entries.{Definition, entry_of, picked}
+use Rattle.bt_fanout.specs.Selections.{select}
+use Rattle.bt_fanout.specs.declared.cover.Cover.{Cover}
+use Rattle.bt_fanout.specs.declared.cover.Cover.TheVariants.{Nothing, UpTo, Whole}
 use Rattle.bt_table.specs.Batches.{made}
 use Rattle.bt_table.specs.Calls.{NamedTree, Primary, Secondary, tree_named}
 use Rattle.bt_table.specs.Tables.{TableState}
@@ -27,19 +31,17 @@ and_then next (Err refusal) = Err refusal
 abbrev pub column_in : List Column → ℕ → Column
 column_in columns place = get_or columns place (record { name = []; kind = kind.Flag })
 
--- those of the key of an index: the ones that it is ordered by, and those of the key of the table
-abbrev pub index_keys : Schema → List ℕ → List Column
-index_keys schema on = map (column_in schema.columns) on ++ take schema.keys schema.columns
+-- an index as a table: the columns that it is ordered by and those of the key of the table, which are its key, and the columns that it includes
+abbrev pub index_schema : Schema → Definition → Schema
+index_schema schema def = record {
+  columns = (map (column_in schema.columns) def.on ++ take schema.keys schema.columns) ++ map (column_in schema.columns) def.include;
+  keys = length def.on + schema.keys;
+}
 
--- those of the key of a tree
-abbrev pub key_columns_of : NamedTree → List Column
-key_columns_of (Primary table) = take table.schema.keys table.schema.columns
-key_columns_of (Secondary table index) = index_keys table.schema index.def.on
-
--- all of them, those of the key first
-abbrev pub columns_of : NamedTree → List Column
-columns_of (Primary table) = table.schema.columns
-columns_of (Secondary table index) = index_keys table.schema index.def.on ++ map (column_in table.schema.columns) index.def.include
+-- the columns of the rows of a tree, and how many of them are its key
+abbrev pub schema_of : NamedTree → Schema
+schema_of (Primary table) = table.schema
+schema_of (Secondary table index) = index_schema table.schema index.def
 
 -- ---- ranges
 
@@ -53,16 +55,29 @@ abbrev pub range_as : List Column → Option (List (List ℕ)) → Option (List 
 range_as columns from to = made (λ bounds. record { from = bounds.0; to = bounds.1 }) (both_read (bound_as columns 1 from) (bound_as columns 2 to))
 
 abbrev pub range_of : NamedTree → Option (List (List ℕ)) → Option (List (List ℕ)) → Result KeyRange Refusal
-range_of tree from to = range_as (key_columns_of tree) from to
+range_of tree from to = range_as (take (schema_of tree).keys (schema_of tree).columns) from to
 
 -- the rows whose key lies in a range, by rising key: at or past its lower bound and before its upper one
 abbrev pub rows_within : KeyRange → Rows (List Value) → List (List Value)
 rows_within range rows = map (λ row. row.1) (between range.from range.to rows)
 
--- the rows of a tree by their keys; an index has none to show until it covers all rows, and so far none does
+-- the row that an index has for a row of a table, and its key, if the row passes the filter: the columns that it is ordered by, those of the key, and the included ones
+abbrev pub index_row : ℕ → Definition → Key → List Value → Option (Key × List Value)
+index_row keys def key row = option_map (λ entry. (entry.0, (picked def.on row ++ take keys row) ++ entry.1)) (entry_of def key row)
+
+abbrev pub is_whole : Cover → Bool
+is_whole Nothing = false
+is_whole (UpTo last) = false
+is_whole Whole = true
+
+-- what an index that covers all rows is answered with; another one is building
+abbrev pub when_whole : {T : Type 0} → Cover → T → Result T Refusal
+when_whole cover answer = if is_whole cover then Ok answer else Err Building
+
+-- the rows of a tree by their keys: those of the table, or those that an index selects of them
 abbrev pub rows_of : NamedTree → Result (Rows (List Value)) Refusal
 rows_of (Primary table) = Ok table.rows
-rows_of (Secondary table index) = Err Building
+rows_of (Secondary table index) = when_whole index.cover (select (index_row table.schema.keys index.def) table.rows)
 
 -- the rows of a range of a tree, or the first of these refusals: of the bounds, and of an index that is building
 abbrev pub scan_of : Option (List (List ℕ)) → Option (List (List ℕ)) → NamedTree → Result (List (List Value)) Refusal

@@ -1,25 +1,31 @@
 //! Scans and grouped sums of the trees of a table.
-ghost use Rattle.std.specs.Prelude.{◌≡◌, ◌≢◌, Err, IfErr, IfOk, List, MatchResult, Ok, fold};
+ghost use Rattle.std.specs.Prelude.{◌≡◌, ◌≢◌, Err, IfErr, IfOk, List, Ok, Some, fold};
 ghost use Rattle.std.specs.Option.{option_copied};
 ghost use Rattle.bt_rowtype.specs.Answers.{Answers};
 ghost use Rattle.bt_node.specs.Flushes.{holds};
 ghost use Rattle.bt_table.specs.Batches.{made};
-ghost use Rattle.bt_table.specs.Tables.{row_effect};
+ghost use Rattle.bt_table.specs.Calls.{Secondary, ShowsIndex};
+ghost use Rattle.bt_table.specs.Tables.{PlainTable, row_effect};
 ghost use Rattle.bt_rowtype.specs.declared.value.Kind.{Kind};
+ghost use Rattle.bt_fanout.specs.Effects.{entry_effect};
+ghost use Rattle.bt_node.specs.Messages.{between};
+ghost use Rattle.bt_view.specs.Entries.{and_entry, row_of_entry};
 ghost use Rattle.bt_view.specs.Groups as groups;
 ghost use Rattle.bt_view.specs.Images as images;
 ghost use Rattle.bt_view.specs.Neighbours.{Ascend};
 ghost use Rattle.bt_view.specs.Ranges as spec;
 
-use crate::columns::index_keys;
+use crate::columns::{index_columns, key_columns, kinds_of};
 use crate::drawing::{EntryDrawing, RowDrawing};
 use crate::groups::{Grouping, Sum, summed_place};
 use crate::range::{KeyRange, read_range};
 use crate::sink::Sink;
 use crate::tree_image::image_text;
-use bt_keycode::Key;
+use bt_fanout::{Cover, add_first};
+use bt_keycode::{Key, decode};
+use bt_messages::Entry;
 use bt_node::{Tree, Visitor};
-use bt_rowtype::{RecordLine, Refusal, Row, Schema, Text};
+use bt_rowtype::{Column, Kind, RecordLine, Refusal, Row, Schema, Text};
 use bt_table::{Index, Table, TreeRef};
 use std::alloc::{AllocError, Global};
 use std::marker::Model;
@@ -76,24 +82,94 @@ fn sum_rows<S: Sink<Sum>>(
     show_rows(alloc, tree, range, groups)?.finish(alloc)
 }
 
-// Why an index has no rows to show: of its bounds, or since it is building.
-fn index_refusal(
+// Entries of an index that go to a sink as rows, by the kinds of the columns of the index's key.
+#[derive(Drop)]
+struct EntryRows<'a, S: Sink<Row>> {
+    kinds: &'a [Kind],
+    sink: S,
+}
+
+impl<'a, S: Sink<Row>> Model for EntryRows<'a, S> {
+    ghost use Rattle.std.specs.Prelude.{List};
+    ghost use Rattle.bt_rowtype.specs.declared.value.Kind.{Kind as kind};
+
+    ghost Value = { List kind × S };
+
+    ghost view = { λ r. (r.kinds.now, r.sink) };
+}
+
+// The row of an entry, whose key is a code of values of these kinds.
+fn row_of_entry(alloc: Global, kinds: &[Kind], key: &Key, entry: &Entry) -> Result<Row, AllocError>
+    ensures { IfOk result (λ row. row_of_entry kinds.now (key.now, entry.now) ≡ Some row) }
+{
+    // Each key of an index is such a code, so that no other error comes than want of memory.
+    let Ok(mut row) = decode(alloc, kinds, key.as_slice()) else {
+        return Err(AllocError);
+    };
+    let included = entry.as_row();
+    add_first(alloc, &mut row, included, included.len())?;
+    Ok(row)
+}
+
+impl<'a, S: Sink<Row>> Visitor<Entry> for EntryRows<'a, S> {
+    ghost visited = { λ r entry. (r.0, and_entry S.added r.0 r.1 entry) };
+
+    fn visit(&mut self, alloc: Global, key: &Key, entry: &Entry) -> Result<(), AllocError> {
+        let row = row_of_entry(alloc, self.kinds, key, entry)?;
+        self.sink.add(alloc, &row)
+    }
+}
+
+// Shows a sink the entries of a range as rows.
+fn show_entries<S: Sink<Row>>(
+    alloc: Global,
+    tree: &Tree<Entry>,
+    kinds: &[Kind],
+    range: &KeyRange,
+    sink: S,
+) -> Result<S, AllocError>
+    ensures { IfOk result (λ after. after ≡ fold (and_entry S.added kinds.now) sink (between range.now.from range.now.to (holds entry_effect tree.now.1))) }
+{
+    let mut rows = EntryRows { kinds, sink };
+    tree.walk()
+        .visit(alloc, range.from.as_ref(), range.to.as_ref(), &mut rows)?;
+    let EntryRows { sink, .. } = rows;
+    Ok(sink)
+}
+
+// The range between two bounds of an index with these key columns, which has rows to show where it covers all.
+fn index_range(
+    alloc: Global,
+    columns: &[Column],
+    cover: &Cover,
+    from: Option<&RecordLine<'_>>,
+    to: Option<&RecordLine<'_>>,
+) -> Result<KeyRange, Refusal>
+    ensures { Answers (spec.and_then (spec.when_whole cover.now) (spec.range_as columns.now (option_copied from.entry) (option_copied to.entry))) result }
+{
+    let range = read_range(alloc, columns, from, to)?;
+    match cover {
+        Cover::Whole => Ok(range),
+        Cover::Nothing | Cover::UpTo(_) => Err(Refusal::Building),
+    }
+}
+
+// Shows a sink the rows of an index in a range.
+fn scan_index<S: Sink<Row>>(
     alloc: Global,
     schema: &Schema,
     index: &Index,
     from: Option<&RecordLine<'_>>,
     to: Option<&RecordLine<'_>>,
-) -> Refusal
-    ensures { result ≢ Refusal.OutOfMemory → MatchResult (spec.range_as (spec.index_keys schema.now index.now.def.on) (option_copied from.entry) (option_copied to.entry)) (λ _. result ≡ Refusal.Building) (λ e. result ≡ e) }
+    sink: S,
+) -> Result<S, Refusal>
+    ensures { (table : PlainTable) → ShowsIndex table schema.now index.now → Answers (made (fold S.added sink) (spec.scan_of (option_copied from.entry) (option_copied to.entry) (Secondary table index.now))) result }
 {
-    let columns = match index_keys(alloc, schema, index.def.on()) {
-        Ok(columns) => columns,
-        Err(error) => return error.into(),
-    };
-    match read_range(alloc, columns.as_slice(), from, to) {
-        Ok(_range) => Refusal::Building,
-        Err(refusal) => refusal,
-    }
+    let columns = index_columns(alloc, schema, &index.def)?;
+    let key_columns = key_columns(schema, &index.def, columns.as_slice());
+    let range = index_range(alloc, key_columns, &index.cover, from, to)?;
+    let kinds = kinds_of(alloc, key_columns)?;
+    Ok(show_entries(alloc, &index.tree, kinds.as_slice(), &range, sink)?)
 }
 
 /// Shows a sink the rows of the tree of a name in a range: those at or past the key that `from` spells and before the one that `to` spells, by rising key. A
@@ -116,8 +192,31 @@ pub fn scan<S: Sink<Row>>(
             let range = read_range(alloc, schema.key_columns(), from, to)?;
             Ok(show_rows(alloc, tree, &range, sink)?)
         }
-        TreeRef::Index { schema, index } => Err(index_refusal(alloc, schema, index, from, to)),
+        TreeRef::Index { schema, index } => scan_index(alloc, schema, index, from, to, sink),
     }
+}
+
+// Shows a sink the groups of the rows of an index in a range.
+fn sum_index<S: Sink<Sum>>(
+    alloc: Global,
+    schema: &Schema,
+    index: &Index,
+    grouping: u32,
+    column: &Text,
+    from: Option<&RecordLine<'_>>,
+    to: Option<&RecordLine<'_>>,
+    sink: S,
+) -> Result<S, Refusal>
+    ensures { (table : PlainTable) → ShowsIndex table schema.now index.now → Answers (made (fold S.added sink) (groups.sums_of grouping column.now (option_copied from.entry) (option_copied to.entry) (Secondary table index.now))) result }
+{
+    let columns = index_columns(alloc, schema, &index.def)?;
+    let key_columns = key_columns(schema, &index.def, columns.as_slice());
+    let range = index_range(alloc, key_columns, &index.cover, from, to)?;
+    let place = summed_place(columns.as_slice(), key_columns.len(), grouping, column)?;
+    let kinds = kinds_of(alloc, key_columns)?;
+    let groups = Grouping::new(grouping as usize, place, sink);
+    let groups = show_entries(alloc, &index.tree, kinds.as_slice(), &range, groups)?;
+    groups.finish(alloc)
 }
 
 /// Shows a sink the groups of the rows that `scan` has, by so many of the first columns, with the sum of the column of a name, in order. One group is kept at a
@@ -143,7 +242,9 @@ pub fn sums<S: Sink<Sum>>(
             let place = summed_place(schema.columns(), schema.keys(), grouping, column)?;
             sum_rows(alloc, tree, &range, grouping as usize, place, sink)
         }
-        TreeRef::Index { schema, index } => Err(index_refusal(alloc, schema, index, from, to)),
+        TreeRef::Index { schema, index } => {
+            sum_index(alloc, schema, index, grouping, column, from, to, sink)
+        }
     }
 }
 

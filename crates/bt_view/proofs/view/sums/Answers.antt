@@ -1,23 +1,10 @@
-use Rattle.std.proofs.Common.{◌≤◌, rules, ap, map, subst, sym, take}
-use Rattle.std.specs.Option.{option_copied}
-use Rattle.bt_node.specs.Flushes.{holds}
+use Rattle.std.proofs.Common.{◌≤◌, rules, map, subst, sym, take}
 use Rattle.bt_table.specs.Calls.{Shows}
-use Rattle.bt_table.specs.Tables.{row_effect}
 use Rattle.bt_table.specs.declared.table.TreeRef.TheVariants as shown
 use Rattle.bt_view.specs.Neighbours.{Ascend}
-use Rattle.bt_view.specs.Ranges.{index_keys, range_as, rows_within}
+use Rattle.bt_view.specs.Ranges.{rows_within}
 use Rattle.bt_view.proofs.RowOrder.{ascend}
-use Rattle.bt_view.proofs.Views.{IsOfIndex, no_sums}
 use Rattle.bt_view.proofs.view.sums.Goals as goal
-
-pub returns-in-Index : goal.returns-in-Index
-returns-in-Index g c = λ certain.
-    let from = option_copied c.args.from in
-    let to = option_copied c.args.to in
-    let index = c.in-Index.index.now in
-    let shows : Shows c.args.table.now c.args.name.now (shown.Index c.in-Index.schema c.in-Index.index) = search rules in
-    let is = subst (λ schema. IsOfIndex (range_as (index_keys schema index.def.on) from to) c.index_refusal.result) shows.2.schema_is (c.index_refusal.ensures certain) in
-    no_sums c.args.table.now c.args.name.now from to shows.0 index c.index_refusal.result shows.1 is g.S.Sink.added c.args.sink c.args.grouping c.args.column.now
 
 pub sum_rows-requires : goal.sum_rows-requires
 sum_rows-requires g c =

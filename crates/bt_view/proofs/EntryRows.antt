@@ -1,0 +1,110 @@
+-- Entries of an index as the rows that it selects, key by key. Serves scans and sums of an index.
+use Rattle.std.proofs.Common.{◌≡◌, ◌∙◌, ℕ, Bool, true, false, List, [], ◌∷◌, Option, Some, None, refl, sym, ap, subst, cond, fold, map}
+use Rattle.std.specs.FinMap.{put}
+use Rattle.std.specs.FinMap.Entries.{by_order}
+use Rattle.std.specs.List.{cons_option, filter_map}
+use Rattle.std.specs.Ordering.{is_eq}
+use Rattle.std.specs.declared.cmp.Ordering.{Ordering}
+use Rattle.std.specs.declared.cmp.Ordering.TheVariants.{Less, Equal, Greater}
+use Rattle.bt_rowtype.specs.declared.value.Kind.{Kind}
+use Rattle.bt_rowtype.specs.declared.value.Value.{Value}
+use Rattle.bt_keycode.specs.Codes.{IsCodeOf, code_of, kind_of}
+use Rattle.bt_keycode.specs.Decoding.{decoded}
+use Rattle.bt_keycode.specs.Keys.{Key, is_between, key_cmp}
+use Rattle.bt_keycode.proofs.offered.Decoded.{decoded_again}
+use Rattle.bt_keycode.proofs.offered.Order.{same_key}
+use Rattle.bt_node.specs.Messages.{Rows, between}
+use Rattle.bt_fanout.specs.Selections.{with_entry}
+use Rattle.bt_view.specs.Entries.{and_entry, row_of_entry, rows_of_entries, with_entry_row}
+use Rattle.bt_view.specs.Ranges.{rows_within}
+use Rattle.bt_view.specs.declared.range.KeyRange.{KeyRange}
+
+-- a code of values of these kinds is decoded to them
+pub decoded_code : (kinds : List Kind) (bytes : List ℕ) (values : List Value) → IsCodeOf kinds bytes values → decoded kinds bytes ≡ Some values
+decoded_code kinds bytes values is =
+    ap (λ k. decoded k bytes) (sym is.of_kinds) ∙ ap (decoded (map kind_of values)) (sym is.code) ∙ decoded_again values is.in_range
+
+module _ (kinds : List Kind) where
+  -- rows under the keys of entries, each what its entry shows
+  abbrev pub AreShown : Rows (List Value) → Rows (List Value) → Type 0
+  AreShown [] [] = Unit {0}
+  AreShown [] (r ∷ rs) = ⊥
+  AreShown (e ∷ es) [] = ⊥
+  AreShown (e ∷ es) (r ∷ rs) = (e.0 ≡ r.0) × (row_of_entry kinds e ≡ Some r.1) × AreShown es rs
+
+  shown-put : (k : Key) (v w : List Value) (es rs : Rows (List Value)) → row_of_entry kinds (k, v) ≡ Some w → AreShown es rs → AreShown (put key_cmp k v es) (put key_cmp k w rs)
+  shown-put k v w [] [] one all = (refl, one, tt)
+  shown-put k v w [] (r ∷ rs) one all = absurd all
+  shown-put k v w (e ∷ es) [] one all = absurd all
+  shown-put k v w (e ∷ es) (r ∷ rs) one all = by_cmp (key_cmp k e.0) refl (shown-put k v w es rs one all.2)
+    where
+      puts : Ordering → Ordering → Type 0
+      puts o p = AreShown (by_order o ((k, v) ∷ e ∷ es) ((e.0, v) ∷ es) (e ∷ put key_cmp k v es)) (by_order p ((k, w) ∷ r ∷ rs) ((r.0, w) ∷ rs) (r ∷ put key_cmp k w rs))
+
+      case : (o : Ordering) → key_cmp k e.0 ≡ o → AreShown (put key_cmp k v es) (put key_cmp k w rs) → puts o o
+      case Less is more = (refl, one, all)
+      case Equal is more = (all.0, subst (λ q. row_of_entry kinds (q, v) ≡ Some w) (same_key k e.0 (ap is_eq is)) one, all.2)
+      case Greater is more = (all.0, all.1, more)
+
+      by_cmp : (o : Ordering) → key_cmp k e.0 ≡ o → AreShown (put key_cmp k v es) (put key_cmp k w rs) → puts (key_cmp k e.0) (key_cmp k r.0)
+      by_cmp o is more = subst (λ p. puts p (key_cmp k r.0)) (sym is) (subst (λ p. puts o p) (sym (ap (key_cmp k) (sym all.0) ∙ is)) (case o is more))
+
+  -- an entry, if there is one, and its row
+  abbrev pub IsShown : Option (Key × List Value) → Option (Key × List Value) → Type 0
+  IsShown None None = Unit {0}
+  IsShown None (Some r) = ⊥
+  IsShown (Some e) None = ⊥
+  IsShown (Some e) (Some r) = (e.0 ≡ r.0) × (row_of_entry kinds e ≡ Some r.1)
+
+  pub shown-with : (e r : Option (Key × List Value)) (es rs : Rows (List Value)) → IsShown e r → AreShown es rs → AreShown (with_entry e es) (with_entry r rs)
+  shown-with None None es rs one all = all
+  shown-with None (Some r) es rs one all = absurd one
+  shown-with (Some e) None es rs one all = absurd one
+  shown-with (Some e) (Some r) es rs one all = subst (λ k. AreShown (put key_cmp e.0 e.1 es) (put key_cmp k r.1 rs)) one.0 (shown-put e.0 e.1 r.1 es rs one.1 all)
+
+  pub shown-between : (range : KeyRange) (es rs : Rows (List Value)) → AreShown es rs → AreShown (between range.from range.to es) (between range.from range.to rs)
+  shown-between range [] [] all = tt
+  shown-between range [] (r ∷ rs) all = absurd all
+  shown-between range (e ∷ es) [] all = absurd all
+  shown-between range (e ∷ es) (r ∷ rs) all =
+      subst (λ k. AreShown (cond (is_between range.from range.to e.0) (e ∷ between range.from range.to es) (between range.from range.to es)) (cond (is_between range.from range.to k) (r ∷ between range.from range.to rs) (between range.from range.to rs)))
+      all.0 (by_test (is_between range.from range.to e.0) (shown-between range es rs all.2))
+    where
+      by_test : (b : Bool) → AreShown (between range.from range.to es) (between range.from range.to rs)
+          → AreShown (cond b (e ∷ between range.from range.to es) (between range.from range.to es)) (cond b (r ∷ between range.from range.to rs) (between range.from range.to rs))
+      by_test true more = (all.0, all.1, more)
+      by_test false more = more
+
+  pub shown-fold : {S : Type 0} (added : S → List Value → S) (sink : S) (es rs : Rows (List Value)) → AreShown es rs → fold (and_entry added kinds) sink es ≡ fold added sink (map (λ r. r.1) rs)
+  shown-fold added sink [] [] all = refl
+  shown-fold added sink [] (r ∷ rs) all = absurd all
+  shown-fold added sink (e ∷ es) [] all = absurd all
+  shown-fold added sink (e ∷ es) (r ∷ rs) all =
+      ap (λ row. fold (and_entry added kinds) (with_entry_row added sink row) es) all.1 ∙ shown-fold added (added sink r.1) es rs all.2
+
+  pub shown-rows : (es rs : Rows (List Value)) → AreShown es rs → rows_of_entries kinds es ≡ map (λ r. r.1) rs
+  shown-rows [] [] all = refl
+  shown-rows [] (r ∷ rs) all = absurd all
+  shown-rows (e ∷ es) [] all = absurd all
+  shown-rows (e ∷ es) (r ∷ rs) all = ap (λ row. cons_option row (rows_of_entries kinds es)) all.1 ∙ ap (λ rows. r.1 ∷ rows) (shown-rows es rs all.2)
+
+  -- a fold over entries is one over the rows that they show
+  pub fold-rows : {S : Type 0} (added : S → List Value → S) (sink : S) (es : Rows (List Value)) → fold (and_entry added kinds) sink es ≡ fold added sink (rows_of_entries kinds es)
+  fold-rows added sink [] = refl
+  fold-rows added sink (e ∷ es) = by_row (row_of_entry kinds e) (λ s. fold-rows added s es)
+    where
+      by_row : (row : Option (List Value)) → ((s : _) → fold (and_entry added kinds) s es ≡ fold added s (rows_of_entries kinds es))
+          → fold (and_entry added kinds) (with_entry_row added sink row) es ≡ fold added sink (cons_option row (rows_of_entries kinds es))
+      by_row None more = more sink
+      by_row (Some row) more = more (added sink row)
+
+  -- entries that go to a sink with the kinds beside it
+  pub pairs : {S : Type 0} (added : S → List Value → S) (sink : S) (es : Rows (List Value))
+      → ◌≡◌ {A = List Kind × S} (fold (λ (r : List Kind × S) e. (r.0, and_entry added r.0 r.1 e)) (kinds, sink) es) (kinds, fold (and_entry added kinds) sink es)
+  pairs added sink [] = refl
+  pairs added sink (e ∷ es) = pairs added (and_entry added kinds sink e) es
+
+  pub gone-through : {S : Type 0} (added : S → List Value → S) (sink : S) (es : Rows (List Value)) (old new : List Kind × S) → ◌≡◌ {A = List Kind × S} old (kinds, sink)
+      → ◌≡◌ {A = List Kind × S} new (fold (λ (r : List Kind × S) e. (r.0, and_entry added r.0 r.1 e)) old es) → new.1 ≡ fold (and_entry added kinds) sink es
+  gone-through {S} added sink es old new begins is =
+      ap (λ (r : List Kind × S). r.1) (is ∙ ap (λ (s : List Kind × S). fold (λ (r : List Kind × S) e. (r.0, and_entry added r.0 r.1 e)) s es) begins ∙ pairs added sink es)

@@ -1,0 +1,27 @@
+use Rattle.std.proofs.Common.{rules, ◌≡◌, ◌≢◌, Err, Ok, fold}
+use Rattle.std.specs.Option.{option_copied}
+use Rattle.bt_rowtype.specs.declared.refusal.Refusal.TheVariants.{OutOfMemory}
+use Rattle.bt_table.specs.Batches.{made}
+use Rattle.bt_table.specs.Calls.{Secondary}
+use Rattle.bt_view.specs.Ranges.{and_then, scan_of, when_whole}
+use Rattle.bt_view.proofs.IndexViews.{range_by, scan_done, scan_refused}
+use Rattle.bt_view.proofs.view.scan_index.Goals as goal
+
+pub returns-in_err-range : goal.returns-in_err-range
+returns-in_err-range g c = λ table shows.
+    let index = c.args.index.now in
+    let from = option_copied c.args.from in
+    let to = option_copied c.args.to in
+    let refusal = c.in_err-range.field-0.0 in
+    let told : refusal ≢ OutOfMemory → and_then (when_whole index.cover) (range_by table index from to c.args.schema.now) ≡ Err refusal = search rules in
+    let wanted : refusal ≢ OutOfMemory → made (fold g.S.Sink.added c.args.sink) (scan_of from to (Secondary table index)) ≡ Err refusal = λ certain. scan_refused table index from to c.args.schema.now shows g.S.Sink.added c.args.sink refusal (told certain) in
+    search (rules, wanted)
+
+pub returns : goal.returns
+returns g c = λ table shows.
+    let index = c.args.index.now in
+    let from = option_copied c.args.from in
+    let to = option_copied c.args.to in
+    let own = c.in_ok-range.range in
+    let is : and_then (when_whole index.cover) (range_by table index from to c.args.schema.now) ≡ Ok own = search rules in
+    scan_done table index from to c.args.schema.now shows g.S.Sink.added c.args.sink c.in_ok-show_entries.field-0 own is (search rules)
