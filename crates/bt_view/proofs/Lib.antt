@@ -6,3 +6,4 @@ pub mod IndexRows
 pub mod IndexViews
 pub mod RowOrder
 pub mod Summing
+pub mod WorkedRows
