@@ -71,14 +71,14 @@ many_fields text rest s fields field some same =
 -- ---- whether there is a record
 
 -- the states in a record
-abbrev is_inside : State → Bool
+abbrev pub is_inside : State → Bool
 is_inside st.StartField = true
 is_inside st.InField = true
 is_inside st.InQuoted = true
 is_inside st.AfterQuote = true
 is_inside other = false
 
-ends_inside : (s : State) → is_inside s ≡ true → ends_at_end s ≡ true
+pub ends_inside : (s : State) → is_inside s ≡ true → ends_at_end s ≡ true
 ends_inside st.StartRecord inside = absurd cc
 ends_inside st.AfterCr inside = absurd cc
 ends_inside st.StartField inside = refl
@@ -98,7 +98,7 @@ in_field_inside c more = elim (cases_Bool (c == 44)) [
 ]
 
 -- one byte inside a record leaves the reader there, or ends it
-step_inside : (s : State) (c : ℕ) → is_inside s ≡ true → is_end (step default_config s c).1 ≡ false → is_inside (step default_config s c).0 ≡ true
+pub step_inside : (s : State) (c : ℕ) → is_inside s ≡ true → is_end (step default_config s c).1 ≡ false → is_inside (step default_config s c).0 ≡ true
 step_inside st.StartRecord c inside more = absurd cc
 step_inside st.AfterCr c inside more = absurd cc
 step_inside st.InEscape c inside more = absurd cc
@@ -134,11 +134,11 @@ fields_some : (found : Option Read) → is_some found ≡ true → is_some (opti
 fields_some None some = some
 fields_some (Some r) some = refl
 
-or-left : (a b : Bool) → (a || b) ≡ false → a ≡ false
+pub or-left : (a b : Bool) → (a || b) ≡ false → a ≡ false
 or-left false b e = refl
 or-left true b e = absurd cc
 
-or-right : (a b : Bool) → (a || b) ≡ false → b ≡ false
+pub or-right : (a b : Bool) → (a || b) ≡ false → b ≡ false
 or-right false b e = e
 or-right true b e = absurd cc
 

@@ -13,7 +13,9 @@ pub mod Plain
 pub mod Quotes
 pub mod ReaderSteps
 pub mod ReadFits
+pub mod RecordEnds
 pub mod RecordTexts
+pub mod RecordsOf
 pub mod Replacements
 pub mod Returns
 pub mod RowFits

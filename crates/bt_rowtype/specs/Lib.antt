@@ -3,6 +3,7 @@ pub mod Answers
 pub mod Changes
 pub mod Ints
 pub mod Limits
+pub mod Loads
 pub mod Ops
 pub mod Packing
 pub mod Pieces

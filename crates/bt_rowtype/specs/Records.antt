@@ -1,8 +1,8 @@
--- One record in a line: its fields, and its text.
-use Rattle.std.specs.Prelude.{ℕ, ◌≡◌, ◌==◌, ◌||◌, ◌++◌, ◌∷◌, [], Bool, false, List, length, Option, None, option_map, unwrap_or, if◌then◌else◌}
+-- One record in a line, and the records of a text: their fields, and their text.
+use Rattle.std.specs.Prelude.{ℕ, ◌≡◌, ◌==◌, ◌||◌, ◌++◌, ◌∷◌, ◌+◌, [], Bool, false, true, List, length, take, drop, not, is_some, Option, None, option_map, unwrap_or, if◌then◌else◌}
 use Rattle.std.specs.List.{list_any, slice_split}
 use Rattle.csv.specs.Machine.{next_record}
-use Rattle.csv.specs.Reading.{default_config, is_bom, strip_bom}
+use Rattle.csv.specs.Reading.{default_config, is_bom, records, strip_bom}
 use Rattle.csv.specs.Writing.{default_writer, is_blank, row_body}
 use Rattle.csv.specs.declared.parser.State.TheVariants as state
 
@@ -36,6 +36,19 @@ record_text fields = row_body default_writer fields ++ (if is_blank default_writ
 -- a byte that csv reads in a way of its own: a quote or a line end
 abbrev pub is_special : ℕ → Bool
 is_special b = (b == 34) || (b == 13) || (b == 10)
+
+-- whether a byte is a line end, which csv reads over before a record
+abbrev pub is_line_end : ℕ → Bool
+is_line_end b = (b == 13) || (b == 10)
+
+-- whether a text begins with its first record
+abbrev pub begins_record : List ℕ → Bool
+begins_record [] = false
+begins_record (b ∷ bs) = not (is_line_end b)
+
+-- the bytes before a place are a text's first record, and those behind the byte there its other records
+abbrev pub EndsAt : List ℕ → ℕ → Type 0
+EndsAt text place = (is_some (csv_record (take place text)) ≡ true) × (records default_config text ≡ fields_in (take place text) ∷ records default_config (drop (place + 1) text))
 
 -- what stands between the commas
 abbrev pub parts_of : List ℕ → List (List ℕ)

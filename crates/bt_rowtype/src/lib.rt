@@ -2,7 +2,8 @@
 //!
 //! A field of a record is read by the kind of its column and becomes a [`Value`]: an int, a text or a flag. A record becomes a
 //! [`Row`], or is refused with a number, a name and the item at fault. A row is printed as one record. The record of an
-//! upsert becomes a key and operations ([`Op`]), which change single columns of a row.
+//! upsert becomes a key and operations ([`Op`]), which change single columns of a row. The records of a CSV text are lent one
+//! after the other ([`Records`]).
 //!
 //! ```text
 //! let mut columns = Columns::new(alloc);
@@ -18,6 +19,11 @@
 //! let row = read_row(alloc, &schema, 1, &fields)?;
 //! write_row(&mut out, &row)?;                                 // adds 7,"Oslo, west",-5
 //! let row = apply_ops(alloc, row, &[Op::Add(2, 8)])?;         // the last value is 3
+//! let mut reader = RecordReader::new(alloc);
+//! let mut records = Records::new(text)?;                      // None behind a second byte order mark
+//! while let Some(line) = records.next() {
+//!     let row = reader.read_row(alloc, &schema, 1, &line)?;
+//! }
 //! ```
 #![tactic(auto)]
 
@@ -29,6 +35,7 @@ mod cut;
 mod field;
 mod fields;
 mod filter;
+mod header;
 mod int;
 mod item;
 mod lent_row;
@@ -41,6 +48,7 @@ mod reader;
 mod reading;
 mod record;
 mod record_reader;
+mod records;
 mod refusal;
 mod row;
 mod row_bytes;
@@ -66,6 +74,7 @@ pub use packed_row::{Row, copy_row};
 pub use reading::Reading;
 pub use record::{read_record, write_record, write_row};
 pub use record_reader::RecordReader;
+pub use records::Records;
 pub use refusal::{Refusal, least_with};
 pub use row::{read_key, read_row};
 pub use schema::{Column, Columns, MOST_COLUMNS, MOST_KEYS, Schema, find_column};

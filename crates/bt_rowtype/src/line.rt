@@ -11,7 +11,8 @@ use memchr::memchr;
 use std::alloc::{AllocError, Global};
 use std::marker::Model;
 
-/// A line in which a record stands, not cut yet. A contract sees its fields.
+/// A line in which a record stands, or the lines of a record with line ends between its quotes, not cut yet. A contract sees its
+/// fields.
 #[derive(Debug, Drop)]
 pub struct RecordLine<'a> {
     // the line behind its byte order mark, if it has one
@@ -29,14 +30,14 @@ impl<'a> Model for RecordLine<'a> {
     ghost invariant = { λ a. is_some (csv_record a.text.now) ≡ true };
 }
 
-fn has_mark(text: &[u8]) -> bool
+pub(crate) fn has_mark(text: &[u8]) -> bool
     ensures { result ≡ is_behind_mark text.now }
 {
     matches!(text, [0xEF, 0xBB, 0xBF, ..])
 }
 
 #[tactic(auto, using(crate::proofs::Marks::strip_by_test))]
-fn without_mark(text: &[u8]) -> &[u8]
+pub(crate) fn without_mark(text: &[u8]) -> &[u8]
     ensures { result.now ≡ strip_bom text.now }
 {
     if has_mark(text) { &text[3..] } else { text }
@@ -66,6 +67,14 @@ impl<'a> RecordLine<'a> {
             return None;
         }
         Some(RecordLine { text })
+    }
+
+    // The first record of a text.
+    pub(crate) fn of(text: &'a [u8]) -> Self
+        requires { is_some (csv_record text.now) ≡ true }
+        ensures { result ≡ fields_in text.now }
+    {
+        RecordLine { text }
     }
 
     // The text whose first record it is.

@@ -7,7 +7,7 @@ ghost use Rattle.csv.specs.Machine.{is_end, step as csv_step};
 ghost use Rattle.csv.specs.Reading.{default_config};
 ghost use Rattle.bt_rowtype.specs.Pieces.{LieWithin, pieces};
 ghost use Rattle.bt_rowtype.specs.Reader.{csv_action, csv_state};
-ghost use Rattle.bt_rowtype.specs.Records.{csv_record, fields_in};
+ghost use Rattle.bt_rowtype.specs.Records.{EndsAt, begins_record, csv_record, fields_in};
 
 use crate::fields::Place;
 use std::alloc::AllocError;
@@ -121,4 +121,21 @@ pub(crate) fn unescape(
     let end = bytes.len();
     places.push(Place { start, end })?;
     Ok(true)
+}
+
+/// Where the first record of a text ends, with which the text begins: at its line end, or with the text.
+pub(crate) fn record_end(text: &[u8]) -> usize
+    requires { begins_record text.now ≡ true }
+    ensures within { result ≤ length text.now }
+    ensures ends { EndsAt text.now result }
+{
+    let mut state = State::Field;
+    for (place, byte) in text.iter().enumerate() {
+        let (next, action) = step(state, *byte);
+        if matches!(action, Action::EndRecord) {
+            return place;
+        }
+        state = next;
+    }
+    text.len()
 }

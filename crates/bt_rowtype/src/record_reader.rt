@@ -2,12 +2,14 @@
 ghost use Rattle.std.specs.Prelude.{◌≡◌, ◌<◌, is_some, length, take, true, IfNone, IfOk, IfSome};
 ghost use Rattle.std.specs.Result.{result_map_both};
 ghost use Rattle.bt_rowtype.specs.Answers.{Answers};
+ghost use Rattle.bt_rowtype.specs.Loads as loads;
 ghost use Rattle.bt_rowtype.specs.Ops as spec;
 ghost use Rattle.bt_rowtype.specs.Records.{csv_record, fields_in};
 ghost use Rattle.bt_rowtype.specs.Values.{prefix_as, read_as};
 
 use crate::cut::cut_plain;
 use crate::fields::{Place, Record};
+use crate::header::are_names;
 use crate::line::RecordLine;
 use crate::op::MOST_OPS;
 use crate::packed_row::Row;
@@ -51,6 +53,20 @@ impl RecordReader {
             return Ok(Some(Record::new(self.bytes.as_slice(), self.places.as_slice())));
         }
         Ok(None)
+    }
+
+    /// Whether a line spells the names of these columns, in order.
+    pub fn is_header(
+        &mut self,
+        columns: &[Column],
+        line: &RecordLine<'_>,
+    ) -> Result<bool, AllocError>
+        ensures { IfOk result (λ same. same ≡ loads.is_header columns.now line.now) }
+    {
+        match self.read(line.text(), columns.len())? {
+            Some(fields) => Ok(are_names(columns, &fields)),
+            None => Ok(false),
+        }
     }
 
     /// The row that a line spells, as `read_row` reads it of the line's fields.
