@@ -16,6 +16,7 @@ use Rattle.bt_node.specs.Deals.{sizes}
 use Rattle.bt_node.specs.Plans.{planned}
 use Rattle.bt_node.specs.Trees.{Shape, Tree, leaf, inner, Nodes, none, node}
 use Rattle.bt_node.specs.Flushes.{sunk, holds}
+use Rattle.bt_node.specs.Drains.{drained, packed, rebuilt}
 use Rattle.bt_node.specs.Lookups.{value_at}
 
 -- an upsert adds to the value, or to none
@@ -197,3 +198,36 @@ looked_up = refl
 
 not_there : value_at effect (k 9) three_high ≡ None
 not_there = refl
+
+-- ---- nothing is pending
+
+-- both messages have gone down: a new value at key 4, and a row more in the last leaf
+abbrev dry_three_high : Tree ℤ Change
+dry_three_high = inner
+    (node [] (inner (node [] (leaf ((k_minus_1, minus_10) ∷ entry 0 0 ∷ [])) (node (k 1) (two 1 11 2 20) (node (k 3) (two 3 30 4 44) none))) [])
+    (node (k 5) (inner (node [] (two 5 50 6 60) (node (k 7) (two 7 70 8 80) none)) [])
+    none)) []
+
+three_high_drained : drained effect shape three_high ≡ dry_three_high
+three_high_drained = refl
+
+three_high_rebuilt : rebuilt effect shape dry_three_high ≡ dry_three_high
+three_high_rebuilt = refl
+
+four_packed : packed shape (entry 1 10 ∷ entry 2 20 ∷ entry 3 30 ∷ entry 4 40 ∷ []) ≡ split_leaf
+four_packed = refl
+
+none_packed : packed shape [] ≡ empty
+none_packed = refl
+
+-- dels are pending for all rows of a leaf, and a put past the last row
+abbrev dels_wait : Tree ℤ Change
+dels_wait = inner (node [] (two 1 10 2 20) (node (k 3) (two 3 30 4 40) none)) ((k 1, Del) ∷ (k 2, Del) ∷ puts 5 50 ∷ [])
+
+-- the left leaf stays, empty, and three rows split the right one
+dels_drained : drained effect shape dels_wait ≡ inner (node [] (leaf []) (node (k 3) (two 3 30 4 40) (node (k 5) (leaf (entry 5 50 ∷ [])) none))) []
+dels_drained = refl
+
+-- packed anew, the empty leaf is gone
+dels_rebuilt : rebuilt effect shape dels_wait ≡ inner (node [] (two 3 30 4 40) (node (k 5) (leaf (entry 5 50 ∷ [])) none)) []
+dels_rebuilt = refl

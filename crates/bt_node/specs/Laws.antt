@@ -1,5 +1,6 @@
 -- What calls on trees promise beside the definitions, a named fact each.
 use Rattle.std.specs.Prelude.{◌≡◌, ℕ, ◌<◌, ◌≤◌, List, [], ◌∷◌, length}
+use Rattle.std.specs.List.{flat_map}
 use Rattle.std.specs.declared.option.Option.{Option}
 use Rattle.bt_keycode.specs.Keys.{Key}
 use Rattle.bt_node.specs.Messages.{Messages, rows_after, with_messages}
@@ -7,6 +8,7 @@ use Rattle.bt_node.specs.Plans.{total, planned}
 use Rattle.bt_node.specs.Loops.{replaced, items_at}
 use Rattle.bt_node.specs.Trees.{Shape, Tree, inner, Nodes, Siblings, children, height}
 use Rattle.bt_node.specs.Flushes.{Child, Flush, counts, shared, none_pending, flushed, flushed_over, fullest_flushed, grouped, absorb, crown, holds, all_hold}
+use Rattle.bt_node.specs.Drains.{drain}
 use Rattle.bt_node.specs.Fits.{SiblingsFit, AreHigh, WhereFits}
 
 -- ---- children that are flushed
@@ -48,6 +50,11 @@ module _ {V M : Type 0} (effect : Option V → M → Option V) (shape : Shape) (
   ComeByOneRule xs = (ns : Nodes V M) (buffer : Messages M) → t ≡ inner ns buffer →
       xs ≡ grouped shape (flushed_over (absorb effect shape) shape.buffer (shared (children ns) (with_messages packet buffer)))
 
+  -- an inner node's children are drained by the same rule as itself, whatever the tree
+  abbrev pub DrainByOneRule : Siblings V M → Type 0
+  DrainByOneRule xs = (ns : Nodes V M) (buffer : Messages M) → t ≡ inner ns buffer →
+      xs ≡ grouped shape (flat_map (flushed (drain effect shape)) (shared (children ns) (with_messages packet buffer)))
+
 -- ---- what trees hold
 
 module _ {V M : Type 0} (effect : Option V → M → Option V) where
@@ -58,6 +65,10 @@ module _ {V M : Type 0} (effect : Option V → M → Option V) where
   -- the second tree holds what the first one held, after the packet
   abbrev pub HoldsAfter : Tree V M → Messages M → Tree V M → Type 0
   HoldsAfter t packet u = holds effect u ≡ rows_after effect packet (holds effect t)
+
+  -- the second tree holds what the first one holds
+  abbrev pub HoldsTheSame : Tree V M → Tree V M → Type 0
+  HoldsTheSame t u = holds effect u ≡ holds effect t
 
 -- ---- one node above siblings
 

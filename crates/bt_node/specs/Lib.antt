@@ -1,5 +1,6 @@
 pub mod inside
 pub mod Deals
+pub mod Drains
 pub mod Falls
 pub mod Fits
 pub mod Flushes

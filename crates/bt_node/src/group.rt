@@ -22,7 +22,8 @@ fn least_key<V: Merge>(alloc: Global, rows: &Rows<V>) -> Result<Key, AllocError>
     rows.get(0).0.copy(alloc)
 }
 
-/// The rows dealt by the size of a leaf, each part behind its least key and the first behind the empty key.
+/// The rows dealt by the size of a leaf, each part behind its least key and the first behind the empty key. Where all of them fit
+/// in one leaf, none is moved.
 pub(crate) fn leaves<V: Merge>(
     alloc: Global,
     shape: Shape,
@@ -30,7 +31,11 @@ pub(crate) fn leaves<V: Merge>(
 ) -> Result<Siblings<V>, AllocError>
     ensures { IfOk result (λ siblings. siblings ≡ leaves shape rows) }
 {
-    let dealt = rows.deal(alloc, shape.leaf())?;
+    let most = shape.leaf();
+    if rows.len() <= most {
+        return Siblings::with_capacity(alloc, Node::leaf(rows), 1);
+    }
+    let dealt = rows.deal(alloc, most)?;
     let count = dealt.len();
     let mut parts = dealt.into_iter();
     let Some(first) = parts.next() else {

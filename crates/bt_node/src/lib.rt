@@ -21,14 +21,19 @@
 //! }
 //! ```
 //!
-//! `specs` has the definitions. `Trees` are the nodes, `Flushes` says what becomes of a node and a packet of messages, and `Fits` which trees are in
-//! order. `Lookups` reads one key. `Plans` and `Loops` say which children are flushed. `Laws` are the facts that calls promise beside these
-//! definitions; what private code cites stands in `inside`. `proofs` has small trees worked out, in `WorkedRows`.
+//! [`pack`] makes a tree of sorted rows at once. [`Tree::drain`] sends all messages down to the leaves, and [`Tree::rebuild`] packs
+//! the rows that a tree holds.
+//!
+//! `specs` has the definitions. `Trees` are the nodes, `Flushes` says what becomes of a node and a packet of messages, `Drains` what becomes of it
+//! when no message is to be left on the way, and which trees are made of rows alone, and `Fits` which trees are in order. `Lookups` reads one key.
+//! `Plans` and `Loops` say which children are flushed. `Laws` are the facts that calls promise beside these definitions; what private code cites
+//! stands in `inside`. `proofs` has small trees worked out, in `WorkedRows`.
 #![tactic(auto)]
 
 mod absorb;
 mod crowned;
 mod deal;
+mod drain;
 mod group;
 mod held;
 mod leaf_visits;
@@ -48,6 +53,6 @@ mod walk;
 pub use node::{Node, Parts, Siblings};
 pub use planning::plan;
 pub use shape::Shape;
-pub use tree::{Tree, absorb_alone, crown, regroup};
+pub use tree::{Tree, absorb_alone, crown, drain_alone, pack, regroup};
 pub use visitor::Visitor;
 pub use walk::Walk;

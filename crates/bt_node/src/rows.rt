@@ -93,6 +93,14 @@ impl<V: Merge> Rows<V> {
         }
     }
 
+    /// Pairs of a key and a value, each key before the next.
+    pub(crate) fn from_sorted(rows: Vec<(Key, V)>) -> Self
+        requires { IsTrue (is_sorted key_cmp rows.items) }
+        ensures { result ≡ rows.items }
+    {
+        Rows { rows }
+    }
+
     /// The rows with a key at or past `from` and before `to`, by rising key. A bound that is absent doesn't limit.
     pub(crate) fn between(&self, from: Option<&Key>, to: Option<&Key>) -> &[(Key, V)]
         ensures rows { result.now ≡ between (option_copied from.entry) (option_copied to.entry) self.now }

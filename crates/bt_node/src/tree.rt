@@ -5,15 +5,17 @@ ghost use Rattle.bt_keycode.specs.Keys.{key_cmp};
 ghost use Rattle.bt_messages.specs.Effects.{effect_of};
 ghost use Rattle.bt_messages.specs.declared.message.Message.{Message};
 ghost use Rattle.bt_messages.specs.Bins.{LieBetween, joined};
+ghost use Rattle.bt_node.specs.Drains.{AreDry, IsDry, drain, drained, packed, rebuilt};
 ghost use Rattle.bt_node.specs.Fits.{AreFit, HasShape, IsInOrder};
 ghost use Rattle.bt_node.specs.Flushes.{absorb, crown, grouped, holds, shared, sunk};
-ghost use Rattle.bt_node.specs.Laws.{ChosenArePlanned, ComeByOneRule, FitThere, FlushesInTurn, HoldRowsAfter, HoldsAfter, HoldsAll, KeepHeight, StandsAbove, StayWithoutPacket};
+ghost use Rattle.bt_node.specs.Laws.{ChosenArePlanned, ComeByOneRule, DrainByOneRule, FitThere, FlushesInTurn, HoldRowsAfter, HoldsAfter, HoldsAll, HoldsTheSame, KeepHeight, StandsAbove, StayWithoutPacket};
 ghost use Rattle.bt_node.specs.Lookups.{pivots_of};
-ghost use Rattle.bt_node.specs.Trees.{leaf};
+ghost use Rattle.bt_node.specs.Trees.{leaf, nodes};
 
 use crate::absorb::absorb;
 use crate::crowned::crowned;
-use crate::group::group;
+use crate::drain::drain;
+use crate::group::{group, leaves};
 use crate::node::{Node, Siblings};
 use crate::rows::Rows;
 use crate::shape::Shape;
@@ -69,6 +71,27 @@ pub fn absorb_alone<V: Merge>(
     Ok(nodes)
 }
 
+/// What becomes of a node and a packet when every message goes down to the leaves, on the caller's thread. Leaves without rows
+/// stay. An `Err` keeps neither.
+pub fn drain_alone<V: Merge>(
+    alloc: Global,
+    shape: Shape,
+    node: Node<V>,
+    packet: Packet<V>,
+) -> Result<Siblings<V>, AllocError>
+    ensures siblings { IfOk result (λ siblings. siblings ≡ drain (effect_of V.merged) shape node packet) }
+    ensures fits { IfOk result (FitThere shape node packet) }
+    ensures height { IfOk result (KeepHeight shape node packet) }
+    ensures rows { IfOk result (HoldRowsAfter (effect_of V.merged) shape node packet) }
+    ensures dry { IfOk result (λ siblings. AreDry (nodes siblings)) }
+    ensures one_rule { IfOk result (DrainByOneRule (effect_of V.merged) shape node packet) }
+{
+    let mut stream = packet.into_stream();
+    let count = stream.len();
+    let nodes = drain(alloc, shape, node, &mut stream, count)?;
+    Ok(nodes)
+}
+
 /// Siblings as children of inner nodes, each with its bin: the deal that ends what becomes of an inner node. An `Err` keeps
 /// neither.
 pub fn regroup<V: Merge>(
@@ -101,6 +124,23 @@ pub fn crown<V: Merge>(
 {
     let root = crowned(alloc, shape, siblings)?;
     Ok(Tree { shape, root })
+}
+
+/// The tree of these rows, and of no messages: they are dealt into leaves, and the leaves under inner nodes, in time linear in the
+/// number of rows. Rows are moved, never copied, but for a leaf's least key as its pivot. An `Err` keeps none of them.
+pub fn pack<V: Merge>(
+    alloc: Global,
+    shape: Shape,
+    rows: Vec<(Key, V)>,
+) -> Result<Tree<V>, AllocError>
+    requires { IsTrue (is_sorted key_cmp rows.items) }
+    ensures tree { IfOk result (λ tree. tree ≡ (shape, packed shape rows.items)) }
+    ensures fits { IfOk result (λ tree. HasShape tree.0 tree.1) }
+    ensures rows { IfOk result (λ tree. holds (effect_of V.merged) tree.1 ≡ rows.items) }
+    ensures dry { IfOk result (λ tree. IsDry tree.1) }
+{
+    let siblings = leaves(alloc, shape, Rows::from_sorted(rows))?;
+    Ok(crown(alloc, shape, siblings)?)
 }
 
 impl<V: Merge> Tree<V> {
@@ -156,6 +196,30 @@ impl<V: Merge> Tree<V> {
         let (shape, root) = self.apart();
         let siblings = absorb_alone(alloc, shape, root, packet)?;
         Ok(crown(alloc, shape, siblings)?)
+    }
+
+    /// The tree when all its messages have gone down to the leaves, on the caller's thread. Leaves without rows stay. An `Err`
+    /// keeps nothing of it.
+    pub fn drain(self, alloc: Global) -> Result<Self, AllocError>
+        ensures tree { IfOk result (λ tree. tree ≡ (self.0, drained (effect_of V.merged) self.0 self.1)) }
+        ensures fits { IfOk result (λ tree. HasShape tree.0 tree.1) }
+        ensures rows { IfOk result (λ tree. HoldsTheSame (effect_of V.merged) self.1 tree.1) }
+        ensures dry { IfOk result (λ tree. IsDry tree.1) }
+    {
+        let (shape, root) = self.apart();
+        let siblings = drain_alone(alloc, shape, root, Packet::new(alloc))?;
+        Ok(crown(alloc, shape, siblings)?)
+    }
+
+    /// The rows that the tree holds, copied and packed anew, on the caller's thread. The tree stays as it is, also at an `Err`.
+    pub fn rebuild(&self, alloc: Global) -> Result<Self, AllocError>
+        ensures tree { IfOk result (λ tree. tree ≡ (self.now.0, rebuilt (effect_of V.merged) self.now.0 self.now.1)) }
+        ensures fits { IfOk result (λ tree. HasShape tree.0 tree.1) }
+        ensures rows { IfOk result (λ tree. HoldsTheSame (effect_of V.merged) self.now.1 tree.1) }
+        ensures dry { IfOk result (λ tree. IsDry tree.1) }
+    {
+        let rows = self.rows(alloc)?;
+        Ok(pack(alloc, self.shape(), rows)?)
     }
 
     /// What can be seen of the root and of all that is below it.

@@ -4,6 +4,7 @@ pub mod ChildBounds
 pub mod ChoiceLoop
 pub mod CrownLoop
 pub mod DealLoop
+pub mod DrainStep
 pub mod FlushLoop
 pub mod GroupLoops
 pub mod LoadLoop

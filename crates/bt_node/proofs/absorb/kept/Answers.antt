@@ -1,5 +1,5 @@
 use Rattle.std.proofs.Common.{◌∷◌, ◌∙◌, [], ap, arith, subst, sym, take}
-use Rattle.bt_messages.specs.Bins.{LieBetween, added, each_with, joined, total}
+use Rattle.bt_messages.specs.Bins.{LieBetween, each_with, joined, total}
 use Rattle.bt_messages.proofs.offered.Parts.{added_lie, joined-added, lie_length}
 use Rattle.bt_node.specs.Lookups.{pivots_of}
 use Rattle.bt_node.specs.Trees.{inner, nodes}

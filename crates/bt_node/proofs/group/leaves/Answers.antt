@@ -1,17 +1,24 @@
-use Rattle.std.proofs.Common.{◌≡◌, ◌∷◌, ◌++◌, ◌∙◌, [], ap, arith, map, rules, subst, sym}
+use Rattle.std.proofs.Common.{◌≡◌, ◌≤◌, ◌∷◌, ◌++◌, ◌∙◌, [], ap, arith, length, map, rules, subst, sym}
 use Rattle.bt_messages.specs.declared.message.Message.{Message}
 use Rattle.bt_node.specs.Deals.{deal}
-use Rattle.bt_node.proofs.lemmas.code.GroupLoops.{leaves_done, more_leaves, nothing_left}
+use Rattle.bt_node.proofs.lemmas.code.AbsorbStep.{if_ok}
+use Rattle.bt_node.proofs.lemmas.code.GroupLoops.{leaves_done, more_leaves, nothing_left, one_leaf}
 use Rattle.bt_node.proofs.lemmas.deals.Parts.{NonEmpty}
 use Rattle.bt_node.proofs.lemmas.flushes.Groups.{as_leaf, deal-some}
 use Rattle.bt_node.proofs.group.leaves.Goals as goal
+
+pub returns-then-len-most : goal.returns-then-len-most
+returns-then-len-most g c =
+    let some : 1 ≤ c.args.shape.leaf = omega (arith, c.leaf-most.ensures.value, c.leaf-most.ensures.range.0) in
+    let few : length c.args.rows ≤ c.args.shape.leaf = omega (arith, c.if-len-most.true, c.len.ensures, c.leaf-most.ensures.value) in
+    if_ok _ _ c.with_capacity.result (λ siblings e. e ∙ ap (λ t. ([], t) ∷ []) c.leaf.ensures ∙ sym (one_leaf c.args.shape c.args.rows some few)) c.with_capacity.ensures
 
 pub unreachable-requires : goal.unreachable-requires
 unreachable-requires g c =
     let dealt = c.in_ok-dealt.ensures in
     let it = c.into_iter-parts.result.rest in
     let none = sym c.into_iter-parts.ensures.rest ∙ nothing_left it.items (omega (arith, it.ok.0, c.in_default.ensures.cases.0)) in
-    subst NonEmpty (sym dealt ∙ none) (deal-some c.leaf.result c.args.rows (omega arith))
+    subst NonEmpty (sym dealt ∙ none) (deal-some c.leaf-most.result c.args.rows (omega arith))
 
 pub loop-part-preserved : goal.loop-part-preserved
 loop-part-preserved g c =
@@ -29,7 +36,7 @@ returns g c =
     let rest = c.into_iter-part-iterator.result.rest.items in
     let first = c.in-Some.first in
     let it = c.loop-part.part-iterator.rest in
-    let dealt = c.in_ok-dealt.ensures ∙ ap (λ n. deal n c.args.rows) c.leaf.ensures.value in
+    let dealt = c.in_ok-dealt.ensures ∙ ap (λ n. deal n c.args.rows) c.leaf-most.ensures.value in
     let split : parts ≡ first ∷ rest = search rules in
     let empty : it.items ≡ [] = nothing_left it.items (omega (arith, it.ok.0, c.in-None.ensures.steps.0)) in
     let start = c.in_ok-siblings.ensures ∙ ap (λ t. ([], t) ∷ []) c.leaf-2.ensures in

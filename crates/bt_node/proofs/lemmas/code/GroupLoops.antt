@@ -13,6 +13,7 @@ use Rattle.bt_node.specs.Trees.{Shape, Siblings, Tree, inner, leaf, nodes}
 use Rattle.bt_node.specs.Deals.{deal, parted, sizes}
 use Rattle.bt_node.specs.Flushes.{Child, first_key, gathered, grouped, leaves, pivot_first}
 use Rattle.bt_node.specs.inside.Views.{child_of, children_of}
+use Rattle.bt_node.proofs.lemmas.deals.PartSizes.{deal-one}
 use Rattle.bt_node.proofs.lemmas.deals.Parts.{AllNonEmpty, joined-deal, full-deal}
 use Rattle.bt_node.proofs.lemmas.deals.Parts.{joined as joined_parts}
 use Rattle.bt_node.proofs.lemmas.flushes.Groups.{as_leaf, stripped}
@@ -124,3 +125,7 @@ module _ {V D : Type 0} where
       sym (append-nil made) ∙ ap (λ ps. made ++ map (as_leaf (Message V D)) ps) (sym empty) ∙ kept
       ∙ ap (λ xs. xs ++ map (as_leaf (Message V D)) rest) begun
       ∙ ap (λ ps. pivot_first [] (map (as_leaf (Message V D)) ps)) (sym split ∙ dealt)
+
+-- rows within the size of a leaf are one leaf
+pub one_leaf : {V M : Type 0} (s : Shape) (rows : Rows V) → 1 ≤ s.leaf → length rows ≤ s.leaf → leaves {M = M} s rows ≡ ([], leaf rows) ∷ []
+one_leaf {M = M} s rows some few = ap (λ gs. pivot_first [] (map (as_leaf M) gs)) (deal-one s.leaf rows some few)

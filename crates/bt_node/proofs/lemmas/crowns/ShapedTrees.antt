@@ -1,9 +1,9 @@
 -- Trees that fit, with their shape.
-use Rattle.std.proofs.Common.{◌≡◌, ◌≤◌, ◌&&◌, ℕ, Bool, true, false, nat_le, [], refl, sym, ap, subst, ◌∙◌, arith, true≢false, Option}
+use Rattle.std.proofs.Common.{◌≡◌, ◌≤◌, ◌&&◌, ℕ, Bool, true, false, nat_le, refl, sym, ap, subst, ◌∙◌, arith, true≢false, Option}
 use Rattle.std.proofs.lemmas.Bool.Decides.{nat_tests}
 use Rattle.std.specs.declared.option.Option.TheVariants.{None}
 use Rattle.bt_messages.specs.declared.message.Message.{Message}
-use Rattle.bt_node.specs.Trees.{Shape, Tree, Siblings, leaf}
+use Rattle.bt_node.specs.Trees.{Shape, Tree, Siblings}
 use Rattle.bt_node.specs.Flushes.{crown, holds, all_hold}
 use Rattle.bt_node.specs.Fits.{AreFit, HasShape, IsRoomy}
 use Rattle.bt_node.specs.Shapes.{is_shape}

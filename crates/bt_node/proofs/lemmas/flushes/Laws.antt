@@ -26,7 +26,7 @@ flushes_in_turn = record {
 pub chosen_are_planned : {V M : Type 0} → ChosenArePlanned V M
 chosen_are_planned f capacity cs = replaced-planned (λ c. length c.pending) (flushed f) (flushed-light f) capacity (total (counts cs)) cs (le_refl (total (counts cs)))
 
-high-siblings : {V M : Type 0} (levels : ℕ) (low high : Option Key) (xs : Siblings V M) → SiblingsLie levels low high xs → AreHigh (suc levels) xs
+pub high-siblings : {V M : Type 0} (levels : ℕ) (low high : Option Key) (xs : Siblings V M) → SiblingsLie levels low high xs → AreHigh (suc levels) xs
 high-siblings levels low high [] b = tt
 high-siblings levels low high (x ∷ []) b = (height-lies levels low high x.1 b, tt)
 high-siblings levels low high (x ∷ y ∷ ys) b = (height-lies levels low (Some y.0) x.1 b.2, high-siblings levels (Some y.0) high (y ∷ ys) b.3)

@@ -9,18 +9,18 @@ use Rattle.bt_node.proofs.lemmas.plans.OnePass.{names}
 use Rattle.bt_node.proofs.lemmas.flushes.Passes.{slots, flushed-planned, names-slots}
 
 -- none of these children is higher than this
-abbrev AreWithin : {V M : Type 0} → ℕ → List (Child V M) → Type 0
+abbrev pub AreWithin : {V M : Type 0} → ℕ → List (Child V M) → Type 0
 AreWithin most [] = Unit {0}
 AreWithin most (c ∷ cs) = (height c.tree ≤ most) × AreWithin most cs
 
-shared-within : {V M : Type 0} (most : ℕ) (ns : Nodes V M) (b : Messages M) → height_below ns ≤ most → AreWithin most (shared (children ns) b)
+pub shared-within : {V M : Type 0} (most : ℕ) (ns : Nodes V M) (b : Messages M) → height_below ns ≤ most → AreWithin most (shared (children ns) b)
 shared-within most none b l = tt
 shared-within most (node k t none) b l = (omega (arith, l), tt)
 shared-within most (node k t (node j u ns)) b l = (omega (arith, l), shared-within most (node j u ns) (from j b) (omega (arith, l)))
 
 -- Two flushes that do the same to trees up to a height do the same to children up to this height: one pass flushes no others.
 module _ {V M : Type 0} (most : ℕ) (f g : Flush V M) (agree : (t : Tree V M) (p : Messages M) → height t ≤ most → f t p ≡ g t p) where
-  flushed-same : (c : Child V M) → height c.tree ≤ most → flushed f c ≡ flushed g c
+  pub flushed-same : (c : Child V M) → height c.tree ≤ most → flushed f c ≡ flushed g c
   flushed-same c l = ap (λ xs. none_pending (pivot_first c.pivot xs)) (agree c.tree c.pending l)
 
   block-same : (s : Child V M × Bool) → height s.0.tree ≤ most → cond s.1 (flushed f s.0) (s.0 ∷ []) ≡ cond s.1 (flushed g s.0) (s.0 ∷ [])

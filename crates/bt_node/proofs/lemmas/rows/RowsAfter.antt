@@ -23,7 +23,7 @@ pub t_second : (a b : Bool) → T (a && b) → T b
 t_second true b p = p
 t_second false b p = absurd p
 
-t_true : (b : Bool) → b ≡ true → T b
+pub t_true : (b : Bool) → b ≡ true → T b
 t_true b e = subst T (sym e) tt
 
 pub true_t : (b : Bool) → T b → b ≡ true

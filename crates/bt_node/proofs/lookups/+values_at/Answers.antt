@@ -1,4 +1,4 @@
-use Rattle.std.proofs.Common.{◌∙◌, ◌+◌, ap, arith, drop, length, map, rules, subst, sym, take}
+use Rattle.std.proofs.Common.{◌∙◌, ◌+◌, ap, arith, drop, length, map, subst, sym, take}
 use Rattle.bt_messages.specs.Bins.{LieBetween, joined}
 use Rattle.bt_messages.specs.Effects.{effect_of}
 use Rattle.bt_node.specs.Kinds.{IsDivided, tree_of}

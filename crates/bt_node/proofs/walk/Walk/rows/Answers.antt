@@ -1,4 +1,4 @@
-use Rattle.std.proofs.Common.{◌∙◌, []}
+use Rattle.std.proofs.Common.{◌∙◌}
 use Rattle.std.specs.Option.{option_copied}
 use Rattle.bt_messages.specs.Effects.{effect_of}
 use Rattle.bt_node.proofs.lemmas.code.RowsShown.{copied_all, held_between-sorted}

@@ -1,0 +1,49 @@
+-- What the code makes of an inner node that is drained is what becomes of it.
+use Rattle.std.proofs.Common.{◌≡◌, ◌≤◌, ℕ, List, Option, length, take, sym, ap, subst, ◌∙◌, arith}
+use Rattle.std.proofs.lemmas.List.{length-map}
+use Rattle.std.specs.List.{flat_map}
+use Rattle.bt_messages.specs.Bins.{LieBetween, joined, parted, parts}
+use Rattle.bt_messages.specs.declared.message.Message.{Message}
+use Rattle.bt_node.specs.declared.node.Child as code
+use Rattle.bt_node.specs.Drains.{drain}
+use Rattle.bt_node.specs.Flushes.{flushed, grouped, shared}
+use Rattle.bt_node.specs.Lookups.{pivots_of}
+use Rattle.bt_node.specs.Messages.{Messages, with_messages}
+use Rattle.bt_node.specs.Trees.{Shape, Siblings, Tree, height, inner, nodes}
+use Rattle.bt_node.specs.inside.Shares.{AreDivided, beside, loaded}
+use Rattle.bt_node.specs.inside.Views.{child_of, children_of}
+use Rattle.bt_node.proofs.lemmas.flushes.Divisions.{divided-none, joined-pending, loaded-shared}
+use Rattle.bt_node.proofs.lemmas.flushes.Drains.{all_pending-flushed, drain-led, drain_recurs, flushed-some}
+use Rattle.bt_node.proofs.lemmas.flushes.Groups.{children-nodes}
+use Rattle.bt_node.proofs.lemmas.flushes.NodeSizes.{length-shared}
+
+module _ {V D : Type 0} (effect : Option V → Message V D → Option V) (s : Shape) (xs : Siblings V (Message V D)) (bins : List (Messages (Message V D))) (ms : Messages (Message V D)) (count : ℕ) (shares : List ℕ)
+    (lie : LieBetween (pivots_of xs) bins) (sizes : parted shares ms ≡ parts (pivots_of xs) (take count ms))
+    (cs made : List (code.Child V D)) (beside_is : children_of cs ≡ beside xs bins) (made_is : children_of made ≡ flat_map (flushed (drain effect s)) (loaded (children_of cs) shares ms)) where
+  abbrev after : Messages (Message V D)
+  after = with_messages (take count ms) (joined bins)
+
+  -- the children with their shares are drained
+  all_drained : children_of made ≡ flat_map (flushed (drain effect s)) (shared xs after)
+  all_drained = made_is ∙ ap (flat_map (flushed (drain effect s))) (ap (λ ds. loaded ds shares ms) beside_is ∙ loaded-shared xs bins shares ms (take count ms) lie sizes)
+
+  -- nothing is pending for the parts
+  pub drained_divided : AreDivided (children_of made)
+  drained_divided =
+      let ds = flat_map (flushed (drain effect s)) (shared xs after) in
+      subst AreDivided (sym all_drained) (divided-none ds (joined-pending ds ∙ all_pending-flushed (drain effect s) (shared xs after)))
+
+  -- there is a part
+  pub drained_some : 1 ≤ s.fanout → 1 ≤ s.leaf → 1 ≤ length xs → 1 ≤ length made
+  drained_some fanout_some leaf_some some = omega (
+    arith,
+    flushed-some (drain effect s) (λ t p. drain-led effect s (omega (arith, leaf_some)) (omega (arith, fanout_some)) (height t) t p) (shared xs after) (omega (arith, some, length-shared xs after)),
+    ap length all_drained,
+    length-map made child_of,
+  )
+
+  pub drained_anew : (node : Tree V (Message V D)) → node ≡ inner (nodes xs) (joined bins) → grouped s (children_of made) ≡ drain effect s node (take count ms)
+  drained_anew node here =
+      ap (grouped s) all_drained
+      ∙ sym (ap (λ t. drain effect s t (take count ms)) here ∙ drain_recurs effect s (nodes xs) (joined bins) (take count ms)
+      ∙ ap (λ ys. grouped s (flat_map (flushed (drain effect s)) (shared ys after))) (children-nodes xs))
