@@ -1,0 +1,10 @@
+pub mod Leasts
+pub mod Maps
+pub mod offered
+pub mod Orders
+pub mod Pieces
+pub mod Places
+pub mod Repeats
+pub mod Rows
+pub mod Stands
+pub mod WorkedRows

@@ -1,0 +1,21 @@
+-- The order of keys and places.
+use Rattle.std.proofs.Common.{◌≡◌, Bool, ℕ, List, length, take, drop, ◌++◌, arith, take_all}
+use Rattle.std.proofs.lemmas.List.{append-nil, drop_all}
+use Rattle.std.proofs.lemmas.List.Sorted.{ranks_by}
+use Rattle.std.specs.Cmp.{IsStrictWeakOrder, nat_cmp_total, on_total, then_total}
+use Rattle.std.specs.Ordering.{is_lt}
+use Rattle.bt_keycode.specs.Keys.{Key}
+use Rattle.bt_keycode.proofs.offered.Order.{total_keys}
+use Rattle.bt_load.specs.Sorts.{placed_cmp}
+use Rattle.bt_load.specs.declared.placed.Placed.{Placed}
+
+-- whether one comes before another
+abbrev pub placed_before : Placed → Placed → Bool
+placed_before a b = is_lt (placed_cmp a b)
+
+pub placed_ranks : IsStrictWeakOrder placed_before
+placed_ranks = ranks_by (then_total (on_total (λ (n : Key × ℕ). n.0) total_keys) (on_total (λ (n : Key × ℕ). n.1) nat_cmp_total)) (λ (p : Placed). (p.key, p.place))
+
+-- a whole slice written back
+pub written_back : {X : Type 0} (new old : List X) (n : ℕ) → length new ≡ n → length old ≡ n → take n (new ++ drop (length new) old) ≡ new
+written_back new old n long same = rw (drop_all (length new) old (omega (arith, long, same)), append-nil new) (take_all n new (omega (arith, long)))

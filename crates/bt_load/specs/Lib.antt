@@ -1,0 +1,5 @@
+pub mod Loads
+pub mod Maps
+pub mod Pieces
+pub mod Sorts
+pub mod Standing

@@ -1,0 +1,57 @@
+-- The keys of rows with the places of the rows, and what of them stands next to each other in order.
+use Rattle.std.specs.Prelude.{ℕ, ◌≡◌, ◌==◌, ◌+◌, ◌-◌, ◌<◌, ◌≤◌, cond, Bool, true, List, [], ◌∷◌, get_or, length, min, Option, Some, None, MatchOption}
+use Rattle.std.specs.List.{sum_by}
+use Rattle.std.specs.Ordering.{eq_by_cmp, nat_cmp, ordering_then}
+use Rattle.std.specs.declared.cmp.Ordering.{Ordering}
+use Rattle.std.specs.declared.cmp.Ordering.TheVariants.{Less}
+use Rattle.bt_rowtype.specs.declared.value.Value.{Value}
+use Rattle.bt_keycode.specs.Keys.{Key, key_cmp}
+use Rattle.bt_load.specs.Maps.{key_of}
+use Rattle.bt_load.specs.declared.placed.Placed.{Placed}
+
+-- the keys of rows, the first of which has this place
+abbrev pub placed_from : ℕ → ℕ → List (List Value) → List Placed
+placed_from keys place [] = []
+placed_from keys place (row ∷ rows) = record { key = key_of keys row; place = place } ∷ placed_from keys (place + 1) rows
+
+-- by key, and of equal keys by place
+abbrev pub placed_cmp : Placed → Placed → Ordering
+placed_cmp a b = ordering_then (key_cmp a.key b.key) (nat_cmp a.place b.place)
+
+-- the key of one is below that of another
+abbrev pub IsKeyBelow : Placed → Placed → Type 0
+IsKeyBelow a b = key_cmp a.key b.key ≡ Less
+
+-- how many times a place is among these
+abbrev pub times : ℕ → List Placed → ℕ
+times place = sum_by (λ p. cond (p.place == place) 1 0)
+
+-- a key with the row at its place
+abbrev pub pair_at : List (List Value) → Placed → Key × List Value
+pair_at rows p = (p.key, get_or rows p.place [])
+
+-- ---- repeats
+
+-- what stands at a place in order
+abbrev pub at : List Placed → ℕ → Placed
+at placed n = get_or placed n (record { key = []; place = 0 })
+
+-- whether the key at a place in order, which is not the first, is the one before it
+abbrev pub repeats_at : List Placed → ℕ → Bool
+repeats_at placed n = eq_by_cmp key_cmp (at placed (n - 1)).key (at placed n).key
+
+-- one of these repeats the key before it
+pub record Repeats (placed : List Placed) (n : ℕ) : Type 0 where
+  pub some : 1 ≤ n
+  pub within : n < length placed
+  pub same : repeats_at placed n ≡ true
+
+-- of the first ones in order, so many, none repeats the key before it, or this is the least place of one that does
+abbrev pub IsFirstRepeat : List Placed → ℕ → Option ℕ → Type 0
+IsFirstRepeat placed most found = MatchOption found ((n : ℕ) → n < most → Repeats placed n → ⊥)
+    (λ place. ((n : ℕ) × Repeats placed n × ((at placed n).place ≡ place)) × ((n : ℕ) → n < most → Repeats placed n → place ≤ (at placed n).place))
+
+-- the lesser of a place that was found, if one was, and one more
+abbrev pub lesser_of : Option ℕ → ℕ → ℕ
+lesser_of None place = place
+lesser_of (Some found) place = min found place

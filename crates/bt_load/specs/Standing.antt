@@ -1,0 +1,34 @@
+-- Rows of columns, and rows that stand under their keys.
+use Rattle.std.specs.Prelude.{ℕ, ◌≡◌, true, List, [], ◌∷◌}
+use Rattle.bt_rowtype.specs.Packing.{AreInRange}
+use Rattle.bt_rowtype.specs.Schemas.{Schema, fit_columns}
+use Rattle.bt_rowtype.specs.declared.schema.Column.{Column}
+use Rattle.bt_rowtype.specs.declared.value.Value.{Value}
+use Rattle.bt_keycode.specs.Keys.{Key}
+use Rattle.bt_load.specs.Maps.{RowMap, key_of}
+
+-- a row is of columns: one value of each column's kind, within the range of its kind
+pub record IsOf (columns : List Column) (row : List Value) : Type 0 where
+  pub fits : fit_columns columns row ≡ true
+  pub in_range : AreInRange row
+
+-- each of the rows is
+abbrev pub AreOf : List Column → List (List Value) → Type 0
+AreOf columns [] = Unit {0}
+AreOf columns (row ∷ rows) = IsOf columns row × AreOf columns rows
+
+-- each of the rows stands under its key
+abbrev pub AllAreUnder : ℕ → RowMap → Type 0
+AllAreUnder keys [] = Unit {0}
+AllAreUnder keys (pair ∷ pairs) = (pair.0 ≡ key_of keys pair.1) × AllAreUnder keys pairs
+
+-- a row stands under its key, and is of the schema
+pub record Stands (schema : Schema) (key : Key) (row : List Value) : Type 0 where
+  pub placed : key ≡ key_of schema.keys row
+  pub fits : fit_columns schema.columns row ≡ true
+  pub in_range : AreInRange row
+
+-- each of the rows does
+abbrev pub AllStand : Schema → RowMap → Type 0
+AllStand schema [] = Unit {0}
+AllStand schema (pair ∷ pairs) = Stands schema pair.0 pair.1 × AllStand schema pairs

@@ -1,0 +1,67 @@
+//! The rows of a text.
+ghost use Rattle.std.specs.Prelude.{◌≡◌, IfOk};
+ghost use Rattle.std.specs.Result.{result_map_both};
+ghost use Rattle.bt_rowtype.specs.Answers.{Answers};
+ghost use Rattle.bt_rowtype.specs.Ops.{all_read};
+ghost use Rattle.bt_load.specs.Loads.{loaded, typed_from};
+ghost use Rattle.bt_load.specs.Standing.{AreOf};
+
+use crate::typing::{join, type_pieces};
+use bt_rowtype::{RecordLine, RecordReader, Records, Refusal, Row, Schema};
+use std::alloc::{AllocError, Global};
+use std::thread::Threads;
+
+// The records that are left.
+fn all_left<'a>(alloc: Global, records: Records<'a>) -> Result<Vec<RecordLine<'a>>, AllocError>
+    ensures { IfOk result (λ lines. lines.items ≡ records.entry) }
+{
+    let mut records = records;
+    let mut lines = Vec::new(alloc);
+    while let Some(line) = records.next() {
+        lines.push(line)?;
+    }
+    Ok(lines)
+}
+
+// The rows that lines spell, or the least refusal.
+fn read_lines(
+    rt: &(impl Threads + Sync),
+    alloc: Global,
+    schema: &Schema,
+    lines: &[RecordLine<'_>],
+) -> Result<Vec<Row>, Refusal>
+    ensures { Answers (all_read (typed_from schema.now.columns 1 lines.now)) (result_map_both (λ rows. rows.items) (λ e. e) result) }
+{
+    let pieces = type_pieces(rt, alloc, schema, lines)?;
+    let reading = join(alloc, lines.len(), pieces)?;
+    match reading.finish() {
+        Ok(rows) => Ok(rows.into_vec()),
+        Err(refusal) => Err(refusal),
+    }
+}
+
+/// The rows of a CSV text under its header, in order.
+///
+/// `BadSchema` where the header is not the names of the columns in order, else `BadField` or `BadLength` of a record: the least
+/// number, and of equal numbers the least record, counted from 1 behind the header.
+pub fn read_records(
+    rt: &(impl Threads + Sync),
+    alloc: Global,
+    text: &[u8],
+    schema: &Schema,
+) -> Result<Vec<Row>, Refusal>
+    ensures answer { Answers (loaded schema.now.columns text.now) (result_map_both (λ rows. rows.items) (λ e. e) result) }
+    ensures rows { IfOk result (λ rows. AreOf schema.now.columns rows.items) }
+{
+    let Some(mut records) = Records::new(text) else {
+        return Err(Refusal::BadSchema);
+    };
+    let Some(header) = records.next() else {
+        return Err(Refusal::BadSchema);
+    };
+    if !RecordReader::new(alloc).is_header(schema.columns(), &header)? {
+        return Err(Refusal::BadSchema);
+    }
+    let lines = all_left(alloc, records)?;
+    read_lines(rt, alloc, schema, lines.as_slice())
+}

@@ -1,0 +1,32 @@
+//! Rows by rising key.
+ghost use Rattle.std.specs.FinMap.{is_sorted};
+ghost use Rattle.std.specs.Prelude.{◌≡◌, IfOk, IsTrue};
+ghost use Rattle.std.specs.Result.{result_map_both};
+ghost use Rattle.bt_rowtype.specs.Answers.{Answers};
+ghost use Rattle.bt_keycode.specs.Keys.{key_cmp};
+ghost use Rattle.bt_load.specs.Maps.{map_of};
+ghost use Rattle.bt_load.specs.Standing.{AllAreUnder, AllStand, AreOf};
+
+use crate::placed::{ordered_keys, with_rows};
+use bt_keycode::Key;
+use bt_rowtype::{Refusal, Row, Schema};
+use std::alloc::Global;
+use std::thread::Threads;
+
+/// The rows by rising key, each behind its key. `DuplicateKey` of the first row, counted from 1, whose key an earlier row has.
+///
+/// Rows whose keys rise already are not sorted.
+pub fn load_rows(
+    rt: &(impl Threads + Sync),
+    alloc: Global,
+    rows: Vec<Row>,
+    schema: &Schema,
+) -> Result<Vec<(Key, Row)>, Refusal>
+    ensures answer { Answers (map_of schema.now.keys rows.items) (result_map_both (λ pairs. pairs.items) (λ e. e) result) }
+    ensures rising { IfOk result (λ pairs. IsTrue (is_sorted key_cmp pairs.items)) }
+    ensures keys { IfOk result (λ pairs. AllAreUnder schema.now.keys pairs.items) }
+    ensures stand { AreOf schema.now.columns rows.items → IfOk result (λ pairs. AllStand schema.now pairs.items) }
+{
+    let placed = ordered_keys(rt, alloc, rows.as_slice(), schema.keys())?;
+    Ok(with_rows(alloc, placed, rows)?)
+}
