@@ -5,5 +5,6 @@ pub mod Feeds
 pub mod Joined
 pub mod Machine
 pub mod Names
+pub mod Texts
 pub mod WorkedRows
 pub mod offered

@@ -1,13 +1,13 @@
 -- Steps of the cutting of lines into commands. Serves the parser, which goes by places of a script.
-use Rattle.std.proofs.Common.{ℕ, Bool, List, [], ◌∷◌, ◌++◌, ◌≡◌, ◌∙◌, refl, sym, ap, true, false, not, Option, Some, None, drop, length, map, filter, codes, ◌≤◌, arith, inl, inr}
+use Rattle.std.proofs.Common.{ℕ, Bool, List, [], ◌∷◌, ◌++◌, ◌≡◌, ◌==◌, ◌∙◌, refl, sym, ap, true, false, not, Option, Some, None, drop, length, map, filter, codes, ◌≤◌, arith, inl, inr}
 use Rattle.std.proofs.lemmas.Bool.{cases_Bool}
 use Rattle.std.proofs.lemmas.List.{append-nil, drop_all, map-append}
 use Rattle.std.proofs.lemmas.List.Elements.{filter-append}
 use Rattle.std.proofs.lemmas.List.Sums.{fold-append}
 use Rattle.std.specs.Prelude.{option_map}
-use Rattle.bt_script.specs.Blocks.{IsBlock, and_line, headed, with_last}
-use Rattle.bt_script.specs.Commands.{Inside, Outside, all_some, and_bound, batch_of, begins, bounds_of, closing_of, command_of, commands_from, is_blank_line, is_word, item_of, items_of, or_syntax, scan_of, step, sums_of, unbounded, unfinished}
-use Rattle.bt_script.specs.Lines.{lines, words, without_return}
+use Rattle.bt_script.specs.Blocks.{IsBlock, and_line, ended, headed, with_last}
+use Rattle.bt_script.specs.Commands.{Inside, Outside, all_some, and_bound, batch_of, begins, bounds_of, closing_of, command_of, commands_from, is_blank_line, is_word, item_of, items_of, load_of, or_syntax, scan_of, step, sums_of, unbounded, unfinished}
+use Rattle.bt_script.specs.Lines.{lines, text_of, words, without_return}
 use Rattle.bt_script.specs.declared.command.Command.{Command}
 
 -- one more, at the end
@@ -78,7 +78,7 @@ leads-cut script start at closing block so_far past head =
 pub tested : (line inner closing : List ℕ) (found answer : Bool) → inner ≡ without_return line → found ≡ is_word inner closing → found ≡ answer → is_word (without_return line) closing ≡ answer
 tested line inner closing found answer cut test is = ap (λ (l : List ℕ). is_word l closing) (sym cut) ∙ sym test ∙ is
 
--- the head line of a batch, of a scan, and of any other command
+-- the head line of a command with a block, and of any other one
 pub headed-batch : (head : List ℕ) (more : List (List ℕ)) → begins (words head) (codes "batch") ≡ true → headed head more ≡ commands_from (Inside head (codes "end") []) more
 unfolding closing_of
 headed-batch head more is = rw is refl
@@ -93,10 +93,15 @@ pub headed-sums : (head : List ℕ) (more : List (List ℕ)) → begins (words h
 unfolding closing_of
 headed-sums head more no_batch no_scan is = rw (no_batch, no_scan, is) refl
 
-pub headed-line : (head : List ℕ) (more : List (List ℕ)) (command : Option Command) → begins (words head) (codes "batch") ≡ false → begins (words head) (codes "scan") ≡ false
-    → begins (words head) (codes "sums") ≡ false → command ≡ command_of head [] → headed head more ≡ or_syntax command ∷ commands_from Outside more
+pub headed-load : (head : List ℕ) (more : List (List ℕ)) → begins (words head) (codes "batch") ≡ false → begins (words head) (codes "scan") ≡ false
+    → begins (words head) (codes "sums") ≡ false → begins (words head) (codes "load") ≡ true → headed head more ≡ commands_from (Inside head (codes ".") []) more
 unfolding closing_of
-headed-line head more command no_batch no_scan no_sums is = rw (no_batch, no_scan, no_sums, is) refl
+headed-load head more no_batch no_scan no_sums is = rw (no_batch, no_scan, no_sums, is) refl
+
+pub headed-line : (head : List ℕ) (more : List (List ℕ)) (command : Option Command) → begins (words head) (codes "batch") ≡ false → begins (words head) (codes "scan") ≡ false
+    → begins (words head) (codes "sums") ≡ false → begins (words head) (codes "load") ≡ false → command ≡ command_of head [] → headed head more ≡ or_syntax command ∷ commands_from Outside more
+unfolding closing_of
+headed-line head more command no_batch no_scan no_sums no_load is = rw (no_batch, no_scan, no_sums, no_load, is) refl
 
 pub command-batch : (head : List ℕ) (block : List (List ℕ)) → begins (words head) (codes "batch") ≡ true → command_of head block ≡ batch_of (words head) (items_of block)
 unfolding command_of
@@ -111,6 +116,19 @@ pub command-sums : (head : List ℕ) (block : List (List ℕ)) → begins (words
     → command_of head block ≡ sums_of (words head) (bounds_of block)
 unfolding command_of
 command-sums head block no_batch no_scan is = rw (no_batch, no_scan, is) refl
+
+pub command-load : (head : List ℕ) (block : List (List ℕ)) → begins (words head) (codes "batch") ≡ false → begins (words head) (codes "scan") ≡ false
+    → begins (words head) (codes "sums") ≡ false → begins (words head) (codes "load") ≡ true → command_of head block ≡ load_of (words head) (text_of block)
+unfolding command_of
+command-load head block no_batch no_scan no_sums is = rw (no_batch, no_scan, no_sums, is) refl
+
+-- the text of a block that is not closed does not count
+pub ended-load : (closed : Bool) (ws : List (List ℕ)) (found text : List ℕ) → (closed ≡ true → found ≡ text) → ended closed (load_of ws text) ≡ ended closed (load_of ws found)
+ended-load true ws found text same = ap (λ (t : List ℕ). or_syntax (load_of ws t)) (sym (same refl))
+ended-load false ws found text same = elim (cases_Bool (length ws == 1)) [
+  | inl alone ↦ rw alone refl
+  | inr more ↦ rw more refl
+]
 
 -- a line outside of blocks: one that heads a command, and a blank one
 pub outside-head : (line : List ℕ) (more : List (List ℕ)) → is_blank_line line ≡ false → commands_from Outside (line ∷ more) ≡ headed (without_return line) more

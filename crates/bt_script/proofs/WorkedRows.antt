@@ -1,11 +1,12 @@
--- Worked lines, computed by the definitions themselves. Serves as a test of the definitions.
+-- Worked lines and scripts, computed by the definitions themselves. Serves as a test of the definitions.
 use Rattle.std.proofs.Common.{[], ◌∷◌, ◌≡◌, refl, codes}
-use Rattle.std.specs.Prelude.{Some, None}
+use Rattle.std.specs.Prelude.{Err, None, Ok, Some}
+use Rattle.bt_rowtype.specs.declared.refusal.Refusal.TheVariants.{Syntax, Unfinished}
 use Rattle.bt_rowtype.specs.declared.filter.Test.TheVariants as test
 use Rattle.bt_rowtype.proofs.offered.OnLiterals.{rowtype_on_literals}
-use Rattle.bt_script.specs.Commands.{command_of, filter_of, index_from, index_of, names_of}
-use Rattle.bt_script.specs.Lines.{behind_words}
-use Rattle.bt_script.specs.declared.command.Command.TheVariants.{Drop}
+use Rattle.bt_script.specs.Commands.{closing_of, command_of, commands, commands_from, filter_of, index_from, index_of, names_of, step}
+use Rattle.bt_script.specs.Lines.{behind_words, text_of}
+use Rattle.bt_script.specs.declared.command.Command.TheVariants.{Drain, Drop, Load, Rebuild}
 
 -- all parts of an index
 pub whole_index : command_of (codes "index c on city include qty where qty >= 15") []
@@ -69,3 +70,66 @@ dropped = refl
 pub two_names : command_of (codes "drop c d") [] ≡ None
 unfolding command_of rowtype_on_literals
 two_names = refl
+
+-- commands on one tree, and other words than one name behind them
+pub drained : command_of (codes " drain  q ") [] ≡ Some (Drain (codes "q"))
+unfolding command_of rowtype_on_literals
+drained = refl
+
+pub rebuilt : command_of (codes "rebuild primary") [] ≡ Some (Rebuild (codes "primary"))
+unfolding command_of rowtype_on_literals
+rebuilt = refl
+
+pub no_tree : command_of (codes "rebuild") [] ≡ None
+unfolding command_of rowtype_on_literals
+no_tree = refl
+
+pub two_trees : command_of (codes "drain primary x") [] ≡ None
+unfolding command_of rowtype_on_literals
+two_trees = refl
+
+pub no_name : command_of (codes "drain Q") [] ≡ None
+unfolding command_of rowtype_on_literals
+no_name = refl
+
+-- a load keeps its line breaks, blank lines and spaces; its closing line has a carriage return here, and a command behind it
+pub loaded : commands (codes "load \r\nid,name\r\n\r\n 1,a\n  \n.\r\ndrain q\n") ≡ Ok (Load (codes "id,name\r\n\r\n 1,a\n  \n")) ∷ Ok (Drain (codes "q")) ∷ []
+unfolding commands_from step closing_of command_of text_of rowtype_on_literals
+loaded = refl
+
+-- a load closes at the end of the script too, and inside quotes
+pub closed_in_quotes : commands (codes "load\na\n\"1\n.") ≡ Ok (Load (codes "a\n\"1\n")) ∷ []
+unfolding commands_from step closing_of command_of text_of rowtype_on_literals
+closed_in_quotes = refl
+
+pub closed_at_end : commands (codes "load\na\n.\r") ≡ Ok (Load (codes "a\n")) ∷ []
+unfolding commands_from step closing_of command_of text_of rowtype_on_literals
+closed_at_end = refl
+
+-- no line in the block
+pub empty_block : commands (codes "load\n.\n") ≡ Ok (Load []) ∷ []
+unfolding commands_from step closing_of command_of text_of rowtype_on_literals
+empty_block = refl
+
+-- lines that do not close a load
+pub other_points : commands (codes "load\n..\n .\n. \n.\r\r\n.a\n.\n") ≡ Ok (Load (codes "..\n .\n. \n.\r\r\n.a\n")) ∷ []
+unfolding commands_from step closing_of command_of text_of rowtype_on_literals
+other_points = refl
+
+-- a load that the end of the script cuts off, also with a wrong head line
+pub cut_off : commands (codes "load\nid,name\n1,a\ndrain q\n") ≡ Err Unfinished ∷ []
+unfolding commands_from step closing_of command_of text_of rowtype_on_literals
+cut_off = refl
+
+pub without_block : commands (codes "load") ≡ Err Unfinished ∷ []
+unfolding commands_from step closing_of command_of text_of rowtype_on_literals
+without_block = refl
+
+pub wrong_and_cut_off : commands (codes "load x\nid,name\n") ≡ Err Syntax ∷ []
+unfolding commands_from step closing_of command_of text_of rowtype_on_literals
+wrong_and_cut_off = refl
+
+-- a wrong head line is refused once, with its block
+pub wrong_load : commands (codes "load x\nid,name\ndrain q\n.\nrebuild q\n") ≡ Err Syntax ∷ Ok (Rebuild (codes "q")) ∷ []
+unfolding commands_from step closing_of command_of text_of rowtype_on_literals
+wrong_load = refl

@@ -11,9 +11,9 @@ use Rattle.bt_rowtype.specs.declared.refusal.Refusal.TheVariants.{Syntax, Unfini
 use Rattle.bt_rowtype.specs.declared.schema.Column.{Column}
 use Rattle.bt_rowtype.specs.declared.value.Kind.{Kind}
 use Rattle.bt_rowtype.specs.declared.value.Kind.TheVariants as kind
-use Rattle.bt_script.specs.Lines.{behind_words, is_blank, is_name, lines, name_of, number_of, without_return, without_spaces, words}
+use Rattle.bt_script.specs.Lines.{behind_words, is_blank, is_name, lines, name_of, number_of, text_of, without_return, without_spaces, words}
 use Rattle.bt_script.specs.declared.command.Command.{Command}
-use Rattle.bt_script.specs.declared.command.Command.TheVariants.{Batch, Drop, Get, Image, Index, Scan, Sums, Table}
+use Rattle.bt_script.specs.declared.command.Command.TheVariants.{Batch, Drain, Drop, Get, Image, Index, Load, Rebuild, Scan, Sums, Table}
 use Rattle.bt_script.specs.declared.command.Bounds.{Bounds}
 use Rattle.bt_rowtype.specs.declared.item.Item.{Item}
 use Rattle.bt_rowtype.specs.declared.item.Item.TheVariants.{Put, Del, Ups}
@@ -88,6 +88,10 @@ table_of ws =
 abbrev pub batch_of : List (List ℕ) → Option (List Item) → Option Command
 batch_of ws items = if length ws == 1 then option_map Batch items else None
 
+-- load, with the text of its block as it stands
+abbrev pub load_of : List (List ℕ) → List ℕ → Option Command
+load_of ws text = if length ws == 1 then Some (Load text) else None
+
 -- no bound
 abbrev pub unbounded : Bounds
 unbounded = record { from = None; to = None }
@@ -126,13 +130,9 @@ sums_of ws bounds =
 abbrev pub get_of : List ℕ → Option Command
 get_of head = option_map Get (record_behind (codes "get ") (without_spaces head))
 
--- image and the name of a tree
-abbrev pub image_of : List (List ℕ) → Option Command
-image_of ws = if (length ws == 2) && is_name (word_at ws 1) then Some (Image (word_at ws 1)) else None
-
--- drop and the name of an index
-abbrev pub drop_of : List (List ℕ) → Option Command
-drop_of ws = if (length ws == 2) && is_name (word_at ws 1) then Some (Drop (word_at ws 1)) else None
+-- the name that stands behind the first word, with no other word behind it
+abbrev pub only_name : List (List ℕ) → Option (List ℕ)
+only_name ws = if length ws == 2 then name_of (word_at ws 1) else None
 
 -- the names that commas join
 unfoldable pub names_of : List ℕ → Option (List (List ℕ))
@@ -193,11 +193,25 @@ index_of head ws =
 abbrev pub begins : List (List ℕ) → List ℕ → Bool
 begins ws word = is_word (word_at ws 0) word
 
+-- the command that a name makes with the word before it
+abbrev pub command_on : List (List ℕ) → List ℕ → Option Command
+command_on ws name =
+    if begins ws (codes "image") then Some (Image name)
+    else (if begins ws (codes "drop") then Some (Drop name)
+    else (if begins ws (codes "drain") then Some (Drain name)
+    else (if begins ws (codes "rebuild") then Some (Rebuild name) else None)))
+
+-- image, drop, drain or rebuild, and one name
+abbrev pub named_of : List (List ℕ) → Option Command
+named_of ws = option_and_then (command_on ws) (only_name ws)
+
 -- the line that closes the block of a command, where it has one
 unfoldable pub closing_of : List (List ℕ) → Option (List ℕ)
 closing_of ws =
     if begins ws (codes "batch") then Some (codes "end")
-    else (if begins ws (codes "scan") then Some (codes "go") else (if begins ws (codes "sums") then Some (codes "go") else None))
+    else (if begins ws (codes "scan") then Some (codes "go")
+    else (if begins ws (codes "sums") then Some (codes "go")
+    else (if begins ws (codes "load") then Some (codes ".") else None)))
 
 -- the command of its head line, which has these words, and of the lines of its block, if it is one
 abbrev pub command_from : List ℕ → List (List ℕ) → List (List ℕ) → Option Command
@@ -205,11 +219,10 @@ command_from head ws block =
     if begins ws (codes "batch") then batch_of ws (items_of block)
     else (if begins ws (codes "scan") then scan_of ws (bounds_of block)
     else (if begins ws (codes "sums") then sums_of ws (bounds_of block)
+    else (if begins ws (codes "load") then load_of ws (text_of block)
     else (if begins ws (codes "table") then table_of ws
     else (if begins ws (codes "get") then get_of head
-    else (if begins ws (codes "image") then image_of ws
-    else (if begins ws (codes "index") then index_of head ws
-    else (if begins ws (codes "drop") then drop_of ws else None)))))))
+    else (if begins ws (codes "index") then index_of head ws else named_of ws))))))
 
 -- the command of its head line and the lines of its block, if it is one
 unfoldable pub command_of : List ℕ → List (List ℕ) → Option Command

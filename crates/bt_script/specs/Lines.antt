@@ -1,5 +1,5 @@
 -- The lines of a script, the words of a line, and what a word spells.
-use Rattle.std.specs.Prelude.{ℕ, ◌==◌, ◌&&◌, ◌||◌, ◌-◌, not, Bool, List, [], ◌∷◌, length, take, drop, get_or, filter, Option, Some, None, if◌then◌else◌, nat_le, zero, suc}
+use Rattle.std.specs.Prelude.{ℕ, ◌==◌, ◌&&◌, ◌||◌, ◌-◌, not, Bool, List, [], ◌∷◌, ◌++◌, length, take, drop, get_or, filter, Option, Some, None, if◌then◌else◌, nat_le, zero, suc}
 use Rattle.std.specs.List.{list_all, onto_first, slice_split, take_while}
 use Rattle.bt_rowtype.specs.Ints.{is_digit, number_written}
 
@@ -7,6 +7,11 @@ use Rattle.bt_rowtype.specs.Ints.{is_digit, number_written}
 abbrev pub lines : List ℕ → List (List ℕ)
 lines [] = []
 lines (b ∷ bs) = if b == 10 then [] ∷ lines bs else onto_first b (lines bs)
+
+-- the bytes of some lines, with the line feed behind each of them
+unfoldable pub text_of : List (List ℕ) → List ℕ
+text_of [] = []
+text_of (line ∷ more) = line ++ 10 ∷ text_of more
 
 -- a line without the one carriage return at its end
 abbrev pub without_return : List ℕ → List ℕ

@@ -1,4 +1,5 @@
 //! Commands, and what stands at a place of a script.
+use crate::load::BlockText;
 use bt_rowtype::{Columns, Filter, Item, RecordLine, Refusal, Sequence, Text, Texts};
 
 /// The messages of a batch, in order.
@@ -56,6 +57,8 @@ pub struct SumsForm<'a> {
 pub enum Command<'a> {
     /// `table F C L K name:kind ..`
     Table(TableForm),
+    /// `load` and the text of its block: CSV with a header.
+    Load(BlockText<'a>),
     /// `batch` and its messages.
     Batch(Items<'a>),
     /// `get rec`: the row of the key that these fields spell.
@@ -70,6 +73,10 @@ pub enum Command<'a> {
     Index(IndexForm),
     /// `drop NAME`: an index no more.
     Drop(Text),
+    /// `drain TREE`: the buffers of a tree emptied.
+    Drain(Text),
+    /// `rebuild TREE`: a tree made anew.
+    Rebuild(Text),
 }
 
 /// What stands at a place of a script.

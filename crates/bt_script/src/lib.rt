@@ -14,15 +14,18 @@
 //! ```
 #![tactic(auto)]
 
+mod blocks;
 mod command;
 mod counted;
 mod lines;
+mod load;
 mod parse;
 mod streams;
 mod words;
 
 pub use command::{Bounds, Command, IndexForm, Items, Parsed, SumsForm, TableForm};
 pub use counted::Counted;
+pub use load::BlockText;
 pub use parse::parse_command;
 pub use streams::{RunFault, SCRIPT_LIMIT, read_script, write_text};
 pub use words::{Words, WordsError, read_words};

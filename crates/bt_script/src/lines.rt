@@ -1,11 +1,11 @@
 //! Lines, words, numbers and names.
-ghost use Rattle.std.specs.Prelude.{◌≡◌, ◌==◌, ◌∷◌, ◌<◌, ◌≤◌, Bool, IfOk, IfSome, drop, length, map, not, option_map, true};
+ghost use Rattle.std.specs.Prelude.{◌≡◌, ◌==◌, ◌∷◌, ◌++◌, ◌<◌, ◌≤◌, Bool, IfOk, IfSome, drop, length, map, not, option_map, true};
 ghost use Rattle.std.specs.List.{list_all, slice_split, take_while};
 ghost use Rattle.bt_rowtype.specs.Ints.{is_digit, number_written};
-ghost use Rattle.bt_script.specs.Commands.{names_of};
+ghost use Rattle.bt_script.specs.Commands as spec;
 ghost use Rattle.bt_script.specs.Lines as text;
 
-use bt_rowtype::{Text, Texts};
+use bt_rowtype::{RecordLine, Text, Texts};
 use memchr::memchr;
 use std::alloc::{AllocError, Global};
 use std::str;
@@ -24,6 +24,8 @@ fn line_len(text: &[u8]) -> usize
 pub fn next_line(script: &[u8], at: usize) -> (&[u8], usize)
     requires { at < length script.now }
     ensures line { text.lines (drop at script.now) ≡ result.0.now ∷ text.lines (drop result.1 script.now) }
+    // Where the script goes on behind the line, a line feed stands there.
+    ensures feed { result.1 < length script.now → drop at script.now ≡ result.0.now ++ 10 ∷ drop result.1 script.now }
     ensures past { at < result.1 }
     ensures within { result.1 ≤ length script.now }
 {
@@ -73,6 +75,44 @@ pub fn words(alloc: Global, line: &[u8]) -> Result<Vec<&[u8]>, AllocError>
     line.split(|byte| *byte == b' ')
         .filter(|word| !word.is_empty())
         .collect(alloc)
+}
+
+pub fn is_word(text: &[u8], word: &[u8]) -> bool
+    ensures { result ≡ spec.is_word text.now word.now }
+{
+    text == word
+}
+
+/// The word at a place, or the empty one.
+pub fn word_at<'a>(words: &[&'a [u8]], place: usize) -> &'a [u8]
+    ensures { result.now ≡ spec.word_at (map (λ w. w.now) words.now) place }
+{
+    match words.get(place) {
+        Some(word) => *word,
+        None => &[],
+    }
+}
+
+pub fn begins(words: &[&[u8]], word: &[u8]) -> bool
+    ensures { result ≡ spec.begins (map (λ w. w.now) words.now) word.now }
+{
+    is_word(word_at(words, 0), word)
+}
+
+/// What stands behind a prefix, where the line begins with it.
+pub fn behind_prefix<'a>(prefix: &[u8], line: &'a [u8]) -> Option<&'a [u8]>
+    ensures { option_map (λ s. s.now) result ≡ spec.behind_prefix prefix.now line.now }
+{
+    line.strip_prefix(prefix)
+}
+
+pub fn record_behind<'a>(prefix: &[u8], line: &'a [u8]) -> Option<RecordLine<'a>>
+    ensures { result ≡ spec.record_behind prefix.now line.now }
+{
+    match behind_prefix(prefix, line) {
+        Some(record) => RecordLine::new(record),
+        None => None,
+    }
 }
 
 /// What stands in a word between bytes that separate.
@@ -184,7 +224,7 @@ pub fn parse_name(alloc: Global, word: &[u8]) -> Result<Option<Text>, AllocError
 /// The names that commas join.
 #[tactic(auto, unfolding(crate::specs::Commands::names_of))]
 pub fn parse_names(alloc: Global, word: &[u8]) -> Result<Option<Texts>, AllocError>
-    ensures { IfOk result (λ names. names ≡ names_of word.now) }
+    ensures { IfOk result (λ names. names ≡ spec.names_of word.now) }
 {
     let parts = parts(alloc, word, b',')?;
     let mut names = Texts::new(alloc);

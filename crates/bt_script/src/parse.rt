@@ -1,193 +1,18 @@
 //! The parser of commands.
-ghost use Rattle.std.specs.Prelude.{◌≡◌, ◌==◌, ◌∷◌, ◌<◌, ◌≤◌, [], IfOk, List, None, Some, codes, drop, false, length, map, not, option_map, true, ℕ};
-ghost use Rattle.std.specs.List.{list_all};
-ghost use Rattle.bt_script.specs.Blocks.{FindsHeaded, IsBlock, NextBehind, and_line, ended};
+ghost use Rattle.std.specs.Prelude.{◌≡◌, ◌∷◌, ◌<◌, ◌≤◌, [], IfOk, List, codes, drop, false, length, map, true, ℕ};
+ghost use Rattle.bt_script.specs.Blocks.{FindsHeaded, NextBehind, ended};
 ghost use Rattle.bt_script.specs.Commands as spec;
 ghost use Rattle.bt_script.specs.Lines as text;
 
+use crate::blocks::{Block, read_bounds, read_items};
 use crate::command::{Bounds, Command, IndexForm, Items, Parsed, SumsForm, TableForm};
 use crate::lines::{
-    behind_words, is_blank, next_line, parse_name, parse_names, parse_number, parts,
-    without_return, without_spaces, words,
+    begins, behind_words, is_blank, is_word, next_line, parse_name, parse_names, parse_number,
+    parts, record_behind, without_return, without_spaces, word_at, words,
 };
-use bt_rowtype::{Bytes, Column, Columns, Filter, Item, Kind, RecordLine, Refusal, Test, Texts};
+use crate::load::{BlockText, read_text};
+use bt_rowtype::{Bytes, Column, Columns, Filter, Kind, Refusal, Test, Text, Texts};
 use std::alloc::{AllocError, Global};
-
-fn is_word(text: &[u8], word: &[u8]) -> bool
-    ensures { result ≡ spec.is_word text.now word.now }
-{
-    text == word
-}
-
-// The word at a place, or the empty one.
-fn word_at<'a>(words: &[&'a [u8]], place: usize) -> &'a [u8]
-    ensures { result.now ≡ spec.word_at (map (λ w. w.now) words.now) place }
-{
-    match words.get(place) {
-        Some(word) => *word,
-        None => &[],
-    }
-}
-
-fn begins(words: &[&[u8]], word: &[u8]) -> bool
-    ensures { result ≡ spec.begins (map (λ w. w.now) words.now) word.now }
-{
-    is_word(word_at(words, 0), word)
-}
-
-// What stands behind a prefix, where the line begins with it.
-fn behind_prefix<'a>(prefix: &[u8], line: &'a [u8]) -> Option<&'a [u8]>
-    ensures { option_map (λ s. s.now) result ≡ spec.behind_prefix prefix.now line.now }
-{
-    line.strip_prefix(prefix)
-}
-
-fn record_behind<'a>(prefix: &[u8], line: &'a [u8]) -> Option<RecordLine<'a>>
-    ensures { result ≡ spec.record_behind prefix.now line.now }
-{
-    match behind_prefix(prefix, line) {
-        Some(record) => RecordLine::new(record),
-        None => None,
-    }
-}
-
-// The message of a line of a batch, which begins with its word.
-fn parse_item(text: &[u8]) -> Option<Item<'_>>
-    ensures { result ≡ spec.item_from text.now }
-{
-    if let Some(record) = behind_prefix(b"put ", text) {
-        return RecordLine::new(record).map(Item::Put);
-    }
-    if let Some(record) = behind_prefix(b"del ", text) {
-        return RecordLine::new(record).map(Item::Del);
-    }
-    if let Some(record) = behind_prefix(b"ups ", text) {
-        return RecordLine::new(record).map(Item::Ups);
-    }
-    None
-}
-
-// The messages of some lines, and that of one more, which has no carriage return at its end.
-fn and_item<'a>(items: Option<Items<'a>>, line: &'a [u8]) -> Result<Option<Items<'a>>, AllocError>
-    ensures { IfOk result (λ all. all ≡ and_line items.entry line.now) }
-{
-    let text = without_spaces(line);
-    if text.is_empty() {
-        return Ok(items);
-    }
-    let Some(mut items) = items else {
-        return Ok(None);
-    };
-    let Some(item) = parse_item(text) else {
-        return Ok(None);
-    };
-    items.push(item)?;
-    Ok(Some(items))
-}
-
-// What was made of the lines of a block, the place behind it, and whether its closing line is there.
-struct Block<T> {
-    content: T,
-    next: usize,
-    closed: bool,
-}
-
-// The block of a batch: its messages, or `None` where a line is wrong.
-fn read_items<'a>(
-    alloc: Global,
-    script: &'a [u8],
-    start: usize,
-) -> Result<Block<Option<Items<'a>>>, AllocError>
-    requires { start ≤ length script.now }
-    ensures block { IfOk result (λ read. (block : List (List ℕ)) × (read.content ≡ spec.items_of block)
-        × IsBlock script.now start (codes "end") block read.closed read.next) }
-    ensures within { IfOk result (λ read. (start ≤ read.next) × (read.next ≤ length script.now)) }
-{
-    let mut items = Some(Items::new(alloc));
-    let mut at = start;
-    while at < script.len() {
-        let (bytes, next) = next_line(script, at);
-        let line = without_return(bytes);
-        if is_word(line, b"end") {
-            return Ok(Block {
-                content: items,
-                next,
-                closed: true,
-            });
-        }
-        items = and_item(items, line)?;
-        at = next;
-    }
-    Ok(Block {
-        content: items,
-        next: script.len(),
-        closed: false,
-    })
-}
-
-// Bounds and that of one line more, which begins with its word.
-fn with_bound<'a>(bounds: Bounds<'a>, text: &'a [u8]) -> Option<Bounds<'a>>
-    ensures { result ≡ spec.with_bound bounds.entry text.now }
-{
-    let Bounds { from, to } = bounds;
-    if let Some(record) = behind_prefix(b"from ", text) {
-        if from.is_some() || to.is_some() {
-            return None;
-        }
-        let from = RecordLine::new(record)?;
-        return Some(Bounds {
-            from: Some(from),
-            to: None,
-        });
-    }
-    if to.is_some() {
-        return None;
-    }
-    let to = record_behind(b"to ", text)?;
-    Some(Bounds { from, to: Some(to) })
-}
-
-// Bounds and that of one line more, which has no carriage return at its end.
-fn and_bound<'a>(bounds: Option<Bounds<'a>>, line: &'a [u8]) -> Option<Bounds<'a>>
-    ensures { result ≡ spec.and_bound bounds.entry line.now }
-{
-    if is_blank(line) {
-        return bounds;
-    }
-    with_bound(bounds?, without_spaces(line))
-}
-
-// The block of a scan or of sums: its bounds, or `None` where a line is wrong.
-fn read_bounds<'a>(script: &'a [u8], start: usize) -> Block<Option<Bounds<'a>>>
-    requires { start ≤ length script.now }
-    ensures block { (block : List (List ℕ)) × (result.content ≡ spec.bounds_of block)
-        × IsBlock script.now start (codes "go") block result.closed result.next }
-    ensures within { (start ≤ result.next) × (result.next ≤ length script.now) }
-{
-    let mut bounds = Some(Bounds {
-        from: None,
-        to: None,
-    });
-    let mut at = start;
-    while at < script.len() {
-        let (bytes, next) = next_line(script, at);
-        let line = without_return(bytes);
-        if is_word(line, b"go") {
-            return Block {
-                content: bounds,
-                next,
-                closed: true,
-            };
-        }
-        bounds = and_bound(bounds, line);
-        at = next;
-    }
-    Block {
-        content: bounds,
-        next: script.len(),
-        closed: false,
-    }
-}
 
 fn parse_kind(word: &[u8]) -> Option<Kind>
     ensures { result ≡ spec.kind_of word.now }
@@ -276,6 +101,16 @@ fn batch_command<'a>(words: &[&[u8]], items: Option<Items<'a>>) -> Option<Comman
     }
 }
 
+fn load_command<'a>(words: &[&[u8]], text: BlockText<'a>) -> Option<Command<'a>>
+    ensures { result ≡ spec.load_of (map (λ w. w.now) words.now) text.entry }
+{
+    if words.len() == 1 {
+        Some(Command::Load(text))
+    } else {
+        None
+    }
+}
+
 fn scan_command<'a>(
     alloc: Global,
     words: &[&[u8]],
@@ -332,26 +167,40 @@ fn get_command(head: &[u8]) -> Option<Command<'_>>
     record_behind(b"get ", without_spaces(head)).map(Command::Get)
 }
 
-fn image_command<'a>(alloc: Global, words: &[&[u8]]) -> Result<Option<Command<'a>>, AllocError>
-    ensures { IfOk result (λ command. command ≡ spec.image_of (map (λ w. w.now) words.now)) }
+// The name that stands behind the first word, with no other word behind it.
+fn only_name(alloc: Global, words: &[&[u8]]) -> Result<Option<Text>, AllocError>
+    ensures { IfOk result (λ name. name ≡ spec.only_name (map (λ w. w.now) words.now)) }
 {
     if words.len() != 2 {
         return Ok(None);
     }
-    match parse_name(alloc, word_at(words, 1))? {
-        Some(tree) => Ok(Some(Command::Image(tree))),
-        None => Ok(None),
-    }
+    parse_name(alloc, word_at(words, 1))
 }
 
-fn drop_command<'a>(alloc: Global, words: &[&[u8]]) -> Result<Option<Command<'a>>, AllocError>
-    ensures { IfOk result (λ command. command ≡ spec.drop_of (map (λ w. w.now) words.now)) }
+// The command that a name makes with the word before it.
+fn command_on<'a>(words: &[&[u8]], name: Text) -> Option<Command<'a>>
+    ensures { result ≡ spec.command_on (map (λ w. w.now) words.now) name }
 {
-    if words.len() != 2 {
-        return Ok(None);
+    if begins(words, b"image") {
+        return Some(Command::Image(name));
     }
-    match parse_name(alloc, word_at(words, 1))? {
-        Some(name) => Ok(Some(Command::Drop(name))),
+    if begins(words, b"drop") {
+        return Some(Command::Drop(name));
+    }
+    if begins(words, b"drain") {
+        return Some(Command::Drain(name));
+    }
+    if begins(words, b"rebuild") {
+        return Some(Command::Rebuild(name));
+    }
+    None
+}
+
+fn named_command<'a>(alloc: Global, words: &[&[u8]]) -> Result<Option<Command<'a>>, AllocError>
+    ensures { IfOk result (λ command. command ≡ spec.named_of (map (λ w. w.now) words.now)) }
+{
+    match only_name(alloc, words)? {
+        Some(name) => Ok(command_on(words, name)),
         None => Ok(None),
     }
 }
@@ -579,6 +428,24 @@ fn parse_sums<'a>(
     Ok(parsed(command, closed, next))
 }
 
+fn parse_load<'a>(script: &'a [u8], head: &[u8], words: &[&[u8]], at: usize) -> Parsed<'a>
+    requires within { at ≤ length script.now }
+    requires words { map (λ w. w.now) words.now ≡ text.words head.now }
+    requires no_batch { spec.begins (map (λ w. w.now) words.now) (codes "batch") ≡ false }
+    requires no_scan { spec.begins (map (λ w. w.now) words.now) (codes "scan") ≡ false }
+    requires no_sums { spec.begins (map (λ w. w.now) words.now) (codes "sums") ≡ false }
+    requires load { spec.begins (map (λ w. w.now) words.now) (codes "load") ≡ true }
+    ensures found { FindsHeaded result script.now head.now at }
+    ensures past { NextBehind result script.now at }
+{
+    let Block {
+        content,
+        next,
+        closed,
+    } = read_text(script, at);
+    parsed(load_command(words, content), closed, next)
+}
+
 // The command of a head line that has no block.
 #[tactic(auto, unfolding(crate::specs::Commands::command_of))]
 fn line_command<'a>(
@@ -590,6 +457,7 @@ fn line_command<'a>(
     requires no_batch { spec.begins (map (λ w. w.now) words.now) (codes "batch") ≡ false }
     requires no_scan { spec.begins (map (λ w. w.now) words.now) (codes "scan") ≡ false }
     requires no_sums { spec.begins (map (λ w. w.now) words.now) (codes "sums") ≡ false }
+    requires no_load { spec.begins (map (λ w. w.now) words.now) (codes "load") ≡ false }
     ensures { IfOk result (λ command. command ≡ spec.command_of head.now []) }
 {
     if begins(words, b"table") {
@@ -598,16 +466,10 @@ fn line_command<'a>(
     if begins(words, b"get") {
         return Ok(get_command(head));
     }
-    if begins(words, b"image") {
-        return image_command(alloc, words);
-    }
     if begins(words, b"index") {
         return index_command(alloc, head, words);
     }
-    if begins(words, b"drop") {
-        return drop_command(alloc, words);
-    }
-    Ok(None)
+    named_command(alloc, words)
 }
 
 fn parse_line<'a>(
@@ -620,6 +482,7 @@ fn parse_line<'a>(
     requires no_batch { spec.begins (map (λ w. w.now) words.now) (codes "batch") ≡ false }
     requires no_scan { spec.begins (map (λ w. w.now) words.now) (codes "scan") ≡ false }
     requires no_sums { spec.begins (map (λ w. w.now) words.now) (codes "sums") ≡ false }
+    requires no_load { spec.begins (map (λ w. w.now) words.now) (codes "load") ≡ false }
     ensures found { IfOk result (λ parsed. (script : List ℕ) → FindsHeaded parsed script head.now at) }
     ensures past { IfOk result (λ parsed. (before : ℕ) (script : List ℕ) → before < at → at ≤ length script → spec.NextPast parsed before script) }
 {
@@ -647,6 +510,9 @@ fn parse_headed<'a>(
     }
     if begins(&words, b"sums") {
         return parse_sums(alloc, script, head, &words, at);
+    }
+    if begins(&words, b"load") {
+        return Ok(parse_load(script, head, &words, at));
     }
     parse_line(alloc, head, &words, at)
 }

@@ -41,6 +41,7 @@ impl From<AllocError> for WordsError {
 const COMMANDS: &str = "\
 A script is a list of commands:
   table F C L K name:kind ..  makes the table: fanout, buffer and leaf of its tree, number of key columns, columns
+  load                        fills an empty table with the CSV lines up to '.', of which the first one names the columns
   batch                       applies the lines up to 'end': put RECORD, del KEY, ups KEY,OPERATIONS
   get KEY                     prints the row of a key
   scan TREE                   prints the rows of a tree, in the bounds of the lines up to 'go': from KEY, to KEY
@@ -48,6 +49,8 @@ A script is a list of commands:
   image TREE                  prints the nodes of a tree: 'primary', or an index
   index NAME on COLUMNS ..    makes an index: include COLUMNS, where COLUMN = < or >= RECORD
   drop NAME                   takes an index away
+  drain TREE                  empties the buffers of a tree
+  rebuild TREE                packs the rows of a tree anew
 A command that cannot be carried out is answered by 'refused', a number and a name.
 docs/SCRIPT.md has the whole language, and examples/ has scripts.";
 

@@ -10,5 +10,6 @@ returns-clause-found c = λ (script : List ℕ).
     let no_batch = rw c.requires.words at c.requires.no_batch in
     let no_scan = rw c.requires.words at c.requires.no_scan in
     let no_sums = rw c.requires.words at c.requires.no_sums in
-    let all = headed-line head (lines (drop c.args.at script)) c.in_ok-command.command no_batch no_scan no_sums c.in_ok-command.ensures in
+    let no_load = rw c.requires.words at c.requires.no_load in
+    let all = headed-line head (lines (drop c.args.at script)) c.in_ok-command.command no_batch no_scan no_sums no_load c.in_ok-command.ensures in
     subst (Finds c.parsed.result script) (sym all) (c.parsed.ensures.found script)

@@ -3,7 +3,7 @@ use Rattle.bt_script.specs.Commands.{and_bound, bounds_of, unbounded}
 use Rattle.bt_script.specs.Lines.{without_return}
 use Rattle.bt_script.specs.declared.command.Bounds.{Bounds}
 use Rattle.bt_script.proofs.Machine.{bounds-more, leads-closed, leads-cut, leads-more, tested}
-use Rattle.bt_script.proofs.parse.read_bounds.Goals as goal
+use Rattle.bt_script.proofs.blocks.read_bounds.Goals as goal
 
 no_bounds : bounds_of [] ≡ Some unbounded
 unfolding bounds_of

@@ -4,7 +4,7 @@ use Rattle.bt_script.specs.Commands.{items_of}
 use Rattle.bt_script.specs.Lines.{without_return}
 use Rattle.bt_rowtype.specs.declared.item.Item.{Item}
 use Rattle.bt_script.proofs.Machine.{items-more, leads-closed, leads-cut, leads-more, tested}
-use Rattle.bt_script.proofs.parse.read_items.Goals as goal
+use Rattle.bt_script.proofs.blocks.read_items.Goals as goal
 
 no_items : items_of [] ≡ Some []
 unfolding items_of

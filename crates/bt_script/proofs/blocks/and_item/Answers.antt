@@ -3,7 +3,7 @@ use Rattle.bt_script.specs.Blocks.{with_last}
 use Rattle.bt_script.specs.Commands.{item_from}
 use Rattle.bt_rowtype.specs.declared.item.Item.{Item}
 use Rattle.bt_script.proofs.Blanks.{and-blank, and-item}
-use Rattle.bt_script.proofs.parse.and_item.Goals as goal
+use Rattle.bt_script.proofs.blocks.and_item.Goals as goal
 
 pub returns-then-is_empty : goal.returns-then-is_empty
 returns-then-is_empty c = sym (and-blank c.args.items c.args.line.now c.without_spaces-text.result.now c.without_spaces-text.ensures (sym c.is_empty.ensures ∙ c.if-is_empty.true))

@@ -1,7 +1,7 @@
 use Rattle.std.proofs.Common.{length, ◌-◌, ◌≡◌, ◌≤◌, codes, ℕ, List}
 use Rattle.bt_script.proofs.Machine.{Leads}
 use Rattle.bt_script.specs.Commands.{bounds_of}
-use Rattle.bt_script.proofs.parse.read_bounds.Given as goal
+use Rattle.bt_script.proofs.blocks.read_bounds.Given as goal
 
 -- the lines so far are those of a block; what stands from the start on is what stands from here on behind them
 abbrev pub invariant-loop-at : goal.invariant-loop-at

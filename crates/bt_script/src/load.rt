@@ -1,0 +1,61 @@
+//! The block of a load.
+ghost use Rattle.std.specs.Prelude.{◌≡◌, ◌≤◌, List, codes, length, true, ℕ};
+ghost use Rattle.bt_script.specs.Blocks.{IsBlock};
+ghost use Rattle.bt_script.specs.Lines.{text_of};
+
+use crate::blocks::Block;
+use crate::lines::{is_word, next_line, without_return};
+use std::marker::Model;
+
+/// The text of a block as it stands in the script, with its line breaks. A contract sees its bytes.
+#[derive(Drop)]
+pub struct BlockText<'a> {
+    bytes: &'a [u8],
+}
+
+impl<'a> Model for BlockText<'a> {
+    ghost use Rattle.std.specs.Prelude.{List, ℕ};
+
+    ghost Value = { List ℕ };
+
+    ghost view = { λ t. t.bytes.now };
+}
+
+impl<'a> BlockText<'a> {
+    /// The bytes, which the script lends.
+    pub fn as_bytes(&self) -> &'a [u8]
+        ensures { result.now ≡ self.now }
+    {
+        self.bytes
+    }
+}
+
+/// The block of a load: its text, or all that the script has left where no line closes it. No memory is taken.
+pub fn read_text(script: &[u8], start: usize) -> Block<BlockText<'_>>
+    requires { start ≤ length script.now }
+    ensures block { (block : List (List ℕ)) × (result.closed ≡ true → result.content ≡ text_of block)
+        × IsBlock script.now start (codes ".") block result.closed result.next }
+    ensures within { (start ≤ result.next) × (result.next ≤ length script.now) }
+{
+    let mut at = start;
+    while at < script.len() {
+        let (line, next) = next_line(script, at);
+        if is_word(without_return(line), b".") {
+            return Block {
+                content: BlockText {
+                    bytes: &script[start..at],
+                },
+                next,
+                closed: true,
+            };
+        }
+        at = next;
+    }
+    Block {
+        content: BlockText {
+            bytes: &script[start..],
+        },
+        next: script.len(),
+        closed: false,
+    }
+}
