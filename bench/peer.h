@@ -3,6 +3,7 @@
 // A peer is an engine with these members, and a main that calls run<Engine>:
 //   explicit Engine(const Table &);           the table has its columns by now
 //   void apply(const Batch &);                the messages in order, as one transaction
+//   void load(const Batch &);                 puts of new keys alone, into an empty table, as one transaction
 //   bool get(const Value *key, Value *row);   whether there is a row
 //   void scan(const Range &, each);           calls each(const Value *row) by rising key
 //   void sums(const Range &, const Grouping &, each);   calls each(int64_t count, int64_t total, const Value *group)
@@ -175,6 +176,7 @@ inline std::vector<uint32_t> order_of(const Table &table, const Batch &batch) {
 // An engine over a store of keys and values:
 //   void begin();  void commit();
 //   bool get(View key, View &value);   void put(View key, View value);   void del(View key);
+//   void append(View key, View value);   a key behind all others
 //   void scan(View from, View to, each);   calls each(View key, View value); an empty bound is none
 template <class Store>
 class OverStore {
@@ -186,9 +188,12 @@ class OverStore {
     key.clear();
     for (size_t c = 0; c < table.keys; c++) add_code(key, table.kinds[c], row[c]);
   }
-  void put(const Value *row) {
+  void set_value(const Value *row) {
     value.clear();
     for (size_t c = table.keys; c < table.columns(); c++) add_packed(value, table.kinds[c], row[c]);
+  }
+  void put(const Value *row) {
+    set_value(row);
     store.put(key, value);
   }
   void read_value(View bytes, Value *row) {
@@ -216,6 +221,15 @@ class OverStore {
         change(batch, m, row);
         put(row);
       }
+    }
+    store.commit();
+  }
+  void load(const Batch &batch) {
+    store.begin();
+    for (uint32_t at : order_of(table, batch)) {
+      const Value *row = batch.row(batch.messages[at]);
+      set_key(row), set_value(row);
+      store.append(key, value);
     }
     store.commit();
   }
@@ -407,6 +421,22 @@ inline void read_batch(Script &script, const Table &table, std::vector<View> &fi
   }
 }
 
+// The records of a load behind its header, up to its closing line, as puts. A field in quotes may hold line breaks; the workloads
+// have no other quotes, no blank line and no carriage return.
+inline void read_load(Script &script, const Table &table, std::vector<View> &fields, Batch &batch) {
+  View line, more;
+  batch.messages.clear(), batch.values.clear(), batch.operations.clear();
+  if (!script.next(line)) fail("a load without its header");
+  while (script.next(line) && line != ".") {
+    while (std::count(line.begin(), line.end(), '"') % 2 && script.next(more))
+      line = View(line.data(), size_t(more.data() + more.size() - line.data()));
+    batch.messages.push_back({Message::Put, uint32_t(batch.values.size()), 0, 0});
+    script.read_record(line, fields);
+    if (fields.size() != table.columns()) fail("a wrong number of fields: " + std::string(line));
+    for (size_t c = 0; c < fields.size(); c++) batch.values.push_back(read_value(table.kinds[c], fields[c]));
+  }
+}
+
 // The bounds of a block, up to its closing line.
 inline void read_range(Script &script, const Table &table, std::vector<View> &fields, Range &range) {
   View line;
@@ -440,6 +470,16 @@ int run(int count, char **words) {
       engine.apply(batch);
       script.forget();
       replies.add("batch ").add(int64_t(batch.messages.size())).end_line();
+    } else if (line == "load") {
+      read_load(script, table, fields, batch);
+      engine.load(batch);
+      script.forget();
+      replies.add("loaded ").add(int64_t(batch.messages.size())).end_line();
+      batch = Batch();
+    } else if (line == "drain primary") {  // a peer has no buffers, and nothing to pack
+      replies.add("drained primary").end_line();
+    } else if (line == "rebuild primary") {
+      replies.add("rebuilt primary").end_line();
     } else if (line.substr(0, 4) == "get ") {
       script.read_record(line.substr(4), fields);
       for (size_t c = 0; c < table.keys; c++) key[c] = read_value(table.kinds[c], fields.at(c));

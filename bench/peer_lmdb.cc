@@ -48,10 +48,11 @@ class Store {
     value = view(found);
     return true;
   }
-  void put(View key, View value) {
+  void put(View key, View value, unsigned flags = 0) {
     MDB_val at = of(key), bytes = of(value);
-    check(mdb_cursor_put(cursor, &at, &bytes, 0));
+    check(mdb_cursor_put(cursor, &at, &bytes, flags));
   }
+  void append(View key, View value) { put(key, value, MDB_APPEND); }
   void del(View key) {
     MDB_val at = of(key), found;
     if (mdb_cursor_get(cursor, &at, &found, MDB_SET) == 0) check(mdb_cursor_del(cursor, 0));

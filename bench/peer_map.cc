@@ -16,6 +16,7 @@ class Store {
     return true;
   }
   void put(View key, View value) { rows.insert_or_assign(std::string(key), std::string(value)); }
+  void append(View key, View value) { rows.emplace_hint(rows.end(), key, value); }
   void del(View key) {
     auto found = rows.find(key);
     if (found != rows.end()) rows.erase(found);

@@ -8,7 +8,7 @@
 class Sqlite {
   const Table &table;
   sqlite3 *db = nullptr;
-  sqlite3_stmt *put = nullptr, *del = nullptr, *find = nullptr;
+  sqlite3_stmt *put = nullptr, *insert = nullptr, *del = nullptr, *find = nullptr;
   std::unordered_map<std::string, sqlite3_stmt *> upserts;  // by operation and column
   std::unordered_map<std::string, sqlite3_stmt *> ranges;   // by the lengths of the bounds, and how rows are grouped
   std::deque<std::string> held;                             // texts of the last get
@@ -28,6 +28,9 @@ class Sqlite {
   }
   void bind_key(sqlite3_stmt *statement, const Value *key) {
     for (size_t c = 0; c < table.keys; c++) bind(statement, c + 1, table.kinds[c], key[c]);
+  }
+  void bind_row(sqlite3_stmt *statement, const Value *row) {
+    for (size_t c = 0; c < table.columns(); c++) bind(statement, c + 1, table.kinds[c], row[c]);
   }
   void step_once(sqlite3_stmt *statement) { check(sqlite3_step(statement)), check(sqlite3_reset(statement)); }
   void read_row(sqlite3_stmt *statement, Value *row, size_t columns) {
@@ -106,6 +109,7 @@ class Sqlite {
     execute("CREATE TABLE t(" + columns + (is_rowid ? ")" : ", PRIMARY KEY(" + first_names(table.keys) + ")) WITHOUT ROWID"));
     std::string is_key = " WHERE " + listed(0, table.keys, " AND ", [&](size_t c) { return name(c) + "=?"; });
     put = prepare("REPLACE INTO t VALUES(" + marks(table.columns()) + ")");
+    insert = prepare("INSERT INTO t VALUES(" + marks(table.columns()) + ")");
     del = prepare("DELETE FROM t" + is_key);
     find = prepare("SELECT * FROM t" + is_key);
   }
@@ -115,13 +119,21 @@ class Sqlite {
       const Message &m = batch.messages[at];
       const Value *row = batch.row(m);
       sqlite3_stmt *statement = m.kind == Message::Put ? put : m.kind == Message::Del ? del : upsert(batch, m);
-      bind_key(statement, row);
-      for (size_t c = table.keys; m.kind == Message::Put && c < table.columns(); c++) bind(statement, c + 1, table.kinds[c], row[c]);
+      m.kind == Message::Put ? bind_row(statement, row) : bind_key(statement, row);
       for (size_t i = 0; i < m.operation_count; i++) {
         const Operation &o = batch.operations[m.operations + i];
         bind(statement, table.keys + i + 1, table.kinds[o.column], o.argument);
       }
       step_once(statement);
+    }
+    execute("COMMIT");
+  }
+  // Rows by rising key, which SQLite adds at the end of its tree.
+  void load(const Batch &batch) {
+    execute("BEGIN");
+    for (uint32_t at : order_of(table, batch)) {
+      bind_row(insert, batch.row(batch.messages[at]));
+      step_once(insert);
     }
     execute("COMMIT");
   }

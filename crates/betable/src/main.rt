@@ -4,9 +4,10 @@
 use bt_rowtype::Texts;
 use bt_shell::{Counted, ProgramFault, RunFault, program, read_words};
 use std::alloc::Global;
-use std::io::{BufWriter, ErrorKind, IsTerminal, Write};
+use std::io::{BufWriter, ErrorKind, IsTerminal, Read, Write};
 use std::process::ExitCode;
-use std::rt::Env;
+use std::rt::{Env, Files};
+use std::thread::Threads;
 use std::{env, io};
 
 // The words of the command line, the program's name first. A word that is no UTF-8 makes it faulty.
@@ -35,9 +36,13 @@ fn names_no_file(alloc: Global, words: &Texts) -> bool {
 
 // Passes the words and the streams on. Replies leave through a buffer. At a terminal, who started the program is told what
 // it waits for; an error of that stream is let go.
-fn run<E: Write>(rt: &HostRuntime, errors: &mut E) -> Result<u8, ProgramFault> {
+fn run<R, I, E>(rt: &R, input: I, errors: &mut E) -> Result<u8, ProgramFault>
+where
+    R: Env + Files + AllocGlobal + Print + Threads + Sync,
+    I: Read + IsTerminal + Drop,
+    E: Write,
+{
     let words = words_of(rt)?;
-    let input = rt.reader();
     if input.is_terminal() && names_no_file(rt.alloc(), &words) {
         let _ = writeln!(
             errors,
@@ -58,7 +63,7 @@ fn run<E: Write>(rt: &HostRuntime, errors: &mut E) -> Result<u8, ProgramFault> {
 
 fn main(rt: HostRuntime) -> ExitCode {
     let mut errors = rt.stderr();
-    let status = match run(&rt, &mut errors) {
+    let status = match run(&rt, rt.reader(), &mut errors) {
         Ok(status) => status,
         Err(fault) => fault.report(&mut errors),
     };

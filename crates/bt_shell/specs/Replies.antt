@@ -7,7 +7,7 @@ use Rattle.bt_rowtype.specs.Values.{text_of}
 use Rattle.bt_rowtype.specs.declared.refusal.Refusal.{Refusal}
 use Rattle.bt_rowtype.specs.declared.value.Value.{Value}
 use Rattle.bt_table.specs.declared.reply.Reply.{Reply}
-use Rattle.bt_table.specs.declared.reply.Reply.TheVariants.{Batch, Created, Dropped, Row}
+use Rattle.bt_table.specs.declared.reply.Reply.TheVariants.{Batch, Created, Drained, Dropped, Loaded, Rebuilt, Row}
 use Rattle.bt_table.specs.declared.reply.SentCount.{SentCount}
 use Rattle.bt_view.specs.declared.groups.Sum.{Sum}
 
@@ -58,6 +58,9 @@ reply_text (Batch count sent) = batch_reply count sent
 reply_text (Row row) = row_reply row
 reply_text (Created name) = name_line (codes "index ") name
 reply_text (Dropped name) = name_line (codes "dropped ") name
+reply_text (Loaded count) = count_line (codes "loaded ") count
+reply_text (Drained name) = name_line (codes "drained ") name
+reply_text (Rebuilt name) = name_line (codes "rebuilt ") name
 
 -- the item of a refusal behind a space, where it has one
 abbrev pub item_text : Option ℕ → List ℕ

@@ -13,6 +13,7 @@ use bt_script::{Counted, RunFault, SCRIPT_LIMIT, WordsError, read_words, write_t
 use std::alloc::AllocError;
 use std::io::{Read, Write};
 use std::rt::Files;
+use std::thread::Threads;
 use std::{fs, mem};
 use thiserror::Error;
 
@@ -67,7 +68,7 @@ impl ProgramFault {
 }
 
 // Runs the script of a file. One that does not open is a read that fails.
-fn run_file<R: Files + AllocGlobal, W: Write>(
+fn run_file<R: Files + AllocGlobal + Threads + Sync, W: Write>(
     rt: &R,
     path: &str,
     session: &mut Session,
@@ -85,11 +86,11 @@ fn run_file<R: Files + AllocGlobal, W: Write>(
     let Ok(file) = fs::open(rt, path) else {
         return Err(RunFault::Read);
     };
-    session.run(rt.alloc(), &mut Counted::new(file), output)
+    session.run(rt, rt.alloc(), &mut Counted::new(file), output)
 }
 
 // Does what the words ask for. After a fault what was written is not flushed.
-fn run_words<R: Files + AllocGlobal, I: Read, W: Write>(
+fn run_words<R: Files + AllocGlobal + Threads + Sync, I: Read, W: Write>(
     rt: &R,
     words: &Texts,
     session: &mut Session,
@@ -124,14 +125,14 @@ fn run_words<R: Files + AllocGlobal, I: Read, W: Write>(
         Err(WordsError::OutOfMemory) => return Err(ProgramFault::Run(RunFault::OutOfMemory)),
     };
     match &said.script {
-        None => session.run(rt.alloc(), input, output)?,
+        None => session.run(rt, rt.alloc(), input, output)?,
         Some(path) => run_file(rt, path.as_str(), session, output)?,
     }
     Ok(())
 }
 
 // Does what the words ask for, and flushes what was written, also after a fault.
-fn answer<R: Files + AllocGlobal, I: Read, W: Write>(
+fn answer<R: Files + AllocGlobal + Threads + Sync, I: Read, W: Write>(
     rt: &R,
     words: &Texts,
     session: &mut Session,
@@ -171,7 +172,7 @@ fn answer<R: Files + AllocGlobal, I: Read, W: Write>(
 ///
 /// Where the words name no file, the input is the script: with status 0 the output has gained its replies, and with any
 /// other status a prefix of them.
-pub fn program<R: Files + AllocGlobal, I: Read, W: Write, E: Write>(
+pub fn program<R: Files + AllocGlobal + Threads + Sync, I: Read, W: Write, E: Write>(
     rt: &R,
     words: &Texts,
     input: &mut Counted<I>,

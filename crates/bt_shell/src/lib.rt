@@ -8,7 +8,7 @@
 //! ```text
 //! let mut reader = Counted::new(b"table 4 3 2 1 id:int qty:int\nbatch\nput 1,10\nend\n".as_slice());
 //! let mut writer = Counted::new(Vec::new(alloc));
-//! run_script(alloc, &mut reader, &mut writer)?;        // table 2, batch 1
+//! run_script(&rt, alloc, &mut reader, &mut writer)?;        // table 2, batch 1
 //! ```
 #![tactic(auto)]
 
@@ -18,8 +18,8 @@ mod run;
 mod session;
 
 pub use bt_script::{
-    Bounds, Command, Counted, IndexForm, Items, Parsed, RunFault, SCRIPT_LIMIT, SumsForm,
-    TableForm, Words, WordsError, parse_command, read_words,
+    BlockText, Bounds, Command, Counted, IndexForm, Items, Parsed, RunFault, SCRIPT_LIMIT,
+    SumsForm, TableForm, Words, WordsError, parse_command, read_words,
 };
 pub use entry::{ProgramFault, program};
 pub use run::run_script;

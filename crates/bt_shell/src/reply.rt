@@ -100,6 +100,9 @@ pub fn reply_text(alloc: Global, reply: Reply) -> Result<Vec<u8>, AllocError>
         Reply::Row(row) => row_reply(alloc, row),
         Reply::Created(name) => name_reply(alloc, b"index ", &name),
         Reply::Dropped(name) => name_reply(alloc, b"dropped ", &name),
+        Reply::Loaded(count) => count_reply(alloc, b"loaded ", count),
+        Reply::Drained(name) => name_reply(alloc, b"drained ", &name),
+        Reply::Rebuilt(name) => name_reply(alloc, b"rebuilt ", &name),
     }
 }
 

@@ -10,6 +10,7 @@ use bt_script::{Counted, RunFault, SCRIPT_LIMIT, read_script, write_text};
 use bt_table::Table;
 use std::alloc::Global;
 use std::io::{Read, Write};
+use std::thread::Threads;
 
 // Flushes what was written. A flush that fails is a failed write.
 pub(crate) fn flush<W: Write>(writer: &mut Counted<W>) -> Result<(), RunFault>
@@ -26,6 +27,7 @@ pub(crate) fn flush<W: Write>(writer: &mut Counted<W>) -> Result<(), RunFault>
 
 // Writes the replies to the commands of a script, and flushes them. The commands begin with no table.
 fn write_replies<W: Write>(
+    rt: &(impl Threads + Sync),
     alloc: Global,
     script: &[u8],
     table: &mut Option<Table>,
@@ -40,7 +42,7 @@ fn write_replies<W: Write>(
 {
     *table = None;
     let mut at = 0;
-    'commands: while let Some(step) = next_reply(alloc, script, table, at)? {
+    'commands: while let Some(step) = next_reply(rt, alloc, script, table, at)? {
         write_text(writer, step.text.as_slice())?;
         at = step.next;
     }
@@ -67,6 +69,7 @@ impl Session {
     // Runs a script, as `run_script` says, whatever the session had before.
     pub(crate) fn run<R: Read, W: Write>(
         &mut self,
+        rt: &(impl Threads + Sync),
         alloc: Global,
         reader: &mut Counted<R>,
         writer: &mut Counted<W>,
@@ -85,7 +88,7 @@ impl Session {
         ensures at_most { GaveAtMost R.remaining reader.old reader.new (SCRIPT_LIMIT + 1) }
     {
         self.script = read_script(alloc, reader)?;
-        write_replies(alloc, self.script.as_slice(), &mut self.table, writer)
+        write_replies(rt, alloc, self.script.as_slice(), &mut self.table, writer)
     }
 }
 
@@ -94,7 +97,9 @@ impl Session {
 /// What is written are the replies that the script has by the definition `run` for the bytes that the reader had, and after
 /// a fault a prefix of them. `Read`: the reader failed, or gave a byte over [`SCRIPT_LIMIT`], and nothing is written.
 /// `Write`: the writer failed. `OutOfMemory`: a request for memory was refused; the command at hand has written nothing.
+/// The records of a load are read and sorted in threads of the runtime.
 pub fn run_script<R: Read, W: Write>(
+    rt: &(impl Threads + Sync),
     alloc: Global,
     reader: &mut Counted<R>,
     writer: &mut Counted<W>,
@@ -119,5 +124,5 @@ pub fn run_script<R: Read, W: Write>(
     // No more than one byte over the limit is read.
     ensures at_most { GaveAtMost R.remaining reader.old reader.new (SCRIPT_LIMIT + 1) }
 {
-    Session::new(alloc).run(alloc, reader, writer)
+    Session::new(alloc).run(rt, alloc, reader, writer)
 }

@@ -11,9 +11,12 @@ use crate::reply::{Lines, count_reply, refusal_reply, reply_text};
 use bt_fanout::IndexDef;
 use bt_node::Shape;
 use bt_rowtype::{RecordLine, Refusal, Schema, Text, least_with};
-use bt_script::{Bounds, Command, IndexForm, Items, Parsed, SumsForm, TableForm, parse_command};
+use bt_script::{
+    BlockText, Bounds, Command, IndexForm, Items, Parsed, SumsForm, TableForm, parse_command,
+};
 use bt_table::Table;
 use std::alloc::{AllocError, Global};
+use std::thread::Threads;
 
 // Makes the table.
 fn create_table(
@@ -157,8 +160,50 @@ fn image(alloc: Global, table: &Option<Table>, name: &Text) -> Result<Vec<u8>, R
     bt_view::image(alloc, table, name)
 }
 
+// Loads the records of a text.
+fn load(
+    rt: &(impl Threads + Sync),
+    alloc: Global,
+    table: &mut Option<Table>,
+    text: &BlockText<'_>,
+) -> Result<Vec<u8>, Refusal>
+    ensures done { IfOk result (λ reply. step.IsDone table.old table.new (command.Load text.now) reply.items) }
+    ensures refused { IfErr result (step.IsRefused table.old table.new (command.Load text.now)) }
+{
+    let Some(table) = table else {
+        return Err(Refusal::NoTable);
+    };
+    let reply = table.load(rt, alloc, text.as_bytes())?;
+    Ok(reply_text(alloc, reply)?)
+}
+
+// Flushes every buffer of a tree.
+fn drain(alloc: Global, table: &mut Option<Table>, name: &Text) -> Result<Vec<u8>, Refusal>
+    ensures done { IfOk result (λ text. step.IsDone table.old table.new (command.Drain name.now) text.items) }
+    ensures refused { IfErr result (step.IsRefused table.old table.new (command.Drain name.now)) }
+{
+    let Some(table) = table else {
+        return Err(Refusal::NoTable);
+    };
+    let reply = table.drain(alloc, name)?;
+    Ok(reply_text(alloc, reply)?)
+}
+
+// Builds a tree anew.
+fn rebuild(alloc: Global, table: &mut Option<Table>, name: &Text) -> Result<Vec<u8>, Refusal>
+    ensures done { IfOk result (λ text. step.IsDone table.old table.new (command.Rebuild name.now) text.items) }
+    ensures refused { IfErr result (step.IsRefused table.old table.new (command.Rebuild name.now)) }
+{
+    let Some(table) = table else {
+        return Err(Refusal::NoTable);
+    };
+    let reply = table.rebuild(alloc, name)?;
+    Ok(reply_text(alloc, reply)?)
+}
+
 // The reply to a command that is not refused, or its refusal.
 fn answer(
+    rt: &(impl Threads + Sync),
     alloc: Global,
     table: &mut Option<Table>,
     command: Command<'_>,
@@ -175,11 +220,15 @@ fn answer(
         Command::Image(tree) => image(alloc, table, &tree),
         Command::Index(form) => create_index(alloc, table, form),
         Command::Drop(name) => drop_index(alloc, table, &name),
+        Command::Load(text) => load(rt, alloc, table, &text),
+        Command::Drain(tree) => drain(alloc, table, &tree),
+        Command::Rebuild(tree) => rebuild(alloc, table, &tree),
     }
 }
 
 // The reply to a command, and what the command does. An `Err` is for want of memory.
 fn take_turn(
+    rt: &(impl Threads + Sync),
     alloc: Global,
     table: &mut Option<Table>,
     command: Command<'_>,
@@ -187,7 +236,7 @@ fn take_turn(
     ensures text { IfOk result (λ text. text.items ≡ (step.turn table.old (Ok command.entry)).1) }
     ensures state { OnOk result (table.new ≡ (step.turn table.old (Ok command.entry)).0) }
 {
-    match answer(alloc, table, command) {
+    match answer(rt, alloc, table, command) {
         Ok(text) => Ok(text),
         Err(Refusal::OutOfMemory) => Err(AllocError),
         Err(refusal) => refusal_reply(alloc, refusal),
@@ -203,6 +252,7 @@ pub struct Step {
 
 /// The reply to the command that stands at a place, or `None` where no further one does. An `Err` is for want of memory.
 pub fn next_reply(
+    rt: &(impl Threads + Sync),
     alloc: Global,
     script: &[u8],
     table: &mut Option<Table>,
@@ -219,7 +269,7 @@ pub fn next_reply(
             Ok(Some(Step { text, next }))
         }
         Parsed::Good { command, next } => {
-            let text = take_turn(alloc, table, command)?;
+            let text = take_turn(rt, alloc, table, command)?;
             Ok(Some(Step { text, next }))
         }
     }

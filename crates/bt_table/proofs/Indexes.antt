@@ -1,5 +1,5 @@
 -- What a batch sends to the indexes of a table, and that they stay sound under it. Serves a table that applies a batch.
-use Rattle.std.proofs.Common.{ℕ, zero, suc, ◌≡◌, ◌∙◌, ◌&&◌, Bool, T, List, [], ◌∷◌, ◌++◌, ap, false, if◌then◌else◌, map, refl, subst, sym, true, IfSome, Some}
+use Rattle.std.proofs.Common.{ℕ, zero, suc, ◌≡◌, ◌∙◌, ◌&&◌, Bool, T, List, [], ◌∷◌, ◌++◌, ap, false, if◌then◌else◌, map, refl, set, subst, sym, true, IfSome, Some}
 use Rattle.std.specs.FinMap.{is_sorted}
 use Rattle.std.specs.List.{All, list_all, remove}
 use Rattle.bt_rowtype.specs.Schemas.{Schema}
@@ -94,6 +94,13 @@ module _ (schema : Schema) (shape : Shape) (rows : Rows (List Value)) where
   sound-remove [] (suc place) sound = tt
   sound-remove (index ∷ indexes) zero sound = sound.1
   sound-remove (index ∷ indexes) (suc place) sound = (sound.0, sound-remove indexes place sound.1)
+
+  pub sound-set : (indexes : List Index) (place : ℕ) (other : Index) → AreSoundIndexes schema shape rows indexes → IsSoundIndex schema shape rows other
+      → AreSoundIndexes schema shape rows (set indexes place other)
+  sound-set [] zero other sound one = tt
+  sound-set [] (suc place) other sound one = tt
+  sound-set (index ∷ indexes) zero other sound one = (one, sound.1)
+  sound-set (index ∷ indexes) (suc place) other sound one = (sound.0, sound-set indexes place other sound.1 one)
 
   -- the index that a name finds is one of them
   pub sound-found : (place : ℕ) (name : List ℕ) (indexes : List Index) → AreSoundIndexes schema shape rows indexes → IfSome (named_from place name indexes) (λ found. IsSoundIndex schema shape rows found.1)

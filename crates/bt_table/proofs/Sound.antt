@@ -1,31 +1,41 @@
 -- Which messages the records of a batch spell, and that a table stays sound under them. Serves the invariant of a table.
-use Rattle.std.proofs.Common.{ℕ, arith, ◌+◌, ◌≡◌, ◌∙◌, true, List, [], ◌∷◌, refl, sym, ap, subst, T, take, Some, None, IfOk, Result, Ok, Err}
+use Rattle.std.proofs.Common.{ℕ, arith, ◌+◌, ◌≡◌, ◌==◌, ◌∙◌, ◌++◌, Bool, true, false, not, length, List, [], ◌∷◌, refl, sym, ap, subst, T, take, Option, Some, None, IfOk, IfSome, Result, Ok, Err}
+use Rattle.std.proofs.lemmas.Bool.Decides.{nat_tests}
 use Rattle.std.specs.FinMap.{is_sorted}
 use Rattle.std.specs.List.{filter_map}
 use Rattle.std.specs.Result.{result_ok}
-use Rattle.bt_rowtype.specs.Ops.{OpsFit, after_ops, default_row, upsert_as}
+use Rattle.bt_messages.specs.declared.message.Message.{Message}
+use Rattle.bt_rowtype.specs.Ops.{Change, OpsFit, after_ops, default_row, upsert_as}
 use Rattle.bt_rowtype.specs.Schemas.{Schema, fit_columns}
 use Rattle.bt_rowtype.specs.Values.{read_as}
 use Rattle.bt_rowtype.specs.declared.op.Op.{Op}
+use Rattle.bt_rowtype.specs.Refusals.{least}
 use Rattle.bt_rowtype.specs.declared.refusal.Refusal.{Refusal}
+use Rattle.bt_rowtype.specs.declared.refusal.Refusal.TheVariants.{Building, NotEmpty}
 use Rattle.bt_rowtype.specs.declared.value.Value.{Value}
 use Rattle.bt_rowtype.proofs.offered.Fits.{after_ops_fits, after_ops_key, default_row_fits, default_row_key, read_fits, upsert_fits}
 use Rattle.bt_rowtype.specs.Packing.{AreInRange}
 use Rattle.bt_keycode.specs.Codes.{code_of}
 use Rattle.bt_keycode.proofs.offered.Ranges.{OpsInRange, after_ops_in_range, default_row_in_range, read_in_range, upsert_in_range}
 use Rattle.bt_keycode.specs.Keys.{key_cmp}
-use Rattle.bt_node.specs.Messages.{rows_after}
+use Rattle.bt_node.specs.Fits.{HasShape}
+use Rattle.bt_node.specs.Flushes.{holds}
+use Rattle.bt_node.specs.Messages.{Rows, rows_after}
+use Rattle.bt_node.specs.Trees.{Shape, Tree}
+use Rattle.bt_node.proofs.offered.PackedTrees.{drained-has_shape, drained-holds, packed-has_shape, packed-holds, rebuilt-has_shape, rebuilt-holds}
 use Rattle.bt_node.proofs.offered.ShapedTrees.{holds-sorted}
+use Rattle.bt_fanout.specs.Effects.{entry_effect}
 use Rattle.bt_rowtype.specs.declared.item.Item.{Item}
 use Rattle.bt_rowtype.specs.declared.item.Item.TheVariants.{Put, Del, Ups}
-use Rattle.bt_table.specs.Batches.{del_of, made, messages_of, put_of, read_batch, read_key, read_message, ups_of}
-use Rattle.bt_table.specs.Standing.{AreOfSchema, IsOfSchema, IsSoundTable, Stands, Suits}
+use Rattle.bt_table.specs.Batches.{del_of, made, messages_of, one_if, put_of, read_batch, read_key, read_message, ups_of}
+use Rattle.bt_table.specs.Standing.{AllStand, AreOfSchema, AreSoundIndexes, IsOfSchema, IsSoundIndex, IsSoundTable, Stands, Suits}
 use Rattle.bt_table.specs.Tables.{Intact, PlainTable, RowMessage, RowMessages, after_batch, row_effect}
 use Rattle.bt_fanout.specs.Entries.{Definition}
 use Rattle.bt_fanout.proofs.offered.Suiting.{of_nothing}
-use Rattle.bt_table.specs.Calls.{with_index, without_index}
-use Rattle.bt_table.specs.Indexes.{empty_index}
-use Rattle.bt_table.proofs.Indexes.{indexes_stay_sound, sound-append, sound-remove}
+use Rattle.bt_table.specs.Calls.{Upkeep, Draining, Rebuilding, renewed, renewed_index, with_index, with_renewed_index, with_renewed_rows, with_rows, without_index}
+use Rattle.bt_table.specs.Indexes.{empty_index, index_named}
+use Rattle.bt_table.specs.declared.index.Index.{Index}
+use Rattle.bt_table.proofs.Indexes.{indexes_stay_sound, sound-append, sound-found, sound-remove, sound-set}
 use Rattle.bt_table.proofs.Sinks.{has_shape-after_batch, holds-after_batch}
 use Rattle.bt_table.proofs.Standing.{rows_after-stand}
 
@@ -128,3 +138,74 @@ without_index-sound table place sound = record {
   keys = sound.keys;
   indexes = sound-remove table.schema table.shape table.rows table.indexes place sound.indexes;
 }
+
+-- ---- rows that are loaded, and trees that are renewed
+
+none_building : (none bare : Bool) → least (one_if (not none) Building ++ one_if (not bare) NotEmpty) ≡ None → none ≡ true
+none_building true bare allowed = refl
+none_building false true allowed = absurd cc
+none_building false false allowed = absurd cc
+
+no_length : (n : ℕ) → (n == 0) ≡ true → n ≡ 0
+no_length n test = grind (arith, nat_tests)
+
+none_left : (indexes : List Index) → length indexes ≡ 0 → indexes ≡ []
+none_left [] none = refl
+none_left (index ∷ indexes) none = absurd (omega (arith, none))
+
+-- a table that may load rows has no index
+pub no_indexes : (indexes : List Index) (bare : Bool) → least (one_if (not (length indexes == 0)) Building ++ one_if (not bare) NotEmpty) ≡ None → indexes ≡ []
+no_indexes indexes bare allowed = none_left indexes (no_length (length indexes) (none_building (length indexes == 0) bare allowed))
+
+-- rows that stand in their places, in the order of their keys, in a table with no index
+pub with_rows-sound : (table : PlainTable) (rows : Rows (List Value)) → AllStand table.schema rows → T (is_sorted key_cmp rows) → table.indexes ≡ [] → IsSoundTable table → IsSoundTable (with_rows table rows)
+with_rows-sound table rows stand sorted none sound = record {
+  tree = packed-has_shape (Message (List Value) Change) table.shape sound.tree.roomy rows sorted;
+  held = packed-holds (Message (List Value) Change) table.shape sound.tree.roomy rows sorted row_effect;
+  rows = stand;
+  keys = sound.keys;
+  indexes = subst (AreSoundIndexes table.schema table.shape rows) (sym none) tt;
+}
+
+module _ {V M : Type 0} (effect : Option V → M → Option V) (shape : Shape) (t : Tree V M) (has : HasShape shape t) where
+  pub renewed-has_shape : (upkeep : Upkeep) → HasShape shape (renewed upkeep effect shape t)
+  renewed-has_shape Draining = drained-has_shape effect shape t has
+  renewed-has_shape Rebuilding = rebuilt-has_shape effect shape t has
+
+  pub renewed-holds : (upkeep : Upkeep) → holds effect (renewed upkeep effect shape t) ≡ holds effect t
+  renewed-holds Draining = drained-holds effect shape t has
+  renewed-holds Rebuilding = rebuilt-holds effect shape t has
+
+pub with_renewed_rows-sound : (upkeep : Upkeep) (table : PlainTable) → IsSoundTable table → IsSoundTable (with_renewed_rows upkeep table)
+with_renewed_rows-sound upkeep table sound = record {
+  tree = renewed-has_shape row_effect table.shape table.tree sound.tree upkeep;
+  held = renewed-holds row_effect table.shape table.tree sound.tree upkeep ∙ sound.held;
+  rows = sound.rows;
+  keys = sound.keys;
+  indexes = sound.indexes;
+}
+
+renewed_index-sound : (upkeep : Upkeep) (schema : Schema) (shape : Shape) (rows : Rows (List Value)) (index : Index) → IsSoundIndex schema shape rows index
+    → IsSoundIndex schema shape rows (renewed_index upkeep index)
+renewed_index-sound upkeep schema shape rows index sound = record {
+  suits = sound.suits;
+  keys = sound.keys;
+  shaped = sound.shaped;
+  tree = subst (λ (s : Shape). HasShape shape (renewed upkeep entry_effect s index.tree.1)) (sym sound.shaped) (renewed-has_shape entry_effect shape index.tree.1 sound.tree upkeep);
+  held = ap (λ (s : Shape). holds entry_effect (renewed upkeep entry_effect s index.tree.1)) sound.shaped ∙ renewed-holds entry_effect shape index.tree.1 sound.tree upkeep ∙ sound.held;
+}
+
+-- an index that is found is one of those of the table
+pub with_renewed_index-sound : (upkeep : Upkeep) (table : PlainTable) (name : List ℕ) (found : ℕ × Index) → index_named name table.indexes ≡ Some found → IsSoundTable table
+    → IsSoundTable (with_renewed_index upkeep table found)
+with_renewed_index-sound upkeep table name found is sound =
+    let one : IsSoundIndex table.schema table.shape table.rows found.1 =
+    subst (λ (f : Option (ℕ × Index)). IfSome f (λ g. IsSoundIndex table.schema table.shape table.rows g.1)) is (sound-found table.schema table.shape table.rows 0 name table.indexes sound.indexes) in
+    record {
+      tree = sound.tree;
+      held = sound.held;
+      rows = sound.rows;
+      keys = sound.keys;
+      indexes = sound-set table.schema table.shape table.rows table.indexes found.0 (renewed_index upkeep found.1) sound.indexes
+          (renewed_index-sound upkeep table.schema table.shape table.rows found.1 one);
+    }

@@ -18,7 +18,7 @@ where_key-stand schema p (r ∷ rs) stand =
     let rest = where_key-stand schema p rs stand.1 in
     elim (p r.0) as (λ b. AllStand schema (cond b (r ∷ where_key key_cmp p rs) (where_key key_cmp p rs))) [ true ↦ (stand.0, rest) | false ↦ rest ]
 
-put-stand : (schema : Schema) (k : Key) (row : List Value) (rows : Rows (List Value)) → Stands schema k row → AllStand schema rows → AllStand schema (put key_cmp k row rows)
+pub put-stand : (schema : Schema) (k : Key) (row : List Value) (rows : Rows (List Value)) → Stands schema k row → AllStand schema rows → AllStand schema (put key_cmp k row rows)
 put-stand schema k row [] stands all = (stands, tt)
 put-stand schema k row (r ∷ rs) stands all =
     elim (key_cmp k r.0) as (λ o. key_cmp k r.0 ≡ o → AllStand schema (by_order o ((k, row) ∷ r ∷ rs) ((r.0, row) ∷ rs) (r ∷ put key_cmp k row rs))) [

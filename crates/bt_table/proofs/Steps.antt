@@ -1,19 +1,31 @@
--- A table with these trees takes a batch, gets or loses an index, or is shown. Serves the calls of a table.
-use Rattle.std.proofs.Common.{ℕ, ◌≡◌, ◌∙◌, ◌++◌, Bool, true, false, List, [], ◌∷◌, Option, IfSome, Some, None, Ok, ap, sym, refl, subst, length, map, if◌then◌else◌}
+-- A table with these trees takes a batch, gets or loses an index, loads rows, gets another tree, or is shown. Serves the calls of a table.
+use Rattle.std.proofs.Common.{ℕ, ◌≡◌, ◌∙◌, ◌++◌, Bool, T, true, false, List, [], ◌∷◌, Option, IfSome, Some, None, Ok, ap, sym, refl, subst, length, map, set, slice_get, if◌then◌else◌}
+use Rattle.std.specs.FinMap.{is_sorted}
 use Rattle.std.specs.List.{All, remove}
 use Rattle.bt_rowtype.specs.Refusals.{least}
 use Rattle.bt_rowtype.specs.Schemas.{Schema}
-use Rattle.bt_messages.specs.Effects.{rows_after}
+use Rattle.bt_rowtype.specs.declared.value.Value.{Value}
+use Rattle.bt_keycode.specs.Keys.{key_cmp}
+use Rattle.bt_load.specs.Loads.{loaded}
+use Rattle.bt_load.specs.Maps.{map_of}
+use Rattle.bt_load.proofs.offered.Loaded.{loaded-of}
+use Rattle.bt_table.proofs.Loads.{map_of-sorted, map_of-stand}
+use Rattle.bt_messages.specs.Effects.{Rows, rows_after}
 use Rattle.bt_messages.specs.Messages.{Messages, sorted_batch}
+use Rattle.bt_messages.specs.declared.message.Message.{Message}
+use Rattle.bt_rowtype.specs.Ops.{Change}
+use Rattle.bt_node.specs.Drains.{packed}
 use Rattle.bt_node.specs.Flushes.{sunk}
+use Rattle.bt_node.specs.Trees.{Shape}
+use Rattle.bt_node.proofs.offered.PackedTrees.{packed-holds}
 use Rattle.bt_fanout.specs.Effects.{EntryMessage, SuitsEffect, effects_of}
 use Rattle.bt_rowtype.specs.declared.item.Item.{Item}
 use Rattle.bt_table.specs.Batches.{batch_refusals, messages_of}
 use Rattle.bt_fanout.specs.Entries.{Definition}
-use Rattle.bt_table.specs.Calls.{Apply, DropIndex, IsStep, Primary, Secondary, ShowsIndex, ShowsRows, dropped, is_primary, secondary, step, tree_named, unless_by}
+use Rattle.bt_table.specs.Calls.{Apply, DropIndex, IsStep, Primary, Secondary, ShowsIndex, ShowsRows, Upkeep, dropped, is_bare, is_primary, load_refusals, renewed, renewed_index, secondary, step, tree_named, unless_by, with_renewed_index, with_renewed_rows, with_rows}
 use Rattle.bt_table.specs.Indexes.{empty_index, index_named, indexes_after, packet_for, packet_of, sent_count, sunk_indexes}
 use Rattle.bt_table.specs.Standing.{AllStand, IsSoundIndex, IsSoundTable, IsSoundUnlessLost, Suits}
-use Rattle.bt_table.specs.Tables.{PlainTable, RowMessages, TableState, Intact, after_batch, held_by, row_effect, state_of}
+use Rattle.bt_table.specs.Tables.{PlainTable, RowMessages, RowTree, TableState, Intact, after_batch, held_by, row_effect, state_of}
 use Rattle.bt_table.specs.declared.index.Index.{Index}
 use Rattle.bt_table.specs.declared.reply.Reply.TheVariants.{Batch, Dropped}
 use Rattle.bt_table.specs.declared.reply.SentCount.{SentCount}
@@ -21,7 +33,7 @@ use Rattle.bt_table.specs.declared.table.Trees.{Trees}
 use Rattle.bt_table.proofs.Indexes.{counts_are, indexes_suit, sound-found, sunk_is}
 use Rattle.bt_table.proofs.KeyOrder.{keys_rise}
 use Rattle.bt_table.proofs.Sinks.{stepped}
-use Rattle.bt_table.proofs.Sound.{batch_keeps_sound, batch_of_schema, rows_sorted, with_index-sound, without_index-sound}
+use Rattle.bt_table.proofs.Sound.{batch_keeps_sound, batch_of_schema, no_indexes, renewed-holds, rows_sorted, with_renewed_index-sound, with_renewed_rows-sound, with_rows-sound, with_index-sound, without_index-sound}
 use Rattle.bt_table.proofs.Standing.{rows_after-stand}
 
 module _ (schema : Schema) (kept : Option Trees) (trees : Trees) (is : kept ≡ Some trees) (sound : IsSoundUnlessLost (state_of schema kept)) where
@@ -92,6 +104,48 @@ module _ (schema : Schema) (kept : Option Trees) (trees : Trees) (is : kept ≡ 
     drop_is_step name own place index items found are same =
         ap (λ s. step s (DropIndex name)) state_is ∙ ap (dropped before name) found
         ∙ (λ i. Ok (Intact (held_by schema trees.rows (sym are i)), Dropped (sym same i)))
+
+    -- ---- rows that are loaded
+
+    module _ (text : List ℕ) (rows : List (List Value)) (read : loaded schema.columns text ≡ Ok rows) (allowed : least (load_refusals indexes trees.rows.1) ≡ None) (map : Rows (List Value))
+        (tree : Shape × RowTree) (mapped : map_of schema.keys rows ≡ Ok map) (packed_is : tree ≡ (trees.rows.0, packed trees.rows.0 map)) where
+      sorted : T (is_sorted key_cmp map)
+      sorted = map_of-sorted schema.keys rows map mapped
+
+      loaded_to : held_by schema tree indexes ≡ with_rows before map
+      loaded_to =
+          ap (λ (t : Shape × RowTree). held_by schema t indexes) packed_is
+          ∙ (λ i. record { schema = schema; shape = trees.rows.0; rows = packed-holds (Message (List Value) Change) trees.rows.0 was_sound.tree.roomy map sorted row_effect i; tree = packed trees.rows.0 map; indexes = indexes })
+
+      pub loaded_is_sound : IsSoundTable (held_by schema tree indexes)
+      loaded_is_sound =
+          let stand = map_of-stand schema rows map (loaded-of schema.columns text rows read) mapped in
+          subst IsSoundTable (sym loaded_to) (with_rows-sound before map stand sorted (no_indexes indexes (is_bare trees.rows.1) allowed) was_sound)
+
+    -- ---- trees that are renewed
+
+    module _ (upkeep : Upkeep) (name : List ℕ) where
+      module _ (tree : Shape × RowTree) (renewed_is : tree ≡ (trees.rows.0, renewed upkeep row_effect trees.rows.0 trees.rows.1)) where
+        rows_to : held_by schema tree indexes ≡ with_renewed_rows upkeep before
+        rows_to =
+            ap (λ (t : Shape × RowTree). held_by schema t indexes) renewed_is
+            ∙ (λ i. record { schema = schema; shape = trees.rows.0; rows = renewed-holds row_effect trees.rows.0 trees.rows.1 was_sound.tree upkeep i; tree = renewed upkeep row_effect trees.rows.0 trees.rows.1; indexes = indexes })
+
+        pub renewed_rows_is_sound : IsSoundTable (held_by schema tree indexes)
+        renewed_rows_is_sound = subst IsSoundTable (sym rows_to) (with_renewed_rows-sound upkeep before was_sound)
+
+      -- an index was found by its name, and is changed in its place
+      module _ (place : ℕ) (index : Index) (tree : Shape × RowTree) (taken items : List Index) (change : Index → Index) (tree_is : tree ≡ trees.rows) (taken_are : taken ≡ indexes)
+          (found : index_named name indexes ≡ Some (place, index)) (there : slice_get indexes place ≡ Some index)
+          (changed : IfSome (slice_get taken place) (λ i. items ≡ set taken place (change i))) (change_is : change index ≡ renewed_index upkeep index) where
+        index_to : held_by schema tree items ≡ with_renewed_index upkeep before (place, index)
+        index_to =
+            let here = subst (λ (v : List Index). IfSome (slice_get v place) (λ i. items ≡ set v place (change i))) taken_are changed in
+            let set_is : items ≡ set indexes place (change index) = subst (λ o. IfSome o (λ i. items ≡ set indexes place (change i))) there here in
+            ap (λ (t : Shape × RowTree). held_by schema t items) tree_is ∙ ap (held_by schema trees.rows) (set_is ∙ ap (set indexes place) change_is)
+
+        pub renewed_index_is_sound : IsSoundTable (held_by schema tree items)
+        renewed_index_is_sound = subst IsSoundTable (sym index_to) (with_renewed_index-sound upkeep before name (place, index) found was_sound)
 
     -- ---- what is shown
 

@@ -20,6 +20,11 @@ abbrev pub made : {A B : Type 0} → (A → B) → Result A Refusal → Result B
 made make (Ok value) = Ok (make value)
 made make (Err refusal) = Err refusal
 
+-- what is answered for a value, where it could be had
+abbrev pub and_then : {A B : Type 0} → (A → Result B Refusal) → Result A Refusal → Result B Refusal
+and_then next (Ok value) = next value
+and_then next (Err refusal) = Err refusal
+
 -- the values of the key that fields spell in a table, or their refusal as this item
 abbrev pub read_key : Schema → ℕ → List (List ℕ) → Result (List Value) Refusal
 read_key schema item fields = read_as (take schema.keys schema.columns) item fields

@@ -1,30 +1,37 @@
 -- What a table may be asked, what it is then, and what it answers.
-use Rattle.std.specs.Prelude.{ℕ, ◌≡◌, ◌≢◌, ◌≤◌, ◌==◌, ◌||◌, ◌⊎◌, Bool, List, [], ◌∷◌, ◌++◌, is_some, length, map, nat_le, Option, Some, None, Result, Ok, Err, if◌then◌else◌, codes}
+use Rattle.std.specs.Prelude.{ℕ, ◌≡◌, ◌≢◌, ◌≤◌, ◌==◌, ◌||◌, ◌&&◌, ◌⊎◌, Bool, not, List, [], ◌∷◌, ◌++◌, is_some, length, map, nat_le, set, Option, Some, None, option_map, Result, Ok, Err, if◌then◌else◌, codes}
 use Rattle.std.specs.Cmp.Lexicographic.{pointwise}
 use Rattle.std.specs.FinMap.{find}
 use Rattle.std.specs.List.{remove}
 use Rattle.bt_rowtype.specs.Refusals.{least}
 use Rattle.bt_rowtype.specs.Schemas.{Schema}
 use Rattle.bt_rowtype.specs.declared.refusal.Refusal.{Refusal}
-use Rattle.bt_rowtype.specs.declared.refusal.Refusal.TheVariants.{Failed, NameTaken, NoSuchTree, OutOfMemory, TooMany}
+use Rattle.bt_rowtype.specs.Values.{or_refused}
+use Rattle.bt_rowtype.specs.declared.refusal.Refusal.TheVariants.{Building, Failed, NameTaken, NoSuchTree, NotEmpty, OutOfMemory, TooMany}
+use Rattle.bt_rowtype.specs.declared.value.Value.{Value}
 use Rattle.bt_keycode.specs.Codes.{code_of}
 use Rattle.bt_keycode.specs.Keys.{key_cmp}
+use Rattle.bt_node.specs.Drains.{drained, packed, rebuilt}
 use Rattle.bt_node.specs.Flushes.{holds}
-use Rattle.bt_node.specs.Trees.{Shape}
+use Rattle.bt_node.specs.Messages.{Rows}
+use Rattle.bt_node.specs.Trees.{Shape, Tree}
+use Rattle.bt_node.specs.Walks.{is_leaf, rows_of}
+use Rattle.bt_load.specs.Loads.{loaded}
+use Rattle.bt_load.specs.Maps.{map_of}
 use Rattle.bt_rowtype.specs.declared.item.Item.{Item}
 use Rattle.bt_fanout.specs.Effects.{entry_effect}
 use Rattle.bt_fanout.specs.Definitions.{kinds_of}
 use Rattle.bt_fanout.specs.Entries.{Definition, SuitsKinds}
 use Rattle.bt_fanout.specs.Promises.{index_of}
-use Rattle.bt_table.specs.Batches.{batch_refusals, made, messages_of, one_if, read_key}
-use Rattle.bt_table.specs.Indexes.{empty_index, index_named, packet_of, sent_count}
+use Rattle.bt_table.specs.Batches.{and_then, batch_refusals, made, messages_of, one_if, read_key}
+use Rattle.bt_table.specs.Indexes.{empty_index, index_named, packet_of, sent_count, with_tree}
 use Rattle.bt_table.specs.Standing.{AllStand, KeysRise}
 use Rattle.bt_table.specs.Tables.{PlainTable, RowMessages, RowTree, TableState, Intact, Lost, after_batch, row_effect}
 use Rattle.bt_table.specs.declared.index.Index.{Index}
 use Rattle.bt_table.specs.declared.table.TreeRef.{TreeRef}
 use Rattle.bt_table.specs.declared.table.TreeRef.TheVariants as shown
 use Rattle.bt_table.specs.declared.reply.Reply.{Reply}
-use Rattle.bt_table.specs.declared.reply.Reply.TheVariants.{Batch, Created, Dropped, Row}
+use Rattle.bt_table.specs.declared.reply.Reply.TheVariants.{Batch, Created, Drained, Dropped, Loaded, Rebuilt, Row}
 use Rattle.bt_table.specs.declared.reply.SentCount.{SentCount}
 
 -- what a table may be asked
@@ -37,6 +44,12 @@ pub data Call : Type 0 where
   CreateIndex : (name : List ℕ) → (def : Definition) → Call
   -- to have an index no more
   DropIndex : (name : List ℕ) → Call
+  -- to take the records of a text as its rows
+  Load : (text : List ℕ) → Call
+  -- to flush every buffer of a tree
+  Drain : (name : List ℕ) → Call
+  -- to build a tree anew from what it holds
+  Rebuild : (name : List ℕ) → Call
 
 -- a value, or the refusal where there is one
 abbrev pub unless_by : {A : Type 0} → Option Refusal → A → Result A Refusal
@@ -78,6 +91,56 @@ dropped table name (Some found) = Ok (Intact (without_index table found.0), Drop
 abbrev pub sent_counts : PlainTable → RowMessages → List SentCount
 sent_counts table batch = map (λ index. sent_count index (packet_of table.rows batch index)) table.indexes
 
+-- ---- loading
+
+-- whether a tree is one leaf without rows
+abbrev pub is_bare : RowTree → Bool
+is_bare tree = is_leaf tree && (length (rows_of tree) == 0)
+
+-- the refusals that apply to a load, whatever its text is: there is an index, or there may be rows
+abbrev pub load_refusals : List Index → RowTree → List Refusal
+load_refusals indexes tree = one_if (not (length indexes == 0)) Building ++ one_if (not (is_bare tree)) NotEmpty
+
+-- the map of the rows of a text, or the least refusal: of its header and its records, of the table, of a key that comes again
+abbrev pub loaded_rows : PlainTable → List ℕ → Result (Rows (List Value)) Refusal
+loaded_rows table text = and_then (map_of table.schema.keys) (and_then (unless (load_refusals table.indexes table.tree)) (loaded table.schema.columns text))
+
+-- a table with these rows in place of its own, in a tree that is packed of them
+abbrev pub with_rows : PlainTable → Rows (List Value) → PlainTable
+with_rows table rows = record table { rows = rows; tree = packed table.shape rows }
+
+-- what rows, by their keys, make of a table that loads them
+abbrev pub after_load : PlainTable → Rows (List Value) → TableState × Reply
+after_load table rows = (Intact (with_rows table rows), Loaded (length rows))
+
+-- ---- upkeep of trees
+
+-- what is done for a tree: every buffer is flushed, or it is built anew from what it holds
+pub data Upkeep : Type 0 where
+  Draining : Upkeep
+  Rebuilding : Upkeep
+
+-- a tree after it
+abbrev pub renewed : {V M : Type 0} → Upkeep → (Option V → M → Option V) → Shape → Tree V M → Tree V M
+renewed Draining effect shape t = drained effect shape t
+renewed Rebuilding effect shape t = rebuilt effect shape t
+
+-- an index after it
+abbrev pub renewed_index : Upkeep → Index → Index
+renewed_index upkeep index = with_tree index (index.tree.0, renewed upkeep entry_effect index.tree.0 index.tree.1)
+
+-- a table after it was done for the tree of its rows, and for the index that was found at a place
+abbrev pub with_renewed_rows : Upkeep → PlainTable → PlainTable
+with_renewed_rows upkeep table = record table { tree = renewed upkeep row_effect table.shape table.tree }
+
+abbrev pub with_renewed_index : Upkeep → PlainTable → ℕ × Index → PlainTable
+with_renewed_index upkeep table found = record table { indexes = set table.indexes found.0 (renewed_index upkeep found.1) }
+
+-- a table after it was done for the tree of this name, if there is one
+abbrev pub with_renewed : Upkeep → PlainTable → List ℕ → Result PlainTable Refusal
+with_renewed upkeep table name =
+    if is_primary name then Ok (with_renewed_rows upkeep table) else or_refused NoSuchTree (option_map (with_renewed_index upkeep table) (index_named name table.indexes))
+
 -- A call: the table after it and its reply, or its refusal, and then the table stays. That a table was lost is said first.
 abbrev pub step : TableState → Call → Result (TableState × Reply) Refusal
 step Lost call = Err Failed
@@ -87,6 +150,9 @@ step (Intact table) (Apply items) =
 step (Intact table) (Get fields) = made (λ key. (Intact table, Row (find key_cmp (code_of key) table.rows))) (read_key table.schema 1 fields)
 step (Intact table) (CreateIndex name def) = unless (name_refusals table name) (Intact (with_index table name def), Created name)
 step (Intact table) (DropIndex name) = dropped table name (index_named name table.indexes)
+step (Intact table) (Load text) = made (after_load table) (loaded_rows table text)
+step (Intact table) (Drain name) = made (λ after. (Intact after, Drained name)) (with_renewed Draining table name)
+step (Intact table) (Rebuild name) = made (λ after. (Intact after, Rebuilt name)) (with_renewed Rebuilding table name)
 
 -- a call leaves this table and is answered so
 abbrev pub IsStep : TableState → TableState → Call → Reply → Type 0

@@ -48,6 +48,10 @@ empty_index shape name def = record { name = name; def = def; cover = Nothing; t
 abbrev pub covers_nothing : Index → Bool
 covers_nothing index = is_nothing index.cover
 
+-- it has another tree
+abbrev pub with_tree : Index → Shape × EntryTree → Index
+with_tree index tree = record index { tree = tree }
+
 -- ---- batches
 
 -- the packet that effects on rows mean for an index

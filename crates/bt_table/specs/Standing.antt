@@ -1,14 +1,11 @@
 -- Where the rows of a table stand, and what is true of a table between any two commands.
-use Rattle.std.specs.Prelude.{◌≡◌, ◌≤◌, length, true, List, [], ◌∷◌, Option, IfSome, T, map, take}
+use Rattle.std.specs.Prelude.{◌≡◌, ◌≤◌, length, List, [], ◌∷◌, Option, IfSome, T, map, take}
 use Rattle.std.specs.FinMap.{is_sorted}
-use Rattle.bt_rowtype.specs.Schemas.{Schema, fit_columns}
+use Rattle.bt_rowtype.specs.Schemas.{Schema}
 use Rattle.bt_rowtype.specs.Values.{values_cmp}
 use Rattle.bt_rowtype.specs.declared.value.Value.{Value}
-use Rattle.bt_rowtype.specs.Packing.{AreInRange}
-use Rattle.bt_keycode.specs.Codes.{code_of}
 use Rattle.bt_node.specs.Fits.{HasShape}
 use Rattle.bt_node.specs.Flushes.{holds}
-use Rattle.bt_keycode.specs.Keys.{Key}
 use Rattle.bt_node.specs.Messages.{Rows}
 use Rattle.bt_node.specs.Trees.{Shape}
 use Rattle.bt_fanout.specs.Definitions.{kinds_of}
@@ -17,17 +14,8 @@ use Rattle.bt_fanout.specs.Entries.{Definition, SuitsKinds}
 use Rattle.bt_fanout.specs.Promises.{index_of}
 use Rattle.bt_table.specs.declared.index.Index.{Index}
 use Rattle.bt_table.specs.Tables.{PlainTable, RowMessage, RowMessages, TableState, Intact, Lost, row_effect}
-
--- a row stands under the code of its key columns, and is of the schema: one value of each column's kind, within the range of its kind
-pub record Stands (schema : Schema) (key : Key) (row : List Value) : Type 0 where
-  pub placed : key ≡ code_of (take schema.keys row)
-  pub fits : fit_columns schema.columns row ≡ true
-  pub in_range : AreInRange row
-
--- each of the rows does
-abbrev pub AllStand : Schema → Rows (List Value) → Type 0
-AllStand schema [] = Unit {0}
-AllStand schema (row ∷ rows) = Stands schema row.0 row.1 × AllStand schema rows
+-- each of the rows stands under the code of its key columns, and is of the schema: one value of each column's kind, within the range of its kind
+pub use Rattle.bt_load.specs.Standing.{AllStand, Stands}
 
 -- an index is sound beside rows: its definition is one of the schema, its tree fits the shape of the table and holds what its definition selects of the rows that it covers
 pub record IsSoundIndex (schema : Schema) (shape : Shape) (rows : Rows (List Value)) (index : Index) : Type 0 where

@@ -1,8 +1,9 @@
 //! The indexes of a table.
-ghost use Rattle.std.specs.Prelude.{◌≡◌, ◌<◌, IfOk, IfSome, Some, length, map, option_map, slice_get};
+ghost use Rattle.std.specs.Prelude.{◌≡◌, ◌<◌, IfOk, IfSome, OnOk, Some, length, map, option_map, set, slice_get};
 ghost use Rattle.std.specs.List.{All, list_all};
 ghost use Rattle.bt_node.specs.Flushes.{holds};
-ghost use Rattle.bt_fanout.specs.Effects.{SuitsEffect, effects_of, row_effect};
+ghost use Rattle.bt_node.specs.Drains.{drained};
+ghost use Rattle.bt_fanout.specs.Effects.{SuitsEffect, effects_of, entry_effect, row_effect};
 ghost use Rattle.bt_table.specs.Indexes as spec;
 
 use crate::reply::SentCount;
@@ -11,6 +12,7 @@ use bt_messages::{Entry, Packet};
 use bt_node::{Shape, Tree};
 use bt_rowtype::{Row, Sequence, Text};
 use std::alloc::{AllocError, Global};
+use std::mem;
 
 /// A secondary index of a table.
 #[derive(Drop)]
@@ -143,4 +145,30 @@ pub fn sink_all(
         after.push(sink(alloc, index, packet)?)?;
     }
     Ok(after)
+}
+
+/// Puts another tree in the place of that of an index.
+pub fn put_tree(indexes: &mut Vec<Index>, place: usize, tree: Tree<Entry>)
+    requires { place < length indexes.old.items }
+    ensures { IfSome (slice_get indexes.old.items place) (λ index. indexes.new.items ≡ set indexes.old.items place (spec.with_tree index tree)) }
+{
+    indexes[place].tree = tree;
+}
+
+// Flushes every buffer of the tree of an index. An `Err` leaves it with an empty tree.
+fn drain_index(alloc: Global, index: &mut Index) -> Result<(), AllocError>
+    ensures { OnOk result (index.new ≡ spec.with_tree index.old (index.old.tree.0, drained entry_effect index.old.tree.0 index.old.tree.1)) }
+{
+    let empty = Tree::empty(alloc, index.tree.shape());
+    let tree = mem::replace(&mut index.tree, empty);
+    index.tree = tree.drain(alloc)?;
+    Ok(())
+}
+
+/// Flushes every buffer of the tree of the index at a place. An `Err` leaves it with an empty tree.
+pub fn drain_tree(alloc: Global, indexes: &mut Vec<Index>, place: usize) -> Result<(), AllocError>
+    requires { place < length indexes.old.items }
+    ensures { OnOk result (IfSome (slice_get indexes.old.items place) (λ index. indexes.new.items ≡ set indexes.old.items place (spec.with_tree index (index.tree.0, drained entry_effect index.tree.0 index.tree.1)))) }
+{
+    drain_index(alloc, &mut indexes[place])
 }

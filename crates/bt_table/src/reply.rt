@@ -22,4 +22,10 @@ pub enum Reply {
     Created(Text),
     /// The index of this name is there no more.
     Dropped(Text),
+    /// So many records were loaded.
+    Loaded(usize),
+    /// The buffers of the tree of this name were flushed.
+    Drained(Text),
+    /// The tree of this name was built anew.
+    Rebuilt(Text),
 }

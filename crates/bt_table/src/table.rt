@@ -1,20 +1,26 @@
 //! Tables and their calls.
-ghost use Rattle.std.specs.Prelude.{◌≡◌, Err, IfErr, IfOk, IsErrOf, None, OnErr, OnOk, Some};
+ghost use Rattle.std.specs.Prelude.{◌≡◌, ◌<◌, Err, IfErr, IfNone, IfOk, IfSome, IsErrOf, None, OnErr, OnOk, Some, false, length, slice_get, true};
 ghost use Rattle.bt_rowtype.specs.Refusals.{least};
-ghost use Rattle.bt_table.specs.Calls.{Apply, CreateIndex, DropIndex, Get, IsRefused, IsStep, Shows, StaysOrIsLost, index_refusals, is_primary, step, tree_named};
+ghost use Rattle.bt_table.specs.Calls as spec;
+ghost use Rattle.bt_table.specs.Indexes.{index_named};
+ghost use Rattle.bt_table.specs.Calls.{Apply, CreateIndex, Drain, DropIndex, Get, Load, Rebuild, IsRefused, IsStep, Shows, StaysOrIsLost, index_refusals, is_primary, step, tree_named};
 ghost use Rattle.bt_table.specs.Standing.{HasSchema, Suits};
 ghost use Rattle.bt_table.specs.Tables.{Intact, Lost, empty_table};
 
 use crate::batch::read_messages;
-use crate::index::{FanOut, Index, empty_index, fan_out, find_index, sink_all};
+use crate::index::{
+    FanOut, Index, drain_tree, empty_index, fan_out, find_index, put_tree, sink_all,
+};
 use crate::reply::Reply;
 use bt_fanout::IndexDef;
 use bt_keycode::encode_row;
+use bt_load::{load_rows, read_records};
 use bt_messages::Packet;
-use bt_node::{Shape, Tree};
+use bt_node::{Shape, Tree, pack};
 use bt_rowtype::{Item, RecordLine, RecordReader, Refusal, Row, Schema, Text};
 use std::alloc::Global;
 use std::marker::Model;
+use std::thread::Threads;
 
 /// The most indexes of a table.
 pub const MOST_INDEXES: usize = 8;
@@ -69,6 +75,43 @@ fn is_name_of_rows(name: &Text) -> bool
     ensures { result ≡ is_primary name.now }
 {
     name.as_bytes() == b"primary".as_slice()
+}
+
+// Which tree has a name: that of the rows, or that of an index, with its place.
+fn find_tree<'a>(indexes: &'a [Index], name: &Text) -> Result<Option<(usize, &'a Index)>, Refusal>
+    ensures rows { IfOk result (λ found. IfNone found (is_primary name.now ≡ true)) }
+    ensures index { IfOk result (λ found. IfSome found (λ f. (is_primary name.now ≡ false) × (index_named name.now indexes.now ≡ Some (f.0, f.1.now)))) }
+    ensures there { IfOk result (λ found. IfSome found (λ f. (f.0 < length indexes.now) × (slice_get indexes.now f.0 ≡ Some f.1.now))) }
+    ensures none { IfErr result (λ refusal. (refusal ≡ Refusal.NoSuchTree) × (is_primary name.now ≡ false) × (index_named name.now indexes.now ≡ None)) }
+{
+    if is_name_of_rows(name) {
+        return Ok(None);
+    }
+    match find_index(indexes, name) {
+        Some(found) => Ok(Some(found)),
+        None => Err(Refusal::NoSuchTree),
+    }
+}
+
+fn is_bare(tree: &Tree<Row>) -> bool
+    ensures { result ≡ spec.is_bare tree.now.1 }
+{
+    let root = tree.walk();
+    root.is_leaf() && root.row_count() == 0
+}
+
+// Whether rows can be loaded into a table with these trees.
+fn check_load(indexes: &[Index], tree: &Tree<Row>) -> Result<(), Refusal>
+    ensures free { OnOk result (least (spec.load_refusals indexes.now tree.now.1) ≡ None) }
+    ensures refused { IfErr result (λ refusal. least (spec.load_refusals indexes.now tree.now.1) ≡ Some refusal) }
+{
+    if !indexes.is_empty() {
+        return Err(Refusal::Building);
+    }
+    if !is_bare(tree) {
+        return Err(Refusal::NotEmpty);
+    }
+    Ok(())
 }
 
 impl Table {
@@ -189,6 +232,118 @@ impl Table {
         let index = indexes.remove(place);
         self.trees = Some(Trees { rows, indexes });
         Ok(Reply::Dropped(index.name))
+    }
+
+    /// Takes the rows of a CSV text, under a header with the names of the columns in order, as those of a table that has none and no index.
+    ///
+    /// The least refusal that applies is answered, and an `Err` changes nothing: `BadSchema` for another header, `BadField` and `BadLength` with the number of
+    /// the record behind it, `Building` where there is an index, `NotEmpty` where the tree of the rows is more than one leaf without rows, `DuplicateKey` with
+    /// the number of the first record whose key an earlier one has. Records are read and sorted in threads.
+    pub fn load(
+        &mut self,
+        rt: &(impl Threads + Sync),
+        alloc: Global,
+        text: &[u8],
+    ) -> Result<Reply, Refusal>
+        ensures done { IfOk result (IsStep self.old self.new (Load text.now)) }
+        ensures refused { IfErr result (IsRefused self.old self.new (Load text.now)) }
+        ensures unchanged { OnErr result (self.new ≡ self.old) }
+        ensures failed { self.old ≡ Lost → IsErrOf result Refusal.Failed }
+    {
+        let Some(trees) = &self.trees else {
+            return Err(Refusal::Failed);
+        };
+        let rows = read_records(rt, alloc, text, &self.schema)?;
+        check_load(trees.indexes.as_slice(), &trees.rows)?;
+        let pairs = load_rows(rt, alloc, rows, &self.schema)?;
+        let count = pairs.len();
+        let loaded = pack(alloc, trees.rows.shape(), pairs)?;
+        let Some(
+            Trees {
+                rows: _rows,
+                indexes,
+            },
+        ) = self.trees.take()
+        else {
+            return Err(Refusal::Failed);
+        };
+        self.trees = Some(Trees {
+            rows: loaded,
+            indexes,
+        });
+        Ok(Reply::Loaded(count))
+    }
+
+    /// Flushes every buffer of the tree of a name. `NoSuchTree` where there is none. After `OutOfMemory` the table is as it was, or lost.
+    pub fn drain(&mut self, alloc: Global, name: &Text) -> Result<Reply, Refusal>
+        ensures done { IfOk result (IsStep self.old self.new (Drain name.now)) }
+        ensures refused { IfErr result (IsRefused self.old self.new (Drain name.now)) }
+        ensures memory { IsErrOf result Refusal.OutOfMemory → StaysOrIsLost self.old self.new }
+        ensures failed { self.old ≡ Lost → IsErrOf result Refusal.Failed }
+    {
+        let Some(trees) = &self.trees else {
+            return Err(Refusal::Failed);
+        };
+        let found = find_tree(trees.indexes.as_slice(), name)?;
+        let drained = name.copy(alloc)?;
+        match found {
+            None => {
+                let Some(Trees { rows, indexes }) = self.trees.take() else {
+                    return Err(Refusal::Failed);
+                };
+                let rows = rows.drain(alloc)?;
+                self.trees = Some(Trees { rows, indexes });
+            }
+            Some((place, _index)) => {
+                let Some(Trees { rows, mut indexes }) = self.trees.take() else {
+                    return Err(Refusal::Failed);
+                };
+                drain_tree(alloc, &mut indexes, place)?;
+                self.trees = Some(Trees { rows, indexes });
+            }
+        }
+        Ok(Reply::Drained(drained))
+    }
+
+    /// Builds the tree of a name anew from what it holds, beside the old one. `NoSuchTree` where there is none. An `Err` changes nothing.
+    pub fn rebuild(&mut self, alloc: Global, name: &Text) -> Result<Reply, Refusal>
+        ensures done { IfOk result (IsStep self.old self.new (Rebuild name.now)) }
+        ensures refused { IfErr result (IsRefused self.old self.new (Rebuild name.now)) }
+        ensures unchanged { OnErr result (self.new ≡ self.old) }
+        ensures failed { self.old ≡ Lost → IsErrOf result Refusal.Failed }
+    {
+        let Some(trees) = &self.trees else {
+            return Err(Refusal::Failed);
+        };
+        let found = find_tree(trees.indexes.as_slice(), name)?;
+        let rebuilt = name.copy(alloc)?;
+        match found {
+            None => {
+                let tree = trees.rows.rebuild(alloc)?;
+                let Some(
+                    Trees {
+                        rows: _rows,
+                        indexes,
+                    },
+                ) = self.trees.take()
+                else {
+                    return Err(Refusal::Failed);
+                };
+                self.trees = Some(Trees {
+                    rows: tree,
+                    indexes,
+                });
+            }
+            Some((place, index)) => {
+                let tree = index.tree.rebuild(alloc)?;
+                let Some(Trees { rows, mut indexes }) = self.trees.take() else {
+                    return Err(Refusal::Failed);
+                };
+                put_tree(&mut indexes, place, tree);
+                self.trees = Some(Trees { rows, indexes });
+            }
+        }
+        Ok(Reply::Rebuilt(rebuilt))
     }
 
     /// The row of the key that fields spell, where it has one.

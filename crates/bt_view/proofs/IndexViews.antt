@@ -19,7 +19,7 @@ use Rattle.bt_fanout.specs.Promises.{index_of}
 use Rattle.bt_fanout.specs.Selections.{covered, select}
 use Rattle.bt_fanout.specs.declared.cover.Cover.{Cover}
 use Rattle.bt_fanout.specs.declared.cover.Cover.TheVariants.{Nothing, UpTo, Whole}
-use Rattle.bt_table.specs.Batches.{made}
+use Rattle.bt_table.specs.Batches.{and_then, made}
 use Rattle.bt_table.specs.Calls.{Secondary, ShowsIndex}
 use Rattle.bt_table.specs.Tables.{PlainTable}
 use Rattle.bt_table.specs.declared.index.Index.{Index}
@@ -28,7 +28,7 @@ use Rattle.bt_view.specs.Entries.{and_entry}
 use Rattle.bt_view.specs.Groups.{groups_of, summed_place, sums_of}
 use Rattle.bt_view.specs.Neighbours.{Groups, ended, grouped}
 use Rattle.bt_view.specs.declared.groups.Sum.{Sum}
-use Rattle.bt_view.specs.Ranges.{and_then, index_row, index_schema, is_whole, range_as, rows_within, scan_of, when_whole}
+use Rattle.bt_view.specs.Ranges.{index_row, index_schema, is_whole, range_as, rows_within, scan_of, when_whole}
 use Rattle.bt_view.specs.declared.range.KeyRange.{KeyRange}
 use Rattle.bt_view.proofs.EntryRows.{AreShown, shown-between, shown-fold}
 use Rattle.bt_view.proofs.IndexRows.{all_rise, all_shown, all_stand}

@@ -15,7 +15,8 @@ use Rattle.bt_keycode.specs.Keys.{key_cmp}
 use Rattle.bt_node.specs.Messages.{Rows}
 use Rattle.bt_table.specs.Calls.{NamedTree, tree_named}
 use Rattle.bt_table.specs.Tables.{TableState}
-use Rattle.bt_view.specs.Ranges.{and_then, range_of, rows_of, rows_within, schema_of}
+use Rattle.bt_table.specs.Batches.{and_then}
+use Rattle.bt_view.specs.Ranges.{range_of, rows_of, rows_within, schema_of}
 use Rattle.bt_view.specs.declared.groups.Sum.{Sum}
 
 -- the number that a value is; 0 where it is no int

@@ -15,15 +15,10 @@ use Rattle.bt_fanout.specs.Entries.{Definition, entry_of, picked}
 use Rattle.bt_fanout.specs.Selections.{select}
 use Rattle.bt_fanout.specs.declared.cover.Cover.{Cover}
 use Rattle.bt_fanout.specs.declared.cover.Cover.TheVariants.{Nothing, UpTo, Whole}
-use Rattle.bt_table.specs.Batches.{made}
+use Rattle.bt_table.specs.Batches.{and_then, made}
 use Rattle.bt_table.specs.Calls.{NamedTree, Primary, Secondary, tree_named}
 use Rattle.bt_table.specs.Tables.{TableState}
 use Rattle.bt_view.specs.declared.range.KeyRange.{KeyRange}
-
--- what is made of a value, where it could be had
-abbrev pub and_then : {A B : Type 0} → (A → Result B Refusal) → Result A Refusal → Result B Refusal
-and_then next (Ok value) = next value
-and_then next (Err refusal) = Err refusal
 
 -- ---- the columns of the rows of a tree
 

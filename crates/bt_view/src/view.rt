@@ -3,7 +3,7 @@ ghost use Rattle.std.specs.Prelude.{◌≡◌, ◌≢◌, Err, IfErr, IfOk, List
 ghost use Rattle.std.specs.Option.{option_copied};
 ghost use Rattle.bt_rowtype.specs.Answers.{Answers};
 ghost use Rattle.bt_node.specs.Flushes.{holds};
-ghost use Rattle.bt_table.specs.Batches.{made};
+ghost use Rattle.bt_table.specs.Batches.{and_then, made};
 ghost use Rattle.bt_table.specs.Calls.{Secondary, ShowsIndex};
 ghost use Rattle.bt_table.specs.Tables.{PlainTable, row_effect};
 ghost use Rattle.bt_rowtype.specs.declared.value.Kind.{Kind};
@@ -145,7 +145,7 @@ fn index_range(
     from: Option<&RecordLine<'_>>,
     to: Option<&RecordLine<'_>>,
 ) -> Result<KeyRange, Refusal>
-    ensures { Answers (spec.and_then (spec.when_whole cover.now) (spec.range_as columns.now (option_copied from.entry) (option_copied to.entry))) result }
+    ensures { Answers (and_then (spec.when_whole cover.now) (spec.range_as columns.now (option_copied from.entry) (option_copied to.entry))) result }
 {
     let range = read_range(alloc, columns, from, to)?;
     match cover {

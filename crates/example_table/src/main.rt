@@ -3,7 +3,7 @@
 
 use anyhow::Result;
 use bt_shell::{Counted, RunFault, run_script};
-use std::alloc::Global;
+use std::thread::Threads;
 
 const SCRIPT: &str = "\
 table 16 1024 256 1 id:int city:text qty:int
@@ -17,15 +17,16 @@ go
 ";
 
 // The replies to a script.
-fn replies(alloc: Global, script: &[u8]) -> Result<Vec<u8>, RunFault> {
+fn replies<R: AllocGlobal + Threads + Sync>(rt: &R, script: &[u8]) -> Result<Vec<u8>, RunFault> {
+    let alloc = rt.alloc();
     let mut reader = Counted::new(script);
     let mut text = Vec::new(alloc);
-    run_script(alloc, &mut reader, &mut Counted::new(&mut text))?;
+    run_script(rt, alloc, &mut reader, &mut Counted::new(&mut text))?;
     Ok(text)
 }
 
 fn main(rt: HostRuntime) -> Result<()> {
-    let text = replies(rt.alloc(), SCRIPT.as_bytes())?;
+    let text = replies(&rt, SCRIPT.as_bytes())?;
     print!(rt; "{}", String::from_utf8_lossy(rt.alloc(), text.as_slice())?)?;
     Ok(())
 }

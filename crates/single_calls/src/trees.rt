@@ -2,7 +2,7 @@
 use crate::samples::{Sample, Sent, add_message, add_value, key, packet};
 use bt_keycode::Key;
 use bt_messages::{Bins, Entry, Packet};
-use bt_node::{Node, Parts, Shape, Siblings, Tree, Walk, absorb_alone, crown, plan, regroup};
+use bt_node::{Node, Parts, Shape, Siblings, Tree, Walk, absorb_alone, crown, pack, plan, regroup};
 use bt_rowtype::{Refusal, Row};
 use std::alloc::{AllocError, Global};
 use std::test::Fail;
@@ -297,6 +297,37 @@ fn the_parts_of_a_root_give_that_root(rt: HostRuntime) -> Result<(), Fail> {
     assert_eq!(rt;
         regrouped_text(rt.alloc())?.as_slice(),
         b"~a15 ~a5 +d0 c 2 ".as_slice()
+    );
+    Ok(())
+}
+
+// The rows of the tree of four puts, packed into a tree of their own.
+fn packed_text(alloc: Global) -> Result<Vec<u8>, Refusal> {
+    let tree: Tree<Row> = four_puts(alloc)?;
+    let packed = pack(alloc, tree.shape(), tree.rows(alloc)?)?;
+    Ok(tree_text(alloc, &packed)?)
+}
+
+#[test]
+fn rows_are_packed(rt: HostRuntime) -> Result<(), Fail> {
+    assert_eq!(rt;
+        packed_text(rt.alloc())?.as_slice(),
+        b"|a10 b20 c|c30 d40 : a10 b20 c30 d40 ".as_slice()
+    );
+    Ok(())
+}
+
+// The tree with pending messages, drained.
+fn drained_text(alloc: Global) -> Result<Vec<u8>, Refusal> {
+    let drained = pending::<Row>(alloc)?.drain(alloc)?;
+    Ok(tree_text(alloc, &drained)?)
+}
+
+#[test]
+fn a_drained_tree_has_no_messages(rt: HostRuntime) -> Result<(), Fail> {
+    assert_eq!(rt;
+        drained_text(rt.alloc())?.as_slice(),
+        b"|a30 b20 c|c30 d0 : a30 b20 c30 d0 ".as_slice()
     );
     Ok(())
 }

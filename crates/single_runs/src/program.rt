@@ -3,7 +3,9 @@ use crate::streams::{Failing, Full};
 use bt_rowtype::{Item, RecordLine, Texts};
 use bt_shell::{Command, Counted, Parsed, WordsError, parse_command, program, read_words};
 use std::alloc::{AllocError, Global};
+use std::rt::Files;
 use std::test::Fail;
+use std::thread::Threads;
 
 // The program's name and the words of a line.
 fn words_of(alloc: Global, line: &str) -> Result<Texts, AllocError> {
@@ -74,7 +76,12 @@ fn command_lines(rt: HostRuntime) -> Result<(), Fail> {
 
 // The status of the program, then what it writes to its errors and the first of what it writes to its output. The input
 // gives `run`.
-fn answer(rt: &HostRuntime, line: &str, calls: u32, room: usize) -> Result<String, AllocError> {
+fn answer<R: Files + AllocGlobal + Threads + Sync>(
+    rt: &R,
+    line: &str,
+    calls: u32,
+    room: usize,
+) -> Result<String, AllocError> {
     let alloc = rt.alloc();
     let mut input = Counted::new(Failing {
         rest: b"run",

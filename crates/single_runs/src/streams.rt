@@ -6,6 +6,7 @@ use std::alloc::{AllocError, Global};
 use std::io;
 use std::io::{ErrorKind, Read, Write};
 use std::test::Fail;
+use std::thread::Threads;
 
 /// Gives one byte a call, and fails once so many calls were made.
 #[derive(Drop)]
@@ -74,9 +75,12 @@ impl Write for Flushes {
 }
 
 // Runs a short script over a stream of flushes.
-fn run_over_flushes(alloc: Global, stream: &mut Flushes) -> Result<(), RunFault> {
+fn run_over_flushes<R: AllocGlobal + Threads + Sync>(
+    rt: &R,
+    stream: &mut Flushes,
+) -> Result<(), RunFault> {
     let mut reader = Counted::new(b"scan primary\ngo\n".as_slice());
-    run_script(alloc, &mut reader, &mut Counted::new(stream))
+    run_script(rt, rt.alloc(), &mut reader, &mut Counted::new(stream))
 }
 
 #[test]
@@ -85,18 +89,23 @@ fn a_flush_reaches_the_stream(rt: HostRuntime) {
         count: 0,
         fails: false,
     };
-    assert!(rt; run_over_flushes(rt.alloc(), &mut stream).is_ok());
+    assert!(rt; run_over_flushes(&rt, &mut stream).is_ok());
     assert_eq!(rt; stream.count, 1);
     let mut stream = Flushes {
         count: 0,
         fails: true,
     };
-    let result = run_over_flushes(rt.alloc(), &mut stream);
+    let result = run_over_flushes(&rt, &mut stream);
     assert!(rt; matches!(&result, Err(RunFault::Write)));
 }
 
 // The fault of a run over such streams, what it writes, and the counts of bytes that it read and wrote.
-fn run_over(alloc: Global, calls: u32, room: usize) -> (Result<(), RunFault>, Vec<u8>, (u64, u64)) {
+fn run_over<R: AllocGlobal + Threads + Sync>(
+    rt: &R,
+    calls: u32,
+    room: usize,
+) -> (Result<(), RunFault>, Vec<u8>, (u64, u64)) {
+    let alloc = rt.alloc();
     let mut reader = Counted::new(Failing {
         rest: b"table 4 3 2 1 id:int qty:int\n",
         calls,
@@ -106,22 +115,22 @@ fn run_over(alloc: Global, calls: u32, room: usize) -> (Result<(), RunFault>, Ve
         taken: &mut taken,
         room,
     });
-    let result = run_script(alloc, &mut reader, &mut writer);
+    let result = run_script(rt, alloc, &mut reader, &mut writer);
     let counts = (reader.count(), writer.count());
     (result, taken, counts)
 }
 
 #[test]
 fn failing_streams(rt: HostRuntime) {
-    let (result, text, counts) = run_over(rt.alloc(), 1, 100);
+    let (result, text, counts) = run_over(&rt, 1, 100);
     assert!(rt; matches!(&result, Err(RunFault::Read)));
     assert!(rt; text.is_empty());
     assert_eq!(rt; counts, (1, 0));
-    let (result, text, counts) = run_over(rt.alloc(), 100, 5);
+    let (result, text, counts) = run_over(&rt, 100, 5);
     assert!(rt; matches!(&result, Err(RunFault::Write)));
     assert_eq!(rt; text.as_slice(), b"table".as_slice());
     assert_eq!(rt; counts, (29, 5));
-    let (result, text, counts) = run_over(rt.alloc(), 100, 100);
+    let (result, text, counts) = run_over(&rt, 100, 100);
     assert!(rt; result.is_ok());
     assert_eq!(rt; text.as_slice(), b"table 2\n".as_slice());
     assert_eq!(rt; counts, (29, 8));
@@ -138,9 +147,11 @@ fn long_script(alloc: Global, line: &[u8], count: u32) -> Result<Vec<u8>, AllocE
 }
 
 // What a run over streams in memory writes.
-fn replies_to(alloc: Global, script: &[u8]) -> Result<Vec<u8>, RunFault> {
+fn replies_to<R: AllocGlobal + Threads + Sync>(rt: &R, script: &[u8]) -> Result<Vec<u8>, RunFault> {
+    let alloc = rt.alloc();
     let mut text = Vec::new(alloc);
     run_script(
+        rt,
         alloc,
         &mut Counted::new(script),
         &mut Counted::new(&mut text),
@@ -155,12 +166,12 @@ fn long_scripts(rt: HostRuntime) -> Result<(), Fail> {
     let script = long_script(alloc, line, 20_000)?;
     assert!(rt; script.len() > 1_100_000);
     assert_eq!(rt;
-        replies_to(alloc, script.as_slice())?.as_slice(),
+        replies_to(&rt, script.as_slice())?.as_slice(),
         b"table 2\nbatch 20000\nrow 1,a note that is a good deal longer than a value keeps\n".as_slice()
     );
     let script = long_script(alloc, b"del 1\n", 65_537)?;
     assert_eq!(rt;
-        replies_to(alloc, script.as_slice())?.as_slice(),
+        replies_to(&rt, script.as_slice())?.as_slice(),
         b"table 2\nrefused 10 TooMany\nnone\n".as_slice()
     );
     Ok(())

@@ -1,25 +1,33 @@
 -- What a call leaves of a sound table is sound.
-use Rattle.std.proofs.Common.{ℕ, ◌≡◌, ◌≤◌, true, refl, length, arith, List, Option, Some, None, IfOk, Result, Ok, Err}
+use Rattle.std.proofs.Common.{ℕ, ◌≡◌, ◌≤◌, true, false, refl, length, arith, List, [], Option, Some, None, option_map, if◌then◌else◌, IfOk, Result, Ok, Err}
 use Rattle.std.specs.FinMap.{find}
 use Rattle.std.proofs.lemmas.Bool.Decides.{nat_tests}
 use Rattle.bt_rowtype.specs.Refusals.{least}
 use Rattle.bt_rowtype.specs.Schemas.{Schema}
 use Rattle.bt_rowtype.specs.declared.refusal.Refusal.{Refusal}
+use Rattle.bt_rowtype.specs.declared.refusal.Refusal.TheVariants.{NoSuchTree}
 use Rattle.bt_rowtype.specs.declared.value.Value.{Value}
+use Rattle.bt_rowtype.specs.Values.{or_refused}
 use Rattle.bt_keycode.specs.Codes.{code_of}
 use Rattle.bt_keycode.specs.Keys.{key_cmp}
 use Rattle.bt_node.specs.Fits.{IsRoomy}
+use Rattle.bt_node.specs.Messages.{Rows}
 use Rattle.bt_node.specs.Shapes.{is_shape}
 use Rattle.bt_node.specs.Trees.{Shape}
-use Rattle.bt_table.specs.Batches.{batch_refusals, made, messages_of, read_key}
-use Rattle.bt_table.specs.Calls.{Call, Apply, CreateIndex, DropIndex, Get, dropped, name_refusals, sent_counts, step, unless_by, with_index}
+use Rattle.bt_load.specs.Loads.{loaded}
+use Rattle.bt_load.specs.Maps.{map_of}
+use Rattle.bt_load.proofs.offered.Loaded.{loaded-of}
+use Rattle.bt_load.specs.Standing.{AreOf}
+use Rattle.bt_table.proofs.Loads.{map_of-sorted, map_of-stand}
+use Rattle.bt_table.specs.Batches.{and_then, batch_refusals, made, messages_of, read_key}
+use Rattle.bt_table.specs.Calls.{after_load, Call, Apply, CreateIndex, Drain, DropIndex, Get, Load, Rebuild, Upkeep, Draining, Rebuilding, dropped, is_bare, is_primary, load_refusals, name_refusals, sent_counts, step, unless, unless_by, with_index, with_renewed, with_renewed_index, with_renewed_rows}
 use Rattle.bt_table.specs.Indexes.{index_named}
 use Rattle.bt_table.specs.Standing.{IsSound, IsSoundTable, Suits}
 use Rattle.bt_table.specs.Tables.{PlainTable, TableState, Intact, Lost, after_batch, empty_table}
 use Rattle.bt_table.specs.declared.reply.Reply.{Reply}
-use Rattle.bt_table.specs.declared.reply.Reply.TheVariants.{Batch, Created, Row}
+use Rattle.bt_table.specs.declared.reply.Reply.TheVariants.{Batch, Created, Drained, Rebuilt, Row}
 use Rattle.bt_table.specs.declared.index.Index.{Index}
-use Rattle.bt_table.proofs.Sound.{batch_keeps_sound, batch_of_schema, with_index-sound, without_index-sound}
+use Rattle.bt_table.proofs.Sound.{batch_keeps_sound, batch_of_schema, no_indexes, with_index-sound, with_renewed_index-sound, with_renewed_rows-sound, with_rows-sound, without_index-sound}
 
 pub empty_is_sound : (schema : Schema) (shape : Shape) → schema.keys ≤ length schema.columns → IsRoomy shape → IsSoundTable (empty_table schema shape)
 empty_is_sound schema shape few roomy = record {
@@ -46,18 +54,56 @@ when_found : (found : Option (ℕ × Index)) (table : PlainTable) (name : List �
 when_found None table name sound = tt
 when_found (Some found) table name sound = without_index-sound table found.0 sound
 
+map_keeps_sound : (table : PlainTable) (rows : List (List Value)) (map : Result (Rows (List Value)) Refusal) → map_of table.schema.keys rows ≡ map → AreOf table.schema.columns rows
+    → table.indexes ≡ [] → IsSoundTable table → IfOk (made (after_load table) map) (λ (after : TableState × Reply). IsSound after.0)
+map_keeps_sound table rows (Err refusal) is fit none sound = tt
+map_keeps_sound table rows (Ok map) is fit none sound =
+    with_rows-sound table map (map_of-stand table.schema rows map fit is) (map_of-sorted table.schema.keys rows map is) none sound
+
+allowed_keeps_sound : (table : PlainTable) (rows : List (List Value)) (refusal : Option Refusal) → least (load_refusals table.indexes table.tree) ≡ refusal → AreOf table.schema.columns rows
+    → IsSoundTable table → IfOk (made (after_load table) (and_then (map_of table.schema.keys) (unless_by refusal rows))) (λ (after : TableState × Reply). IsSound after.0)
+allowed_keeps_sound table rows (Some refusal) is fit sound = tt
+allowed_keeps_sound table rows None is fit sound =
+    map_keeps_sound table rows (map_of table.schema.keys rows) refl fit (no_indexes table.indexes (is_bare table.tree) is) sound
+
+load_keeps_sound : (table : PlainTable) (text : List ℕ) (read : Result (List (List Value)) Refusal) → loaded table.schema.columns text ≡ read → IsSoundTable table
+    → IfOk (made (after_load table) (and_then (map_of table.schema.keys) (and_then (unless (load_refusals table.indexes table.tree)) read))) (λ (after : TableState × Reply). IsSound after.0)
+load_keeps_sound table text (Err refusal) is sound = tt
+load_keeps_sound table text (Ok rows) is sound =
+    allowed_keeps_sound table rows (least (load_refusals table.indexes table.tree)) refl (loaded-of table.schema.columns text rows is) sound
+
+renewed_keeps_sound : (upkeep : Upkeep) (table : PlainTable) (name : List ℕ) (reply : Reply) → IsSoundTable table
+    → IfOk (made (λ after. (Intact after, reply)) (with_renewed upkeep table name)) (λ (after : TableState × Reply). IsSound after.0)
+renewed_keeps_sound upkeep table name reply sound =
+    elim (is_primary name) as (λ b. IfOk (made (λ after. (Intact after, reply)) (if b then Ok (with_renewed_rows upkeep table)
+    else or_refused NoSuchTree (option_map (with_renewed_index upkeep table) (index_named name table.indexes)))) (λ (after : TableState × Reply). IsSound after.0)) [
+      | true ↦ with_renewed_rows-sound upkeep table sound
+      | false ↦ by_found (index_named name table.indexes) refl
+    ]
+  where
+    by_found : (found : Option (ℕ × Index)) → index_named name table.indexes ≡ found
+        → IfOk (made (λ after. (Intact after, reply)) (or_refused NoSuchTree (option_map (with_renewed_index upkeep table) found))) (λ (after : TableState × Reply). IsSound after.0)
+    by_found None is = tt
+    by_found (Some found) is = with_renewed_index-sound upkeep table name found is sound
+
 -- the definition of a new index is one of the schema
 abbrev pub IsOfSchema : TableState → Call → Type 0
 IsOfSchema state (Apply items) = Unit {0}
 IsOfSchema state (Get fields) = Unit {0}
 IsOfSchema state (CreateIndex name def) = Suits state def
 IsOfSchema state (DropIndex name) = Unit {0}
+IsOfSchema state (Load text) = Unit {0}
+IsOfSchema state (Drain name) = Unit {0}
+IsOfSchema state (Rebuild name) = Unit {0}
 
 pub step_keeps_sound : (state : TableState) (call : Call) → IsOfSchema state call → IsSound state → IfOk (step state call) (λ (after : TableState × Reply). IsSound after.0)
 step_keeps_sound Lost call fits sound = absurd sound
 step_keeps_sound (Intact table) (CreateIndex name def) fits sound =
     when_allowed (least (name_refusals table name)) (with_index table name def) (Created name) (with_index-sound table name def fits sound)
 step_keeps_sound (Intact table) (DropIndex name) fits sound = when_found (index_named name table.indexes) table name sound
+step_keeps_sound (Intact table) (Load text) fits sound = load_keeps_sound table text (loaded table.schema.columns text) refl sound
+step_keeps_sound (Intact table) (Drain name) fits sound = renewed_keeps_sound Draining table name (Drained name) sound
+step_keeps_sound (Intact table) (Rebuild name) fits sound = renewed_keeps_sound Rebuilding table name (Rebuilt name) sound
 step_keeps_sound (Intact table) (Apply items) fits sound =
     let messages = messages_of table.schema items in
     when_allowed (least (batch_refusals table.schema items)) (after_batch table messages) (Batch (length items) (sent_counts table messages)) (batch_keeps_sound table messages (batch_of_schema table.schema items) sound)

@@ -2,7 +2,7 @@ use Rattle.std.proofs.Common.{refl, Ok, Err}
 use Rattle.bt_shell.proofs.session.next_reply.Goals as goal
 
 pub returns-in_ok-text-in-Bad-clause-step : goal.returns-in_ok-text-in-Bad-clause-step
-returns-in_ok-text-in-Bad-clause-step c = record {
+returns-in_ok-text-in-Bad-clause-step g c = record {
   answer = Err c.in-Bad.refusal;
   first = rw c.in-Bad.is at c.in_ok-parse_command.ensures.found;
   said = c.in_ok-text-in-Bad.ensures;
@@ -10,7 +10,7 @@ returns-in_ok-text-in-Bad-clause-step c = record {
 }
 
 pub returns-in_ok-text-in-Good-clause-step : goal.returns-in_ok-text-in-Good-clause-step
-returns-in_ok-text-in-Good-clause-step c = record {
+returns-in_ok-text-in-Good-clause-step g c = record {
   answer = Ok c.in-Good.command;
   first = rw c.in-Good.is at c.in_ok-parse_command.ensures.found;
   said = c.in_ok-text-in-Good.ensures.text;

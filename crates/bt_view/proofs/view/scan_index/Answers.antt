@@ -1,9 +1,9 @@
 use Rattle.std.proofs.Common.{rules, ◌≡◌, ◌≢◌, Err, Ok, fold}
 use Rattle.std.specs.Option.{option_copied}
 use Rattle.bt_rowtype.specs.declared.refusal.Refusal.TheVariants.{OutOfMemory}
-use Rattle.bt_table.specs.Batches.{made}
+use Rattle.bt_table.specs.Batches.{and_then, made}
 use Rattle.bt_table.specs.Calls.{Secondary}
-use Rattle.bt_view.specs.Ranges.{and_then, scan_of, when_whole}
+use Rattle.bt_view.specs.Ranges.{scan_of, when_whole}
 use Rattle.bt_view.proofs.IndexViews.{range_by, scan_done, scan_refused}
 use Rattle.bt_view.proofs.view.scan_index.Goals as goal
 

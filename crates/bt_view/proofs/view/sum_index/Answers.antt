@@ -2,10 +2,10 @@ use Rattle.std.proofs.Common.{rules, ◌≡◌, ◌≢◌, ◌≤◌, Err, Ok, f
 use Rattle.std.specs.Option.{option_copied}
 use Rattle.bt_rowtype.specs.Answers.{Answers}
 use Rattle.bt_rowtype.specs.declared.refusal.Refusal.TheVariants.{OutOfMemory}
-use Rattle.bt_table.specs.Batches.{made}
+use Rattle.bt_table.specs.Batches.{and_then, made}
 use Rattle.bt_table.specs.Calls.{Secondary}
 use Rattle.bt_view.specs.Groups.{sums_of}
-use Rattle.bt_view.specs.Ranges.{and_then, index_schema, when_whole}
+use Rattle.bt_view.specs.Ranges.{index_schema, when_whole}
 use Rattle.bt_view.proofs.IndexViews.{kinds_by, no_place, place_by, range_by, sums_done, sums_refused}
 use Rattle.bt_view.proofs.view.sum_index.Goals as goal
 
