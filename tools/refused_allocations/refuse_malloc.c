@@ -7,7 +7,8 @@
  *
  *   REFUSE_AT    a request that is refused
  *   REFUSE_FROM  the first of the requests that are refused, with all that follow it
- *   COUNT_FILE   the file that gets the number of requests when the program ends by exit or by a return from main
+ *   COUNT_FILE   the file that gets the number of requests, as an unsigned long in the order of bytes of the machine; it
+ *                is kept in memory that the file shares, so that it is there however the program ends
  */
 #include <errno.h>
 #include <fcntl.h>
@@ -16,8 +17,8 @@
 #include <stdbool.h>
 #include <stddef.h>
 #include <stdint.h>
-#include <stdio.h>
 #include <stdlib.h>
+#include <sys/mman.h>
 #include <unistd.h>
 
 /* The C library's own functions, by names that this file does not define. */
@@ -26,7 +27,8 @@ void *__libc_calloc(size_t count, size_t size);
 void *__libc_realloc(void *block, size_t size);
 void *__libc_memalign(size_t alignment, size_t size);
 
-static atomic_ulong requests;
+static atomic_ulong own_count;
+static atomic_ulong *requests = &own_count;
 static unsigned long refuse_at = ULONG_MAX;
 static unsigned long refuse_from = ULONG_MAX;
 static bool has_started;
@@ -38,27 +40,30 @@ static unsigned long number_in(const char *name)
     return text == NULL ? ULONG_MAX : strtoul(text, NULL, 10);
 }
 
+/* The memory of a file, for a count, or NULL. */
+static atomic_ulong *shared_count(const char *path)
+{
+    int file = open(path, O_RDWR | O_CREAT | O_TRUNC, 0600);
+    if (file < 0)
+        return NULL;
+    void *memory = MAP_FAILED;
+    if (ftruncate(file, sizeof own_count) == 0)
+        memory = mmap(NULL, sizeof own_count, PROT_READ | PROT_WRITE, MAP_SHARED, file, 0);
+    close(file);
+    return memory == MAP_FAILED ? NULL : memory;
+}
+
 __attribute__((constructor)) static void start(void)
 {
+    const char *path = getenv("COUNT_FILE");
+    if (path != NULL) {
+        requests = shared_count(path);
+        if (requests == NULL)
+            _exit(70);
+    }
     refuse_at = number_in("REFUSE_AT");
     refuse_from = number_in("REFUSE_FROM");
     has_started = true;
-}
-
-__attribute__((destructor)) static void write_count(void)
-{
-    unsigned long count = atomic_load(&requests);
-    const char *path = getenv("COUNT_FILE");
-    if (path == NULL)
-        return;
-    int file = open(path, O_WRONLY | O_CREAT | O_TRUNC, 0600);
-    if (file < 0)
-        return;
-    char text[32];
-    int length = snprintf(text, sizeof text, "%lu\n", count);
-    if (write(file, text, (size_t)length) != length)
-        _exit(70);
-    close(file);
 }
 
 /* Counts a request, and answers whether it is refused. What the loader asks for before the program is not counted. */
@@ -66,7 +71,7 @@ static bool is_refused(void)
 {
     if (!has_started)
         return false;
-    unsigned long request = atomic_fetch_add(&requests, 1) + 1;
+    unsigned long request = atomic_fetch_add(requests, 1) + 1;
     return request == refuse_at || request >= refuse_from;
 }
 
