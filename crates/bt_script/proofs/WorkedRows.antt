@@ -4,9 +4,9 @@ use Rattle.std.specs.Prelude.{Err, None, Ok, Some}
 use Rattle.bt_rowtype.specs.declared.refusal.Refusal.TheVariants.{Syntax, Unfinished}
 use Rattle.bt_rowtype.specs.declared.filter.Test.TheVariants as test
 use Rattle.bt_rowtype.proofs.offered.OnLiterals.{rowtype_on_literals}
-use Rattle.bt_script.specs.Commands.{closing_of, command_of, commands, commands_from, filter_of, index_from, index_of, names_of, step}
+use Rattle.bt_script.specs.Commands.{build_of, closing_of, command_of, commands, commands_from, filter_of, index_from, index_of, names_of, step}
 use Rattle.bt_script.specs.Lines.{behind_words, text_of}
-use Rattle.bt_script.specs.declared.command.Command.TheVariants.{Drain, Drop, Load, Rebuild}
+use Rattle.bt_script.specs.declared.command.Command.TheVariants.{Build, Drain, Drop, Load, Rebuild}
 
 -- all parts of an index
 pub whole_index : command_of (codes "index c on city include qty where qty >= 15") []
@@ -70,6 +70,49 @@ dropped = refl
 pub two_names : command_of (codes "drop c d") [] ≡ None
 unfolding command_of rowtype_on_literals
 two_names = refl
+
+-- a step of building, and its words in places of their own
+pub built : command_of (codes "build q 2") [] ≡ Some (Build (codes "q") 2)
+unfolding command_of build_of rowtype_on_literals
+built = refl
+
+pub most_rows : command_of (codes " build  by_city 999999999 ") [] ≡ Some (Build (codes "by_city") 999999999)
+unfolding command_of build_of rowtype_on_literals
+most_rows = refl
+
+pub no_rows : command_of (codes "build q 000") [] ≡ Some (Build (codes "q") 0)
+unfolding command_of build_of rowtype_on_literals
+no_rows = refl
+
+-- no number, ten digits, what is no number, what is no name, both in turned order, and a word more
+pub no_number : command_of (codes "build q") [] ≡ None
+unfolding command_of build_of rowtype_on_literals
+no_number = refl
+
+pub ten_digits : command_of (codes "build q 1234567890") [] ≡ None
+unfolding command_of build_of rowtype_on_literals
+ten_digits = refl
+
+pub letter_for_number : command_of (codes "build q x") [] ≡ None
+unfolding command_of build_of rowtype_on_literals
+letter_for_number = refl
+
+pub digit_before_name : command_of (codes "build 1q 1") [] ≡ None
+unfolding command_of build_of rowtype_on_literals
+digit_before_name = refl
+
+pub number_before_name : command_of (codes "build 2 q") [] ≡ None
+unfolding command_of build_of rowtype_on_literals
+number_before_name = refl
+
+pub two_numbers : command_of (codes "build q 1 2") [] ≡ None
+unfolding command_of build_of rowtype_on_literals
+two_numbers = refl
+
+-- a build has no block, so that a refused one is its line alone
+pub build_lines : commands (codes "build q 2\nbuild q\ngo\ndrop q\n") ≡ Ok (Build (codes "q") 2) ∷ Err Syntax ∷ Err Syntax ∷ Ok (Drop (codes "q")) ∷ []
+unfolding commands_from step closing_of command_of build_of rowtype_on_literals
+build_lines = refl
 
 -- commands on one tree, and other words than one name behind them
 pub drained : command_of (codes " drain  q ") [] ≡ Some (Drain (codes "q"))

@@ -13,7 +13,7 @@ use Rattle.bt_rowtype.specs.declared.value.Kind.{Kind}
 use Rattle.bt_rowtype.specs.declared.value.Kind.TheVariants as kind
 use Rattle.bt_script.specs.Lines.{behind_words, is_blank, is_name, lines, name_of, number_of, text_of, without_return, without_spaces, words}
 use Rattle.bt_script.specs.declared.command.Command.{Command}
-use Rattle.bt_script.specs.declared.command.Command.TheVariants.{Batch, Drain, Drop, Get, Image, Index, Load, Rebuild, Scan, Sums, Table}
+use Rattle.bt_script.specs.declared.command.Command.TheVariants.{Batch, Build, Drain, Drop, Get, Image, Index, Load, Rebuild, Scan, Sums, Table}
 use Rattle.bt_script.specs.declared.command.Bounds.{Bounds}
 use Rattle.bt_rowtype.specs.declared.item.Item.{Item}
 use Rattle.bt_rowtype.specs.declared.item.Item.TheVariants.{Put, Del, Ups}
@@ -189,6 +189,12 @@ index_of head ws =
     (condition_of head ws)) (included_of ws)) (names_of (word_at ws 3))) (name_of (word_at ws 1))
     else None
 
+-- build, the name of an index and a number
+unfoldable pub build_of : List (List ℕ) → Option Command
+build_of ws =
+    if length ws == 3 then option_and_then (λ name. option_map (Build name) (number_of (word_at ws 2))) (name_of (word_at ws 1))
+    else None
+
 -- whether the first of the words is this one
 abbrev pub begins : List (List ℕ) → List ℕ → Bool
 begins ws word = is_word (word_at ws 0) word
@@ -222,7 +228,8 @@ command_from head ws block =
     else (if begins ws (codes "load") then load_of ws (text_of block)
     else (if begins ws (codes "table") then table_of ws
     else (if begins ws (codes "get") then get_of head
-    else (if begins ws (codes "index") then index_of head ws else named_of ws))))))
+    else (if begins ws (codes "index") then index_of head ws
+    else (if begins ws (codes "build") then build_of ws else named_of ws)))))))
 
 -- the command of its head line and the lines of its block, if it is one
 unfoldable pub command_of : List ℕ → List (List ℕ) → Option Command

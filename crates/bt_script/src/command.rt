@@ -71,6 +71,8 @@ pub enum Command<'a> {
     Image(Text),
     /// `index NAME on LIST ..`: a new index.
     Index(IndexForm),
+    /// `build NAME N`: one step of building an index, which is to read so many rows.
+    Build(Text, u32),
     /// `drop NAME`: an index no more.
     Drop(Text),
     /// `drain TREE`: the buffers of a tree emptied.

@@ -17,6 +17,7 @@
 mod blocks;
 mod command;
 mod counted;
+mod forms;
 mod lines;
 mod load;
 mod parse;

@@ -48,6 +48,7 @@ A script is a list of commands:
   sums TREE G COLUMN          counts rows and sums a column, by the first G columns of the key; bounds as of scan
   image TREE                  prints the nodes of a tree: 'primary', or an index
   index NAME on COLUMNS ..    makes an index: include COLUMNS, where COLUMN = < or >= RECORD
+  build NAME N                reads the next N rows into an index
   drop NAME                   takes an index away
   drain TREE                  empties the buffers of a tree
   rebuild TREE                packs the rows of a tree anew

@@ -1,7 +1,7 @@
 use Rattle.std.proofs.Common.{◌≡◌, map, drop}
 use Rattle.bt_script.specs.Commands.{all_some, column_of}
 use Rattle.bt_script.proofs.Joined.{behind}
-use Rattle.bt_script.proofs.parse.parse_columns.Given as goal
+use Rattle.bt_script.proofs.forms.parse_columns.Given as goal
 
 -- the columns so far stand before those of the words from here on
 abbrev pub invariant-loop-word : goal.invariant-loop-word

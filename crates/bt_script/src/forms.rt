@@ -1,0 +1,391 @@
+//! The forms of commands: what the words of a head line make.
+ghost use Rattle.std.specs.Prelude.{◌≡◌, ◌≤◌, [], IfOk, codes, false, map};
+ghost use Rattle.bt_script.specs.Commands as spec;
+ghost use Rattle.bt_script.specs.Lines as text;
+
+use crate::command::{Bounds, Command, IndexForm, Items, SumsForm, TableForm};
+use crate::lines::{
+    begins, behind_words, is_word, parse_name, parse_names, parse_number, parts, record_behind,
+    without_spaces, word_at,
+};
+use crate::load::BlockText;
+use bt_rowtype::{Bytes, Column, Columns, Filter, Kind, Test, Text, Texts};
+use std::alloc::{AllocError, Global};
+
+fn parse_kind(word: &[u8]) -> Option<Kind>
+    ensures { result ≡ spec.kind_of word.now }
+{
+    if is_word(word, b"int") {
+        return Some(Kind::Int);
+    }
+    if is_word(word, b"text") {
+        return Some(Kind::Text);
+    }
+    if is_word(word, b"flag") {
+        return Some(Kind::Flag);
+    }
+    None
+}
+
+// A column: its name, a colon and its kind.
+#[tactic(auto, unfolding(crate::specs::Commands::column_of))]
+fn parse_column(alloc: Global, word: &[u8]) -> Result<Option<Column>, AllocError>
+    ensures { IfOk result (λ column. column ≡ spec.column_of word.now) }
+{
+    let parts = parts(alloc, word, b':')?;
+    if parts.len() != 2 {
+        return Ok(None);
+    }
+    let Some(name) = parse_name(alloc, word_at(&parts, 0))? else {
+        return Ok(None);
+    };
+    match parse_kind(word_at(&parts, 1)) {
+        Some(kind) => Ok(Some(Column { name, kind })),
+        None => Ok(None),
+    }
+}
+
+fn parse_columns(alloc: Global, words: &[&[u8]]) -> Result<Option<Columns>, AllocError>
+    ensures { IfOk result (λ columns. columns ≡ spec.all_some (map spec.column_of (map (λ w. w.now) words.now))) }
+{
+    let mut columns = Columns::new(alloc);
+    for word in words {
+        let Some(column) = parse_column(alloc, word)? else {
+            return Ok(None);
+        };
+        columns.push(column)?;
+    }
+    Ok(Some(columns))
+}
+
+#[tactic(auto, unfolding(crate::specs::Commands::table_of))]
+fn table_command<'a>(alloc: Global, words: &[&[u8]]) -> Result<Option<Command<'a>>, AllocError>
+    ensures { IfOk result (λ command. command ≡ spec.table_of (map (λ w. w.now) words.now)) }
+{
+    if words.len() < 6 {
+        return Ok(None);
+    }
+    let Some(fanout) = parse_number(word_at(words, 1)) else {
+        return Ok(None);
+    };
+    let Some(buffer) = parse_number(word_at(words, 2)) else {
+        return Ok(None);
+    };
+    let Some(leaf) = parse_number(word_at(words, 3)) else {
+        return Ok(None);
+    };
+    let Some(keys) = parse_number(word_at(words, 4)) else {
+        return Ok(None);
+    };
+    let Some(columns) = parse_columns(alloc, &words[5..])? else {
+        return Ok(None);
+    };
+    Ok(Some(Command::Table(TableForm {
+        fanout,
+        buffer,
+        leaf,
+        keys,
+        columns,
+    })))
+}
+
+/// The command of a batch: its messages, and no word behind the first one.
+pub fn batch_command<'a>(words: &[&[u8]], items: Option<Items<'a>>) -> Option<Command<'a>>
+    ensures { result ≡ spec.batch_of (map (λ w. w.now) words.now) items.entry }
+{
+    if words.len() == 1 {
+        items.map(Command::Batch)
+    } else {
+        None
+    }
+}
+
+/// The command of a load: the text of its block, and no word behind the first one.
+pub fn load_command<'a>(words: &[&[u8]], text: BlockText<'a>) -> Option<Command<'a>>
+    ensures { result ≡ spec.load_of (map (λ w. w.now) words.now) text.entry }
+{
+    if words.len() == 1 {
+        Some(Command::Load(text))
+    } else {
+        None
+    }
+}
+
+/// The command of a scan: the name of a tree, and bounds.
+pub fn scan_command<'a>(
+    alloc: Global,
+    words: &[&[u8]],
+    bounds: Option<Bounds<'a>>,
+) -> Result<Option<Command<'a>>, AllocError>
+    ensures { IfOk result (λ command. command ≡ spec.scan_of (map (λ w. w.now) words.now) bounds.entry) }
+{
+    if words.len() != 2 {
+        return Ok(None);
+    }
+    let Some(tree) = parse_name(alloc, word_at(words, 1))? else {
+        return Ok(None);
+    };
+    match bounds {
+        Some(bounds) => Ok(Some(Command::Scan(tree, bounds))),
+        None => Ok(None),
+    }
+}
+
+/// The command of sums: the name of a tree, a number and the name of a column, and bounds.
+#[tactic(auto, unfolding(crate::specs::Commands::sums_of))]
+pub fn sums_command<'a>(
+    alloc: Global,
+    words: &[&[u8]],
+    bounds: Option<Bounds<'a>>,
+) -> Result<Option<Command<'a>>, AllocError>
+    ensures { IfOk result (λ command. command ≡ spec.sums_of (map (λ w. w.now) words.now) bounds.entry) }
+{
+    if words.len() != 4 {
+        return Ok(None);
+    }
+    let Some(tree) = parse_name(alloc, word_at(words, 1))? else {
+        return Ok(None);
+    };
+    let Some(columns) = parse_number(word_at(words, 2)) else {
+        return Ok(None);
+    };
+    let Some(column) = parse_name(alloc, word_at(words, 3))? else {
+        return Ok(None);
+    };
+    match bounds {
+        Some(bounds) => Ok(Some(Command::Sums(SumsForm {
+            tree,
+            columns,
+            column,
+            bounds,
+        }))),
+        None => Ok(None),
+    }
+}
+
+fn get_command(head: &[u8]) -> Option<Command<'_>>
+    ensures { result ≡ spec.get_of head.now }
+{
+    record_behind(b"get ", without_spaces(head)).map(Command::Get)
+}
+
+// The name that stands behind the first word, with no other word behind it.
+fn only_name(alloc: Global, words: &[&[u8]]) -> Result<Option<Text>, AllocError>
+    ensures { IfOk result (λ name. name ≡ spec.only_name (map (λ w. w.now) words.now)) }
+{
+    if words.len() != 2 {
+        return Ok(None);
+    }
+    parse_name(alloc, word_at(words, 1))
+}
+
+// The command that a name makes with the word before it.
+fn command_on<'a>(words: &[&[u8]], name: Text) -> Option<Command<'a>>
+    ensures { result ≡ spec.command_on (map (λ w. w.now) words.now) name }
+{
+    if begins(words, b"image") {
+        return Some(Command::Image(name));
+    }
+    if begins(words, b"drop") {
+        return Some(Command::Drop(name));
+    }
+    if begins(words, b"drain") {
+        return Some(Command::Drain(name));
+    }
+    if begins(words, b"rebuild") {
+        return Some(Command::Rebuild(name));
+    }
+    None
+}
+
+fn named_command<'a>(alloc: Global, words: &[&[u8]]) -> Result<Option<Command<'a>>, AllocError>
+    ensures { IfOk result (λ command. command ≡ spec.named_of (map (λ w. w.now) words.now)) }
+{
+    match only_name(alloc, words)? {
+        Some(name) => Ok(command_on(words, name)),
+        None => Ok(None),
+    }
+}
+
+fn parse_test(word: &[u8]) -> Option<Test>
+    ensures { result ≡ spec.test_of word.now }
+{
+    if is_word(word, b"=") {
+        return Some(Test::Equal);
+    }
+    if is_word(word, b"<") {
+        return Some(Test::Less);
+    }
+    if is_word(word, b">=") {
+        return Some(Test::AtLeast);
+    }
+    None
+}
+
+// The constant of a filter: one space, and a record of one field.
+#[tactic(auto, using(crate::proofs::Behind::only_none, crate::proofs::Behind::only_first))]
+fn parse_constant(alloc: Global, rest: &[u8]) -> Result<Option<Bytes>, AllocError>
+    ensures { IfOk result (λ constant. constant ≡ spec.constant_of rest.now) }
+{
+    let Some(record) = record_behind(b" ", rest) else {
+        return Ok(None);
+    };
+    let fields = record.fields(alloc)?;
+    if fields.len() != 1 {
+        return Ok(None);
+    }
+    Ok(Some(Bytes::from_slice(alloc, fields.get(0))?))
+}
+
+// The filter behind the word at a place.
+#[tactic(auto, unfolding(crate::specs::Commands::filter_of))]
+fn parse_filter(
+    alloc: Global,
+    head: &[u8],
+    words: &[&[u8]],
+    at: usize,
+) -> Result<Option<Filter>, AllocError>
+    requires { at ≤ 6 }
+    ensures { IfOk result (λ filter. filter ≡ spec.filter_of head.now (map (λ w. w.now) words.now) at) }
+{
+    let Some(column) = parse_name(alloc, word_at(words, at + 1))? else {
+        return Ok(None);
+    };
+    let Some(test) = parse_test(word_at(words, at + 2)) else {
+        return Ok(None);
+    };
+    match parse_constant(alloc, behind_words(head, at + 3))? {
+        Some(constant) => Ok(Some(Filter {
+            column,
+            test,
+            constant,
+        })),
+        None => Ok(None),
+    }
+}
+
+// The filter that begins with the word at a place; none, where the line ends before it.
+fn parse_filter_from(
+    alloc: Global,
+    head: &[u8],
+    words: &[&[u8]],
+    at: usize,
+) -> Result<Option<Option<Filter>>, AllocError>
+    requires { at ≤ 6 }
+    ensures { IfOk result (λ filter. filter ≡ spec.filter_from head.now (map (λ w. w.now) words.now) at) }
+{
+    if words.len() == at {
+        return Ok(Some(None));
+    }
+    if !is_word(word_at(words, at), b"where") {
+        return Ok(None);
+    }
+    match parse_filter(alloc, head, words, at)? {
+        Some(filter) => Ok(Some(Some(filter))),
+        None => Ok(None),
+    }
+}
+
+fn includes(words: &[&[u8]]) -> bool
+    ensures { result ≡ spec.includes (map (λ w. w.now) words.now) }
+{
+    is_word(word_at(words, 4), b"include")
+}
+
+// The names of the columns to include.
+fn parse_included(alloc: Global, words: &[&[u8]]) -> Result<Option<Texts>, AllocError>
+    ensures { IfOk result (λ names. names ≡ spec.included_of (map (λ w. w.now) words.now)) }
+{
+    if !includes(words) {
+        return Ok(Some(Texts::new(alloc)));
+    }
+    parse_names(alloc, word_at(words, 5))
+}
+
+// The filter behind the columns.
+fn parse_condition(
+    alloc: Global,
+    head: &[u8],
+    words: &[&[u8]],
+) -> Result<Option<Option<Filter>>, AllocError>
+    ensures { IfOk result (λ filter. filter ≡ spec.condition_of head.now (map (λ w. w.now) words.now)) }
+{
+    let at = if includes(words) { 6 } else { 4 };
+    parse_filter_from(alloc, head, words, at)
+}
+
+#[tactic(auto, unfolding(crate::specs::Commands::index_of))]
+fn index_command<'a>(
+    alloc: Global,
+    head: &[u8],
+    words: &[&[u8]],
+) -> Result<Option<Command<'a>>, AllocError>
+    ensures { IfOk result (λ command. command ≡ spec.index_of head.now (map (λ w. w.now) words.now)) }
+{
+    if !is_word(word_at(words, 2), b"on") {
+        return Ok(None);
+    }
+    let Some(name) = parse_name(alloc, word_at(words, 1))? else {
+        return Ok(None);
+    };
+    let Some(on) = parse_names(alloc, word_at(words, 3))? else {
+        return Ok(None);
+    };
+    let Some(include) = parse_included(alloc, words)? else {
+        return Ok(None);
+    };
+    match parse_condition(alloc, head, words)? {
+        Some(filter) => Ok(Some(Command::Index(IndexForm {
+            name,
+            on,
+            include,
+            filter,
+        }))),
+        None => Ok(None),
+    }
+}
+
+#[tactic(auto, unfolding(crate::specs::Commands::build_of))]
+fn build_command<'a>(alloc: Global, words: &[&[u8]]) -> Result<Option<Command<'a>>, AllocError>
+    ensures { IfOk result (λ command. command ≡ spec.build_of (map (λ w. w.now) words.now)) }
+{
+    if words.len() != 3 {
+        return Ok(None);
+    }
+    let Some(name) = parse_name(alloc, word_at(words, 1))? else {
+        return Ok(None);
+    };
+    match parse_number(word_at(words, 2)) {
+        Some(rows) => Ok(Some(Command::Build(name, rows))),
+        None => Ok(None),
+    }
+}
+
+/// The command of a head line that has no block.
+#[tactic(auto, unfolding(crate::specs::Commands::command_of))]
+pub fn line_command<'a>(
+    alloc: Global,
+    head: &'a [u8],
+    words: &[&[u8]],
+) -> Result<Option<Command<'a>>, AllocError>
+    requires words { map (λ w. w.now) words.now ≡ text.words head.now }
+    requires no_batch { spec.begins (map (λ w. w.now) words.now) (codes "batch") ≡ false }
+    requires no_scan { spec.begins (map (λ w. w.now) words.now) (codes "scan") ≡ false }
+    requires no_sums { spec.begins (map (λ w. w.now) words.now) (codes "sums") ≡ false }
+    requires no_load { spec.begins (map (λ w. w.now) words.now) (codes "load") ≡ false }
+    ensures { IfOk result (λ command. command ≡ spec.command_of head.now []) }
+{
+    if begins(words, b"table") {
+        return table_command(alloc, words);
+    }
+    if begins(words, b"get") {
+        return Ok(get_command(head));
+    }
+    if begins(words, b"index") {
+        return index_command(alloc, head, words);
+    }
+    if begins(words, b"build") {
+        return build_command(alloc, words);
+    }
+    named_command(alloc, words)
+}
