@@ -1,6 +1,7 @@
 -- Definitions that only private clauses cite: how the code's values are seen, and the steps of its loops.
 pub mod Bounds
 pub mod Held
+pub mod Limits
 pub mod Marks
 pub mod Shares
 pub mod Stored

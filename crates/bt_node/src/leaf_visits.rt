@@ -6,43 +6,63 @@ ghost use Rattle.bt_keycode.specs.Keys.{IsSorted, key_cmp};
 ghost use Rattle.bt_messages.specs.Effects.{effect_of};
 ghost use Rattle.bt_node.specs.Messages.{before, rows_after, with_value};
 ghost use Rattle.bt_node.specs.inside.Held.{value_of};
+ghost use Rattle.bt_node.specs.inside.Limits.{limited};
 
 use crate::held::Held;
-use crate::lent::{Entry, Lent};
+use crate::lent::Lent;
+use crate::limit::Limit;
 use crate::visitor::Visitor;
 use bt_keycode::Key;
 use bt_messages::{Merge, between};
 use std::alloc::{AllocError, Global};
 use std::cmp::Ordering;
-use std::marker::Model;
 
-// Shows rows as they stand.
+// Shows rows as they stand, as far as the limit lets.
 fn visit_rows<V: Merge, S: Visitor<V>>(
     alloc: Global,
     rows: &[(Key, V)],
     visitor: &mut S,
+    limit: &mut Limit,
 ) -> Result<(), AllocError>
-    ensures { OnOk result (visitor.new ≡ fold S.visited visitor.old rows.now) }
+    ensures { OnOk result ((visitor.new, limit.new) ≡ fold (limited S.visited) (visitor.old, limit.old) rows.now) }
 {
-    for (key, value) in rows {
+    let count = limit.count_up_to(rows.len());
+    for (key, value) in &rows[..count] {
         visitor.visit(alloc, key, value)?;
     }
     Ok(())
 }
 
-// Shows what a key has, where it has a value.
+// Shows a row, unless the limit is reached.
+fn visit_row<V: Merge, S: Visitor<V>>(
+    alloc: Global,
+    key: &Key,
+    value: &V,
+    visitor: &mut S,
+    limit: &mut Limit,
+) -> Result<(), AllocError>
+    ensures { OnOk result ((visitor.new, limit.new) ≡ limited S.visited (visitor.old, limit.old) (key.now, value.now)) }
+{
+    if limit.count_up_to(1) == 0 {
+        return Ok(());
+    }
+    visitor.visit(alloc, key, value)
+}
+
+// Shows what a key has, where it has a value, unless the limit is reached.
 fn visit_held<V: Merge, S: Visitor<V>>(
     alloc: Global,
     key: &Key,
     held: &Held<'_, V>,
     visitor: &mut S,
+    limit: &mut Limit,
 ) -> Result<(), AllocError>
-    ensures { OnOk result (visitor.new ≡ fold S.visited visitor.old (option_to_list (option_map (λ v. (key.now, v)) (value_of held.now)))) }
+    ensures { OnOk result ((visitor.new, limit.new) ≡ fold (limited S.visited) (visitor.old, limit.old) (option_to_list (option_map (λ v. (key.now, v)) (value_of held.now)))) }
 {
     match held {
         Held::Absent => Ok(()),
-        Held::Lent(value) => visitor.visit(alloc, key, value),
-        Held::Made(value) => visitor.visit(alloc, key, value),
+        Held::Lent(value) => visit_row(alloc, key, *value, visitor, limit),
+        Held::Made(value) => visit_row(alloc, key, value, visitor, limit),
     }
 }
 
@@ -62,71 +82,31 @@ fn split_first<'a, V: Merge>(rows: &'a [(Key, V)], key: &Key) -> (Option<&'a V>,
     (Some(&first.1), others)
 }
 
-// Shows the rows after messages: a row without a message as it stands, a value that is put where the put has it.
-fn visit_leaf<'a, V: Merge, S: Visitor<V>>(
+/// Shows the rows of a leaf after messages to them, as far as the limit lets: a row without a message as it stands, a value that is put where the
+/// put has it.
+pub(crate) fn visit_leaf<'a, V: Merge, S: Visitor<V>>(
     alloc: Global,
     rows: &'a [(Key, V)],
     messages: Lent<'a, V>,
     visitor: &mut S,
+    limit: &mut Limit,
 ) -> Result<(), AllocError>
     requires rows { IsTrue (is_sorted key_cmp rows.now) }
     requires messages { IsSorted messages }
-    ensures { OnOk result (visitor.new ≡ fold S.visited visitor.old (rows_after (effect_of V.merged) messages.entry rows.now)) }
+    ensures { OnOk result ((visitor.new, limit.new) ≡ fold (limited S.visited) (visitor.old, limit.old) (rows_after (effect_of V.merged) messages.entry rows.now)) }
 {
     let mut left = rows;
     let mut messages = messages;
     while let Some((key, message)) = messages.next() {
-        visit_rows(alloc, between(left, None, Some(key)), visitor)?;
+        visit_rows(alloc, between(left, None, Some(key)), visitor, limit)?;
+        if limit.is_reached() {
+            return Ok(());
+        }
         let (old, others) = split_first(between(left, Some(key), None), key);
         let first = Held::found(old).after(alloc, message)?;
         let value = messages.take_effect(alloc, key, first)?;
-        visit_held(alloc, key, &value, visitor)?;
+        visit_held(alloc, key, &value, visitor, limit)?;
         left = others;
     }
-    visit_rows(alloc, left, visitor)
-}
-
-/// Rows of a leaf with the messages to them. A contract sees the rows after the messages.
-#[derive(Drop)]
-pub(crate) struct LeafPart<'a, V: Merge> {
-    rows: &'a [(Key, V)],
-    messages: Vec<Entry<'a, V>>,
-}
-
-impl<'a, V: Merge> Model for LeafPart<'a, V> {
-    ghost use Rattle.std.specs.Prelude.{IsTrue, List, map, ℕ};
-    ghost use Rattle.std.specs.FinMap.{is_sorted};
-    ghost use Rattle.bt_keycode.specs.Keys.{IsSorted, key_cmp};
-    ghost use Rattle.bt_messages.specs.Effects.{effect_of, rows_after};
-
-    ghost Value = { List (List ℕ × V) };
-
-    ghost view = { λ p. rows_after (effect_of V.merged) (map (λ m. (m.key.now, m.message.now)) p.messages.items) p.rows.now };
-
-    ghost invariant = { λ p. IsTrue (is_sorted key_cmp p.rows.now) × IsSorted (map (λ m. (m.key.now, m.message.now)) p.messages.items) };
-}
-
-impl<'a, V: Merge> LeafPart<'a, V> {
-    pub(crate) fn new(rows: &'a [(Key, V)], messages: Lent<'a, V>) -> Self
-        requires rows { IsTrue (is_sorted key_cmp rows.now) }
-        requires messages { IsSorted messages }
-        ensures { result ≡ rows_after (effect_of V.merged) messages.entry rows.now }
-    {
-        LeafPart {
-            rows,
-            messages: messages.into_entries(),
-        }
-    }
-
-    /// Shows its rows after the messages.
-    pub(crate) fn visit<S: Visitor<V>>(
-        self,
-        alloc: Global,
-        visitor: &mut S,
-    ) -> Result<(), AllocError>
-        ensures { OnOk result (visitor.new ≡ fold S.visited visitor.old self.entry) }
-    {
-        let LeafPart { rows, messages } = self;
-        visit_leaf(alloc, rows, Lent::of_entries(messages), visitor)
-    }
+    visit_rows(alloc, left, visitor, limit)
 }

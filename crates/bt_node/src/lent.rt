@@ -16,9 +16,9 @@ use std::cmp::Ordering;
 use std::collections::VecDeque;
 use std::marker::Model;
 
-/// A message and its key, where they are pending.
+// A message and its key, where they are pending.
 #[derive(Drop)]
-pub(crate) struct Entry<'a, V: Merge> {
+struct Entry<'a, V: Merge> {
     key: &'a Key,
     message: &'a Message<V>,
 }
@@ -46,23 +46,6 @@ impl<'a, V: Merge> Lent<'a, V> {
         Lent {
             messages: VecDeque::new(alloc),
         }
-    }
-
-    /// These messages.
-    pub(crate) fn of_entries(entries: Vec<Entry<'a, V>>) -> Self
-        ensures { result ≡ map (λ m. (m.key.now, m.message.now)) entries.entry.items }
-    {
-        Lent {
-            messages: VecDeque::from(entries),
-        }
-    }
-
-    /// The messages, to be kept.
-    pub(crate) fn into_entries(self) -> Vec<Entry<'a, V>>
-        ensures { map (λ m. (m.key.now, m.message.now)) result.items ≡ self.entry }
-    {
-        let Lent { messages } = self;
-        Vec::from(messages)
     }
 
     // Adds a message behind the others.

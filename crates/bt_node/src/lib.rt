@@ -24,6 +24,10 @@
 //! [`pack`] makes a tree of sorted rows at once. [`Tree::drain`] sends all messages down to the leaves, and [`Tree::rebuild`] packs
 //! the rows that a tree holds.
 //!
+//! [`Tree::walk`] gives a [`Walk`], by which a tree is read as the map that it holds: the value at one key (`get`) and at several
+//! (`values`), the rows between two bounds, shown to a [`Visitor`] (`visit`) or copied (`rows`), and the first rows from a key on, at
+//! most so many, at a cost that goes by what is shown and by the nodes on the way (`visit_first`).
+//!
 //! `specs` has the definitions. `Trees` are the nodes, `Flushes` says what becomes of a node and a packet of messages, `Drains` what becomes of it
 //! when no message is to be left on the way, and which trees are made of rows alone, and `Fits` which trees are in order. `Lookups` reads one key.
 //! `Plans` and `Loops` say which children are flushed. `Laws` are the facts that calls promise beside these definitions; what private code cites
@@ -38,6 +42,7 @@ mod group;
 mod held;
 mod leaf_visits;
 mod lent;
+mod limit;
 mod lookup;
 mod lookups;
 mod node;

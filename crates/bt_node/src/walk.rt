@@ -1,5 +1,5 @@
 //! What can be seen of a tree, node by node.
-ghost use Rattle.std.specs.Prelude.{◌≡◌, ◌<◌, Some, fold, length, map, option_map, slice_get, IfOk, IsTrue, OnOk};
+ghost use Rattle.std.specs.Prelude.{◌≡◌, ◌<◌, None, Some, fold, length, map, option_map, slice_get, take, IfOk, IsTrue, OnOk};
 ghost use Rattle.std.specs.FinMap.{find, is_sorted};
 ghost use Rattle.std.specs.Option.{option_copied};
 ghost use Rattle.bt_keycode.specs.Keys.{key_cmp};
@@ -9,6 +9,7 @@ ghost use Rattle.bt_node.specs.Flushes.{holds};
 ghost use Rattle.bt_node.specs.Messages.{between};
 ghost use Rattle.bt_node.specs.Walks as walk;
 
+use crate::limit::Limit;
 use crate::lookup::value_at;
 use crate::lookups::{into_values, values_at};
 use crate::node::{Kind, Node};
@@ -162,7 +163,23 @@ impl<'a, V: Merge> Walk<'a, V> {
         requires { IsInOrder self.now }
         ensures { OnOk result (visitor.new ≡ fold S.visited visitor.old (between (option_copied from.entry) (option_copied to.entry) (holds (effect_of V.merged) self.now))) }
     {
-        visit_between(alloc, self.node, from, to, visitor)
+        visit_between(alloc, self.node, from, to, visitor, Limit::none())
+    }
+
+    /// Shows a visitor the first rows, at most `count`, with a key at or past `from`, when all messages here and below have had their
+    /// effect, by rising key. A bound that is absent doesn't limit. Values are lent and copied as in `visit`. Subtrees behind the last row
+    /// that is shown are not entered. An `Err` is the visitor's, or for want of memory.
+    pub fn visit_first<S: Visitor<V>>(
+        &self,
+        alloc: Global,
+        from: Option<&Key>,
+        count: usize,
+        visitor: &mut S,
+    ) -> Result<(), AllocError>
+        requires { IsInOrder self.now }
+        ensures { OnOk result (visitor.new ≡ fold S.visited visitor.old (take count (between (option_copied from.entry) None (holds (effect_of V.merged) self.now)))) }
+    {
+        visit_between(alloc, self.node, from, None, visitor, Limit::rows(count))
     }
 
     /// Copies of the rows with a key at or past `from` and before `to`, when all messages here and below have had their effect, by

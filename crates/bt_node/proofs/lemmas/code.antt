@@ -15,6 +15,7 @@ pub mod Marks
 pub mod PivotSearch
 pub mod RowPass
 pub mod RowSearch
+pub mod RowsLimited
 pub mod RowsOfChildren
 pub mod RowsShown
 pub mod ShareLoop

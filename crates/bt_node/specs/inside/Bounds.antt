@@ -1,5 +1,5 @@
--- The bounds between which a child is entered, and rows in parts.
-use Rattle.std.specs.Prelude.{ℕ, cond, List, Option, Some, None, flat_map, slice_get}
+-- The bounds between which a child is entered.
+use Rattle.std.specs.Prelude.{ℕ, cond, List, Option, Some, None, slice_get}
 use Rattle.bt_keycode.specs.Keys.{Key, is_before_upper}
 
 -- a key, where there is one and it lies before a bound
@@ -10,7 +10,3 @@ where_before to (Some k) = cond (is_before_upper to k) (Some k) None
 -- the pivot at a place, where there is one and it lies before a bound
 abbrev pub next_bound : Option Key → ℕ → List Key → Option Key
 next_bound to place pivots = where_before to (slice_get pivots place)
-
--- the rows of all parts
-abbrev pub all_rows : {R : Type 0} → List (List R) → List R
-all_rows = flat_map (λ rows. rows)

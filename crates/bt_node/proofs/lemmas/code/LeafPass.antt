@@ -114,27 +114,41 @@ module _ {V M : Type 0} (effect : Option V → M → Option V) where
       ∙ ap (λ b. row_at m.0 (value_after effect m.0 ms (cond b (effect old m.1) old)) ++ rows_after effect (messages_past m.0 (m ∷ ms)) (with_value m.0 None later)) (ties m.0 m.0 refl)
       ∙ ap (λ b. row_at m.0 (value_after effect m.0 ms (effect old m.1)) ++ rows_after effect (cond b (m ∷ ms) (messages_past m.0 ms)) (with_value m.0 None later)) (not_before_itself m.0))
 
-  -- a step of the pass, by what was shown
-  pub shown_step : {S : Type 0} (visited : S → Key × V → S) (m : Key × M) (ms messages left_messages : Messages M) (rs earlier later others : Rows V) (old first value : Option V) (start first_shown shown wanted : S) →
-      messages ≡ m ∷ ms → IsSorted messages → is_sorted key_cmp rs ≡ true → wanted ≡ fold visited start (rows_after effect messages rs) →
-      earlier ≡ before m.0 rs → first_shown ≡ fold visited start earlier → later ≡ from m.0 rs → old ≡ find key_cmp m.0 later → others ≡ with_value m.0 None later → first ≡ effect old m.1 →
-      value ≡ value_after effect m.0 ms first → left_messages ≡ messages_past m.0 ms → shown ≡ fold visited first_shown (row_at m.0 value) →
-      wanted ≡ fold visited shown (rows_after effect left_messages others)
-  shown_step visited m ms messages left_messages rs earlier later others old first value start first_shown shown wanted here sorted rising so_far at_first show_first at_last is_old is_others is_first is_value is_left show =
-      let old_is : old ≡ find key_cmp m.0 (from m.0 rs) = is_old ∙ ap (find key_cmp m.0) at_last in
-      let value_is : value ≡ value_after effect m.0 ms (effect (find key_cmp m.0 (from m.0 rs)) m.1) = is_value ∙ ap (value_after effect m.0 ms) (is_first ∙ ap (λ o. effect o m.1) old_is) in
-      let others_is : others ≡ with_value m.0 None (from m.0 rs) = is_others ∙ ap (with_value m.0 None) at_last in
-      let rest = rows_after effect left_messages others in
-      so_far ∙ ap (λ zs. fold visited start (rows_after effect zs rs)) here
-      ∙ ap (fold visited start) (pass_at m ms rs (subst (IsSorted {X = M}) here sorted) rising)
-      ∙ ap (λ zs. fold visited start (before m.0 rs ++ (row_at m.0 (value_after effect m.0 ms (effect (find key_cmp m.0 (from m.0 rs)) m.1)) ++ rows_after effect zs (with_value m.0 None (from m.0 rs))))) (sym is_left)
-      ∙ ap (λ zs. fold visited start (before m.0 rs ++ (row_at m.0 (value_after effect m.0 ms (effect (find key_cmp m.0 (from m.0 rs)) m.1)) ++ rows_after effect left_messages zs))) (sym others_is)
-      ∙ ap (λ v. fold visited start (before m.0 rs ++ (row_at m.0 v ++ rest))) (sym value_is)
-      ∙ ap (λ zs. fold visited start (zs ++ (row_at m.0 value ++ rest))) (sym at_first)
-      ∙ fold-append visited start earlier (row_at m.0 value ++ rest)
-      ∙ ap (λ s. fold visited s (row_at m.0 value ++ rest)) (sym show_first)
-      ∙ fold-append visited first_shown (row_at m.0 value) rest
-      ∙ ap (λ s. fold visited s rest) (sym show)
+  module _ {S : Type 0} (visited : S → Key × V → S) (m : Key × M) (ms messages : Messages M) (rs earlier : Rows V) (start first_shown wanted : S) (here : messages ≡ m ∷ ms) (sorted : IsSorted messages)
+      (rising : is_sorted key_cmp rs ≡ true) (so_far : wanted ≡ fold visited start (rows_after effect messages rs)) (at_first : earlier ≡ before m.0 rs) (show_first : first_shown ≡ fold visited start earlier) where
+    -- what the messages make of the rows from the key of the first message on
+    abbrev from_first : Rows V
+    from_first = row_at m.0 (value_after effect m.0 ms (effect (find key_cmp m.0 (from m.0 rs)) m.1)) ++ rows_after effect (messages_past m.0 ms) (with_value m.0 None (from m.0 rs))
+
+    -- that is still to be shown when the rows before this key are
+    past_first : wanted ≡ fold visited first_shown from_first
+    past_first =
+        so_far ∙ ap (λ zs. fold visited start (rows_after effect zs rs)) here
+        ∙ ap (fold visited start) (pass_at m ms rs (subst (IsSorted {X = M}) here sorted) rising)
+        ∙ ap (λ zs. fold visited start (zs ++ from_first)) (sym at_first)
+        ∙ fold-append visited start earlier from_first
+        ∙ ap (λ s. fold visited s from_first) (sym show_first)
+
+    -- the end of the pass where nothing more is shown
+    pub shown_end : ((rows : Rows V) → fold visited first_shown rows ≡ first_shown) → first_shown ≡ wanted
+    shown_end none = sym (past_first ∙ none from_first)
+
+    -- a step of the pass, by what was shown
+    pub shown_step : (left_messages : Messages M) (later others : Rows V) (old first value : Option V) (shown : S) →
+        later ≡ from m.0 rs → old ≡ find key_cmp m.0 later → others ≡ with_value m.0 None later → first ≡ effect old m.1 →
+        value ≡ value_after effect m.0 ms first → left_messages ≡ messages_past m.0 ms → shown ≡ fold visited first_shown (row_at m.0 value) →
+        wanted ≡ fold visited shown (rows_after effect left_messages others)
+    shown_step left_messages later others old first value shown at_last is_old is_others is_first is_value is_left show =
+        let old_is : old ≡ find key_cmp m.0 (from m.0 rs) = is_old ∙ ap (find key_cmp m.0) at_last in
+        let value_is : value ≡ value_after effect m.0 ms (effect (find key_cmp m.0 (from m.0 rs)) m.1) = is_value ∙ ap (value_after effect m.0 ms) (is_first ∙ ap (λ o. effect o m.1) old_is) in
+        let others_is : others ≡ with_value m.0 None (from m.0 rs) = is_others ∙ ap (with_value m.0 None) at_last in
+        let rest = rows_after effect left_messages others in
+        past_first
+        ∙ ap (λ zs. fold visited first_shown (row_at m.0 (value_after effect m.0 ms (effect (find key_cmp m.0 (from m.0 rs)) m.1)) ++ rows_after effect zs (with_value m.0 None (from m.0 rs)))) (sym is_left)
+        ∙ ap (λ zs. fold visited first_shown (row_at m.0 (value_after effect m.0 ms (effect (find key_cmp m.0 (from m.0 rs)) m.1)) ++ rows_after effect left_messages zs)) (sym others_is)
+        ∙ ap (λ v. fold visited first_shown (row_at m.0 v ++ rest)) (sym value_is)
+        ∙ fold-append visited first_shown (row_at m.0 value) rest
+        ∙ ap (λ s. fold visited s rest) (sym show)
 
 -- no more messages are past a key than there are
 pub fewer_past : {M : Type 0} (k : Key) (ms : Messages M) → length (messages_past k ms) ≤ length ms

@@ -1,5 +1,6 @@
 -- The rows of an inner node, shown child by child, each with the messages above it.
 use Rattle.std.proofs.Common.{◌≡◌, ◌≤◌, ◌<◌, ℕ, true, false, T, List, [], ◌∷◌, ◌++◌, append_assoc, append-nil, fold, get_or, length, map, sym, ap, subst, ◌∙◌}
+use Rattle.std.proofs.lemmas.List.Sums.{fold-append}
 use Rattle.std.specs.FinMap.{find, is_sorted}
 use Rattle.std.specs.declared.option.Option.{Option}
 use Rattle.std.specs.declared.option.Option.TheVariants.{None, Some}
@@ -10,7 +11,6 @@ use Rattle.bt_node.specs.Fits.{IsInOrder, SiblingsLie}
 use Rattle.bt_node.specs.Flushes.{all_hold, holds}
 use Rattle.bt_node.specs.Lookups.{pivots_of, pivots_up_to, value_at}
 use Rattle.bt_node.specs.Messages.{Messages, Rows, between, rows_after, value_after, with_messages}
-use Rattle.bt_node.specs.inside.Bounds.{all_rows}
 use Rattle.bt_node.specs.Trees.{Siblings, Tree, children, inner, nodes}
 use Rattle.bt_node.proofs.lemmas.flushes.Groups.{children-nodes}
 use Rattle.bt_node.proofs.lemmas.flushes.RowsKept.{holds-lie}
@@ -77,35 +77,29 @@ module _ {V D : Type 0} (effect : Option V → Message V D → Option V) where
             ∙ ap (value_after effect q newer) (sym (find-rows effect q buffer (all_hold effect xs)) ∙ ap (find key_cmp q) (sym held_above))
             ∙ sym (find-rows effect q newer (holds effect t)))
 
-        -- the last child
-        pub last_part : (start shown wanted : Rows V) (to : Option Key) → high ≡ to →
-            start ++ between low to (rows_after effect newer (holds effect t)) ≡ wanted → shown ≡ start ++ between low high (rows_after effect merged (holds effect child)) → shown ≡ wanted
-        last_part start shown wanted to is so_far show =
-            show ∙ ap (λ zs. start ++ zs) (child_part ∙ ap (λ h. between low h (rows_after effect newer (holds effect t))) is) ∙ so_far
+        module _ {S : Type 0} (visited : S → Key × V → S) (start shown wanted : S) (to : Option Key) (so_far : wanted ≡ fold visited start (between low to (rows_after effect newer (holds effect t))))
+            (show : shown ≡ fold visited start (between low high (rows_after effect merged (holds effect child)))) where
+          -- the last child
+          pub last_part : high ≡ to → shown ≡ wanted
+          last_part is = show ∙ ap (fold visited start) (child_part ∙ ap (λ h. between low h (rows_after effect newer (holds effect t))) is) ∙ sym so_far
 
-        -- a child before others, which come after it with the messages that are left
-        pub next_part : (start shown wanted : Rows V) (to : Option Key) (p : Key) (rest : Messages (Message V D)) → high ≡ Some p → rest ≡ outside None high newer →
-            is_before_lower low p ≡ false → is_before_upper to p ≡ true →
-            start ++ between low to (rows_after effect newer (holds effect t)) ≡ wanted → shown ≡ start ++ between low high (rows_after effect merged (holds effect child)) →
-            shown ++ between (Some p) to (rows_after effect rest (holds effect t)) ≡ wanted
-        next_part start shown wanted to p rest is rest_is from_low below_to so_far show =
-            let all = rows_after effect newer (holds effect t) in
-            let sorted = after-sorted newer t order in
-            let left : between (Some p) to (rows_after effect rest (holds effect t)) ≡ between (Some p) to all =
-            same-between (Some p) to (rows_after effect rest (holds effect t)) all (after-sorted rest t order) sorted
-            (λ q inside.
-            find-rows effect q rest (holds effect t)
-            ∙ ap (λ ms. value_after effect q ms (find key_cmp q (holds effect t))) (rest_is ∙ ap (λ h. outside None h newer) is)
-            ∙ value_after-later effect p q newer (find key_cmp q (holds effect t)) (between_from (Some p) to q inside)
-            ∙ sym (find-rows effect q newer (holds effect t))) in
-            ap (λ zs. shown ++ zs) left ∙ ap (λ zs. zs ++ between (Some p) to all) (show ∙ ap (λ zs. start ++ zs) (child_part ∙ ap (λ h. between low h all) is))
-            ∙ append_assoc start (between low (Some p) all) (between (Some p) to all)
-            ∙ ap (λ zs. start ++ zs) (sym (split-between low to p from_low below_to all (in_order all sorted))) ∙ so_far
-
--- one more part
-pub all_rows-push : {R : Type 0} (parts : List (List R)) (part : List R) → all_rows (parts ++ part ∷ []) ≡ all_rows parts ++ part
-all_rows-push [] part = append-nil part
-all_rows-push (p ∷ ps) part = ap (λ zs. p ++ zs) (all_rows-push ps part) ∙ sym (append_assoc p (all_rows ps) part)
+          -- a child before others, which come after it with the messages that are left
+          pub next_part : (p : Key) (rest : Messages (Message V D)) → high ≡ Some p → rest ≡ outside None high newer → is_before_lower low p ≡ false → is_before_upper to p ≡ true →
+              wanted ≡ fold visited shown (between (Some p) to (rows_after effect rest (holds effect t)))
+          next_part p rest is rest_is from_low below_to =
+              let all = rows_after effect newer (holds effect t) in
+              let sorted = after-sorted newer t order in
+              let left : between (Some p) to (rows_after effect rest (holds effect t)) ≡ between (Some p) to all =
+              same-between (Some p) to (rows_after effect rest (holds effect t)) all (after-sorted rest t order) sorted
+              (λ q inside.
+              find-rows effect q rest (holds effect t)
+              ∙ ap (λ ms. value_after effect q ms (find key_cmp q (holds effect t))) (rest_is ∙ ap (λ h. outside None h newer) is)
+              ∙ value_after-later effect p q newer (find key_cmp q (holds effect t)) (between_from (Some p) to q inside)
+              ∙ sym (find-rows effect q newer (holds effect t))) in
+              so_far ∙ ap (fold visited start) (split-between low to p from_low below_to all (in_order all sorted))
+              ∙ fold-append visited start (between low (Some p) all) (between (Some p) to all)
+              ∙ ap (λ s. fold visited s (between (Some p) to all)) (sym (show ∙ ap (fold visited start) (child_part ∙ ap (λ h. between low h all) is)))
+              ∙ ap (fold visited shown) (sym left)
 
 -- rows that are copied one by one
 copied_after : {R : Type 0} (start rows : List R) → fold (λ done row. done ++ row ∷ []) start rows ≡ start ++ rows

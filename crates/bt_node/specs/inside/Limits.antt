@@ -1,0 +1,13 @@
+-- Rows that are shown only as far as a limit goes: a number of rows, or none, which doesn't limit.
+use Rattle.std.specs.Prelude.{ℕ, zero, suc, List, Option, Some, None, take}
+
+-- the first rows, as many as the limit lets
+abbrev pub first_of : {R : Type 0} → Option ℕ → List R → List R
+first_of None rows = rows
+first_of (Some most) rows = take most rows
+
+-- what a row makes of a visitor, and of the number of rows that it may still be shown
+abbrev pub limited : {S R : Type 0} → (S → R → S) → S × Option ℕ → R → S × Option ℕ
+limited visited (visitor, None) row = (visited visitor row, None)
+limited visited (visitor, Some zero) row = (visitor, Some zero)
+limited visited (visitor, Some (suc n)) row = (visited visitor row, Some n)
