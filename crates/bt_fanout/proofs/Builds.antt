@@ -1,5 +1,5 @@
 -- A step of building sends what the rows that it reads add to the index.
-use Rattle.std.proofs.Common.{◌≡◌, ℕ, zero, suc, ◌+◌, ◌<◌, Bool, true, false, cond, not, ◌&&◌, T, List, [], ◌∷◌, ◌++◌, length, get_or, take, refl, sym, ap, subst, ◌∙◌, Option, Some, None, is_some, if◌then◌else◌, true≢false, arith}
+use Rattle.std.proofs.Common.{◌≡◌, ℕ, zero, suc, ◌<◌, Bool, true, false, cond, not, ◌&&◌, T, List, [], ◌∷◌, ◌++◌, length, take, refl, sym, ap, subst, ◌∙◌, Option, Some, None, is_some, if◌then◌else◌, true≢false, arith}
 use Rattle.std.specs.Prelude.{nat_lt}
 use borrow.Author.Tests.{ltb-true}
 use Rattle.std.specs.Ordering.{eq_by_cmp}
@@ -230,11 +230,3 @@ module _ {X E D : Type 0} (entry : List ℕ → X → Option (List ℕ × E)) (s
       (is_sorted-where_key key_cmp (is_covered cover) rows h) (is_sorted-where_key key_cmp (is_covered next) rows h)
       (λ k none. sym ((steps k).0 ∙ ap (λ t. cond t (find key_cmp k read) (find key_cmp k old)) (sym (find-keys_of k read) ∙ none)))
       (owner entry Stands apart old new (stand-covered Stands (is_covered cover) rows stand) (stand-covered Stands (is_covered next) rows stand))
-
--- the last of rows is the one that the cover moves to
-pub moved_is : {X : Type 0} (cover : Cover) (rows : Rows X) (i : ℕ) (last : List ℕ × X) → i + 1 ≡ length rows → last ≡ get_or rows i last → UpTo last.0 ≡ moved_to cover rows
-moved_is cover [] i last e is = absurd (omega arith)
-moved_is {X = X} cover (r ∷ []) zero last e is = ap (λ (z : List ℕ × X). UpTo z.0) is
-moved_is cover (r ∷ []) (suc i) last e is = absurd (omega arith)
-moved_is cover (r ∷ s ∷ rows) zero last e is = absurd (omega arith)
-moved_is cover (r ∷ s ∷ rows) (suc i) last e is = moved_is cover (s ∷ rows) i last (omega arith) is

@@ -5,9 +5,11 @@ pub mod Entries
 pub mod Groups
 pub mod Lookups
 pub mod Naming
+pub mod NextKeys
 pub mod offered
 pub mod Owners
 pub mod Picking
+pub mod RowsRead
 pub mod Sendings
 pub mod Turning
 pub mod WorkedRows

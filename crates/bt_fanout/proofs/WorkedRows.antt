@@ -1,5 +1,6 @@
 -- Index messages, computed.
-use Rattle.std.proofs.Common.{◌≡◌, ℕ, ◌<◌, List, [], ◌∷◌, ◌++◌, None, arith, length, refl, pos}
+use Rattle.std.proofs.Common.{◌≡◌, ℕ, ◌<◌, List, [], ◌∷◌, ◌++◌, Some, None, arith, fold, length, refl, pos}
+use Rattle.bt_rowtype.specs.declared.filter.Test.TheVariants as test
 use Rattle.bt_rowtype.specs.declared.value.Kind.{Kind}
 use Rattle.bt_rowtype.specs.declared.value.Kind.TheVariants as kind
 use Rattle.bt_rowtype.specs.declared.value.Value.{Value}
@@ -7,13 +8,14 @@ use Rattle.bt_rowtype.specs.declared.value.Value.TheVariants as value
 use Rattle.bt_keycode.specs.Codes.{code_of}
 use Rattle.bt_keycode.specs.Prefixes.{eight_bytes}
 use Rattle.bt_messages.specs.Effects.{Rows, rows_after}
-use Rattle.bt_messages.specs.Messages.{Messages, sorted_batch}
+use Rattle.bt_messages.specs.Messages.{Messages, messages_between, sorted_batch}
 use Rattle.bt_messages.specs.declared.message.Message.TheVariants.{Put, Del}
 use Rattle.bt_fanout.specs.Covers.{cover_after, is_covered, next_rows, puts_of}
 use Rattle.bt_fanout.specs.Effects.{EntryMessage, RowMessage, entry_effect, row_effect, effects_of, sent_for_all}
 use Rattle.bt_fanout.specs.Entries.{Definition, StandsUnder, SuitsKinds, entry_of, same_values}
 use Rattle.bt_fanout.specs.Promises.{index_of}
 use Rattle.bt_fanout.specs.Selections.{AllStand, index_messages}
+use Rattle.bt_fanout.specs.Readings.{none_read, with_row}
 use Rattle.bt_fanout.specs.declared.cover.Cover.{Cover}
 use Rattle.bt_fanout.specs.declared.cover.Cover.TheVariants.{Nothing, UpTo, Whole}
 use Rattle.bt_fanout.proofs.offered.Suiting.{all_more, all_none}
@@ -82,6 +84,57 @@ sent = refl
 complete : cover_after 2 (UpTo (k 2)) rows ≡ Whole
 unfolding eight_bytes
 complete = refl
+
+-- the same where it is to read five; one that is to read just the row that is left doesn't complete the index, and the next one reads nothing and does
+abbrev behind_two : Rows (List Value)
+behind_two = (k 3, row 3 30) ∷ []
+
+reads_one : next_rows 5 (UpTo (k 2)) rows ≡ behind_two
+unfolding eight_bytes
+reads_one = refl
+
+whole_then : cover_after 5 (UpTo (k 2)) rows ≡ Whole
+unfolding eight_bytes
+whole_then = refl
+
+reads_last : next_rows 1 (UpTo (k 2)) rows ≡ behind_two
+unfolding eight_bytes
+reads_last = refl
+
+not_whole : cover_after 1 (UpTo (k 2)) rows ≡ UpTo (k 3)
+unfolding eight_bytes
+not_whole = refl
+
+reads_none : next_rows 1 (UpTo (k 3)) rows ≡ []
+unfolding eight_bytes
+reads_none = refl
+
+whole_at_last : cover_after 1 (UpTo (k 3)) rows ≡ Whole
+unfolding eight_bytes
+whole_at_last = refl
+
+-- a step of no rows leaves the cover as it is, and so does each step of a complete index, which reads nothing
+no_rows : (cover_after 0 Nothing rows ≡ Nothing) × (cover_after 0 (UpTo (k 2)) rows ≡ UpTo (k 2)) × (next_rows 5 Whole rows ≡ []) × (cover_after 5 Whole rows ≡ Whole)
+unfolding eight_bytes
+no_rows = (refl, refl, refl, refl)
+
+-- the rows behind the second one are those from its next key on
+behind : messages_between (Some (k 2 ++ 0 ∷ [])) None rows ≡ behind_two
+unfolding eight_bytes
+behind = refl
+
+-- on qty where qty >= 15
+abbrev from_15 : Definition
+from_15 = record { on = 1 ∷ []; include = []; condition = Some (record { place = 1; test = test.AtLeast; constant = value.Int (pos 15) }); keys = 1 }
+
+-- one by one: the first row has no entry and moves the cover all the same, the second one has
+one_by_one : fold (with_row from_15) (none_read 1) (next_rows 1 Nothing rows) ≡ record { messages = []; left = 0; last = Some (k 1) }
+unfolding eight_bytes
+one_by_one = refl
+
+two_by_one : fold (with_row from_15) (none_read 3) (next_rows 2 Nothing rows) ≡ record { messages = (k 20 ++ k 2, Put []) ∷ []; left = 1; last = None }
+unfolding eight_bytes
+two_by_one = refl
 
 -- the rows meet the premises of the law, before and after
 abbrev kinds : List Kind

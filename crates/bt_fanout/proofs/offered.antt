@@ -1,4 +1,5 @@
 -- What the crates above cite of the proofs of this one.
+pub mod Builds
 pub mod Definitions
 pub mod Packets
 pub mod Standing

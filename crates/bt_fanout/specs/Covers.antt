@@ -15,6 +15,12 @@ is_covered Nothing k = false
 is_covered (UpTo last) k = not (is_before last k)
 is_covered Whole k = true
 
+-- whether all keys are covered
+abbrev pub is_whole : Cover → Bool
+is_whole Nothing = false
+is_whole (UpTo last) = false
+is_whole Whole = true
+
 -- the rows that a step of building reads: the first n that aren't covered
 abbrev pub next_rows : {X : Type 0} → ℕ → Cover → Rows X → Rows X
 next_rows n cover rows = take n (covered (λ k. not (is_covered cover k)) rows)

@@ -1,6 +1,6 @@
 -- What an index is, and the entry of a row.
-use Rattle.std.specs.Prelude.{ℕ, ◌≡◌, ◌==◌, ◌<◌, ◌≤◌, ◌++◌, Bool, true, false, not, List, get_or, length, map, take, Option, Some, None, if◌then◌else◌}
-use Rattle.std.specs.List.{All}
+use Rattle.std.specs.Prelude.{ℕ, ◌≡◌, ◌<◌, ◌≤◌, ◌&&◌, ◌++◌, Bool, true, false, not, List, get_or, length, map, nat_lt, take, Option, Some, None, if◌then◌else◌}
+use Rattle.std.specs.List.{All, list_all}
 use Rattle.std.specs.Ordering.{is_eq, is_lt}
 use Rattle.std.specs.declared.cmp.Ordering.{Ordering}
 use Rattle.bt_rowtype.specs.Values.{value_cmp}
@@ -72,6 +72,14 @@ pub record IsWithin (def : Definition) (columns : ℕ) : Type 0 where
   pub on : All (λ place. place < columns) def.on
   pub include : All (λ place. place < columns) def.include
   pub condition : HasPlace def.condition columns
+
+-- the same as tests
+abbrev pub has_place : Option Condition → ℕ → Bool
+has_place None columns = true
+has_place (Some condition) columns = nat_lt condition.place columns
+
+abbrev pub is_within : Definition → ℕ → Bool
+is_within def columns = list_all (λ place. nat_lt place columns) def.on && list_all (λ place. nat_lt place columns) def.include && has_place def.condition columns
 
 -- the constant of a condition is of the kind at its place
 abbrev pub HasKind : Option Condition → List Kind → Type 0

@@ -4,4 +4,5 @@ pub mod Effects
 pub mod Entries
 pub mod Groups
 pub mod Promises
+pub mod Readings
 pub mod Selections

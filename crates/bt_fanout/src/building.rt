@@ -1,12 +1,11 @@
-//! Steps of building an index.
+//! What rows mean for an index that does not cover them yet.
 ghost use Rattle.std.specs.Prelude.{◌≡◌, ◌++◌, IfOk, OnOk, length};
 ghost use Rattle.std.specs.List.{All};
 ghost use Rattle.bt_messages.specs.Messages.{sorted_batch};
-ghost use Rattle.bt_fanout.specs.Covers.{next_cover, put_of};
+ghost use Rattle.bt_fanout.specs.Covers.{put_of};
 ghost use Rattle.bt_fanout.specs.Entries.{IsWithin};
 ghost use Rattle.bt_fanout.specs.Promises.{BuildsFrom, own_puts};
 
-use crate::cover::Cover;
 use crate::definition::IndexDef;
 use crate::selecting::entry;
 use bt_keycode::Key;
@@ -15,7 +14,7 @@ use bt_rowtype::Row;
 use std::alloc::{AllocError, Global};
 
 // Adds a put of an entry, if there is one.
-fn add_put(
+pub(crate) fn add_put(
     messages: &mut Vec<(Key, Message<Entry>)>,
     entry: Option<(Key, Entry)>,
 ) -> Result<(), AllocError>
@@ -45,22 +44,4 @@ pub fn build_packet(
         add_put(&mut messages, entry(alloc, def, &row.1)?)?;
     }
     Packet::from_batch(alloc, messages)
-}
-
-/// The cover after a step of building that was to read so many rows and read these: all keys, where they are fewer.
-pub fn cover_after(
-    alloc: Global,
-    cover: Cover,
-    count: usize,
-    rows: &[(Key, Row)],
-) -> Result<Cover, AllocError>
-    ensures { IfOk result (λ new. new ≡ next_cover count cover rows.now) }
-{
-    if rows.len() < count {
-        return Ok(Cover::Whole);
-    }
-    match rows {
-        [.., last] => Ok(Cover::UpTo(last.0.copy(alloc)?)),
-        [] => Ok(cover),
-    }
 }

@@ -1,8 +1,9 @@
 //! How far an index covers the rows.
-ghost use Rattle.std.specs.Prelude.{◌≡◌};
+ghost use Rattle.std.specs.Prelude.{◌≡◌, ◌++◌, ◌∷◌, [], IfOk};
 ghost use Rattle.bt_fanout.specs.Covers.{is_covered};
 
 use bt_keycode::Key;
+use std::alloc::{AllocError, Global};
 use std::cmp::Ordering;
 
 /// The keys whose rows an index has.
@@ -25,4 +26,24 @@ pub fn covers(cover: &Cover, key: &Key) -> bool
         Cover::UpTo(last) => last.compare(key) != Ordering::Less,
         Cover::Whole => true,
     }
+}
+
+// A copy of a cover.
+pub(crate) fn copy_cover(alloc: Global, cover: &Cover) -> Result<Cover, AllocError>
+    ensures { IfOk result (λ copy. copy ≡ cover.now) }
+{
+    match cover {
+        Cover::Nothing => Ok(Cover::Nothing),
+        Cover::UpTo(last) => Ok(Cover::UpTo(last.copy(alloc)?)),
+        Cover::Whole => Ok(Cover::Whole),
+    }
+}
+
+// The least of the keys past a key: its bytes, and a byte 0 behind them.
+pub(crate) fn next_key(alloc: Global, key: &Key) -> Result<Key, AllocError>
+    ensures { IfOk result (λ next. next ≡ key.now ++ 0 ∷ []) }
+{
+    let mut bytes = Vec::from_slice(alloc, key.as_slice())?;
+    bytes.push(0)?;
+    Key::from_bytes(alloc, bytes.as_slice())
 }

@@ -1,9 +1,10 @@
 //! What an index is.
-ghost use Rattle.std.specs.Prelude.{◌≡◌, Err, IfErr, IfOk};
+ghost use Rattle.std.specs.Prelude.{◌≡◌, Err, IfErr, IfOk, nat_lt};
+ghost use Rattle.std.specs.List.{list_all};
 ghost use Rattle.std.specs.Option.{option_copied};
 ghost use Rattle.bt_rowtype.specs.Answers.{Answers};
 ghost use Rattle.bt_fanout.specs.Definitions.{definition_as, kinds_of};
-ghost use Rattle.bt_fanout.specs.Entries.{SuitsKinds};
+ghost use Rattle.bt_fanout.specs.Entries as spec;
 
 use crate::reading::read_parts;
 use bt_rowtype::{Filter, Refusal, Schema, Sequence, Test, Texts, Value};
@@ -42,6 +43,28 @@ impl Model for IndexDef {
     ghost view = { λ d. record { on = d.on; include = d.include; condition = d.condition; keys = d.keys } };
 }
 
+// Whether places are below a number of columns.
+fn are_below(places: &[usize], columns: usize) -> bool
+    ensures { result ≡ list_all (λ place. nat_lt place columns) places.now }
+{
+    for place in places {
+        if *place >= columns {
+            return false;
+        }
+    }
+    true
+}
+
+// Whether the place of a condition is.
+fn has_place(condition: &Option<Condition>, columns: usize) -> bool
+    ensures { result ≡ spec.has_place condition.now columns }
+{
+    match condition {
+        None => true,
+        Some(condition) => condition.place < columns,
+    }
+}
+
 impl IndexDef {
     /// The definition of an index on 1 to 4 columns, which includes up to 8, with these names; a name may stand twice.
     ///
@@ -57,7 +80,7 @@ impl IndexDef {
     ) -> Result<Self, Refusal>
         ensures answer { Answers (definition_as schema.now on.now include.now (option_copied filter.entry)) result }
         ensures certain { IfErr (definition_as schema.now on.now include.now (option_copied filter.entry)) (λ e. result ≡ Err e) }
-        ensures suits { IfOk result (λ def. SuitsKinds def (kinds_of schema.now.columns)) }
+        ensures suits { IfOk result (λ def. spec.SuitsKinds def (kinds_of schema.now.columns)) }
         ensures keys { IfOk result (λ def. def.keys ≡ schema.now.keys) }
     {
         let (condition, chosen) = read_parts(
@@ -87,6 +110,15 @@ impl IndexDef {
         ensures { result.now ≡ self.now.include }
     {
         self.include.as_slice()
+    }
+
+    // Whether all places are below a number of columns.
+    pub(crate) fn is_within(&self, columns: usize) -> bool
+        ensures { result ≡ spec.is_within self.now columns }
+    {
+        are_below(self.on(), columns)
+            && are_below(self.include(), columns)
+            && has_place(&self.condition, columns)
     }
 
     // The condition on the rows, if there is one.

@@ -2,7 +2,11 @@
 //!
 //! An index is ordered by some columns of a table, may include others, and may have a filter. A row that passes it has one entry:
 //! its key is the code of the columns that the index is ordered by, with the key of the row behind it, and its value the included
-//! columns. So rows with different keys have entries with different keys. An index that is building covers a part of the keys.
+//! columns. So rows with different keys have entries with different keys.
+//!
+//! An index that is building covers a part of the keys: none at first, then those up to the last row that was read, in the end all. A
+//! batch sends it what changes at keys that it covers. A step of building sends it the entries of the next rows, which are read where
+//! they stand in the tree.
 //!
 //! ```text
 //! // an index on the quantity, of the rows that have a quantity of 15 or more
@@ -11,11 +15,14 @@
 //! // the messages that a packet of rows means for it, worked out while the tree of rows is as it was before
 //! let effects = effects(alloc, &rows, &packet)?;
 //! let entries = index_packet(alloc, &def, &Cover::Whole, effects.as_slice())?;
+//! // the messages of a step of building that reads the first hundred rows not covered yet, and how far the index covers them with it
+//! let BuildStep { packet, cover, read } = build_step(alloc, &def, &cover, &rows, 100)?;
 //! ```
 //!
 //! `specs` has the definitions. `Selections` says, for any entries, what an index selects of a map and which messages a batch sends to
-//! it; `Entries` what the entry of a row is, `Definitions` what names and filters mean, `Covers` which keys a building index covers,
-//! `Effects` what a batch does to rows, and `Promises` what the messages of an index do.
+//! it; `Entries` what the entry of a row is, `Definitions` what names and filters mean, `Covers` which keys a building index covers and
+//! what a step of building reads, `Effects` what a batch does to rows, and `Promises` what the messages of an index do. `Readings` has
+//! what a step of building keeps of the rows while it reads them.
 #![tactic(auto)]
 
 mod building;
@@ -26,11 +33,13 @@ mod lookup;
 mod packet;
 mod reading;
 mod selecting;
+mod step;
 
-pub use building::{build_packet, cover_after};
+pub use building::build_packet;
 pub use cover::{Cover, covers};
 pub use definition::{Condition, IndexDef, MOST_INCLUDED, MOST_ON};
 pub use effect::Effect;
 pub use lookup::effects;
 pub use packet::index_packet;
 pub use selecting::{add_first, entry};
+pub use step::{BuildStep, build_step};

@@ -10,11 +10,13 @@ use Rattle.bt_keycode.specs.Codes.{kind_of}
 use Rattle.bt_messages.specs.Effects.{Rows, rows_after}
 use Rattle.bt_keycode.specs.Keys.{key_cmp}
 use Rattle.bt_messages.specs.Messages.{Messages}
+use Rattle.bt_fanout.specs.Covers.{is_whole}
 use Rattle.bt_fanout.specs.Effects.{RowMessage, SuitsEffect, SuitsIn, effects_at, effects_of, row_effect}
 use Rattle.bt_fanout.specs.Entries.{Definition, IsWithin, StandsUnder, SuitsKinds, entry_of}
 use Rattle.bt_fanout.specs.Promises.{index_of}
 use Rattle.bt_fanout.specs.Selections.{AllStand, covered, named, select}
-use Rattle.bt_fanout.specs.declared.cover.Cover.TheVariants.{Nothing, Whole}
+use Rattle.bt_fanout.specs.declared.cover.Cover.{Cover}
+use Rattle.bt_fanout.specs.declared.cover.Cover.TheVariants.{Nothing, UpTo, Whole}
 
 pub all_none : {X : Type 0} (P : X → Type 0) → All P []
 all_none P i d l = absurd (omega arith)
@@ -47,11 +49,11 @@ module _ (def : Definition) (kinds : List Kind) (suits : SuitsKinds def kinds) w
 
 -- ---- covers
 
-none_covered : {X : Type 0} (rows : Rows X) → covered (λ k. false) rows ≡ []
+pub none_covered : {X : Type 0} (rows : Rows X) → covered (λ k. false) rows ≡ []
 none_covered [] = refl
 none_covered (r ∷ rows) = none_covered rows
 
-all_covered : {X : Type 0} (rows : Rows X) → covered (λ k. true) rows ≡ rows
+pub all_covered : {X : Type 0} (rows : Rows X) → covered (λ k. true) rows ≡ rows
 all_covered [] = refl
 all_covered (r ∷ rows) = ap (λ rs. r ∷ rs) (all_covered rows)
 
@@ -60,5 +62,7 @@ pub of_nothing : (def : Definition) (rows : Rows (List Value)) → index_of def 
 of_nothing def rows = ap (select (entry_of def)) (none_covered rows)
 
 -- a completed one holds what its definition selects
-pub of_whole : (def : Definition) (rows : Rows (List Value)) → index_of def Whole rows ≡ select (entry_of def) rows
-of_whole def rows = ap (select (entry_of def)) (all_covered rows)
+pub of_whole : (def : Definition) (cover : Cover) (rows : Rows (List Value)) → is_whole cover ≡ true → index_of def cover rows ≡ select (entry_of def) rows
+of_whole def Nothing rows whole = cc
+of_whole def (UpTo last) rows whole = cc
+of_whole def Whole rows whole = ap (select (entry_of def)) (all_covered rows)
