@@ -1,8 +1,7 @@
 -- Which messages the records of a batch spell, and that a table stays sound under them. Serves the invariant of a table.
-use Rattle.std.proofs.Common.{ℕ, arith, ◌+◌, ◌≡◌, ◌==◌, ◌∙◌, ◌++◌, Bool, true, false, not, length, List, [], ◌∷◌, refl, sym, ap, subst, T, take, Option, Some, None, IfOk, IfSome, Result, Ok, Err}
-use Rattle.std.proofs.lemmas.Bool.Decides.{nat_tests}
+use Rattle.std.proofs.Common.{ℕ, arith, ◌+◌, ◌≡◌, ◌∙◌, ◌++◌, Bool, true, false, not, List, [], ◌∷◌, refl, sym, ap, subst, T, take, Option, Some, None, IfOk, IfSome, Result, Ok, Err}
 use Rattle.std.specs.FinMap.{is_sorted}
-use Rattle.std.specs.List.{filter_map}
+use Rattle.std.specs.List.{filter_map, list_all}
 use Rattle.std.specs.Result.{result_ok}
 use Rattle.bt_messages.specs.declared.message.Message.{Message}
 use Rattle.bt_rowtype.specs.Ops.{Change, OpsFit, after_ops, default_row, upsert_as}
@@ -28,14 +27,14 @@ use Rattle.bt_fanout.specs.Effects.{entry_effect}
 use Rattle.bt_rowtype.specs.declared.item.Item.{Item}
 use Rattle.bt_rowtype.specs.declared.item.Item.TheVariants.{Put, Del, Ups}
 use Rattle.bt_table.specs.Batches.{del_of, made, messages_of, one_if, put_of, read_batch, read_key, read_message, ups_of}
-use Rattle.bt_table.specs.Standing.{AllStand, AreOfSchema, AreSoundIndexes, IsOfSchema, IsSoundIndex, IsSoundTable, Stands, Suits}
+use Rattle.bt_table.specs.Standing.{AllStand, AreOfSchema, IsOfSchema, IsSoundIndex, IsSoundTable, Stands, Suits}
 use Rattle.bt_table.specs.Tables.{Intact, PlainTable, RowMessage, RowMessages, after_batch, row_effect}
 use Rattle.bt_fanout.specs.Entries.{Definition}
 use Rattle.bt_fanout.proofs.offered.Suiting.{of_nothing}
-use Rattle.bt_table.specs.Calls.{Upkeep, Draining, Rebuilding, renewed, renewed_index, with_index, with_renewed_index, with_renewed_rows, with_rows, without_index}
-use Rattle.bt_table.specs.Indexes.{empty_index, index_named}
+use Rattle.bt_table.specs.Calls.{Upkeep, Draining, Rebuilding, renewed, renewed_index, with_index, with_index_at, with_renewed_index, with_renewed_rows, with_rows, without_index}
+use Rattle.bt_table.specs.Indexes.{built_index, empty_index, index_named, is_complete}
 use Rattle.bt_table.specs.declared.index.Index.{Index}
-use Rattle.bt_table.proofs.Indexes.{indexes_stay_sound, sound-append, sound-found, sound-remove, sound-set}
+use Rattle.bt_table.proofs.Indexes.{all_packed-sound, built-sound, indexes_stay_sound, sound-append, sound-found, sound-remove, sound-set}
 use Rattle.bt_table.proofs.Sinks.{has_shape-after_batch, holds-after_batch}
 use Rattle.bt_table.proofs.Standing.{rows_after-stand}
 
@@ -141,30 +140,20 @@ without_index-sound table place sound = record {
 
 -- ---- rows that are loaded, and trees that are renewed
 
-none_building : (none bare : Bool) → least (one_if (not none) Building ++ one_if (not bare) NotEmpty) ≡ None → none ≡ true
+pub none_building : (complete bare : Bool) → least (one_if (not complete) Building ++ one_if (not bare) NotEmpty) ≡ None → complete ≡ true
 none_building true bare allowed = refl
 none_building false true allowed = absurd cc
 none_building false false allowed = absurd cc
 
-no_length : (n : ℕ) → (n == 0) ≡ true → n ≡ 0
-no_length n test = grind (arith, nat_tests)
-
-none_left : (indexes : List Index) → length indexes ≡ 0 → indexes ≡ []
-none_left [] none = refl
-none_left (index ∷ indexes) none = absurd (omega (arith, none))
-
--- a table that may load rows has no index
-pub no_indexes : (indexes : List Index) (bare : Bool) → least (one_if (not (length indexes == 0)) Building ++ one_if (not bare) NotEmpty) ≡ None → indexes ≡ []
-no_indexes indexes bare allowed = none_left indexes (no_length (length indexes) (none_building (length indexes == 0) bare allowed))
-
--- rows that stand in their places, in the order of their keys, in a table with no index
-pub with_rows-sound : (table : PlainTable) (rows : Rows (List Value)) → AllStand table.schema rows → T (is_sorted key_cmp rows) → table.indexes ≡ [] → IsSoundTable table → IsSoundTable (with_rows table rows)
-with_rows-sound table rows stand sorted none sound = record {
+-- rows that stand in their places, in the order of their keys, in a table whose indexes are complete
+pub with_rows-sound : (table : PlainTable) (rows : Rows (List Value)) → AllStand table.schema rows → T (is_sorted key_cmp rows) → list_all is_complete table.indexes ≡ true → IsSoundTable table
+    → IsSoundTable (with_rows table rows)
+with_rows-sound table rows stand sorted complete sound = record {
   tree = packed-has_shape (Message (List Value) Change) table.shape sound.tree.roomy rows sorted;
   held = packed-holds (Message (List Value) Change) table.shape sound.tree.roomy rows sorted row_effect;
   rows = stand;
   keys = sound.keys;
-  indexes = subst (AreSoundIndexes table.schema table.shape rows) (sym none) tt;
+  indexes = all_packed-sound table.schema table.shape rows sorted stand table.rows table.indexes sound.indexes complete;
 }
 
 module _ {V M : Type 0} (effect : Option V → M → Option V) (shape : Shape) (t : Tree V M) (has : HasShape shape t) where
@@ -195,17 +184,25 @@ renewed_index-sound upkeep schema shape rows index sound = record {
   held = ap (λ (s : Shape). holds entry_effect (renewed upkeep entry_effect s index.tree.1)) sound.shaped ∙ renewed-holds entry_effect shape index.tree.1 sound.tree upkeep ∙ sound.held;
 }
 
--- an index that is found is one of those of the table
-pub with_renewed_index-sound : (upkeep : Upkeep) (table : PlainTable) (name : List ℕ) (found : ℕ × Index) → index_named name table.indexes ≡ Some found → IsSoundTable table
-    → IsSoundTable (with_renewed_index upkeep table found)
-with_renewed_index-sound upkeep table name found is sound =
-    let one : IsSoundIndex table.schema table.shape table.rows found.1 =
-    subst (λ (f : Option (ℕ × Index)). IfSome f (λ g. IsSoundIndex table.schema table.shape table.rows g.1)) is (sound-found table.schema table.shape table.rows 0 name table.indexes sound.indexes) in
-    record {
-      tree = sound.tree;
-      held = sound.held;
-      rows = sound.rows;
-      keys = sound.keys;
-      indexes = sound-set table.schema table.shape table.rows table.indexes found.0 (renewed_index upkeep found.1) sound.indexes
-          (renewed_index-sound upkeep table.schema table.shape table.rows found.1 one);
-    }
+-- a table with a sound index at a place
+pub with_index_at-sound : (table : PlainTable) (place : ℕ) (index : Index) → IsSoundIndex table.schema table.shape table.rows index → IsSoundTable table → IsSoundTable (with_index_at table place index)
+with_index_at-sound table place index one sound = record {
+  tree = sound.tree;
+  held = sound.held;
+  rows = sound.rows;
+  keys = sound.keys;
+  indexes = sound-set table.schema table.shape table.rows table.indexes place index sound.indexes one;
+}
+
+module _ (table : PlainTable) (name : List ℕ) (found : ℕ × Index) (is : index_named name table.indexes ≡ Some found) (sound : IsSoundTable table) where
+  -- an index that is found is one of those of the table
+  pub found-sound : IsSoundIndex table.schema table.shape table.rows found.1
+  found-sound = subst (λ (f : Option (ℕ × Index)). IfSome f (λ g. IsSoundIndex table.schema table.shape table.rows g.1)) is (sound-found table.schema table.shape table.rows 0 name table.indexes sound.indexes)
+
+  pub with_renewed_index-sound : (upkeep : Upkeep) → IsSoundTable (with_renewed_index upkeep table found)
+  with_renewed_index-sound upkeep =
+      with_index_at-sound table found.0 (renewed_index upkeep found.1) (renewed_index-sound upkeep table.schema table.shape table.rows found.1 found-sound) sound
+
+  pub with_built_index-sound : (n : ℕ) → IsSoundTable (with_index_at table found.0 (built_index n table.rows found.1))
+  with_built_index-sound n =
+      with_index_at-sound table found.0 (built_index n table.rows found.1) (built-sound table.schema table.shape table.rows (rows_sorted table sound) sound.rows n found.1 found-sound) sound

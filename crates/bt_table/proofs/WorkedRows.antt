@@ -1,19 +1,20 @@
 -- Worked calls, computed by the definitions themselves. Serves as a test of the definitions.
-use Rattle.std.proofs.Common.{List, [], ◌∷◌, ◌≡◌, refl, codes}
+use Rattle.std.proofs.Common.{ℕ, List, [], ◌∷◌, ◌≡◌, true, false, refl, codes}
 use Rattle.std.specs.Prelude.{Result, Ok, Err, Some, None, pos}
 use Rattle.bt_rowtype.specs.Schemas.{Schema}
 use Rattle.bt_rowtype.specs.declared.refusal.Refusal.{Refusal}
-use Rattle.bt_rowtype.specs.declared.refusal.Refusal.TheVariants.{BadField, BadLength, Failed, NoSuchTree}
+use Rattle.bt_rowtype.specs.declared.refusal.Refusal.TheVariants.{AlreadyComplete, BadField, BadLength, Building, Failed, NoSuchTree}
 use Rattle.bt_rowtype.specs.declared.value.Kind.TheVariants as kind
 use Rattle.bt_rowtype.specs.declared.value.Value.TheVariants as value
 use Rattle.bt_rowtype.proofs.offered.OnLiterals.{rowtype_on_literals}
 use Rattle.bt_keycode.specs.Prefixes.{eight_bytes}
 use Rattle.bt_rowtype.specs.declared.item.Item.TheVariants.{Put, Del, Ups}
 use Rattle.bt_table.specs.Batches.{made}
-use Rattle.bt_table.specs.Calls.{Call, Apply, Get, step, tree_named}
+use Rattle.bt_fanout.specs.Entries.{Definition}
+use Rattle.bt_table.specs.Calls.{Call, Apply, BuildStep, CreateIndex, Get, Load, step, tree_named}
 use Rattle.bt_table.specs.Tables.{TableState, Intact, Lost, empty_table}
 use Rattle.bt_table.specs.declared.reply.Reply.{Reply}
-use Rattle.bt_table.specs.declared.reply.Reply.TheVariants.{Batch, Row}
+use Rattle.bt_table.specs.declared.reply.Reply.TheVariants.{Batch, Built, Row}
 
 -- a key, and a number of each
 abbrev stock : Schema
@@ -80,3 +81,54 @@ lost_name = refl
 
 pub other_name : tree_named empty (codes "second") ≡ Err NoSuchTree
 other_name = refl
+
+-- ---- steps of building
+
+-- three rows, and an index of their numbers
+abbrev three : Call
+three = Apply (Put (codes "1" ∷ codes "10" ∷ []) ∷ Put (codes "2" ∷ codes "20" ∷ []) ∷ Put (codes "3" ∷ codes "30" ∷ []) ∷ [])
+
+abbrev q : List ℕ
+q = codes "q"
+
+abbrev numbers : Definition
+numbers = record { on = 1 ∷ []; include = []; condition = None; keys = 1 }
+
+-- what a call is answered after three rows, a new index and these calls
+abbrev answered : List Call → Call → Result Reply Refusal
+answered calls call = reply_of (after empty (three ∷ CreateIndex q numbers ∷ calls)) call
+
+pub first_step : answered [] (BuildStep q 2) ≡ Ok (Built q 2 false)
+unfolding eight_bytes rowtype_on_literals
+first_step = refl
+
+-- a step that reads just the rows that are left does not complete the index, and the next one does
+pub exact_step : answered [] (BuildStep q 3) ≡ Ok (Built q 3 false)
+unfolding eight_bytes rowtype_on_literals
+exact_step = refl
+
+pub last_step : answered (BuildStep q 3 ∷ []) (BuildStep q 1) ≡ Ok (Built q 0 true)
+unfolding eight_bytes rowtype_on_literals
+last_step = refl
+
+pub no_step : answered [] (BuildStep q 0) ≡ Ok (Built q 0 false)
+unfolding eight_bytes rowtype_on_literals
+no_step = refl
+
+pub complete : answered (BuildStep q 9 ∷ []) (BuildStep q 0) ≡ Err AlreadyComplete
+unfolding eight_bytes rowtype_on_literals
+complete = refl
+
+pub no_index : answered [] (BuildStep (codes "primary") 1) ≡ Err NoSuchTree
+unfolding eight_bytes rowtype_on_literals
+no_index = refl
+
+-- a batch sends messages for rows up to the last one that was read: that of key 2 is deleted there, that of key 3 has another number and is read later
+pub by_cover : answered (BuildStep q 2 ∷ []) (Apply (Del (codes "2" ∷ []) ∷ Put (codes "3" ∷ codes "31" ∷ []) ∷ [])) ≡ Ok (Batch 2 (record { name = q; count = 1 } ∷ []))
+unfolding eight_bytes rowtype_on_literals
+by_cover = refl
+
+-- a load comes after complete indexes, and not beside one that is built
+pub load_beside : answered [] (Load (codes "id,qty\n")) ≡ Err Building
+unfolding eight_bytes rowtype_on_literals
+load_beside = refl

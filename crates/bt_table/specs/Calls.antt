@@ -2,12 +2,12 @@
 use Rattle.std.specs.Prelude.{ℕ, ◌≡◌, ◌≢◌, ◌≤◌, ◌==◌, ◌||◌, ◌&&◌, ◌⊎◌, Bool, not, List, [], ◌∷◌, ◌++◌, is_some, length, map, nat_le, set, Option, Some, None, option_map, Result, Ok, Err, if◌then◌else◌, codes}
 use Rattle.std.specs.Cmp.Lexicographic.{pointwise}
 use Rattle.std.specs.FinMap.{find}
-use Rattle.std.specs.List.{remove}
+use Rattle.std.specs.List.{list_all, remove}
 use Rattle.bt_rowtype.specs.Refusals.{least}
 use Rattle.bt_rowtype.specs.Schemas.{Schema}
 use Rattle.bt_rowtype.specs.declared.refusal.Refusal.{Refusal}
 use Rattle.bt_rowtype.specs.Values.{or_refused}
-use Rattle.bt_rowtype.specs.declared.refusal.Refusal.TheVariants.{Building, Failed, NameTaken, NoSuchTree, NotEmpty, OutOfMemory, TooMany}
+use Rattle.bt_rowtype.specs.declared.refusal.Refusal.TheVariants.{AlreadyComplete, Building, Failed, NameTaken, NoSuchTree, NotEmpty, OutOfMemory, TooMany}
 use Rattle.bt_rowtype.specs.declared.value.Value.{Value}
 use Rattle.bt_keycode.specs.Codes.{code_of}
 use Rattle.bt_keycode.specs.Keys.{key_cmp}
@@ -19,19 +19,20 @@ use Rattle.bt_node.specs.Walks.{is_leaf, rows_of}
 use Rattle.bt_load.specs.Loads.{loaded}
 use Rattle.bt_load.specs.Maps.{map_of}
 use Rattle.bt_rowtype.specs.declared.item.Item.{Item}
+use Rattle.bt_fanout.specs.Covers.{next_rows}
 use Rattle.bt_fanout.specs.Effects.{entry_effect}
 use Rattle.bt_fanout.specs.Definitions.{kinds_of}
 use Rattle.bt_fanout.specs.Entries.{Definition, SuitsKinds}
 use Rattle.bt_fanout.specs.Promises.{index_of}
 use Rattle.bt_table.specs.Batches.{and_then, batch_refusals, made, messages_of, one_if, read_key}
-use Rattle.bt_table.specs.Indexes.{empty_index, index_named, packet_of, sent_count, with_tree}
-use Rattle.bt_table.specs.Standing.{AllStand, KeysRise}
+use Rattle.bt_table.specs.Indexes.{built_index, empty_index, index_named, is_complete, packed_index, packet_of, sent_count, with_tree}
+use Rattle.bt_table.specs.Standing.{AllStand, HoldsSelection, KeysRise}
 use Rattle.bt_table.specs.Tables.{PlainTable, RowMessages, RowTree, TableState, Intact, Lost, after_batch, row_effect}
 use Rattle.bt_table.specs.declared.index.Index.{Index}
 use Rattle.bt_table.specs.declared.table.TreeRef.{TreeRef}
 use Rattle.bt_table.specs.declared.table.TreeRef.TheVariants as shown
 use Rattle.bt_table.specs.declared.reply.Reply.{Reply}
-use Rattle.bt_table.specs.declared.reply.Reply.TheVariants.{Batch, Created, Drained, Dropped, Loaded, Rebuilt, Row}
+use Rattle.bt_table.specs.declared.reply.Reply.TheVariants.{Batch, Built, Created, Drained, Dropped, Loaded, Rebuilt, Row}
 use Rattle.bt_table.specs.declared.reply.SentCount.{SentCount}
 
 -- what a table may be asked
@@ -42,6 +43,8 @@ pub data Call : Type 0 where
   Get : (fields : List (List ℕ)) → Call
   -- for a new index of a definition
   CreateIndex : (name : List ℕ) → (def : Definition) → Call
+  -- to read so many more rows for an index
+  BuildStep : (name : List ℕ) → (count : ℕ) → Call
   -- to have an index no more
   DropIndex : (name : List ℕ) → Call
   -- to take the records of a text as its rows
@@ -87,6 +90,20 @@ abbrev pub dropped : PlainTable → List ℕ → Option (ℕ × Index) → Resul
 dropped table name None = Err NoSuchTree
 dropped table name (Some found) = Ok (Intact (without_index table found.0), Dropped name)
 
+-- a table with another index at a place
+abbrev pub with_index_at : PlainTable → ℕ → Index → PlainTable
+with_index_at table place index = record table { indexes = set table.indexes place index }
+
+-- what a step of building of the index at a place, which is to read n rows, leaves of a table, and what it answers: how many rows it read, and whether the index is complete
+abbrev pub after_build : PlainTable → List ℕ → ℕ → ℕ × Index → TableState × Reply
+after_build table name n found =
+    (Intact (with_index_at table found.0 (built_index n table.rows found.1)), Built name (length (next_rows n found.1.cover table.rows)) (is_complete (built_index n table.rows found.1)))
+
+-- the index of this name is built on, or there is none, or it is complete
+abbrev pub built : PlainTable → List ℕ → ℕ → Option (ℕ × Index) → Result (TableState × Reply) Refusal
+built table name n None = Err NoSuchTree
+built table name n (Some found) = if is_complete found.1 then Err AlreadyComplete else Ok (after_build table name n found)
+
 -- how many messages of a batch each index is sent
 abbrev pub sent_counts : PlainTable → RowMessages → List SentCount
 sent_counts table batch = map (λ index. sent_count index (packet_of table.rows batch index)) table.indexes
@@ -97,17 +114,17 @@ sent_counts table batch = map (λ index. sent_count index (packet_of table.rows 
 abbrev pub is_bare : RowTree → Bool
 is_bare tree = is_leaf tree && (length (rows_of tree) == 0)
 
--- the refusals that apply to a load, whatever its text is: there is an index, or there may be rows
+-- the refusals that apply to a load, whatever its text is: some index is not complete, or there may be rows
 abbrev pub load_refusals : List Index → RowTree → List Refusal
-load_refusals indexes tree = one_if (not (length indexes == 0)) Building ++ one_if (not (is_bare tree)) NotEmpty
+load_refusals indexes tree = one_if (not (list_all is_complete indexes)) Building ++ one_if (not (is_bare tree)) NotEmpty
 
 -- the map of the rows of a text, or the least refusal: of its header and its records, of the table, of a key that comes again
 abbrev pub loaded_rows : PlainTable → List ℕ → Result (Rows (List Value)) Refusal
 loaded_rows table text = and_then (map_of table.schema.keys) (and_then (unless (load_refusals table.indexes table.tree)) (loaded table.schema.columns text))
 
--- a table with these rows in place of its own, in a tree that is packed of them
+-- a table with these rows in place of its own, in a tree that is packed of them, and with indexes whose trees are packed of their entries
 abbrev pub with_rows : PlainTable → Rows (List Value) → PlainTable
-with_rows table rows = record table { rows = rows; tree = packed table.shape rows }
+with_rows table rows = record table { rows = rows; tree = packed table.shape rows; indexes = map (packed_index rows) table.indexes }
 
 -- what rows, by their keys, make of a table that loads them
 abbrev pub after_load : PlainTable → Rows (List Value) → TableState × Reply
@@ -134,7 +151,7 @@ abbrev pub with_renewed_rows : Upkeep → PlainTable → PlainTable
 with_renewed_rows upkeep table = record table { tree = renewed upkeep row_effect table.shape table.tree }
 
 abbrev pub with_renewed_index : Upkeep → PlainTable → ℕ × Index → PlainTable
-with_renewed_index upkeep table found = record table { indexes = set table.indexes found.0 (renewed_index upkeep found.1) }
+with_renewed_index upkeep table found = with_index_at table found.0 (renewed_index upkeep found.1)
 
 -- a table after it was done for the tree of this name, if there is one
 abbrev pub with_renewed : Upkeep → PlainTable → List ℕ → Result PlainTable Refusal
@@ -149,6 +166,7 @@ step (Intact table) (Apply items) =
     (Intact (after_batch table (messages_of table.schema items)), Batch (length items) (sent_counts table (messages_of table.schema items)))
 step (Intact table) (Get fields) = made (λ key. (Intact table, Row (find key_cmp (code_of key) table.rows))) (read_key table.schema 1 fields)
 step (Intact table) (CreateIndex name def) = unless (name_refusals table name) (Intact (with_index table name def), Created name)
+step (Intact table) (BuildStep name count) = built table name count (index_named name table.indexes)
 step (Intact table) (DropIndex name) = dropped table name (index_named name table.indexes)
 step (Intact table) (Load text) = made (after_load table) (loaded_rows table text)
 step (Intact table) (Drain name) = made (λ after. (Intact after, Drained name)) (with_renewed Draining table name)
@@ -189,10 +207,11 @@ pub record ShowsRows (table : PlainTable) (schema : Schema) (tree : Shape × Row
   pub stand : AllStand table.schema table.rows
   pub order : KeysRise table.schema table.rows
 
--- the tree of an index holds what its definition, which is one of the schema, selects of the rows that it covers
+-- the tree of an index holds what its definition, which is one of the schema, selects of the rows that it covers: of all rows, where it is complete
 pub record ShowsIndex (table : PlainTable) (schema : Schema) (index : Index) : Type 0 where
   pub schema_is : schema ≡ table.schema
   pub held : holds entry_effect index.tree.1 ≡ index_of index.def index.cover table.rows
+  pub complete : HoldsSelection table.rows index
   pub suits : SuitsKinds index.def (kinds_of table.schema.columns)
   pub keys : index.def.keys ≡ table.schema.keys
   pub few : table.schema.keys ≤ length table.schema.columns

@@ -1,15 +1,17 @@
--- The indexes of a table: how they are found, what a batch sends them, and what they are after it.
+-- The indexes of a table: how they are found, what a batch or a step of building sends them, and what they are after it and after a load.
 use Rattle.std.specs.Prelude.{ℕ, suc, ◌==◌, Bool, true, false, List, [], ◌∷◌, length, map, Option, Some, None, if◌then◌else◌}
 use Rattle.std.specs.Cmp.Lexicographic.{pointwise}
 use Rattle.bt_rowtype.specs.declared.value.Value.{Value}
 use Rattle.bt_messages.specs.Effects.{Rows}
 use Rattle.bt_messages.specs.Messages.{Messages, sorted_batch}
+use Rattle.bt_node.specs.Drains.{packed}
 use Rattle.bt_node.specs.Flushes.{sunk}
 use Rattle.bt_node.specs.Trees.{Shape, Tree, leaf}
-use Rattle.bt_fanout.specs.Covers.{is_covered}
+use Rattle.bt_fanout.specs.Covers.{cover_after, is_covered, is_whole, next_rows, puts_of}
 use Rattle.bt_fanout.specs.Effects.{EntryMessage, RowMessage, entry_effect, row_effect, sent_for_all}
 use Rattle.bt_fanout.specs.Entries.{Definition, entry_of, same_values}
-use Rattle.bt_fanout.specs.Selections.{index_messages}
+use Rattle.bt_fanout.specs.Promises.{own_puts}
+use Rattle.bt_fanout.specs.Selections.{index_messages, select}
 use Rattle.bt_fanout.specs.declared.cover.Cover.{Cover}
 use Rattle.bt_fanout.specs.declared.cover.Cover.TheVariants.{Nothing, UpTo, Whole}
 use Rattle.bt_fanout.specs.declared.effect.Effect.{Effect}
@@ -48,6 +50,10 @@ empty_index shape name def = record { name = name; def = def; cover = Nothing; t
 abbrev pub covers_nothing : Index → Bool
 covers_nothing index = is_nothing index.cover
 
+-- whether it is complete: it covers each row
+abbrev pub is_complete : Index → Bool
+is_complete index = is_whole index.cover
+
 -- it has another tree
 abbrev pub with_tree : Index → Shape × EntryTree → Index
 with_tree index tree = record index { tree = tree }
@@ -79,3 +85,33 @@ sunk_indexes (index ∷ indexes) (packet ∷ packets) = sunk_index index packet 
 -- indexes after a batch on rows
 abbrev pub indexes_after : Rows (List Value) → Messages RowMessage → List Index → List Index
 indexes_after rows batch indexes = map (λ index. sunk_index index (packet_of rows batch index)) indexes
+
+-- ---- building
+
+-- the packet that a step of building means for an index: the entries of the rows that it reads, the first n that the index doesn't cover, as puts
+abbrev pub building_packet : ℕ → Rows (List Value) → Index → Messages EntryMessage
+building_packet n rows index = sorted_batch (puts_of (entry_of index.def) (next_rows n index.cover rows))
+
+-- an index after a packet of its building, which covers more rows then
+abbrev pub advanced : Index → Messages EntryMessage → Cover → Index
+advanced index packet cover = record (sunk_index index packet) { cover = cover }
+
+-- an index after a step of building that is to read n rows
+abbrev pub built_index : ℕ → Rows (List Value) → Index → Index
+built_index n rows index = advanced index (building_packet n rows index) (cover_after n index.cover rows)
+
+-- ---- loads
+
+-- an index of all these rows: its tree is packed of the entries that its definition selects of them
+abbrev pub packed_index : Rows (List Value) → Index → Index
+packed_index rows index = with_tree index (index.tree.0, packed index.tree.0 (select (entry_of index.def) rows))
+
+-- a tree of the entries of rows for an index: they go as puts to an empty one
+abbrev pub entry_tree : Rows (List Value) → Index → Shape × EntryTree
+entry_tree rows index = (index.tree.0, sunk entry_effect index.tree.0 (leaf []) (sorted_batch (own_puts index.def rows)))
+
+-- indexes, each with one of these trees; those for which there is none as they are
+abbrev pub with_trees : List Index → List (Shape × EntryTree) → List Index
+with_trees indexes [] = indexes
+with_trees [] (tree ∷ trees) = []
+with_trees (index ∷ indexes) (tree ∷ trees) = with_tree index tree ∷ with_trees indexes trees

@@ -1,5 +1,5 @@
 -- Where the rows of a table stand, and what is true of a table between any two commands.
-use Rattle.std.specs.Prelude.{◌≡◌, ◌≤◌, length, List, [], ◌∷◌, Option, IfSome, T, map, take}
+use Rattle.std.specs.Prelude.{◌≡◌, ◌≤◌, true, length, List, [], ◌∷◌, Option, IfSome, T, map, take}
 use Rattle.std.specs.FinMap.{is_sorted}
 use Rattle.bt_rowtype.specs.Schemas.{Schema}
 use Rattle.bt_rowtype.specs.Values.{values_cmp}
@@ -10,8 +10,10 @@ use Rattle.bt_node.specs.Messages.{Rows}
 use Rattle.bt_node.specs.Trees.{Shape}
 use Rattle.bt_fanout.specs.Definitions.{kinds_of}
 use Rattle.bt_fanout.specs.Effects.{entry_effect}
-use Rattle.bt_fanout.specs.Entries.{Definition, SuitsKinds}
+use Rattle.bt_fanout.specs.Entries.{Definition, SuitsKinds, entry_of}
 use Rattle.bt_fanout.specs.Promises.{index_of}
+use Rattle.bt_fanout.specs.Selections.{select}
+use Rattle.bt_table.specs.Indexes.{is_complete}
 use Rattle.bt_table.specs.declared.index.Index.{Index}
 use Rattle.bt_table.specs.Tables.{PlainTable, RowMessage, RowMessages, TableState, Intact, Lost, row_effect}
 -- each of the rows stands under the code of its key columns, and is of the schema: one value of each column's kind, within the range of its kind
@@ -25,7 +27,11 @@ pub record IsSoundIndex (schema : Schema) (shape : Shape) (rows : Rows (List Val
   pub tree : HasShape shape index.tree.1
   pub held : holds entry_effect index.tree.1 ≡ index_of index.def index.cover rows
 
--- each of the indexes is
+-- an index that is complete holds exactly the entries that its definition selects from the rows
+abbrev pub HoldsSelection : Rows (List Value) → Index → Type 0
+HoldsSelection rows index = is_complete index ≡ true → holds entry_effect index.tree.1 ≡ select (entry_of index.def) rows
+
+-- each of the indexes is sound
 abbrev pub AreSoundIndexes : Schema → Shape → Rows (List Value) → List Index → Type 0
 AreSoundIndexes schema shape rows [] = Unit {0}
 AreSoundIndexes schema shape rows (index ∷ indexes) = IsSoundIndex schema shape rows index × AreSoundIndexes schema shape rows indexes

@@ -4,10 +4,13 @@ ghost use Rattle.std.specs.List.{All, list_all};
 ghost use Rattle.bt_node.specs.Flushes.{holds};
 ghost use Rattle.bt_node.specs.Drains.{drained};
 ghost use Rattle.bt_fanout.specs.Effects.{SuitsEffect, effects_of, entry_effect, row_effect};
+ghost use Rattle.bt_fanout.specs.Covers.{is_whole};
+ghost use Rattle.bt_fanout.specs.Entries.{IsWithin};
 ghost use Rattle.bt_table.specs.Indexes as spec;
 
 use crate::reply::SentCount;
-use bt_fanout::{Cover, Effect, IndexDef, effects, index_packet};
+use bt_fanout::{Cover, Effect, IndexDef, build_packet, effects, index_packet};
+use bt_keycode::Key;
 use bt_messages::{Entry, Packet};
 use bt_node::{Shape, Tree};
 use bt_rowtype::{Row, Sequence, Text};
@@ -35,6 +38,25 @@ pub fn empty_index(alloc: Global, shape: Shape, name: Text, def: IndexDef) -> In
         cover: Cover::Nothing,
         tree: Tree::empty(alloc, shape),
     }
+}
+
+/// Whether an index with this cover is complete: it has each row.
+pub fn is_whole(cover: &Cover) -> bool
+    ensures { result ≡ is_whole cover.now }
+{
+    matches!(cover, Cover::Whole)
+}
+
+/// Whether all indexes are.
+pub fn are_complete(indexes: &[Index]) -> bool
+    ensures { result ≡ list_all spec.is_complete indexes.now }
+{
+    for index in indexes {
+        if !is_whole(&index.cover) {
+            return false;
+        }
+    }
+    true
 }
 
 /// The index of this name, and its place, counted from 0.
@@ -78,7 +100,7 @@ fn packets_for(alloc: Global, indexes: &[Index], effects: &[Effect]) -> Result<F
     Ok(FanOut { packets, sent })
 }
 
-// Whether no index has a row yet.
+// Whether no index covers a key yet.
 fn cover_nothing(indexes: &[Index]) -> bool
     ensures { result ≡ list_all spec.covers_nothing indexes.now }
 {
@@ -90,7 +112,7 @@ fn cover_nothing(indexes: &[Index]) -> bool
     true
 }
 
-/// What a packet of rows sends to the indexes of a table with this tree of rows. Nothing is read where no index has a row.
+/// What a packet of rows sends to the indexes of a table with this tree of rows. Nothing is read where no index covers a key.
 pub fn fan_out(
     alloc: Global,
     tree: &Tree<Row>,
@@ -171,4 +193,75 @@ pub fn drain_tree(alloc: Global, indexes: &mut Vec<Index>, place: usize) -> Resu
     ensures { OnOk result (IfSome (slice_get indexes.old.items place) (λ index. indexes.new.items ≡ set indexes.old.items place (spec.with_tree index (index.tree.0, drained entry_effect index.tree.0 index.tree.1)))) }
 {
     drain_index(alloc, &mut indexes[place])
+}
+
+// Sends an index a packet of its building, after which it has more rows. An `Err` leaves it with an empty tree.
+fn advance(
+    alloc: Global,
+    index: &mut Index,
+    packet: Packet<Entry>,
+    cover: Cover,
+) -> Result<(), AllocError>
+    ensures { OnOk result (index.new ≡ spec.advanced index.old packet cover) }
+{
+    let empty = Tree::empty(alloc, index.tree.shape());
+    let tree = mem::replace(&mut index.tree, empty);
+    index.tree = tree.sink(alloc, packet)?;
+    index.cover = cover;
+    Ok(())
+}
+
+/// Sends the index at a place a packet of its building, after which it has more rows. An `Err` leaves it with an empty tree.
+pub fn advance_index(
+    alloc: Global,
+    indexes: &mut Vec<Index>,
+    place: usize,
+    packet: Packet<Entry>,
+    cover: Cover,
+) -> Result<(), AllocError>
+    requires { place < length indexes.old.items }
+    ensures { OnOk result (IfSome (slice_get indexes.old.items place) (λ index. indexes.new.items ≡ set indexes.old.items place (spec.advanced index packet cover))) }
+{
+    advance(alloc, &mut indexes[place], packet, cover)
+}
+
+// A tree of the entries of rows for an index.
+fn packed_entries(
+    alloc: Global,
+    index: &Index,
+    rows: &[(Key, Row)],
+) -> Result<Tree<Entry>, AllocError>
+    requires { All (λ row. IsWithin index.now.def (length row.1)) rows.now }
+    ensures { IfOk result (λ tree. tree ≡ spec.entry_tree rows.now index.now) }
+{
+    let packet = build_packet(alloc, &index.def, rows)?;
+    Tree::empty(alloc, index.tree.shape()).sink(alloc, packet)
+}
+
+/// For each index a tree of the entries of rows, beside its own.
+pub fn pack_entries(
+    alloc: Global,
+    indexes: &[Index],
+    rows: &[(Key, Row)],
+) -> Result<Vec<Tree<Entry>>, AllocError>
+    requires { All (λ index. All (λ row. IsWithin index.def (length row.1)) rows.now) indexes.now }
+    ensures { IfOk result (λ trees. trees.items ≡ map (spec.entry_tree rows.now) indexes.now) }
+{
+    let mut trees = Vec::with_capacity(alloc, indexes.len())?;
+    for index in indexes {
+        trees.push(packed_entries(alloc, index, rows)?)?;
+    }
+    Ok(trees)
+}
+
+/// Puts other trees in the places of those of indexes, one for each. Takes no memory.
+pub fn put_trees(indexes: &mut Vec<Index>, trees: Vec<Tree<Entry>>)
+    requires { length trees.items ≡ length indexes.old.items }
+    ensures { indexes.new.items ≡ spec.with_trees indexes.old.items trees.items }
+{
+    let mut place = 0;
+    for tree in trees {
+        put_tree(indexes, place, tree);
+        place += 1;
+    }
 }

@@ -1,14 +1,16 @@
-//! A table: rows of a schema in a tree, under the codes of their keys.
+//! A table: rows of a schema in a tree, under the codes of their keys, and secondary indexes of them.
 //!
-//! Each call is a step of a plain table, a map of rows beside a tree: the state before the call gives the state after it and a reply, or
-//! a refusal, and then the table stays. Whatever is called, each row stands under the code of its key columns and is of the schema, and
-//! the tree fits its shape and holds the rows. A batch is applied whole or not at all. Where memory is wanting once the tree is taken apart,
-//! the table is lost: from then on each call is refused as `Failed`.
+//! Each call is a step of a plain table, a map of rows beside its trees: the state before the call gives the state after it and a reply, or
+//! a refusal, and then the table stays. Whatever is called, each row stands under the code of its key columns and is of the schema, each
+//! tree fits its shape, that of the rows holds the rows, and each complete index holds exactly the entries that its definition selects from
+//! the rows now; one that is still built, those of the rows that it covers. A batch is applied whole or not at all. Where memory is wanting
+//! once a tree is taken apart, the table is lost: from then on each call is refused as `Failed`.
 //!
 //! ```text
 //! let mut table = Table::new(alloc, schema, shape);
-//! let reply = table.apply(alloc, items)?;                      // Reply::Batch(3)
-//! let rows = table.tree(&primary)?.tree.rows(alloc)?;          // the rows by rising key
+//! let reply = table.apply(alloc, items)?;                      // Reply::Batch { count: 3, .. }
+//! let reply = table.create_index(alloc, name, def)?;           // Reply::Created(name)
+//! let reply = table.build_step(alloc, &name, 1_000)?;          // Reply::Built { read: 3, complete: true, .. }
 //! ```
 //!
 //! `specs` has the definitions: `Tables` what a table is and what a batch leaves of it, `Batches` which messages records spell and why they are

@@ -20,6 +20,12 @@ pub enum Reply {
     Row(Option<Row>),
     /// The index of this name was created.
     Created(Text),
+    /// A step of building of the index of this name read so many rows, and the index is complete or not.
+    Built {
+        name: Text,
+        read: usize,
+        complete: bool,
+    },
     /// The index of this name is there no more.
     Dropped(Text),
     /// So many records were loaded.

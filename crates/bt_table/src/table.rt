@@ -9,10 +9,11 @@ ghost use Rattle.bt_table.specs.Tables.{Intact, Lost, empty_table};
 
 use crate::batch::read_messages;
 use crate::index::{
-    FanOut, Index, drain_tree, empty_index, fan_out, find_index, put_tree, sink_all,
+    FanOut, Index, advance_index, are_complete, drain_tree, empty_index, fan_out, find_index,
+    is_whole, pack_entries, put_tree, put_trees, sink_all,
 };
 use crate::reply::Reply;
-use bt_fanout::IndexDef;
+use bt_fanout::{BuildStep, IndexDef, build_step};
 use bt_keycode::encode_row;
 use bt_load::{load_rows, read_records};
 use bt_messages::Packet;
@@ -105,7 +106,7 @@ fn check_load(indexes: &[Index], tree: &Tree<Row>) -> Result<(), Refusal>
     ensures free { OnOk result (least (spec.load_refusals indexes.now tree.now.1) ≡ None) }
     ensures refused { IfErr result (λ refusal. least (spec.load_refusals indexes.now tree.now.1) ≡ Some refusal) }
 {
-    if !indexes.is_empty() {
+    if !are_complete(indexes) {
         return Err(Refusal::Building);
     }
     if !is_bare(tree) {
@@ -215,6 +216,43 @@ impl Table {
         Ok(Reply::Created(created))
     }
 
+    /// One step of building an index: it reads the first `count` rows that the index doesn't cover, or all where they are fewer, and sends it their
+    /// entries; from then on the index covers these rows too, and batches on them. Where they were fewer it is complete. `NoSuchTree` where there is none
+    /// of this name, `AlreadyComplete` where it is complete. After `OutOfMemory` the table is as it was, or lost.
+    pub fn build_step(&mut self, alloc: Global, name: &Text, count: usize) -> Result<Reply, Refusal>
+        ensures done { IfOk result (IsStep self.old self.new (spec.BuildStep name.now count)) }
+        ensures refused { IfErr result (IsRefused self.old self.new (spec.BuildStep name.now count)) }
+        ensures memory { IsErrOf result Refusal.OutOfMemory → StaysOrIsLost self.old self.new }
+        ensures failed { self.old ≡ Lost → IsErrOf result Refusal.Failed }
+    {
+        let Some(trees) = &self.trees else {
+            return Err(Refusal::Failed);
+        };
+        let Some((place, index)) = find_index(trees.indexes.as_slice(), name) else {
+            return Err(Refusal::NoSuchTree);
+        };
+        if is_whole(&index.cover) {
+            return Err(Refusal::AlreadyComplete);
+        }
+        let name = name.copy(alloc)?;
+        let BuildStep {
+            packet,
+            cover,
+            read,
+        } = build_step(alloc, &index.def, &index.cover, &trees.rows, count)?;
+        let complete = is_whole(&cover);
+        let Some(Trees { rows, mut indexes }) = self.trees.take() else {
+            return Err(Refusal::Failed);
+        };
+        advance_index(alloc, &mut indexes, place, packet, cover)?;
+        self.trees = Some(Trees { rows, indexes });
+        Ok(Reply::Built {
+            name,
+            read,
+            complete,
+        })
+    }
+
     /// Takes an index out of the table. `NoSuchTree` where there is none of this name. Takes no memory.
     pub fn drop_index(&mut self, name: &Text) -> Result<Reply, Refusal>
         ensures done { IfOk result (IsStep self.old self.new (DropIndex name.now)) }
@@ -234,10 +272,11 @@ impl Table {
         Ok(Reply::Dropped(index.name))
     }
 
-    /// Takes the rows of a CSV text, under a header with the names of the columns in order, as those of a table that has none and no index.
+    /// Takes the rows of a CSV text, under a header with the names of the columns in order, as those of a table that has none, and for each index their
+    /// entries.
     ///
     /// The least refusal that applies is answered, and an `Err` changes nothing: `BadSchema` for another header, `BadField` and `BadLength` with the number of
-    /// the record behind it, `Building` where there is an index, `NotEmpty` where the tree of the rows is more than one leaf without rows, `DuplicateKey` with
+    /// the record behind it, `Building` where some index is not complete, `NotEmpty` where the tree of the rows is more than one leaf without rows, `DuplicateKey` with
     /// the number of the first record whose key an earlier one has. Records are read and sorted in threads.
     pub fn load(
         &mut self,
@@ -257,16 +296,18 @@ impl Table {
         check_load(trees.indexes.as_slice(), &trees.rows)?;
         let pairs = load_rows(rt, alloc, rows, &self.schema)?;
         let count = pairs.len();
+        let entries = pack_entries(alloc, trees.indexes.as_slice(), pairs.as_slice())?;
         let loaded = pack(alloc, trees.rows.shape(), pairs)?;
         let Some(
             Trees {
                 rows: _rows,
-                indexes,
+                mut indexes,
             },
         ) = self.trees.take()
         else {
             return Err(Refusal::Failed);
         };
+        put_trees(&mut indexes, entries);
         self.trees = Some(Trees {
             rows: loaded,
             indexes,

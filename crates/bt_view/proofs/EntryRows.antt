@@ -2,13 +2,13 @@
 use Rattle.std.proofs.Common.{◌≡◌, ◌∙◌, ℕ, Bool, true, false, List, [], ◌∷◌, Option, Some, None, refl, sym, ap, subst, cond, fold, map}
 use Rattle.std.specs.FinMap.{put}
 use Rattle.std.specs.FinMap.Entries.{by_order}
-use Rattle.std.specs.List.{cons_option, filter_map}
+use Rattle.std.specs.List.{cons_option}
 use Rattle.std.specs.Ordering.{is_eq}
 use Rattle.std.specs.declared.cmp.Ordering.{Ordering}
 use Rattle.std.specs.declared.cmp.Ordering.TheVariants.{Less, Equal, Greater}
 use Rattle.bt_rowtype.specs.declared.value.Kind.{Kind}
 use Rattle.bt_rowtype.specs.declared.value.Value.{Value}
-use Rattle.bt_keycode.specs.Codes.{IsCodeOf, code_of, kind_of}
+use Rattle.bt_keycode.specs.Codes.{IsCodeOf, kind_of}
 use Rattle.bt_keycode.specs.Decoding.{decoded}
 use Rattle.bt_keycode.specs.Keys.{Key, is_between, key_cmp}
 use Rattle.bt_keycode.proofs.offered.Decoded.{decoded_again}
@@ -16,7 +16,6 @@ use Rattle.bt_keycode.proofs.offered.Order.{same_key}
 use Rattle.bt_node.specs.Messages.{Rows, between}
 use Rattle.bt_fanout.specs.Selections.{with_entry}
 use Rattle.bt_view.specs.Entries.{and_entry, row_of_entry, rows_of_entries, with_entry_row}
-use Rattle.bt_view.specs.Ranges.{rows_within}
 use Rattle.bt_view.specs.declared.range.KeyRange.{KeyRange}
 
 -- a code of values of these kinds is decoded to them

@@ -1,14 +1,12 @@
 -- Groups of rows that come one after the other are the groups by the codes of their first columns. Serves grouped sums.
-use Rattle.std.proofs.Common.{◌≡◌, ◌∙◌, ◌++◌, ◌==◌, ℕ, Bool, true, false, true≢false, List, [], ◌∷◌, Option, Some, None, inl, inr, refl, sym, ap, fold, map, take, cond, ◌&&◌, if◌then◌else◌}
+use Rattle.std.proofs.Common.{◌≡◌, ◌∙◌, ◌++◌, ◌==◌, ℕ, Bool, true, false, true≢false, List, [], ◌∷◌, Option, Some, None, inl, inr, refl, sym, ap, fold, map, take, cond, if◌then◌else◌}
 use Rattle.std.specs.Prelude.{option_map}
 use Rattle.std.specs.Cmp.{tied_itself}
 use Rattle.std.specs.FinMap.{find, put}
 use Rattle.std.specs.FinMap.Entries.{by_order}
-use Rattle.std.specs.Ordering.{eq_by_cmp, is_eq, is_lt, ordering_reverse}
-use Rattle.std.specs.declared.cmp.Ordering.{Ordering}
-use Rattle.std.specs.declared.cmp.Ordering.TheVariants.{Less, Equal, Greater}
+use Rattle.std.specs.Ordering.{is_eq, ordering_reverse}
+use Rattle.std.specs.declared.cmp.Ordering.TheVariants.{Greater}
 use Rattle.bt_rowtype.specs.Values.{or_refused, same_values}
-use Rattle.bt_rowtype.specs.declared.refusal.Refusal.{Refusal}
 use Rattle.bt_rowtype.specs.declared.refusal.Refusal.TheVariants.{TooMany}
 use Rattle.bt_rowtype.specs.declared.value.Kind.{Kind}
 use Rattle.bt_rowtype.specs.declared.value.Value.{Value}
@@ -19,7 +17,7 @@ use Rattle.bt_keycode.proofs.offered.Codes.{same_code}
 use Rattle.bt_keycode.proofs.offered.Order.{before_chain, is_less, neither_before, sides, total_keys}
 use Rattle.bt_node.specs.Messages.{Rows}
 use Rattle.bt_view.specs.Groups.{added_to, and_row, group_of, groups_of, most_rows, with_row}
-use Rattle.bt_view.specs.Neighbours.{Ascend, Groups, IsOfKinds, NoneBefore, ended, grouped, joined, listed, summed}
+use Rattle.bt_view.specs.Neighbours.{Ascend, Groups, NoneBefore, ended, grouped, joined, listed, summed}
 use Rattle.bt_view.specs.declared.groups.Sum.{Sum}
 use Rattle.bt_view.proofs.RowOrder.{same_values-complete, same_values-sound}
 

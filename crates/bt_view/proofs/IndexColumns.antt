@@ -1,5 +1,5 @@
 -- How many columns an index shows. Serves the calls that read bounds and sums of an index.
-use Rattle.std.proofs.Common.{◌≡◌, ◌≤◌, ◌+◌, ◌++◌, arith, length, map, take, min}
+use Rattle.std.proofs.Common.{◌≡◌, ◌≤◌, ◌+◌, ◌++◌, arith, length, map, take}
 use Rattle.std.proofs.lemmas.List.{length-append, length-map, length-take}
 use Rattle.bt_rowtype.specs.Schemas.{Schema}
 use Rattle.bt_fanout.specs.Entries.{Definition}

@@ -1,7 +1,7 @@
 -- The rows of an index stand under their keys as those of a table do, and are what its entries show. Serves scans and sums of an index.
-use Rattle.std.proofs.Common.{◌≡◌, ◌∙◌, ◌≤◌, ◌<◌, ◌+◌, ℕ, zero, suc, arith, Bool, true, false, true≢false, T, List, [], ◌∷◌, ◌++◌, Option, Some, None, IfSome, refl, sym, ap, subst, cond, append_assoc, get_or, length, map, take, ◌&&◌, if◌then◌else◌}
-use Rattle.std.proofs.lemmas.List.{length-append, length-map, length-take, map-append, take_at}
-use Rattle.std.specs.Cmp.Lexicographic.{pointwise, as_long}
+use Rattle.std.proofs.Common.{◌≡◌, ◌∙◌, ◌≤◌, ◌<◌, ℕ, zero, suc, arith, Bool, true, false, true≢false, T, List, [], ◌∷◌, ◌++◌, Option, Some, None, refl, sym, ap, subst, append_assoc, length, map, take, ◌&&◌, if◌then◌else◌}
+use Rattle.std.proofs.lemmas.List.{length-append, length-map, length-take, take_at}
+use Rattle.std.specs.Cmp.Lexicographic.{as_long}
 use Rattle.std.specs.FinMap.{is_sorted, put}
 use Rattle.std.specs.FinMap.Entries.{by_order, is_sorted-put}
 use Rattle.std.specs.List.{All}

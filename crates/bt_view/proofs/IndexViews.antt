@@ -1,5 +1,5 @@
 -- What a range of an index is answered with. Serves scans and sums of an index.
-use Rattle.std.proofs.Common.{◌≡◌, ◌∙◌, ◌≤◌, ◌<◌, ℕ, arith, length, Bool, true, false, List, [], ◌∷◌, Option, Some, None, Result, Ok, Err, ap, cond, fold, map, refl, subst, sym, take, if◌then◌else◌}
+use Rattle.std.proofs.Common.{◌≡◌, ◌∙◌, ◌≤◌, ◌<◌, ℕ, arith, length, Bool, true, false, List, Option, Some, None, Result, Ok, Err, ap, fold, map, refl, subst, sym, take, if◌then◌else◌}
 use Rattle.std.proofs.lemmas.List.{length-map}
 use Rattle.std.specs.List.{All}
 use Rattle.bt_rowtype.specs.Schemas.{Schema}
@@ -11,14 +11,11 @@ use Rattle.bt_rowtype.specs.declared.value.Kind.{Kind}
 use Rattle.bt_rowtype.specs.declared.value.Value.{Value}
 use Rattle.bt_node.specs.Flushes.{holds}
 use Rattle.bt_node.specs.Messages.{Rows, between}
-use Rattle.bt_fanout.specs.Covers.{is_covered}
+use Rattle.bt_fanout.specs.Covers.{is_whole}
 use Rattle.bt_fanout.specs.Definitions.{kinds_of}
 use Rattle.bt_fanout.specs.Effects.{entry_effect}
-use Rattle.bt_fanout.specs.Entries.{Definition, entry_of}
-use Rattle.bt_fanout.specs.Promises.{index_of}
-use Rattle.bt_fanout.specs.Selections.{covered, select}
-use Rattle.bt_fanout.specs.declared.cover.Cover.{Cover}
-use Rattle.bt_fanout.specs.declared.cover.Cover.TheVariants.{Nothing, UpTo, Whole}
+use Rattle.bt_fanout.specs.Entries.{entry_of}
+use Rattle.bt_fanout.specs.Selections.{select}
 use Rattle.bt_table.specs.Batches.{and_then, made}
 use Rattle.bt_table.specs.Calls.{Secondary, ShowsIndex}
 use Rattle.bt_table.specs.Tables.{PlainTable}
@@ -28,22 +25,12 @@ use Rattle.bt_view.specs.Entries.{and_entry}
 use Rattle.bt_view.specs.Groups.{groups_of, summed_place, sums_of}
 use Rattle.bt_view.specs.Neighbours.{Groups, ended, grouped}
 use Rattle.bt_view.specs.declared.groups.Sum.{Sum}
-use Rattle.bt_view.specs.Ranges.{index_row, index_schema, is_whole, range_as, rows_within, scan_of, when_whole}
+use Rattle.bt_view.specs.Ranges.{index_row, index_schema, range_as, rows_within, scan_of, when_whole}
 use Rattle.bt_view.specs.declared.range.KeyRange.{KeyRange}
-use Rattle.bt_view.proofs.EntryRows.{AreShown, shown-between, shown-fold}
+use Rattle.bt_view.proofs.EntryRows.{shown-between, shown-fold}
 use Rattle.bt_view.proofs.IndexRows.{all_rise, all_shown, all_stand}
 use Rattle.bt_view.proofs.RowOrder.{ascend}
 use Rattle.bt_view.proofs.Summing.{of_rows}
-
--- an index that covers all rows has their entries
-all_covered : {X : Type 0} (cover : Cover) (rows : Rows X) → is_whole cover ≡ true → covered (is_covered cover) rows ≡ rows
-all_covered Nothing rows whole = cc
-all_covered (UpTo last) rows whole = cc
-all_covered Whole rows whole = every rows
-  where
-    every : {X : Type 0} (rows : Rows X) → covered (is_covered Whole) rows ≡ rows
-    every [] = refl
-    every (r ∷ rows) = ap (λ rs. r ∷ rs) (every rows)
 
 -- places of kinds are places of columns
 under : (columns : List Column) (places : List ℕ) → All (λ place. place < length (kinds_of columns)) places → All (λ place. place < length columns) places
@@ -84,9 +71,6 @@ module _ (table : PlainTable) (index : Index) (from to : Option (List (List ℕ)
     scan_refused added sink refusal is =
         refused (fold added sink) range (is_whole index.cover) refusal (subst (λ s. and_then (when_whole index.cover) (range_by s) ≡ Err refusal) shows.schema_is is)
 
-    entries_are : is_whole index.cover ≡ true → holds entry_effect index.tree.1 ≡ select (entry_of index.def) table.rows
-    entries_are whole = shows.held ∙ ap (select (entry_of index.def)) (all_covered index.cover table.rows whole)
-
     -- what goes through the entries of a range goes through the rows
     pub through : {S : Type 0} (added : S → List Value → S) (sink after : S) (own : KeyRange) → is_whole index.cover ≡ true
         → after ≡ fold (and_entry added (kinds_by schema)) sink (between own.from own.to (holds entry_effect index.tree.1)) → after ≡ fold added sink (rows_within own rows)
@@ -97,7 +81,7 @@ module _ (table : PlainTable) (index : Index) (from to : Option (List (List ℕ)
         let kinds = kinds_by table.schema in
         let folds = shown-fold kinds added sink (between own.from own.to (select (entry_of index.def) table.rows)) (between own.from own.to rows) (shown-between kinds own (select (entry_of index.def) table.rows) rows shown) in
         subst (λ s. after ≡ fold (and_entry added (kinds_by s)) sink (between own.from own.to (holds entry_effect index.tree.1))) shows.schema_is said
-        ∙ ap (λ es. fold (and_entry added kinds) sink (between own.from own.to es)) (entries_are whole) ∙ folds
+        ∙ ap (λ es. fold (and_entry added kinds) sink (between own.from own.to es)) (shows.complete whole) ∙ folds
 
     pub scan_done : {S : Type 0} (added : S → List Value → S) (sink after : S) (own : KeyRange) → and_then (when_whole index.cover) (range_by schema) ≡ Ok own
         → after ≡ fold (and_entry added (kinds_by schema)) sink (between own.from own.to (holds entry_effect index.tree.1)) → made (fold added sink) (scan_of from to (Secondary table index)) ≡ Ok after

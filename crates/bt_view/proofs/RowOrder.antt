@@ -1,9 +1,7 @@
 -- The groups of the rows of a range come one after the other. Serves grouped sums.
-use Rattle.std.proofs.Common.{◌≡◌, ◌∙◌, ◌≤◌, ◌==◌, ℕ, zero, suc, arith, Bool, true, false, true≢false, T, List, [], ◌∷◌, ◌⊎◌, inl, inr, refl, sym, ap, subst, cond, map, take, ◌&&◌}
-use Rattle.std.proofs.lemmas.Bool.Decides.{nat_tests}
+use Rattle.std.proofs.Common.{◌≡◌, ◌∙◌, ◌≤◌, ℕ, zero, suc, arith, Bool, true, false, T, List, [], ◌∷◌, ◌⊎◌, inl, inr, refl, sym, ap, subst, cond, map, take, ◌&&◌}
 use Rattle.std.specs.Cmp.{booleans_Decides, signed_Decides}
 use Rattle.std.specs.Cmp.Lexicographic.{bytes_decides}
-use Rattle.std.specs.FinMap.{is_sorted}
 use Rattle.std.specs.FinMap.Entries.{below_all}
 use Rattle.std.specs.Ordering.{is_eq, is_lt, ordering_then}
 use Rattle.std.specs.declared.cmp.Ordering.{Ordering}
@@ -14,8 +12,8 @@ use Rattle.bt_rowtype.specs.Values.{same_value, same_values, value_cmp, values_c
 use Rattle.bt_rowtype.specs.declared.value.Kind.{Kind}
 use Rattle.bt_rowtype.specs.declared.value.Value.{Value}
 use Rattle.bt_rowtype.specs.declared.value.Value.TheVariants as value
-use Rattle.bt_keycode.specs.Codes.{HaveSameKinds, code_of, kind_of}
-use Rattle.bt_keycode.specs.Keys.{Key, is_before, is_between, key_cmp}
+use Rattle.bt_keycode.specs.Codes.{HaveSameKinds, code_of}
+use Rattle.bt_keycode.specs.Keys.{Key, is_before, is_between}
 use Rattle.bt_keycode.proofs.offered.Codes.{codes_ordered}
 use Rattle.bt_keycode.proofs.offered.Order.{not_after, not_before_itself, same_key}
 use Rattle.bt_keycode.proofs.offered.Ranges.{take_in_range}

@@ -1,15 +1,14 @@
 -- What is made of groups as they end is what is made of the list of them. Serves the calls that show groups to a sink.
-use Rattle.std.proofs.Common.{◌≡◌, ◌∙◌, ◌++◌, ◌==◌, ℕ, Bool, true, false, List, [], ◌∷◌, Option, Some, None, Result, Ok, Err, refl, sym, ap, fold, if◌then◌else◌}
+use Rattle.std.proofs.Common.{◌≡◌, ◌∙◌, ◌==◌, ℕ, Bool, true, false, List, [], ◌∷◌, Option, Some, None, refl, sym, ap, fold, if◌then◌else◌}
 use Rattle.std.specs.Prelude.{option_map}
 use Rattle.std.proofs.lemmas.List.Sums.{fold-append}
 use Rattle.bt_rowtype.specs.Values.{or_refused}
-use Rattle.bt_rowtype.specs.declared.refusal.Refusal.{Refusal}
 use Rattle.bt_rowtype.specs.declared.refusal.Refusal.TheVariants.{TooMany}
 use Rattle.bt_rowtype.specs.declared.value.Kind.{Kind}
 use Rattle.bt_rowtype.specs.declared.value.Value.{Value}
 use Rattle.bt_table.specs.Batches.{made}
 use Rattle.bt_view.specs.Groups.{group_of, groups_of, most_rows, with_row}
-use Rattle.bt_view.specs.Neighbours.{Ascend, Groups, ended, grouped, is_of, joined, listed, summed}
+use Rattle.bt_view.specs.Neighbours.{Ascend, Groups, ended, grouped, is_of, listed, summed}
 use Rattle.bt_view.proofs.GroupOrder.{by_neighbours}
 use Rattle.bt_view.specs.declared.groups.Sum.{Sum}
 

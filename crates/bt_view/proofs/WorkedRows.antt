@@ -1,8 +1,8 @@
 -- Rows of an index, computed by the definitions themselves. Serves as a test of the definitions.
 use Rattle.std.proofs.Common.{List, [], ◌∷◌, ℕ, ◌≡◌, refl, codes, pos}
-use Rattle.std.specs.Prelude.{Result, Ok, Err, Option, Some, None}
+use Rattle.std.specs.Prelude.{Ok, Err, Some, None}
 use Rattle.bt_rowtype.specs.Schemas.{Schema}
-use Rattle.bt_rowtype.specs.declared.refusal.Refusal.TheVariants.{BadField, Building, NoSuchColumn, NotInt}
+use Rattle.bt_rowtype.specs.declared.refusal.Refusal.TheVariants.{BadField, Building, NoSuchColumn}
 use Rattle.bt_rowtype.specs.declared.value.Kind.TheVariants as kind
 use Rattle.bt_rowtype.specs.declared.value.Value.{Value}
 use Rattle.bt_rowtype.specs.declared.value.Value.TheVariants as value

@@ -1,5 +1,5 @@
 -- Groups of rows that come one after the other, as a sink of rows keeps them.
-use Rattle.std.specs.Prelude.{ℕ, ◌≡◌, ◌+◌, ◌*◌, ◌==◌, ◌++◌, Bool, false, List, [], ◌∷◌, fold, map, take, Option, Some, None, Result, if◌then◌else◌, pos, neg_ℤ, ◌≤ℤ◌}
+use Rattle.std.specs.Prelude.{ℕ, ◌≡◌, ◌*◌, ◌==◌, ◌++◌, Bool, false, List, [], ◌∷◌, fold, map, take, Option, Some, None, Result, if◌then◌else◌, pos, neg_ℤ, ◌≤ℤ◌}
 use Rattle.bt_rowtype.specs.Packing.{AreInRange}
 use Rattle.bt_rowtype.specs.Values.{or_refused, same_values}
 use Rattle.bt_rowtype.specs.declared.refusal.Refusal.{Refusal}

@@ -1,5 +1,5 @@
 -- The rows of a tree of a table, and those of a range.
-use Rattle.std.specs.Prelude.{ℕ, ◌+◌, ◌++◌, Bool, true, false, List, [], get_or, length, map, take, Option, Some, None, option_map, Result, Ok, Err, if◌then◌else◌}
+use Rattle.std.specs.Prelude.{ℕ, ◌+◌, ◌++◌, List, [], get_or, length, map, take, Option, Some, None, option_map, Result, Ok, Err, if◌then◌else◌}
 use Rattle.bt_rowtype.specs.Ops.{both_read}
 use Rattle.bt_rowtype.specs.Schemas.{Schema}
 use Rattle.bt_rowtype.specs.Values.{prefix_as}
@@ -11,10 +11,10 @@ use Rattle.bt_rowtype.specs.declared.value.Value.{Value}
 use Rattle.bt_keycode.specs.Codes.{code_of}
 use Rattle.bt_keycode.specs.Keys.{Key}
 use Rattle.bt_node.specs.Messages.{Rows, between}
+use Rattle.bt_fanout.specs.Covers.{is_whole}
 use Rattle.bt_fanout.specs.Entries.{Definition, entry_of, picked}
 use Rattle.bt_fanout.specs.Selections.{select}
 use Rattle.bt_fanout.specs.declared.cover.Cover.{Cover}
-use Rattle.bt_fanout.specs.declared.cover.Cover.TheVariants.{Nothing, UpTo, Whole}
 use Rattle.bt_table.specs.Batches.{and_then, made}
 use Rattle.bt_table.specs.Calls.{NamedTree, Primary, Secondary, tree_named}
 use Rattle.bt_table.specs.Tables.{TableState}
@@ -59,11 +59,6 @@ rows_within range rows = map (λ row. row.1) (between range.from range.to rows)
 -- the row that an index has for a row of a table, and its key, if the row passes the filter: the columns that it is ordered by, those of the key, and the included ones
 abbrev pub index_row : ℕ → Definition → Key → List Value → Option (Key × List Value)
 index_row keys def key row = option_map (λ entry. (entry.0, (picked def.on row ++ take keys row) ++ entry.1)) (entry_of def key row)
-
-abbrev pub is_whole : Cover → Bool
-is_whole Nothing = false
-is_whole (UpTo last) = false
-is_whole Whole = true
 
 -- what an index that covers all rows is answered with; another one is building
 abbrev pub when_whole : {T : Type 0} → Cover → T → Result T Refusal

@@ -1,11 +1,12 @@
--- What a call leaves of a sound table is sound.
-use Rattle.std.proofs.Common.{ℕ, ◌≡◌, ◌≤◌, true, false, refl, length, arith, List, [], Option, Some, None, option_map, if◌then◌else◌, IfOk, Result, Ok, Err}
+-- What a call leaves of a sound table is sound, and a complete index of one holds what it selects.
+use Rattle.std.proofs.Common.{ℕ, ◌≡◌, ◌≤◌, true, false, refl, length, arith, List, [], ◌∷◌, Option, Some, None, option_map, if◌then◌else◌, IfOk, Result, Ok, Err}
 use Rattle.std.specs.FinMap.{find}
+use Rattle.std.specs.List.{All, list_all}
 use Rattle.std.proofs.lemmas.Bool.Decides.{nat_tests}
 use Rattle.bt_rowtype.specs.Refusals.{least}
 use Rattle.bt_rowtype.specs.Schemas.{Schema}
 use Rattle.bt_rowtype.specs.declared.refusal.Refusal.{Refusal}
-use Rattle.bt_rowtype.specs.declared.refusal.Refusal.TheVariants.{NoSuchTree}
+use Rattle.bt_rowtype.specs.declared.refusal.Refusal.TheVariants.{AlreadyComplete, NoSuchTree}
 use Rattle.bt_rowtype.specs.declared.value.Value.{Value}
 use Rattle.bt_rowtype.specs.Values.{or_refused}
 use Rattle.bt_keycode.specs.Codes.{code_of}
@@ -20,14 +21,16 @@ use Rattle.bt_load.proofs.offered.Loaded.{loaded-of}
 use Rattle.bt_load.specs.Standing.{AreOf}
 use Rattle.bt_table.proofs.Loads.{map_of-sorted, map_of-stand}
 use Rattle.bt_table.specs.Batches.{and_then, batch_refusals, made, messages_of, read_key}
-use Rattle.bt_table.specs.Calls.{after_load, Call, Apply, CreateIndex, Drain, DropIndex, Get, Load, Rebuild, Upkeep, Draining, Rebuilding, dropped, is_bare, is_primary, load_refusals, name_refusals, sent_counts, step, unless, unless_by, with_index, with_renewed, with_renewed_index, with_renewed_rows}
-use Rattle.bt_table.specs.Indexes.{index_named}
-use Rattle.bt_table.specs.Standing.{IsSound, IsSoundTable, Suits}
+use Rattle.bt_table.specs.Calls.{after_build, after_load, built, Call, Apply, BuildStep, CreateIndex, Drain, DropIndex, Get, Load, Rebuild, Upkeep, Draining, Rebuilding, dropped, is_bare, is_primary, load_refusals, name_refusals, sent_counts, step, unless, unless_by, with_index, with_renewed, with_renewed_index, with_renewed_rows}
+use Rattle.bt_table.specs.Indexes.{index_named, is_complete}
+use Rattle.bt_table.specs.Standing.{AreSoundIndexes, HoldsSelection, IsSound, IsSoundTable, Suits}
 use Rattle.bt_table.specs.Tables.{PlainTable, TableState, Intact, Lost, after_batch, empty_table}
 use Rattle.bt_table.specs.declared.reply.Reply.{Reply}
 use Rattle.bt_table.specs.declared.reply.Reply.TheVariants.{Batch, Created, Drained, Rebuilt, Row}
 use Rattle.bt_table.specs.declared.index.Index.{Index}
-use Rattle.bt_table.proofs.Sound.{batch_keeps_sound, batch_of_schema, no_indexes, with_index-sound, with_renewed_index-sound, with_renewed_rows-sound, with_rows-sound, without_index-sound}
+use Rattle.bt_fanout.proofs.offered.Suiting.{all_more, all_none}
+use Rattle.bt_table.proofs.Indexes.{holds_selection}
+use Rattle.bt_table.proofs.Sound.{batch_keeps_sound, batch_of_schema, none_building, with_built_index-sound, with_index-sound, with_renewed_index-sound, with_renewed_rows-sound, with_rows-sound, without_index-sound}
 
 pub empty_is_sound : (schema : Schema) (shape : Shape) → schema.keys ≤ length schema.columns → IsRoomy shape → IsSoundTable (empty_table schema shape)
 empty_is_sound schema shape few roomy = record {
@@ -55,16 +58,16 @@ when_found None table name sound = tt
 when_found (Some found) table name sound = without_index-sound table found.0 sound
 
 map_keeps_sound : (table : PlainTable) (rows : List (List Value)) (map : Result (Rows (List Value)) Refusal) → map_of table.schema.keys rows ≡ map → AreOf table.schema.columns rows
-    → table.indexes ≡ [] → IsSoundTable table → IfOk (made (after_load table) map) (λ (after : TableState × Reply). IsSound after.0)
-map_keeps_sound table rows (Err refusal) is fit none sound = tt
-map_keeps_sound table rows (Ok map) is fit none sound =
-    with_rows-sound table map (map_of-stand table.schema rows map fit is) (map_of-sorted table.schema.keys rows map is) none sound
+    → list_all is_complete table.indexes ≡ true → IsSoundTable table → IfOk (made (after_load table) map) (λ (after : TableState × Reply). IsSound after.0)
+map_keeps_sound table rows (Err refusal) is fit complete sound = tt
+map_keeps_sound table rows (Ok map) is fit complete sound =
+    with_rows-sound table map (map_of-stand table.schema rows map fit is) (map_of-sorted table.schema.keys rows map is) complete sound
 
 allowed_keeps_sound : (table : PlainTable) (rows : List (List Value)) (refusal : Option Refusal) → least (load_refusals table.indexes table.tree) ≡ refusal → AreOf table.schema.columns rows
     → IsSoundTable table → IfOk (made (after_load table) (and_then (map_of table.schema.keys) (unless_by refusal rows))) (λ (after : TableState × Reply). IsSound after.0)
 allowed_keeps_sound table rows (Some refusal) is fit sound = tt
 allowed_keeps_sound table rows None is fit sound =
-    map_keeps_sound table rows (map_of table.schema.keys rows) refl fit (no_indexes table.indexes (is_bare table.tree) is) sound
+    map_keeps_sound table rows (map_of table.schema.keys rows) refl fit (none_building (list_all is_complete table.indexes) (is_bare table.tree) is) sound
 
 load_keeps_sound : (table : PlainTable) (text : List ℕ) (read : Result (List (List Value)) Refusal) → loaded table.schema.columns text ≡ read → IsSoundTable table
     → IfOk (made (after_load table) (and_then (map_of table.schema.keys) (and_then (unless (load_refusals table.indexes table.tree)) read))) (λ (after : TableState × Reply). IsSound after.0)
@@ -84,13 +87,23 @@ renewed_keeps_sound upkeep table name reply sound =
     by_found : (found : Option (ℕ × Index)) → index_named name table.indexes ≡ found
         → IfOk (made (λ after. (Intact after, reply)) (or_refused NoSuchTree (option_map (with_renewed_index upkeep table) found))) (λ (after : TableState × Reply). IsSound after.0)
     by_found None is = tt
-    by_found (Some found) is = with_renewed_index-sound upkeep table name found is sound
+    by_found (Some found) is = with_renewed_index-sound table name found is sound upkeep
+
+built_keeps_sound : (table : PlainTable) (name : List ℕ) (n : ℕ) (found : Option (ℕ × Index)) → index_named name table.indexes ≡ found → IsSoundTable table
+    → IfOk (built table name n found) (λ (after : TableState × Reply). IsSound after.0)
+built_keeps_sound table name n None is sound = tt
+built_keeps_sound table name n (Some found) is sound =
+    elim (is_complete found.1) as (λ b. IfOk (if b then Err AlreadyComplete else Ok (after_build table name n found)) (λ (after : TableState × Reply). IsSound after.0)) [
+      | true ↦ tt
+      | false ↦ with_built_index-sound table name found is sound n
+    ]
 
 -- the definition of a new index is one of the schema
 abbrev pub IsOfSchema : TableState → Call → Type 0
 IsOfSchema state (Apply items) = Unit {0}
 IsOfSchema state (Get fields) = Unit {0}
 IsOfSchema state (CreateIndex name def) = Suits state def
+IsOfSchema state (BuildStep name count) = Unit {0}
 IsOfSchema state (DropIndex name) = Unit {0}
 IsOfSchema state (Load text) = Unit {0}
 IsOfSchema state (Drain name) = Unit {0}
@@ -100,6 +113,7 @@ pub step_keeps_sound : (state : TableState) (call : Call) → IsOfSchema state c
 step_keeps_sound Lost call fits sound = absurd sound
 step_keeps_sound (Intact table) (CreateIndex name def) fits sound =
     when_allowed (least (name_refusals table name)) (with_index table name def) (Created name) (with_index-sound table name def fits sound)
+step_keeps_sound (Intact table) (BuildStep name count) fits sound = built_keeps_sound table name count (index_named name table.indexes) refl sound
 step_keeps_sound (Intact table) (DropIndex name) fits sound = when_found (index_named name table.indexes) table name sound
 step_keeps_sound (Intact table) (Load text) fits sound = load_keeps_sound table text (loaded table.schema.columns text) refl sound
 step_keeps_sound (Intact table) (Drain name) fits sound = renewed_keeps_sound Draining table name (Drained name) sound
@@ -109,3 +123,12 @@ step_keeps_sound (Intact table) (Apply items) fits sound =
     when_allowed (least (batch_refusals table.schema items)) (after_batch table messages) (Batch (length items) (sent_counts table messages)) (batch_keeps_sound table messages (batch_of_schema table.schema items) sound)
 step_keeps_sound (Intact table) (Get fields) fits sound =
     when_read (read_key table.schema 1 fields) table (λ key. Row (find key_cmp (code_of key) table.rows)) sound
+
+-- each complete index of a sound table holds exactly the entries that its definition selects from the rows now
+pub complete_indexes_hold : (table : PlainTable) → IsSoundTable table → All (HoldsSelection table.rows) table.indexes
+complete_indexes_hold table sound = each table.indexes sound.indexes
+  where
+    each : (indexes : List Index) → AreSoundIndexes table.schema table.shape table.rows indexes → All (HoldsSelection table.rows) indexes
+    each [] sound = all_none (HoldsSelection table.rows)
+    each (index ∷ indexes) sound =
+        all_more (HoldsSelection table.rows) index indexes (holds_selection table.schema table.shape table.rows index sound.0) (each indexes sound.1)

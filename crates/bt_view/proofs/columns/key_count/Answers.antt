@@ -1,4 +1,4 @@
-use Rattle.std.proofs.Common.{◌≡◌, ◌≤◌, ◌+◌, ap, arith, length, rules}
+use Rattle.std.proofs.Common.{ap, arith, length, rules}
 use Rattle.bt_view.proofs.IndexColumns.{columns_long}
 use Rattle.bt_view.proofs.columns.key_count.Goals as goal
 

@@ -2,7 +2,6 @@ use Rattle.std.proofs.Common.{rules, ◌≡◌, ◌∙◌, ◌++◌, Some, ap, l
 use Rattle.std.proofs.Math.Seq.{take-length}
 use Rattle.std.specs.Prelude.{option_map}
 use Rattle.bt_keycode.specs.Codes.{IsCodeOf}
-use Rattle.bt_keycode.specs.Decoding.{decoded}
 use Rattle.bt_view.proofs.EntryRows.{decoded_code}
 use Rattle.bt_view.proofs.view.row_of_entry.Goals as goal
 

@@ -31,8 +31,11 @@ invariant_of-self-2 c =
     let packets = rw (c.in_ok-packet.ensures.messages, c.in_ok-batch.ensures.messages, c.as_slice.ensures.value) at c.in_ok-packets.ensures.packets in
     let sent = rw (c.in_ok-packet.ensures.messages, c.in_ok-batch.ensures.messages, c.as_slice.ensures.value) at c.in_ok-packets.ensures.sent in
     let batch = sorted_batch (messages_of schema items) in
-    let sunk_rows = (rw (c.in_ok-packet.ensures.messages, c.in_ok-batch.ensures.messages) at c.in_ok-rows.ensures.tree) ∙ ap (λ t. (t.0, sunk row_effect t.0 t.1 batch)) rows in
-    let sunk_entries = c.in_ok-indexes.ensures ∙ ap (λ v. sunk_indexes v.items c.in_ok-packets.field-0.packets.items) indexes in
+    let own : c.in_ok-rows.rows ≡ (c.in-Some-take.field-0.rows.0, sunk row_effect c.in-Some-take.field-0.rows.0 c.in-Some-take.field-0.rows.1 batch) =
+    rw (c.in_ok-packet.ensures.messages, c.in_ok-batch.ensures.messages) at c.in_ok-rows.ensures.tree in
+    let sunk_rows : c.in_ok-rows.rows ≡ (trees.rows.0, sunk row_effect trees.rows.0 trees.rows.1 batch) = subst (λ t. c.in_ok-rows.rows ≡ (t.0, sunk row_effect t.0 t.1 batch)) rows own in
+    let sunk_entries : c.in_ok-indexes.indexes.items ≡ sunk_indexes trees.indexes.items c.in_ok-packets.field-0.packets.items =
+    subst (λ v. c.in_ok-indexes.indexes.items ≡ sunk_indexes v.items c.in_ok-packets.field-0.packets.items) indexes c.in_ok-indexes.ensures in
     stays_sound schema c.self.inside.trees trees is c.self.invariant items c.in_ok-packets.field-0.packets.items c.in_ok-packets.field-0.sent (record { rows = c.in_ok-rows.rows; indexes = c.in_ok-indexes.indexes })
     packets sent sunk_rows sunk_entries
 
@@ -47,7 +50,10 @@ returns-clause-done c =
     let packets = rw (c.in_ok-packet.ensures.messages, c.in_ok-batch.ensures.messages, c.as_slice.ensures.value) at c.in_ok-packets.ensures.packets in
     let sent = rw (c.in_ok-packet.ensures.messages, c.in_ok-batch.ensures.messages, c.as_slice.ensures.value) at c.in_ok-packets.ensures.sent in
     let batch = sorted_batch (messages_of schema items) in
-    let sunk_rows = (rw (c.in_ok-packet.ensures.messages, c.in_ok-batch.ensures.messages) at c.in_ok-rows.ensures.tree) ∙ ap (λ t. (t.0, sunk row_effect t.0 t.1 batch)) rows in
-    let sunk_entries = c.in_ok-indexes.ensures ∙ ap (λ v. sunk_indexes v.items c.in_ok-packets.field-0.packets.items) indexes in
+    let own : c.in_ok-rows.rows ≡ (c.in-Some-take.field-0.rows.0, sunk row_effect c.in-Some-take.field-0.rows.0 c.in-Some-take.field-0.rows.1 batch) =
+    rw (c.in_ok-packet.ensures.messages, c.in_ok-batch.ensures.messages) at c.in_ok-rows.ensures.tree in
+    let sunk_rows : c.in_ok-rows.rows ≡ (trees.rows.0, sunk row_effect trees.rows.0 trees.rows.1 batch) = subst (λ t. c.in_ok-rows.rows ≡ (t.0, sunk row_effect t.0 t.1 batch)) rows own in
+    let sunk_entries : c.in_ok-indexes.indexes.items ≡ sunk_indexes trees.indexes.items c.in_ok-packets.field-0.packets.items =
+    subst (λ v. c.in_ok-indexes.indexes.items ≡ sunk_indexes v.items c.in_ok-packets.field-0.packets.items) indexes c.in_ok-indexes.ensures in
     batch_is_step schema c.self.inside.trees trees is c.self.invariant items c.in_ok-packets.field-0.packets.items c.in_ok-packets.field-0.sent (record { rows = c.in_ok-rows.rows; indexes = c.in_ok-indexes.indexes })
     packets sent sunk_rows sunk_entries c.args.self.now c.self.view_is c.in_ok-batch.ensures.allowed

@@ -17,7 +17,7 @@ invariant_of-self-in_ok-rows-in-None c =
     let indexes : c.in-Some-take.field-0.indexes ≡ trees.indexes = search rules in
     let tree = c.in_ok-rows-in-None.ensures.tree ∙ ap (λ t. (t.0, renewed Draining row_effect t.0 t.1)) rows in
     subst (λ v. IsSoundTable (held_by schema c.in_ok-rows-in-None.rows v.items)) (sym indexes)
-    (renewed_rows_is_sound schema c.self.inside.trees trees is c.self.invariant c.args.self.now c.self.view_is Draining c.args.name.now c.in_ok-rows-in-None.rows tree)
+    (renewed_rows_is_sound schema c.self.inside.trees trees is c.self.invariant c.args.self.now c.self.view_is Draining c.in_ok-rows-in-None.rows tree)
 
 -- it is lost where memory is wanting
 pub invariant_of-self-in_err-drain_tree-in-Some-found : goal.invariant_of-self-in_err-drain_tree-in-Some-found
@@ -34,8 +34,8 @@ invariant_of-self-in_ok-drain_tree-in-Some-found c =
     let indexes : c.in-Some-take-2.field-0.indexes ≡ trees.indexes = search rules in
     let found : index_named c.args.name.now trees.indexes.items ≡ Some (place, index) = search rules in
     let there : slice_get trees.indexes.items place ≡ Some index = search rules in
-    renewed_index_is_sound c.self.inside.schema c.self.inside.trees trees is c.self.invariant c.args.self.now c.self.view_is Draining c.args.name.now place index c.in-Some-take-2.field-0.rows
-    c.in-Some-take-2.field-0.indexes.items c.drain_tree.new.indexes.items (renewed_index Draining) rows (ap (λ v. v.items) indexes) found there c.in_ok-drain_tree-in-Some-found.ensures refl
+    renewed_index_is_sound c.self.inside.schema c.self.inside.trees trees is c.self.invariant c.args.self.now c.self.view_is c.args.name.now place index found there c.in-Some-take-2.field-0.rows
+    c.in-Some-take-2.field-0.indexes.items c.drain_tree.new.indexes.items (renewed_index Draining) rows (ap (λ v. v.items) indexes) c.in_ok-drain_tree-in-Some-found.ensures Draining refl
 
 pub invariant_of-self-in_ok-drain_tree-in-Some-found-2 : goal.invariant_of-self-in_ok-drain_tree-in-Some-found-2
 invariant_of-self-in_ok-drain_tree-in-Some-found-2 c =
@@ -47,5 +47,5 @@ invariant_of-self-in_ok-drain_tree-in-Some-found-2 c =
     let indexes : c.in-Some-take-2.field-0.indexes ≡ trees.indexes = search rules in
     let found : index_named c.args.name.now trees.indexes.items ≡ Some (place, index) = search rules in
     let there : slice_get trees.indexes.items place ≡ Some index = search rules in
-    renewed_index_is_sound c.self.inside.schema c.self.inside.trees trees is c.self.invariant c.args.self.now c.self.view_is Draining c.args.name.now place index c.in-Some-take-2.field-0.rows
-    c.in-Some-take-2.field-0.indexes.items c.drain_tree.new.indexes.items (renewed_index Draining) rows (ap (λ v. v.items) indexes) found there c.in_ok-drain_tree-in-Some-found.ensures refl
+    renewed_index_is_sound c.self.inside.schema c.self.inside.trees trees is c.self.invariant c.args.self.now c.self.view_is c.args.name.now place index found there c.in-Some-take-2.field-0.rows
+    c.in-Some-take-2.field-0.indexes.items c.drain_tree.new.indexes.items (renewed_index Draining) rows (ap (λ v. v.items) indexes) c.in_ok-drain_tree-in-Some-found.ensures Draining refl

@@ -18,7 +18,7 @@ invariant_of-self-in-Some-take c =
     let is : c.self.inside.trees ≡ Some trees = search rules in
     let indexes : c.in-Some-take.field-0.indexes ≡ trees.indexes = search rules in
     subst (λ v. IsSoundTable (held_by schema c.in_ok-tree-in-None.tree v.items)) (sym indexes)
-    (renewed_rows_is_sound schema c.self.inside.trees trees is c.self.invariant c.args.self.now c.self.view_is Rebuilding c.args.name.now c.in_ok-tree-in-None.tree c.in_ok-tree-in-None.ensures.tree)
+    (renewed_rows_is_sound schema c.self.inside.trees trees is c.self.invariant c.args.self.now c.self.view_is Rebuilding c.in_ok-tree-in-None.tree c.in_ok-tree-in-None.ensures.tree)
 
 pub invariant_of-self-in-Some-take-3 : goal.invariant_of-self-in-Some-take-3
 invariant_of-self-in-Some-take-3 c =
@@ -27,7 +27,7 @@ invariant_of-self-in-Some-take-3 c =
     let is : c.self.inside.trees ≡ Some trees = search rules in
     let indexes : c.in-Some-take.field-0.indexes ≡ trees.indexes = search rules in
     subst (λ v. IsSoundTable (held_by schema c.in_ok-tree-in-None.tree v.items)) (sym indexes)
-    (renewed_rows_is_sound schema c.self.inside.trees trees is c.self.invariant c.args.self.now c.self.view_is Rebuilding c.args.name.now c.in_ok-tree-in-None.tree c.in_ok-tree-in-None.ensures.tree)
+    (renewed_rows_is_sound schema c.self.inside.trees trees is c.self.invariant c.args.self.now c.self.view_is Rebuilding c.in_ok-tree-in-None.tree c.in_ok-tree-in-None.ensures.tree)
 
 pub invariant_of-self-in_default-take-2 : goal.invariant_of-self-in_default-take-2
 invariant_of-self-in_default-take-2 c = subst (λ trees. IsSoundUnlessLost (state_of c.self.inside.schema trees)) (sym c.take-in-Some-found.ensures.after) tt
@@ -43,8 +43,8 @@ invariant_of-self-in-Some-take-2 c =
     let indexes : c.in-Some-take-2.field-0.indexes ≡ trees.indexes = search rules in
     let found : index_named c.args.name.now trees.indexes.items ≡ Some (place, index) = search rules in
     let there : slice_get trees.indexes.items place ≡ Some index = search rules in
-    renewed_index_is_sound c.self.inside.schema c.self.inside.trees trees is c.self.invariant c.args.self.now c.self.view_is Rebuilding c.args.name.now place index c.in-Some-take-2.field-0.rows
-    c.in-Some-take-2.field-0.indexes.items c.put_tree.new.indexes.items (λ i. with_tree i c.in_ok-tree-in-Some-found.tree) rows (ap (λ v. v.items) indexes) found there c.put_tree.ensures
+    renewed_index_is_sound c.self.inside.schema c.self.inside.trees trees is c.self.invariant c.args.self.now c.self.view_is c.args.name.now place index found there c.in-Some-take-2.field-0.rows
+    c.in-Some-take-2.field-0.indexes.items c.put_tree.new.indexes.items (λ i. with_tree i c.in_ok-tree-in-Some-found.tree) rows (ap (λ v. v.items) indexes) c.put_tree.ensures Rebuilding
     (ap (with_tree index) c.in_ok-tree-in-Some-found.ensures.tree)
 
 pub invariant_of-self-in-Some-take-2-2 : goal.invariant_of-self-in-Some-take-2-2
@@ -57,6 +57,6 @@ invariant_of-self-in-Some-take-2-2 c =
     let indexes : c.in-Some-take-2.field-0.indexes ≡ trees.indexes = search rules in
     let found : index_named c.args.name.now trees.indexes.items ≡ Some (place, index) = search rules in
     let there : slice_get trees.indexes.items place ≡ Some index = search rules in
-    renewed_index_is_sound c.self.inside.schema c.self.inside.trees trees is c.self.invariant c.args.self.now c.self.view_is Rebuilding c.args.name.now place index c.in-Some-take-2.field-0.rows
-    c.in-Some-take-2.field-0.indexes.items c.put_tree.new.indexes.items (λ i. with_tree i c.in_ok-tree-in-Some-found.tree) rows (ap (λ v. v.items) indexes) found there c.put_tree.ensures
+    renewed_index_is_sound c.self.inside.schema c.self.inside.trees trees is c.self.invariant c.args.self.now c.self.view_is c.args.name.now place index found there c.in-Some-take-2.field-0.rows
+    c.in-Some-take-2.field-0.indexes.items c.put_tree.new.indexes.items (λ i. with_tree i c.in_ok-tree-in-Some-found.tree) rows (ap (λ v. v.items) indexes) c.put_tree.ensures Rebuilding
     (ap (with_tree index) c.in_ok-tree-in-Some-found.ensures.tree)
