@@ -9,7 +9,7 @@ use Rattle.bt_rowtype.specs.declared.refusal.Refusal.TheVariants.{BadSchema, Bad
 use Rattle.bt_node.specs.Shapes.{is_shape}
 use Rattle.bt_script.specs.Commands.{Answer}
 use Rattle.bt_script.specs.declared.command.Command.{Command}
-use Rattle.bt_script.specs.declared.command.Command.TheVariants.{Batch, Drain, Drop, Get, Image, Index, Load, Rebuild, Scan, Sums, Table}
+use Rattle.bt_script.specs.declared.command.Command.TheVariants.{Batch, Build, Drain, Drop, Get, Image, Index, Load, Rebuild, Scan, Sums, Table}
 use Rattle.bt_script.specs.declared.command.IndexForm.{IndexForm}
 use Rattle.bt_script.specs.declared.command.TableForm.{TableForm}
 use Rattle.bt_fanout.specs.Definitions.{definition_as}
@@ -93,6 +93,7 @@ command_keeps_sound None (Scan tree bounds) sound = tt
 command_keeps_sound None (Sums form) sound = tt
 command_keeps_sound None (Image tree) sound = tt
 command_keeps_sound None (Index form) sound = tt
+command_keeps_sound None (Build name count) sound = tt
 command_keeps_sound None (Drop name) sound = tt
 command_keeps_sound None (Load text) sound = tt
 command_keeps_sound None (Drain tree) sound = tt
@@ -103,6 +104,7 @@ command_keeps_sound (Some table) (Scan tree bounds) sound = seen_keeps_sound tab
 command_keeps_sound (Some table) (Sums form) sound = seen_keeps_sound table _ sound
 command_keeps_sound (Some table) (Image tree) sound = seen_keeps_sound table _ sound
 command_keeps_sound (Some table) (Index form) sound = created_keeps_sound table form sound
+command_keeps_sound (Some table) (Build name count) sound = told_keeps_sound _ (step_keeps_sound table (call.BuildStep name count) tt sound)
 command_keeps_sound (Some table) (Drop name) sound = told_keeps_sound _ (step_keeps_sound table (call.DropIndex name) tt sound)
 command_keeps_sound (Some table) (Load text) sound = told_keeps_sound _ (step_keeps_sound table (call.Load text) tt sound)
 command_keeps_sound (Some table) (Drain tree) sound = told_keeps_sound _ (step_keeps_sound table (call.Drain tree) tt sound)

@@ -1,5 +1,5 @@
 -- The texts of replies.
-use Rattle.std.specs.Prelude.{ℕ, ◌+◌, List, [], ◌++◌, length, map, flat_map, Option, Some, None, codes, decimal}
+use Rattle.std.specs.Prelude.{ℕ, ◌+◌, Bool, true, false, List, [], ◌++◌, length, map, flat_map, Option, Some, None, codes, decimal}
 use Rattle.std.specs.Fmt.{signed_decimal}
 use Rattle.bt_rowtype.specs.Records.{record_text}
 use Rattle.bt_rowtype.specs.Refusals.{item_of, name_of, number_of}
@@ -7,7 +7,7 @@ use Rattle.bt_rowtype.specs.Values.{text_of}
 use Rattle.bt_rowtype.specs.declared.refusal.Refusal.{Refusal}
 use Rattle.bt_rowtype.specs.declared.value.Value.{Value}
 use Rattle.bt_table.specs.declared.reply.Reply.{Reply}
-use Rattle.bt_table.specs.declared.reply.Reply.TheVariants.{Batch, Created, Drained, Dropped, Loaded, Rebuilt, Row}
+use Rattle.bt_table.specs.declared.reply.Reply.TheVariants.{Batch, Built, Created, Drained, Dropped, Loaded, Rebuilt, Row}
 use Rattle.bt_table.specs.declared.reply.SentCount.{SentCount}
 use Rattle.bt_view.specs.declared.groups.Sum.{Sum}
 
@@ -52,11 +52,21 @@ batch_reply count sent = codes "batch " ++ (decimal count ++ (flat_map sent_text
 abbrev pub name_line : List ℕ → List ℕ → List ℕ
 name_line word name = word ++ (name ++ codes "\n")
 
+-- whether an index is complete, behind a space
+abbrev pub progress_text : Bool → List ℕ
+progress_text true = codes " complete\n"
+progress_text false = codes " building\n"
+
+-- the name of an index, how many rows a step of its building read, and whether it is complete
+abbrev pub build_line : List ℕ → ℕ → Bool → List ℕ
+build_line name read complete = codes "build " ++ (name ++ (codes " " ++ (decimal read ++ progress_text complete)))
+
 -- what a call on a table answers
 abbrev pub reply_text : Reply → List ℕ
 reply_text (Batch count sent) = batch_reply count sent
 reply_text (Row row) = row_reply row
 reply_text (Created name) = name_line (codes "index ") name
+reply_text (Built name read complete) = build_line name read complete
 reply_text (Dropped name) = name_line (codes "dropped ") name
 reply_text (Loaded count) = count_line (codes "loaded ") count
 reply_text (Drained name) = name_line (codes "drained ") name

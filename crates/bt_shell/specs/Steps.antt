@@ -7,7 +7,7 @@ use Rattle.bt_rowtype.specs.declared.refusal.Refusal.TheVariants.{BadSchema, Bad
 use Rattle.bt_node.specs.Shapes.{is_shape}
 use Rattle.bt_script.specs.Commands.{Answer}
 use Rattle.bt_script.specs.declared.command.Command.{Command}
-use Rattle.bt_script.specs.declared.command.Command.TheVariants.{Batch, Drain, Drop, Get, Image, Index, Load, Rebuild, Scan, Sums, Table}
+use Rattle.bt_script.specs.declared.command.Command.TheVariants.{Batch, Build, Drain, Drop, Get, Image, Index, Load, Rebuild, Scan, Sums, Table}
 use Rattle.bt_script.specs.declared.command.IndexForm.{IndexForm}
 use Rattle.bt_script.specs.declared.command.TableForm.{TableForm}
 use Rattle.bt_fanout.specs.Definitions.{definition_as}
@@ -75,6 +75,7 @@ outcome (Some table) (Scan tree bounds) = seen table (made scan_reply (scan tabl
 outcome (Some table) (Sums form) = seen table (made sums_reply (sums table form.tree form.columns form.column form.bounds.from form.bounds.to))
 outcome (Some table) (Image tree) = seen table (image table tree)
 outcome (Some table) (Index form) = created table form.name (definition_of table form)
+outcome (Some table) (Build name count) = told (step table (call.BuildStep name count))
 outcome (Some table) (Drop name) = told (step table (call.DropIndex name))
 outcome (Some table) (Load text) = told (step table (call.Load text))
 outcome (Some table) (Drain tree) = told (step table (call.Drain tree))

@@ -91,6 +91,28 @@ fn name_reply(alloc: Global, word: &[u8], name: &Text) -> Result<Vec<u8>, AllocE
     Ok(text)
 }
 
+// The reply that is the name of an index, how many rows a step of its building read, and whether it is complete.
+fn build_reply(
+    alloc: Global,
+    name: &Text,
+    read: usize,
+    complete: bool,
+) -> Result<Vec<u8>, AllocError>
+    ensures { IfOk result (λ text. text.items ≡ spec.build_line name.now read complete) }
+{
+    let mut text = Vec::from_slice(alloc, b"build ")?;
+    text.extend_from_slice(name.as_bytes())?;
+    text.push(b' ')?;
+    write_number(&mut text, read as u64)?;
+    let progress = if complete {
+        b" complete\n"
+    } else {
+        b" building\n"
+    };
+    text.extend_from_slice(progress)?;
+    Ok(text)
+}
+
 /// The text of what a call on a table answers.
 pub fn reply_text(alloc: Global, reply: Reply) -> Result<Vec<u8>, AllocError>
     ensures { IfOk result (λ text. text.items ≡ spec.reply_text reply) }
@@ -99,6 +121,11 @@ pub fn reply_text(alloc: Global, reply: Reply) -> Result<Vec<u8>, AllocError>
         Reply::Batch { count, sent } => batch_reply(alloc, count, sent.as_slice()),
         Reply::Row(row) => row_reply(alloc, row),
         Reply::Created(name) => name_reply(alloc, b"index ", &name),
+        Reply::Built {
+            name,
+            read,
+            complete,
+        } => build_reply(alloc, &name, read, complete),
         Reply::Dropped(name) => name_reply(alloc, b"dropped ", &name),
         Reply::Loaded(count) => count_reply(alloc, b"loaded ", count),
         Reply::Drained(name) => name_reply(alloc, b"drained ", &name),

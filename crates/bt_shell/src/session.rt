@@ -95,6 +95,23 @@ fn create_index(
     Ok(reply_text(alloc, reply)?)
 }
 
+// Takes a step of building an index, which is to read so many rows.
+fn build(
+    alloc: Global,
+    table: &mut Option<Table>,
+    name: &Text,
+    count: u32,
+) -> Result<Vec<u8>, Refusal>
+    ensures done { IfOk result (λ text. step.IsDone table.old table.new (command.Build name.now count) text.items) }
+    ensures refused { IfErr result (step.IsRefused table.old table.new (command.Build name.now count)) }
+{
+    let Some(table) = table else {
+        return Err(Refusal::NoTable);
+    };
+    let reply = table.build_step(alloc, name, count as usize)?;
+    Ok(reply_text(alloc, reply)?)
+}
+
 // Takes an index out of the table.
 fn drop_index(alloc: Global, table: &mut Option<Table>, name: &Text) -> Result<Vec<u8>, Refusal>
     ensures done { IfOk result (λ text. step.IsDone table.old table.new (command.Drop name.now) text.items) }
@@ -219,6 +236,7 @@ fn answer(
         Command::Sums(form) => sums(alloc, table, &form),
         Command::Image(tree) => image(alloc, table, &tree),
         Command::Index(form) => create_index(alloc, table, form),
+        Command::Build(name, count) => build(alloc, table, &name, count),
         Command::Drop(name) => drop_index(alloc, table, &name),
         Command::Load(text) => load(rt, alloc, table, &text),
         Command::Drain(tree) => drain(alloc, table, &tree),

@@ -1,16 +1,21 @@
--- A definition of the two columns suits what the batch does to the three rows, so `index_packet` may be called with these effects.
-use Rattle.std.proofs.Common.{◌≡◌, ap, refl, take}
+-- A definition of the two columns suits the three rows and what the batch does to them, so `build_step` may be called with these rows, and `index_packet` with these effects.
+use Rattle.std.proofs.Common.{◌≡◌, ap, length, refl, take}
 use Rattle.std.specs.Prelude.{ℤ}
 use Rattle.std.specs.List.{All}
+use Rattle.std.proofs.lemmas.List.Elements.{All-from_recursion}
 use Rattle.bt_keycode.specs.Codes.{code_of}
 use Rattle.bt_keycode.specs.Prefixes.{eight_bytes}
 use Rattle.bt_messages.specs.Effects.{rows_after}
 use Rattle.bt_messages.specs.Messages.{sorted_batch}
 use Rattle.bt_fanout.specs.Effects.{SuitsEffect, effects_of, row_effect}
-use Rattle.bt_fanout.specs.Entries.{Definition, StandsUnder, SuitsKinds}
+use Rattle.bt_fanout.specs.Entries.{Definition, IsWithin, StandsUnder, SuitsKinds}
 use Rattle.bt_fanout.specs.Selections.{AllStand}
 use Rattle.bt_fanout.proofs.offered.Suiting.{suits_effects}
 use Rattle.single_calls.specs.Quantities.{batch, key_of, kinds, row_of, three_rows}
+
+pub suits_three : (def : Definition) → SuitsKinds def kinds → All (λ row. IsWithin def (length row.1)) three_rows
+unfolding eight_bytes
+suits_three def suits = All-from_recursion (λ row. IsWithin def (length row.1)) three_rows (suits.within, (suits.within, (suits.within, tt)))
 
 module _ (def : Definition) (keys : def.keys ≡ 1) where
   stands : (id quantity : ℤ) → StandsUnder def kinds (key_of id) (row_of id quantity)

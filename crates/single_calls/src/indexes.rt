@@ -12,7 +12,8 @@ ghost use Rattle.single_calls.specs.Quantities as spec;
 
 use crate::samples::{refusal_text, short_text};
 use bt_fanout::{
-    Cover, Effect, IndexDef, build_packet, cover_after, covers, effects, entry, index_packet,
+    BuildStep, Cover, Effect, IndexDef, build_packet, build_step, covers, effects, entry,
+    index_packet,
 };
 use bt_keycode::{Key, encode};
 use bt_messages::{Entry, Message, Packet};
@@ -283,28 +284,20 @@ fn two_rows(alloc: Global) -> Result<Vec<(Key, Row)>, AllocError>
     with_row(alloc, first, 2, 20)
 }
 
-// What a step of building that reads two rows sends, and whether it covers a key.
-fn built_text(alloc: Global, count: usize, id: i64) -> Result<Vec<u8>, Refusal> {
+// What two rows send to an index.
+fn built_text(alloc: Global) -> Result<Vec<u8>, Refusal> {
     let rows = two_rows(alloc)?;
     let def = index(alloc, "qty", "id", None)?;
     let packet = build_packet(alloc, &def, rows.as_slice())?;
-    let cover = cover_after(alloc, Cover::Nothing, count, rows.as_slice())?;
-    let mut out = packet_text(alloc, &packet)?;
-    if covers(&cover, &key(alloc, id)?) {
-        out.extend_from_slice(b"covered")?;
-    }
-    Ok(out)
+    Ok(packet_text(alloc, &packet)?)
 }
 
 #[test]
 fn packets_of_building(rt: HostRuntime) -> Result<(), Fail> {
-    let sent =
-        b"+800000000000000a8000000000000001 1 +80000000000000148000000000000002 2 ".as_slice();
-    let covered =
-        b"+800000000000000a8000000000000001 1 +80000000000000148000000000000002 2 covered".as_slice();
-    for (count, id, expected) in [(2, 2, covered), (2, 3, sent), (3, 3, covered)] {
-        assert_eq!(rt; built_text(rt.alloc(), count, id)?.as_slice(), expected);
-    }
+    assert_eq!(rt;
+        built_text(rt.alloc())?.as_slice(),
+        b"+800000000000000a8000000000000001 1 +80000000000000148000000000000002 2 ".as_slice()
+    );
     Ok(())
 }
 
@@ -341,6 +334,62 @@ fn entries_pass_the_filter(rt: HostRuntime) -> Result<(), Fail> {
         entry_text(rt.alloc(), 15)?.as_slice(),
         b"800000000000000f8000000000000003 3 ".as_slice()
     );
+    Ok(())
+}
+
+// Adds how far an index covers the rows.
+fn add_cover(out: &mut Vec<u8>, cover: &Cover) -> Result<(), AllocError> {
+    match cover {
+        Cover::Nothing => out.extend_from_slice(b"nothing")?,
+        Cover::UpTo(last) => last.write_hex(out)?,
+        Cover::Whole => out.extend_from_slice(b"whole")?,
+    }
+    Ok(())
+}
+
+// A step of building over the three rows, for an index of the quantities of 15 and more that includes the id: how many rows it reads, and what it sends and covers.
+fn step_parts(alloc: Global, cover: &Cover, count: usize) -> Result<(usize, Vec<u8>), Refusal> {
+    let filter = at_least(alloc, "qty", "15")?;
+    let def = index(alloc, "qty", "id", Some(&filter))?;
+    let tree = three_rows(alloc)?;
+    let BuildStep {
+        packet,
+        cover,
+        read,
+    } = build_step(alloc, &def, cover, &tree, count)?;
+    let mut out = packet_text(alloc, &packet)?;
+    add_cover(&mut out, &cover)?;
+    Ok((read, out))
+}
+
+// The same behind the row of an id.
+fn parts_behind(alloc: Global, id: i64, count: usize) -> Result<(usize, Vec<u8>), Refusal> {
+    let cover = Cover::UpTo(key(alloc, id)?);
+    step_parts(alloc, &cover, count)
+}
+
+#[test]
+fn steps_of_building(rt: HostRuntime) -> Result<(), Fail> {
+    let two = "+80000000000000148000000000000002 2 8000000000000002";
+    let table = [(0, 0, "nothing"), (1, 1, "8000000000000001"), (2, 2, two)];
+    for (count, read, expected) in table {
+        let parts = step_parts(rt.alloc(), &Cover::Nothing, count)?;
+        assert!(rt; parts.0 == read && parts.1.as_slice() == expected.as_bytes());
+    }
+    let three = "+800000000000001e8000000000000003 3 8000000000000003";
+    let last = "+800000000000001e8000000000000003 3 whole";
+    let table = [
+        (2, 0, 0, "8000000000000002"),
+        (2, 1, 1, three),
+        (2, 5, 1, last),
+        (3, 1, 0, "whole"),
+    ];
+    for (id, count, read, expected) in table {
+        let parts = parts_behind(rt.alloc(), id, count)?;
+        assert!(rt; parts.0 == read && parts.1.as_slice() == expected.as_bytes());
+    }
+    let parts = step_parts(rt.alloc(), &Cover::Whole, 1)?;
+    assert!(rt; parts.0 == 0 && parts.1.as_slice() == b"whole".as_slice());
     Ok(())
 }
 

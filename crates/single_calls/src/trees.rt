@@ -1,10 +1,15 @@
 //! Trees of rows, and of index values.
+ghost use Rattle.std.specs.Prelude.{◌++◌};
+
 use crate::samples::{Sample, Sent, add_message, add_value, key, packet};
 use bt_keycode::Key;
-use bt_messages::{Bins, Entry, Packet};
-use bt_node::{Node, Parts, Shape, Siblings, Tree, Walk, absorb_alone, crown, pack, plan, regroup};
+use bt_messages::{Bins, Entry, Merge, Packet};
+use bt_node::{
+    Node, Parts, Shape, Siblings, Tree, Visitor, Walk, absorb_alone, crown, pack, plan, regroup,
+};
 use bt_rowtype::{Refusal, Row};
 use std::alloc::{AllocError, Global};
+use std::marker::Model;
 use std::test::Fail;
 
 // A tree of four puts: two leaves of two values each.
@@ -211,6 +216,75 @@ fn a_walk_gives_the_rows_between_two_keys(rt: HostRuntime) -> Result<(), Fail> {
         pending_everywhere(rt.alloc())?.as_slice(),
         b"a30 b20 c30 d0 ".as_slice()
     );
+    Ok(())
+}
+
+// The keys of the rows that were shown, one after the other.
+#[derive(Drop)]
+struct Shown {
+    keys: Vec<u8>,
+}
+
+impl Model for Shown {
+    ghost use Rattle.std.specs.Prelude.{List, ℕ};
+
+    ghost Value = { List ℕ };
+
+    ghost view = { λ s. s.keys.items };
+}
+
+impl<V: Merge> Visitor<V> for Shown {
+    ghost visited = { λ keys row. keys ++ row.0 };
+
+    fn visit(&mut self, _alloc: Global, key: &Key, _value: &V) -> Result<(), AllocError> {
+        self.keys.extend_from_slice(key.as_slice())?;
+        Ok(())
+    }
+}
+
+// The keys of the first rows from a key on, by the walk.
+fn first_keys<V: Sample>(
+    alloc: Global,
+    tree: &Tree<V>,
+    from: Option<&Key>,
+    count: usize,
+) -> Result<Vec<u8>, AllocError> {
+    let mut shown = Shown {
+        keys: Vec::new(alloc),
+    };
+    tree.walk().visit_first(alloc, from, count, &mut shown)?;
+    let Shown { keys } = shown;
+    Ok(keys)
+}
+
+// The keys of the first rows of a tree of which two are deleted by messages, one in its leaf and one on the way to it.
+fn first_flushed(alloc: Global, from: &str, count: usize) -> Result<Vec<u8>, Refusal> {
+    let tree = flushed::<Row>(alloc)?;
+    let from = key(alloc, from)?;
+    Ok(first_keys(alloc, &tree, Some(&from), count)?)
+}
+
+fn first_pending(alloc: Global, count: usize) -> Result<Vec<u8>, Refusal> {
+    Ok(first_keys(alloc, &pending::<Entry>(alloc)?, None, count)?)
+}
+
+#[test]
+fn a_walk_shows_the_first_rows(rt: HostRuntime) -> Result<(), Fail> {
+    let alloc = rt.alloc();
+    for (from, count, expected) in [
+        ("a", 1, "a"),
+        ("a", 9, "ac"),
+        ("b", 1, "c"),
+        ("b", 0, ""),
+        ("d", 2, ""),
+    ] {
+        assert_eq!(rt;
+            first_flushed(alloc, from, count)?.as_slice(),
+            expected.as_bytes(),
+            "{count} from {from}"
+        );
+    }
+    assert_eq!(rt; first_pending(alloc, 3)?.as_slice(), b"abc".as_slice());
     Ok(())
 }
 

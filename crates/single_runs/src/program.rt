@@ -31,7 +31,7 @@ fn said(alloc: Global, line: &str) -> Result<String, AllocError> {
 }
 
 // What a help text is to name: the options, the commands of a script, and where its language stands.
-const NAMED: [&str; 11] = [
+const NAMED: [&str; 12] = [
     "--script <FILE>",
     "--help",
     "\n  table F C L K name:kind ..  ",
@@ -41,6 +41,7 @@ const NAMED: [&str; 11] = [
     "\n  sums TREE G COLUMN  ",
     "\n  image TREE  ",
     "\n  index NAME on COLUMNS ..  ",
+    "\n  build NAME N  ",
     "\n  drop NAME  ",
     "docs/SCRIPT.md",
 ];
