@@ -2,12 +2,16 @@
 //
 // A peer is an engine with these members, and a main that calls run<Engine>:
 //   explicit Engine(const Table &);           the table has its columns by now
-//   void apply(const Batch &);                the messages in order, as one transaction
-//   void load(const Batch &);                 puts of new keys alone, into an empty table, as one transaction
+//   void create(size_t tree);                 an index that the table has by now, and that is empty
+//   size_t build(size_t tree, size_t count);  a step of building it: how many rows it read
+//   bool apply(const Batch &, std::vector<int64_t> &sent);   the messages in order, as one transaction; whether the engine
+//                                             knows how many messages each index was sent, by its tree
+//   void load(const Batch &);                 puts of new keys alone, into an empty table without indexes, as one transaction
 //   bool get(const Value *key, Value *row);   whether there is a row
-//   void scan(const Range &, each);           calls each(const Value *row) by rising key
-//   void sums(const Range &, const Grouping &, each);   calls each(int64_t count, int64_t total, const Value *group)
-// The script is one that the workloads make: it has no refusals, and of a table a single line.
+//   void scan(size_t tree, const Range &, each);   calls each(const Value *row) by rising key
+//   void sums(size_t tree, const Range &, const Grouping &, each);   calls each(int64_t count, int64_t total, const Value *group)
+// Tree 0 is that of the rows; those behind it are the indexes. The script is one that the workloads make: it has no refusals, and of
+// a table a single line.
 #pragma once
 #include <fcntl.h>
 #include <unistd.h>
@@ -37,11 +41,37 @@ struct Value {
   View text;
 };
 
-struct Table {
+// The rows of a table or of an index: their columns, the first of which are the key.
+struct Tree {
+  std::string name;
   std::vector<std::string> names;
   std::vector<Kind> kinds;
   size_t keys = 0;
   size_t columns() const { return kinds.size(); }
+};
+
+inline int compare(Kind kind, const Value &a, const Value &b);
+
+// An index has the columns that it is on, then the key columns of the table, then those that it includes.
+struct Index : Tree {
+  std::vector<size_t> places;  // of its columns in a row of the table
+  // The filter, where it has one: a column of the table, and a constant.
+  bool has_filter = false;
+  size_t column = 0;
+  std::string test, text;
+  Value constant;
+
+  bool passes(Kind kind, const Value *row) const {
+    if (!has_filter) return true;
+    int order = compare(kind, row[column], constant);
+    return test == "=" ? order == 0 : test == "<" ? order < 0 : order >= 0;
+  }
+};
+
+struct Table : Tree {
+  bool will_have_indexes = false;  // whether the script makes one
+  std::deque<Index> indexes;       // by creation; index i is tree i + 1
+  const Tree &tree(size_t at) const { return at ? indexes[at - 1] : static_cast<const Tree &>(*this); }
 };
 
 struct Operation {
@@ -73,7 +103,7 @@ struct Grouping {
   size_t columns, summed;
 };
 
-constexpr size_t MOST_COLUMNS = 16;
+constexpr size_t MOST_COLUMNS = 16;  // of the table, and of the indexes of the workloads
 
 // ---- rows ----
 
@@ -83,7 +113,7 @@ inline int compare(Kind kind, const Value &a, const Value &b) {
 }
 
 // The row of a key without one, before its upserts.
-inline void set_default(const Table &table, const Value *key, Value *row) {
+inline void set_default(const Tree &table, const Value *key, Value *row) {
   std::copy(key, key + table.keys, row);
   std::fill(row + table.keys, row + table.columns(), Value());
 }
@@ -142,14 +172,14 @@ inline const char *read_packed(const char *at, Kind kind, Value &value) {
 }
 
 // The places of the messages in the order in which an engine takes them: by key, which is faster where keys are new, and
-// of one key by arrival. Upserts alone go by arrival, since a sort costs them more than it gives.
-inline std::vector<uint32_t> order_of(const Table &table, const Batch &batch) {
+// of one key by arrival. Upserts alone go by arrival, since a sort costs them more than it gives, unless they are to be sorted.
+inline std::vector<uint32_t> order_of(const Tree &table, const Batch &batch, bool is_to_sort = false) {
   struct Place {
     uint64_t head;  // the first bytes of the code
     uint32_t at;
   };
   std::vector<Place> places(batch.messages.size());
-  bool is_sorted = true;
+  bool is_sorted = !is_to_sort;
   std::string code;
   for (uint32_t at = 0; at < places.size(); at++) {
     const Message &m = batch.messages[at];
@@ -173,16 +203,60 @@ inline std::vector<uint32_t> order_of(const Table &table, const Batch &batch) {
   return order;
 }
 
-// An engine over a store of keys and values:
+// Puts and dels of entries of an index, to be made by rising key.
+class Changes {
+  struct Change {
+    uint64_t head;  // the first bytes of the key
+    size_t at;
+    uint32_t key, value;  // in bytes
+    bool is_del;
+  };
+  std::string bytes;
+  std::vector<Change> list;
+
+  View key_of(const Change &c) const { return View(bytes).substr(c.at, c.key); }
+
+ public:
+  void clear() { bytes.clear(), list.clear(); }
+  size_t count() const { return list.size(); }
+  void add(bool is_del, const std::string &key, const std::string &value) {
+    uint64_t head = 0;
+    memcpy(&head, key.data(), std::min<size_t>(8, key.size()));
+    list.push_back({__builtin_bswap64(head), bytes.size(), uint32_t(key.size()), uint32_t(is_del ? 0 : value.size()), is_del});
+    bytes += key;
+    if (!is_del) bytes += value;
+  }
+  // Calls each(bool is_del, View key, View value).
+  template <class Each>
+  void in_order(Each each) {
+    std::sort(list.begin(), list.end(), [&](const Change &x, const Change &y) {
+      return x.head != y.head ? x.head < y.head : key_of(x) < key_of(y);
+    });
+    for (const Change &c : list) each(c.is_del, key_of(c), View(bytes).substr(c.at + c.key, c.value));
+  }
+};
+
+// An engine over a store of trees of keys and values:
+//   explicit Store(const Table &);  void create();   one more tree
 //   void begin();  void commit();
-//   bool get(View key, View &value);   void put(View key, View value);   void del(View key);
-//   void append(View key, View value);   a key behind all others
-//   void scan(View from, View to, each);   calls each(View key, View value); an empty bound is none
+//   bool get(size_t tree, View key, View &value);   void put(size_t tree, View key, View value);   void del(size_t tree, View key);
+//   void append(size_t tree, View key, View value);   a key behind all others
+//   void scan(size_t tree, View from, View to, each);   calls each(View key, View value), which says whether to go on; an empty bound is none
+// What a batch means for an index is worked out here: the row before and after it of each key that it names.
 template <class Store>
 class OverStore {
+  struct Covered {
+    bool is_whole = false;
+    std::string last;  // the key of the last row that was read, if one was
+    bool covers(View key) const { return is_whole || (!last.empty() && key <= View(last)); }
+  };
+
   const Table &table;
   Store store;
   std::string key, value;
+  std::string old_code, old_bytes, code, bytes;  // of entries
+  std::vector<Covered> covers;  // of each index
+  std::vector<Changes> changes;
 
   void set_key(const Value *row) {
     key.clear();
@@ -194,42 +268,139 @@ class OverStore {
   }
   void put(const Value *row) {
     set_value(row);
-    store.put(key, value);
+    store.put(0, key, value);
   }
-  void read_value(View bytes, Value *row) {
+  static void read_value(const Tree &tree, View bytes, Value *row) {
     const char *at = bytes.data();
-    for (size_t c = table.keys; c < table.columns(); c++) at = read_packed(at, table.kinds[c], row[c]);
+    for (size_t c = tree.keys; c < tree.columns(); c++) at = read_packed(at, tree.kinds[c], row[c]);
   }
+  static void read_entry(const Tree &tree, View code, View bytes, Value *row) {
+    const char *at = code.data();
+    for (size_t c = 0; c < tree.keys; c++) at = read_code(at, tree.kinds[c], row[c]);
+    read_value(tree, bytes, row);
+  }
+  static void set_entry(const Index &index, const Value *row, std::string &at, std::string &values) {
+    at.clear(), values.clear();
+    for (size_t c = 0; c < index.keys; c++) add_code(at, index.kinds[c], row[index.places[c]]);
+    for (size_t c = index.keys; c < index.columns(); c++) add_packed(values, index.kinds[c], row[index.places[c]]);
+  }
+  bool passes(const Index &index, const Value *row) { return index.passes(table.kinds[index.column], row); }
 
- public:
-  explicit OverStore(const Table &given) : table(given) {}
-
-  void apply(const Batch &batch) {
+  // Without an index each message is one operation of the store, and an upsert two.
+  void apply_alone(const Batch &batch) {
     Value row[MOST_COLUMNS];
     View old;
-    store.begin();
     for (uint32_t at : order_of(table, batch)) {
       const Message &m = batch.messages[at];
       set_key(batch.row(m));
       if (m.kind == Message::Put) {
         put(batch.row(m));
       } else if (m.kind == Message::Del) {
-        store.del(key);
+        store.del(0, key);
       } else {
         set_default(table, batch.row(m), row);
-        if (store.get(key, old)) read_value(old, row);
+        if (store.get(0, key, old)) read_value(table, old, row);
         change(batch, m, row);
         put(row);
       }
     }
+  }
+  // What a change of the row at the key, from one that was there or not to one that is there or not, means for each index.
+  void add_changes(bool was, const Value *before, bool is, const Value *after) {
+    for (size_t i = 0; i < table.indexes.size(); i++) {
+      const Index &index = table.indexes[i];
+      if (!covers[i].covers(key)) continue;
+      bool had = was && passes(index, before), has = is && passes(index, after);
+      if (had) set_entry(index, before, old_code, old_bytes);
+      if (has) set_entry(index, after, code, bytes);
+      bool stays = had && has && old_code == code;
+      if (stays && old_bytes == bytes) continue;
+      if (had && !stays) changes[i].add(true, old_code, old_bytes);
+      if (has) changes[i].add(false, code, bytes);
+    }
+  }
+  // With indexes the row of each key is read, and written once after all messages to the key.
+  void apply_indexed(const Batch &batch, std::vector<int64_t> &sent) {
+    Value before[MOST_COLUMNS], after[MOST_COLUMNS];
+    View old;
+    for (Changes &each : changes) each.clear();
+    std::vector<uint32_t> order = order_of(table, batch, true);
+    for (size_t i = 0; i < order.size();) {
+      const Value *row = batch.row(batch.messages[order[i]]);
+      set_key(row);
+      set_default(table, row, before);
+      bool was = store.get(0, key, old), is = was;
+      if (was) read_value(table, old, before);
+      std::copy(before, before + table.columns(), after);
+      auto is_same_key = [&](const Value *other) {
+        for (size_t c = 0; c < table.keys; c++)
+          if (compare(table.kinds[c], row[c], other[c]) != 0) return false;
+        return true;
+      };
+      do {
+        const Message &m = batch.messages[order[i]];
+        if (m.kind == Message::Put) std::copy(batch.row(m), batch.row(m) + table.columns(), after);
+        else if (m.kind == Message::Del || !is) set_default(table, row, after);
+        if (m.kind == Message::Ups) change(batch, m, after);
+        is = m.kind != Message::Del;
+      } while (++i < order.size() && is_same_key(batch.row(batch.messages[order[i]])));
+      add_changes(was, before, is, after);
+      if (is) put(after);
+      else if (was) store.del(0, key);
+    }
+    for (size_t i = 0; i < changes.size(); i++) {
+      sent[i] = int64_t(changes[i].count());
+      changes[i].in_order([&](bool is_del, View at, View values) { is_del ? store.del(i + 1, at) : store.put(i + 1, at, values); });
+    }
+  }
+
+ public:
+  explicit OverStore(const Table &given) : table(given), store(given) { store.create(); }
+
+  void create(size_t) { store.create(), covers.emplace_back(), changes.emplace_back(); }
+
+  // Rows are read from behind the last one that was read.
+  size_t build(size_t tree, size_t count) {
+    const Index &index = table.indexes[tree - 1];
+    Covered &covered = covers[tree - 1];
+    Value row[MOST_COLUMNS];
+    std::string from = covered.last, last;
+    bool is_first = from.empty();
+    if (!is_first) from += '\0';
+    size_t read = 0;
+    Changes &puts = changes[tree - 1];
+    puts.clear();
+    store.scan(0, from, View(), [&](View at, View values) {
+      if (read == count) return false;
+      read++;
+      read_entry(table, at, values, row);
+      if (passes(index, row)) set_entry(index, row, code, bytes), puts.add(false, code, bytes);
+      if (read == count) last = at;
+      return read < count;
+    });
+    if (read < count) covered.is_whole = true;
+    else if (read > 0) covered.last = last;
+    store.begin();
+    puts.in_order([&](bool, View at, View values) { is_first ? store.append(tree, at, values) : store.put(tree, at, values); });
     store.commit();
+    return read;
+  }
+
+  bool apply(const Batch &batch, std::vector<int64_t> &sent) {
+    auto covers_any = [](const Covered &c) { return c.is_whole || !c.last.empty(); };
+    store.begin();
+    if (std::any_of(covers.begin(), covers.end(), covers_any)) apply_indexed(batch, sent);
+    else apply_alone(batch);
+    store.commit();
+    return true;
   }
   void load(const Batch &batch) {
+    if (!table.indexes.empty()) fail("a load with indexes");
     store.begin();
     for (uint32_t at : order_of(table, batch)) {
       const Value *row = batch.row(batch.messages[at]);
       set_key(row), set_value(row);
-      store.append(key, value);
+      store.append(0, key, value);
     }
     store.commit();
   }
@@ -237,30 +408,31 @@ class OverStore {
     View found;
     set_key(key_values);
     set_default(table, key_values, row);
-    if (!store.get(key, found)) return false;
-    read_value(found, row);
+    if (!store.get(0, key, found)) return false;
+    read_value(table, found, row);
     return true;
   }
   template <class Each>
-  void scan(const Range &range, Each each) {
+  void scan(size_t at, const Range &range, Each each) {
+    const Tree &tree = table.tree(at);
     Value row[MOST_COLUMNS];
     std::string from, to;
-    for (size_t c = 0; c < range.from.size(); c++) add_code(from, table.kinds[c], range.from[c]);
-    for (size_t c = 0; c < range.to.size(); c++) add_code(to, table.kinds[c], range.to[c]);
-    store.scan(from, to, [&](View code, View bytes) {
-      const char *at = code.data();
-      for (size_t c = 0; c < table.keys; c++) at = read_code(at, table.kinds[c], row[c]);
-      read_value(bytes, row);
+    for (size_t c = 0; c < range.from.size(); c++) add_code(from, tree.kinds[c], range.from[c]);
+    for (size_t c = 0; c < range.to.size(); c++) add_code(to, tree.kinds[c], range.to[c]);
+    store.scan(at, from, to, [&](View found, View values) {
+      read_entry(tree, found, values, row);
       each(row);
+      return true;
     });
   }
   template <class Each>
-  void sums(const Range &range, const Grouping &by, Each each) {
+  void sums(size_t at, const Range &range, const Grouping &by, Each each) {
+    const Tree &tree = table.tree(at);
     Value group[MOST_COLUMNS];
     int64_t count = 0, total = 0;
-    scan(range, [&](const Value *row) {
+    scan(at, range, [&](const Value *row) {
       bool is_of = count > 0;
-      for (size_t c = 0; is_of && c < by.columns; c++) is_of = compare(table.kinds[c], group[c], row[c]) == 0;
+      for (size_t c = 0; is_of && c < by.columns; c++) is_of = compare(tree.kinds[c], group[c], row[c]) == 0;
       if (!is_of) {
         if (count > 0) each(count, total, group);
         std::copy(row, row + by.columns, group);
@@ -311,17 +483,17 @@ class Replies {
     *end++ = '"';
   }
   // The record of the first columns, and the end of the line.
-  void add_record(const Table &table, const Value *row, size_t columns) {
+  void add_record(const Tree &tree, const Value *row, size_t columns) {
     for (size_t c = 0; c < columns; c++) {
       if (c) *end++ = ',';
-      if (table.kinds[c] == Kind::Int) add(row[c].number);
-      else if (table.kinds[c] == Kind::Flag) add(row[c].number ? "true" : "false");
+      if (tree.kinds[c] == Kind::Int) add(row[c].number);
+      else if (tree.kinds[c] == Kind::Flag) add(row[c].number ? "true" : "false");
       else if (columns == 1 && row[c].text.empty()) add("\"\"");
       else add_text(row[c].text);
     }
     end_line();
   }
-  void add_row(const Table &table, const Value *row) { add("row ").add_record(table, row, table.columns()); }
+  void add_row(const Tree &tree, const Value *row) { add("row ").add_record(tree, row, tree.columns()); }
 };
 
 // ---- the script ----
@@ -352,6 +524,7 @@ class Script {
     at = found + 1;
     return true;
   }
+  bool has(View text) const { return View(bytes).find(text) != View::npos; }
   void forget() { unquoted.clear(); }
   void read_record(View record, std::vector<View> &fields) {
     fields.clear();
@@ -380,19 +553,32 @@ inline Value read_value(Kind kind, View field) {
   return value;
 }
 
-inline size_t column_of(const Table &table, View name) {
-  size_t c = size_t(std::find(table.names.begin(), table.names.end(), name) - table.names.begin());
-  if (c == table.columns()) fail("no column " + std::string(name));
+inline size_t column_of(const Tree &tree, View name) {
+  size_t c = size_t(std::find(tree.names.begin(), tree.names.end(), name) - tree.names.begin());
+  if (c == tree.columns()) fail("no column " + std::string(name));
   return c;
+}
+
+// Cuts off what stands before a byte, which is cut off too, or all where the byte is not there.
+inline View cut_off(View &text, char byte) {
+  size_t length = std::min(text.find(byte), text.size());
+  View first = text.substr(0, length);
+  text.remove_prefix(std::min(length + 1, text.size()));
+  return first;
+}
+
+inline size_t tree_of(const Table &table, View name) {
+  for (size_t at = 0; at <= table.indexes.size(); at++)
+    if (table.tree(at).name == name) return at;
+  fail("no tree " + std::string(name));
 }
 
 // `table F C L K name:kind ..`; the shape is betable's own.
 inline Table read_table(View line) {
   Table table;
+  table.name = "primary";
   for (size_t word = 0; !line.empty(); word++) {
-    size_t length = std::min(line.find(' '), line.size());
-    View text = line.substr(0, length);
-    line.remove_prefix(std::min(length + 1, line.size()));
+    View text = cut_off(line, ' ');
     if (word == 4) table.keys = size_t(text[0] - '0');
     if (word < 5) continue;
     size_t colon = text.find(':');
@@ -401,6 +587,37 @@ inline Table read_table(View line) {
     table.kinds.push_back(kind == "int" ? Kind::Int : kind == "text" ? Kind::Text : Kind::Flag);
   }
   return table;
+}
+
+// `index NAME on LIST [include LIST] [where COLUMN TEST record]`: adds it to the table.
+inline void read_index(Script &script, Table &table, View line, std::vector<View> &fields) {
+  Index &index = table.indexes.emplace_back();
+  auto add = [&](size_t place) {
+    index.places.push_back(place), index.names.push_back(table.names[place]), index.kinds.push_back(table.kinds[place]);
+  };
+  auto add_all = [&](View list) {
+    while (!list.empty()) add(column_of(table, cut_off(list, ',')));
+  };
+  cut_off(line, ' ');
+  index.name = cut_off(line, ' ');
+  cut_off(line, ' ');
+  add_all(cut_off(line, ' '));
+  for (size_t c = 0; c < table.keys; c++) add(c);
+  index.keys = index.columns();
+  while (!line.empty()) {
+    if (cut_off(line, ' ') == "include") {
+      add_all(cut_off(line, ' '));
+      continue;
+    }
+    index.has_filter = true;
+    index.column = column_of(table, cut_off(line, ' '));
+    index.test = cut_off(line, ' ');
+    script.read_record(line, fields);
+    index.text = fields.at(0);
+    index.constant = read_value(table.kinds[index.column], index.text);
+    break;
+  }
+  if (index.columns() > MOST_COLUMNS) fail("too many columns");
 }
 
 inline void read_batch(Script &script, const Table &table, std::vector<View> &fields, Batch &batch) {
@@ -438,14 +655,14 @@ inline void read_load(Script &script, const Table &table, std::vector<View> &fie
 }
 
 // The bounds of a block, up to its closing line.
-inline void read_range(Script &script, const Table &table, std::vector<View> &fields, Range &range) {
+inline void read_range(Script &script, const Tree &tree, std::vector<View> &fields, Range &range) {
   View line;
   range.from.clear(), range.to.clear();
   while (script.next(line) && line != "go") {
     bool is_from = line[0] == 'f';
     script.read_record(line.substr(is_from ? 5 : 3), fields);
     auto &bound = is_from ? range.from : range.to;
-    for (size_t c = 0; c < fields.size(); c++) bound.push_back(read_value(table.kinds[c], fields[c]));
+    for (size_t c = 0; c < fields.size(); c++) bound.push_back(read_value(tree.kinds[c], fields[c]));
   }
 }
 
@@ -458,18 +675,23 @@ int run(int count, char **words) {
   View line;
   if (!script.next(line) || line.substr(0, 6) != "table ") fail("the first line is no table");
   Table table = read_table(line);
+  table.will_have_indexes = script.has("\nindex ");
   Engine engine(table);
   replies.add("table ").add(int64_t(table.columns())).end_line();
   std::vector<View> fields;
+  std::vector<int64_t> sent;
   Batch batch;
   Range range;
   Value key[MOST_COLUMNS], row[MOST_COLUMNS];
   while (script.next(line)) {
     if (line == "batch") {
       read_batch(script, table, fields, batch);
-      engine.apply(batch);
+      sent.assign(table.indexes.size(), 0);
+      bool knows = engine.apply(batch, sent);
       script.forget();
-      replies.add("batch ").add(int64_t(batch.messages.size())).end_line();
+      replies.add("batch ").add(int64_t(batch.messages.size()));
+      for (size_t i = 0; knows && i < sent.size(); i++) replies.add(" ").add(table.indexes[i].name).add(":").add(sent[i]);
+      replies.end_line();
     } else if (line == "load") {
       read_load(script, table, fields, batch);
       engine.load(batch);
@@ -485,18 +707,31 @@ int run(int count, char **words) {
       for (size_t c = 0; c < table.keys; c++) key[c] = read_value(table.kinds[c], fields.at(c));
       if (engine.get(key, row)) replies.add_row(table, row);
       else replies.add("none").end_line();
-    } else if (line == "scan primary") {
+    } else if (line.substr(0, 6) == "index ") {
+      read_index(script, table, line, fields);
+      script.forget();
+      engine.create(table.indexes.size());
+      replies.add("index ").add(table.indexes.back().name).end_line();
+    } else if (line.substr(0, 6) == "build ") {
+      View name = (cut_off(line, ' '), cut_off(line, ' '));
+      size_t count = size_t(read_value(Kind::Int, line).number), read = engine.build(tree_of(table, name), count);
+      replies.add("build ").add(name).add(" ").add(int64_t(read)).add(read < count ? " complete" : " building").end_line();
+    } else if (line.substr(0, 5) == "scan ") {
       int64_t rows = 0;
-      read_range(script, table, fields, range);
-      engine.scan(range, [&](const Value *each) { rows++, replies.add_row(table, each); });
+      size_t at = tree_of(table, line.substr(5));
+      const Tree &tree = table.tree(at);
+      read_range(script, tree, fields, range);
+      engine.scan(at, range, [&](const Value *each) { rows++, replies.add_row(tree, each); });
       script.forget();
       replies.add("rows ").add(rows).end_line();
-    } else if (line.substr(0, 13) == "sums primary ") {
+    } else if (line.substr(0, 5) == "sums ") {
       int64_t sums = 0;
-      Grouping by{size_t(line[13] - '0'), column_of(table, line.substr(15))};
-      read_range(script, table, fields, range);
-      engine.sums(range, by, [&](int64_t count, int64_t total, const Value *group) {
-        sums++, replies.add("sum ").add(count).add(" ").add(total).add(" ").add_record(table, group, by.columns);
+      size_t at = tree_of(table, (cut_off(line, ' '), cut_off(line, ' ')));
+      const Tree &tree = table.tree(at);
+      Grouping by{size_t(cut_off(line, ' ')[0] - '0'), column_of(tree, line)};
+      read_range(script, tree, fields, range);
+      engine.sums(at, range, by, [&](int64_t count, int64_t total, const Value *group) {
+        sums++, replies.add("sum ").add(count).add(" ").add(total).add(" ").add_record(tree, group, by.columns);
       });
       script.forget();
       replies.add("sums ").add(sums).end_line();

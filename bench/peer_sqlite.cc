@@ -1,4 +1,5 @@
-// SQLite in memory, without journal: prepared statements, a transaction a batch. A key of one int is the rowid.
+// SQLite in memory, without journal: prepared statements, a transaction a batch. A key of one int is the rowid. An index is one of SQLite's,
+// which the first step of building makes whole; how many messages a batch sends it SQLite doesn't tell.
 #include <sqlite3.h>
 
 #include <unordered_map>
@@ -12,6 +13,12 @@ class Sqlite {
   std::unordered_map<std::string, sqlite3_stmt *> upserts;  // by operation and column
   std::unordered_map<std::string, sqlite3_stmt *> ranges;   // by the lengths of the bounds, and how rows are grouped
   std::deque<std::string> held;                             // texts of the last get
+  struct Built {
+    bool is_made = false;
+    size_t left = 0;  // how many rows the steps to come are to read
+  };
+  std::vector<Built> built;  // of each index
+  bool is_rowid = false;     // whether the key is
 
   void check(int code) {
     if (code != SQLITE_OK && code != SQLITE_DONE && code != SQLITE_ROW) fail(sqlite3_errmsg(db));
@@ -33,9 +40,9 @@ class Sqlite {
     for (size_t c = 0; c < table.columns(); c++) bind(statement, c + 1, table.kinds[c], row[c]);
   }
   void step_once(sqlite3_stmt *statement) { check(sqlite3_step(statement)), check(sqlite3_reset(statement)); }
-  void read_row(sqlite3_stmt *statement, Value *row, size_t columns) {
+  void read_row(const Tree &tree, sqlite3_stmt *statement, Value *row, size_t columns) {
     for (size_t c = 0; c < columns; c++) {
-      if (table.kinds[c] != Kind::Text) {
+      if (tree.kinds[c] != Kind::Text) {
         row[c].number = sqlite3_column_int64(statement, int(c));
         continue;
       }
@@ -51,8 +58,10 @@ class Sqlite {
     for (size_t c = from; c < to; c++) list += (c == from ? "" : between) + text(c);
     return list;
   }
-  std::string name(size_t c) { return '"' + table.names[c] + '"'; }
-  std::string first_names(size_t count) { return listed(0, count, ",", [&](size_t c) { return name(c); }); }
+  std::string name(const Tree &tree, size_t c) { return '"' + tree.names[c] + '"'; }
+  std::string name(size_t c) { return name(table, c); }
+  std::string first_names(const Tree &tree, size_t count) { return listed(0, count, ",", [&](size_t c) { return name(tree, c); }); }
+  std::string first_names(size_t count) { return first_names(table, count); }
   std::string marks(size_t count) { return listed(0, count, ",", [](size_t) { return std::string("?"); }); }
 
   // One statement for each list of operations and columns. Its arguments follow the key.
@@ -80,19 +89,34 @@ class Sqlite {
     return statement = prepare("INSERT INTO t VALUES(" + values + ") ON CONFLICT(" + first_names(table.keys) + ") DO UPDATE SET " + sets);
   }
 
+  // The filter of an index, with its constant.
+  std::string filter(const Index &index) {
+    std::string constant = std::to_string(index.constant.number);
+    if (table.kinds[index.column] == Kind::Text) {
+      constant = "'";
+      for (char c : index.text) constant.append(c == '\'' ? 2 : 1, c);
+      constant += '\'';
+    }
+    return name(index.column) + index.test + constant;
+  }
+
   // The rows of a range, or their groups, where they have columns: one statement for each form. Its arguments are the bounds.
-  sqlite3_stmt *of_range(const Range &range, const Grouping &by) {
+  sqlite3_stmt *of_range(size_t number, const Range &range, const Grouping &by) {
+    const Tree &tree = table.tree(number);
     size_t from = range.from.size(), to = range.to.size(), at = 0;
-    sqlite3_stmt *&statement = ranges[{char(from), char(to), char(by.columns), char(by.summed)}];
+    sqlite3_stmt *&statement = ranges[{char(number), char(from), char(to), char(by.columns), char(by.summed)}];
     if (!statement) {
-      std::string groups = first_names(by.columns), sql = "SELECT ";
-      sql += (by.columns ? groups + ",COUNT(*),SUM(" + name(by.summed) + ")" : "*") + " FROM t";
-      if (from) sql += " WHERE (" + first_names(from) + ")>=(" + marks(from) + ")";
-      if (to) sql += (from ? " AND (" : " WHERE (") + first_names(to) + ")<(" + marks(to) + ")";
-      statement = prepare(sql + (by.columns ? " GROUP BY " + groups + " ORDER BY " + groups : " ORDER BY " + first_names(table.keys)));
+      std::string groups = first_names(tree, by.columns), sql = "SELECT ", before = " WHERE ";
+      sql += by.columns ? groups + ",COUNT(*),SUM(" + name(tree, by.summed) + ")" : first_names(tree, tree.columns());
+      sql += number ? " FROM t INDEXED BY \"" + tree.name + '"' : is_rowid ? " FROM t NOT INDEXED" : " FROM t";
+      auto add = [&](const std::string &condition) { sql += before + condition, before = " AND "; };
+      if (number && table.indexes[number - 1].has_filter) add(filter(table.indexes[number - 1]));
+      if (from) add("(" + first_names(tree, from) + ")>=(" + marks(from) + ")");
+      if (to) add("(" + first_names(tree, to) + ")<(" + marks(to) + ")");
+      statement = prepare(sql + (by.columns ? " GROUP BY " + groups + " ORDER BY " + groups : " ORDER BY " + first_names(tree, tree.keys)));
     }
     for (auto *bound : {&range.from, &range.to})
-      for (size_t c = 0; c < bound->size(); c++) bind(statement, ++at, table.kinds[c], (*bound)[c]);
+      for (size_t c = 0; c < bound->size(); c++) bind(statement, ++at, tree.kinds[c], (*bound)[c]);
     return statement;
   }
 
@@ -101,7 +125,7 @@ class Sqlite {
     sqlite3_config(SQLITE_CONFIG_MEMSTATUS, 0);
     check(sqlite3_open_v2(":memory:", &db, SQLITE_OPEN_READWRITE | SQLITE_OPEN_CREATE | SQLITE_OPEN_NOMUTEX, nullptr));
     execute("PRAGMA journal_mode=OFF; PRAGMA synchronous=OFF; PRAGMA locking_mode=EXCLUSIVE; PRAGMA page_size=16384");
-    bool is_rowid = table.keys == 1 && table.kinds[0] == Kind::Int;
+    is_rowid = table.keys == 1 && table.kinds[0] == Kind::Int;
     auto column = [&](size_t c) {
       return name(c) + (table.kinds[c] == Kind::Text ? " TEXT" : " INTEGER") + (is_rowid && c == 0 ? " PRIMARY KEY" : " NOT NULL");
     };
@@ -113,7 +137,27 @@ class Sqlite {
     del = prepare("DELETE FROM t" + is_key);
     find = prepare("SELECT * FROM t" + is_key);
   }
-  void apply(const Batch &batch) {
+  void create(size_t) { built.emplace_back(); }
+  // The key of the table ends an entry by itself, so it is named only where included columns come behind it.
+  size_t build(size_t tree, size_t count) {
+    const Index &index = table.indexes[tree - 1];
+    Built &at = built[tree - 1];
+    if (!at.is_made) {
+      size_t columns = index.columns() > index.keys ? index.columns() : index.keys - table.keys;
+      std::string sql = "CREATE INDEX \"" + index.name + "\" ON t(" + first_names(index, columns) + ")";
+      execute(index.has_filter ? sql + " WHERE " + filter(index) : sql);
+      sqlite3_stmt *rows = prepare("SELECT COUNT(*) FROM t");
+      check(sqlite3_step(rows));
+      at = {true, size_t(sqlite3_column_int64(rows, 0))};
+      check(sqlite3_finalize(rows));
+    }
+    size_t read = std::min(count, at.left);
+    at.left -= read;
+    return read;
+  }
+  bool apply(const Batch &batch, std::vector<int64_t> &) {
+    for (const Built &each : built)
+      if (each.left) fail("a batch between two steps of building");
     execute("BEGIN");
     for (uint32_t at : order_of(table, batch)) {
       const Message &m = batch.messages[at];
@@ -127,6 +171,7 @@ class Sqlite {
       step_once(statement);
     }
     execute("COMMIT");
+    return false;
   }
   // Rows by rising key, which SQLite adds at the end of its tree.
   void load(const Batch &batch) {
@@ -142,28 +187,30 @@ class Sqlite {
     int code = sqlite3_step(find);
     check(code);
     held.clear();
-    if (code == SQLITE_ROW) read_row(find, row, table.columns());
+    if (code == SQLITE_ROW) read_row(table, find, row, table.columns());
     for (size_t c = 0; code == SQLITE_ROW && c < table.columns(); c++)
       if (table.kinds[c] == Kind::Text) row[c].text = held.emplace_back(row[c].text);
     check(sqlite3_reset(find));
     return code == SQLITE_ROW;
   }
   template <class Each>
-  void scan(const Range &range, Each each) {
+  void scan(size_t at, const Range &range, Each each) {
+    const Tree &tree = table.tree(at);
     Value row[MOST_COLUMNS];
-    sqlite3_stmt *rows = of_range(range, {0, 0});
+    sqlite3_stmt *rows = of_range(at, range, {0, 0});
     while (sqlite3_step(rows) == SQLITE_ROW) {
-      read_row(rows, row, table.columns());
+      read_row(tree, rows, row, tree.columns());
       each(row);
     }
     check(sqlite3_reset(rows));
   }
   template <class Each>
-  void sums(const Range &range, const Grouping &by, Each each) {
+  void sums(size_t at, const Range &range, const Grouping &by, Each each) {
+    const Tree &tree = table.tree(at);
     Value group[MOST_COLUMNS];
-    sqlite3_stmt *groups = of_range(range, by);
+    sqlite3_stmt *groups = of_range(at, range, by);
     while (sqlite3_step(groups) == SQLITE_ROW) {
-      read_row(groups, group, by.columns);
+      read_row(tree, groups, group, by.columns);
       each(sqlite3_column_int64(groups, int(by.columns)), sqlite3_column_int64(groups, int(by.columns) + 1), group);
     }
     check(sqlite3_reset(groups));
