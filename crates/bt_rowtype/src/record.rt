@@ -114,8 +114,10 @@ fn write_separator(out: &mut Vec<u8>, place: usize) -> Result<(), AllocError>
     ensures ok { OnOk result (out.new.items ≡ out.old.items ++ next_sep default_writer place) }
     ensures err { OnErr result (out.new.items ≡ out.old.items) }
 {
-    let separator: &[u8] = if place == 0 { b"" } else { b"," };
-    out.extend_from_slice(separator)
+    if place > 0 {
+        out.push(b',')?;
+    }
+    Ok(())
 }
 
 // Adds the value at a place of a record.
