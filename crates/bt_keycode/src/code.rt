@@ -1,6 +1,6 @@
 //! The key code of values.
 ghost use Rattle.std.specs.List.{list_any};
-ghost use Rattle.std.specs.Prelude.{◌≡◌, ◌≤◌, ◌+◌, ◌++◌, ◌∷◌, [], IfOk, OnOk, false, length, nat_eq, take};
+ghost use Rattle.std.specs.Prelude.{◌≡◌, ◌≤◌, ◌+◌, ◌++◌, ◌∷◌, [], IfOk, IfSome, OnOk, false, length, nat_eq, take, true};
 ghost use Rattle.std.specs.Ordering.{int_cmp};
 ghost use Rattle.bt_rowtype.specs.Values.{value_cmp, values_cmp};
 ghost use Rattle.bt_rowtype.specs.Views.{shown};
@@ -9,6 +9,7 @@ ghost use Rattle.bt_keycode.specs.Keys.{key_cmp};
 ghost use Rattle.bt_keycode.specs.Prefixes.{eight_bytes};
 
 use crate::key::Key;
+use arrayvec::ArrayVec;
 use bt_rowtype::{Row, Value, ValueRef, Values};
 use std::alloc::{AllocError, Global};
 use std::cmp::Ordering;
@@ -117,55 +118,49 @@ fn encode_int(alloc: Global, number: i64) -> Result<Key, AllocError>
     Ok(Key::from_bytes(alloc, &raise(number).to_be_bytes())?)
 }
 
-// A text with no zero byte and the end of its code behind it.
-fn short_code(text: &[u8]) -> [u8; SHORT_CODE]
-    requires { length text.now + 2 ≤ SHORT_CODE }
-    ensures { take (length text.now + 2) result ≡ text.now ++ (0 ∷ 1 ∷ []) }
+// Adds bytes where there is room for all of them.
+fn add_where_room(code: &mut ArrayVec<u8, SHORT_CODE>, bytes: &[u8]) -> bool
+    ensures { result ≡ true → code.new.items ≡ code.old.items ++ bytes.now }
 {
-    let mut code = [0; SHORT_CODE];
-    let end = text.len();
-    code[..end].copy_from_slice(text);
-    code[end..end + 2].copy_from_slice(&[0, 1]);
-    code
+    code.try_extend_from_slice(bytes).is_ok()
 }
 
-// The key that is the code of a short text with no zero byte.
-#[tactic(auto, using(crate::proofs::Escapes::escaped_no_zero))]
-fn encode_short_text(alloc: Global, text: &[u8]) -> Result<Key, AllocError>
-    requires short { length text.now + 2 ≤ SHORT_CODE }
-    requires no_zero { list_any (λ b. nat_eq b 0) text.now ≡ false }
-    ensures { IfOk result (λ key. key ≡ escaped text.now ++ (0 ∷ 1 ∷ [])) }
+// Adds a text and the end of its code where there is room for both.
+fn add_short_text(code: &mut ArrayVec<u8, SHORT_CODE>, text: &[u8]) -> bool
+    ensures { result ≡ true → code.new.items ≡ code.old.items ++ (text.now ++ (0 ∷ 1 ∷ [])) }
 {
-    let code = short_code(text);
-    Key::from_bytes(alloc, &code[..text.len() + 2])
+    add_where_room(code, text) && add_where_room(code, &[0, 1])
 }
 
-// The key that is the code of a text.
-fn encode_text(alloc: Global, text: &[u8]) -> Result<Key, AllocError>
-    ensures { IfOk result (λ key. key ≡ escaped text.now ++ (0 ∷ 1 ∷ [])) }
-{
-    if text.len() <= SHORT_CODE - 2 && !text.contains(&0) {
-        return encode_short_text(alloc, text);
-    }
-    let mut bytes = Vec::with_capacity(alloc, text.len().saturating_add(2))?;
-    add_text(&mut bytes, text)?;
-    Key::from_vec(alloc, bytes)
-}
-
-// The key that is the code of one value.
-fn encode_one(alloc: Global, value: ValueRef<'_>) -> Result<Key, AllocError>
-    ensures { IfOk result (λ key. key ≡ code_of_value (shown value.entry)) }
+// Adds the code of a value where there is room for it and no text has a zero byte.
+#[tactic(auto, using(crate::proofs::Escapes::escaped_no_zero), unfolding(crate::specs::Prefixes::eight_bytes))]
+fn add_short(code: &mut ArrayVec<u8, SHORT_CODE>, value: ValueRef<'_>) -> bool
+    ensures { result ≡ true → code.new.items ≡ code.old.items ++ code_of_value (shown value.entry) }
 {
     match value {
-        ValueRef::Int(number) => encode_int(alloc, number),
-        ValueRef::Text(text) => encode_text(alloc, text),
-        ValueRef::Flag(true) => Key::from_bytes(alloc, &[1]),
-        ValueRef::Flag(false) => Key::from_bytes(alloc, &[0]),
+        ValueRef::Int(number) => add_where_room(code, &raise(number).to_be_bytes()),
+        ValueRef::Text(text) => !text.contains(&0) && add_short_text(code, text),
+        ValueRef::Flag(true) => add_where_room(code, &[1]),
+        ValueRef::Flag(false) => add_where_room(code, &[0]),
     }
 }
 
-// The key that is the code of values, of whatever number.
-fn encode_many(alloc: Global, values: Values<'_>) -> Result<Key, AllocError>
+// The code of values where it is short and no text has a zero byte.
+fn short_code(values: Values<'_>) -> Option<ArrayVec<u8, SHORT_CODE>>
+    ensures { IfSome result (λ code. code.items ≡ code_of values.entry) }
+{
+    let mut rest = values;
+    let mut code = ArrayVec::new();
+    while let Some(value) = rest.next() {
+        if !add_short(&mut code, value) {
+            return None;
+        }
+    }
+    Some(code)
+}
+
+// The key that is the code of values, of whatever length.
+fn encode_long(alloc: Global, values: Values<'_>) -> Result<Key, AllocError>
     ensures { IfOk result (λ key. key ≡ code_of values.entry) }
 {
     let mut rest = values;
@@ -182,16 +177,18 @@ fn encode_values(alloc: Global, values: Values<'_>) -> Result<Key, AllocError>
     ensures { IfOk result (λ key. key ≡ code_of values.entry) }
 {
     let mut rest = values.copy();
-    let Some(first) = rest.next() else {
-        return Key::from_bytes(alloc, &[]);
-    };
-    if rest.is_empty() {
-        return encode_one(alloc, first);
+    if let Some(ValueRef::Int(number)) = rest.next()
+        && rest.is_empty()
+    {
+        return encode_int(alloc, number);
     }
-    encode_many(alloc, values)
+    match short_code(values.copy()) {
+        Some(code) => Key::from_bytes(alloc, code.as_slice()),
+        None => encode_long(alloc, values),
+    }
 }
 
-/// The key that is the code of the values. That of one int, or of one short text with no zero byte, takes no memory.
+/// The key that is the code of the values. One of at most 22 bytes takes no memory, unless a text has a zero byte.
 pub fn encode(alloc: Global, values: &[Value]) -> Result<Key, AllocError>
     ensures { IfOk result (λ key. key ≡ code_of values.now) }
 {
