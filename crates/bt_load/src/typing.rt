@@ -70,8 +70,10 @@ pub(crate) fn type_pieces(
 ) -> Result<Vec<Result<Reading<Row>, AllocError>>, AllocError>
     ensures { IfOk result (λ pieces. AreTyped schema.now.columns 1 records.now pieces.items) }
 {
+    // One piece is worth a thread, where the library would want two thousand items.
     (0..pieces_of(records.len()))
         .into_par_iter()
+        .with_min_len(1)
         .map(
             |piece: usize| -> Result<Reading<Row>, AllocError>
                 requires { PIECE * piece < length records.now }
