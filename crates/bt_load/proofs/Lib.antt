@@ -1,8 +1,7 @@
-pub mod Leasts
 pub mod Maps
 pub mod offered
 pub mod Orders
-pub mod Pieces
+pub mod Typed
 pub mod Places
 pub mod Repeats
 pub mod Rows

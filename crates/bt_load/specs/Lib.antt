@@ -1,5 +1,5 @@
 pub mod Loads
 pub mod Maps
-pub mod Pieces
+pub mod Typed
 pub mod Sorts
 pub mod Standing

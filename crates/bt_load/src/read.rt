@@ -6,7 +6,7 @@ ghost use Rattle.bt_rowtype.specs.Ops.{all_read};
 ghost use Rattle.bt_load.specs.Loads.{loaded, typed_from};
 ghost use Rattle.bt_load.specs.Standing.{AreOf};
 
-use crate::typing::{join, type_pieces};
+use crate::typing::{all_have_values, type_in_threads, type_in_turn};
 use bt_rowtype::{RecordLine, RecordReader, Records, Refusal, Row, Schema};
 use std::alloc::{AllocError, Global};
 use std::thread::Threads;
@@ -32,8 +32,12 @@ fn read_lines(
 ) -> Result<Vec<Row>, Refusal>
     ensures { Answers (all_read (typed_from schema.now.columns 1 lines.now)) (result_map_both (λ rows. rows.items) (λ e. e) result) }
 {
-    let pieces = type_pieces(rt, alloc, schema, lines)?;
-    let reading = join(alloc, lines.len(), pieces)?;
+    let rows = type_in_threads(rt, alloc, schema, lines)?;
+    if all_have_values(rows.as_slice()) {
+        return Ok(rows);
+    }
+    // Some record spells no row, or memory was wanting: the least refusal is looked for in turn.
+    let reading = type_in_turn(alloc, schema, lines)?;
     match reading.finish() {
         Ok(rows) => Ok(rows.into_vec()),
         Err(refusal) => Err(refusal),

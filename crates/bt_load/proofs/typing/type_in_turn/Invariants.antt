@@ -1,0 +1,13 @@
+use Rattle.std.proofs.Common.{◌≡◌, ◌+◌, ◌++◌, drop}
+use Rattle.std.specs.List.{filter_map}
+use Rattle.std.specs.Result.{result_err, result_ok}
+use Rattle.bt_rowtype.specs.Refusals.{least, least_from}
+use Rattle.bt_load.specs.Loads.{typed_from}
+use Rattle.bt_load.proofs.typing.type_in_turn.Given as goal
+
+-- the rows so far, and the least refusal so far, stand for the records before this one
+abbrev pub invariant-loop-place : goal.invariant-loop-place
+invariant-loop-place l = record {
+  values : l.reading.values ++ filter_map result_ok (typed_from l.schema.columns (1 + l.place) (drop l.place l.records)) ≡ filter_map result_ok (typed_from l.schema.columns 1 l.records);
+  refusal : least_from l.reading.refusal (filter_map result_err (typed_from l.schema.columns (1 + l.place) (drop l.place l.records))) ≡ least (filter_map result_err (typed_from l.schema.columns 1 l.records));
+}
