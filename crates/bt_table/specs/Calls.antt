@@ -1,5 +1,5 @@
 -- What a table may be asked, what it is then, and what it answers.
-use Rattle.std.specs.Prelude.{ℕ, ◌≡◌, ◌≢◌, ◌≤◌, ◌==◌, ◌||◌, ◌&&◌, ◌⊎◌, Bool, not, List, [], ◌∷◌, ◌++◌, is_some, length, map, nat_le, set, Option, Some, None, option_map, Result, Ok, Err, if◌then◌else◌, codes}
+use Rattle.std.specs.Prelude.{ℕ, ◌≡◌, ◌≢◌, ◌≤◌, ◌==◌, ◌||◌, ◌&&◌, ◌⊎◌, Bool, not, List, [], ◌∷◌, ◌++◌, is_some, length, map, nat_le, set, Option, Some, None, option_map, Result, Ok, Err, IfErr, IsErrOf, if◌then◌else◌, codes}
 use Rattle.std.specs.Cmp.Lexicographic.{pointwise}
 use Rattle.std.specs.FinMap.{find}
 use Rattle.std.specs.List.{list_all, remove}
@@ -179,6 +179,10 @@ IsStep old new call reply = step old call ≡ Ok (new, reply)
 -- a call is refused so and leaves the table as it was, unless memory was wanting
 abbrev pub IsRefused : TableState → TableState → Call → Refusal → Type 0
 IsRefused old new call refusal = refusal ≢ OutOfMemory → (step old call ≡ Err refusal) × (new ≡ old)
+
+-- where a call has a refusal, it is answered: memory is never wanting before
+abbrev pub IsCertain : TableState → Call → Result Reply Refusal → Type 0
+IsCertain old call result = IfErr (step old call) (IsErrOf result)
 
 -- a table is as it was, or lost
 abbrev pub StaysOrIsLost : TableState → TableState → Type 0

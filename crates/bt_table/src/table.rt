@@ -3,7 +3,7 @@ ghost use Rattle.std.specs.Prelude.{◌≡◌, ◌<◌, Err, IfErr, IfNone, IfOk
 ghost use Rattle.bt_rowtype.specs.Refusals.{least};
 ghost use Rattle.bt_table.specs.Calls as spec;
 ghost use Rattle.bt_table.specs.Indexes.{index_named};
-ghost use Rattle.bt_table.specs.Calls.{Apply, CreateIndex, Drain, DropIndex, Get, Load, Rebuild, IsRefused, IsStep, Shows, StaysOrIsLost, index_refusals, is_primary, step, tree_named};
+ghost use Rattle.bt_table.specs.Calls.{Apply, CreateIndex, Drain, DropIndex, Get, Load, Rebuild, IsCertain, IsRefused, IsStep, Shows, StaysOrIsLost, index_refusals, is_primary, step, tree_named};
 ghost use Rattle.bt_table.specs.Standing.{HasSchema, Suits};
 ghost use Rattle.bt_table.specs.Tables.{Intact, Lost, empty_table};
 
@@ -222,6 +222,7 @@ impl Table {
     pub fn build_step(&mut self, alloc: Global, name: &Text, count: usize) -> Result<Reply, Refusal>
         ensures done { IfOk result (IsStep self.old self.new (spec.BuildStep name.now count)) }
         ensures refused { IfErr result (IsRefused self.old self.new (spec.BuildStep name.now count)) }
+        ensures certain { IsCertain self.old (spec.BuildStep name.now count) result }
         ensures memory { IsErrOf result Refusal.OutOfMemory → StaysOrIsLost self.old self.new }
         ensures failed { self.old ≡ Lost → IsErrOf result Refusal.Failed }
     {
@@ -319,6 +320,7 @@ impl Table {
     pub fn drain(&mut self, alloc: Global, name: &Text) -> Result<Reply, Refusal>
         ensures done { IfOk result (IsStep self.old self.new (Drain name.now)) }
         ensures refused { IfErr result (IsRefused self.old self.new (Drain name.now)) }
+        ensures certain { IsCertain self.old (Drain name.now) result }
         ensures memory { IsErrOf result Refusal.OutOfMemory → StaysOrIsLost self.old self.new }
         ensures failed { self.old ≡ Lost → IsErrOf result Refusal.Failed }
     {
@@ -350,6 +352,7 @@ impl Table {
     pub fn rebuild(&mut self, alloc: Global, name: &Text) -> Result<Reply, Refusal>
         ensures done { IfOk result (IsStep self.old self.new (Rebuild name.now)) }
         ensures refused { IfErr result (IsRefused self.old self.new (Rebuild name.now)) }
+        ensures certain { IsCertain self.old (Rebuild name.now) result }
         ensures unchanged { OnErr result (self.new ≡ self.old) }
         ensures failed { self.old ≡ Lost → IsErrOf result Refusal.Failed }
     {
