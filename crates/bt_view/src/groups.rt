@@ -1,5 +1,5 @@
 //! Groups of rows: how many rows each has, and the sum of a column.
-ghost use Rattle.std.specs.Prelude.{◌≡◌, ◌≢◌, ◌≤◌, IfOk, IfSome, IfNone, None, OnOk, Some, Err, take};
+ghost use Rattle.std.specs.Prelude.{◌≡◌, ◌≢◌, ◌≤◌, IfOk, IfSome, None, OnOk, Some, Err, false, take, true};
 ghost use Rattle.std.specs.Result.{result_map_both};
 ghost use Rattle.bt_rowtype.specs.Answers.{Answers};
 ghost use Rattle.bt_rowtype.specs.Values.{or_refused};
@@ -65,26 +65,20 @@ fn group_of(alloc: Global, columns: usize, place: usize, row: &Row) -> Result<Su
     })
 }
 
-// A group with one more row, unless it has as many as are counted.
-fn with_row(sum: Sum, place: usize, row: &Row) -> Option<Sum>
-    requires { IsBounded sum }
-    ensures none { IfNone result (sum.count ≡ spec.most_rows) }
-    ensures some { IfSome result (λ more. more ≡ spec.with_row place sum row.now) }
-    ensures less { IfSome result (λ _. sum.count ≢ spec.most_rows) }
-    ensures bounded { IfSome result (λ more. IsBounded more) }
+// Counts one more row to a group, and answers whether it could: not where the group has as many as are counted.
+fn count_row(sum: &mut Sum, place: usize, row: &Row) -> bool
+    requires { IsBounded sum.old }
+    ensures full { result ≡ false → sum.old.count ≡ spec.most_rows }
+    ensures counted { result ≡ true → sum.new ≡ spec.with_row place sum.old row.now }
+    ensures less { result ≡ true → sum.old.count ≢ spec.most_rows }
+    ensures bounded { IsBounded sum.new }
 {
-    let Sum {
-        group,
-        count,
-        total,
-    } = sum;
-    let count = count.checked_add(1)?;
-    let total = total + i128::from(number_in(row, place));
-    Some(Sum {
-        group,
-        count,
-        total,
-    })
+    let Some(count) = sum.count.checked_add(1) else {
+        return false;
+    };
+    sum.count = count;
+    sum.total += i128::from(number_in(row, place));
+    true
 }
 
 /// Rows that are grouped as they come, by the first columns, with the sum of the column at a place. A group that ended goes to a sink, so that only one is
@@ -150,13 +144,13 @@ impl<S: Sink<Sum>> Sink<Row> for Grouping<S> {
         if self.is_over {
             return Ok(());
         }
-        let Some(sum) = self.sum.take() else {
+        let Some(mut sum) = self.sum.take() else {
             self.sum = Some(group_of(alloc, self.columns, self.place, row)?);
             return Ok(());
         };
         if same_values(sum.group.values(), row.first_values(self.columns)) {
-            self.sum = with_row(sum, self.place, row);
-            self.is_over = self.sum.is_none();
+            self.is_over = !count_row(&mut sum, self.place, row);
+            self.sum = Some(sum);
             return Ok(());
         }
         self.made.add(alloc, &sum)?;
