@@ -46,6 +46,7 @@ impl Model for RowBytes {
 }
 
 // Writes bytes at a place.
+#[inline(always)]
 fn write_at(bytes: &mut [u8; SHORT], at: usize, more: &[u8])
     requires { at + length more.now ≤ SHORT }
     ensures { take (at + length more.now) bytes.new ≡ take at bytes.old ++ more.now }
@@ -54,6 +55,7 @@ fn write_at(bytes: &mut [u8; SHORT], at: usize, more: &[u8])
 }
 
 // Whether there is room for the bytes of both.
+#[inline(always)]
 fn has_room(short: &Inline, first: &[u8], second: &[u8]) -> bool
     requires { short.now.len ≤ SHORT }
     ensures { result ≡ nat_le (short.now.len + (length first.now + length second.now)) SHORT }
@@ -63,6 +65,7 @@ fn has_room(short: &Inline, first: &[u8], second: &[u8]) -> bool
 }
 
 // Writes the bytes of both behind those that are there.
+#[inline(always)]
 fn write_behind(short: &mut Inline, first: &[u8], second: &[u8])
     requires { short.old.len + (length first.now + length second.now) ≤ SHORT }
     ensures bytes { take short.new.len short.new.bytes ≡ take short.old.len short.old.bytes ++ (first.now ++ second.now) }
@@ -148,6 +151,9 @@ impl RowBytes {
     }
 
     /// Adds the bytes of both at the end. An `Err` changes nothing.
+    ///
+    /// The two are mostly of a length that is known where the call stands, and so they are written there.
+    #[inline(always)]
     pub(crate) fn push(
         &mut self,
         alloc: Global,
