@@ -125,6 +125,7 @@ impl Key {
     }
 
     // The order of two keys that have the same first eight bytes, zeros behind the last one counted in.
+    #[inline(always)]
     fn compare_behind(&self, other: &Key) -> Ordering
         requires { first_eight self.now ≡ first_eight other.now }
         ensures { result ≡ key_cmp self.now other.now }
@@ -144,7 +145,8 @@ impl Key {
     pub fn compare(&self, other: &Key) -> Ordering
         ensures { result ≡ key_cmp self.now other.now }
     {
-        // Most keys differ in their first eight bytes, which are compared where the call stands, as in the loops of a sort.
+        // Most keys differ in their first eight bytes, and nearly all in those that they keep: these are compared where the call
+        // stands, as in the loops of a sort.
         let (left, right) = (self.number_at(0), other.number_at(0));
         if left != right {
             return left.cmp(&right);
