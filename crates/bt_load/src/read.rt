@@ -11,12 +11,19 @@ use bt_rowtype::{RecordLine, RecordReader, Records, Refusal, Row, Schema};
 use std::alloc::{AllocError, Global};
 use std::thread::Threads;
 
-// The records that are left.
-fn all_left<'a>(alloc: Global, records: Records<'a>) -> Result<Vec<RecordLine<'a>>, AllocError>
+// Room is made for a record of so many bytes each, so that the list of most texts is never moved.
+const SHORT_RECORD: usize = 6;
+
+// The records that are left of a text of so many bytes.
+fn all_left<'a>(
+    alloc: Global,
+    records: Records<'a>,
+    len: usize,
+) -> Result<Vec<RecordLine<'a>>, AllocError>
     ensures { IfOk result (λ lines. lines.items ≡ records.entry) }
 {
     let mut records = records;
-    let mut lines = Vec::new(alloc);
+    let mut lines = Vec::with_capacity(alloc, len / SHORT_RECORD)?;
     while let Some(line) = records.next() {
         lines.push(line)?;
     }
@@ -66,6 +73,6 @@ pub fn read_records(
     if !RecordReader::new(alloc).is_header(schema.columns(), &header)? {
         return Err(Refusal::BadSchema);
     }
-    let lines = all_left(alloc, records)?;
+    let lines = all_left(alloc, records, text.len())?;
     read_lines(rt, alloc, schema, lines.as_slice())
 }
