@@ -8,6 +8,7 @@ pub mod Kinds
 pub mod Laws
 pub mod Lookups
 pub mod Loops
+pub mod Marks
 pub mod Messages
 pub mod Parts
 pub mod Plans

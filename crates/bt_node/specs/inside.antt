@@ -2,7 +2,6 @@
 pub mod Bounds
 pub mod Held
 pub mod Limits
-pub mod Marks
 pub mod Shares
 pub mod Stored
 pub mod Together

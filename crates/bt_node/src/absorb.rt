@@ -9,7 +9,7 @@ ghost use Rattle.bt_node.specs.Lookups.{pivots_of};
 ghost use Rattle.bt_node.specs.Messages.{with_messages};
 ghost use Rattle.bt_node.specs.Plans.{planned};
 ghost use Rattle.bt_node.specs.Trees.{inner, nodes};
-ghost use Rattle.bt_node.specs.inside.Marks.{passed, marks_of};
+ghost use Rattle.bt_node.specs.Marks.{passed, marks_of};
 ghost use Rattle.bt_node.specs.inside.Shares.{AreInOrder, loaded, sums};
 ghost use Rattle.bt_node.specs.inside.Views.{children_of};
 

@@ -56,7 +56,7 @@ mod visits;
 mod walk;
 
 pub use node::{Node, Parts, Siblings};
-pub use planning::plan;
+pub use planning::{fullest_place, sum_of};
 pub use shape::Shape;
 pub use tree::{Tree, absorb_alone, crown, drain_alone, pack, regroup};
 pub use visitor::Visitor;

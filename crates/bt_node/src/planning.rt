@@ -2,13 +2,13 @@
 //!
 //! Counts, sums and capacities are numbers of messages, and places are counted from 0, the leftmost child.
 ghost use Rattle.std.specs.Prelude.{◌≡◌, IfOk, length, vec_len};
-ghost use Rattle.bt_node.specs.Plans.{fullest, planned, renewed, total};
-ghost use Rattle.bt_node.specs.inside.Marks.{marks_of};
+ghost use Rattle.bt_node.specs.Plans.{fullest, planned, total};
+ghost use Rattle.bt_node.specs.Marks.{marks_of};
 
 use std::alloc::{AllocError, Global};
 
-// How many messages are pending in all, which may be more than fit 64 bits.
-fn sum_of(counts: &[u64]) -> u128
+/// The sum of counts, which may be more than fit 64 bits.
+pub fn sum_of(counts: &[u64]) -> u128
     ensures { result ≡ total counts.now }
 {
     let mut sum = 0;
@@ -18,8 +18,8 @@ fn sum_of(counts: &[u64]) -> u128
     sum
 }
 
-// The place of the child for which the most messages are pending, the leftmost of them.
-fn fullest_place(counts: &[u64]) -> usize
+/// The place of the child for which the most messages are pending, the leftmost of them.
+pub fn fullest_place(counts: &[u64]) -> usize
     ensures { result ≡ fullest counts.now }
 {
     let mut best = 0;
@@ -56,12 +56,11 @@ fn choose(
     Ok(places)
 }
 
-/// The places of the children to flush, where this many messages are pending for each: the fullest first, of equally full ones the
-/// leftmost, and no more of them than it takes until at most the capacity is pending for the others. Takes no memory where no
-/// child is flushed.
-pub fn plan(alloc: Global, counts: &[u64], capacity: u64) -> Result<Vec<usize>, AllocError>
-    ensures places { IfOk result (λ places. places.items ≡ planned counts.now capacity) }
-    ensures renewed { IfOk result (λ places. places.items ≡ renewed capacity (total counts.now) counts.now) }
+// The places of the children to flush, where this many messages are pending for each: the fullest first, of equally full ones the
+// leftmost, and no more of them than it takes until at most the capacity is pending for the others. Takes no memory where no
+// child is flushed.
+fn plan(alloc: Global, counts: &[u64], capacity: u64) -> Result<Vec<usize>, AllocError>
+    ensures { IfOk result (λ places. places.items ≡ planned counts.now capacity) }
 {
     let pending = sum_of(counts);
     if pending <= u128::from(capacity) {

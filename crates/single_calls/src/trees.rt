@@ -5,8 +5,9 @@ use crate::samples::{Sample, Sent, add_message, add_value, key, packet};
 use bt_keycode::Key;
 use bt_messages::{Bins, Entry, Merge, Packet};
 use bt_node::{
-    Node, Parts, Shape, Siblings, Tree, Visitor, Walk, absorb_alone, crown, pack, plan, regroup,
+    Node, Parts, Shape, Siblings, Tree, Visitor, Walk, absorb_alone, crown, pack, regroup,
 };
+use bt_plan::plan;
 use bt_rowtype::{Refusal, Row};
 use std::alloc::{AllocError, Global};
 use std::marker::Model;
@@ -408,8 +409,7 @@ fn a_drained_tree_has_no_messages(rt: HostRuntime) -> Result<(), Fail> {
 
 #[test]
 fn plans(rt: HostRuntime) -> Result<(), Fail> {
-    let alloc = rt.alloc();
-    let table: [(&[u64], u64, &[usize]); 5] = [
+    let table: [(&[u64], u64, &[u16]); 5] = [
         (&[4, 2, 2], 3, &[0, 1]),
         (&[1, 3, 3, 2], 4, &[1, 2]),
         (&[0, 0], 3, &[]),
@@ -417,7 +417,7 @@ fn plans(rt: HostRuntime) -> Result<(), Fail> {
         (&[u64::MAX, u64::MAX], u64::MAX, &[0]),
     ];
     for (counts, capacity, places) in table {
-        assert_eq!(rt; plan(alloc, counts, capacity)?.as_slice(), places);
+        assert_eq!(rt; plan(counts, capacity).as_slice(), places);
     }
     Ok(())
 }

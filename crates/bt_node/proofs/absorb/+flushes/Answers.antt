@@ -12,7 +12,7 @@ use Rattle.bt_node.specs.Lookups.{pivots_of}
 use Rattle.bt_node.specs.Messages.{with_messages}
 use Rattle.bt_node.specs.Plans.{planned}
 use Rattle.bt_node.specs.Trees.{inner, nodes}
-use Rattle.bt_node.specs.inside.Marks.{marks_of}
+use Rattle.bt_node.specs.Marks.{marks_of}
 use Rattle.bt_node.specs.inside.Shares.{AreInOrder, sums}
 use Rattle.bt_node.specs.inside.Views.{child_of, children_of, none_pending_of}
 use Rattle.bt_node.proofs.lemmas.code.AbsorbStep.{among, children_in_order, grouped_anew, if_ok, lower, marks-long, long, on_ok, parts_divided, parts_some, stays_here}

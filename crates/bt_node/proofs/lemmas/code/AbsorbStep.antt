@@ -8,7 +8,7 @@ use Rattle.bt_node.specs.declared.node.Child as code
 use Rattle.bt_node.specs.Messages.{Messages, with_messages}
 use Rattle.bt_node.specs.Plans.{planned, total}
 use Rattle.bt_node.specs.inside.Shares.{AreDivided, AreInOrder, beside, loaded, sums}
-use Rattle.bt_node.specs.inside.Marks.{marks_of, passed, set_all}
+use Rattle.bt_node.specs.Marks.{marks_of, passed, set_all}
 use Rattle.bt_node.specs.Trees.{Shape, Siblings, Tree, leaf, inner, height, height_below, nodes}
 use Rattle.bt_messages.specs.Bins.{LieBetween, joined, parted, parts}
 use Rattle.bt_messages.proofs.offered.Parts.{joined_sorted, length-with_messages}

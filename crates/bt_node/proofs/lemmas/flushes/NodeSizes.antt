@@ -6,7 +6,7 @@ use Rattle.bt_keycode.specs.Keys.{Key, AllWithin}
 use Rattle.bt_node.specs.Messages.{Rows, Messages, rows_after, with_messages, from}
 use Rattle.bt_node.specs.Deals.{deal}
 use Rattle.bt_node.specs.Plans.{total}
-use Rattle.bt_node.specs.inside.Marks.{passed}
+use Rattle.bt_node.specs.Marks.{passed}
 use Rattle.bt_node.specs.Trees.{Shape, Tree, leaf, inner, Nodes, none, node, Siblings, children, nodes}
 use Rattle.bt_node.specs.Flushes.{Child, Flush, pivot_first, counts, shared, flushed, flushed_over, gathered, grouped, leaves, absorbed, none_pending}
 use Rattle.bt_node.specs.Fits.{Lies, IsSized, AreSized}

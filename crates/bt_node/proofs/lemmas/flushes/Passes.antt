@@ -6,7 +6,7 @@ use Rattle.std.specs.declared.option.Option.TheVariants.{Some}
 use Rattle.bt_keycode.specs.Keys.{Key, key_cmp, IsPast, IsBelow, AllWithin}
 use Rattle.bt_node.specs.Messages.{Messages, value_after}
 use Rattle.bt_node.specs.Plans.{total, planned}
-use Rattle.bt_node.specs.inside.Marks.{passed, IsLight, marked_all, unmarked}
+use Rattle.bt_node.specs.Marks.{passed, IsLight, marked_all, unmarked}
 use Rattle.bt_node.specs.Trees.{Tree, Siblings}
 use Rattle.bt_node.specs.Flushes.{Child, Flush, pivot_first, counts, none_pending, flushed, flushed_over, holds, all_hold}
 use Rattle.bt_node.specs.Fits.{IsLed, Lies, SiblingsLie}

@@ -5,7 +5,7 @@ use Rattle.std.specs.declared.option.Option.{Option}
 use Rattle.bt_keycode.specs.Keys.{Key, key_cmp, AllWithin}
 use Rattle.bt_node.specs.Messages.{Rows, Messages, rows_after, value_after, with_messages}
 use Rattle.bt_node.specs.Deals.{deal}
-use Rattle.bt_node.specs.inside.Marks.{passed}
+use Rattle.bt_node.specs.Marks.{passed}
 use Rattle.bt_node.specs.Trees.{Shape, leaf, inner, Nodes, Siblings, children}
 use Rattle.bt_node.specs.Flushes.{Child, Flush, shared, flushed, gathered, grouped, leaves, absorbed, holds, nodes_hold, all_hold}
 use Rattle.bt_node.specs.Fits.{IsLed, Lies, SiblingsLie}

@@ -1,6 +1,6 @@
 use Rattle.std.proofs.Common.{◌≡◌, drop, length, vec_len}
 use Rattle.bt_node.specs.Plans.{planned}
-use Rattle.bt_node.specs.inside.Marks.{marks_of, set_all}
+use Rattle.bt_node.specs.Marks.{marks_of, set_all}
 use Rattle.bt_node.proofs.planning.flush_marks.Given as goal
 
 -- what is left to mark

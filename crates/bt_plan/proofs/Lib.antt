@@ -1,0 +1,9 @@
+pub mod Filling
+pub mod Fits
+pub mod Found
+pub mod Marks
+pub mod offered
+pub mod Opening
+pub mod Places
+pub mod PlanSizes
+pub mod WorkedRows

@@ -1,0 +1,177 @@
+-- Worked trees: cut into a tree in pieces and jobs, and filled again with what becomes of these, computed.
+use Rattle.std.specs.Prelude.{◌≡◌, ℕ, List, [], ◌∷◌, ℤ, pos, neg_ℤ}
+use Rattle.std.proofs.Common.{refl}
+use Rattle.std.specs.declared.option.Option.{Option}
+use Rattle.bt_keycode.specs.Keys.{Key}
+use Rattle.bt_messages.specs.Effects.{effect_of}
+use Rattle.bt_messages.specs.declared.message.Message.{Message}
+use Rattle.bt_messages.specs.declared.message.Message.TheVariants.{Put}
+use Rattle.bt_node.specs.Flushes.{absorb}
+use Rattle.bt_node.specs.Drains.{drain}
+use Rattle.bt_node.specs.Messages.{Messages}
+use Rattle.bt_node.specs.Trees.{Shape, Siblings, Tree, leaf, inner, none, node}
+use Rattle.bt_plan.specs.declared.job.Mode.{Mode}
+use Rattle.bt_plan.specs.declared.job.Mode.TheVariants.{Absorb, Drain}
+use Rattle.bt_plan.specs.Pieces.{Holed, Place, whole, hole, opened, childless, child, filled}
+use Rattle.bt_plan.specs.Cuts.{Job, all_done, cut}
+
+-- a message of these trees; none of them is an upsert
+abbrev Change : Type 0
+Change = Message ℤ ℤ
+
+abbrev effect : Option ℤ → Change → Option ℤ
+effect = effect_of (λ old n. n)
+
+-- the code of a number from 0 to 255, and of -1
+abbrev k : ℕ → Key
+k n = 128 ∷ 0 ∷ 0 ∷ 0 ∷ 0 ∷ 0 ∷ 0 ∷ n ∷ []
+
+abbrev k_minus_1 : Key
+k_minus_1 = 127 ∷ 255 ∷ 255 ∷ 255 ∷ 255 ∷ 255 ∷ 255 ∷ 255 ∷ []
+
+abbrev minus_10 : ℤ
+minus_10 = neg_ℤ (pos 10)
+
+abbrev puts : ℕ → ℕ → Key × Change
+puts n v = (k n, Put (pos v))
+
+abbrev entry : ℕ → ℕ → Key × ℤ
+entry n v = (k n, pos v)
+
+abbrev two : ℕ → ℕ → ℕ → ℕ → Tree ℤ Change
+two a x b y = leaf (entry a x ∷ entry b y ∷ [])
+
+-- at most four children, three pending messages, two rows
+abbrev shape : Shape
+shape = record { fanout = 4; buffer = 3; leaf = 2 }
+
+-- a job of tree 7
+abbrev job : List ℕ → Mode → Tree ℤ Change → Messages Change → Job ℤ Change
+job path mode t packet = record { place = record { tree = 7; path = path }; node = t; packet = packet; mode = mode }
+
+-- a hole in tree 7
+abbrev hole_at : List ℕ → Holed ℤ Change Place
+hole_at path = hole (record { tree = 7; path = path })
+
+-- cut, run and filled
+abbrev together : Tree ℤ Change → Messages Change → ℕ → Mode → Siblings ℤ Change
+together t packet depth mode = let c = cut 7 shape t packet depth mode in filled shape c.holed (all_done effect shape c.jobs)
+
+-- ---- counts 4, 2 and 2: the first two children are flushed
+
+abbrev three_leaves : Tree ℤ Change
+three_leaves = inner (node [] (two 1 10 2 20) (node (k 3) (two 3 30 4 40) (node (k 5) (two 5 50 6 60) none))) []
+
+abbrev four_left : Messages Change
+four_left = (k_minus_1, Put minus_10) ∷ puts 0 0 ∷ puts 1 11 ∷ puts 2 21 ∷ []
+
+abbrev eight_puts : Messages Change
+eight_puts = (k_minus_1, Put minus_10) ∷ puts 0 0 ∷ puts 1 11 ∷ puts 2 21 ∷ puts 3 31 ∷ puts 4 41 ∷ puts 5 51 ∷ puts 6 61 ∷ []
+
+two_jobs : cut 7 shape three_leaves eight_puts 1 Absorb ≡ record {
+  holed = opened (child [] (hole_at (0 ∷ [])) (child (k 3) (hole_at (1 ∷ [])) (child (k 5) (whole (two 5 50 6 60)) childless))) (puts 5 51 ∷ puts 6 61 ∷ []);
+  jobs =
+      job (0 ∷ []) Absorb (two 1 10 2 20) four_left
+      ∷ job (1 ∷ []) Absorb (two 3 30 4 40) (puts 3 31 ∷ puts 4 41 ∷ [])
+      ∷ [];
+}
+two_jobs = refl
+
+-- leaves above the cut are jobs at any depth
+two_jobs_deeper : cut 7 shape three_leaves eight_puts 3 Absorb ≡ cut 7 shape three_leaves eight_puts 1 Absorb
+two_jobs_deeper = refl
+
+two_jobs_filled : together three_leaves eight_puts 1 Absorb ≡ absorb effect shape three_leaves eight_puts
+two_jobs_filled = refl
+
+-- ---- the root sends three messages left, and that node, where one is pending, sends two on
+
+abbrev first_three : Tree ℤ Change
+first_three = inner (node [] (leaf ((k_minus_1, minus_10) ∷ entry 0 0 ∷ [])) (node (k 1) (two 1 11 2 20) (node (k 3) (two 3 30 4 40) none))) (puts 4 44 ∷ [])
+
+abbrev last_two : Tree ℤ Change
+last_two = inner (node [] (two 5 50 6 60) (node (k 7) (leaf (entry 7 70 ∷ [])) none)) (puts 8 80 ∷ [])
+
+abbrev three_high : Tree ℤ Change
+three_high = inner (node [] first_three (node (k 5) last_two none)) []
+
+abbrev four_puts : Messages Change
+four_puts = puts 1 12 ∷ puts 2 22 ∷ puts 3 33 ∷ puts 10 100 ∷ []
+
+two_levels_cut_1 : cut 7 shape three_high four_puts 1 Absorb ≡ record {
+  holed = opened (child [] (hole_at (0 ∷ [])) (child (k 5) (whole last_two) childless)) (puts 10 100 ∷ []);
+  jobs = job (0 ∷ []) Absorb first_three (puts 1 12 ∷ puts 2 22 ∷ puts 3 33 ∷ []) ∷ [];
+}
+two_levels_cut_1 = refl
+
+two_levels_cut_2 : cut 7 shape three_high four_puts 2 Absorb ≡ record {
+  holed = opened
+      (child []
+      (opened
+      (child [] (whole (leaf ((k_minus_1, minus_10) ∷ entry 0 0 ∷ []))) (child (k 1) (hole_at (0 ∷ 1 ∷ [])) (child (k 3) (whole (two 3 30 4 40)) childless)))
+      (puts 3 33 ∷ puts 4 44 ∷ []))
+      (child (k 5) (whole last_two) childless))
+      (puts 10 100 ∷ []);
+  jobs = job (0 ∷ 1 ∷ []) Absorb (two 1 11 2 20) (puts 1 12 ∷ puts 2 22 ∷ []) ∷ [];
+}
+two_levels_cut_2 = refl
+
+two_levels_filled_1 : together three_high four_puts 1 Absorb ≡ absorb effect shape three_high four_puts
+two_levels_filled_1 = refl
+
+two_levels_filled_2 : together three_high four_puts 2 Absorb ≡ absorb effect shape three_high four_puts
+two_levels_filled_2 = refl
+
+two_levels_filled_3 : together three_high four_puts 3 Absorb ≡ absorb effect shape three_high four_puts
+two_levels_filled_3 = refl
+
+-- ---- drained, each child is flushed, also where nothing is pending for it
+
+drained_cut_1 : (cut 7 shape three_high [] 1 Drain).jobs ≡ job (0 ∷ []) Drain first_three [] ∷ job (1 ∷ []) Drain last_two [] ∷ []
+drained_cut_1 = refl
+
+drained_cut_2 : (cut 7 shape three_high [] 2 Drain).jobs
+    ≡ job (0 ∷ 0 ∷ []) Drain (leaf ((k_minus_1, minus_10) ∷ entry 0 0 ∷ [])) []
+    ∷ job (0 ∷ 1 ∷ []) Drain (two 1 11 2 20) []
+    ∷ job (0 ∷ 2 ∷ []) Drain (two 3 30 4 40) (puts 4 44 ∷ [])
+    ∷ job (1 ∷ 0 ∷ []) Drain (two 5 50 6 60) []
+    ∷ job (1 ∷ 1 ∷ []) Drain (leaf (entry 7 70 ∷ [])) (puts 8 80 ∷ [])
+    ∷ []
+drained_cut_2 = refl
+
+drained_filled_1 : together three_high [] 1 Drain ≡ drain effect shape three_high []
+drained_filled_1 = refl
+
+drained_filled_2 : together three_high [] 2 Drain ≡ drain effect shape three_high []
+drained_filled_2 = refl
+
+-- ---- the first child is flushed and splits
+
+abbrev four_leaves : Tree ℤ Change
+four_leaves = inner
+    (node [] (two 1 10 2 20) (node (k 3) (two 3 30 4 40) (node (k 5) (two 5 50 6 60) (node (k 7) (leaf (entry 7 70 ∷ [])) none))))
+    (puts 1 11 ∷ [])
+
+abbrev splitting : Messages Change
+splitting = (k_minus_1, Put minus_10) ∷ puts 0 0 ∷ puts 4 44 ∷ puts 8 80 ∷ []
+
+first_child_splits : (cut 7 shape four_leaves splitting 1 Absorb).jobs
+    ≡ job (0 ∷ []) Absorb (two 1 10 2 20) ((k_minus_1, Put minus_10) ∷ puts 0 0 ∷ puts 1 11 ∷ []) ∷ []
+first_child_splits = refl
+
+first_child_splits_filled : together four_leaves splitting 1 Absorb ≡ absorb effect shape four_leaves splitting
+first_child_splits_filled = refl
+
+-- ---- a root that is a leaf is one job, and a root with nothing to flush makes none
+
+leaf_job : cut 7 shape (two 1 10 2 20) (puts 3 30 ∷ []) 2 Absorb ≡ record {
+  holed = hole_at [];
+  jobs = job [] Absorb (two 1 10 2 20) (puts 3 30 ∷ []) ∷ [];
+}
+leaf_job = refl
+
+no_job : cut 7 shape three_leaves (puts 1 11 ∷ []) 1 Absorb ≡ record {
+  holed = opened (child [] (whole (two 1 10 2 20)) (child (k 3) (whole (two 3 30 4 40)) (child (k 5) (whole (two 5 50 6 60)) childless))) (puts 1 11 ∷ []);
+  jobs = [];
+}
+no_job = refl

@@ -1,0 +1,5 @@
+pub mod Cuts
+pub mod Laws
+pub mod Pieces
+pub mod Views
+pub mod inside

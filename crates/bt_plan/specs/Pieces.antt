@@ -1,0 +1,105 @@
+-- Trees in pieces: where a node has been moved out of a tree, a hole is left.
+use Rattle.std.specs.Prelude.{ℕ, zero, suc, List, [], ◌∷◌, ◌++◌}
+use Rattle.std.specs.Cmp.Lexicographic.{slice_cmp}
+use Rattle.std.specs.FinMap.{find}
+use Rattle.std.specs.Option.{unwrap_or}
+use Rattle.std.specs.Ordering.{nat_cmp}
+use Rattle.std.specs.declared.cmp.Ordering.{Ordering}
+use Rattle.std.specs.declared.option.Option.{Option}
+use Rattle.std.specs.declared.option.Option.TheVariants.{Some}
+use Rattle.bt_keycode.specs.Keys.{Key}
+use Rattle.bt_node.specs.Fits.{SiblingsFit}
+use Rattle.bt_node.specs.Flushes.{pivot_first, shared, grouped}
+use Rattle.bt_node.specs.Messages.{Messages}
+use Rattle.bt_node.specs.Trees.{Shape, Tree, Siblings}
+
+-- where a node stands: the number of its tree, and the numbers of the children on the way to it from the root, before any change
+pub record Place : Type 0 where
+  pub tree : ℕ
+  pub path : List ℕ
+
+-- places by tree, and within a tree from left to right
+abbrev pub place_cmp : Place → Place → Ordering
+place_cmp p q = slice_cmp nat_cmp (p.tree ∷ p.path) (q.tree ∷ q.path)
+
+-- A node that stays with all that is below it, a node that has been moved out, and an inner node that stays and has holes below it, with what is left
+-- of its buffer. H says what a hole tells of the node that stood there.
+mutual
+  pub data Holed (V M H : Type 0) : Type 0 where
+    whole : Tree V M → Holed V M H
+    hole : H → Holed V M H
+    opened : HoledNodes V M H → Messages M → Holed V M H
+
+  pub data HoledNodes (V M H : Type 0) : Type 0 where
+    childless : HoledNodes V M H
+    child : Key → Holed V M H → HoledNodes V M H → HoledNodes V M H
+
+-- a list of children, each behind the pivot before it, as the children of a node with holes below it
+abbrev pub holed_nodes : {V M H : Type 0} → List (Key × Holed V M H) → HoledNodes V M H
+holed_nodes [] = childless
+holed_nodes (x ∷ xs) = child x.0 x.1 (holed_nodes xs)
+
+-- what the holes tell, from left to right
+abbrev mutual
+  pub holes : {V M H : Type 0} → Holed V M H → List H
+  holes (whole t) = []
+  holes (hole h) = h ∷ []
+  holes (opened hs buffer) = holes_below hs
+
+  pub holes_below : {V M H : Type 0} → HoledNodes V M H → List H
+  holes_below childless = []
+  holes_below (child k h hs) = holes h ++ holes_below hs
+
+-- the same tree in pieces, of which each hole tells something else
+abbrev mutual
+  pub with_holes : {V M H G : Type 0} → (H → G) → Holed V M H → Holed V M G
+  with_holes f (whole t) = whole t
+  with_holes f (hole h) = hole (f h)
+  with_holes f (opened hs buffer) = opened (with_holes_below f hs) buffer
+
+  pub with_holes_below : {V M H G : Type 0} → (H → G) → HoledNodes V M H → HoledNodes V M G
+  with_holes_below f childless = childless
+  with_holes_below f (child k h hs) = child k (with_holes f h) (with_holes_below f hs)
+
+-- what is asked of each hole, by the number of levels below it and between the limits that the pivots around it set
+abbrev mutual
+  pub EachHole : {V M H : Type 0} → (ℕ → Option Key → Option Key → H → Type 0) → ℕ → Option Key → Option Key → Holed V M H → Type 0
+  EachHole Asked levels low high (whole t) = Unit {0}
+  EachHole Asked levels low high (hole h) = Asked levels low high h
+  EachHole Asked zero low high (opened hs buffer) = ⊥
+  EachHole Asked (suc levels) low high (opened hs buffer) = EachHoleBelow Asked levels low high hs
+
+  pub EachHoleBelow : {V M H : Type 0} → (ℕ → Option Key → Option Key → H → Type 0) → ℕ → Option Key → Option Key → HoledNodes V M H → Type 0
+  EachHoleBelow Asked levels low high childless = Unit {0}
+  EachHoleBelow Asked levels low high (child k h childless) = EachHole Asked levels low high h
+  EachHoleBelow Asked levels low high (child k h (child l i hs)) = EachHole Asked levels low (Some l) h × EachHoleBelow Asked levels (Some l) high (child l i hs)
+
+-- ---- filling
+
+-- A hole gives the siblings of its piece, a node that stayed whole itself. The children of an opened node are replaced by what they give, and dealt anew,
+-- each part with its share of the buffer.
+abbrev mutual
+  pub filled_with : {V M H : Type 0} → Shape → (H → Siblings V M) → Holed V M H → Siblings V M
+  filled_with shape piece (whole t) = ([], t) ∷ []
+  filled_with shape piece (hole h) = piece h
+  filled_with shape piece (opened hs buffer) = grouped shape (shared (filled_below shape piece hs) buffer)
+
+  pub filled_below : {V M H : Type 0} → Shape → (H → Siblings V M) → HoledNodes V M H → Siblings V M
+  filled_below shape piece childless = []
+  filled_below shape piece (child k h hs) = pivot_first k (filled_with shape piece h) ++ filled_below shape piece hs
+
+-- siblings by places
+abbrev pub Pieces : Type 0 → Type 0 → Type 0
+Pieces V M = List (Place × Siblings V M)
+
+-- the siblings at a place, and none where it has none
+abbrev pub piece_at : {V M : Type 0} → Pieces V M → Place → Siblings V M
+piece_at pieces place = unwrap_or (find place_cmp place pieces) []
+
+-- a tree in pieces, each hole filled with the siblings at its place
+abbrev pub filled : {V M : Type 0} → Shape → Holed V M Place → Pieces V M → Siblings V M
+filled shape holed pieces = filled_with shape (piece_at pieces) holed
+
+-- the siblings at the place of a hole fit there: they have as many levels below them as the node that stood there, and the pivots around it bound them
+abbrev pub FitsHole : {V M : Type 0} → Shape → Pieces V M → ℕ → Option Key → Option Key → Place → Type 0
+FitsHole shape pieces levels low high place = SiblingsFit shape levels low high (piece_at pieces place)

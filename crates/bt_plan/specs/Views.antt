@@ -1,0 +1,36 @@
+-- What the values of the code stand for.
+use Rattle.std.specs.Prelude.{◌≡◌, ◌+◌, ℕ, List, length, map}
+use Rattle.bt_messages.specs.Bins.{LieBetween, joined}
+use Rattle.bt_messages.specs.declared.message.Message.{Message}
+use Rattle.bt_node.specs.Messages.{Messages}
+use Rattle.bt_node.specs.Trees.{Shape, Tree, behind}
+use Rattle.bt_plan.specs.declared.holed.HoledParts.{HoledParts}
+use Rattle.bt_plan.specs.declared.holed.HoledParts.TheVariants.{Whole, Hole, Opened}
+use Rattle.bt_plan.specs.declared.job.Job as code
+use Rattle.bt_plan.specs.declared.job.Place as code_place
+use Rattle.bt_plan.specs.declared.job.Mode.{Mode}
+use Rattle.bt_plan.specs.Cuts.{Job, cut}
+use Rattle.bt_plan.specs.Pieces.{Holed, Place, whole, hole, opened, holed_nodes}
+
+abbrev pub place_of : code_place.Place → Place
+place_of place = record { tree = place.tree; path = place.path.items }
+
+abbrev pub job_of : {V D : Type 0} → code.Job V D → Job V (Message V D)
+job_of job = record { place = place_of job.place; node = job.node; packet = job.packet; mode = job.mode }
+
+-- the buffer of an opened node is its bins, one after the other
+abbrev pub holed_of : {V D : Type 0} → HoledParts V D → Holed V (Message V D) Place
+holed_of (Whole node) = whole node
+holed_of (Hole place) = hole (place_of place)
+holed_of (Opened children pivots bins) = opened (holed_nodes (behind pivots.items children.items)) (joined bins)
+
+-- an opened node has a pivot between each two children, and each child a bin, whose messages lie between the pivots around the child
+abbrev pub IsDivided : {V D : Type 0} → HoledParts V D → Type 0
+IsDivided (Whole node) = Unit {0}
+IsDivided (Hole place) = Unit {0}
+IsDivided (Opened children pivots bins) = (length children.items ≡ length pivots.items + 1) × LieBetween pivots.items bins
+
+-- a tree in pieces, with its shape, and jobs are those of a cut
+abbrev pub IsCut : {V D : Type 0} → Shape × Holed V (Message V D) Place → List (code.Job V D) → ℕ → Shape × Tree V (Message V D) → Messages (Message V D) → ℕ → Mode → Type 0
+IsCut holed jobs number tree packet depth mode =
+    (holed ≡ (tree.0, (cut number tree.0 tree.1 packet depth mode).holed)) × (map job_of jobs ≡ (cut number tree.0 tree.1 packet depth mode).jobs)

@@ -1,0 +1,4 @@
+pub mod Cutting
+pub mod Falls
+pub mod Stored
+pub mod Weights

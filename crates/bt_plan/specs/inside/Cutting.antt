@@ -1,0 +1,28 @@
+-- The children of an opened node, cut one by one.
+use Rattle.std.specs.Prelude.{ℕ, ◌+◌, Bool, cond, List, [], ◌∷◌}
+use Rattle.bt_node.specs.Fits.{IsSized}
+use Rattle.bt_node.specs.Messages.{Messages}
+use Rattle.bt_node.specs.Trees.{Shape, Tree}
+use Rattle.bt_plan.specs.declared.job.Mode.{Mode}
+use Rattle.bt_plan.specs.Cuts.{Job, child_place, cut_out}
+use Rattle.bt_plan.specs.Pieces.{Holed, Place, whole}
+
+module _ {V M : Type 0} where
+  -- the children from the i-th on, each with its bin and its mark
+  abbrev pub cut_each : ℕ → Mode → Shape → Place → ℕ → List (Tree V M) → List (Messages M) → List Bool → List (Holed V M (Job V M))
+  cut_each depth mode shape place i [] bins marks = []
+  cut_each depth mode shape place i (t ∷ ts) [] marks = []
+  cut_each depth mode shape place i (t ∷ ts) (b ∷ bs) [] = []
+  cut_each depth mode shape place i (t ∷ ts) (b ∷ bs) (m ∷ ms) =
+      cond m (cut_out depth mode shape (child_place place i) t b) (whole t) ∷ cut_each depth mode shape place (i + 1) ts bs ms
+
+  -- each node is no larger than the shape allows
+  abbrev pub AreSizedNodes : Shape → List (Tree V M) → Type 0
+  AreSizedNodes shape [] = Unit {0}
+  AreSizedNodes shape (t ∷ ts) = IsSized shape t × AreSizedNodes shape ts
+
+-- what is left in bins, of which the marked ones are emptied
+abbrev pub kept_bins : {M : Type 0} → List (Messages M) → List Bool → List (Messages M)
+kept_bins [] marks = []
+kept_bins (b ∷ bs) [] = []
+kept_bins (b ∷ bs) (m ∷ ms) = cond m [] b ∷ kept_bins bs ms

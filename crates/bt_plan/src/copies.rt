@@ -1,0 +1,16 @@
+//! Copies of short lists.
+ghost use Rattle.std.specs.Prelude.{◌≡◌, ◌≤◌, length};
+
+use arrayvec::ArrayVec;
+
+/// A copy of the items.
+pub(crate) fn copied<T: Copy + Default, const CAP: usize>(items: &[T]) -> ArrayVec<T, CAP>
+    requires { length items.now ≤ CAP }
+    ensures { result.items ≡ items.now }
+{
+    let mut copy = ArrayVec::new();
+    for item in items {
+        copy.push(*item);
+    }
+    copy
+}

@@ -1,0 +1,154 @@
+//! Trees in pieces.
+//!
+//! ```text
+//!                  bins:     -   | 9 put |   -
+//!     opened       pivots:       6       9
+//!                  children: a   |   b   |   c
+//!                            /       |       \
+//!                        hole at   whole   hole at
+//!                          [0]               [2]
+//! ```
+//!
+//! A node with nothing moved out below it is whole. Where a node was moved out, a hole tells its place. An inner node with holes below it is opened:
+//! it keeps its children, the pivots between them, and what is left in their bins. A contract sees the bins, one after the other, as the node's buffer.
+ghost use Rattle.std.specs.Prelude.{◌≡◌, ◌+◌, length};
+ghost use Rattle.bt_messages.specs.Bins.{LieBetween, joined};
+ghost use Rattle.bt_node.specs.Trees.{behind};
+ghost use Rattle.bt_plan.specs.Pieces as pieces;
+ghost use Rattle.bt_plan.specs.Views.{IsDivided, holed_of, place_of};
+
+use crate::job::Place;
+use bt_keycode::Key;
+use bt_messages::{Bins, Merge};
+use bt_node::{Node, Shape};
+use std::marker::Model;
+
+/// A node of a tree in pieces, with all that is below it. A contract sees the tree in pieces that it stands for.
+#[cycle(pieces)]
+#[derive(Drop)]
+pub struct HoledNode<V: Merge> {
+    parts: HoledParts<V>,
+}
+
+/// What a node of a tree in pieces consists of.
+#[cycle(pieces)]
+#[derive(Drop)]
+pub enum HoledParts<V: Merge> {
+    /// A node that stays, with all that is below it.
+    Whole(Node<V>),
+    /// The place of a node that was moved out.
+    Hole(Place),
+    /// An inner node that stays, with holes below it.
+    Opened {
+        children: Vec<HoledNode<V>>,
+        pivots: Vec<Key>,
+        bins: Bins<V>,
+    },
+}
+
+impl<V: Merge> Model for HoledNode<V> {
+    ghost use Rattle.bt_messages.specs.declared.message.Message.{Message};
+    ghost use Rattle.bt_plan.specs.Pieces as pieces;
+    ghost use Rattle.bt_plan.specs.inside.Stored.{holed_code};
+
+    ghost Value = { pieces.Holed V (Message V V.Delta) pieces.Place };
+
+    ghost coded = { holed_code V.code V.Delta.code };
+
+    ghost use Rattle.bt_plan.specs.Views.{holed_of};
+
+    ghost view = { λ n. holed_of n.parts };
+
+    ghost use Rattle.bt_plan.specs.Views.{IsDivided};
+
+    ghost invariant = { λ n. IsDivided n.parts };
+
+    ghost use Rattle.bt_plan.specs.inside.Weights.{weight};
+
+    ghost size = { weight };
+
+    ghost use Rattle.bt_plan.specs.inside.Falls.{below_node};
+
+    ghost size_decreases = { λ n h. below_node V.Merge n.parts h };
+}
+
+impl<V: Merge> HoledNode<V> {
+    /// A node that stays, with all that is below it.
+    pub(crate) fn whole(node: Node<V>) -> Self
+        ensures { result ≡ pieces.whole node }
+    {
+        HoledNode {
+            parts: HoledParts::Whole(node),
+        }
+    }
+
+    /// A hole where a node stood.
+    pub(crate) fn hole(place: Place) -> Self
+        ensures { result ≡ pieces.hole (place_of place) }
+    {
+        HoledNode {
+            parts: HoledParts::Hole(place),
+        }
+    }
+
+    /// An inner node that stays, with holes below it.
+    pub(crate) fn opened(children: Vec<HoledNode<V>>, pivots: Vec<Key>, bins: Bins<V>) -> Self
+        requires one_fewer { length children.items ≡ length pivots.items + 1 }
+        requires divided { LieBetween pivots.items bins }
+        ensures { result ≡ pieces.opened (pieces.holed_nodes (behind pivots.items children.items)) (joined bins) }
+    {
+        HoledNode {
+            parts: HoledParts::Opened {
+                children,
+                pivots,
+                bins,
+            },
+        }
+    }
+
+    /// What the node consists of.
+    pub fn into_parts(self) -> HoledParts<V>
+        ensures parts { self ≡ holed_of result }
+        ensures divided { IsDivided result }
+    {
+        let HoledNode { parts } = self;
+        parts
+    }
+}
+
+/// A tree in pieces, with its shape. A contract sees both.
+#[derive(Drop)]
+pub struct Holed<V: Merge> {
+    shape: Shape,
+    root: HoledNode<V>,
+}
+
+impl<V: Merge> Model for Holed<V> {
+    ghost use Rattle.bt_messages.specs.declared.message.Message.{Message};
+    ghost use Rattle.bt_node.specs.Trees as trees;
+    ghost use Rattle.bt_plan.specs.Pieces as pieces;
+    ghost use Rattle.bt_plan.specs.inside.Stored.{shaped_holed_code};
+
+    ghost Value = { trees.Shape × pieces.Holed V (Message V V.Delta) pieces.Place };
+
+    ghost coded = { shaped_holed_code V.code V.Delta.code };
+
+    ghost view = { λ h. (h.shape, h.root) };
+}
+
+impl<V: Merge> Holed<V> {
+    pub(crate) fn new(shape: Shape, root: HoledNode<V>) -> Self
+        ensures { result ≡ (shape, root) }
+    {
+        Holed { shape, root }
+    }
+
+    /// The shape and the root.
+    pub fn apart(self) -> (Shape, HoledNode<V>)
+        ensures shape { result.0 ≡ self.0 }
+        ensures root { result.1 ≡ self.1 }
+    {
+        let Holed { shape, root } = self;
+        (shape, root)
+    }
+}

@@ -1,0 +1,64 @@
+//! What is moved out of a tree: a node with the messages that go down to it.
+ghost use Rattle.std.specs.Prelude.{◌≡◌, ◌<◌, length};
+ghost use Rattle.bt_plan.specs.Cuts.{child_place, root_place};
+ghost use Rattle.bt_plan.specs.Views.{place_of};
+
+use crate::copies::copied;
+use arrayvec::ArrayVec;
+use bt_messages::{Merge, Packet};
+use bt_node::Node;
+
+/// Where a node stands: the number of its tree, and the numbers of the children on the way to it from the root, before any change.
+#[derive(Drop)]
+pub struct Place {
+    pub tree: u16,
+    pub path: ArrayVec<u16, 3>,
+}
+
+impl Place {
+    // The root of a tree.
+    pub(crate) fn root(tree: u16) -> Self
+        ensures { place_of result ≡ root_place tree }
+    {
+        Place {
+            tree,
+            path: ArrayVec::new(),
+        }
+    }
+
+    /// A copy of the place.
+    pub fn copy(&self) -> Self
+        ensures { place_of result ≡ place_of self.now }
+    {
+        Place {
+            tree: self.tree,
+            path: copied(self.path.as_slice()),
+        }
+    }
+
+    // The child with this number.
+    pub(crate) fn child(&self, number: u16) -> Self
+        requires { length self.now.path.items < 3 }
+        ensures { place_of result ≡ child_place (place_of self.now) number }
+    {
+        let mut place = self.copy();
+        place.path.push(number);
+        place
+    }
+}
+
+/// How far messages go down: to the first buffer that has room for them, or all to the leaves.
+#[derive(Clone, Copy)]
+pub enum Mode {
+    Absorb,
+    Drain,
+}
+
+/// A node that is moved out of a tree, with the messages for it.
+#[derive(Drop)]
+pub struct Job<V: Merge> {
+    pub place: Place,
+    pub node: Node<V>,
+    pub packet: Packet<V>,
+    pub mode: Mode,
+}

@@ -1,0 +1,36 @@
+//! The children that a node flushes, worked out in place.
+//!
+//! Counts, sums and capacities are numbers of messages, and places are counted from 0, the leftmost child.
+ghost use Rattle.std.specs.Prelude.{◌≡◌, ◌≤◌, length};
+ghost use Rattle.bt_node.specs.Plans.{planned, renewed, total};
+
+use crate::copies::copied;
+use arrayvec::ArrayVec;
+use bt_node::{fullest_place, sum_of};
+
+// The places in turn: the fullest child is emptied, until no more are left than the capacity.
+fn choose(rest: &mut [u64], capacity: u64) -> ArrayVec<u16, 64>
+    requires { length rest.old ≤ 64 }
+    ensures { result.items ≡ planned rest.old capacity }
+{
+    let mut places = ArrayVec::new();
+    let mut left = sum_of(rest);
+    while left > u128::from(capacity) {
+        let place = fullest_place(rest);
+        left -= u128::from(rest[place]);
+        rest[place] = 0;
+        places.push(place as u16);
+    }
+    places
+}
+
+/// The places of the children to flush, where this many messages are pending for each: the fullest first, of equally full ones the
+/// leftmost, and no more of them than it takes until at most the capacity is pending for the others.
+pub fn plan(counts: &[u64], capacity: u64) -> ArrayVec<u16, 64>
+    requires { length counts.now ≤ 64 }
+    ensures places { result.items ≡ planned counts.now capacity }
+    ensures renewed { result.items ≡ renewed capacity (total counts.now) counts.now }
+{
+    let mut rest: ArrayVec<u64, 64> = copied(counts);
+    choose(rest.as_mut_slice(), capacity)
+}
