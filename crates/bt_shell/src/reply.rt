@@ -166,14 +166,13 @@ impl Model for Lines {
 }
 
 impl Lines {
-    /// No line.
-    pub fn new(alloc: Global) -> Self
+    /// No line, with the room that a list has, whose bytes are gone.
+    pub fn in_room(room: Vec<u8>) -> Self
         ensures { result ≡ ([], 0) }
     {
-        Lines {
-            text: Vec::new(alloc),
-            count: 0,
-        }
+        let mut text = room;
+        text.clear();
+        Lines { text, count: 0 }
     }
 
     /// The lines, and then a word and their number.

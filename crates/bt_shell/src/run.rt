@@ -42,9 +42,11 @@ fn write_replies<W: Write>(
 {
     *table = None;
     let mut at = 0;
-    'commands: while let Some(step) = next_reply(rt, alloc, script, table, at)? {
+    let mut room = Vec::new(alloc);
+    'commands: while let Some(step) = next_reply(rt, alloc, script, table, at, room)? {
         write_text(writer, step.text.as_slice())?;
         at = step.next;
+        room = step.text;
     }
     flush(writer)?;
     Ok(())

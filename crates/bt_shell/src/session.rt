@@ -129,6 +129,7 @@ fn scan(
     table: &Option<Table>,
     name: &Text,
     bounds: &Bounds<'_>,
+    room: Vec<u8>,
 ) -> Result<Vec<u8>, Refusal>
     ensures done { IfOk result (λ text. step.IsDone table.now table.now (command.Scan name.now bounds.now) text.items) }
     ensures refused { IfErr result (step.IsRefused table.now table.now (command.Scan name.now bounds.now)) }
@@ -142,12 +143,17 @@ fn scan(
         name,
         bounds.from.as_ref(),
         bounds.to.as_ref(),
-        Lines::new(alloc),
+        Lines::in_room(room),
     )?;
     Ok(lines.into_reply(b"rows ")?)
 }
 
-fn sums(alloc: Global, table: &Option<Table>, form: &SumsForm<'_>) -> Result<Vec<u8>, Refusal>
+fn sums(
+    alloc: Global,
+    table: &Option<Table>,
+    form: &SumsForm<'_>,
+    room: Vec<u8>,
+) -> Result<Vec<u8>, Refusal>
     ensures done { IfOk result (λ text. step.IsDone table.now table.now (command.Sums form.now) text.items) }
     ensures refused { IfErr result (step.IsRefused table.now table.now (command.Sums form.now)) }
 {
@@ -162,7 +168,7 @@ fn sums(alloc: Global, table: &Option<Table>, form: &SumsForm<'_>) -> Result<Vec
         &form.column,
         form.bounds.from.as_ref(),
         form.bounds.to.as_ref(),
-        Lines::new(alloc),
+        Lines::in_room(room),
     )?;
     Ok(lines.into_reply(b"sums ")?)
 }
@@ -218,12 +224,13 @@ fn rebuild(alloc: Global, table: &mut Option<Table>, name: &Text) -> Result<Vec<
     Ok(reply_text(alloc, reply)?)
 }
 
-// The reply to a command that is not refused, or its refusal.
+// The reply to a command that is not refused, or its refusal. Where a reply has many lines, they are written into the room of a list.
 fn answer(
     rt: &(impl Threads + Sync),
     alloc: Global,
     table: &mut Option<Table>,
     command: Command<'_>,
+    room: Vec<u8>,
 ) -> Result<Vec<u8>, Refusal>
     ensures done { IfOk result (λ text. step.IsDone table.old table.new command.entry text.items) }
     ensures refused { IfErr result (step.IsRefused table.old table.new command.entry) }
@@ -232,8 +239,8 @@ fn answer(
         Command::Table(form) => create_table(alloc, table, form),
         Command::Batch(items) => batch(alloc, table, &items),
         Command::Get(fields) => get(alloc, table, &fields),
-        Command::Scan(tree, bounds) => scan(alloc, table, &tree, &bounds),
-        Command::Sums(form) => sums(alloc, table, &form),
+        Command::Scan(tree, bounds) => scan(alloc, table, &tree, &bounds, room),
+        Command::Sums(form) => sums(alloc, table, &form, room),
         Command::Image(tree) => image(alloc, table, &tree),
         Command::Index(form) => create_index(alloc, table, form),
         Command::Build(name, count) => build(alloc, table, &name, count),
@@ -250,11 +257,12 @@ fn take_turn(
     alloc: Global,
     table: &mut Option<Table>,
     command: Command<'_>,
+    room: Vec<u8>,
 ) -> Result<Vec<u8>, AllocError>
     ensures text { IfOk result (λ text. text.items ≡ (step.turn table.old (Ok command.entry)).1) }
     ensures state { OnOk result (table.new ≡ (step.turn table.old (Ok command.entry)).0) }
 {
-    match answer(rt, alloc, table, command) {
+    match answer(rt, alloc, table, command, room) {
         Ok(text) => Ok(text),
         Err(Refusal::OutOfMemory) => Err(AllocError),
         Err(refusal) => refusal_reply(alloc, refusal),
@@ -269,12 +277,15 @@ pub struct Step {
 }
 
 /// The reply to the command that stands at a place, or `None` where no further one does. An `Err` is for want of memory.
+///
+/// A reply of many lines takes the room of a list, such as the reply before it, so that scans one after the other ask for it once.
 pub fn next_reply(
     rt: &(impl Threads + Sync),
     alloc: Global,
     script: &[u8],
     table: &mut Option<Table>,
     at: usize,
+    room: Vec<u8>,
 ) -> Result<Option<Step>, AllocError>
     ensures step { IfOk result (λ found. IfSome found (λ step. IsTurn table.old table.new (commands (drop at script.now)) (commands (drop step.next script.now)) step.text.items)) }
     ensures end { IfOk result (λ found. IfNone found (commands (drop at script.now) ≡ [])) }
@@ -287,7 +298,7 @@ pub fn next_reply(
             Ok(Some(Step { text, next }))
         }
         Parsed::Good { command, next } => {
-            let text = take_turn(rt, alloc, table, command)?;
+            let text = take_turn(rt, alloc, table, command, room)?;
             Ok(Some(Step { text, next }))
         }
     }

@@ -13,9 +13,9 @@ returns-clause-done c =
     let state = c.in-Some.table in
     let bounds = c.args.bounds.now in
     let text = c.in_ok-into_reply.field-0.items in
-    let shown : made (fold (with_line row_line) c.new.result) (scan state c.args.name.now bounds.from bounds.to) ≡ Ok c.in_ok-lines.lines = search rules in
+    let shown : made (fold (with_line row_line) c.in_room.result) (scan state c.args.name.now bounds.from bounds.to) ≡ Ok c.in_ok-lines.lines = search rules in
     let wanted : made scan_reply (scan state c.args.name.now bounds.from bounds.to) ≡ Ok text =
-    replied row_line (codes "rows ") (scan state c.args.name.now bounds.from bounds.to) c.new.result c.in_ok-lines.lines text c.new.ensures shown c.in_ok-into_reply.ensures in
+    replied row_line (codes "rows ") (scan state c.args.name.now bounds.from bounds.to) c.in_room.result c.in_ok-lines.lines text c.in_room.ensures shown c.in_ok-into_reply.ensures in
     search (rules, ap (seen state) wanted)
 
 pub returns-in_err-lines-clause-refused : goal.returns-in_err-lines-clause-refused
@@ -25,6 +25,6 @@ returns-in_err-lines-clause-refused c =
     let bounds = c.args.bounds.now in
     let answer = scan state name bounds.from bounds.to in
     let refusal = c.in_err-lines.field-0.0 in
-    let told : refusal ≢ OutOfMemory → made (fold (with_line row_line) c.new.result) answer ≡ Err refusal = search rules in
-    let wanted : refusal ≢ OutOfMemory → outcome (Some state) (Scan name bounds) ≡ Err refusal = λ certain. ap (seen state) (refused (fold (with_line row_line) c.new.result) scan_reply answer refusal (told certain)) in
+    let told : refusal ≢ OutOfMemory → made (fold (with_line row_line) c.in_room.result) answer ≡ Err refusal = search rules in
+    let wanted : refusal ≢ OutOfMemory → outcome (Some state) (Scan name bounds) ≡ Err refusal = λ certain. ap (seen state) (refused (fold (with_line row_line) c.in_room.result) scan_reply answer refusal (told certain)) in
     search (rules, wanted)

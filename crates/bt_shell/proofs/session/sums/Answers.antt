@@ -15,8 +15,8 @@ returns-clause-done c =
     let bounds = form.bounds in
     let answer = sums state form.tree form.columns form.column bounds.from bounds.to in
     let text = c.in_ok-into_reply.field-0.items in
-    let shown : made (fold (with_line sum_line) c.new.result) answer ≡ Ok c.in_ok-lines.lines = search rules in
-    let wanted : made sums_reply answer ≡ Ok text = replied sum_line (codes "sums ") answer c.new.result c.in_ok-lines.lines text c.new.ensures shown c.in_ok-into_reply.ensures in
+    let shown : made (fold (with_line sum_line) c.in_room.result) answer ≡ Ok c.in_ok-lines.lines = search rules in
+    let wanted : made sums_reply answer ≡ Ok text = replied sum_line (codes "sums ") answer c.in_room.result c.in_ok-lines.lines text c.in_room.ensures shown c.in_ok-into_reply.ensures in
     search (rules, ap (seen state) wanted)
 
 pub returns-in_err-lines-clause-refused : goal.returns-in_err-lines-clause-refused
@@ -25,6 +25,6 @@ returns-in_err-lines-clause-refused c =
     let form = c.args.form.now in
     let answer = sums state form.tree form.columns form.column form.bounds.from form.bounds.to in
     let refusal = c.in_err-lines.field-0.0 in
-    let told : refusal ≢ OutOfMemory → made (fold (with_line sum_line) c.new.result) answer ≡ Err refusal = search rules in
-    let wanted : refusal ≢ OutOfMemory → outcome (Some state) (Sums form) ≡ Err refusal = λ certain. ap (seen state) (refused (fold (with_line sum_line) c.new.result) sums_reply answer refusal (told certain)) in
+    let told : refusal ≢ OutOfMemory → made (fold (with_line sum_line) c.in_room.result) answer ≡ Err refusal = search rules in
+    let wanted : refusal ≢ OutOfMemory → outcome (Some state) (Sums form) ≡ Err refusal = λ certain. ap (seen state) (refused (fold (with_line sum_line) c.in_room.result) sums_reply answer refusal (told certain)) in
     search (rules, wanted)
