@@ -4,7 +4,6 @@
 pub use Rattle.bt_node.proofs.lemmas.code.ChoiceLoop.{Turn, planned-below, planned-over, planned-within, turn-below, turn-left, turn-planned, turn-some}
 pub use Rattle.bt_node.proofs.lemmas.plans.OnePass.{names}
 pub use Rattle.bt_node.proofs.lemmas.plans.RenewedChoice.{renewed-planned}
-
 -- children beside their pivots, their bins and their marks
 pub use Rattle.bt_node.proofs.lemmas.code.AbsorbStep.{if_ok}
 pub use Rattle.bt_node.proofs.lemmas.code.Marks.{marked-zip}
@@ -15,7 +14,6 @@ pub use Rattle.bt_node.proofs.lemmas.flushes.Divisions.{beside-shared, divided-l
 pub use Rattle.bt_node.proofs.lemmas.flushes.Groups.{children-nodes, stripped}
 pub use Rattle.bt_node.proofs.lemmas.flushes.NodeSizes.{ChildrenSized, shared-sized}
 pub use Rattle.bt_node.proofs.lemmas.keys.SortedLists.{from-back, from-joined, from-prefix}
-
 -- what becomes of a node and its messages, child by child
 pub use Rattle.bt_node.proofs.lemmas.flushes.Drains.{drain_recurs}
 pub use Rattle.bt_node.proofs.lemmas.flushes.Laws.{anywhere}
