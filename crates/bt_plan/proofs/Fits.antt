@@ -1,38 +1,121 @@
--- Each job fits its hole.
-use Rattle.std.proofs.Common.{ℕ, zero, suc, ◌<◌, Bool, true, false, cond, List, [], ◌∷◌, subst, sym}
+-- A tree that is cut fits: each job in its hole, and what stays in its place.
+use Rattle.std.proofs.Common.{◌≡◌, ◌≤◌, ◌+◌, ℕ, zero, suc, ◌<◌, Bool, true, false, cond, List, [], ◌∷◌, ◌++◌, drop, length, map, refl, sym, ap, subst, ◌∙◌, arith, le_refl}
+use Rattle.std.proofs.lemmas.List.{length-map}
 use Rattle.std.specs.declared.option.Option.{Option}
 use Rattle.std.specs.declared.option.Option.TheVariants.{Some}
-use Rattle.bt_keycode.specs.Keys.{Key, AllWithin}
+use Rattle.bt_keycode.specs.Keys.{Key, AllWithin, IsSorted, SideBySide}
+use Rattle.bt_messages.specs.Bins.{LieBetween, joined, parts}
+use Rattle.bt_messages.proofs.offered.Parts.{joined_sorted, parts-joined}
 use Rattle.bt_node.specs.Fits.{IsSized, Lies}
-use Rattle.bt_node.specs.Flushes.{Child, shared}
+use Rattle.bt_node.specs.Flushes.{Child, Flush, counts, flushed, flushed_over, shared}
 use Rattle.bt_node.specs.Messages.{Messages, with_messages}
+use Rattle.bt_node.specs.Plans.{total}
 use Rattle.bt_node.specs.Trees.{Shape, Tree, leaf, inner, children}
-use Rattle.bt_node.proofs.offered.FlushSteps.{ChildLies, ChildrenLie, ChildrenSized, names, shared-sized, start-lies}
+use Rattle.bt_node.proofs.offered.FlushSteps.{ChildLies, ChildrenLie, ChildrenSized, all_pending, divided-lie, flushed-light, flushed-planned, length-shared, names, settled-fits, shared-sized, slots, start-lies, total-counts}
 use Rattle.bt_plan.specs.declared.job.Mode.{Mode}
-use Rattle.bt_plan.specs.Pieces.{EachHole, EachHoleBelow, Place, holed_nodes, whole}
-use Rattle.bt_plan.specs.Cuts.{child_place, cut_out}
+use Rattle.bt_plan.specs.declared.job.Mode.TheVariants.{Absorb, Drain}
+use Rattle.bt_plan.specs.Pieces.{Holed, HoledChild, HoledFits, HoledNodes, IsSent, Place, hole, holed_nodes, opened, pivots_below, shared_below, whole, with_bins}
+use Rattle.bt_plan.specs.Cuts.{Job, child_place, cut_out, left_pending}
 use Rattle.bt_plan.specs.Laws.{JobFits}
 use Rattle.bt_plan.proofs.Filling.{opened_children}
-use Rattle.bt_plan.proofs.Marks.{names-slots_in, slots-are, slots_in}
+use Rattle.bt_plan.proofs.Marks.{left-all, names-slots_in, pending-pass, slots-are, slots_in}
+
+-- ---- what is left in the bins
+
+module _ {V M : Type 0} where
+  -- it is within capacity
+  left-within : (mode : Mode) (capacity : ℕ) (cs : List (Child V M)) → length (left_pending (slots_in mode capacity cs)) ≤ capacity
+  left-within Absorb capacity cs =
+      let f : Flush V M = λ t p. [] in
+      omega (
+        arith,
+        settled-fits (λ c. length c.pending) (flushed f) (flushed-light f) capacity (total (counts cs)) cs (le_refl (total (counts cs))),
+        total-counts (flushed_over f capacity cs),
+        ap (λ ds. length (all_pending ds)) (flushed-planned f capacity cs),
+        ap length (pending-pass f (slots capacity cs)),
+      )
+  left-within Drain capacity cs = omega (arith, ap length (left-all cs))
+
+  -- a child with what is left in its bin
+  abbrev kept : Child V M × Bool → Child V M
+  kept s = record { pivot = s.0.pivot; tree = s.0.tree; pending = cond s.1 [] s.0.pending }
+
+  abbrev bins : List (Child V M × Bool) → List (Messages M)
+  bins ss = map (λ c. c.pending) (map kept ss)
+
+  kept-lies : (levels : ℕ) (low high : Option Key) (s : Child V M × Bool) → ChildLies levels low high s.0 → ChildLies levels low high (kept s)
+  kept-lies levels low high (c, true) l = (l.0, tt, tt)
+  kept-lies levels low high (c, false) l = l
+
+  all-lie : (levels : ℕ) (low high : Option Key) (ss : List (Child V M × Bool)) → ChildrenLie levels low high (names ss) → ChildrenLie levels low high (map kept ss)
+  all-lie levels low high [] p = tt
+  all-lie levels low high (c ∷ []) p = kept-lies levels low high c p
+  all-lie levels low high (c ∷ d ∷ ss) p = (p.0, p.1, kept-lies levels low (Some d.0.pivot) c p.2, all-lie levels (Some d.0.pivot) high (d ∷ ss) p.3)
+
+  joined-left : (ss : List (Child V M × Bool)) → joined (bins ss) ≡ left_pending ss
+  joined-left [] = refl
+  joined-left (c ∷ ss) = ap (λ z. cond c.1 [] c.0.pending ++ z) (joined-left ss)
+
+  length-names : (ss : List (Child V M × Bool)) → length (names ss) ≡ length ss
+  length-names [] = refl
+  length-names (c ∷ ss) = ap suc (length-names ss)
+
+  -- nothing is pending for a node that is moved out
+  sent-none : {H : Type 0} (h : Holed V M H) → IsSent h []
+  sent-none (whole t) = tt
+  sent-none (hole h) = refl
+  sent-none (opened hs buffer) = refl
 
 module _ {V M : Type 0} (effect : Option V → M → Option V) (s : Shape) (leaf_some : 0 < s.leaf) (fanout_some : 0 < s.fanout) (mode : Mode) where
   abbrev Suits : ℕ → ℕ → Type 0
   Suits depth levels = (place : Place) (low high : Option Key) (t : Tree V M) (p : Messages M) → Lies levels low high t → IsSized s t → AllWithin low high p →
-      EachHole (JobFits s) levels low high (cut_out depth mode s place t p)
+      HoledFits (JobFits s) s levels low high (cut_out depth mode s place t p)
+
+  -- a child in its place, with its bin
+  abbrev Fits : ℕ → Option Key → Option Key → HoledChild V M (Job V M) → Type 0
+  Fits levels low high c = HoledFits (JobFits s) s levels low high c.node × AllWithin low high c.pending × IsSorted c.pending × IsSent c.node c.pending
 
   child-fits : (depth levels : ℕ) → Suits depth levels → (place : Place) (low high : Option Key) (c : Child V M × Bool) → ChildLies levels low high c.0 → IsSized s c.0.tree →
-      EachHole (JobFits s) levels low high (cond c.1 (cut_out depth mode s place c.0.tree c.0.pending) (whole c.0.tree))
-  child-fits depth levels suits place low high (c, true) lies sized = suits place low high c.tree c.pending lies.0 sized lies.1
-  child-fits depth levels suits place low high (c, false) lies sized = tt
+      Fits levels low high (record { pivot = c.0.pivot; node = cond c.1 (cut_out depth mode s place c.0.tree c.0.pending) (whole c.0.tree); pending = cond c.1 [] c.0.pending })
+  child-fits depth levels suits place low high (c, true) lies sized =
+      (suits place low high c.tree c.pending lies.0 sized lies.1, tt, tt, sent-none (cut_out depth mode s place c.tree c.pending))
+  child-fits depth levels suits place low high (c, false) lies sized = (record { lies = lies.0; sized = sized }, lies.1, lies.2, tt)
+
+  abbrev below : ℕ → Place → ℕ → List (Child V M × Bool) → HoledNodes V M (Job V M)
+  below depth place i ss = holed_nodes (opened_children depth mode s place i ss)
 
   children-fit : (depth levels : ℕ) → Suits depth levels → (place : Place) (i : ℕ) (low high : Option Key) (ss : List (Child V M × Bool)) →
-      ChildrenLie levels low high (names ss) → ChildrenSized s (names ss) → EachHoleBelow (JobFits s) levels low high (holed_nodes (opened_children depth mode s place i ss))
+      ChildrenLie levels low high (names ss) → ChildrenSized s (names ss) → SideBySide (λ c. c.pivot) (Fits levels) low high (with_bins (below depth place i ss) (bins ss))
   children-fit depth levels suits place i low high [] lie sized = tt
   children-fit depth levels suits place i low high (c ∷ []) lie sized = child-fits depth levels suits (child_place place i) low high c lie sized.0
   children-fit depth levels suits place i low high (c ∷ d ∷ ss) lie sized = (
+    lie.0,
+    lie.1,
     child-fits depth levels suits (child_place place i) low (Some d.0.pivot) c lie.2 sized.0,
     children-fit depth levels suits place (suc i) (Some d.0.pivot) high (d ∷ ss) lie.3 sized.1,
   )
+
+  pivots-opened : (depth : ℕ) (place : Place) (i : ℕ) (ss : List (Child V M × Bool)) → pivots_below (below depth place i ss) ≡ map (λ c. c.pivot) (map kept ss)
+  pivots-opened depth place i [] = refl
+  pivots-opened depth place i (c ∷ ss) = ap (λ ks. c.0.pivot ∷ ks) (pivots-opened depth place (suc i) ss)
+
+  -- what is left is divided again into the bins
+  shared-left : (depth levels : ℕ) (place : Place) (low high : Option Key) (ss : List (Child V M × Bool)) → ChildrenLie levels low high (names ss) →
+      shared_below (below depth place 0 ss) (left_pending ss) ≡ with_bins (below depth place 0 ss) (bins ss)
+  shared-left depth levels place low high [] lie = refl
+  shared-left depth levels place low high (c ∷ ss) lie =
+      let ks = map (λ c. c.pivot) (map kept ss) in
+      let divided : LieBetween ks (bins (c ∷ ss)) = divided-lie levels low high (map kept (c ∷ ss)) (all-lie levels low high (c ∷ ss) lie) in
+      ap (with_bins (below depth place 0 (c ∷ ss)))
+      (ap (λ js. parts js (left_pending (c ∷ ss))) (pivots-opened depth place 1 ss)
+      ∙ ap (parts ks) (sym (joined-left (c ∷ ss)))
+      ∙ parts-joined ks (bins (c ∷ ss)) divided)
+
+  left-sorted : (levels : ℕ) (low high : Option Key) (ss : List (Child V M × Bool)) → ChildrenLie levels low high (names ss) → IsSorted (left_pending ss)
+  left-sorted levels low high [] lie = tt
+  left-sorted levels low high (c ∷ ss) lie =
+      subst IsSorted (joined-left (c ∷ ss))
+      (joined_sorted (map (λ c. c.pivot) (map kept ss)) (bins (c ∷ ss)) (divided-lie levels low high (map kept (c ∷ ss)) (all-lie levels low high (c ∷ ss) lie)))
 
   -- at any depth
   pub cut-fits : (depth levels : ℕ) → Suits depth levels
@@ -40,8 +123,29 @@ module _ {V M : Type 0} (effect : Option V → M → Option V) (s : Shape) (leaf
   cut-fits (suc depth) levels place low high (leaf rows) p lies sized within = (record { lies = lies; sized = sized }, within)
   cut-fits (suc depth) zero place low high (inner ns b) p lies sized within = absurd lies
   cut-fits (suc depth) (suc levels) place low high (inner ns b) p lies sized within =
-      let cs = shared (children ns) (with_messages p b) in
-      subst (λ zs. EachHoleBelow (JobFits s) levels low high (holed_nodes (opened_children depth mode s place 0 zs))) (sym (slots-are mode s.buffer cs))
-      (children-fit depth levels (cut-fits depth levels) place 0 low high (slots_in mode s.buffer cs)
-      (subst (ChildrenLie levels low high) (sym (names-slots_in mode s.buffer cs)) (start-lies effect s leaf_some fanout_some levels low high ns b p lies within))
-      (subst (ChildrenSized s) (sym (names-slots_in mode s.buffer cs)) (shared-sized s ns (with_messages p b) sized.3)))
+      subst (λ zs. HoledFits (JobFits s) s (suc levels) low high (opened (below depth place 0 zs) (left_pending zs))) (sym (slots-are mode s.buffer cs)) (
+        omega (
+          arith,
+          sized.0,
+          length-shared (children ns) (with_messages p b),
+          ap length (names-slots_in mode s.buffer cs),
+          length-names ss,
+          length-map ss kept,
+          length-map (map kept ss) (λ (c : Child V M). c.pivot),
+          ap length (pivots-opened depth place 0 ss),
+        ),
+        left-within mode s.buffer cs,
+        left-sorted levels low high ss placed,
+        subst (SideBySide (λ c. c.pivot) (Fits levels) low high) (sym (shared-left depth levels place low high ss placed))
+            (children-fit depth levels (cut-fits depth levels) place 0 low high ss placed
+            (subst (ChildrenSized s) (sym (names-slots_in mode s.buffer cs)) (shared-sized s ns (with_messages p b) sized.3))),
+      )
+    where
+      cs : List (Child V M)
+      cs = shared (children ns) (with_messages p b)
+
+      ss : List (Child V M × Bool)
+      ss = slots_in mode s.buffer cs
+
+      placed : ChildrenLie levels low high (names ss)
+      placed = subst (ChildrenLie levels low high) (sym (names-slots_in mode s.buffer cs)) (start-lies effect s leaf_some fanout_some levels low high ns b p lies within)

@@ -20,11 +20,11 @@ use Rattle.bt_plan.proofs.Places.{Rise, by_place, t_first, t_second}
 
 -- ---- facts of each item
 
-each-first : {X : Type 0} (P : X → Type 0) (xs ys : List X) → Each P (xs ++ ys) → Each P xs
+pub each-first : {X : Type 0} (P : X → Type 0) (xs ys : List X) → Each P (xs ++ ys) → Each P xs
 each-first P [] ys h = tt
 each-first P (x ∷ xs) ys h = (h.0, each-first P xs ys h.1)
 
-each-rest : {X : Type 0} (P : X → Type 0) (xs ys : List X) → Each P (xs ++ ys) → Each P ys
+pub each-rest : {X : Type 0} (P : X → Type 0) (xs ys : List X) → Each P (xs ++ ys) → Each P ys
 each-rest P [] ys h = h
 each-rest P (x ∷ xs) ys h = each-rest P xs ys h.1
 
@@ -32,7 +32,7 @@ each-rest P (x ∷ xs) ys h = each-rest P xs ys h.1
 
 module _ {V M H G : Type 0} (s : Shape) (told : H → G) (piece : G → Siblings V M) (wanted : H → Siblings V M) where
   mutual
-    filled-as : (h : Holed V M H) → Each (λ x. piece (told x) ≡ wanted x) (holes h) → filled_with s piece (with_holes told h) ≡ filled_with s wanted h
+    pub filled-as : (h : Holed V M H) → Each (λ x. piece (told x) ≡ wanted x) (holes h) → filled_with s piece (with_holes told h) ≡ filled_with s wanted h
     filled-as (whole t) e = refl
     filled-as (hole x) e = e.0
     filled-as (opened hs buffer) e = ap (λ xs. grouped s (shared xs buffer)) (below-as hs e)

@@ -1,6 +1,7 @@
 pub mod Filling
 pub mod Fits
 pub mod Found
+pub mod Holes
 pub mod Marks
 pub mod offered
 pub mod Opening

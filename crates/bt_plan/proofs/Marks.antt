@@ -69,7 +69,7 @@ module _ {V M : Type 0} where
   pass-all f [] = refl
   pass-all f (c ∷ cs) = ap (λ z. flushed f c ++ z) (pass-all f cs)
 
-  left-all : (cs : List (Child V M)) → left_pending (all_marked cs) ≡ []
+  pub left-all : (cs : List (Child V M)) → left_pending (all_marked cs) ≡ []
   left-all [] = refl
   left-all (c ∷ cs) = left-all cs
 

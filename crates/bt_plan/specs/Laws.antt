@@ -9,7 +9,7 @@ use Rattle.bt_node.specs.Fits.{NodeFits}
 use Rattle.bt_node.specs.Messages.{Messages}
 use Rattle.bt_node.specs.Trees.{Shape, Tree}
 use Rattle.bt_plan.specs.Cuts.{Job, Pieced, done, flush_in, hole_of}
-use Rattle.bt_plan.specs.Pieces.{EachHole, Holed, Pieces, filled, holes, place_cmp, with_holes}
+use Rattle.bt_plan.specs.Pieces.{Holed, HoledFits, Pieces, filled, holes, place_cmp, with_holes}
 use Rattle.bt_plan.specs.declared.job.Mode.{Mode}
 
 module _ {V M : Type 0} (shape : Shape) where
@@ -18,13 +18,13 @@ module _ {V M : Type 0} (shape : Shape) where
   JobFits levels low high job = NodeFits shape levels low high job.node × AllWithin low high job.packet
 
   -- Each job stands in a hole of its own, from left to right, with the place that the hole tells, as high as the hole stands in the tree, and the pivots around the hole
-  -- bound it.
+  -- bound it. What stays fits too, and nothing is pending for a node that is in pieces.
   pub record StandInHoles (c : Pieced V M) : Type 0 where
     pub tree : Holed V M (Job V M)
     pub holed : c.holed ≡ with_holes hole_of tree
     pub jobs : c.jobs ≡ holes tree
     pub levels : ℕ
-    pub fit : EachHole JobFits levels None None tree
+    pub fit : HoledFits JobFits shape levels None None tree
 
 -- the places of the jobs rise: no place comes twice
 abbrev pub PlacesRise : {V M : Type 0} → Pieced V M → Type 0

@@ -1,5 +1,5 @@
 -- Trees in pieces: where a node has been moved out of a tree, a hole is left.
-use Rattle.std.specs.Prelude.{ℕ, zero, suc, List, [], ◌∷◌, ◌++◌}
+use Rattle.std.specs.Prelude.{◌≡◌, ◌≤◌, ℕ, zero, suc, List, [], ◌∷◌, ◌++◌, drop, length}
 use Rattle.std.specs.Cmp.Lexicographic.{slice_cmp}
 use Rattle.std.specs.FinMap.{find}
 use Rattle.std.specs.Option.{unwrap_or}
@@ -7,8 +7,9 @@ use Rattle.std.specs.Ordering.{nat_cmp}
 use Rattle.std.specs.declared.cmp.Ordering.{Ordering}
 use Rattle.std.specs.declared.option.Option.{Option}
 use Rattle.std.specs.declared.option.Option.TheVariants.{Some}
-use Rattle.bt_keycode.specs.Keys.{Key}
-use Rattle.bt_node.specs.Fits.{SiblingsFit}
+use Rattle.bt_keycode.specs.Keys.{Key, AllWithin, IsSorted, SideBySide}
+use Rattle.bt_messages.specs.Bins.{parts}
+use Rattle.bt_node.specs.Fits.{NodeFits, SiblingsFit}
 use Rattle.bt_node.specs.Flushes.{pivot_first, shared, grouped}
 use Rattle.bt_node.specs.Messages.{Messages}
 use Rattle.bt_node.specs.Trees.{Shape, Tree, Siblings}
@@ -61,18 +62,45 @@ abbrev mutual
   with_holes_below f childless = childless
   with_holes_below f (child k h hs) = child k (with_holes f h) (with_holes_below f hs)
 
--- what is asked of each hole, by the number of levels below it and between the limits that the pivots around it set
-abbrev mutual
-  pub EachHole : {V M H : Type 0} → (ℕ → Option Key → Option Key → H → Type 0) → ℕ → Option Key → Option Key → Holed V M H → Type 0
-  EachHole Asked levels low high (whole t) = Unit {0}
-  EachHole Asked levels low high (hole h) = Asked levels low high h
-  EachHole Asked zero low high (opened hs buffer) = ⊥
-  EachHole Asked (suc levels) low high (opened hs buffer) = EachHoleBelow Asked levels low high hs
+-- ---- fit
 
-  pub EachHoleBelow : {V M H : Type 0} → (ℕ → Option Key → Option Key → H → Type 0) → ℕ → Option Key → Option Key → HoledNodes V M H → Type 0
-  EachHoleBelow Asked levels low high childless = Unit {0}
-  EachHoleBelow Asked levels low high (child k h childless) = EachHole Asked levels low high h
-  EachHoleBelow Asked levels low high (child k h (child l i hs)) = EachHole Asked levels low (Some l) h × EachHoleBelow Asked levels (Some l) high (child l i hs)
+-- the pivots before nodes side by side
+abbrev pub pivots_below : {V M H : Type 0} → HoledNodes V M H → List Key
+pivots_below childless = []
+pivots_below (child k h hs) = k ∷ pivots_below hs
+
+-- a child of an opened node, and what is left in its bin
+pub record HoledChild (V M H : Type 0) : Type 0 where
+  pub pivot : Key
+  pub node : Holed V M H
+  pub pending : Messages M
+
+-- children, each with its bin
+abbrev pub with_bins : {V M H : Type 0} → HoledNodes V M H → List (Messages M) → List (HoledChild V M H)
+with_bins childless bins = []
+with_bins (child k h hs) [] = []
+with_bins (child k h hs) (b ∷ bs) = record { pivot = k; node = h; pending = b } ∷ with_bins hs bs
+
+-- the children of an opened node, each with its share of what is left in the buffer
+abbrev pub shared_below : {V M H : Type 0} → HoledNodes V M H → Messages M → List (HoledChild V M H)
+shared_below hs buffer = with_bins hs (parts (drop 1 (pivots_below hs)) buffer)
+
+-- nothing is pending for a node that does not stay whole
+abbrev pub IsSent : {V M H : Type 0} → Holed V M H → Messages M → Type 0
+IsSent (whole t) pending = Unit {0}
+IsSent (hole h) pending = pending ≡ []
+IsSent (opened hs buffer) pending = pending ≡ []
+
+-- A tree in pieces with so many levels below it, between two limits. A node that stays whole fits there, and of a hole this is asked. An opened node has two children or
+-- more, which fit between their pivots likewise, and no more messages than may be pending, none of them for a child that is in pieces.
+abbrev pub HoledFits : {V M H : Type 0} → (ℕ → Option Key → Option Key → H → Type 0) → Shape → ℕ → Option Key → Option Key → Holed V M H → Type 0
+HoledFits Asked shape levels low high (whole t) = NodeFits shape levels low high t
+HoledFits Asked shape levels low high (hole h) = Asked levels low high h
+HoledFits Asked shape zero low high (opened hs buffer) = ⊥
+HoledFits Asked shape (suc levels) low high (opened hs buffer) =
+    (2 ≤ length (pivots_below hs)) × (length buffer ≤ shape.buffer) × IsSorted buffer
+    × SideBySide (λ c. c.pivot) (λ l h c. HoledFits Asked shape levels l h c.node × AllWithin l h c.pending × IsSorted c.pending × IsSent c.node c.pending)
+    low high (shared_below hs buffer)
 
 -- ---- filling
 
@@ -100,6 +128,6 @@ piece_at pieces place = unwrap_or (find place_cmp place pieces) []
 abbrev pub filled : {V M : Type 0} → Shape → Holed V M Place → Pieces V M → Siblings V M
 filled shape holed pieces = filled_with shape (piece_at pieces) holed
 
--- the siblings at the place of a hole fit there: they have as many levels below them as the node that stood there, and the pivots around it bound them
+-- siblings that stand at the place of a hole fit there: they have as many levels below them as the node that stood there, and the pivots around it bound them
 abbrev pub FitsHole : {V M : Type 0} → Shape → Pieces V M → ℕ → Option Key → Option Key → Place → Type 0
-FitsHole shape pieces levels low high place = SiblingsFit shape levels low high (piece_at pieces place)
+FitsHole {V} {M} shape pieces levels low high place = (xs : Siblings V M) → find place_cmp place pieces ≡ Some xs → SiblingsFit shape levels low high xs

@@ -106,6 +106,14 @@ impl<V: Merge> HoledNode<V> {
         }
     }
 
+    /// What the node consists of, to be looked at.
+    pub fn parts(&self) -> &HoledParts<V>
+        ensures parts { self.now ≡ holed_of result.now }
+        ensures divided { IsDivided result.now }
+    {
+        &self.parts
+    }
+
     /// What the node consists of.
     pub fn into_parts(self) -> HoledParts<V>
         ensures parts { self ≡ holed_of result }
@@ -141,6 +149,13 @@ impl<V: Merge> Holed<V> {
         ensures { result ≡ (shape, root) }
     {
         Holed { shape, root }
+    }
+
+    /// The root, to be looked at.
+    pub fn root(&self) -> &HoledNode<V>
+        ensures { result.now ≡ self.now.1 }
+    {
+        &self.root
     }
 
     /// The shape and the root.

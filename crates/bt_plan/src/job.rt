@@ -1,12 +1,14 @@
 //! What is moved out of a tree: a node with the messages that go down to it.
 ghost use Rattle.std.specs.Prelude.{◌≡◌, ◌<◌, length};
 ghost use Rattle.bt_plan.specs.Cuts.{child_place, root_place};
+ghost use Rattle.bt_plan.specs.Pieces.{place_cmp};
 ghost use Rattle.bt_plan.specs.Views.{place_of};
 
 use crate::copies::copied;
 use arrayvec::ArrayVec;
 use bt_messages::{Merge, Packet};
 use bt_node::Node;
+use std::cmp::Ordering;
 
 /// Where a node stands: the number of its tree, and the numbers of the children on the way to it from the root, before any change.
 #[derive(Drop)]
@@ -34,6 +36,14 @@ impl Place {
             tree: self.tree,
             path: copied(self.path.as_slice()),
         }
+    }
+
+    /// The order of two places: by tree, and within a tree from left to right.
+    pub fn compare(&self, other: &Place) -> Ordering
+        ensures { result ≡ place_cmp (place_of self.now) (place_of other.now) }
+    {
+        let by_path = self.path.as_slice().cmp(other.path.as_slice());
+        self.tree.cmp(&other.tree).then(by_path)
     }
 
     // The child with this number.

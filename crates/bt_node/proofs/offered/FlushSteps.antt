@@ -2,6 +2,7 @@
 
 -- the children that are flushed, chosen one by one
 pub use Rattle.bt_node.proofs.lemmas.code.ChoiceLoop.{Turn, planned-below, planned-over, planned-within, turn-below, turn-left, turn-planned, turn-some}
+pub use Rattle.bt_node.proofs.lemmas.plans.Capacity.{settled-fits}
 pub use Rattle.bt_node.proofs.lemmas.plans.OnePass.{names}
 pub use Rattle.bt_node.proofs.lemmas.plans.RenewedChoice.{renewed-planned}
 -- children beside their pivots, their bins and their marks
@@ -11,13 +12,15 @@ pub use Rattle.bt_node.proofs.lemmas.code.SiblingParts.{behind-pivots}
 pub use Rattle.bt_node.proofs.lemmas.crowns.Levels.{shared-nothing}
 pub use Rattle.bt_node.proofs.lemmas.flushes.Children.{ChildLies, ChildrenLie, all_pending}
 pub use Rattle.bt_node.proofs.lemmas.flushes.Divisions.{beside-shared, divided-lie, joined-pending}
-pub use Rattle.bt_node.proofs.lemmas.flushes.Groups.{children-nodes, stripped}
-pub use Rattle.bt_node.proofs.lemmas.flushes.NodeSizes.{ChildrenSized, shared-sized}
+pub use Rattle.bt_node.proofs.lemmas.flushes.Groups.{children-nodes, deal-some, grouped-lie, led-map, stripped}
+pub use Rattle.bt_node.proofs.lemmas.flushes.NodeSizes.{ChildrenSized, both-sized, grouped-sized, length-shared, none_pending-sized, shared-sized, sized-pivot_first, total-counts}
+pub use Rattle.bt_node.proofs.lemmas.keys.SideBySide.{led-side}
 pub use Rattle.bt_node.proofs.lemmas.keys.SortedLists.{from-back, from-joined, from-prefix}
 -- what becomes of a node and its messages, child by child
+pub use Rattle.bt_node.proofs.lemmas.flushes.DrainLaws.{drain_fits_there}
 pub use Rattle.bt_node.proofs.lemmas.flushes.Drains.{drain_recurs}
-pub use Rattle.bt_node.proofs.lemmas.flushes.Laws.{anywhere}
-pub use Rattle.bt_node.proofs.lemmas.flushes.Passes.{Keeps, flushed-planned, names-slots, passed-lie, slots}
+pub use Rattle.bt_node.proofs.lemmas.flushes.Laws.{anywhere, fit_there}
+pub use Rattle.bt_node.proofs.lemmas.flushes.Passes.{Heads, Keeps, children-join, flushed-light, flushed-planned, heads-append, names-slots, none_pending-lie, passed-lie, slots}
 pub use Rattle.bt_node.proofs.lemmas.flushes.Recursion.{absorb_recurs}
 pub use Rattle.bt_node.proofs.lemmas.flushes.RowsKept.{absorb-keeps}
 pub use Rattle.bt_node.proofs.lemmas.flushes.ValuesKept.{start-lies}

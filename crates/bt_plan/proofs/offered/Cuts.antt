@@ -1,19 +1,30 @@
--- A tree that is cut: its jobs fit their holes, their places rise, and what becomes of them fills the holes to what becomes of the tree.
-use Rattle.std.proofs.Common.{◌≡◌, ℕ, ◌∙◌, refl, arith}
+-- A tree that is cut: its jobs fit their holes, their places rise, and what becomes of them fits the holes, and fills them to what becomes of the tree.
+use Rattle.std.proofs.Common.{◌≡◌, ℕ, List, [], ◌∷◌, ◌∙◌, ap, refl, subst, sym, arith}
+use Rattle.std.proofs.lemmas.List.Elements.{recursion_from_All}
+use Rattle.std.specs.FinMap.{find}
+use Rattle.std.specs.List.{All, AllByRecursion as Each}
 use Rattle.std.specs.declared.option.Option.{Option}
-use Rattle.std.specs.declared.option.Option.TheVariants.{None}
-use Rattle.bt_node.specs.Fits.{HasShape}
+use Rattle.std.specs.declared.option.Option.TheVariants.{None, Some}
+use Rattle.bt_keycode.specs.Keys.{Key}
+use Rattle.bt_node.specs.Fits.{HasShape, IsRoomy, SiblingsFit}
 use Rattle.bt_node.specs.Messages.{Messages}
-use Rattle.bt_node.specs.Trees.{Shape, Tree}
-use Rattle.bt_node.proofs.offered.FlushSteps.{anywhere}
+use Rattle.bt_node.specs.Trees.{Shape, Siblings, Tree}
+use Rattle.bt_node.proofs.offered.FlushSteps.{anywhere, drain_fits_there, fit_there}
 use Rattle.bt_plan.specs.declared.job.Mode.{Mode}
-use Rattle.bt_plan.specs.Cuts.{all_done, cut, cut_out, flush_in, root_place}
-use Rattle.bt_plan.specs.Laws.{FillsUp, PlacesRise, StandInHoles}
-use Rattle.bt_plan.specs.Pieces.{filled}
+use Rattle.bt_plan.specs.declared.job.Mode.TheVariants.{Absorb, Drain}
+use Rattle.bt_plan.specs.Cuts.{Job, Pieced, all_done, cut, cut_out, done, flush_in, hole_of, root_place}
+use Rattle.bt_plan.specs.Laws.{FillsUp, JobFits, PlacesRise, StandInHoles}
+use Rattle.bt_plan.specs.Pieces.{FitsHole, HoledFits, Pieces, filled, holes, place_cmp}
 use Rattle.bt_plan.proofs.Filling.{cut-filled}
 use Rattle.bt_plan.proofs.Fits.{cut-fits}
 use Rattle.bt_plan.proofs.Found.{all-stand, filled-standing}
+use Rattle.bt_plan.proofs.Holes.{told-fits}
 use Rattle.bt_plan.proofs.Places.{cut-rises}
+-- children in their places, divided again from their pivots and all that is pending for them
+pub use Rattle.bt_plan.proofs.Marks.{lies-divides}
+-- trees in pieces whose holes tell something else
+pub use Rattle.bt_plan.proofs.Found.{filled-as}
+pub use Rattle.bt_plan.proofs.Holes.{pivots-told, told-fits}
 
 module _ {V M : Type 0} (effect : Option V → M → Option V) (number : ℕ) (shape : Shape) (root : Tree V M) (has : HasShape shape root) (packet : Messages M) (depth : ℕ) (mode : Mode) where
   -- each job stands in a hole of its own and fits there
@@ -41,3 +52,29 @@ module _ {V M : Type 0} (effect : Option V → M → Option V) (number : ℕ) (s
   -- so the jobs, each run, and filled in
   pub cut-done : filled shape (cut number shape root packet depth mode).holed (all_done effect shape (cut number shape root packet depth mode).jobs) ≡ flush_in effect mode shape root packet
   cut-done = cut-fills_up _ (all-stand effect shape _ cut-places_rise)
+
+-- what stands at the place of a job is what becomes of it
+abbrev pub Answers : {V M : Type 0} → (Option V → M → Option V) → Shape → Pieces V M → Job V M → Type 0
+Answers {V} {M} effect shape pieces job = (xs : Siblings V M) → find place_cmp job.place pieces ≡ Some xs → xs ≡ done effect shape job
+
+module _ {V M : Type 0} (effect : Option V → M → Option V) (shape : Shape) (roomy : IsRoomy shape) where
+  -- what becomes of a job fits its hole
+  done-fits : (job : Job V M) (levels : ℕ) (low high : Option Key) → JobFits shape levels low high job → SiblingsFit shape levels low high (done effect shape job)
+  done-fits job levels low high fits = go job.mode
+    where
+      go : (mode : Mode) → SiblingsFit shape levels low high (flush_in effect mode shape job.node job.packet)
+      go Absorb = fit_there effect shape roomy job.node job.packet _ refl levels low high fits.0 fits.1
+      go Drain = drain_fits_there effect shape job.node job.packet _ refl roomy levels low high fits.0 fits.1
+
+  each-fits : (pieces : Pieces V M) (jobs : List (Job V M)) → Each (Answers effect shape pieces) jobs →
+      Each (λ job. (levels : ℕ) (low high : Option Key) → JobFits shape levels low high job → FitsHole shape pieces levels low high (hole_of job)) jobs
+  each-fits pieces [] e = tt
+  each-fits pieces (job ∷ jobs) e =
+      ((λ levels low high fits xs found. subst (SiblingsFit shape levels low high) (sym (e.0 xs found)) (done-fits job levels low high fits)), each-fits pieces jobs e.1)
+
+  -- so it fits the hole
+  pub pieces-fit : (c : Pieced V M) (stand : StandInHoles shape c) (pieces : Pieces V M) → All (Answers effect shape pieces) c.jobs → HoledFits (FitsHole shape pieces) shape stand.levels None None c.holed
+  pieces-fit c stand pieces all =
+      subst (HoledFits (FitsHole shape pieces) shape stand.levels None None) (sym stand.holed)
+      (told-fits shape hole_of (JobFits shape) (FitsHole shape pieces) stand.levels None None stand.tree
+      (each-fits pieces (holes stand.tree) (recursion_from_All (Answers effect shape pieces) (holes stand.tree) (subst (All (Answers effect shape pieces)) stand.jobs all))) stand.fit)

@@ -49,9 +49,13 @@ module _ {V M : Type 0} (s : Shape) where
   rest-sized [] ds z = z
   rest-sized (c ∷ cs) ds z = rest-sized cs ds z.1
 
-  both-sized : (cs ds : List (Child V M)) → ChildrenSized cs → ChildrenSized ds → ChildrenSized (cs ++ ds)
+  pub both-sized : (cs ds : List (Child V M)) → ChildrenSized cs → ChildrenSized ds → ChildrenSized (cs ++ ds)
   both-sized [] ds y z = z
   both-sized (c ∷ cs) ds y z = (y.0, both-sized cs ds y.1 z)
+
+  pub none_pending-sized : (xs : Siblings V M) → AreSized s (nodes xs) → ChildrenSized (none_pending xs)
+  none_pending-sized [] z = tt
+  none_pending-sized (x ∷ xs) z = (z.0, none_pending-sized xs z.1)
 
   stripped-sized : (cs : List (Child V M)) → ChildrenSized cs → AreSized s (nodes (stripped cs))
   stripped-sized [] z = tt
@@ -120,10 +124,6 @@ abbrev pub KeepsSized : {V M : Type 0} → Shape → ℕ → Flush V M → Type 
 KeepsSized {V} {M} s levels f = (low high : Option Key) (t : Tree V M) (p : Messages M) → Lies levels low high t → AllWithin low high p → IsSized s t → AreSized s (nodes (f t p))
 
 module _ {V M : Type 0} (effect : Option V → M → Option V) (s : Shape) (levels : ℕ) (f : Flush V M) (keeps : Keeps effect levels f) (sizes : KeepsSized s levels f) where
-  none_pending-sized : (xs : Siblings V M) → AreSized s (nodes xs) → ChildrenSized s (none_pending xs)
-  none_pending-sized [] z = tt
-  none_pending-sized (x ∷ xs) z = (z.0, none_pending-sized xs z.1)
-
   abbrev block : Child V M × Bool → List (Child V M)
   block c = cond c.1 (flushed f c.0) (c.0 ∷ [])
 
@@ -132,7 +132,7 @@ module _ {V M : Type 0} (effect : Option V → M → Option V) (s : Shape) (leve
 
   block-sized : (low high : Option Key) (c : Child V M × Bool) → ChildLies levels low high c.0 → IsSized s c.0.tree → ChildrenSized s (block c)
   block-sized low high (c, true) l z =
-      none_pending-sized (pivot_first c.pivot (f c.tree c.pending)) (sized-pivot_first s c.pivot (f c.tree c.pending) (sizes low high c.tree c.pending l.0 l.1 z))
+      none_pending-sized s (pivot_first c.pivot (f c.tree c.pending)) (sized-pivot_first s c.pivot (f c.tree c.pending) (sizes low high c.tree c.pending l.0 l.1 z))
   block-sized low high (c, false) l z = (z, tt)
 
   pass-sized : (low high : Option Key) (ss : List (Child V M × Bool)) → ChildrenLie levels low high (names ss) → ChildrenSized s (names ss) → ChildrenSized s (pass ss)

@@ -27,16 +27,16 @@ abbrev pub Keeps : {V M : Type 0} → (Option V → M → Option V) → ℕ → 
 Keeps {V} {M} effect levels f = (low high : Option Key) (t : Tree V M) (p : Messages M) → Lies levels low high t → AllWithin low high p → Kept effect levels low high t p (f t p)
 
 -- begins with a child at this pivot
-record Heads {V M : Type 0} (k : Key) (cs : List (Child V M)) : Type 0 where
-  first : Child V M
-  others : List (Child V M)
-  is : cs ≡ first ∷ others
-  pivot : first.pivot ≡ k
+pub record Heads {V M : Type 0} (k : Key) (cs : List (Child V M)) : Type 0 where
+  pub first : Child V M
+  pub others : List (Child V M)
+  pub is : cs ≡ first ∷ others
+  pub pivot : first.pivot ≡ k
 
-heads-append : {V M : Type 0} (k : Key) (cs ds : List (Child V M)) → Heads k cs → Heads k (cs ++ ds)
+pub heads-append : {V M : Type 0} (k : Key) (cs ds : List (Child V M)) → Heads k cs → Heads k (cs ++ ds)
 heads-append k cs ds h = record { first = h.first; others = h.others ++ ds; is = ap (λ z. z ++ ds) h.is; pivot = h.pivot }
 
-children-join : {V M : Type 0} (levels : ℕ) (low : Option Key) (k j : Key) (high : Option Key) (cs ds : List (Child V M)) → Heads j cs → Heads k ds → IsPast low k → IsBelow high k →
+pub children-join : {V M : Type 0} (levels : ℕ) (low : Option Key) (k j : Key) (high : Option Key) (cs ds : List (Child V M)) → Heads j cs → Heads k ds → IsPast low k → IsBelow high k →
     ChildrenLie levels low (Some k) cs → ChildrenLie levels (Some k) high ds → ChildrenLie levels low high (cs ++ ds)
 children-join levels low k j high cs ds h i l b p q =
     subst (ChildrenLie levels low high) (sym (ap (λ z. z ++ ds) h.is ∙ ap (λ z. (h.first ∷ h.others) ++ z) i.is))
@@ -44,14 +44,14 @@ children-join levels low k j high cs ds h i l b p q =
     (subst (λ x. ChildrenLie levels low (Some x) (h.first ∷ h.others)) (sym i.pivot) (subst (ChildrenLie levels low (Some k)) h.is p))
     (subst (λ x. ChildrenLie levels (Some x) high (i.first ∷ i.others)) (sym i.pivot) (subst (ChildrenLie levels (Some k) high) i.is q)))
 
+pub none_pending-lie : {V M : Type 0} (levels : ℕ) (low high : Option Key) (xs : Siblings V M) → SiblingsLie levels low high xs → ChildrenLie levels low high (none_pending xs)
+none_pending-lie levels low high xs b = side-map (λ x. record { pivot = x.0; tree = x.1; pending = [] }) (λ c. c.pivot) (ChildLies levels) low high xs
+    (side-weaken (λ x. x.0) (λ l h x. Lies levels l h x.1) (λ l h x. ChildLies levels l h (record { pivot = x.0; tree = x.1; pending = [] })) (λ l h x lies. (lies, tt, tt)) low high xs b)
+
 module _ {V M : Type 0} (effect : Option V → M → Option V) (levels : ℕ) (f : Flush V M) (keeps : Keeps effect levels f) where
   pub seen-none_pending : (q : Key) (xs : Siblings V M) → seen_in effect q (none_pending xs) ≡ find key_cmp q (all_hold effect xs)
   seen-none_pending q [] = refl
   seen-none_pending q (x ∷ xs) = ap (or_else (find key_cmp q (holds effect x.1))) (seen-none_pending q xs) ∙ sym (find-append q (holds effect x.1) (all_hold effect xs))
-
-  none_pending-lie : (low high : Option Key) (xs : Siblings V M) → SiblingsLie levels low high xs → ChildrenLie levels low high (none_pending xs)
-  none_pending-lie low high xs b = side-map (λ x. record { pivot = x.0; tree = x.1; pending = [] }) (λ c. c.pivot) (ChildLies levels) low high xs
-      (side-weaken (λ x. x.0) (λ l h x. Lies levels l h x.1) (λ l h x. ChildLies levels l h (record { pivot = x.0; tree = x.1; pending = [] })) (λ l h x lies. (lies, tt, tt)) low high xs b)
 
   -- one child, flushed or not
   abbrev block : Child V M × Bool → List (Child V M)
@@ -68,7 +68,7 @@ module _ {V M : Type 0} (effect : Option V → M → Option V) (levels : ℕ) (f
   block-lies : (low high : Option Key) (s : Child V M × Bool) → ChildLies levels low high s.0 → ChildrenLie levels low high (block s)
   block-lies low high (c, true) g =
       let k = keeps low high c.tree c.pending g.0 g.1 in
-      none_pending-lie low high _ (led-side (λ l h t. Lies levels l h t) c.pivot low high (f c.tree c.pending) k.lie)
+      none_pending-lie levels low high _ (led-side (λ l h t. Lies levels l h t) c.pivot low high (f c.tree c.pending) k.lie)
   block-lies low high (c, false) g = g
 
   seen-block : (q : Key) (low high : Option Key) (s : Child V M × Bool) → ChildLies levels low high s.0 → seen_in effect q (block s) ≡ seen effect q s.0

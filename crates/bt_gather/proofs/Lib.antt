@@ -1,0 +1,10 @@
+pub mod Filled
+pub mod HolePlaces
+pub mod Opening
+pub mod PlaceOrder
+pub mod Placing
+pub mod PlaceSearch
+pub mod Seats
+pub mod SeenPieces
+pub mod Told
+pub mod offered

@@ -1,0 +1,4 @@
+pub mod Laws
+pub mod Misfits
+pub mod Views
+pub mod inside

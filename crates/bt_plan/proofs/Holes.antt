@@ -1,0 +1,64 @@
+-- A tree in pieces whose holes tell something else fits, where what each hole tells now does.
+use Rattle.std.proofs.Common.{◌≡◌, ◌≤◌, ℕ, zero, suc, List, [], ◌∷◌, drop, length, refl, ap, subst, sym}
+use Rattle.std.specs.List.{AllByRecursion as Each}
+use Rattle.std.specs.declared.option.Option.{Option}
+use Rattle.std.specs.declared.option.Option.TheVariants.{Some}
+use Rattle.bt_keycode.specs.Keys.{Key, AllWithin, IsSorted, SideBySide}
+use Rattle.bt_messages.specs.Bins.{parts}
+use Rattle.bt_node.specs.Messages.{Messages}
+use Rattle.bt_node.specs.Trees.{Shape}
+use Rattle.bt_plan.specs.Pieces.{Holed, HoledChild, HoledFits, HoledNodes, IsSent, child, childless, hole, holes, holes_below, opened, pivots_below, whole, with_bins, with_holes, with_holes_below}
+use Rattle.bt_plan.proofs.Found.{each-first, each-rest}
+
+-- what is asked of a hole gives what is wanted of what it tells now
+abbrev pub Turns : {H G : Type 0} → (H → G) → (ℕ → Option Key → Option Key → H → Type 0) → (ℕ → Option Key → Option Key → G → Type 0) → H → Type 0
+Turns told Asked Wanted h = (levels : ℕ) (low high : Option Key) → Asked levels low high h → Wanted levels low high (told h)
+
+-- a tree in pieces with so many levels fits with what its holes tell now
+abbrev Tells : (V M : Type 0) {H G : Type 0} → Shape → (H → G) → (ℕ → Option Key → Option Key → H → Type 0) → (ℕ → Option Key → Option Key → G → Type 0) → ℕ → Type 0
+Tells V M {H} shape told Asked Wanted levels = (low high : Option Key) (h : Holed V M H) → Each (Turns told Asked Wanted) (holes h) → HoledFits Asked shape levels low high h →
+    HoledFits Wanted shape levels low high (with_holes told h)
+
+module _ {V M H G : Type 0} (shape : Shape) (told : H → G) where
+  pub pivots-told : (hs : HoledNodes V M H) → pivots_below (with_holes_below told hs) ≡ pivots_below hs
+  pivots-told childless = refl
+  pivots-told (child k h hs) = ap (λ ks. k ∷ ks) (pivots-told hs)
+
+  sent-told : (h : Holed V M H) (pending : Messages M) → IsSent h pending → IsSent (with_holes told h) pending
+  sent-told (whole t) pending s = s
+  sent-told (hole h) pending s = s
+  sent-told (opened hs buffer) pending s = s
+
+  module _ (Asked : ℕ → Option Key → Option Key → H → Type 0) (Wanted : ℕ → Option Key → Option Key → G → Type 0) where
+    -- a child in its place
+    abbrev Child : {K : Type 0} → (ℕ → Option Key → Option Key → K → Type 0) → ℕ → Option Key → Option Key → HoledChild V M K → Type 0
+    Child P levels low high c = HoledFits P shape levels low high c.node × AllWithin low high c.pending × IsSorted c.pending × IsSent c.node c.pending
+
+    child-told : (levels : ℕ) → Tells V M shape told Asked Wanted levels → (low high : Option Key) (k : Key) (h : Holed V M H) (b : Messages M) → Each (Turns told Asked Wanted) (holes h) →
+        Child Asked levels low high (record { pivot = k; node = h; pending = b }) → Child Wanted levels low high (record { pivot = k; node = with_holes told h; pending = b })
+    child-told levels tells low high k h b e f = (tells low high h e f.0, f.1, f.2, sent-told h b f.3)
+
+    children-told : (levels : ℕ) → Tells V M shape told Asked Wanted levels → (low high : Option Key) (hs : HoledNodes V M H) (bs : List (Messages M)) → Each (Turns told Asked Wanted) (holes_below hs) →
+        SideBySide (λ c. c.pivot) (Child Asked levels) low high (with_bins hs bs) → SideBySide (λ c. c.pivot) (Child Wanted levels) low high (with_bins (with_holes_below told hs) bs)
+    children-told levels tells low high childless bs e s = tt
+    children-told levels tells low high (child k h hs) [] e s = tt
+    children-told levels tells low high (child k h childless) (b ∷ bs) e s = child-told levels tells low high k h b (each-first (Turns told Asked Wanted) (holes h) [] e) s
+    children-told levels tells low high (child k h (child j i hs)) (b ∷ []) e s = child-told levels tells low high k h b (each-first (Turns told Asked Wanted) (holes h) (holes_below (child j i hs)) e) s
+    children-told levels tells low high (child k h (child j i hs)) (b ∷ c ∷ bs) e s = (
+      s.0,
+      s.1,
+      child-told levels tells low (Some j) k h b (each-first (Turns told Asked Wanted) (holes h) (holes_below (child j i hs)) e) s.2,
+      children-told levels tells (Some j) high (child j i hs) (c ∷ bs) (each-rest (Turns told Asked Wanted) (holes h) (holes_below (child j i hs)) e) s.3,
+    )
+
+    pub told-fits : (levels : ℕ) → Tells V M shape told Asked Wanted levels
+    told-fits levels low high (whole t) e f = f
+    told-fits levels low high (hole h) e f = e.0 levels low high f
+    told-fits zero low high (opened hs buffer) e f = absurd f
+    told-fits (suc levels) low high (opened hs buffer) e f = (
+      subst (λ ks. 2 ≤ length ks) (sym (pivots-told hs)) f.0,
+      f.1,
+      f.2,
+      subst (λ ks. SideBySide (λ c. c.pivot) (Child Wanted levels) low high (with_bins (with_holes_below told hs) (parts (drop 1 ks) buffer))) (sym (pivots-told hs))
+          (children-told levels (told-fits levels) low high hs (parts (drop 1 (pivots_below hs)) buffer) e f.3),
+    )
