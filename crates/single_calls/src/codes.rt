@@ -1,11 +1,10 @@
 //! Codes of values, and keys.
-use crate::samples::{fields, row_text};
+use crate::samples::{fields, is_text, key, row_text};
 use bt_keycode::{DecodeError, Key, cmp_rows, decode, encode, encode_prefix};
 use bt_rowtype::{Kind, Refusal, Value, read_field};
 use std::alloc::{AllocError, Global};
 use std::cmp::Ordering;
 use std::slice;
-use std::test::Fail;
 
 fn hex_of(alloc: Global, key: &Key) -> Result<Vec<u8>, AllocError> {
     let mut out = Vec::new(alloc);
@@ -32,7 +31,7 @@ fn code_of(alloc: Global, kinds: &[Kind], line: &str) -> Result<Vec<u8>, Refusal
 }
 
 #[test]
-fn codes_of_values(rt: HostRuntime) -> Result<(), Fail> {
+fn codes_of_values(rt: HostRuntime) {
     let lines: [(&[Kind], &str, &str); 9] = [
         (&[Kind::Text, Kind::Int], "a,1", "6100018000000000000001"),
         (
@@ -62,12 +61,8 @@ fn codes_of_values(rt: HostRuntime) -> Result<(), Fail> {
         ),
     ];
     for (kinds, line, expected) in lines {
-        assert_eq!(rt;
-            code_of(rt.alloc(), kinds, line)?.as_slice(),
-            expected.as_bytes()
-        );
+        assert!(rt; is_text(code_of(rt.alloc(), kinds, line), expected));
     }
-    Ok(())
 }
 
 // The code of the first of the fields of a line, of these kinds.
@@ -78,10 +73,9 @@ fn prefix_of(alloc: Global, kinds: &[Kind], line: &str) -> Result<Vec<u8>, Refus
 }
 
 #[test]
-fn codes_of_first_values(rt: HostRuntime) -> Result<(), Fail> {
-    let text = prefix_of(rt.alloc(), &[Kind::Text, Kind::Int], "a,1")?;
-    assert_eq!(rt; text.as_slice(), b"610001".as_slice());
-    Ok(())
+fn codes_of_first_values(rt: HostRuntime) {
+    let code = prefix_of(rt.alloc(), &[Kind::Text, Kind::Int], "a,1");
+    assert!(rt; is_text(code, "610001"));
 }
 
 // The values of a code, or that it is none.
@@ -94,35 +88,35 @@ fn decoded_text(alloc: Global, kinds: &[Kind], code: &[u8]) -> Result<Vec<u8>, A
 }
 
 #[test]
-fn codes_are_decoded(rt: HostRuntime) -> Result<(), Fail> {
-    let alloc = rt.alloc();
-    let codes: [(&[Kind], &[u8], &[u8]); 7] = [
-        (&[Kind::Text], b"a\0\x01", b"a"),
-        (&[Kind::Text], b"a\0", b"no code"),
-        (&[Kind::Text], b"\xFF\0\x01", b"no code"),
-        (&[Kind::Flag], b"\x02", b"no code"),
-        (&[Kind::Int], b"\x80\0\0\0\0\0\0\x03\0", b"no code"),
+fn codes_are_decoded(rt: HostRuntime) {
+    let codes: [(&[Kind], &[u8], &str); 7] = [
+        (&[Kind::Text], b"a\0\x01", "a"),
+        (&[Kind::Text], b"a\0", "no code"),
+        (&[Kind::Text], b"\xFF\0\x01", "no code"),
+        (&[Kind::Flag], b"\x02", "no code"),
+        (&[Kind::Int], b"\x80\0\0\0\0\0\0\x03\0", "no code"),
         (
             &[Kind::Text, Kind::Flag, Kind::Int],
             b"a\0\xFF\0\x01\x01\x80\0\0\0\0\0\0\x07",
-            b"a\0,true,7",
+            "a\0,true,7",
         ),
-        (&[], b"\0", b"no code"),
+        (&[], b"\0", "no code"),
     ];
     for (kinds, code, expected) in codes {
-        assert_eq!(rt; decoded_text(alloc, kinds, code)?.as_slice(), expected);
+        assert!(rt; is_text(decoded_text(rt.alloc(), kinds, code), expected));
     }
-    Ok(())
+}
+
+// The bytes of a copy of the key of these letters.
+fn copy_of(alloc: Global, letters: &str) -> Result<Vec<u8>, AllocError> {
+    let copy = key(alloc, letters)?.copy(alloc)?;
+    Vec::from_slice(alloc, copy.as_slice())
 }
 
 #[test]
-fn keys_are_copied(rt: HostRuntime) -> Result<(), Fail> {
-    let key = Key::from_bytes(rt.alloc(), b"a key of more than 22 bytes")?;
-    assert_eq!(rt;
-        key.copy(rt.alloc())?.as_slice(),
-        b"a key of more than 22 bytes".as_slice()
-    );
-    Ok(())
+fn keys_are_copied(rt: HostRuntime) {
+    let letters = "a key of more than 22 bytes";
+    assert!(rt; is_text(copy_of(rt.alloc(), letters), letters));
 }
 
 #[test]

@@ -10,7 +10,7 @@ ghost use Rattle.bt_fanout.specs.Effects.{SuitsEffect, row_effect};
 ghost use Rattle.bt_fanout.specs.Entries.{Definition, SuitsKinds};
 ghost use Rattle.single_calls.specs.Quantities as spec;
 
-use crate::samples::{refusal_text, short_text};
+use crate::samples::{is_text, refusal_text, short_text};
 use bt_fanout::{
     BuildStep, Cover, Effect, IndexDef, build_packet, build_step, covers, effects, entry,
     index_packet,
@@ -24,7 +24,6 @@ use bt_rowtype::{
 };
 use std::alloc::{AllocError, Global};
 use std::slice;
-use std::test::Fail;
 
 fn int_column(alloc: Global, name: &str) -> Result<Column, AllocError>
     ensures { IfOk result (λ column. column.kind ≡ Kind.Int) }
@@ -167,33 +166,47 @@ fn add_row(out: &mut Vec<u8>, sign: &[u8], row: &Option<Row>) -> Result<(), Allo
     }
 }
 
-// The effects: of each its key, the row before and the row after, with a space behind.
+// Adds an effect: its key, the row before and the row after, with a space behind.
+fn add_effect(out: &mut Vec<u8>, effect: &Effect) -> Result<(), AllocError> {
+    effect.key.write_hex(out)?;
+    add_row(out, b" -", &effect.before)?;
+    add_row(out, b" +", &effect.after)?;
+    out.extend_from_slice(b" ")
+}
+
 fn effects_text(alloc: Global, effects: &[Effect]) -> Result<Vec<u8>, AllocError> {
     let mut out = Vec::new(alloc);
     for effect in effects {
-        effect.key.write_hex(&mut out)?;
-        add_row(&mut out, b" -", &effect.before)?;
-        add_row(&mut out, b" +", &effect.after)?;
-        out.extend_from_slice(b" ")?;
+        add_effect(&mut out, effect)?;
     }
     Ok(out)
 }
 
-#[test]
-fn effects_of_a_batch(rt: HostRuntime) -> Result<(), Fail> {
-    let effects = batch_effects(rt.alloc())?;
-    assert_eq!(rt;
-        effects_text(rt.alloc(), effects.as_slice())?.as_slice(),
-        b"8000000000000001 -1,10 +1,11 8000000000000002 -2,20 + 8000000000000003 -3,30 +3,30 8000000000000004 - +4,40 ".as_slice()
-    );
-    Ok(())
+fn batch_effects_text(alloc: Global) -> Result<Vec<u8>, Refusal> {
+    let effects = batch_effects(alloc)?;
+    Ok(effects_text(alloc, effects.as_slice())?)
 }
 
-// Adds a sign, a key, and the values that the index includes, with a space behind each.
-fn add_entry(out: &mut Vec<u8>, sign: &[u8], key: &Key, values: &Row) -> Result<(), AllocError> {
+#[test]
+fn effects_of_a_batch(rt: HostRuntime) {
+    assert!(rt;
+        is_text(
+            batch_effects_text(rt.alloc()),
+            "8000000000000001 -1,10 +1,11 8000000000000002 -2,20 + 8000000000000003 -3,30 +3,30 8000000000000004 - +4,40 "
+        )
+    );
+}
+
+// Adds a sign and a key, with a space behind.
+fn add_key(out: &mut Vec<u8>, sign: &[u8], key: &Key) -> Result<(), AllocError> {
     out.extend_from_slice(sign)?;
     key.write_hex(out)?;
-    out.extend_from_slice(b" ")?;
+    out.extend_from_slice(b" ")
+}
+
+// The same, and the values that the index includes, with a space behind.
+fn add_entry(out: &mut Vec<u8>, sign: &[u8], key: &Key, values: &Row) -> Result<(), AllocError> {
+    add_key(out, sign, key)?;
     if values.len() > 0 {
         write_row(out, values)?;
         out.extend_from_slice(b" ")?;
@@ -204,8 +217,8 @@ fn add_entry(out: &mut Vec<u8>, sign: &[u8], key: &Key, values: &Row) -> Result<
 fn add_message(out: &mut Vec<u8>, key: &Key, message: &Message<Entry>) -> Result<(), AllocError> {
     match message {
         Message::Put(entry) => add_entry(out, b"+", key, entry.as_row()),
-        Message::Del => add_entry(out, b"-", key, &Row::new()),
-        Message::Ups(_) => add_entry(out, b"~", key, &Row::new()),
+        Message::Del => add_key(out, b"-", key),
+        Message::Ups(_) => add_key(out, b"~", key),
     }
 }
 
@@ -227,40 +240,47 @@ fn sent_text(alloc: Global, on: &str, include: &str, cover: &Cover) -> Result<Ve
 }
 
 #[test]
-fn packets_of_a_whole_index(rt: HostRuntime) -> Result<(), Fail> {
-    assert_eq!(rt;
-        sent_text(rt.alloc(), "qty", "", &Cover::Whole)?.as_slice(),
-        b"-800000000000000a8000000000000001 +800000000000000b8000000000000001 -80000000000000148000000000000002 +80000000000000288000000000000004 ".as_slice()
+fn packets_of_a_whole_index(rt: HostRuntime) {
+    assert!(rt;
+        is_text(
+            sent_text(rt.alloc(), "qty", "", &Cover::Whole),
+            "-800000000000000a8000000000000001 +800000000000000b8000000000000001 -80000000000000148000000000000002 +80000000000000288000000000000004 "
+        )
     );
-    assert_eq!(rt;
-        sent_text(rt.alloc(), "id", "qty", &Cover::Whole)?.as_slice(),
-        b"+80000000000000018000000000000001 11 -80000000000000028000000000000002 +80000000000000048000000000000004 40 ".as_slice()
+    assert!(rt;
+        is_text(
+            sent_text(rt.alloc(), "id", "qty", &Cover::Whole),
+            "+80000000000000018000000000000001 11 -80000000000000028000000000000002 +80000000000000048000000000000004 40 "
+        )
     );
-    Ok(())
+}
+
+// What the batch sends to an index on the quantities that covers the ids up to one.
+fn sent_up_to(alloc: Global, id: i64) -> Result<Vec<u8>, Refusal> {
+    sent_text(alloc, "qty", "", &Cover::UpTo(key(alloc, id)?))
 }
 
 #[test]
-fn packets_of_a_building_index(rt: HostRuntime) -> Result<(), Fail> {
-    let cover = Cover::UpTo(key(rt.alloc(), 2)?);
-    assert_eq!(rt;
-        sent_text(rt.alloc(), "qty", "", &cover)?.as_slice(),
-        b"-800000000000000a8000000000000001 +800000000000000b8000000000000001 -80000000000000148000000000000002 ".as_slice()
+fn packets_of_a_building_index(rt: HostRuntime) {
+    assert!(rt;
+        is_text(
+            sent_up_to(rt.alloc(), 2),
+            "-800000000000000a8000000000000001 +800000000000000b8000000000000001 -80000000000000148000000000000002 "
+        )
     );
-    let none = sent_text(rt.alloc(), "qty", "", &Cover::Nothing)?;
-    assert!(rt; none.is_empty());
-    Ok(())
+    assert!(rt; is_text(sent_text(rt.alloc(), "qty", "", &Cover::Nothing), ""));
+}
+
+// Whether the ids up to one cover an id.
+fn is_covered(alloc: Global, last: i64, id: i64) -> Result<bool, AllocError> {
+    let cover = Cover::UpTo(key(alloc, last)?);
+    Ok(covers(&cover, &key(alloc, id)?))
 }
 
 #[test]
-fn keys_are_covered(rt: HostRuntime) -> Result<(), Fail> {
-    let two = key(rt.alloc(), 2)?;
-    let three = key(rt.alloc(), 3)?;
-    assert!(rt; !covers(&Cover::Nothing, &two));
-    assert!(rt; covers(&Cover::Whole, &three));
-    let cover = Cover::UpTo(key(rt.alloc(), 2)?);
-    assert!(rt; covers(&cover, &two));
-    assert!(rt; !covers(&cover, &three));
-    Ok(())
+fn keys_are_covered(rt: HostRuntime) {
+    assert!(rt; matches!(is_covered(rt.alloc(), 2, 2), Ok(true)));
+    assert!(rt; matches!(is_covered(rt.alloc(), 2, 3), Ok(false)));
 }
 
 // The rows with one behind them.
@@ -293,12 +313,13 @@ fn built_text(alloc: Global) -> Result<Vec<u8>, Refusal> {
 }
 
 #[test]
-fn packets_of_building(rt: HostRuntime) -> Result<(), Fail> {
-    assert_eq!(rt;
-        built_text(rt.alloc())?.as_slice(),
-        b"+800000000000000a8000000000000001 1 +80000000000000148000000000000002 2 ".as_slice()
+fn packets_of_building(rt: HostRuntime) {
+    assert!(rt;
+        is_text(
+            built_text(rt.alloc()),
+            "+800000000000000a8000000000000001 1 +80000000000000148000000000000002 2 "
+        )
     );
-    Ok(())
 }
 
 // The filter that a value of a column is at least a constant.
@@ -310,10 +331,17 @@ fn at_least(alloc: Global, column: &str, constant: &str) -> Result<Filter, Alloc
     })
 }
 
-// The entry of a row with a quantity in an index of the quantities of 15 and more that includes the id.
-fn filtered_entry(alloc: Global, quantity: i64) -> Result<Option<(Key, Entry)>, Refusal> {
+// The definition of an index of the quantities of 15 and more that includes the id.
+fn filtered(alloc: Global) -> Result<IndexDef, Refusal>
+    ensures { IfOk result (λ def. SuitsKinds def spec.kinds) }
+{
     let filter = at_least(alloc, "qty", "15")?;
-    let def = index(alloc, "qty", "id", Some(&filter))?;
+    index(alloc, "qty", "id", Some(&filter))
+}
+
+// The entry in it of a row with a quantity.
+fn filtered_entry(alloc: Global, quantity: i64) -> Result<Option<(Key, Entry)>, Refusal> {
+    let def = filtered(alloc)?;
     let row = row(alloc, 3, quantity)?;
     Ok(entry(alloc, &def, &row)?)
 }
@@ -328,13 +356,14 @@ fn entry_text(alloc: Global, quantity: i64) -> Result<Vec<u8>, Refusal> {
 }
 
 #[test]
-fn entries_pass_the_filter(rt: HostRuntime) -> Result<(), Fail> {
-    assert!(rt; entry_text(rt.alloc(), 14)?.is_empty());
-    assert_eq!(rt;
-        entry_text(rt.alloc(), 15)?.as_slice(),
-        b"800000000000000f8000000000000003 3 ".as_slice()
+fn entries_pass_the_filter(rt: HostRuntime) {
+    assert!(rt; is_text(entry_text(rt.alloc(), 14), ""));
+    assert!(rt;
+        is_text(
+            entry_text(rt.alloc(), 15),
+            "800000000000000f8000000000000003 3 "
+        )
     );
-    Ok(())
 }
 
 // Adds how far an index covers the rows.
@@ -347,50 +376,51 @@ fn add_cover(out: &mut Vec<u8>, cover: &Cover) -> Result<(), AllocError> {
     Ok(())
 }
 
-// A step of building over the three rows, for an index of the quantities of 15 and more that includes the id: how many rows it reads, and what it sends and covers.
-fn step_parts(alloc: Global, cover: &Cover, count: usize) -> Result<(usize, Vec<u8>), Refusal> {
-    let filter = at_least(alloc, "qty", "15")?;
-    let def = index(alloc, "qty", "id", Some(&filter))?;
+// A step of building over the three rows, for the filtered index.
+fn step(alloc: Global, cover: &Cover, count: usize) -> Result<BuildStep, Refusal> {
+    let def = filtered(alloc)?;
     let tree = three_rows(alloc)?;
-    let BuildStep {
-        packet,
-        cover,
-        read,
-    } = build_step(alloc, &def, cover, &tree, count)?;
-    let mut out = packet_text(alloc, &packet)?;
-    add_cover(&mut out, &cover)?;
-    Ok((read, out))
+    Ok(build_step(alloc, &def, cover, &tree, count)?)
+}
+
+// What such a step sends and covers, and how many rows it reads.
+fn step_text(alloc: Global, cover: &Cover, count: usize) -> Result<Vec<u8>, Refusal> {
+    let step = step(alloc, cover, count)?;
+    let mut out = packet_text(alloc, &step.packet)?;
+    add_cover(&mut out, &step.cover)?;
+    let read = format!(in alloc; " {}", step.read)?;
+    out.extend_from_slice(read.as_bytes())?;
+    Ok(out)
 }
 
 // The same behind the row of an id.
-fn parts_behind(alloc: Global, id: i64, count: usize) -> Result<(usize, Vec<u8>), Refusal> {
+fn step_behind(alloc: Global, id: i64, count: usize) -> Result<Vec<u8>, Refusal> {
     let cover = Cover::UpTo(key(alloc, id)?);
-    step_parts(alloc, &cover, count)
+    step_text(alloc, &cover, count)
 }
 
 #[test]
-fn steps_of_building(rt: HostRuntime) -> Result<(), Fail> {
-    let two = "+80000000000000148000000000000002 2 8000000000000002";
-    let table = [(0, 0, "nothing"), (1, 1, "8000000000000001"), (2, 2, two)];
-    for (count, read, expected) in table {
-        let parts = step_parts(rt.alloc(), &Cover::Nothing, count)?;
-        assert!(rt; parts.0 == read && parts.1.as_slice() == expected.as_bytes());
+fn steps_of_building(rt: HostRuntime) {
+    for (count, expected) in [
+        (0, "nothing 0"),
+        (1, "8000000000000001 1"),
+        (2, "+80000000000000148000000000000002 2 8000000000000002 2"),
+    ] {
+        assert!(rt; is_text(step_text(rt.alloc(), &Cover::Nothing, count), expected));
     }
-    let three = "+800000000000001e8000000000000003 3 8000000000000003";
-    let last = "+800000000000001e8000000000000003 3 whole";
-    let table = [
-        (2, 0, 0, "8000000000000002"),
-        (2, 1, 1, three),
-        (2, 5, 1, last),
-        (3, 1, 0, "whole"),
-    ];
-    for (id, count, read, expected) in table {
-        let parts = parts_behind(rt.alloc(), id, count)?;
-        assert!(rt; parts.0 == read && parts.1.as_slice() == expected.as_bytes());
+    for (id, count, expected) in [
+        (2, 0, "8000000000000002 0"),
+        (
+            2,
+            1,
+            "+800000000000001e8000000000000003 3 8000000000000003 1",
+        ),
+        (2, 5, "+800000000000001e8000000000000003 3 whole 1"),
+        (3, 1, "whole 0"),
+    ] {
+        assert!(rt; is_text(step_behind(rt.alloc(), id, count), expected));
     }
-    let parts = step_parts(rt.alloc(), &Cover::Whole, 1)?;
-    assert!(rt; parts.0 == 0 && parts.1.as_slice() == b"whole".as_slice());
-    Ok(())
+    assert!(rt; is_text(step_text(rt.alloc(), &Cover::Whole, 1), "whole 0"));
 }
 
 // Why there is no index on columns that includes others, with a filter of a constant on a column.
@@ -409,7 +439,7 @@ fn refused_text(
 }
 
 #[test]
-fn definitions_are_refused(rt: HostRuntime) -> Result<(), Fail> {
+fn definitions_are_refused(rt: HostRuntime) {
     let five = "id qty id qty id";
     let nine = "id id id id id id id id id";
     let table = [
@@ -423,8 +453,7 @@ fn definitions_are_refused(rt: HostRuntime) -> Result<(), Fail> {
         (five, "price", "price", "many", "TooMany 0"),
     ];
     for (on, include, column, constant, expected) in table {
-        let text = refused_text(rt.alloc(), on, include, column, constant)?;
-        assert_eq!(rt; text.as_slice(), expected.as_bytes());
+        let refused = refused_text(rt.alloc(), on, include, column, constant);
+        assert!(rt; is_text(refused, expected));
     }
-    Ok(())
 }

@@ -1,31 +1,48 @@
 //! Packets, buffers and what messages make of values.
-use crate::samples::{Sample, Sent, buffer_text, key, message, messages_text, packet, packet_text};
+use crate::samples::{
+    Sample, Sent, buffer_text, is_text, key, message, messages_text, packet, packet_text,
+};
+use bt_keycode::Key;
 use bt_messages::{Buffer, Entry, effect};
 use bt_rowtype::Row;
 use std::alloc::{AllocError, Global};
-use std::test::Fail;
+
+// Adds a batch to a buffer.
+fn add_batch<V: Sample>(
+    alloc: Global,
+    buffer: &mut Buffer<V>,
+    batch: &[(&str, Sent)],
+) -> Result<(), AllocError> {
+    buffer.add(packet(alloc, batch)?)
+}
 
 // The puts of a and c, and newer messages to a, b and c.
 fn filled<V: Sample>(alloc: Global) -> Result<Buffer<V>, AllocError> {
     let mut buffer = Buffer::new(alloc);
-    buffer.add(packet(alloc, &[("c", Sent::Put(3)), ("a", Sent::Put(1))])?)?;
+    add_batch(
+        alloc,
+        &mut buffer,
+        &[("c", Sent::Put(3)), ("a", Sent::Put(1))],
+    )?;
     let newer = [
         ("c", Sent::Del),
         ("b", Sent::Put(2)),
         ("c", Sent::Ups(4)),
         ("a", Sent::Ups(5)),
     ];
-    buffer.add(packet(alloc, &newer)?)?;
+    add_batch(alloc, &mut buffer, &newer)?;
     Ok(buffer)
 }
 
+// The messages of a batch, sorted.
+fn sorted_text(alloc: Global, batch: &[(&str, Sent)]) -> Result<Vec<u8>, AllocError> {
+    packet_text::<Row>(alloc, packet(alloc, batch)?)
+}
+
 #[test]
-fn batches_are_sorted(rt: HostRuntime) -> Result<(), Fail> {
-    let alloc = rt.alloc();
+fn batches_are_sorted(rt: HostRuntime) {
     let batch = [("b", Sent::Put(2)), ("a", Sent::Del), ("b", Sent::Del)];
-    let text = packet_text::<Row>(alloc, packet(alloc, &batch)?)?;
-    assert_eq!(rt; text.as_slice(), b"-a0 +b2 -b0 ".as_slice());
-    Ok(())
+    assert!(rt; is_text(sorted_text(rt.alloc(), &batch), "-a0 +b2 -b0 "));
 }
 
 fn filled_text<V: Sample>(alloc: Global) -> Result<Vec<u8>, AllocError> {
@@ -34,11 +51,10 @@ fn filled_text<V: Sample>(alloc: Global) -> Result<Vec<u8>, AllocError> {
 }
 
 #[test]
-fn newer_messages_come_after_older_ones(rt: HostRuntime) -> Result<(), Fail> {
-    let expected = b"+a1 ~a5 +b2 +c3 -c0 ~c4 ".as_slice();
-    assert_eq!(rt; filled_text::<Row>(rt.alloc())?.as_slice(), expected);
-    assert_eq!(rt; filled_text::<Entry>(rt.alloc())?.as_slice(), expected);
-    Ok(())
+fn newer_messages_come_after_older_ones(rt: HostRuntime) {
+    let expected = "+a1 ~a5 +b2 +c3 -c0 ~c4 ";
+    assert!(rt; is_text(filled_text::<Row>(rt.alloc()), expected));
+    assert!(rt; is_text(filled_text::<Entry>(rt.alloc()), expected));
 }
 
 // The messages of a packet, gone through.
@@ -55,50 +71,54 @@ fn gone_through_from(alloc: Global, from: &str) -> Result<Vec<u8>, AllocError> {
 }
 
 #[test]
-fn messages_are_gone_through(rt: HostRuntime) -> Result<(), Fail> {
-    let alloc = rt.alloc();
-    assert_eq!(rt;
-        packet_gone_through(alloc)?.as_slice(),
-        b"+a1 -b0 ".as_slice()
-    );
-    assert_eq!(rt;
-        gone_through_from(alloc, "b")?.as_slice(),
-        b"+b2 +c3 -c0 ~c4 ".as_slice()
-    );
-    Ok(())
+fn messages_are_gone_through(rt: HostRuntime) {
+    assert!(rt; is_text(packet_gone_through(rt.alloc()), "+a1 -b0 "));
+    assert!(rt; is_text(gone_through_from(rt.alloc(), "b"), "+b2 +c3 -c0 ~c4 "));
 }
 
-// Takes the messages between two keys out of a buffer, and answers them.
-fn taken_between(
+// Takes the messages of a range out of a buffer, and adds them with a bar behind.
+fn add_taken(
+    alloc: Global,
+    out: &mut Vec<u8>,
+    buffer: &mut Buffer<Row>,
+    from: Option<&Key>,
+    to: Option<&Key>,
+) -> Result<(), AllocError> {
+    let taken = packet_text(alloc, buffer.take_range(alloc, from, to)?)?;
+    out.extend_from_slice(taken.as_slice())?;
+    out.extend_from_slice(b"|")
+}
+
+// The messages taken out between the second and the first of two keys, between the first and the second, at and past the first, and then what is left.
+fn taken_text(
     alloc: Global,
     buffer: &mut Buffer<Row>,
-    from: &str,
-    to: &str,
+    first: &Key,
+    second: &Key,
 ) -> Result<Vec<u8>, AllocError> {
-    let from = key(alloc, from)?;
-    let to = key(alloc, to)?;
-    packet_text(alloc, buffer.take_range(alloc, Some(&from), Some(&to))?)
+    let mut out = Vec::new(alloc);
+    add_taken(alloc, &mut out, buffer, Some(second), Some(first))?;
+    add_taken(alloc, &mut out, buffer, Some(first), Some(second))?;
+    add_taken(alloc, &mut out, buffer, Some(first), None)?;
+    add_taken(alloc, &mut out, buffer, None, None)?;
+    Ok(out)
 }
 
-// Takes the messages at or past a key out of a buffer, and answers them.
-fn taken_from(alloc: Global, buffer: &mut Buffer<Row>, from: &str) -> Result<Vec<u8>, AllocError> {
-    let from = key(alloc, from)?;
-    packet_text(alloc, buffer.take_range(alloc, Some(&from), None)?)
+fn ranges_text(alloc: Global, first: &str, second: &str) -> Result<Vec<u8>, AllocError> {
+    let first = key(alloc, first)?;
+    let second = key(alloc, second)?;
+    let mut buffer = filled(alloc)?;
+    taken_text(alloc, &mut buffer, &first, &second)
 }
 
 #[test]
-fn ranges_are_taken_out(rt: HostRuntime) -> Result<(), Fail> {
-    let alloc = rt.alloc();
-    let mut buffer = filled::<Row>(alloc)?;
-    let none = taken_between(alloc, &mut buffer, "c", "b")?;
-    assert_eq!(rt; none.as_slice(), b"".as_slice());
-    let between = taken_between(alloc, &mut buffer, "b", "c")?;
-    assert_eq!(rt; between.as_slice(), b"+b2 ".as_slice());
-    let from = taken_from(alloc, &mut buffer, "b")?;
-    assert_eq!(rt; from.as_slice(), b"+c3 -c0 ~c4 ".as_slice());
-    let left = buffer_text(alloc, &buffer)?;
-    assert_eq!(rt; left.as_slice(), b"+a1 ~a5 ".as_slice());
-    Ok(())
+fn ranges_are_taken_out(rt: HostRuntime) {
+    assert!(rt;
+        is_text(
+            ranges_text(rt.alloc(), "b", "c"),
+            "|+b2 |+c3 -c0 ~c4 |+a1 ~a5 |"
+        )
+    );
 }
 
 // Adds the number of a value, or a bar where there is none.
@@ -141,11 +161,12 @@ fn all_effects<V: Sample>(alloc: Global) -> Result<Vec<u8>, AllocError> {
 }
 
 #[test]
-fn messages_have_their_effect(rt: HostRuntime) -> Result<(), Fail> {
-    let alloc = rt.alloc();
-    let sums = all_effects::<Row>(alloc)?;
-    assert_eq!(rt; sums.as_slice(), b"2 2 2 2 | | | | 5 10 12 17 ".as_slice());
-    let newest = all_effects::<Entry>(alloc)?;
-    assert_eq!(rt; newest.as_slice(), b"2 2 2 2 | | | | 5 5 5 5 ".as_slice());
-    Ok(())
+fn messages_have_their_effect(rt: HostRuntime) {
+    assert!(rt;
+        is_text(
+            all_effects::<Row>(rt.alloc()),
+            "2 2 2 2 | | | | 5 10 12 17 "
+        )
+    );
+    assert!(rt; is_text(all_effects::<Entry>(rt.alloc()), "2 2 2 2 | | | | 5 5 5 5 "));
 }

@@ -1,26 +1,38 @@
 //! The operations of upserts.
-use crate::samples::{fields, refusal_text, row_text, shops};
+use crate::samples::{fields, is_text, refusal_text, row_text, shops};
 use bt_rowtype::{
     Change, Op, Ops, RecordLine, RecordReader, Refusal, Upsert, Value, apply_ops, check_ops,
     copy_change, copy_row, default_row, read_ops, read_upsert, write_record,
 };
 use std::alloc::{AllocError, Global};
-use std::test::Fail;
+use std::slice;
 
-// Operations, each with a bar behind: `set 1 x|` or `add 1 5|`.
-fn ops_text(alloc: Global, ops: Ops) -> Result<Vec<u8>, AllocError> {
+// Adds a word, a place and a value, with a bar behind.
+fn add_words(
+    alloc: Global,
+    out: &mut Vec<u8>,
+    word: &str,
+    place: usize,
+    value: &Value,
+) -> Result<(), AllocError> {
+    let words = format!(in alloc; "{word} {place} ")?;
+    out.extend_from_slice(words.as_bytes())?;
+    write_record(out, slice::from_ref(value))?;
+    out.extend_from_slice(b"|")
+}
+
+// Adds an operation: `set 1 x|` or `add 1 5|`.
+fn add_op(alloc: Global, out: &mut Vec<u8>, op: &Op) -> Result<(), AllocError> {
+    match op {
+        Op::Set(place, value) => add_words(alloc, out, "set", *place, value),
+        Op::Add(place, number) => add_words(alloc, out, "add", *place, &Value::Int(*number)),
+    }
+}
+
+fn ops_text(alloc: Global, ops: &[Op]) -> Result<Vec<u8>, AllocError> {
     let mut out = Vec::new(alloc);
-    for op in ops.into_vec() {
-        let (word, place, value) = match op {
-            Op::Set(place, value) => ("set", place, value),
-            Op::Add(place, number) => ("add", place, Value::Int(number)),
-        };
-        let words = format!(in alloc; "{word} {place} ")?;
-        out.extend_from_slice(words.as_bytes())?;
-        let mut values = Vec::new(alloc);
-        values.push(value)?;
-        write_record(&mut out, values.as_slice())?;
-        out.extend_from_slice(b"|")?;
+    for op in ops {
+        add_op(alloc, &mut out, op)?;
     }
     Ok(out)
 }
@@ -29,13 +41,13 @@ fn ops_text(alloc: Global, ops: Ops) -> Result<Vec<u8>, AllocError> {
 fn ops_of(alloc: Global, line: &str) -> Result<Vec<u8>, Refusal> {
     let schema = shops(alloc)?;
     match read_ops(alloc, &schema, 4, &fields(alloc, line)?) {
-        Ok(ops) => Ok(ops_text(alloc, ops)?),
+        Ok(ops) => Ok(ops_text(alloc, ops.as_slice())?),
         Err(refusal) => Ok(refusal_text(alloc, refusal)?),
     }
 }
 
 #[test]
-fn operations_are_read(rt: HostRuntime) -> Result<(), Fail> {
+fn operations_are_read(rt: HostRuntime) {
     for (line, expected) in [
         (
             "9,set,city,Bonn,add,qty,-2,set,open,TRUE",
@@ -49,9 +61,8 @@ fn operations_are_read(rt: HostRuntime) -> Result<(), Fail> {
         ("1,set,nope,1,mul,qty,1", "BadField 4"),
         ("1,set,qty", "BadLength 4"),
     ] {
-        assert_eq!(rt; ops_of(rt.alloc(), line)?.as_slice(), expected.as_bytes());
+        assert!(rt; is_text(ops_of(rt.alloc(), line), expected));
     }
-    Ok(())
 }
 
 // The key and the operations of an upsert, or why there are none.
@@ -60,7 +71,7 @@ fn upsert_text(alloc: Global, read: Result<Upsert, Refusal>) -> Result<Vec<u8>, 
         Ok(upsert) => {
             let mut out = row_text(alloc, Ok(upsert.key))?;
             out.extend_from_slice(b": ")?;
-            let ops = ops_text(alloc, upsert.ops)?;
+            let ops = ops_text(alloc, upsert.ops.as_slice())?;
             out.extend_from_slice(ops.as_slice())?;
             Ok(out)
         }
@@ -86,21 +97,16 @@ fn upsert_of_line(alloc: Global, line: &str) -> Result<Vec<u8>, Refusal> {
 }
 
 #[test]
-fn upserts_are_read(rt: HostRuntime) -> Result<(), Fail> {
+fn upserts_are_read(rt: HostRuntime) {
     for (line, expected) in [
         ("9,add,qty,-2", "9: add 1 -2|"),
         ("x,add,nope,1", "BadField 4"),
         ("9,add,city,1", "NotInt 0"),
         ("x", "BadLength 4"),
     ] {
-        for text in [
-            upsert_of(rt.alloc(), line)?,
-            upsert_of_line(rt.alloc(), line)?,
-        ] {
-            assert_eq!(rt; text.as_slice(), expected.as_bytes());
-        }
+        assert!(rt; is_text(upsert_of(rt.alloc(), line), expected));
+        assert!(rt; is_text(upsert_of_line(rt.alloc(), line), expected));
     }
-    Ok(())
 }
 
 // What an upsert does to the row of its key, which has none.
@@ -121,10 +127,9 @@ fn row_after(alloc: Global, line: &str) -> Result<Vec<u8>, Refusal> {
 }
 
 #[test]
-fn operations_change_the_default_row(rt: HostRuntime) -> Result<(), Fail> {
-    let row = row_after(rt.alloc(), "9,set,qty,5,add,qty,-2,set,city,Bonn")?;
-    assert_eq!(rt; row.as_slice(), b"9,3,Bonn,false".as_slice());
-    Ok(())
+fn operations_change_the_default_row(rt: HostRuntime) {
+    let row = row_after(rt.alloc(), "9,set,qty,5,add,qty,-2,set,city,Bonn");
+    assert!(rt; is_text(row, "9,3,Bonn,false"));
 }
 
 // A copy of what the upsert of a line does.
@@ -136,13 +141,17 @@ fn copy_of(alloc: Global, line: &str) -> Result<Vec<u8>, Refusal> {
 }
 
 #[test]
-fn changes_are_copied(rt: HostRuntime) -> Result<(), Fail> {
-    let line = "9,add,qty,-2,set,city,a text of more than 22 bytes";
-    assert_eq!(rt;
-        copy_of(rt.alloc(), line)?.as_slice(),
-        b"9,0,,false: add 1 -2|set 2 a text of more than 22 bytes|".as_slice()
+fn changes_are_copied(rt: HostRuntime) {
+    let copy = copy_of(
+        rt.alloc(),
+        "9,add,qty,-2,set,city,a text of more than 22 bytes",
     );
-    Ok(())
+    assert!(rt;
+        is_text(
+            copy,
+            "9,0,,false: add 1 -2|set 2 a text of more than 22 bytes|"
+        )
+    );
 }
 
 // How an addition to a column is checked.
@@ -160,6 +169,6 @@ fn operations_are_checked(rt: HostRuntime) {
         (2, Err(Refusal::NotInt)),
         (4, Err(Refusal::NoSuchColumn)),
     ] {
-        assert_eq!(rt; addition_checked(rt.alloc(), place), expected);
+        assert!(rt; addition_checked(rt.alloc(), place) == expected);
     }
 }

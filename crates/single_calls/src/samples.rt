@@ -7,6 +7,14 @@ use bt_rowtype::{
 };
 use std::alloc::{AllocError, Global};
 
+/// Whether there is an answer, and it is this text.
+pub(crate) fn is_text<E: Drop>(answer: Result<Vec<u8>, E>, text: &str) -> bool {
+    match answer {
+        Ok(answer) => answer.as_slice() == text.as_bytes(),
+        Err(_) => false,
+    }
+}
+
 /// A text, or the empty one in place of one that is too long.
 pub(crate) fn short_text(alloc: Global, text: &str) -> Result<Text, AllocError> {
     if text.len() > LONGEST_TEXT {
@@ -193,8 +201,8 @@ pub(crate) fn packet_text<V: Sample>(
     packet: Packet<V>,
 ) -> Result<Vec<u8>, AllocError> {
     let mut out = Vec::new(alloc);
-    for (key, message) in packet.into_messages() {
-        add_message(alloc, &mut out, &key, &message)?;
+    for (key, message) in packet.into_messages().as_slice() {
+        add_message(alloc, &mut out, key, message)?;
     }
     Ok(out)
 }

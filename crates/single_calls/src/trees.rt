@@ -1,9 +1,9 @@
 //! Trees of rows, and of index values.
 ghost use Rattle.std.specs.Prelude.{◌++◌};
 
-use crate::samples::{Sample, Sent, add_message, add_value, key, packet};
+use crate::samples::{Sample, Sent, add_message, add_value, is_text, key, packet};
 use bt_keycode::Key;
-use bt_messages::{Bins, Entry, Merge, Packet};
+use bt_messages::{Bins, Entry, Joined, Merge, Packet};
 use bt_node::{
     Node, Parts, Shape, Siblings, Tree, Visitor, Walk, absorb_alone, crown, pack, regroup,
 };
@@ -11,7 +11,15 @@ use bt_plan::plan;
 use bt_rowtype::{Refusal, Row};
 use std::alloc::{AllocError, Global};
 use std::marker::Model;
-use std::test::Fail;
+
+// A tree after a batch.
+fn after<V: Sample>(
+    alloc: Global,
+    tree: Tree<V>,
+    batch: &[(&str, Sent)],
+) -> Result<Tree<V>, AllocError> {
+    tree.sink(alloc, packet(alloc, batch)?)
+}
 
 // A tree of four puts: two leaves of two values each.
 fn four_puts<V: Sample>(alloc: Global) -> Result<Tree<V>, Refusal> {
@@ -22,25 +30,31 @@ fn four_puts<V: Sample>(alloc: Global) -> Result<Tree<V>, Refusal> {
         ("d", Sent::Put(40)),
     ];
     let tree = Tree::empty(alloc, Shape::new(4, 3, 2)?);
-    Ok(tree.sink(alloc, packet(alloc, &batch)?)?)
+    Ok(after(alloc, tree, &batch)?)
+}
+
+// Keys with their values.
+fn values_text<V: Sample>(alloc: Global, values: &[(Key, V)]) -> Result<Vec<u8>, AllocError> {
+    let mut out = Vec::new(alloc);
+    for (key, value) in values {
+        add_value(alloc, &mut out, key, value)?;
+    }
+    Ok(out)
 }
 
 // The values that a tree holds.
-fn values_text<V: Sample>(alloc: Global, tree: &Tree<V>) -> Result<Vec<u8>, AllocError> {
-    let mut out = Vec::new(alloc);
-    for (key, value) in tree.rows(alloc)? {
-        add_value(alloc, &mut out, &key, &value)?;
-    }
-    Ok(out)
+fn rows_text<V: Sample>(alloc: Global, tree: &Tree<V>) -> Result<Vec<u8>, AllocError> {
+    let rows = tree.rows(alloc)?;
+    values_text(alloc, rows.as_slice())
 }
 
 // Adds the messages of a node.
 fn add_messages<V: Sample>(
     alloc: Global,
     out: &mut Vec<u8>,
-    walk: &Walk<'_, V>,
+    messages: Joined<'_, V>,
 ) -> Result<(), AllocError> {
-    for (key, message) in walk.messages() {
+    for (key, message) in messages {
         add_message(alloc, out, key, message)?;
     }
     Ok(())
@@ -63,7 +77,7 @@ fn add_leaf<V: Sample>(
 fn root_text<V: Sample>(alloc: Global, tree: &Tree<V>) -> Result<Vec<u8>, AllocError> {
     let mut out = Vec::new(alloc);
     let root = tree.walk();
-    add_messages(alloc, &mut out, &root)?;
+    add_messages(alloc, &mut out, root.messages())?;
     for place in 0..root.child_count() {
         if place > 0 {
             out.extend_from_slice(root.pivot(place).as_slice())?;
@@ -81,15 +95,15 @@ fn pending<V: Sample>(alloc: Global) -> Result<Tree<V>, Refusal> {
         ("d", Sent::Put(0)),
         ("a", Sent::Ups(5)),
     ];
-    Ok(four_puts(alloc)?.sink(alloc, packet(alloc, &batch)?)?)
+    Ok(after(alloc, four_puts(alloc)?, &batch)?)
 }
 
 // A tree as it stands, and what it holds.
 fn tree_text<V: Sample>(alloc: Global, tree: &Tree<V>) -> Result<Vec<u8>, AllocError> {
     let mut out = root_text(alloc, tree)?;
     out.extend_from_slice(b": ")?;
-    let values = values_text(alloc, tree)?;
-    out.extend_from_slice(values.as_slice())?;
+    let rows = rows_text(alloc, tree)?;
+    out.extend_from_slice(rows.as_slice())?;
     Ok(out)
 }
 
@@ -98,16 +112,19 @@ fn pending_text<V: Sample>(alloc: Global) -> Result<Vec<u8>, Refusal> {
 }
 
 #[test]
-fn messages_are_pending(rt: HostRuntime) -> Result<(), Fail> {
-    assert_eq!(rt;
-        pending_text::<Row>(rt.alloc())?.as_slice(),
-        b"~a15 ~a5 +d0 |a10 b20 c|c30 d40 : a30 b20 c30 d0 ".as_slice()
+fn messages_are_pending(rt: HostRuntime) {
+    assert!(rt;
+        is_text(
+            pending_text::<Row>(rt.alloc()),
+            "~a15 ~a5 +d0 |a10 b20 c|c30 d40 : a30 b20 c30 d0 "
+        )
     );
-    assert_eq!(rt;
-        pending_text::<Entry>(rt.alloc())?.as_slice(),
-        b"~a15 ~a5 +d0 |a10 b20 c|c30 d40 : a5 b20 c30 d0 ".as_slice()
+    assert!(rt;
+        is_text(
+            pending_text::<Entry>(rt.alloc()),
+            "~a15 ~a5 +d0 |a10 b20 c|c30 d40 : a5 b20 c30 d0 "
+        )
     );
-    Ok(())
 }
 
 // The tree of four puts after four messages, two to each leaf: of equal children the left one is flushed.
@@ -118,7 +135,7 @@ fn flushed<V: Sample>(alloc: Global) -> Result<Tree<V>, Refusal> {
         ("c", Sent::Put(31)),
         ("b", Sent::Del),
     ];
-    Ok(four_puts(alloc)?.sink(alloc, packet(alloc, &batch)?)?)
+    Ok(after(alloc, four_puts(alloc)?, &batch)?)
 }
 
 fn flushed_text<V: Sample>(alloc: Global) -> Result<Vec<u8>, Refusal> {
@@ -126,59 +143,85 @@ fn flushed_text<V: Sample>(alloc: Global) -> Result<Vec<u8>, Refusal> {
 }
 
 #[test]
-fn the_left_child_is_flushed(rt: HostRuntime) -> Result<(), Fail> {
-    assert_eq!(rt;
-        flushed_text::<Row>(rt.alloc())?.as_slice(),
-        b"+c31 -d0 |a15 c|c30 d40 : a15 c31 ".as_slice()
+fn the_left_child_is_flushed(rt: HostRuntime) {
+    assert!(rt;
+        is_text(
+            flushed_text::<Row>(rt.alloc()),
+            "+c31 -d0 |a15 c|c30 d40 : a15 c31 "
+        )
     );
-    assert_eq!(rt;
-        flushed_text::<Entry>(rt.alloc())?.as_slice(),
-        b"+c31 -d0 |a5 c|c30 d40 : a5 c31 ".as_slice()
+    assert!(rt;
+        is_text(
+            flushed_text::<Entry>(rt.alloc()),
+            "+c31 -d0 |a5 c|c30 d40 : a5 c31 "
+        )
     );
-    Ok(())
 }
 
-// The number at a key.
-fn number_at<V: Sample>(
+// Adds the value at a key, or a bar where there is none.
+fn add_found<V: Sample>(
     alloc: Global,
-    tree: &Tree<V>,
-    letters: &str,
-) -> Result<Option<i64>, AllocError> {
-    let value = tree.get(alloc, &key(alloc, letters)?)?;
-    Ok(value.map(|value| value.number()))
-}
-
-#[test]
-fn keys_are_looked_up(rt: HostRuntime) -> Result<(), Fail> {
-    let alloc = rt.alloc();
-    let tree = flushed::<Row>(alloc)?;
-    for (letters, expected) in [
-        ("a", Some(15)),
-        ("b", None),
-        ("c", Some(31)),
-        ("d", None),
-        ("e", None),
-    ] {
-        assert_eq!(rt; number_at(alloc, &tree, letters)?, expected, "{letters}");
+    out: &mut Vec<u8>,
+    key: &Key,
+    found: &Option<V>,
+) -> Result<(), AllocError> {
+    match found {
+        Some(value) => add_value(alloc, out, key, value),
+        None => out.extend_from_slice(b"| "),
     }
-    Ok(())
 }
 
-// The number at a key, by the walk.
-fn walked_number<V: Sample>(
+// Adds the value that a tree has at the key of these letters.
+fn add_at<V: Sample>(
     alloc: Global,
+    out: &mut Vec<u8>,
     tree: &Tree<V>,
     letters: &str,
-) -> Result<Option<i64>, AllocError> {
-    let value = tree.walk().get(alloc, &key(alloc, letters)?)?;
-    Ok(value.map(|value| value.number()))
+) -> Result<(), AllocError> {
+    let key = key(alloc, letters)?;
+    let found = tree.get(alloc, &key)?;
+    add_found(alloc, out, &key, &found)
+}
+
+// The values that a tree has at some keys.
+fn found_text<V: Sample>(
+    alloc: Global,
+    tree: &Tree<V>,
+    keys: &[&str],
+) -> Result<Vec<u8>, AllocError> {
+    let mut out = Vec::new(alloc);
+    for letters in keys {
+        add_at(alloc, &mut out, tree, letters)?;
+    }
+    Ok(out)
+}
+
+fn flushed_at(alloc: Global, keys: &[&str]) -> Result<Vec<u8>, Refusal> {
+    let tree = flushed::<Row>(alloc)?;
+    Ok(found_text(alloc, &tree, keys)?)
 }
 
 #[test]
-fn a_walk_looks_a_key_up(rt: HostRuntime) -> Result<(), Fail> {
-    let tree = pending::<Row>(rt.alloc())?;
-    assert_eq!(rt; walked_number(rt.alloc(), &tree, "a")?, Some(30));
-    Ok(())
+fn keys_are_looked_up(rt: HostRuntime) {
+    let keys = ["a", "b", "c", "d", "e"];
+    assert!(rt; is_text(flushed_at(rt.alloc(), &keys), "a15 | c31 | | "));
+}
+
+// The value at a key, by the walk.
+fn walked_at<V: Sample>(alloc: Global, tree: &Tree<V>, key: &Key) -> Result<Vec<u8>, AllocError> {
+    let mut out = Vec::new(alloc);
+    add_found(alloc, &mut out, key, &tree.walk().get(alloc, key)?)?;
+    Ok(out)
+}
+
+fn pending_at(alloc: Global, letters: &str) -> Result<Vec<u8>, Refusal> {
+    let tree = pending::<Row>(alloc)?;
+    Ok(walked_at(alloc, &tree, &key(alloc, letters)?)?)
+}
+
+#[test]
+fn a_walk_looks_a_key_up(rt: HostRuntime) {
+    assert!(rt; is_text(pending_at(rt.alloc(), "a"), "a30 "));
 }
 
 // The values of a tree between two keys, by the walk.
@@ -188,11 +231,8 @@ fn walked_between<V: Sample>(
     from: Option<&Key>,
     to: Option<&Key>,
 ) -> Result<Vec<u8>, AllocError> {
-    let mut out = Vec::new(alloc);
-    for (key, value) in tree.walk().rows(alloc, from, to)? {
-        add_value(alloc, &mut out, &key, &value)?;
-    }
-    Ok(out)
+    let rows = tree.walk().rows(alloc, from, to)?;
+    values_text(alloc, rows.as_slice())
 }
 
 fn pending_between(alloc: Global) -> Result<Vec<u8>, Refusal> {
@@ -208,16 +248,9 @@ fn pending_everywhere(alloc: Global) -> Result<Vec<u8>, Refusal> {
 }
 
 #[test]
-fn a_walk_gives_the_rows_between_two_keys(rt: HostRuntime) -> Result<(), Fail> {
-    assert_eq!(rt;
-        pending_between(rt.alloc())?.as_slice(),
-        b"b20 c30 ".as_slice()
-    );
-    assert_eq!(rt;
-        pending_everywhere(rt.alloc())?.as_slice(),
-        b"a30 b20 c30 d0 ".as_slice()
-    );
-    Ok(())
+fn a_walk_gives_the_rows_between_two_keys(rt: HostRuntime) {
+    assert!(rt; is_text(pending_between(rt.alloc()), "b20 c30 "));
+    assert!(rt; is_text(pending_everywhere(rt.alloc()), "a30 b20 c30 d0 "));
 }
 
 // The keys of the rows that were shown, one after the other.
@@ -270,8 +303,7 @@ fn first_pending(alloc: Global, count: usize) -> Result<Vec<u8>, Refusal> {
 }
 
 #[test]
-fn a_walk_shows_the_first_rows(rt: HostRuntime) -> Result<(), Fail> {
-    let alloc = rt.alloc();
+fn a_walk_shows_the_first_rows(rt: HostRuntime) {
     for (from, count, expected) in [
         ("a", 1, "a"),
         ("a", 9, "ac"),
@@ -279,14 +311,9 @@ fn a_walk_shows_the_first_rows(rt: HostRuntime) -> Result<(), Fail> {
         ("b", 0, ""),
         ("d", 2, ""),
     ] {
-        assert_eq!(rt;
-            first_flushed(alloc, from, count)?.as_slice(),
-            expected.as_bytes(),
-            "{count} from {from}"
-        );
+        assert!(rt; is_text(first_flushed(rt.alloc(), from, count), expected));
     }
-    assert_eq!(rt; first_pending(alloc, 3)?.as_slice(), b"abc".as_slice());
-    Ok(())
+    assert!(rt; is_text(first_pending(rt.alloc(), 3), "abc"));
 }
 
 // A tree after a packet, by the two steps of a sink.
@@ -312,12 +339,13 @@ fn crowned_text(alloc: Global) -> Result<Vec<u8>, Refusal> {
 }
 
 #[test]
-fn siblings_are_crowned(rt: HostRuntime) -> Result<(), Fail> {
-    assert_eq!(rt;
-        crowned_text(rt.alloc())?.as_slice(),
-        b"-a0 |a10 b20 c|c30 d40 e|e50 f60 g|g70 : b20 c30 d40 e50 f60 g70 ".as_slice()
+fn siblings_are_crowned(rt: HostRuntime) {
+    assert!(rt;
+        is_text(
+            crowned_text(rt.alloc()),
+            "-a0 |a10 b20 c|c30 d40 e|e50 f60 g|g70 : b20 c30 d40 e50 f60 g70 "
+        )
     );
-    Ok(())
 }
 
 // Adds the messages of an inner node, its pivots and the number of its children.
@@ -327,9 +355,7 @@ fn add_inner<V: Sample>(
     children: Siblings<V>,
     bins: Bins<V>,
 ) -> Result<(), AllocError> {
-    for (key, message) in bins.iter() {
-        add_message(alloc, out, key, message)?;
-    }
+    add_messages(alloc, out, bins.iter())?;
     let (nodes, pivots) = children.apart();
     for pivot in &pivots {
         out.extend_from_slice(pivot.as_slice())?;
@@ -368,28 +394,28 @@ fn regrouped_text(alloc: Global) -> Result<Vec<u8>, Refusal> {
 }
 
 #[test]
-fn the_parts_of_a_root_give_that_root(rt: HostRuntime) -> Result<(), Fail> {
-    assert_eq!(rt;
-        regrouped_text(rt.alloc())?.as_slice(),
-        b"~a15 ~a5 +d0 c 2 ".as_slice()
-    );
-    Ok(())
+fn the_parts_of_a_root_give_that_root(rt: HostRuntime) {
+    assert!(rt; is_text(regrouped_text(rt.alloc()), "~a15 ~a5 +d0 c 2 "));
 }
 
-// The rows of the tree of four puts, packed into a tree of their own.
+// The rows of a tree, packed into a tree of their own.
+fn packed(alloc: Global, tree: &Tree<Row>) -> Result<Tree<Row>, AllocError> {
+    pack(alloc, tree.shape(), tree.rows(alloc)?)
+}
+
 fn packed_text(alloc: Global) -> Result<Vec<u8>, Refusal> {
-    let tree: Tree<Row> = four_puts(alloc)?;
-    let packed = pack(alloc, tree.shape(), tree.rows(alloc)?)?;
+    let packed = packed(alloc, &four_puts(alloc)?)?;
     Ok(tree_text(alloc, &packed)?)
 }
 
 #[test]
-fn rows_are_packed(rt: HostRuntime) -> Result<(), Fail> {
-    assert_eq!(rt;
-        packed_text(rt.alloc())?.as_slice(),
-        b"|a10 b20 c|c30 d40 : a10 b20 c30 d40 ".as_slice()
+fn rows_are_packed(rt: HostRuntime) {
+    assert!(rt;
+        is_text(
+            packed_text(rt.alloc()),
+            "|a10 b20 c|c30 d40 : a10 b20 c30 d40 "
+        )
     );
-    Ok(())
 }
 
 // The tree with pending messages, drained.
@@ -399,16 +425,17 @@ fn drained_text(alloc: Global) -> Result<Vec<u8>, Refusal> {
 }
 
 #[test]
-fn a_drained_tree_has_no_messages(rt: HostRuntime) -> Result<(), Fail> {
-    assert_eq!(rt;
-        drained_text(rt.alloc())?.as_slice(),
-        b"|a30 b20 c|c30 d0 : a30 b20 c30 d0 ".as_slice()
+fn a_drained_tree_has_no_messages(rt: HostRuntime) {
+    assert!(rt;
+        is_text(
+            drained_text(rt.alloc()),
+            "|a30 b20 c|c30 d0 : a30 b20 c30 d0 "
+        )
     );
-    Ok(())
 }
 
 #[test]
-fn plans(rt: HostRuntime) -> Result<(), Fail> {
+fn plans(rt: HostRuntime) {
     let table: [(&[u64], u64, &[u16]); 5] = [
         (&[4, 2, 2], 3, &[0, 1]),
         (&[1, 3, 3, 2], 4, &[1, 2]),
@@ -417,7 +444,6 @@ fn plans(rt: HostRuntime) -> Result<(), Fail> {
         (&[u64::MAX, u64::MAX], u64::MAX, &[0]),
     ];
     for (counts, capacity, places) in table {
-        assert_eq!(rt; plan(counts, capacity).as_slice(), places);
+        assert!(rt; plan(counts, capacity).as_slice() == places);
     }
-    Ok(())
 }

@@ -1,27 +1,22 @@
 //! Fields, records and rows.
-use crate::samples::{fields, refusal_text, row_text, shops, short_text};
+use crate::samples::{fields, is_text, refusal_text, row_text, shops, short_text};
 use bt_rowtype::{
-    Kind, Reading, RecordLine, RecordReader, Refusal, Row, Texts, Value, clone_all, copy_row,
-    read_field, read_key, read_record, read_row, write_record,
+    Kind, Reading, RecordLine, RecordReader, Refusal, Row, Schema, Texts, Value, clone_all,
+    copy_row, read_field, read_key, read_record, read_row, write_record,
 };
 use std::alloc::{AllocError, Global};
-use std::test::Fail;
+use std::slice;
 
 // What a field of a kind is read as.
 fn field_text(alloc: Global, kind: Kind, field: &str) -> Result<Vec<u8>, AllocError> {
     match read_field(alloc, kind, field.as_bytes()) {
-        Ok(value) => {
-            let mut values = Vec::new(alloc);
-            values.push(value)?;
-            row_text(alloc, Ok(Row::from_values(alloc, values.as_slice())?))
-        }
+        Ok(value) => row_text(alloc, Ok(Row::from_values(alloc, slice::from_ref(&value))?)),
         Err(refusal) => refusal_text(alloc, refusal),
     }
 }
 
 #[test]
-fn fields_of_each_kind(rt: HostRuntime) -> Result<(), Fail> {
-    let alloc = rt.alloc();
+fn fields_of_each_kind(rt: HostRuntime) {
     for (kind, field, expected) in [
         (Kind::Int, "-0", "0"),
         (Kind::Int, "007", "7"),
@@ -35,10 +30,8 @@ fn fields_of_each_kind(rt: HostRuntime) -> Result<(), Fail> {
         (Kind::Flag, "False", "false"),
         (Kind::Flag, "truee", "BadField 1"),
     ] {
-        let text = field_text(alloc, kind, field)?;
-        assert_eq!(rt; text.as_slice(), expected.as_bytes(), "{field}");
+        assert!(rt; is_text(field_text(rt.alloc(), kind, field), expected));
     }
-    Ok(())
 }
 
 // Whether a text field of these bytes is read as they stand.
@@ -67,15 +60,14 @@ fn row_of(alloc: Global, line: &str) -> Result<Vec<u8>, Refusal> {
 }
 
 #[test]
-fn rows_are_read(rt: HostRuntime) -> Result<(), Fail> {
+fn rows_are_read(rt: HostRuntime) {
     for (line, expected) in [
         ("-0,007,\"Bonn, west\",TRUE", "0,7,\"Bonn, west\",true"),
         ("x", "BadLength 3"),
         ("1,2,Bonn,maybe", "BadField 3"),
     ] {
-        assert_eq!(rt; row_of(rt.alloc(), line)?.as_slice(), expected.as_bytes());
+        assert!(rt; is_text(row_of(rt.alloc(), line), expected));
     }
-    Ok(())
 }
 
 // The key of a line of the shops, the third message of a batch.
@@ -86,11 +78,10 @@ fn key_of(alloc: Global, line: &str) -> Result<Vec<u8>, Refusal> {
 }
 
 #[test]
-fn keys_are_read(rt: HostRuntime) -> Result<(), Fail> {
+fn keys_are_read(rt: HostRuntime) {
     for (line, expected) in [("009", "9"), ("9,9", "BadLength 3"), ("x", "BadField 3")] {
-        assert_eq!(rt; key_of(rt.alloc(), line)?.as_slice(), expected.as_bytes());
+        assert!(rt; is_text(key_of(rt.alloc(), line), expected));
     }
-    Ok(())
 }
 
 // A copy of the row of a line of the shops.
@@ -102,10 +93,9 @@ fn copy_of(alloc: Global, line: &str) -> Result<Vec<u8>, Refusal> {
 }
 
 #[test]
-fn rows_are_checked_and_copied(rt: HostRuntime) -> Result<(), Fail> {
+fn rows_are_checked_and_copied(rt: HostRuntime) {
     let line = "1,2,a text of more than 22 bytes,true";
-    assert_eq!(rt; copy_of(rt.alloc(), line)?.as_slice(), line.as_bytes());
-    Ok(())
+    assert!(rt; is_text(copy_of(rt.alloc(), line), line));
 }
 
 // A row of so many zeros.
@@ -117,16 +107,15 @@ fn zeros(alloc: Global, count: u32) -> Result<Row, AllocError> {
     Row::from_values(alloc, values.as_slice())
 }
 
+// How a row of so many zeros is checked, the fourth message of a batch.
+fn zeros_checked(alloc: Global, count: u32) -> Result<(), Refusal> {
+    shops(alloc)?.check_row(4, &zeros(alloc, count)?)
+}
+
 #[test]
-fn rows_of_other_schemas(rt: HostRuntime) -> Result<(), Fail> {
-    let schema = shops(rt.alloc())?;
-    for (count, expected) in [(1, Refusal::BadLength(4)), (4, Refusal::BadField(4))] {
-        assert_eq!(rt;
-            schema.check_row(4, &zeros(rt.alloc(), count)?),
-            Err(expected)
-        );
-    }
-    Ok(())
+fn rows_of_other_schemas(rt: HostRuntime) {
+    assert!(rt; matches!(zeros_checked(rt.alloc(), 1), Err(Refusal::BadLength(4))));
+    assert!(rt; matches!(zeros_checked(rt.alloc(), 4), Err(Refusal::BadField(4))));
 }
 
 // The fields of a line between bars, or nothing of what is no record.
@@ -142,19 +131,43 @@ fn record_text(alloc: Global, line: &[u8]) -> Result<Vec<u8>, AllocError> {
 }
 
 #[test]
-fn records_are_read(rt: HostRuntime) -> Result<(), Fail> {
-    let alloc = rt.alloc();
-    let lines: [(&[u8], &[u8]); 7] = [
-        (b"1,,-2", b"|1||-2"),
-        (b"\"1,2\",\"a\"\"b\" c", b"|1,2|a\"b c"),
-        (b"\xEF\xBB\xBF1", b"|1"),
-        (b"\"1,2", b"|1,2"),
-        (b"\xEF\xBB\xBF", b""),
-        (b"1\r,2", b""),
-        (b"\xEF\xBB\xBF\xEF\xBB\xBF1", b""),
+fn records_are_read(rt: HostRuntime) {
+    let lines: [(&[u8], &str); 7] = [
+        (b"1,,-2", "|1||-2"),
+        (b"\"1,2\",\"a\"\"b\" c", "|1,2|a\"b c"),
+        (b"\xEF\xBB\xBF1", "|1"),
+        (b"\"1,2", "|1,2"),
+        (b"\xEF\xBB\xBF", ""),
+        (b"1\r,2", ""),
+        (b"\xEF\xBB\xBF\xEF\xBB\xBF1", ""),
     ];
     for (line, expected) in lines {
-        assert_eq!(rt; record_text(alloc, line)?.as_slice(), expected);
+        assert!(rt; is_text(record_text(rt.alloc(), line), expected));
+    }
+}
+
+// Adds what was read, behind a bar.
+fn add_read(
+    alloc: Global,
+    out: &mut Vec<u8>,
+    read: Result<Row, Refusal>,
+) -> Result<(), AllocError> {
+    let text = row_text(alloc, read)?;
+    out.extend_from_slice(b"|")?;
+    out.extend_from_slice(text.as_slice())
+}
+
+// Adds the row that a reader reads of a line, and behind it the key.
+fn add_line(
+    alloc: Global,
+    out: &mut Vec<u8>,
+    reader: &mut RecordReader,
+    schema: &Schema,
+    line: &str,
+) -> Result<(), AllocError> {
+    if let Some(line) = RecordLine::new(line.as_bytes()) {
+        add_read(alloc, out, reader.read_row(alloc, schema, 3, &line))?;
+        add_read(alloc, out, reader.read_key(alloc, schema, 5, &line))?;
     }
     Ok(())
 }
@@ -165,20 +178,13 @@ fn rows_in_turn(alloc: Global, lines: &[&str]) -> Result<Vec<u8>, Refusal> {
     let mut reader = RecordReader::new(alloc);
     let mut out = Vec::new(alloc);
     for line in lines {
-        if let Some(line) = RecordLine::new(line.as_bytes()) {
-            let row = reader.read_row(alloc, &schema, 3, &line);
-            let key = reader.read_key(alloc, &schema, 5, &line);
-            for text in [row_text(alloc, row)?, row_text(alloc, key)?] {
-                out.extend_from_slice(b"|")?;
-                out.extend_from_slice(text.as_slice())?;
-            }
-        }
+        add_line(alloc, &mut out, &mut reader, &schema, line)?;
     }
     Ok(out)
 }
 
 #[test]
-fn lines_are_read_in_turn(rt: HostRuntime) -> Result<(), Fail> {
+fn lines_are_read_in_turn(rt: HostRuntime) {
     let long = "|BadLength 3|BadLength 5";
     for (lines, expected) in [
         (
@@ -193,12 +199,8 @@ fn lines_are_read_in_turn(rt: HostRuntime) -> Result<(), Fail> {
         (["", "\"8\",9,x,true,10", ""], long),
         (["", "\"8,9,x\",true", "\n"], long),
     ] {
-        assert_eq!(rt;
-            rows_in_turn(rt.alloc(), &lines)?.as_slice(),
-            expected.as_bytes()
-        );
+        assert!(rt; is_text(rows_in_turn(rt.alloc(), &lines), expected));
     }
-    Ok(())
 }
 
 // The record of the texts between bars, behind a word.
@@ -213,7 +215,7 @@ fn texts_record(alloc: Global, texts: &str) -> Result<Vec<u8>, AllocError> {
 }
 
 #[test]
-fn records_are_written(rt: HostRuntime) -> Result<(), Fail> {
+fn records_are_written(rt: HostRuntime) {
     for (texts, expected) in [
         ("plain|é b", "row plain,é b"),
         ("a,b|\"", "row \"a,b\",\"\"\"\""),
@@ -221,24 +223,24 @@ fn records_are_written(rt: HostRuntime) -> Result<(), Fail> {
         ("a||c", "row a,,c"),
         ("", "row \"\""),
     ] {
-        assert_eq!(rt;
-            texts_record(rt.alloc(), texts)?.as_slice(),
-            expected.as_bytes()
-        );
+        assert!(rt; is_text(texts_record(rt.alloc(), texts), expected));
     }
-    Ok(())
+}
+
+// Whether a list of two texts has these texts.
+fn are_listed(alloc: Global, first: &str, last: &str) -> Result<bool, AllocError> {
+    let mut texts = Texts::new(alloc);
+    texts.push(first)?;
+    texts.push(last)?;
+    match texts.as_slice() {
+        [one, other] => Ok(one.as_str() == first && other.as_str() == last),
+        _ => Ok(false),
+    }
 }
 
 #[test]
-fn lists_of_texts(rt: HostRuntime) -> Result<(), Fail> {
-    let mut texts = Texts::new(rt.alloc());
-    texts.push("betable")?;
-    texts.push("--help")?;
-    let words = texts.as_slice();
-    assert_eq!(rt; words.len(), 2);
-    assert_eq!(rt; words[0].as_str(), "betable");
-    assert_eq!(rt; words[1].as_str(), "--help");
-    Ok(())
+fn lists_of_texts(rt: HostRuntime) {
+    assert!(rt; matches!(are_listed(rt.alloc(), "betable", "--help"), Ok(true)));
 }
 
 // What is had by reading these one after another.
@@ -251,18 +253,16 @@ fn all_of(alloc: Global, reads: &[Result<u8, Refusal>]) -> Result<Vec<u8>, Refus
 }
 
 #[test]
-fn one_is_read_after_another(rt: HostRuntime) -> Result<(), Fail> {
-    let alloc = rt.alloc();
-    let bytes = all_of(alloc, &[Ok(b'a'), Ok(b'b')])?;
-    assert_eq!(rt; bytes.as_slice(), b"ab".as_slice());
+fn one_is_read_after_another(rt: HostRuntime) {
+    let read = [Ok(b'a'), Ok(b'b')];
+    assert!(rt; is_text(all_of(rt.alloc(), &read), "ab"));
     let refused = [
         Err(Refusal::BadLength(1)),
         Err(Refusal::BadField(3)),
         Ok(b'a'),
         Err(Refusal::BadField(2)),
     ];
-    assert!(rt; matches!(all_of(alloc, &refused), Err(Refusal::BadField(2))));
-    Ok(())
+    assert!(rt; matches!(all_of(rt.alloc(), &refused), Err(Refusal::BadField(2))));
 }
 
 // Copies of pairs of a number and a text, as one record.
@@ -278,11 +278,7 @@ fn copied_pairs(alloc: Global, number: i64, text: &str) -> Result<Vec<u8>, Alloc
 }
 
 #[test]
-fn pairs_are_copied(rt: HostRuntime) -> Result<(), Fail> {
-    let text = copied_pairs(rt.alloc(), 7, "a text of more than 22 bytes")?;
-    assert_eq!(rt;
-        text.as_slice(),
-        b"7,a text of more than 22 bytes".as_slice()
-    );
-    Ok(())
+fn pairs_are_copied(rt: HostRuntime) {
+    let text = copied_pairs(rt.alloc(), 7, "a text of more than 22 bytes");
+    assert!(rt; is_text(text, "7,a text of more than 22 bytes"));
 }
