@@ -11,7 +11,7 @@ use Rattle.bt_node.specs.Messages.{Messages}
 use Rattle.bt_node.specs.Trees.{Shape, Siblings, nodes}
 use Rattle.bt_node.proofs.offered.FlushSteps.{ChildrenLie, ChildrenSized, Heads, all_pending, both-sized, children-join, deal-some, grouped-lie, grouped-sized, heads-append, led-map, led-side, none_pending-lie, none_pending-sized, stripped}
 use Rattle.bt_plan.specs.Pieces.{Holed, HoledChild, HoledFits, HoledNodes, IsSent, child, childless, filled_below, filled_with, hole, opened, pivots_below, shared_below, whole, with_bins}
-use Rattle.bt_plan.proofs.offered.Cuts.{lies-divides}
+use Rattle.bt_plan.proofs.offered.Cuts.{bins-long, lies-divides}
 use Rattle.bt_gather.specs.inside.Fillings.{placed}
 
 module _ {V M : Type 0} where
@@ -144,11 +144,6 @@ module _ {V M H : Type 0} (shape : Shape) (piece : H → Siblings V M) where
   with_bins-long childless (b ∷ bs) e = absurd (omega (arith, e))
   with_bins-long (child k h hs) [] e = absurd (omega (arith, e))
   with_bins-long (child k h hs) (b ∷ bs) e = omega (arith, with_bins-long hs bs (omega (arith, e)))
-
-  -- a bin for each child
-  pub bins-long : (hs : HoledNodes V M H) (buffer : Messages M) → 2 ≤ length (pivots_below hs) → IsSorted buffer → length (parts (drop 1 (pivots_below hs)) buffer) ≡ length (pivots_below hs)
-  bins-long childless buffer two sorted = absurd (omega (arith, two))
-  bins-long (child k h hs) buffer two sorted = omega (arith, lie_length (pivots_below hs) (parts (pivots_below hs) buffer) (parts_lie (pivots_below hs) buffer sorted))
 
   -- the siblings that take the places of an opened node's children, each with its share of what is left
   pub record Opens (levels : ℕ) (low high : Option Key) (hs : HoledNodes V M H) (buffer : Messages M) : Type 0 where

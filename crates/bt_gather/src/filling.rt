@@ -3,6 +3,7 @@ ghost use Rattle.std.specs.Prelude.{◌≡◌, ◌≤◌, ◌+◌, ◌++◌, ◌
 ghost use Rattle.std.specs.List.{flat_map};
 ghost use Rattle.std.specs.Vec.Iter.{into_iter_items};
 ghost use Rattle.std.specs.declared.option.Option.TheVariants.{None};
+ghost use Rattle.bt_node.specs.Fits.{AreFit};
 ghost use Rattle.bt_node.specs.Lookups.{pivots_of};
 ghost use Rattle.bt_node.specs.Parts.{AreRising};
 ghost use Rattle.bt_plan.specs.Pieces.{filled, holes};
@@ -167,6 +168,7 @@ pub fn fill<V: Merge>(
 ) -> Result<Siblings<V>, FillError<V>>
     requires { IsFillable holed.0 holed.1 (pieces_of pieces.items) }
     ensures siblings { IfOk result (λ siblings. siblings ≡ filled holed.0 holed.1 (pieces_of pieces.items)) }
+    ensures fits { IfOk result (AreFit holed.0) }
     ensures fit { IfOk result (λ _. misfit holed.1 (pieces_of pieces.items) ≡ None) }
     ensures refused { IfErr result (IsRefusal holed pieces.items) }
 {

@@ -1,14 +1,16 @@
 -- A tree in pieces whose holes tell something else fits, where what each hole tells now does.
-use Rattle.std.proofs.Common.{◌≡◌, ◌≤◌, ℕ, zero, suc, List, [], ◌∷◌, drop, length, refl, ap, subst, sym}
+use Rattle.std.proofs.Common.{◌≡◌, ◌≤◌, ◌+◌, ℕ, zero, suc, List, [], ◌∷◌, drop, length, refl, ap, subst, sym, arith}
 use Rattle.std.specs.List.{AllByRecursion as Each}
 use Rattle.std.specs.declared.option.Option.{Option}
 use Rattle.std.specs.declared.option.Option.TheVariants.{Some}
 use Rattle.bt_keycode.specs.Keys.{Key, AllWithin, IsSorted, SideBySide}
 use Rattle.bt_messages.specs.Bins.{parts}
+use Rattle.bt_messages.proofs.offered.Parts.{lie_length, parts_lie}
 use Rattle.bt_node.specs.Messages.{Messages}
 use Rattle.bt_node.specs.Trees.{Shape}
 use Rattle.bt_plan.specs.Pieces.{Holed, HoledChild, HoledFits, HoledNodes, IsSent, child, childless, hole, holes, holes_below, opened, pivots_below, whole, with_bins, with_holes, with_holes_below}
 use Rattle.bt_plan.proofs.Found.{each-first, each-rest}
+use Rattle.bt_plan.proofs.Places.{each-append}
 
 -- what is asked of a hole gives what is wanted of what it tells now
 abbrev pub Turns : {H G : Type 0} → (H → G) → (ℕ → Option Key → Option Key → H → Type 0) → (ℕ → Option Key → Option Key → G → Type 0) → H → Type 0
@@ -62,3 +64,40 @@ module _ {V M H G : Type 0} (shape : Shape) (told : H → G) where
       subst (λ ks. SideBySide (λ c. c.pivot) (Child Wanted levels) low high (with_bins (with_holes_below told hs) (parts (drop 1 ks) buffer))) (sym (pivots-told hs))
           (children-told levels (told-fits levels) low high hs (parts (drop 1 (pivots_below hs)) buffer) e f.3),
     )
+
+-- ---- each hole
+
+-- a bin for each child
+pub bins-long : {V M H : Type 0} (hs : HoledNodes V M H) (buffer : Messages M) → 2 ≤ length (pivots_below hs) → IsSorted buffer →
+    length (parts (drop 1 (pivots_below hs)) buffer) ≡ length (pivots_below hs)
+bins-long childless buffer two sorted = absurd (omega (arith, two))
+bins-long (child k h hs) buffer two sorted = omega (arith, lie_length (pivots_below hs) (parts (pivots_below hs) buffer) (parts_lie (pivots_below hs) buffer sorted))
+
+-- what is asked of a hole, somewhere
+abbrev pub Somewhere : {H : Type 0} → (ℕ → Option Key → Option Key → H → Type 0) → H → Type 0
+Somewhere Asked h = (levels : ℕ) × (low : Option Key) × (high : Option Key) × Asked levels low high h
+
+module _ {V M H : Type 0} (shape : Shape) (Asked : ℕ → Option Key → Option Key → H → Type 0) where
+  -- a child in its place
+  abbrev Placed : ℕ → Option Key → Option Key → HoledChild V M H → Type 0
+  Placed levels low high c = HoledFits Asked shape levels low high c.node × AllWithin low high c.pending × IsSorted c.pending × IsSent c.node c.pending
+
+  below-asked : (levels : ℕ) → ((low high : Option Key) (h : Holed V M H) → HoledFits Asked shape levels low high h → Each (Somewhere Asked) (holes h)) →
+      (low high : Option Key) (hs : HoledNodes V M H) (bs : List (Messages M)) → length bs ≡ length (pivots_below hs) → SideBySide (λ c. c.pivot) (Placed levels) low high (with_bins hs bs) →
+      Each (Somewhere Asked) (holes_below hs)
+  below-asked levels asked low high childless bs e s = tt
+  below-asked levels asked low high (child k h hs) [] e s = absurd (omega (arith, e))
+  below-asked levels asked low high (child k h childless) (b ∷ []) e s = each-append (Somewhere Asked) (holes h) [] (asked low high h s.0) tt
+  below-asked levels asked low high (child k h childless) (b ∷ c ∷ bs) e s = absurd (omega (arith, e))
+  below-asked levels asked low high (child k h (child j i hs)) (b ∷ []) e s = absurd (omega (arith, e))
+  below-asked levels asked low high (child k h (child j i hs)) (b ∷ c ∷ bs) e s =
+      each-append (Somewhere Asked) (holes h) (holes_below (child j i hs)) (asked low (Some j) h s.2.0)
+      (below-asked levels asked (Some j) high (child j i hs) (c ∷ bs) (omega (arith, e)) s.3)
+
+  -- in a tree in pieces that fits, what is asked holds of each hole somewhere
+  pub each-asked : (levels : ℕ) (low high : Option Key) (h : Holed V M H) → HoledFits Asked shape levels low high h → Each (Somewhere Asked) (holes h)
+  each-asked levels low high (whole t) f = tt
+  each-asked levels low high (hole h) f = ((levels, low, high, f), tt)
+  each-asked zero low high (opened hs buffer) f = absurd f
+  each-asked (suc levels) low high (opened hs buffer) f =
+      below-asked levels (each-asked levels) low high hs (parts (drop 1 (pivots_below hs)) buffer) (bins-long hs buffer f.0 f.2) f.3

@@ -6,7 +6,7 @@ use Rattle.std.specs.List.{All, AllByRecursion as Each}
 use Rattle.std.specs.declared.option.Option.{Option}
 use Rattle.std.specs.declared.option.Option.TheVariants.{None, Some}
 use Rattle.bt_keycode.specs.Keys.{Key}
-use Rattle.bt_node.specs.Fits.{HasShape, IsRoomy, SiblingsFit}
+use Rattle.bt_node.specs.Fits.{HasShape, IsInOrder, IsRoomy, SiblingsFit}
 use Rattle.bt_node.specs.Messages.{Messages}
 use Rattle.bt_node.specs.Trees.{Shape, Siblings, Tree}
 use Rattle.bt_node.proofs.offered.FlushSteps.{anywhere, drain_fits_there, fit_there}
@@ -18,13 +18,13 @@ use Rattle.bt_plan.specs.Pieces.{FitsHole, HoledFits, Pieces, filled, holes, pla
 use Rattle.bt_plan.proofs.Filling.{cut-filled}
 use Rattle.bt_plan.proofs.Fits.{cut-fits}
 use Rattle.bt_plan.proofs.Found.{all-stand, filled-standing}
-use Rattle.bt_plan.proofs.Holes.{told-fits}
+use Rattle.bt_plan.proofs.Holes.{Somewhere, each-asked, told-fits}
 use Rattle.bt_plan.proofs.Places.{cut-rises}
 -- children in their places, divided again from their pivots and all that is pending for them
 pub use Rattle.bt_plan.proofs.Marks.{lies-divides}
 -- trees in pieces whose holes tell something else
 pub use Rattle.bt_plan.proofs.Found.{filled-as}
-pub use Rattle.bt_plan.proofs.Holes.{pivots-told, told-fits}
+pub use Rattle.bt_plan.proofs.Holes.{bins-long, told-fits}
 
 module _ {V M : Type 0} (effect : Option V → M → Option V) (number : ℕ) (shape : Shape) (root : Tree V M) (has : HasShape shape root) (packet : Messages M) (depth : ℕ) (mode : Mode) where
   -- each job stands in a hole of its own and fits there
@@ -78,3 +78,12 @@ module _ {V M : Type 0} (effect : Option V → M → Option V) (shape : Shape) (
       subst (HoledFits (FitsHole shape pieces) shape stand.levels None None) (sym stand.holed)
       (told-fits shape hole_of (JobFits shape) (FitsHole shape pieces) stand.levels None None stand.tree
       (each-fits pieces (holes stand.tree) (recursion_from_All (Answers effect shape pieces) (holes stand.tree) (subst (All (Answers effect shape pieces)) stand.jobs all))) stand.fit)
+
+-- the nodes of the jobs of a cut are in order
+pub jobs-in_order : {V M : Type 0} (shape : Shape) (c : Pieced V M) → StandInHoles shape c → Each (λ job. IsInOrder job.node) c.jobs
+jobs-in_order {V} {M} shape c stand =
+    subst (Each (λ job. IsInOrder job.node)) (sym stand.jobs) (go (holes stand.tree) (each-asked shape (JobFits shape) stand.levels None None stand.tree stand.fit))
+  where
+    go : (jobs : List (Job V M)) → Each (Somewhere (JobFits shape)) jobs → Each (λ job. IsInOrder job.node) jobs
+    go [] e = tt
+    go (job ∷ jobs) e = let fits = e.0 in ((fits.0, fits.1, fits.2, fits.3.0.lies), go jobs e.1)
