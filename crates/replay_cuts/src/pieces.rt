@@ -1,0 +1,90 @@
+//! Flushes in pieces: a tree is cut, its jobs are run one by one, and what becomes of them is filled in.
+ghost use Rattle.std.specs.Prelude.{◌≡◌, ◌≤◌, IfOk, map};
+ghost use Rattle.bt_gather.specs.Views.{pieces_of};
+ghost use Rattle.bt_messages.specs.Effects.{effect_of};
+ghost use Rattle.bt_node.specs.Fits.{IsInOrder};
+ghost use Rattle.bt_plan.specs.Cuts.{all_done, done};
+ghost use Rattle.bt_plan.specs.Views.{job_of, place_of};
+ghost use Rattle.replay_cuts.specs.Turns.{AreInOrder, AreTurned};
+
+use bt_gather::{FillError, fill};
+use bt_messages::{Merge, Packet};
+use bt_node::{Shape, Siblings, Tree, absorb_alone, crown, drain_alone};
+use bt_plan::{Job, Mode, Place, cut};
+use std::alloc::{AllocError, Global};
+
+/// In which order jobs are run.
+#[derive(Clone, Copy)]
+pub(crate) enum Turn {
+    Rising,
+    Falling,
+}
+
+// What becomes of a job, at its place.
+fn run_job<V: Merge>(
+    alloc: Global,
+    shape: Shape,
+    job: Job<V>,
+) -> Result<(Place, Siblings<V>), AllocError>
+    requires { IsInOrder job.node }
+    ensures place { IfOk result (λ piece. place_of piece.0 ≡ place_of job.place) }
+    ensures siblings { IfOk result (λ piece. piece.1 ≡ done (effect_of V.merged) shape (job_of job)) }
+{
+    let Job {
+        place,
+        node,
+        packet,
+        mode,
+    } = job;
+    let siblings = match mode {
+        Mode::Absorb => absorb_alone(alloc, shape, node, packet)?,
+        Mode::Drain => drain_alone(alloc, shape, node, packet)?,
+    };
+    Ok((place, siblings))
+}
+
+/// What becomes of jobs, each at its place. They are run one by one.
+pub(crate) fn run_all<V: Merge>(
+    alloc: Global,
+    shape: Shape,
+    jobs: Vec<Job<V>>,
+) -> Result<Vec<(Place, Siblings<V>)>, AllocError>
+    requires { AreInOrder jobs.items }
+    ensures { IfOk result (λ pieces. pieces_of pieces.items ≡ all_done (effect_of V.merged) shape (map job_of jobs.items)) }
+{
+    let mut pieces = Vec::with_capacity(alloc, jobs.len())?;
+    for job in jobs {
+        pieces.push(run_job(alloc, shape, job)?)?;
+    }
+    Ok(pieces)
+}
+
+// The jobs from the first to the last, or from the last to the first.
+fn turned<V: Merge>(jobs: Vec<Job<V>>, turn: Turn) -> Vec<Job<V>>
+    ensures { AreTurned jobs.items result.items }
+{
+    let mut jobs = jobs;
+    match turn {
+        Turn::Rising => {}
+        Turn::Falling => jobs.as_mut_slice().reverse(),
+    }
+    jobs
+}
+
+/// The tree after a flush in pieces, or drained in pieces.
+pub(crate) fn in_pieces<V: Merge>(
+    alloc: Global,
+    tree: Tree<V>,
+    packet: Packet<V>,
+    depth: usize,
+    mode: Mode,
+    turn: Turn,
+) -> Result<Tree<V>, FillError<V>>
+    requires { (1 ≤ depth) × (depth ≤ 3) }
+{
+    let shape = tree.shape();
+    let (holed, jobs) = cut(alloc, 0, tree, packet, depth, mode)?;
+    let pieces = run_all(alloc, shape, turned(jobs, turn))?;
+    let siblings = fill(alloc, holed, pieces)?;
+    Ok(crown(alloc, shape, siblings)?)
+}
