@@ -1,5 +1,5 @@
 -- What becomes of the jobs of a cut stands at their places, in whatever order they are run.
-use Rattle.std.proofs.Common.{◌≡◌, ◌&&◌, ◌⊎◌, ℕ, append-nil, T, Bool, true, false, true≢false, List, [], ◌∷◌, ◌++◌, map, reverse, inl, inr, refl, ap, subst, sym, ◌∙◌}
+use Rattle.std.proofs.Common.{◌≡◌, ◌⊎◌, ℕ, append-nil, T, Bool, true, false, true≢false, List, [], ◌∷◌, ◌++◌, map, reverse, inl, inr, refl, ap, subst, sym, ◌∙◌}
 use Rattle.std.proofs.lemmas.Bool.{and_parts, cond-false, cond-true}
 use Rattle.std.proofs.lemmas.List.{reverse-append}
 use Rattle.std.proofs.lemmas.List.Elements.{All-from_recursion}
@@ -12,12 +12,12 @@ use Rattle.std.specs.Ordering.{eq_by_cmp, is_eq, ordering_reverse}
 use Rattle.std.specs.declared.cmp.Ordering.{Ordering}
 use Rattle.std.specs.declared.cmp.Ordering.TheVariants.{Less, Equal, Greater}
 use Rattle.std.specs.declared.option.Option.{Option}
-use Rattle.std.specs.declared.option.Option.TheVariants.{None, Some}
+use Rattle.std.specs.declared.option.Option.TheVariants.{Some}
 use Rattle.bt_keycode.proofs.offered.Order.{is_less, total_keys}
 use Rattle.bt_messages.specs.declared.message.Message.{Message}
 use Rattle.bt_node.specs.Fits.{IsInOrder, IsRoomy}
 use Rattle.bt_node.specs.Messages.{Messages}
-use Rattle.bt_node.specs.Trees.{Shape, Siblings, Tree}
+use Rattle.bt_node.specs.Trees.{Shape, Tree}
 use Rattle.bt_plan.proofs.offered.Cuts.{Answers, jobs-in_order}
 use Rattle.bt_plan.specs.Cuts.{Job, Pieced, all_done, cut, done}
 use Rattle.bt_plan.specs.declared.job.Mode.{Mode}

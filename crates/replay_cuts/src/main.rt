@@ -2,7 +2,7 @@
 //! order, and what becomes of them is filled in; the tree is compared with that of the flush as a whole.
 //!
 //! The file `scripts` names the scripts, one a line, of which `table` and `batch` alone are looked at. Where words are given, they name the
-//! scripts, and flushes are timed.
+//! scripts; with the word `time` before them flushes are timed in place of that.
 #![tactic(auto)]
 
 mod batches;
@@ -18,25 +18,43 @@ use std::rt::{Clock, Env, Files};
 use std::{env, fs};
 use timing::time;
 
+// Replays a script.
+fn replay_file<R: Files + Print + AllocGlobal>(rt: &R, name: &str) -> Result<()> {
+    let script = fs::read(rt, name).context(format_args!("reading {name}"))?;
+    replay(rt, name, script.as_slice()).context(format_args!("replaying {name}"))
+}
+
 // Replays the scripts that the file `scripts` names.
 fn replay_all<R: Files + Print + AllocGlobal>(rt: &R) -> Result<()> {
     let names = fs::read_to_string(rt, "scripts").context("reading the names of the scripts")?;
     for name in names.as_str().lines() {
-        let script = fs::read(rt, name).context(format_args!("reading {name}"))?;
-        replay(rt, name, script.as_slice()).context(format_args!("replaying {name}"))?;
+        replay_file(rt, name)?;
     }
     Ok(())
 }
 
+// Times the flushes of a script.
+fn time_file<R: Clock + Files + Print + AllocGlobal>(rt: &R, name: &str) -> Result<()> {
+    let script = fs::read(rt, name).context(format_args!("reading {name}"))?;
+    println!(rt; "{name}")?;
+    time(rt, script.as_slice()).context(format_args!("timing {name}"))
+}
+
 fn run<R: Clock + Env + Files + Print + AllocGlobal>(rt: &R) -> Result<()> {
-    let words = env::args(rt).context("reading the words")?;
-    if words.len() < 2 {
+    let mut words = env::args(rt).context("reading the words")?;
+    let _program = words.next();
+    let Some(first) = words.next() else {
         return replay_all(rt);
+    };
+    if first.as_str() != "time" {
+        replay_file(rt, first.as_str())?;
+        for name in words {
+            replay_file(rt, name.as_str())?;
+        }
+        return Ok(());
     }
-    for name in words.into_iter().skip(1) {
-        let script = fs::read(rt, name.as_str()).context(format_args!("reading {name}"))?;
-        replay(rt, name.as_str(), script.as_slice()).context(format_args!("replaying {name}"))?;
-        time(rt, script.as_slice()).context(format_args!("timing {name}"))?;
+    for name in words {
+        time_file(rt, name.as_str())?;
     }
     Ok(())
 }

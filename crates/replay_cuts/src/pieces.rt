@@ -1,5 +1,5 @@
 //! Flushes in pieces: a tree is cut, its jobs are run one by one, and what becomes of them is filled in.
-ghost use Rattle.std.specs.Prelude.{◌≡◌, ◌≤◌, IfOk, map};
+ghost use Rattle.std.specs.Prelude.{◌≡◌, ◌≤◌, IfOk, map, reverse};
 ghost use Rattle.bt_gather.specs.Views.{pieces_of};
 ghost use Rattle.bt_messages.specs.Effects.{effect_of};
 ghost use Rattle.bt_node.specs.Fits.{IsInOrder};
@@ -59,16 +59,23 @@ pub(crate) fn run_all<V: Merge>(
     Ok(pieces)
 }
 
+// The jobs from the last to the first.
+fn reversed<V: Merge>(jobs: Vec<Job<V>>) -> Vec<Job<V>>
+    ensures { result.items ≡ reverse jobs.items }
+{
+    let mut jobs = jobs;
+    jobs.as_mut_slice().reverse();
+    jobs
+}
+
 // The jobs from the first to the last, or from the last to the first.
 fn turned<V: Merge>(jobs: Vec<Job<V>>, turn: Turn) -> Vec<Job<V>>
     ensures { AreTurned jobs.items result.items }
 {
-    let mut jobs = jobs;
     match turn {
-        Turn::Rising => {}
-        Turn::Falling => jobs.as_mut_slice().reverse(),
+        Turn::Rising => jobs,
+        Turn::Falling => reversed(jobs),
     }
-    jobs
 }
 
 /// The tree after a flush in pieces, or drained in pieces.

@@ -3,7 +3,7 @@ ghost use Rattle.std.specs.Prelude.{◌≤◌};
 
 use crate::batches::Batches;
 use crate::pieces::Turn;
-use crate::replays::{DEPTHS, divided};
+use crate::replays::divided;
 use anyhow::Result;
 use bt_node::Tree;
 use bt_plan::Mode;
@@ -34,18 +34,23 @@ fn time_once<R: Clock + AllocGlobal>(rt: &R, table: &Batches<'_>, depth: usize) 
     Ok(time)
 }
 
-/// Prints the least time of all flushes of a script in some rounds, as a whole and at each depth.
+// The least time of some rounds.
+fn least_time<R: Clock + AllocGlobal>(rt: &R, table: &Batches<'_>, depth: usize) -> Result<Duration>
+    requires { depth ≤ 3 }
+{
+    let mut least = Duration::MAX;
+    for _ in 0..ROUNDS {
+        least = least.min(time_once(rt, table, depth)?);
+    }
+    Ok(least)
+}
+
+/// Prints how long all flushes of a script take, as a whole, which is depth 0, and at each depth.
 pub(crate) fn time<R: Clock + Print + AllocGlobal>(rt: &R, script: &[u8]) -> Result<()> {
     let table = Batches::read(rt.alloc(), script)?;
-    let mut least = [Duration::MAX; 4];
-    for _ in 0..ROUNDS {
-        for depth in 0..4usize {
-            least[depth] = least[depth].min(time_once(rt, &table, depth)?);
-        }
-    }
-    println!(rt; "  as a whole: {} us", least[0].as_micros())?;
-    for depth in DEPTHS {
-        println!(rt; "  cut at {depth}: {} us", least[depth].as_micros())?;
+    for depth in 0..4usize {
+        let time = least_time(rt, &table, depth)?;
+        println!(rt; "  depth {depth}: {} us", time.as_micros())?;
     }
     Ok(())
 }

@@ -31,10 +31,6 @@ put_of id quantity = (key_of id, Put (row_of id quantity))
 abbrev pub del_of : ℤ → Key × RowMessage
 del_of id = (key_of id, Del)
 
--- two rows under their keys
-abbrev pub two_rows : Rows (List Value)
-two_rows = (key_of (pos 1), row_of (pos 1) (pos 10)) ∷ (key_of (pos 2), row_of (pos 2) (pos 20)) ∷ []
-
 -- the batch that puts the rows 1,10 2,20 3,30
 abbrev pub three_puts : Messages RowMessage
 three_puts = put_of (pos 1) (pos 10) ∷ put_of (pos 2) (pos 20) ∷ put_of (pos 3) (pos 30) ∷ []

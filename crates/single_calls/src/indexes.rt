@@ -10,11 +10,8 @@ ghost use Rattle.bt_fanout.specs.Effects.{SuitsEffect, row_effect};
 ghost use Rattle.bt_fanout.specs.Entries.{Definition, SuitsKinds};
 ghost use Rattle.single_calls.specs.Quantities as spec;
 
-use crate::samples::{is_text, refusal_text, short_text};
-use bt_fanout::{
-    BuildStep, Cover, Effect, IndexDef, build_packet, build_step, covers, effects, entry,
-    index_packet,
-};
+use crate::samples::{is_text, short_text};
+use bt_fanout::{Cover, Effect, IndexDef, covers, effects, entry, index_packet};
 use bt_keycode::{Key, encode};
 use bt_messages::{Entry, Message, Packet};
 use bt_node::{Shape, Tree};
@@ -283,45 +280,6 @@ fn keys_are_covered(rt: HostRuntime) {
     assert!(rt; matches!(is_covered(rt.alloc(), 2, 3), Ok(false)));
 }
 
-// The rows with one behind them.
-fn with_row(
-    alloc: Global,
-    rows: Vec<(Key, Row)>,
-    id: i64,
-    quantity: i64,
-) -> Result<Vec<(Key, Row)>, AllocError>
-    ensures { IfOk result (λ new. new.items ≡ rows.items ++ (spec.key_of id, spec.row_of id quantity) ∷ []) }
-{
-    let mut new = rows;
-    new.push((key(alloc, id)?, row(alloc, id, quantity)?))?;
-    Ok(new)
-}
-
-fn two_rows(alloc: Global) -> Result<Vec<(Key, Row)>, AllocError>
-    ensures { IfOk result (λ rows. rows.items ≡ spec.two_rows) }
-{
-    let first = with_row(alloc, Vec::new(alloc), 1, 10)?;
-    with_row(alloc, first, 2, 20)
-}
-
-// What two rows send to an index.
-fn built_text(alloc: Global) -> Result<Vec<u8>, Refusal> {
-    let rows = two_rows(alloc)?;
-    let def = index(alloc, "qty", "id", None)?;
-    let packet = build_packet(alloc, &def, rows.as_slice())?;
-    Ok(packet_text(alloc, &packet)?)
-}
-
-#[test]
-fn packets_of_building(rt: HostRuntime) {
-    assert!(rt;
-        is_text(
-            built_text(rt.alloc()),
-            "+800000000000000a8000000000000001 1 +80000000000000148000000000000002 2 "
-        )
-    );
-}
-
 // The filter that a value of a column is at least a constant.
 fn at_least(alloc: Global, column: &str, constant: &str) -> Result<Filter, AllocError> {
     Ok(Filter {
@@ -364,96 +322,4 @@ fn entries_pass_the_filter(rt: HostRuntime) {
             "800000000000000f8000000000000003 3 "
         )
     );
-}
-
-// Adds how far an index covers the rows.
-fn add_cover(out: &mut Vec<u8>, cover: &Cover) -> Result<(), AllocError> {
-    match cover {
-        Cover::Nothing => out.extend_from_slice(b"nothing")?,
-        Cover::UpTo(last) => last.write_hex(out)?,
-        Cover::Whole => out.extend_from_slice(b"whole")?,
-    }
-    Ok(())
-}
-
-// A step of building over the three rows, for the filtered index.
-fn step(alloc: Global, cover: &Cover, count: usize) -> Result<BuildStep, Refusal> {
-    let def = filtered(alloc)?;
-    let tree = three_rows(alloc)?;
-    Ok(build_step(alloc, &def, cover, &tree, count)?)
-}
-
-// What such a step sends and covers, and how many rows it reads.
-fn step_text(alloc: Global, cover: &Cover, count: usize) -> Result<Vec<u8>, Refusal> {
-    let step = step(alloc, cover, count)?;
-    let mut out = packet_text(alloc, &step.packet)?;
-    add_cover(&mut out, &step.cover)?;
-    let read = format!(in alloc; " {}", step.read)?;
-    out.extend_from_slice(read.as_bytes())?;
-    Ok(out)
-}
-
-// The same behind the row of an id.
-fn step_behind(alloc: Global, id: i64, count: usize) -> Result<Vec<u8>, Refusal> {
-    let cover = Cover::UpTo(key(alloc, id)?);
-    step_text(alloc, &cover, count)
-}
-
-#[test]
-fn steps_of_building(rt: HostRuntime) {
-    for (count, expected) in [
-        (0, "nothing 0"),
-        (1, "8000000000000001 1"),
-        (2, "+80000000000000148000000000000002 2 8000000000000002 2"),
-    ] {
-        assert!(rt; is_text(step_text(rt.alloc(), &Cover::Nothing, count), expected));
-    }
-    for (id, count, expected) in [
-        (2, 0, "8000000000000002 0"),
-        (
-            2,
-            1,
-            "+800000000000001e8000000000000003 3 8000000000000003 1",
-        ),
-        (2, 5, "+800000000000001e8000000000000003 3 whole 1"),
-        (3, 1, "whole 0"),
-    ] {
-        assert!(rt; is_text(step_behind(rt.alloc(), id, count), expected));
-    }
-    assert!(rt; is_text(step_text(rt.alloc(), &Cover::Whole, 1), "whole 0"));
-}
-
-// Why there is no index on columns that includes others, with a filter of a constant on a column.
-fn refused_text(
-    alloc: Global,
-    on: &str,
-    include: &str,
-    column: &str,
-    constant: &str,
-) -> Result<Vec<u8>, AllocError> {
-    let filter = at_least(alloc, column, constant)?;
-    match index(alloc, on, include, Some(&filter)) {
-        Ok(_def) => Vec::from_slice(alloc, b"none"),
-        Err(refusal) => refusal_text(alloc, refusal),
-    }
-}
-
-#[test]
-fn definitions_are_refused(rt: HostRuntime) {
-    let five = "id qty id qty id";
-    let nine = "id id id id id id id id id";
-    let table = [
-        ("qty", "id", "qty", "15", "none"),
-        (five, "", "qty", "15", "TooMany 0"),
-        ("qty", nine, "qty", "15", "TooMany 0"),
-        ("price", "", "qty", "15", "NoSuchColumn 0"),
-        ("qty", "price", "qty", "15", "NoSuchColumn 0"),
-        ("qty", "", "qty", "many", "BadField 1"),
-        (five, "price", "qty", "many", "BadField 1"),
-        (five, "price", "price", "many", "TooMany 0"),
-    ];
-    for (on, include, column, constant, expected) in table {
-        let refused = refused_text(rt.alloc(), on, include, column, constant);
-        assert!(rt; is_text(refused, expected));
-    }
 }

@@ -1,7 +1,5 @@
 //! Packets, buffers and what messages make of values.
-use crate::samples::{
-    Sample, Sent, buffer_text, is_text, key, message, messages_text, packet, packet_text,
-};
+use crate::samples::{Sample, Sent, buffer_text, is_text, key, message, packet, packet_text};
 use bt_keycode::Key;
 use bt_messages::{Buffer, Entry, effect};
 use bt_rowtype::Row;
@@ -55,25 +53,6 @@ fn newer_messages_come_after_older_ones(rt: HostRuntime) {
     let expected = "+a1 ~a5 +b2 +c3 -c0 ~c4 ";
     assert!(rt; is_text(filled_text::<Row>(rt.alloc()), expected));
     assert!(rt; is_text(filled_text::<Entry>(rt.alloc()), expected));
-}
-
-// The messages of a packet, gone through.
-fn packet_gone_through(alloc: Global) -> Result<Vec<u8>, AllocError> {
-    let batch = packet::<Row>(alloc, &[("b", Sent::Del), ("a", Sent::Put(1))])?;
-    messages_text(alloc, batch.iter())
-}
-
-// The messages of a buffer from a key on, gone through.
-fn gone_through_from(alloc: Global, from: &str) -> Result<Vec<u8>, AllocError> {
-    let buffer = filled::<Row>(alloc)?;
-    let from = key(alloc, from)?;
-    messages_text(alloc, buffer.iter_from(&from))
-}
-
-#[test]
-fn messages_are_gone_through(rt: HostRuntime) {
-    assert!(rt; is_text(packet_gone_through(rt.alloc()), "+a1 -b0 "));
-    assert!(rt; is_text(gone_through_from(rt.alloc(), "b"), "+b2 +c3 -c0 ~c4 "));
 }
 
 // Takes the messages of a range out of a buffer, and adds them with a bar behind.

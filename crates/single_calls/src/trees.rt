@@ -1,16 +1,11 @@
 //! Trees of rows, and of index values.
-ghost use Rattle.std.specs.Prelude.{◌++◌};
-
 use crate::samples::{Sample, Sent, add_message, add_value, is_text, key, packet};
 use bt_keycode::Key;
-use bt_messages::{Bins, Entry, Joined, Merge, Packet};
-use bt_node::{
-    Node, Parts, Shape, Siblings, Tree, Visitor, Walk, absorb_alone, crown, pack, regroup,
-};
+use bt_messages::{Bins, Entry, Joined, Packet};
+use bt_node::{Node, Parts, Shape, Siblings, Tree, Walk, absorb_alone, crown, pack, regroup};
 use bt_plan::plan;
 use bt_rowtype::{Refusal, Row};
 use std::alloc::{AllocError, Global};
-use std::marker::Model;
 
 // A tree after a batch.
 fn after<V: Sample>(
@@ -127,195 +122,6 @@ fn messages_are_pending(rt: HostRuntime) {
     );
 }
 
-// The tree of four puts after four messages, two to each leaf: of equal children the left one is flushed.
-fn flushed<V: Sample>(alloc: Global) -> Result<Tree<V>, Refusal> {
-    let batch = [
-        ("d", Sent::Del),
-        ("a", Sent::Ups(5)),
-        ("c", Sent::Put(31)),
-        ("b", Sent::Del),
-    ];
-    Ok(after(alloc, four_puts(alloc)?, &batch)?)
-}
-
-fn flushed_text<V: Sample>(alloc: Global) -> Result<Vec<u8>, Refusal> {
-    Ok(tree_text(alloc, &flushed::<V>(alloc)?)?)
-}
-
-#[test]
-fn the_left_child_is_flushed(rt: HostRuntime) {
-    assert!(rt;
-        is_text(
-            flushed_text::<Row>(rt.alloc()),
-            "+c31 -d0 |a15 c|c30 d40 : a15 c31 "
-        )
-    );
-    assert!(rt;
-        is_text(
-            flushed_text::<Entry>(rt.alloc()),
-            "+c31 -d0 |a5 c|c30 d40 : a5 c31 "
-        )
-    );
-}
-
-// Adds the value at a key, or a bar where there is none.
-fn add_found<V: Sample>(
-    alloc: Global,
-    out: &mut Vec<u8>,
-    key: &Key,
-    found: &Option<V>,
-) -> Result<(), AllocError> {
-    match found {
-        Some(value) => add_value(alloc, out, key, value),
-        None => out.extend_from_slice(b"| "),
-    }
-}
-
-// Adds the value that a tree has at the key of these letters.
-fn add_at<V: Sample>(
-    alloc: Global,
-    out: &mut Vec<u8>,
-    tree: &Tree<V>,
-    letters: &str,
-) -> Result<(), AllocError> {
-    let key = key(alloc, letters)?;
-    let found = tree.get(alloc, &key)?;
-    add_found(alloc, out, &key, &found)
-}
-
-// The values that a tree has at some keys.
-fn found_text<V: Sample>(
-    alloc: Global,
-    tree: &Tree<V>,
-    keys: &[&str],
-) -> Result<Vec<u8>, AllocError> {
-    let mut out = Vec::new(alloc);
-    for letters in keys {
-        add_at(alloc, &mut out, tree, letters)?;
-    }
-    Ok(out)
-}
-
-fn flushed_at(alloc: Global, keys: &[&str]) -> Result<Vec<u8>, Refusal> {
-    let tree = flushed::<Row>(alloc)?;
-    Ok(found_text(alloc, &tree, keys)?)
-}
-
-#[test]
-fn keys_are_looked_up(rt: HostRuntime) {
-    let keys = ["a", "b", "c", "d", "e"];
-    assert!(rt; is_text(flushed_at(rt.alloc(), &keys), "a15 | c31 | | "));
-}
-
-// The value at a key, by the walk.
-fn walked_at<V: Sample>(alloc: Global, tree: &Tree<V>, key: &Key) -> Result<Vec<u8>, AllocError> {
-    let mut out = Vec::new(alloc);
-    add_found(alloc, &mut out, key, &tree.walk().get(alloc, key)?)?;
-    Ok(out)
-}
-
-fn pending_at(alloc: Global, letters: &str) -> Result<Vec<u8>, Refusal> {
-    let tree = pending::<Row>(alloc)?;
-    Ok(walked_at(alloc, &tree, &key(alloc, letters)?)?)
-}
-
-#[test]
-fn a_walk_looks_a_key_up(rt: HostRuntime) {
-    assert!(rt; is_text(pending_at(rt.alloc(), "a"), "a30 "));
-}
-
-// The values of a tree between two keys, by the walk.
-fn walked_between<V: Sample>(
-    alloc: Global,
-    tree: &Tree<V>,
-    from: Option<&Key>,
-    to: Option<&Key>,
-) -> Result<Vec<u8>, AllocError> {
-    let rows = tree.walk().rows(alloc, from, to)?;
-    values_text(alloc, rows.as_slice())
-}
-
-fn pending_between(alloc: Global) -> Result<Vec<u8>, Refusal> {
-    let tree = pending::<Row>(alloc)?;
-    let from = key(alloc, "b")?;
-    let to = key(alloc, "d")?;
-    Ok(walked_between(alloc, &tree, Some(&from), Some(&to))?)
-}
-
-fn pending_everywhere(alloc: Global) -> Result<Vec<u8>, Refusal> {
-    let tree = pending::<Row>(alloc)?;
-    Ok(walked_between(alloc, &tree, None, None)?)
-}
-
-#[test]
-fn a_walk_gives_the_rows_between_two_keys(rt: HostRuntime) {
-    assert!(rt; is_text(pending_between(rt.alloc()), "b20 c30 "));
-    assert!(rt; is_text(pending_everywhere(rt.alloc()), "a30 b20 c30 d0 "));
-}
-
-// The keys of the rows that were shown, one after the other.
-#[derive(Drop)]
-struct Shown {
-    keys: Vec<u8>,
-}
-
-impl Model for Shown {
-    ghost use Rattle.std.specs.Prelude.{List, ℕ};
-
-    ghost Value = { List ℕ };
-
-    ghost view = { λ s. s.keys.items };
-}
-
-impl<V: Merge> Visitor<V> for Shown {
-    ghost visited = { λ keys row. keys ++ row.0 };
-
-    fn visit(&mut self, _alloc: Global, key: &Key, _value: &V) -> Result<(), AllocError> {
-        self.keys.extend_from_slice(key.as_slice())?;
-        Ok(())
-    }
-}
-
-// The keys of the first rows from a key on, by the walk.
-fn first_keys<V: Sample>(
-    alloc: Global,
-    tree: &Tree<V>,
-    from: Option<&Key>,
-    count: usize,
-) -> Result<Vec<u8>, AllocError> {
-    let mut shown = Shown {
-        keys: Vec::new(alloc),
-    };
-    tree.walk().visit_first(alloc, from, count, &mut shown)?;
-    let Shown { keys } = shown;
-    Ok(keys)
-}
-
-// The keys of the first rows of a tree of which two are deleted by messages, one in its leaf and one on the way to it.
-fn first_flushed(alloc: Global, from: &str, count: usize) -> Result<Vec<u8>, Refusal> {
-    let tree = flushed::<Row>(alloc)?;
-    let from = key(alloc, from)?;
-    Ok(first_keys(alloc, &tree, Some(&from), count)?)
-}
-
-fn first_pending(alloc: Global, count: usize) -> Result<Vec<u8>, Refusal> {
-    Ok(first_keys(alloc, &pending::<Entry>(alloc)?, None, count)?)
-}
-
-#[test]
-fn a_walk_shows_the_first_rows(rt: HostRuntime) {
-    for (from, count, expected) in [
-        ("a", 1, "a"),
-        ("a", 9, "ac"),
-        ("b", 1, "c"),
-        ("b", 0, ""),
-        ("d", 2, ""),
-    ] {
-        assert!(rt; is_text(first_flushed(rt.alloc(), from, count), expected));
-    }
-    assert!(rt; is_text(first_pending(rt.alloc(), 3), "abc"));
-}
-
 // A tree after a packet, by the two steps of a sink.
 fn absorbed<V: Sample>(
     alloc: Global,
@@ -414,22 +220,6 @@ fn rows_are_packed(rt: HostRuntime) {
         is_text(
             packed_text(rt.alloc()),
             "|a10 b20 c|c30 d40 : a10 b20 c30 d40 "
-        )
-    );
-}
-
-// The tree with pending messages, drained.
-fn drained_text(alloc: Global) -> Result<Vec<u8>, Refusal> {
-    let drained = pending::<Row>(alloc)?.drain(alloc)?;
-    Ok(tree_text(alloc, &drained)?)
-}
-
-#[test]
-fn a_drained_tree_has_no_messages(rt: HostRuntime) {
-    assert!(rt;
-        is_text(
-            drained_text(rt.alloc()),
-            "|a30 b20 c|c30 d0 : a30 b20 c30 d0 "
         )
     );
 }

@@ -1,8 +1,8 @@
 //! Fields, records and rows.
 use crate::samples::{fields, is_text, refusal_text, row_text, shops, short_text};
 use bt_rowtype::{
-    Kind, Reading, RecordLine, RecordReader, Refusal, Row, Schema, Texts, Value, clone_all,
-    copy_row, read_field, read_key, read_record, read_row, write_record,
+    Kind, Refusal, Row, Value, clone_all, copy_row, read_field, read_key, read_record, read_row,
+    write_record,
 };
 use std::alloc::{AllocError, Global};
 use std::slice;
@@ -20,35 +20,13 @@ fn fields_of_each_kind(rt: HostRuntime) {
     for (kind, field, expected) in [
         (Kind::Int, "-0", "0"),
         (Kind::Int, "007", "7"),
-        (Kind::Int, "-9223372036854775808", "-9223372036854775808"),
         (Kind::Int, "9223372036854775808", "BadField 1"),
         (Kind::Int, "+1", "BadField 1"),
         (Kind::Int, "", "BadField 1"),
-        (Kind::Text, " 1\n", "\" 1\n\""),
         (Kind::Text, "Zürich", "Zürich"),
         (Kind::Flag, "tRuE", "true"),
-        (Kind::Flag, "False", "false"),
-        (Kind::Flag, "truee", "BadField 1"),
     ] {
         assert!(rt; is_text(field_text(rt.alloc(), kind, field), expected));
-    }
-}
-
-// Whether a text field of these bytes is read as they stand.
-fn is_read_as_text(alloc: Global, field: &[u8]) -> bool {
-    matches!(read_field(alloc, Kind::Text, field), Ok(Value::Text(text)) if text.as_bytes() == field)
-}
-
-#[test]
-fn texts_of_bytes(rt: HostRuntime) {
-    let alloc = rt.alloc();
-    let long = [b'a'; 256];
-    assert!(rt; is_read_as_text(alloc, &long[..255]));
-    assert!(rt; !is_read_as_text(alloc, &long));
-    // a byte that begins no character, one cut short, one written too long, and half of a pair
-    let broken: [&[u8]; 4] = [b"\xFF", b"a\xC3", b"\xC0\x80", b"\xED\xA0\x80"];
-    for text in broken {
-        assert!(rt; !is_read_as_text(alloc, text));
     }
 }
 
@@ -132,74 +110,9 @@ fn record_text(alloc: Global, line: &[u8]) -> Result<Vec<u8>, AllocError> {
 
 #[test]
 fn records_are_read(rt: HostRuntime) {
-    let lines: [(&[u8], &str); 7] = [
-        (b"1,,-2", "|1||-2"),
-        (b"\"1,2\",\"a\"\"b\" c", "|1,2|a\"b c"),
-        (b"\xEF\xBB\xBF1", "|1"),
-        (b"\"1,2", "|1,2"),
-        (b"\xEF\xBB\xBF", ""),
-        (b"1\r,2", ""),
-        (b"\xEF\xBB\xBF\xEF\xBB\xBF1", ""),
-    ];
+    let lines: [(&[u8], &str); 2] = [(b"\"1,2\",,\"a\"\"b\" c", "|1,2||a\"b c"), (b"1\r,2", "")];
     for (line, expected) in lines {
         assert!(rt; is_text(record_text(rt.alloc(), line), expected));
-    }
-}
-
-// Adds what was read, behind a bar.
-fn add_read(
-    alloc: Global,
-    out: &mut Vec<u8>,
-    read: Result<Row, Refusal>,
-) -> Result<(), AllocError> {
-    let text = row_text(alloc, read)?;
-    out.extend_from_slice(b"|")?;
-    out.extend_from_slice(text.as_slice())
-}
-
-// Adds the row that a reader reads of a line, and behind it the key.
-fn add_line(
-    alloc: Global,
-    out: &mut Vec<u8>,
-    reader: &mut RecordReader,
-    schema: &Schema,
-    line: &str,
-) -> Result<(), AllocError> {
-    if let Some(line) = RecordLine::new(line.as_bytes()) {
-        add_read(alloc, out, reader.read_row(alloc, schema, 3, &line))?;
-        add_read(alloc, out, reader.read_key(alloc, schema, 5, &line))?;
-    }
-    Ok(())
-}
-
-// The rows that one reader reads of lines of the shops in turn, and behind each the keys, each behind a bar.
-fn rows_in_turn(alloc: Global, lines: &[&str]) -> Result<Vec<u8>, Refusal> {
-    let schema = shops(alloc)?;
-    let mut reader = RecordReader::new(alloc);
-    let mut out = Vec::new(alloc);
-    for line in lines {
-        add_line(alloc, &mut out, &mut reader, &schema, line)?;
-    }
-    Ok(out)
-}
-
-#[test]
-fn lines_are_read_in_turn(rt: HostRuntime) {
-    let long = "|BadLength 3|BadLength 5";
-    for (lines, expected) in [
-        (
-            ["1,2,Bonn,true", "\"3\"", "4,5,,no"],
-            "|1,2,Bonn,true|BadLength 5|BadLength 3|3|BadField 3|BadLength 5",
-        ),
-        (
-            ["\"3\",4,\"a, b\",false", "5", "\r"],
-            "|3,4,\"a, b\",false|BadLength 5|BadLength 3|5",
-        ),
-        (["", "8,9,x,true,10", ""], long),
-        (["", "\"8\",9,x,true,10", ""], long),
-        (["", "\"8,9,x\",true", "\n"], long),
-    ] {
-        assert!(rt; is_text(rows_in_turn(rt.alloc(), &lines), expected));
     }
 }
 
@@ -217,52 +130,11 @@ fn texts_record(alloc: Global, texts: &str) -> Result<Vec<u8>, AllocError> {
 #[test]
 fn records_are_written(rt: HostRuntime) {
     for (texts, expected) in [
-        ("plain|é b", "row plain,é b"),
-        ("a,b|\"", "row \"a,b\",\"\"\"\""),
-        ("two\nlines|a\rb", "row \"two\nlines\",\"a\rb\""),
-        ("a||c", "row a,,c"),
+        ("plain||a,b|\"", "row plain,,\"a,b\",\"\"\"\""),
         ("", "row \"\""),
     ] {
         assert!(rt; is_text(texts_record(rt.alloc(), texts), expected));
     }
-}
-
-// Whether a list of two texts has these texts.
-fn are_listed(alloc: Global, first: &str, last: &str) -> Result<bool, AllocError> {
-    let mut texts = Texts::new(alloc);
-    texts.push(first)?;
-    texts.push(last)?;
-    match texts.as_slice() {
-        [one, other] => Ok(one.as_str() == first && other.as_str() == last),
-        _ => Ok(false),
-    }
-}
-
-#[test]
-fn lists_of_texts(rt: HostRuntime) {
-    assert!(rt; matches!(are_listed(rt.alloc(), "betable", "--help"), Ok(true)));
-}
-
-// What is had by reading these one after another.
-fn all_of(alloc: Global, reads: &[Result<u8, Refusal>]) -> Result<Vec<u8>, Refusal> {
-    let mut reading = Reading::new(alloc);
-    for read in reads {
-        reading.add(*read)?;
-    }
-    Ok(reading.finish()?.into_vec())
-}
-
-#[test]
-fn one_is_read_after_another(rt: HostRuntime) {
-    let read = [Ok(b'a'), Ok(b'b')];
-    assert!(rt; is_text(all_of(rt.alloc(), &read), "ab"));
-    let refused = [
-        Err(Refusal::BadLength(1)),
-        Err(Refusal::BadField(3)),
-        Ok(b'a'),
-        Err(Refusal::BadField(2)),
-    ];
-    assert!(rt; matches!(all_of(rt.alloc(), &refused), Err(Refusal::BadField(2))));
 }
 
 // Copies of pairs of a number and a text, as one record.

@@ -1,7 +1,6 @@
-use Rattle.std.proofs.Common.{◌≡◌, rules, subst, sym}
+use Rattle.std.proofs.Common.{◌≡◌, rules, subst}
 use Rattle.bt_messages.specs.Effects.{effect_of}
 use Rattle.bt_node.specs.Fits.{AreFit, IsRoomy}
-use Rattle.bt_node.specs.Trees.{Shape}
 use Rattle.replay_cuts.proofs.Turning.{cut-in_order, cut-turned, turned-in_order}
 use Rattle.replay_cuts.proofs.pieces.in_pieces.Goals as goal
 

@@ -1,7 +1,0 @@
-use Rattle.std.proofs.Common.{subst, sym}
-use Rattle.bt_node.specs.Fits.{IsInOrder}
-use Rattle.bt_node.proofs.offered.ShapedTrees.{shaped-in_order}
-use Rattle.single_calls.proofs.trees.first_keys.Goals as goal
-
-pub visit_first-requires : goal.visit_first-requires
-visit_first-requires g c = subst IsInOrder (sym c.walk.ensures.root) (shaped-in_order _ _ c.walk.ensures.fits)
