@@ -1,5 +1,5 @@
 //! Places of holes, and the pieces that stand there.
-ghost use Rattle.std.specs.Prelude.{◌≡◌, ◌<◌, ◌++◌, [], IfOk, IfSome, MatchOption, None, OnOk, Some, false, length, map, option_map, replicate, slice_get};
+ghost use Rattle.std.specs.Prelude.{◌≡◌, ◌<◌, ◌++◌, [], IfOk, IfSome, MatchOption, None, OnOk, Some, false, length, map, option_map, replicate, slice_get, true};
 ghost use Rattle.std.specs.Option.{unwrap_or};
 ghost use Rattle.bt_gather.specs.Misfits.{AreRising, first_misfit, is_among};
 ghost use Rattle.bt_gather.specs.Views.{misfit_of, pieces_of, places_of};
@@ -45,12 +45,26 @@ pub(crate) fn hole_places<V: Merge>(
     Ok(places)
 }
 
-// The number of the hole at a place, if there is one, found by halving.
-fn hole_at(places: &[Place], place: &Place) -> Option<usize>
+// Whether the hole of a number stands at a place.
+fn stands_at(places: &[Place], hole: usize, place: &Place) -> bool
+    ensures bound { result ≡ true → hole < length places.now }
+    ensures stands { result ≡ true → slice_get (places_of places.now) hole ≡ Some (place_of place.now) }
+{
+    if hole < places.len() {
+        return places[hole].compare(place).is_eq();
+    }
+    false
+}
+
+// The number of the hole at a place, if there is one: that of a guess, or found by halving.
+fn hole_at(places: &[Place], place: &Place, guess: usize) -> Option<usize>
     requires { AreRising (places_of places.now) }
     ensures bound { IfSome result (λ hole. hole < length places.now) }
     ensures stands { MatchOption result (is_among (place_of place.now) (places_of places.now) ≡ false) (λ hole. slice_get (places_of places.now) hole ≡ Some (place_of place.now)) }
 {
+    if stands_at(places, guess, place) {
+        return Some(guess);
+    }
     match places.binary_search_by(|hole| hole.compare(place)) {
         Ok(hole) => Some(hole),
         Err(_) => None,
@@ -91,14 +105,16 @@ pub(crate) fn first_misfit<V: Merge>(
     ensures { IfOk result (λ found. option_map misfit_of found ≡ first_misfit (places_of places.now) [] (pieces_of pieces.now)) }
 {
     let mut marks = no_marks(alloc, places.len())?;
+    let mut next = 0;
     for piece in pieces {
-        let Some(hole) = hole_at(places, &piece.0) else {
+        let Some(hole) = hole_at(places, &piece.0, next) else {
             return Ok(Some(Misfit::Stranger(piece.0.copy())));
         };
         if marks[hole] {
             return Ok(Some(Misfit::Double(piece.0.copy())));
         }
         marks[hole] = true;
+        next = hole + 1;
     }
     Ok(first_unmarked(places, marks.as_slice()))
 }
@@ -144,11 +160,13 @@ pub(crate) fn seated<V: Merge>(
     ensures { IfOk result (λ slots. slots.items ≡ map (piece_at (pieces_of pieces.items)) (places_of places.now)) }
 {
     let mut slots = empty_slots(alloc, places.len())?;
+    let mut next = 0;
     for (place, siblings) in pieces {
-        let Some(hole) = hole_at(places, &place) else {
+        let Some(hole) = hole_at(places, &place, next) else {
             unreachable!()
         };
         slots[hole] = Some(siblings);
+        next = hole + 1;
     }
     all_held(alloc, slots)
 }

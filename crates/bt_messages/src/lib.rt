@@ -25,6 +25,7 @@ mod packet;
 mod places;
 mod share;
 mod sorted;
+mod split;
 mod stream;
 
 pub use bins::Bins;

@@ -34,23 +34,18 @@ fn time_once<R: Clock + AllocGlobal>(rt: &R, table: &Batches<'_>, depth: usize) 
     Ok(time)
 }
 
-// The least time of some rounds.
-fn least_time<R: Clock + AllocGlobal>(rt: &R, table: &Batches<'_>, depth: usize) -> Result<Duration>
-    requires { depth ≤ 3 }
-{
-    let mut least = Duration::MAX;
-    for _ in 0..ROUNDS {
-        least = least.min(time_once(rt, table, depth)?);
-    }
-    Ok(least)
-}
-
-/// Prints how long all flushes of a script take, as a whole, which is depth 0, and at each depth.
+/// Prints how long all flushes of a script take, as a whole, which is depth 0, and at each depth: the least of some rounds, in each of which all depths
+/// take their turn.
 pub(crate) fn time<R: Clock + Print + AllocGlobal>(rt: &R, script: &[u8]) -> Result<()> {
     let table = Batches::read(rt.alloc(), script)?;
+    let mut least = [Duration::MAX; 4];
+    for _ in 0..ROUNDS {
+        for depth in 0..4usize {
+            least[depth] = least[depth].min(time_once(rt, &table, depth)?);
+        }
+    }
     for depth in 0..4usize {
-        let time = least_time(rt, &table, depth)?;
-        println!(rt; "  depth {depth}: {} us", time.as_micros())?;
+        println!(rt; "  depth {depth}: {} us", least[depth].as_micros())?;
     }
     Ok(())
 }

@@ -1,0 +1,48 @@
+use Rattle.std.proofs.Common.{◌≡◌, ◌<◌, ◌-◌, ◌∙◌, ap, arith, drop, get_or, length, rules, subst, sym, take}
+use Rattle.std.proofs.lemmas.Grind.{common_steps}
+use Rattle.bt_keycode.specs.Keys.{IsSorted}
+use Rattle.bt_messages.proofs.Sharing.{any_default}
+use Rattle.bt_messages.proofs.Splits.{all_split, part_split, size_less, sizes_left, sorted_drop}
+use Rattle.bt_messages.proofs.offered.Fronts.{sorted_take}
+use Rattle.bt_messages.proofs.split.split.Goals as goal
+
+pub overflow_sub-len : goal.overflow_sub-len
+overflow_sub-len g c =
+    let ns = c.args.sizes.now in
+    let i = c.loop-done.done in
+    let m = get_or ns (length ns - 1 - i) 0 in
+    let xs = c.loop-done.rest.items in
+    let within : i < length ns = c.loop-done-test.true in
+    let here = any_default ns (length ns - 1 - i) 0 m (omega (arith, within)) in
+    let long : c.len.result ≡ length xs = search rules in
+    omega (arith, size_less ns i m within here xs c.loop-done.invariant.sizes, long)
+
+pub from_sorted-requires : goal.from_sorted-requires
+from_sorted-requires g c = subst IsSorted (sym c.in_ok-part.ensures.tail) (sorted_drop _ c.loop-done.rest.items c.loop-done.invariant.sorted)
+
+pub loop-done-preserved : goal.loop-done-preserved
+loop-done-preserved g c =
+    let ns = c.args.sizes.now in
+    let i = c.loop-done.done in
+    let m = get_or ns (length ns - 1 - i) 0 in
+    let xs = c.loop-done.rest.items in
+    let within : i < length ns = c.loop-done-test.true in
+    let here = any_default ns (length ns - 1 - i) 0 m (omega (arith, within)) in
+    let long : c.len.result ≡ length xs = search rules in
+    let sizes = c.loop-done.invariant.sizes in
+    let rest : c.split_off.new.self.items ≡ take (length xs - m) xs = c.in_ok-part.ensures.items ∙ ap (λ n. take (n - m) xs) long in
+    let part : c.from_sorted.result ≡ drop (length xs - m) xs = c.from_sorted.ensures ∙ c.in_ok-part.ensures.tail ∙ ap (λ n. drop (n - m) xs) long in
+    record {
+      parts = part_split ns i m within here xs sizes c.split_off.new.self.items c.from_sorted.result c.loop-done.parts.items c.push_reserved.new.self.items _ rest part
+          c.push_reserved.ensures.items c.loop-done.invariant.parts;
+      sizes = sizes_left ns i m within here xs sizes c.split_off.new.self.items rest;
+      sorted = subst IsSorted (sym rest) (sorted_take (length xs - m) xs c.loop-done.invariant.sorted);
+      len = grind (arith, common_steps);
+      capacity = grind (arith, common_steps);
+    }
+
+pub returns : goal.returns
+returns g c =
+    let ns = c.args.sizes.now in
+    let i = c.loop-done.done in
+    c.reversed.ensures ∙ all_split ns i c.loop-done.rest.items c.loop-done.parts.items _ (omega (arith, c.loop-done-test.false)) c.loop-done.invariant.parts
