@@ -29,6 +29,11 @@ not_zero n = grind (arith, nat_tests)
 pub escaped-kept : (n : ℕ) (bs : List ℕ) → escaped (suc n ∷ bs) ≡ suc n ∷ escaped bs
 escaped-kept n bs = rw (not_zero n) refl
 
+-- the first byte, and the others
+pub escaped-first : (b : ℕ) (bs : List ℕ) → escaped (b ∷ bs) ≡ escaped (b ∷ []) ++ escaped bs
+escaped-first zero bs = refl
+escaped-first (suc n) bs = escaped-kept n bs ∙ sym (ap (λ cs. cs ++ escaped bs) (escaped-kept n []))
+
 zero_first : (n : ℕ) → nat_cmp 0 (suc n) ≡ Less
 zero_first n = let less : 0 < suc n = omega arith in sym (nat_cmp_is 0 (suc n) Less less)
 

@@ -1,5 +1,5 @@
 //! Values from their key code.
-ghost use Rattle.std.specs.Prelude.{◌≡◌, ◌<◌, ◌≤◌, ◌∷◌, [], IfErr, IfOk, IfSome, IfNone, IsErrOf, List, None, Some, false, true, length, take, ℕ};
+ghost use Rattle.std.specs.Prelude.{◌≡◌, ◌<◌, ◌≤◌, ◌++◌, ◌∷◌, [], IfErr, IfOk, IfSome, IfNone, IsErrOf, List, None, Some, false, true, length, take, ℕ};
 ghost use Rattle.bt_keycode.specs.Codes.{IsCodeOf, raised};
 ghost use Rattle.bt_keycode.specs.Decoding.{BeginsWith, BeginsWithAll, BeginsWithNo, BeginsWithNone, IsCode, IsNoCode, after_bytes, ended, unescaped};
 ghost use Rattle.bt_rowtype.specs.Texts.{is_text};
@@ -174,6 +174,21 @@ fn is_code(kinds: &[Kind], bytes: &[u8]) -> bool
     code.is_empty()
 }
 
+// Adds the value of this kind with whose code the bytes begin to a row, and answers what comes after it.
+fn read_onto<'a>(
+    row: &mut Row,
+    alloc: Global,
+    kind: Kind,
+    bytes: &'a [u8],
+) -> Result<&'a [u8], DecodeError>
+    ensures found { IfOk result (λ rest. (read : value) × ((row.new ≡ row.old ++ read ∷ []) × BeginsWith kind bytes.now read rest.now)) }
+    ensures none { IsErrOf result DecodeError.NotACode → BeginsWithNo kind bytes.now }
+{
+    let (value, rest) = read_value(alloc, kind, bytes)?;
+    row.push(alloc, value.as_ref())?;
+    Ok(rest)
+}
+
 // The row of the values of these kinds with whose code the bytes begin, and what comes after it.
 fn read_values<'a>(
     alloc: Global,
@@ -186,9 +201,7 @@ fn read_values<'a>(
     let mut row = Row::new();
     let mut code = bytes;
     for kind in kinds {
-        let (value, rest) = read_value(alloc, *kind, code)?;
-        row.push(alloc, value.as_ref())?;
-        code = rest;
+        code = read_onto(&mut row, alloc, *kind, code)?;
     }
     Ok((row, code))
 }
