@@ -47,6 +47,10 @@ pub record Wrote (values rest : List Value) (place : ℕ) (old out : List ℕ) :
   pub text : out ≡ old ++ row_body default_writer (take count (map text_of values))
   pub separator : next_sep default_writer place ≡ next_sep default_writer count
 
+-- before the first
+pub wrote_none : (values : List Value) (old : List ℕ) → Wrote values values 0 old old
+wrote_none values old = record { count = 0; left = refl; text = sym (append-nil old); separator = refl }
+
 -- the first of what is left
 pub record First (values : List Value) (count : ℕ) (v : Value) (rest : List Value) : Type 0 where
   pub within : count < length values

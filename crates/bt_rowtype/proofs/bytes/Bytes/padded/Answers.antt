@@ -1,11 +1,43 @@
-use Rattle.std.proofs.Common.{ℕ, List, ◌≡◌, sym, length, rules}
-use Rattle.bt_rowtype.specs.Shorts.{padded}
-use Rattle.bt_rowtype.proofs.Paddings.{padded-all}
+use Rattle.std.proofs.Common.{ℕ, List, ◌≡◌, ◌<◌, ◌∙◌, arith, ap, subst, sym, length, take, Box, Vec, Global}
+use Rattle.bt_rowtype.specs.Limits.{most_short}
+use Rattle.bt_rowtype.specs.Shorts.{FitsInside, bytes_of, padded}
+use Rattle.bt_rowtype.specs.declared.bytes.Kept.{Kept}
+use Rattle.bt_rowtype.specs.declared.bytes.Kept.TheVariants.{Short, Long}
+use Rattle.bt_rowtype.proofs.Paddings.{length-padded, padded-all}
 use Rattle.bt_rowtype.proofs.bytes.Bytes.padded.Goals as goal
 
--- the bytes themselves
-whole : (seen bytes : List ℕ) → seen ≡ bytes → seen ≡ padded (length seen) bytes
-whole seen bytes is = rw is (sym (padded-all bytes))
+-- all places of a value that keeps its bytes in itself
+all_places : (kept : Kept) (len : ℕ) (places seen bytes : List ℕ) → kept ≡ Short len places → FitsInside kept → bytes_of kept ≡ bytes → seen ≡ places → (length seen ≡ most_short) × (seen ≡ padded most_short bytes)
+all_places kept len places seen bytes is fits shown same =
+    let inside : FitsInside (Short len places) = subst FitsInside is fits in
+    let front : take len places ≡ bytes = sym (ap bytes_of is) ∙ shown in
+    let whole : seen ≡ padded most_short bytes = same ∙ inside.1 ∙ ap (λ (bs : List ℕ). padded most_short bs) front in
+    (ap length whole ∙ length-padded most_short bytes, whole)
+
+pub returns-in-Short-clause-bytes : goal.returns-in-Short-clause-bytes
+returns-in-Short-clause-bytes c =
+    let seen = all_places c.self.inside.kept c.in-Short.field-0 c.in-Short.bytes c.as_slice.result.now c.args.self.now c.in-Short.is c.self.invariant c.self.view_is c.as_slice.ensures in
+    seen.1 ∙ ap (λ n. padded n c.args.self.now) (sym seen.0)
+
+pub returns-in-Short-clause-room : goal.returns-in-Short-clause-room
+returns-in-Short-clause-room c =
+    let seen = all_places c.self.inside.kept c.in-Short.field-0 c.in-Short.bytes c.as_slice.result.now c.args.self.now c.in-Short.is c.self.invariant c.self.view_is c.as_slice.ensures in
+    omega (arith, seen.0)
+
+-- the bytes of a value that keeps them elsewhere, which are more
+all_bytes : (kept : Kept) (long : Box (Vec ℕ Global) Global) (seen bytes : List ℕ) → kept ≡ Long long → FitsInside kept → bytes_of kept ≡ bytes → seen ≡ long.value.items → (most_short < length seen) × (seen ≡ bytes)
+all_bytes kept long seen bytes is fits shown same =
+    let inside : FitsInside (Long long) = subst FitsInside is fits in
+    (omega (arith, inside, ap length same), same ∙ sym (ap bytes_of is) ∙ shown)
 
 pub returns-in-Long-clause-bytes : goal.returns-in-Long-clause-bytes
-returns-in-Long-clause-bytes c = whole c.as_slice-in-Long.result.now c.args.self.now (search rules)
+returns-in-Long-clause-bytes c =
+    let is = c.as_slice-in-Long.ensures.value ∙ ap (λ (v : Vec ℕ Global). v.items) c.deref.ensures in
+    let seen = all_bytes c.self.inside.kept c.in-Long.bytes c.as_slice-in-Long.result.now c.args.self.now c.in-Long.is c.self.invariant c.self.view_is is in
+    rw seen.1 (sym (padded-all c.args.self.now))
+
+pub returns-in-Long-clause-room : goal.returns-in-Long-clause-room
+returns-in-Long-clause-room c =
+    let is = c.as_slice-in-Long.ensures.value ∙ ap (λ (v : Vec ℕ Global). v.items) c.deref.ensures in
+    let seen = all_bytes c.self.inside.kept c.in-Long.bytes c.as_slice-in-Long.result.now c.args.self.now c.in-Long.is c.self.invariant c.self.view_is is in
+    omega (arith, seen.0)
