@@ -104,3 +104,8 @@ module _ {M : Type 0} where
 
     pub enough_next : s' ≡ drop n s → total (drop i ns) ≤ length s → total (drop (i + 1) ns) ≤ length s'
     enough_next left l = omega (arith, l, ap total shares_next, ap length left, length-drop n s)
+
+  -- the room of the next bin
+  pub room_here : (ns : List ℕ) (bs : List (Messages M)) (rs : List (Vec (List ℕ × M) Global)) (i n : ℕ) (old : Messages M) (r : Vec (List ℕ × M) Global) →
+      i < length ns → n ≡ get_or ns i n → i < length bs → old ≡ get_or bs i old → i < length rs → r ≡ get_or rs i r → HaveRoom (drop i ns) (drop i bs) (drop i rs) → HasRoom n old r
+  room_here ns bs rs i n old r within here below old_is beside room_is h = (both ns bs rs i n old old r r [] [] within here below old_is beside room_is h).0

@@ -1,24 +1,66 @@
-use Rattle.std.proofs.Common.{◌≡◌, ◌∷◌, ◌++◌, [], ◌<◌, ◌∙◌, arith, rules, sym}
-use Rattle.std.proofs.lemmas.Grind.{common_steps}
+use Rattle.std.proofs.Common.{◌≡◌, ◌-◌, ◌∷◌, ◌++◌, [], ◌∙◌, ap, arith, drop, length, sym, take, vec_capacity, vec_len}
 use Rattle.bt_messages.specs.Merges.{messages_past}
+use Rattle.bt_messages.specs.Messages.{with_messages}
 use Rattle.bt_messages.proofs.Sharing.{front_step}
 use Rattle.bt_messages.proofs.offered.Fronts.{one_taken}
 use Rattle.bt_messages.proofs.share.merge_each.Goals as goal
 use Rattle.bt_messages.proofs.share.merge_each.Goals.{in-Some, in_default}
 
+pub loop-init : goal.loop-init
+loop-init g c =
+    let same = c.from-older.ensures.0 in
+    let whole : c.args.count - 0 ≡ c.args.count = omega arith in
+    record {
+      wanted = λ i. c.args.merged.now.items ++ with_messages (take (sym whole i) c.args.stream.now) (sym same i);
+      left = ap (λ n. drop n c.args.stream.now) whole;
+      len = omega arith;
+      room = omega (arith, c.requires.room, ap length same, c.args.older.ok.0);
+    }
+
+pub move_up_to-requires : goal.move_up_to-requires
+move_up_to-requires g c = omega (arith, c.loop.invariant.room)
+
+pub push_reserved-requires : goal.push_reserved-requires
+push_reserved-requires g c = omega (arith, c.loop.invariant.room, c.loop-test.true, c.move_up_to.ensures.len, c.move_up_to.ensures.capacity)
+
 pub loop-preserved : goal.loop-preserved
 loop-preserved g c = elim c.match-pop.branch [
   | in-Some w ↦
-      let e : c.loop.stream ≡ (w.in-Some.key, w.in-Some.message) ∷ c.pop.new.self = search rules in
-      let less : c.loop.counter < c.args.count = search rules in
-      let older : c.match-pop.older.items ≡ messages_past w.in-Some.key c.loop.older.items = search rules in
-      let merged : c.match-pop.merged.items ≡ w.move_up_to.new.merged.items ++ (w.in-Some.key, w.in-Some.message) ∷ [] = search rules in
+      let e : c.loop.stream ≡ (w.in-Some.key, w.in-Some.message) ∷ c.pop.new.self = w.in-Some.ensures.first in
+      let older : c.match-pop.older.items ≡ messages_past w.in-Some.key c.loop.older.items = ap (λ q. q.items) w.older-is ∙ w.move_up_to.ensures.left in
+      let merged : c.match-pop.merged.items ≡ w.move_up_to.new.merged.items ++ (w.in-Some.key, w.in-Some.message) ∷ [] = ap (λ v. v.items) w.merged-is ∙ w.push_reserved.ensures.items in
+      let wanted = c.args.merged.now.items ++ with_messages (take c.args.count c.args.stream.now) c.args.older.items in
       record {
-        wanted = front_step (w.in-Some.key, w.in-Some.message) _ _ _ _ _ _ _ _ c.args.count c.loop.counter less e c.pop.ensures.sorted c.loop.invariant.wanted
-            w.move_up_to.ensures.moved older merged;
-        left = sym (one_taken _ _ (w.in-Some.key, w.in-Some.message) c.args.count c.loop.counter less e).1 ∙ c.loop.invariant.left;
-        len = grind (arith, common_steps);
-        room = grind (arith, common_steps);
+        wanted = front_step (w.in-Some.key, w.in-Some.message) c.pop.new.self c.loop.stream c.loop.older.items c.match-pop.older.items wanted c.loop.merged.items w.move_up_to.new.merged.items c.match-pop.merged.items
+            c.args.count c.loop.counter c.loop-test.true e c.pop.ensures.sorted c.loop.invariant.wanted w.move_up_to.ensures.moved older merged;
+        left = sym (one_taken c.loop.stream c.pop.new.self (w.in-Some.key, w.in-Some.message) c.args.count c.loop.counter c.loop-test.true e).1 ∙ c.loop.invariant.left;
+        len = omega (arith, ap length e, c.loop.invariant.len);
+        room = omega (
+          arith,
+          c.loop.invariant.room,
+          c.loop-test.true,
+          w.move_up_to.ensures.len,
+          w.move_up_to.ensures.capacity,
+          w.push_reserved.ensures.len,
+          w.push_reserved.ensures.capacity,
+          ap vec_len w.merged-is,
+          ap vec_capacity w.merged-is,
+          ap (λ q. length q.items) w.older-is,
+        );
       }
-  | in_default w ↦ grind (arith, common_steps)
+  | in_default w ↦ absurd (omega (arith, ap length w.in_default.ensures.first.0, c.loop.invariant.len, c.requires.count, c.loop-test.true))
 ]
+
+pub push_all-requires : goal.push_all-requires
+push_all-requires g c = omega (arith, c.loop.invariant.room)
+
+pub returns-clause-merged : goal.returns-clause-merged
+returns-clause-merged g c =
+    let none : c.args.count - c.loop.counter ≡ 0 = omega (arith, c.loop-test.false) in
+    c.push_all.ensures.pushed
+    ∙ sym (c.loop.invariant.wanted ∙ ap (λ n. c.loop.merged.items ++ with_messages (take n c.loop.stream) c.loop.older.items) none)
+
+pub returns-clause-left : goal.returns-clause-left
+returns-clause-left g c =
+    let none : c.args.count - c.loop.counter ≡ 0 = omega (arith, c.loop-test.false) in
+    sym (ap (λ n. drop n c.loop.stream) none) ∙ c.loop.invariant.left

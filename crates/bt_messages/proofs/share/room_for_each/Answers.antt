@@ -1,5 +1,7 @@
-use Rattle.std.proofs.Common.{◌<◌, arith, length}
+use Rattle.std.proofs.Common.{◌<◌, ap, arith, length, subst}
+use Rattle.std.proofs.lemmas.List.{take_all}
 use Rattle.std.proofs.lemmas.Grind.{common_steps}
+use Rattle.bt_messages.specs.Rooms.{HaveRoom}
 use Rattle.bt_messages.proofs.Sharing.{any_default, room_more}
 use Rattle.bt_messages.proofs.Totals.{at_most_total}
 use Rattle.bt_messages.proofs.share.room_for_each.Goals as goal
@@ -17,3 +19,20 @@ loop-place-preserved g c =
       len = grind (arith, common_steps);
       capacity = grind (arith, common_steps);
     }
+
+pub loop-place-init : goal.loop-place-init
+loop-place-init g c = record {
+  room = tt;
+  len = ap length c.in_ok-rooms.ensures.items;
+  capacity = c.in_ok-rooms.ensures.capacity;
+}
+
+pub push_reserved-requires : goal.push_reserved-requires
+push_reserved-requires g c =
+    omega (arith, c.loop-place.invariant.len, c.loop-place.invariant.capacity, c.loop-place.rooms.ok.0, c.loop-place-test.true)
+
+pub returns : goal.returns
+returns g c = record {
+  room = subst (λ shares. HaveRoom shares c.args.packets.now c.loop-place.rooms.items) (take_all c.loop-place.place c.args.shares.now (omega (arith, c.loop-place-test.false))) c.loop-place.invariant.room;
+  len = omega (arith, c.loop-place.invariant.len, c.loop-place-test.false, c.loop-place.auto.place-end);
+}

@@ -1,6 +1,7 @@
-use Rattle.std.proofs.Common.{◌<◌, arith, length}
+use Rattle.std.proofs.Common.{◌<◌, ap, arith, length, subst}
+use Rattle.std.proofs.lemmas.List.{take_all}
 use Rattle.std.proofs.lemmas.Grind.{common_steps}
-use Rattle.bt_messages.proofs.Splits.{room_to_join}
+use Rattle.bt_messages.proofs.Splits.{HaveRoomToJoin, room_to_join}
 use Rattle.bt_messages.proofs.share.rooms_to_join.Goals as goal
 
 pub loop-place-preserved : goal.loop-place-preserved
@@ -13,3 +14,20 @@ loop-place-preserved g c =
       len = grind (arith, common_steps);
       capacity = grind (arith, common_steps);
     }
+
+pub loop-place-init : goal.loop-place-init
+loop-place-init g c = record {
+  room = tt;
+  len = ap length c.in_ok-rooms.ensures.items;
+  capacity = c.in_ok-rooms.ensures.capacity;
+}
+
+pub push_reserved-requires : goal.push_reserved-requires
+push_reserved-requires g c =
+    omega (arith, c.loop-place.invariant.len, c.loop-place.invariant.capacity, c.loop-place.rooms.ok.0, c.loop-place-test.true)
+
+pub returns : goal.returns
+returns g c = record {
+  room = subst (λ packets. HaveRoomToJoin packets c.args.older.now c.loop-place.rooms.items) (take_all c.loop-place.place c.args.newer.now (omega (arith, c.loop-place-test.false))) c.loop-place.invariant.room;
+  len = omega (arith, c.loop-place.invariant.len, c.loop-place-test.false, c.loop-place.auto.place-end);
+}

@@ -1,8 +1,10 @@
 use Rattle.std.proofs.Common.{◌≡◌, ◌<◌, ◌-◌, ◌∙◌, ap, arith, drop, get_or, length, rules, subst, sym, take}
 use Rattle.std.proofs.lemmas.Grind.{common_steps}
+use Rattle.std.proofs.lemmas.List.{take_all}
 use Rattle.bt_keycode.specs.Keys.{IsSorted}
+use Rattle.bt_messages.specs.Bins.{total}
 use Rattle.bt_messages.proofs.Sharing.{any_default}
-use Rattle.bt_messages.proofs.Splits.{all_split, part_split, size_less, sizes_left, sorted_drop}
+use Rattle.bt_messages.proofs.Splits.{all_split, part_split, size_less, sizes_left, sorted_drop, unsplit}
 use Rattle.bt_messages.proofs.offered.Fronts.{sorted_take}
 use Rattle.bt_messages.proofs.split.split.Goals as goal
 
@@ -46,3 +48,20 @@ returns g c =
     let ns = c.args.sizes.now in
     let i = c.loop-done.done in
     c.reversed.ensures ∙ all_split ns i c.loop-done.rest.items c.loop-done.parts.items _ (omega (arith, c.loop-done-test.false)) c.loop-done.invariant.parts
+
+pub loop-done-init : goal.loop-done-init
+loop-done-init g c =
+    let ns = c.args.sizes.now in
+    record {
+      parts = unsplit ns c.args.messages.items c.in_ok-parts.parts.items c.in_ok-parts.ensures.items;
+      sizes = ap total (take_all (length ns - 0) ns (omega arith)) ∙ c.requires.sizes;
+      sorted = c.requires.sorted;
+      len = ap length c.in_ok-parts.ensures.items;
+      capacity = c.in_ok-parts.ensures.capacity;
+    }
+
+pub split_off-requires : goal.split_off-requires
+split_off-requires g c = omega (arith, c.len.ensures, c.loop-done.rest.ok.0)
+
+pub push_reserved-requires : goal.push_reserved-requires
+push_reserved-requires g c = omega (arith, c.loop-done.invariant.len, c.loop-done.invariant.capacity, c.loop-done.parts.ok.0, c.loop-done-test.true)

@@ -1,23 +1,45 @@
-use Rattle.std.proofs.Common.{◌≡◌, ◌∷◌, ◌++◌, ◌<◌, [], ◌∙◌, arith, rules}
-use Rattle.std.proofs.lemmas.Grind.{common_steps}
+use Rattle.std.proofs.Common.{◌≡◌, ◌-◌, ◌∷◌, ◌++◌, [], ◌∙◌, ap, arith, drop, length, refl, sym, take, vec_capacity, vec_len}
+use Rattle.std.proofs.lemmas.List.{append-nil}
 use Rattle.bt_messages.proofs.Slices.{moved_on}
 use Rattle.bt_messages.proofs.stream.move_front.Goals as goal
 use Rattle.bt_messages.proofs.stream.move_front.Goals.{in-Some, in_default}
+
+pub loop-init : goal.loop-init
+loop-init g c =
+    let whole : c.args.count - 0 ≡ c.args.count = omega arith in
+    record {
+      moved = ap (λ n. c.args.into.now.items ++ take n c.args.messages.now.items) whole;
+      left = ap (λ n. drop n c.args.messages.now.items) whole;
+      len = omega arith;
+      room = omega arith;
+      capacity = refl;
+    }
+
+pub push_reserved-requires : goal.push_reserved-requires
+push_reserved-requires g c = omega (arith, c.requires.room, c.loop.invariant.room, c.loop.invariant.capacity, c.loop-test.true)
 
 pub loop-preserved : goal.loop-preserved
 loop-preserved g c = elim c.match-pop_front.branch [
   | in-Some w ↦
       let m = w.in-Some.entry in
-      let e : c.loop.messages.items ≡ m ∷ c.pop_front.new.self.items = search rules in
-      let p : c.match-pop_front.into.items ≡ c.loop.into.items ++ m ∷ [] = search rules in
-      let less : c.loop.counter < c.args.count = search rules in
-      let on = moved_on _ _ m _ _ c.args.count c.loop.counter less e p in
+      let e : c.loop.messages.items ≡ m ∷ c.pop_front.new.self.items = w.in-Some.ensures.items in
+      let p : c.match-pop_front.into.items ≡ c.loop.into.items ++ m ∷ [] = ap (λ v. v.items) w.into-is ∙ w.push_reserved.ensures.items in
+      let on = moved_on _ _ m _ _ c.args.count c.loop.counter c.loop-test.true e p in
       record {
         moved = on.0 ∙ c.loop.invariant.moved;
         left = on.1 ∙ c.loop.invariant.left;
-        len = grind (arith, common_steps);
-        room = grind (arith, common_steps);
-        capacity = grind (arith, common_steps);
+        len = omega (arith, ap length e, c.loop.invariant.len);
+        room = omega (arith, ap vec_len w.into-is, w.push_reserved.ensures.len, c.loop.invariant.room);
+        capacity = ap vec_capacity w.into-is ∙ w.push_reserved.ensures.capacity ∙ c.loop.invariant.capacity;
       }
-  | in_default w ↦ grind (arith, common_steps)
+  | in_default w ↦ absurd (omega (arith, w.in_default.ensures.cases.0, c.loop.messages.ok.0, c.loop.invariant.len, c.requires.count, c.loop-test.true))
 ]
+
+pub returns : goal.returns
+returns g c =
+    let messages = c.loop.messages.items in
+    let none : c.args.count - c.loop.counter ≡ 0 = omega (arith, c.loop-test.false) in
+    record {
+      moved = sym (append-nil c.loop.into.items) ∙ sym (ap (λ n. c.loop.into.items ++ take n messages) none) ∙ c.loop.invariant.moved;
+      left = sym (ap (λ n. drop n messages) none) ∙ c.loop.invariant.left;
+    }
