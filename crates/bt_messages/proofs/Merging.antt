@@ -65,3 +65,20 @@ module _ {M : Type 0} (older s : Messages M) (n : ℕ) where
       is_before first.0 last.0 ≡ false → with_messages (take n s) older ≡ older ++ take n s
   first_behind first last h i l e f b =
       all_behind older (take n s) last (length older - 1) h (sorted_take n s i) (omega (arith, l)) e (from-take last.0 n s (from_head last.0 s first i f b))
+
+-- at a message whose key is past this one the moves end
+pub ends_at : {M : Type 0} (k : List ℕ) (ms : Messages M) (m : List ℕ × M) → 0 < length ms → m ≡ get_or ms 0 m → is_before k m.0 ≡ true →
+    (messages_up_to k ms ≡ []) × (messages_past k ms ≡ ms)
+ends_at k [] m l e t = absurd (omega (arith, l))
+ends_at {M = M} k (n ∷ ns) m l e t =
+    let here : is_before k n.0 ≡ true = ap (λ (x : List ℕ × M). is_before k x.0) (sym e) ∙ t in
+    (ap (λ b. if b then [] else n ∷ messages_up_to k ns) here, ap (λ b. if b then n ∷ ns else messages_past k ns) here)
+
+-- at another one they go on
+pub goes_on : {M : Type 0} (k : List ℕ) (ms rest : Messages M) (m n : List ℕ × M) → m ≡ get_or ms 0 m → ms ≡ n ∷ rest → is_before k m.0 ≡ false →
+    (messages_up_to k ms ≡ n ∷ messages_up_to k rest) × (messages_past k ms ≡ messages_past k rest)
+goes_on {M = M} k ms rest m n e s f =
+    let here : is_before k n.0 ≡ false = ap (λ (x : List ℕ × M). is_before k x.0) (sym (e ∙ ap (λ zs. get_or zs 0 m) s)) ∙ f in (
+      ap (messages_up_to k) s ∙ ap (λ b. if b then [] else n ∷ messages_up_to k rest) here,
+      ap (messages_past k) s ∙ ap (λ b. if b then n ∷ rest else messages_past k rest) here,
+    )

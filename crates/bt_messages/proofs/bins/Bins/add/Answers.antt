@@ -1,6 +1,6 @@
-use Rattle.std.proofs.Common.{◌≡◌, ◌+◌, ◌∙◌, ap, length, refl, sym, take}
+use Rattle.std.proofs.Common.{◌≡◌, ◌+◌, ◌∙◌, ap, arith, length, map, refl, sym, take}
 use Rattle.std.proofs.Math.Seq.{take-length}
-use Rattle.bt_messages.specs.Bins.{each_with, parted, parts}
+use Rattle.bt_messages.specs.Bins.{each_with, parted, parts, total}
 use Rattle.bt_messages.proofs.Splits.{parted_long, room_alike}
 use Rattle.bt_messages.proofs.bins.Bins.add.Goals as goal
 
@@ -32,3 +32,23 @@ returns-clause-added g c =
     c.in_ok-newer.ensures ∙ (λ i. parted (c.as_slice.ensures.value i) (c.into_messages.ensures.messages i)) ∙ c.in_ok-shares.ensures.parts ∙ ap (parts pivots) whole in
     let older : c.replace-older.result.items ≡ c.args.self.now = ap (λ packets. packets.items) c.replace-older.ensures.value ∙ c.self.view_is in
     c.join_each.ensures ∙ (λ i. each_with (newer i) (older i))
+
+pub shares-requires : goal.shares-requires
+shares-requires g c = omega (arith, c.len.ensures.len)
+
+pub split-requires-clause-sorted : goal.split-requires-clause-sorted
+split-requires-clause-sorted g c = c.into_messages.ensures.sorted
+
+pub split-requires-clause-sizes : goal.split-requires-clause-sizes
+split-requires-clause-sizes g c = ap total c.as_slice.ensures.value ∙ c.in_ok-shares.ensures.total ∙ c.len.ensures.len ∙ sym (ap length c.into_messages.ensures.messages)
+
+pub join_each-requires-clause-rooms_len : goal.join_each-requires-clause-rooms_len
+join_each-requires-clause-rooms_len g c = c.in_ok-rooms.ensures.len ∙ ap length c.as_slice-3.ensures.value
+
+pub join_each-requires-clause-into : goal.join_each-requires-clause-into
+join_each-requires-clause-into g c =
+    let older = ap (λ packets. length packets.items) c.replace-older.ensures.value in
+    (c.in_ok-into.ensures.items, omega (arith, c.in_ok-into.ensures.capacity, c.len-2.ensures, older, c.self.inside.bins.ok.0))
+
+pub invariant_of-self : goal.invariant_of-self
+invariant_of-self g c = c.count_all-self-inside.ensures ∙ ap (λ packets. total (map length packets)) c.as_slice-4.ensures.value
