@@ -1,13 +1,15 @@
 //! The messages of an index for what a batch does to rows.
-ghost use Rattle.std.specs.Prelude.{◌≡◌, ◌++◌, IfOk, OnOk, Some};
+ghost use Rattle.std.specs.Prelude.{◌≡◌, ◌++◌, ◌∷◌, [], IfOk, OnOk, Some};
 ghost use Rattle.std.specs.List.{All};
 ghost use Rattle.bt_rowtype.specs.Views.{shown};
 ghost use Rattle.bt_messages.specs.Messages.{sorted_batch};
+ghost use Rattle.bt_messages.specs.declared.message.Message.TheVariants.{Del, Put};
 ghost use Rattle.bt_fanout.specs.Effects.{SuitsEffect, SuitsIn, sent_for, sent_for_all};
 ghost use Rattle.bt_fanout.specs.Entries as spec;
 ghost use Rattle.bt_fanout.specs.Promises.{TurnsIndex};
 ghost use Rattle.bt_fanout.specs.Selections.{between};
 
+use crate::building::add_put;
 use crate::cover::{Cover, covers};
 use crate::definition::IndexDef;
 use crate::effect::Effect;
@@ -18,6 +20,20 @@ use bt_rowtype::{Row, same_values};
 use std::alloc::{AllocError, Global};
 use std::cmp::Ordering;
 
+// Adds a del of a key and a put of an entry with another one.
+fn add_move(
+    messages: &mut Vec<(Key, Message<Entry>)>,
+    old: Key,
+    new: (Key, Entry),
+) -> Result<(), AllocError>
+    ensures { OnOk result (messages.new.items ≡ messages.old.items ++ (old, Del) ∷ (new.0, Put new.1) ∷ []) }
+{
+    messages.reserve(2)?;
+    messages.push_reserved((old, Message::Del));
+    messages.push_reserved((new.0, Message::Put(new.1)));
+    Ok(())
+}
+
 // Adds what takes an entry to another one that is there too.
 fn add_change(
     messages: &mut Vec<(Key, Message<Entry>)>,
@@ -27,18 +43,18 @@ fn add_change(
     ensures { OnOk result (messages.new.items ≡ messages.old.items ++ between spec.same_values (Some old) (Some new)) }
 {
     let (old_key, old_value) = old;
-    let (key, value) = new;
-    if old_key.compare(&key) == Ordering::Equal {
-        if !same_values(old_value.as_row().values(), value.as_row().values()) {
-            messages.push((key, Message::Put(value)))?;
-        }
+    if old_key.compare(&new.0) != Ordering::Equal {
+        drop(old_value);
+        return add_move(messages, old_key, new);
+    }
+    drop(old_key);
+    let same = same_values(old_value.as_row().values(), new.1.as_row().values());
+    drop(old_value);
+    if same {
+        drop(new);
         return Ok(());
     }
-    let deletion = (old_key, Message::Del);
-    let insertion = (key, Message::Put(value));
-    messages.push(deletion)?;
-    messages.push(insertion)?;
-    Ok(())
+    add_put(messages, Some(new))
 }
 
 // Adds what takes an entry, or none, to another one, or none.
