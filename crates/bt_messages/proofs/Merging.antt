@@ -1,6 +1,8 @@
 -- One pass over older and newer messages, for the loop of `merge_each`, and newer ones behind all older ones, for `append_front`.
-use Rattle.std.proofs.Common.{◌≡◌, ℕ, zero, suc, ◌-◌, ◌<◌, ◌≤◌, true, false, List, [], ◌∷◌, ◌++◌, append_assoc, append-nil, get_or, length, take, refl, sym, ap, subst, ◌∙◌, arith, if◌then◌else◌}
+use Rattle.std.proofs.Common.{◌≡◌, ◌==◌, Ordering, Less, Equal, Greater, ℕ, zero, suc, ◌-◌, ◌<◌, ◌≤◌, true, false, List, [], ◌∷◌, ◌++◌, append_assoc, append-nil, get_or, length, take, refl, sym, ap, subst, ◌∙◌, arith, if◌then◌else◌}
 use Rattle.std.proofs.Math.Seq.{take-nil}
+use Rattle.std.proofs.lemmas.Bool.{false≢true}
+use Rattle.std.specs.Ordering.{is_lt, ordering_index}
 use Rattle.bt_messages.specs.Merges.{messages_past, messages_up_to}
 use Rattle.bt_keycode.specs.Keys.{AllFrom, IsSorted, is_before}
 use Rattle.bt_messages.specs.Messages.{Messages, with_messages}
@@ -82,3 +84,14 @@ goes_on {M = M} k ms rest m n e s f =
       ap (messages_up_to k) s ∙ ap (λ b. if b then [] else n ∷ messages_up_to k rest) here,
       ap (messages_past k) s ∙ ap (λ b. if b then n ∷ rest else messages_past k rest) here,
     )
+
+-- an order's index is 0 where it is less
+pub is_first : (o : Ordering) → is_lt o ≡ (ordering_index o == 0)
+is_first Less = refl
+is_first Equal = refl
+is_first Greater = refl
+
+-- what is not above 0 is 0
+pub none_first : (n : ℕ) → (0 < n → false ≡ true) → n ≡ 0
+none_first zero h = refl
+none_first (suc n) h = absurd (false≢true (h (omega arith)))
