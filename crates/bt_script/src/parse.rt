@@ -16,17 +16,20 @@ fn parsed<'a>(command: Option<Command<'a>>, closed: bool, next: usize) -> Parsed
     ensures found { (script : List ℕ) → spec.Finds result script (ended closed command.entry ∷ spec.commands (drop next script)) }
     ensures past { (at : ℕ) (script : List ℕ) → at < next → next ≤ length script → spec.NextPast result at script }
 {
-    match (command, closed) {
-        (Some(command), true) => Parsed::Good { command, next },
-        (Some(_), false) => Parsed::Bad {
-            refusal: Refusal::Unfinished,
-            next,
-        },
-        (None, _) => Parsed::Bad {
+    let Some(command) = command else {
+        return Parsed::Bad {
             refusal: Refusal::Syntax,
             next,
-        },
+        };
+    };
+    if !closed {
+        drop(command);
+        return Parsed::Bad {
+            refusal: Refusal::Unfinished,
+            next,
+        };
     }
+    Parsed::Good { command, next }
 }
 
 fn parse_batch<'a>(
