@@ -1,11 +1,23 @@
 use Rattle.std.proofs.Common.{◌≡◌, ◌≤◌, ℕ, All, IsFalse, IsTrue, vec_len, ap, ◌∙◌, sym, subst, rules, arith}
 use Rattle.bt_gang.specs.Numbers.{times}
 use Rattle.bt_gang.proofs.Filling.{all_once, all_run, answered, least, none_empty}
-use Rattle.bt_gang.proofs.Finishing.{below_own, below_rest, filled_all, have_come, jobs_last, listed_all}
+use Rattle.bt_gang.proofs.Finishing.{below_own, below_rest, caller_last, filled_all, have_come, jobs_last, listed_all, room_last}
+use Rattle.bt_gang.proofs.Working.{took_list}
 use Rattle.bt_gang.proofs.run.finish.Goals as goal
 
 fits : (n len : ℕ) {items room : ℕ} → items ≡ n → len ≡ items → n ≤ room → len ≤ room
 fits n len e f l = omega arith
+
+pub take_in-outs-requires-clause-pass : goal.take_in-outs-requires-clause-pass
+take_in-outs-requires-clause-pass g c κs within = (c.requires.mine.served.pass, caller_last (g.W.Work.allows c.args.work.now) _ _ _ _ c.requires.mine)
+
+pub serve-requires-clause-pass : goal.serve-requires-clause-pass
+serve-requires-clause-pass g c κs within =
+    let t = c.take_in-outs.ensures.pass in
+    (t.0, took_list _ _ _ _ t.1 (caller_last (g.W.Work.allows c.args.work.now) _ _ _ _ c.requires.mine))
+
+pub serve-requires-clause-spare : goal.serve-requires-clause-spare
+serve-requires-clause-spare g c κs within = room_last (g.W.Work.allows c.args.work.now) _ _ _ _ _ _ _ c.requires.mine c.take_in-outs.ensures.pass.1
 
 pub serve-requires-clause-accepts : goal.serve-requires-clause-accepts
 serve-requires-clause-accepts g c κs within = subst (All (λ job. g.W.Work.accepts c.args.work.now job)) (sym (jobs_last (g.W.Work.allows c.args.work.now) _ _ _ _ _ _ _ c.requires.mine c.take_in-outs.ensures.pass.1)) c.requires.accepts

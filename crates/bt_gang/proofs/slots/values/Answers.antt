@@ -1,4 +1,6 @@
-use Rattle.std.proofs.Common.{◌≡◌, ap, arith, rules, length, length-append, Some, Ok, [], ◌∷◌}
+use Rattle.std.proofs.Common.{◌≡◌, ◌∙◌, ◌++◌, ap, append-nil, arith, rules, length, length-append, Some, Ok, [], ◌∷◌}
+use Rattle.std.proofs.lemmas.List.{nil_from_length}
+use Rattle.bt_gang.specs.Answers.{ok_slots}
 use Rattle.bt_gang.proofs.Placing.{step_ok, none_at}
 use Rattle.bt_gang.proofs.slots.values.Goals as goal
 
@@ -14,3 +16,10 @@ loop-slot-preserved g c =
       count = search rules;
       room = let s = c.in-Some.ensures.steps.1 in search rules;
     }
+
+pub returns-clause-ok : goal.returns-clause-ok
+returns-clause-ok g c =
+    let left = c.loop-slot.slot-iterator.rest in
+    let none : left.items ≡ [] = nil_from_length left.items (omega (arith, left.ok.0, c.in-None.ensures.steps.0)) in
+    let filled = ok_slots c.loop-slot.done.items in
+    c.loop-slot.invariant.so_far ∙ (ap (λ l. filled ++ l) none ∙ append-nil filled)

@@ -1,7 +1,8 @@
-use Rattle.std.proofs.Common.{refl, ap, subst, rules, ◌≡◌}
+use Rattle.std.proofs.Common.{refl, ap, subst, sym, rules, ◌≡◌}
 use mathlib.Core.Option.{some}
 use lib.ListN.{get_elem?}
 use Rattle.crossbeam_queue.specs.Passes.{view}
+use Rattle.bt_gang.specs.Answers.{Gains}
 use Rattle.bt_gang.proofs.Rules.{pops, learns}
 use Rattle.bt_gang.proofs.Serving.{gained_list, gains_none, gains_more, spare_left, found_nothing, at_all}
 use Rattle.bt_gang.proofs.worker_loop.serve.Goals as goal
@@ -32,3 +33,7 @@ loop-preserved g c = record {
 
 pub returns-in-None-pop_as-clause-last : goal.returns-in-None-pop_as-clause-last
 returns-in-None-pop_as-clause-last g c = found_nothing _ _ c.in-None-pop_as.ensures.rule.0 c.in-None-pop_as.ensures.rule.1
+
+pub returns-in-None-pop_as-clause-gains : goal.returns-in-None-pop_as-clause-gains
+returns-in-None-pop_as-clause-gains g c =
+    subst (λ v. Gains (g.W.Work.allows c.args.work.now) (view c.args.pass.now) v c.args.out.now c.loop.out) (sym c.in-None-pop_as.ensures.rule.0) c.loop.invariant.gains

@@ -1,4 +1,4 @@
-use Rattle.std.proofs.Common.{◌≡◌, ◌<◌, [], length, vec_len, sym, ap, subst, rules, arith}
+use Rattle.std.proofs.Common.{◌≡◌, ◌+◌, ◌<◌, ℕ, [], length, vec_len, sym, ap, subst, rules, arith}
 use Rattle.std.proofs.lemmas.List.Elements.{All-head, All-push, All-rest, All-same}
 use Rattle.crossbeam_queue.specs.Passes.{view}
 use Rattle.bt_gang.specs.declared.answers.Answers.{Answers}
@@ -7,6 +7,9 @@ use Rattle.bt_gang.specs.Workers.{IsCaller, IsReady}
 use Rattle.bt_gang.proofs.Rules.{forks}
 use Rattle.bt_gang.proofs.Working.{caller_first, caller_next}
 use Rattle.bt_gang.proofs.workers.split.Goals as goal
+
+all_split : (made left outs : ℕ) → made + left ≡ outs → left ≡ 0 → made ≡ outs
+all_split made left outs e none = omega arith
 
 pub loop-out-init : goal.loop-out-init
 loop-out-init g c =
@@ -45,3 +48,8 @@ loop-out-preserved g c =
       room = search rules;
       each = All-same Q _ _ c.push_reserved.ensures.items (All-push Q c.loop-out.workers.items _ i.each ready);
     }
+
+pub returns-clause-pass : goal.returns-clause-pass
+returns-clause-pass g c =
+    let i = c.loop-out.invariant in
+    (i.pass, subst (λ k. IsCaller c.args.all.now.value.items k (view c.loop-out.pass)) (all_split _ _ _ i.count c.in-None.ensures.steps.0) i.caller)

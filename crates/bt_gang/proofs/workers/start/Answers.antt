@@ -7,6 +7,16 @@ use Rattle.bt_gang.specs.declared.workers.GivesBack.{GivesBack}
 use Rattle.bt_gang.specs.Workers.{IsReady}
 use Rattle.bt_gang.proofs.workers.start.Goals as goal
 
+pub loop-worker-init : goal.loop-worker-init
+loop-worker-init g c =
+    let P : Worker g.row.W-Job.Denot g.row.W-Done.Denot g.row.W-Fault.Denot → Type 0 = λ w. IsReady c.args.jobs.now c.args.all.now.value.items [] w in
+    record {
+      workers = All-same P _ _ c.into_iter-worker-iterator.ensures.into_iter_gives.0 c.requires.workers;
+      started = search rules;
+      count = search rules;
+      room = c.requires.room.1;
+    }
+
 pub spawn_with-requires-clause-runs : goal.spawn_with-requires-clause-runs
 spawn_with-requires-clause-runs g c κs within =
     let P : Worker g.row.W-Job.Denot g.row.W-Done.Denot g.row.W-Fault.Denot → Type 0 = λ w. IsReady c.args.jobs.now c.args.all.now.value.items [] w in
