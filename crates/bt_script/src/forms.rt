@@ -1,6 +1,7 @@
 //! The forms of commands: what the words of a head line make.
 ghost use Rattle.std.specs.Prelude.{◌≡◌, ◌≤◌, [], IfOk, codes, false, map};
 ghost use Rattle.bt_script.specs.Commands as spec;
+ghost use Rattle.bt_script.specs.Forms as forms;
 ghost use Rattle.bt_script.specs.Lines as text;
 
 use crate::command::{Bounds, Command, IndexForm, Items, SumsForm, TableForm};
@@ -36,11 +37,11 @@ fn parse_column(alloc: Global, word: &[u8]) -> Result<Option<Column>, AllocError
     if parts.len() != 2 {
         return Ok(None);
     }
-    let Some(name) = parse_name(alloc, word_at(&parts, 0))? else {
+    let Some(kind) = parse_kind(word_at(&parts, 1)) else {
         return Ok(None);
     };
-    match parse_kind(word_at(&parts, 1)) {
-        Some(kind) => Ok(Some(Column { name, kind })),
+    match parse_name(alloc, word_at(&parts, 0))? {
+        Some(name) => Ok(Some(Column { name, kind })),
         None => Ok(None),
     }
 }
@@ -131,6 +132,25 @@ pub fn scan_command<'a>(
     }
 }
 
+// The tree, the number of columns and the column of sums.
+fn parse_summed(alloc: Global, words: &[&[u8]]) -> Result<Option<(Text, u32, Text)>, AllocError>
+    ensures { IfOk result (λ summed. summed ≡ forms.summed_of (map (λ w. w.now) words.now)) }
+{
+    if words.len() != 4 {
+        return Ok(None);
+    }
+    let Some(columns) = parse_number(word_at(words, 2)) else {
+        return Ok(None);
+    };
+    let Some(tree) = parse_name(alloc, word_at(words, 1))? else {
+        return Ok(None);
+    };
+    match parse_name(alloc, word_at(words, 3))? {
+        Some(column) => Ok(Some((tree, columns, column))),
+        None => Ok(None),
+    }
+}
+
 /// The command of sums: the name of a tree, a number and the name of a column, and bounds.
 #[tactic(auto, unfolding(crate::specs::Commands::sums_of))]
 pub fn sums_command<'a>(
@@ -140,16 +160,7 @@ pub fn sums_command<'a>(
 ) -> Result<Option<Command<'a>>, AllocError>
     ensures { IfOk result (λ command. command ≡ spec.sums_of (map (λ w. w.now) words.now) bounds.entry) }
 {
-    if words.len() != 4 {
-        return Ok(None);
-    }
-    let Some(tree) = parse_name(alloc, word_at(words, 1))? else {
-        return Ok(None);
-    };
-    let Some(columns) = parse_number(word_at(words, 2)) else {
-        return Ok(None);
-    };
-    let Some(column) = parse_name(alloc, word_at(words, 3))? else {
+    let Some((tree, columns, column)) = parse_summed(alloc, words)? else {
         return Ok(None);
     };
     match bounds {
@@ -248,10 +259,10 @@ fn parse_filter(
     requires { at ≤ 6 }
     ensures { IfOk result (λ filter. filter ≡ spec.filter_of head.now (map (λ w. w.now) words.now) at) }
 {
-    let Some(column) = parse_name(alloc, word_at(words, at + 1))? else {
+    let Some(test) = parse_test(word_at(words, at + 2)) else {
         return Ok(None);
     };
-    let Some(test) = parse_test(word_at(words, at + 2)) else {
+    let Some(column) = parse_name(alloc, word_at(words, at + 1))? else {
         return Ok(None);
     };
     match parse_constant(alloc, behind_words(head, at + 3))? {
@@ -314,6 +325,30 @@ fn parse_condition(
     parse_filter_from(alloc, head, words, at)
 }
 
+// The index of a name and of the columns that it is ordered by, with what the words say behind them.
+fn index_on<'a>(
+    alloc: Global,
+    head: &[u8],
+    words: &[&[u8]],
+    name: Text,
+    on: Texts,
+) -> Result<Option<Command<'a>>, AllocError>
+    ensures { IfOk result (λ command. command ≡ forms.index_on head.now (map (λ w. w.now) words.now) name on) }
+{
+    let Some(include) = parse_included(alloc, words)? else {
+        return Ok(None);
+    };
+    match parse_condition(alloc, head, words)? {
+        Some(filter) => Ok(Some(Command::Index(IndexForm {
+            name,
+            on,
+            include,
+            filter,
+        }))),
+        None => Ok(None),
+    }
+}
+
 #[tactic(auto, unfolding(crate::specs::Commands::index_of))]
 fn index_command<'a>(
     alloc: Global,
@@ -328,19 +363,8 @@ fn index_command<'a>(
     let Some(name) = parse_name(alloc, word_at(words, 1))? else {
         return Ok(None);
     };
-    let Some(on) = parse_names(alloc, word_at(words, 3))? else {
-        return Ok(None);
-    };
-    let Some(include) = parse_included(alloc, words)? else {
-        return Ok(None);
-    };
-    match parse_condition(alloc, head, words)? {
-        Some(filter) => Ok(Some(Command::Index(IndexForm {
-            name,
-            on,
-            include,
-            filter,
-        }))),
+    match parse_names(alloc, word_at(words, 3))? {
+        Some(on) => index_on(alloc, head, words, name, on),
         None => Ok(None),
     }
 }
