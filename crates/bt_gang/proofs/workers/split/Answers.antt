@@ -1,5 +1,5 @@
 use Rattle.std.proofs.Common.{◌≡◌, ◌+◌, ◌<◌, ℕ, [], length, vec_len, sym, ap, subst, rules, arith}
-use Rattle.std.proofs.lemmas.List.Elements.{All-head, All-push, All-rest, All-same}
+use Rattle.std.proofs.lemmas.List.Elements.{All-head, All-nil, All-push, All-rest, All-same}
 use Rattle.crossbeam_queue.specs.Passes.{view}
 use Rattle.bt_gang.specs.declared.answers.Answers.{Answers}
 use Rattle.bt_gang.specs.declared.workers.Worker.{Worker}
@@ -11,18 +11,25 @@ use Rattle.bt_gang.proofs.workers.split.Goals as goal
 all_split : (made left outs : ℕ) → made + left ≡ outs → left ≡ 0 → made ≡ outs
 all_split made left outs e none = omega arith
 
+counted : (made left all : ℕ) → made ≡ 0 → left ≡ all → made + left ≡ all
+counted made left all e f = omega arith
+
 pub loop-out-init : goal.loop-out-init
 loop-out-init g c =
     let all = c.args.all.now.value.items in
-    let zero : vec_len c.args.workers ≡ 0 = omega (arith, ap length c.requires.room.0, c.args.workers.ok.0) in
+    let given = c.into_iter-out-iterator.ensures.into_iter_gives in
+    let empty = c.requires.room.0 in
+    let zero : vec_len c.args.workers ≡ 0 = omega (arith, ap length empty, c.args.workers.ok.0) in
+    let P : Answers g.row.D.Denot g.row.F.Denot → Type 0 = λ a. (a.list.items ≡ []) × (a.spare ≡ length all) in
+    let Q : Worker g.row.J.Denot g.row.D.Denot g.row.F.Denot → Type 0 = λ w. IsReady c.args.jobs.now all [] w in
     record {
       pass = c.requires.pass.0;
       caller = subst (λ k. IsCaller all k (view c.args.pass.now)) (sym zero) (caller_first all _ c.requires.pass.1);
-      outs = search rules;
-      count = search rules;
+      outs = All-same P _ _ given.0 c.requires.outs;
+      count = counted _ _ _ zero given.1;
       few = c.requires.room.1;
-      room = search rules;
-      each = search rules;
+      room = c.requires.room.2;
+      each = All-same Q _ _ empty (All-nil Q);
     }
 
 pub another-theirs-requires-clause-rule : goal.another-theirs-requires-clause-rule

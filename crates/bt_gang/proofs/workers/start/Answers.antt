@@ -1,19 +1,25 @@
-use Rattle.std.proofs.Common.{◌≡◌, [], None, Some, IfSome, sym, ap, ◌∙◌, rules}
+use Rattle.std.proofs.Common.{◌≡◌, ◌+◌, ℕ, [], None, Some, IfSome, length, sym, ap, ◌∙◌, rules, arith}
 use denote.Param.Send.{sendable}
-use Rattle.std.proofs.lemmas.List.Elements.{All-head, All-push, All-rest, All-same}
+use Rattle.std.proofs.lemmas.List.Elements.{All-head, All-nil, All-push, All-rest, All-same}
 use Rattle.std.specs.declared.thread.PromisedHandle.{PromisedHandle}
 use Rattle.bt_gang.specs.declared.workers.Worker.{Worker}
 use Rattle.bt_gang.specs.declared.workers.GivesBack.{GivesBack}
 use Rattle.bt_gang.specs.Workers.{IsReady}
 use Rattle.bt_gang.proofs.workers.start.Goals as goal
 
+counted : (made len left all : ℕ) → made ≡ len → len ≡ 0 → left ≡ all → made + left ≡ all
+counted made len left all e f k = omega arith
+
 pub loop-worker-init : goal.loop-worker-init
 loop-worker-init g c =
+    let empty = c.requires.room.0 in
+    let given = c.into_iter-worker-iterator.ensures.into_iter_gives in
     let P : Worker g.row.W-Job.Denot g.row.W-Done.Denot g.row.W-Fault.Denot → Type 0 = λ w. IsReady c.args.jobs.now c.args.all.now.value.items [] w in
+    let H : PromisedHandle (Worker g.row.W-Job.Denot g.row.W-Done.Denot g.row.W-Fault.Denot) (GivesBack g.row.W.Denot g.row.W-Job.Denot g.row.W-Done.Denot g.row.W-Fault.Denot) → Type 0 = λ h. (h.promise.jobs.value ≡ c.args.jobs.now) × (h.promise.work.value ≡ c.args.work.now) × (h.promise.all.value ≡ c.args.all.now) in
     record {
-      workers = All-same P _ _ c.into_iter-worker-iterator.ensures.into_iter_gives.0 c.requires.workers;
-      started = search rules;
-      count = search rules;
+      workers = All-same P _ _ given.0 c.requires.workers;
+      started = All-same (λ o. IfSome o H) _ _ empty (All-nil (λ o. IfSome o H));
+      count = counted _ _ _ _ c.args.children.ok.0 (ap length empty) given.1;
       room = c.requires.room.1;
     }
 
