@@ -1,4 +1,4 @@
-use Rattle.std.proofs.Common.{◌≡◌, ◌≤◌, ℕ, All, IsFalse, IsTrue, vec_len, ap, ◌∙◌, sym, subst, rules, arith}
+use Rattle.std.proofs.Common.{◌≡◌, ◌+◌, ◌<◌, ◌≤◌, ℕ, All, IsFalse, IsTrue, length, vec_len, ap, ◌∙◌, sym, subst, rules, arith}
 use Rattle.bt_gang.specs.Numbers.{times}
 use Rattle.bt_gang.proofs.Filling.{all_once, all_run, answered, least, none_empty}
 use Rattle.bt_gang.proofs.Finishing.{below_own, below_rest, caller_last, filled_all, have_come, jobs_last, listed_all, room_last}
@@ -7,6 +7,27 @@ use Rattle.bt_gang.proofs.run.finish.Goals as goal
 
 fits : (n len : ℕ) {items room : ℕ} → items ≡ n → len ≡ items → n ≤ room → len ≤ room
 fits n len e f l = omega arith
+
+some_room : (taken len others room : ℕ) → taken ≡ len → len ≡ 0 → others + 1 ≤ room → taken < room
+some_room taken len others room e none l = omega arith
+
+room_left : (taken was len outs others room before : ℕ) → taken ≡ was + 1 → was ≡ len → len ≡ 0 → outs ≡ others → room ≡ before → others + 1 ≤ before → taken + outs ≤ room
+room_left taken was len outs others room before e f none k r l = omega arith
+
+all_listed : (lists taken was len outs others : ℕ) → lists ≡ taken + outs → taken ≡ was + 1 → was ≡ len → len ≡ 0 → outs ≡ others → lists ≡ others + 1
+all_listed lists taken was len outs others a e f none k = omega arith
+
+pub push_reserved-requires : goal.push_reserved-requires
+push_reserved-requires g c = some_room _ _ _ _ c.args.taken.ok.0 (ap length c.requires.taken.0) c.requires.taken.1
+
+pub place_all-taken-requires-clause-room : goal.place_all-taken-requires-clause-room
+place_all-taken-requires-clause-room g c =
+    let p = c.push_reserved.ensures in
+    room_left _ _ _ _ _ _ _ p.len c.args.taken.ok.0 (ap length c.requires.taken.0) c.take_in-outs.ensures.len p.capacity c.requires.taken.1
+
+pub returns-in-Ok-clause-lists : goal.returns-in-Ok-clause-lists
+returns-in-Ok-clause-lists g c =
+    all_listed _ _ _ _ _ _ c.place_all-taken.ensures.len c.push_reserved.ensures.len c.args.taken.ok.0 (ap length c.requires.taken.0) c.take_in-outs.ensures.len
 
 pub take_in-outs-requires-clause-pass : goal.take_in-outs-requires-clause-pass
 take_in-outs-requires-clause-pass g c κs within = (c.requires.mine.served.pass, caller_last (g.W.Work.allows c.args.work.now) _ _ _ _ c.requires.mine)

@@ -1,4 +1,8 @@
-use Rattle.std.proofs.Common.{rules}
+use Rattle.std.proofs.Common.{◌≡◌, ◌∙◌, ◌++◌, [], map, ap, sym, append-nil, rules, arith}
+use Rattle.std.proofs.lemmas.List.{nil_from_length}
+use Rattle.bt_gang.specs.Answers.{answers_in, numbers_in, puts}
+use Rattle.bt_gang.specs.Numbers.{joined}
+use Rattle.bt_gang.specs.Run.{listed}
 use Rattle.bt_gang.proofs.Filling.{placed_more, below_one, below_more, listed_more}
 use Rattle.bt_gang.proofs.run.place_all.Goals as goal
 
@@ -16,3 +20,16 @@ loop-out-preserved g c =
       count = search rules;
       room = search rules;
     }
+
+pub returns-clause-slots : goal.returns-clause-slots
+returns-clause-slots g c =
+    let left = c.loop-out.out-iterator.rest in
+    let none : left.items ≡ [] = nil_from_length left.items (omega (arith, left.ok.0, c.in-None.ensures.steps.0)) in
+    sym (ap (λ l. puts c.loop-out.slots.items (joined (map answers_in l))) none) ∙ c.loop-out.invariant.slots
+
+pub returns-clause-numbers : goal.returns-clause-numbers
+returns-clause-numbers g c =
+    let left = c.loop-out.out-iterator.rest in
+    let none : left.items ≡ [] = nil_from_length left.items (omega (arith, left.ok.0, c.in-None.ensures.steps.0)) in
+    let so_far = listed c.loop-out.taken.items in
+    sym (append-nil so_far) ∙ (sym (ap (λ l. so_far ++ joined (map numbers_in l)) none) ∙ c.loop-out.invariant.taken)

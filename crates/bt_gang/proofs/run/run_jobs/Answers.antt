@@ -1,4 +1,4 @@
-use Rattle.std.proofs.Common.{◌≡◌, ◌≤◌, ℕ, [], All, IfErr, IfOk, None, length, map, replicate, vec_len, ap, ◌∙◌, sym, subst, arith}
+use Rattle.std.proofs.Common.{◌≡◌, ◌+◌, ◌≤◌, ℕ, [], All, IfErr, IfOk, None, length, map, replicate, vec_len, refl, ap, ◌∙◌, sym, subst, arith}
 use Rattle.std.proofs.lemmas.List.{nil_from_length}
 use Rattle.std.proofs.lemmas.Result.{IfOk-weaker}
 use Rattle.crossbeam_queue.specs.Passes.{view}
@@ -12,6 +12,9 @@ same_len n len a b e f k = e ∙ (f ∙ sym k)
 
 fits : (n len room : ℕ) → n ≡ len → n ≤ room → len ≤ room
 fits n len room e l = omega arith
+
+room_for : (others workers outs all room : ℕ) → others ≡ workers → workers ≡ outs → outs + 1 ≡ all → all ≤ room + 1 → others ≤ room
+room_for others workers outs all room e f k l = omega arith
 
 pub returns-then-n-eq0-clause-values : goal.returns-then-n-eq0-clause-values
 returns-then-n-eq0-clause-values g c =
@@ -30,6 +33,16 @@ serve_threads-served-requires-clause-mine g c κs within =
     let n : c.len-n.result ≡ length c.of-snapshot.result.value.items = same_len _ _ _ _ c.len-n.ensures c.args.jobs.ok.0 (ap (λ v. length v.items) c.of-snapshot.ensures) in
     record { pass = s.pass.0; knows = subst (λ k. IsCaller c.of-snapshot.result.value.items k (view c.split-workers.new.pass)) (sym s.len) s.pass.1; list = r.out.0; spare = r.out.1 ∙ n }
 
+pub serve_threads-served-requires-clause-children : goal.serve_threads-served-requires-clause-children
+serve_threads-served-requires-clause-children g c κs within =
+    let r = c.in-Ok.ensures in
+    (r.children.0, room_for _ _ _ _ _ refl c.split-workers.ensures.len r.outs.1 r.children.1)
+
+pub serve_threads-served-requires-clause-back : goal.serve_threads-served-requires-clause-back
+serve_threads-served-requires-clause-back g c κs within =
+    let r = c.in-Ok.ensures in
+    (r.back.0, room_for _ _ _ _ _ refl c.split-workers.ensures.len r.outs.1 r.back.1)
+
 pub serve_threads-served-requires-clause-accepts : goal.serve_threads-served-requires-clause-accepts
 serve_threads-served-requires-clause-accepts g c κs within = subst (λ v. All (λ job. g.W.Work.accepts c.args.work.now job) v.items) (sym c.of-snapshot.ensures) c.requires.accepts
 
@@ -37,6 +50,11 @@ pub finish-requires-clause-mine : goal.finish-requires-clause-mine
 finish-requires-clause-mine g c κs within =
     let s = c.serve_threads-served in
     subst (λ k. HasServedCaller (g.W.Work.allows c.args.work.now) c.in-Ok-new.made c.of-snapshot.result.value.items k s.result.mine) (sym s.ensures.len) s.ensures.mine
+
+pub finish-requires-clause-came : goal.finish-requires-clause-came
+finish-requires-clause-came g c κs within =
+    let r = c.in-Ok.ensures in
+    (r.came.0, room_for _ _ _ _ _ c.serve_threads-served.ensures.len c.split-workers.ensures.len r.outs.1 r.came.1)
 
 pub finish-requires-clause-slots : goal.finish-requires-clause-slots
 finish-requires-clause-slots g c κs within =

@@ -1,4 +1,4 @@
-use Rattle.std.proofs.Common.{◌≡◌, ◌+◌, ℕ, [], None, Some, IfSome, length, sym, ap, ◌∙◌, rules, arith}
+use Rattle.std.proofs.Common.{◌≡◌, ◌+◌, ◌<◌, ◌≤◌, ℕ, [], None, Some, IfSome, length, sym, ap, ◌∙◌, rules, arith}
 use denote.Param.Send.{sendable}
 use Rattle.std.proofs.lemmas.List.Elements.{All-head, All-nil, All-push, All-rest, All-same}
 use Rattle.std.specs.declared.thread.PromisedHandle.{PromisedHandle}
@@ -9,6 +9,12 @@ use Rattle.bt_gang.proofs.workers.start.Goals as goal
 
 counted : (made len left all : ℕ) → made ≡ len → len ≡ 0 → left ≡ all → made + left ≡ all
 counted made len left all e f k = omega arith
+
+room_left : (made left more all room : ℕ) → made + more ≡ all → left + 1 ≡ more → all ≤ room → made < room
+room_left made left more all room e f l = omega arith
+
+all_made : (made left all : ℕ) → made + left ≡ all → left ≡ 0 → made ≡ all
+all_made made left all e none = omega arith
 
 pub loop-worker-init : goal.loop-worker-init
 loop-worker-init g c =
@@ -55,3 +61,15 @@ loop-worker-preserved g c =
       count = search rules;
       room = search rules;
     }
+
+pub push_reserved-requires : goal.push_reserved-requires
+push_reserved-requires g c = let i = c.loop-worker.invariant in room_left _ _ _ _ _ i.count c.in-Some.ensures.steps.1 i.room
+
+pub push_reserved-requires-in-Err : goal.push_reserved-requires-in-Err
+push_reserved-requires-in-Err g c = let i = c.loop-worker.invariant in room_left _ _ _ _ _ i.count c.in-Some.ensures.steps.1 i.room
+
+pub returns-clause-each : goal.returns-clause-each
+returns-clause-each g c = c.loop-worker.invariant.started
+
+pub returns-clause-len : goal.returns-clause-len
+returns-clause-len g c = all_made _ _ _ c.loop-worker.invariant.count c.in-None.ensures.steps.0
