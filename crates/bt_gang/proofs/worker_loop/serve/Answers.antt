@@ -1,4 +1,4 @@
-use Rattle.std.proofs.Common.{refl, ap, subst, sym, rules, ◌≡◌}
+use Rattle.std.proofs.Common.{refl, ap, subst, sym, rules, ◌≡◌, ◌∙◌}
 use mathlib.Core.Option.{some}
 use lib.ListN.{get_elem?}
 use Rattle.crossbeam_queue.specs.Passes.{view}
@@ -37,3 +37,9 @@ returns-in-None-pop_as-clause-last g c = found_nothing _ _ c.in-None-pop_as.ensu
 pub returns-in-None-pop_as-clause-gains : goal.returns-in-None-pop_as-clause-gains
 returns-in-None-pop_as-clause-gains g c =
     subst (λ v. Gains (g.W.Work.allows c.args.work.now) (view c.args.pass.now) v c.args.out.now c.loop.out) (sym c.in-None-pop_as.ensures.rule.0) c.loop.invariant.gains
+
+pub returns-in-None-pop_as-clause-pass : goal.returns-in-None-pop_as-clause-pass
+returns-in-None-pop_as-clause-pass g c =
+    let same = c.in-None-pop_as.ensures.queue in
+    let held = c.loop.invariant.pass in
+    (same.0 ∙ held.0, same.2 ∙ held.1)
