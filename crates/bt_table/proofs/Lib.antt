@@ -2,6 +2,7 @@ pub mod Batches
 pub mod Indexes
 pub mod KeyOrder
 pub mod Loads
+pub mod Mapped
 pub mod offered
 pub mod Sinks
 pub mod Sound

@@ -40,6 +40,15 @@ use Rattle.bt_table.proofs.Sinks.{stepped}
 use Rattle.bt_table.proofs.Sound.{batch_keeps_sound, batch_of_schema, found-sound, none_building, renewed-holds, rows_sorted, with_built_index-sound, with_renewed_index-sound, with_renewed_rows-sound, with_rows-sound, with_index-sound, without_index-sound}
 use Rattle.bt_table.proofs.Standing.{rows_after-stand}
 
+taken_or : Trees → Option Trees → Trees
+taken_or other (Some trees) = trees
+taken_or other None = other
+
+-- what is taken is what stood there
+pub same_taken : (old found : Option Trees) (trees taken : Trees) → old ≡ Some trees → found ≡ old → found ≡ Some taken → taken ≡ trees
+unfolding taken_or
+same_taken old found trees taken is value some = ap (taken_or trees) (sym some ∙ value ∙ is)
+
 module _ (schema : Schema) (kept : Option Trees) (trees : Trees) (is : kept ≡ Some trees) (sound : IsSoundUnlessLost (state_of schema kept)) where
   abbrev indexes : List Index
   indexes = trees.indexes.items

@@ -45,7 +45,9 @@ fn read_del(
     ensures { Answers (spec.read_message schema.now item (line.Del fields.now)) result }
 {
     let key = reader.read_key(alloc, schema, item, fields)?;
-    Ok((encode_row(alloc, &key, key.len())?, Message::Del))
+    let code = encode_row(alloc, &key, key.len());
+    drop(key);
+    Ok((code?, Message::Del))
 }
 
 // The message to change the row of the key that a line spells, or its refusal as this item.
@@ -59,8 +61,14 @@ fn read_ups(
     ensures { Answers (spec.read_message schema.now item (line.Ups fields.now)) result }
 {
     let Upsert { key, ops } = reader.read_upsert(alloc, schema, item, fields)?;
-    let code = encode_row(alloc, &key, key.len())?;
-    let base = default_row(alloc, schema, key)?;
+    let Ok(code) = encode_row(alloc, &key, key.len()) else {
+        drop((key, ops));
+        return Err(Refusal::OutOfMemory);
+    };
+    let Ok(base) = default_row(alloc, schema, key) else {
+        drop((code, ops));
+        return Err(Refusal::OutOfMemory);
+    };
     Ok((code, Message::Ups(Change::new(alloc, base, ops)?)))
 }
 
@@ -109,7 +117,10 @@ fn refusal_of(
     ensures { IfOk result (λ refusal. refusal ≡ result_err (spec.read_message schema.now item line.now)) }
 {
     match read_message(alloc, reader, schema, item, line) {
-        Ok(_message) => Ok(None),
+        Ok(message) => {
+            drop(message);
+            Ok(None)
+        }
         Err(Refusal::OutOfMemory) => Err(AllocError),
         Err(other) => Ok(Some(other)),
     }

@@ -40,6 +40,20 @@ pub fn empty_index(alloc: Global, shape: Shape, name: Text, def: IndexDef) -> In
     }
 }
 
+/// The name of an index that is let go.
+pub fn into_name(index: Index) -> Text
+    ensures { result ≡ index.name }
+{
+    let Index {
+        name,
+        def,
+        cover,
+        tree,
+    } = index;
+    drop((def, cover, tree));
+    name
+}
+
 /// Whether an index with this cover is complete: it has each row.
 pub fn is_whole(cover: &Cover) -> bool
     ensures { result ≡ is_whole cover.now }
@@ -89,13 +103,12 @@ fn packets_for(alloc: Global, indexes: &[Index], effects: &[Effect]) -> Result<F
     let mut packets = Vec::new(alloc);
     let mut sent = Sequence::new(alloc);
     for index in indexes {
+        packets.reserve(1)?;
         let packet = index_packet(alloc, &index.def, &index.cover, effects)?;
+        let count = packet.len();
+        packets.push_reserved(packet);
         let name = index.name.copy(alloc)?;
-        sent.push(SentCount {
-            name,
-            count: packet.len(),
-        })?;
-        packets.push(packet)?;
+        sent.push(SentCount { name, count })?;
     }
     Ok(FanOut { packets, sent })
 }
@@ -174,7 +187,7 @@ pub fn put_tree(indexes: &mut Vec<Index>, place: usize, tree: Tree<Entry>)
     requires { place < length indexes.old.items }
     ensures { IfSome (slice_get indexes.old.items place) (λ index. indexes.new.items ≡ set indexes.old.items place (spec.with_tree index tree)) }
 {
-    indexes[place].tree = tree;
+    drop(mem::replace(&mut indexes[place].tree, tree));
 }
 
 // Flushes every buffer of the tree of an index. An `Err` leaves it with an empty tree.
@@ -247,9 +260,10 @@ pub fn pack_entries(
     requires { All (λ index. All (λ row. IsWithin index.def (length row.1)) rows.now) indexes.now }
     ensures { IfOk result (λ trees. trees.items ≡ map (spec.entry_tree rows.now) indexes.now) }
 {
-    let mut trees = Vec::with_capacity(alloc, indexes.len())?;
+    let mut trees = Vec::new(alloc);
     for index in indexes {
-        trees.push(packed_entries(alloc, index, rows)?)?;
+        trees.reserve(1)?;
+        trees.push_reserved(packed_entries(alloc, index, rows)?);
     }
     Ok(trees)
 }

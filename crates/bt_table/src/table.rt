@@ -10,7 +10,7 @@ ghost use Rattle.bt_table.specs.Tables.{Intact, Lost, empty_table};
 use crate::batch::read_messages;
 use crate::index::{
     FanOut, Index, advance_index, are_complete, drain_tree, empty_index, fan_out, find_index,
-    is_whole, pack_entries, put_tree, put_trees, sink_all,
+    into_name, is_whole, pack_entries, put_tree, put_trees, sink_all,
 };
 use crate::reply::Reply;
 use bt_fanout::{BuildStep, IndexDef, build_step};
@@ -166,7 +166,7 @@ impl Table {
         };
         let rows = rows.sink(alloc, packet)?;
         let indexes = sink_all(alloc, indexes, packets)?;
-        self.trees = Some(Trees { rows, indexes });
+        drop(self.trees.replace(Trees { rows, indexes }));
         Ok(Reply::Batch {
             count: items.len(),
             sent,
@@ -204,14 +204,21 @@ impl Table {
         ensures unchanged { OnErr result (self.new ≡ self.old) }
         ensures failed { self.old ≡ Lost → IsErrOf result Refusal.Failed }
     {
-        self.check_index(&name)?;
-        let created = name.copy(alloc)?;
+        if let Err(refusal) = self.check_index(&name) {
+            drop((name, def));
+            return Err(refusal);
+        }
+        let Ok(created) = name.copy(alloc) else {
+            drop((name, def));
+            return Err(Refusal::OutOfMemory);
+        };
         let Some(Trees { rows, mut indexes }) = self.trees.take() else {
+            drop((name, def));
             return Err(Refusal::Failed);
         };
         let index = empty_index(alloc, rows.shape(), name, def);
         let pushed = indexes.push(index);
-        self.trees = Some(Trees { rows, indexes });
+        drop(self.trees.replace(Trees { rows, indexes }));
         pushed?;
         Ok(Reply::Created(created))
     }
@@ -245,8 +252,11 @@ impl Table {
         let Some(Trees { rows, mut indexes }) = self.trees.take() else {
             return Err(Refusal::Failed);
         };
-        advance_index(alloc, &mut indexes, place, packet, cover)?;
-        self.trees = Some(Trees { rows, indexes });
+        let Ok(()) = advance_index(alloc, &mut indexes, place, packet, cover) else {
+            drop(rows);
+            return Err(Refusal::OutOfMemory);
+        };
+        drop(self.trees.replace(Trees { rows, indexes }));
         Ok(Reply::Built {
             name,
             read,
@@ -268,9 +278,9 @@ impl Table {
         let Some(Trees { rows, mut indexes }) = self.trees.take() else {
             return Err(Refusal::Failed);
         };
-        let index = indexes.remove(place);
-        self.trees = Some(Trees { rows, indexes });
-        Ok(Reply::Dropped(index.name))
+        let dropped = into_name(indexes.remove(place));
+        drop(self.trees.replace(Trees { rows, indexes }));
+        Ok(Reply::Dropped(dropped))
     }
 
     /// Takes the rows of a CSV text, under a header with the names of the columns in order, as those of a table that has none, and for each index their
@@ -299,20 +309,18 @@ impl Table {
         let count = pairs.len();
         let entries = pack_entries(alloc, trees.indexes.as_slice(), pairs.as_slice())?;
         let loaded = pack(alloc, trees.rows.shape(), pairs)?;
-        let Some(
-            Trees {
-                rows: _rows,
-                mut indexes,
-            },
-        ) = self.trees.take()
-        else {
+        let Some(Trees { rows, mut indexes }) = self.trees.take() else {
+            drop(loaded);
             return Err(Refusal::Failed);
         };
+        drop(rows);
         put_trees(&mut indexes, entries);
-        self.trees = Some(Trees {
-            rows: loaded,
-            indexes,
-        });
+        drop(
+            self.trees.replace(Trees {
+                rows: loaded,
+                indexes,
+            }),
+        );
         Ok(Reply::Loaded(count))
     }
 
@@ -335,14 +343,17 @@ impl Table {
                     return Err(Refusal::Failed);
                 };
                 let rows = rows.drain(alloc)?;
-                self.trees = Some(Trees { rows, indexes });
+                drop(self.trees.replace(Trees { rows, indexes }));
             }
             Some((place, _index)) => {
                 let Some(Trees { rows, mut indexes }) = self.trees.take() else {
                     return Err(Refusal::Failed);
                 };
-                drain_tree(alloc, &mut indexes, place)?;
-                self.trees = Some(Trees { rows, indexes });
+                let Ok(()) = drain_tree(alloc, &mut indexes, place) else {
+                    drop(rows);
+                    return Err(Refusal::OutOfMemory);
+                };
+                drop(self.trees.replace(Trees { rows, indexes }));
             }
         }
         Ok(Reply::Drained(drained))
@@ -364,27 +375,26 @@ impl Table {
         match found {
             None => {
                 let tree = trees.rows.rebuild(alloc)?;
-                let Some(
-                    Trees {
-                        rows: _rows,
-                        indexes,
-                    },
-                ) = self.trees.take()
-                else {
+                let Some(Trees { rows, indexes }) = self.trees.take() else {
+                    drop(tree);
                     return Err(Refusal::Failed);
                 };
-                self.trees = Some(Trees {
-                    rows: tree,
-                    indexes,
-                });
+                drop(rows);
+                drop(
+                    self.trees.replace(Trees {
+                        rows: tree,
+                        indexes,
+                    }),
+                );
             }
             Some((place, index)) => {
                 let tree = index.tree.rebuild(alloc)?;
                 let Some(Trees { rows, mut indexes }) = self.trees.take() else {
+                    drop(tree);
                     return Err(Refusal::Failed);
                 };
                 put_tree(&mut indexes, place, tree);
-                self.trees = Some(Trees { rows, indexes });
+                drop(self.trees.replace(Trees { rows, indexes }));
             }
         }
         Ok(Reply::Rebuilt(rebuilt))

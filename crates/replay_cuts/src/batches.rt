@@ -3,8 +3,10 @@ use anyhow::{Result, bail};
 use bt_keycode::{Key, encode_row};
 use bt_messages::{Message, Packet};
 use bt_node::Shape;
-use bt_rowtype::{Change, Item, RecordReader, Refusal, Row, Schema, Upsert, default_row};
-use bt_script::{Command, Items, Parsed, TableForm, parse_command};
+use bt_rowtype::{
+    Change, Item, RecordLine, RecordReader, Refusal, Row, Schema, Upsert, default_row,
+};
+use bt_script::{Command, Items, Parsed, parse_command};
 use std::alloc::Global;
 
 /// A table and what is sent to it.
@@ -15,6 +17,38 @@ pub(crate) struct Batches<'a> {
     batches: Vec<Items<'a>>,
 }
 
+// The row of a line, and its key.
+fn put(
+    alloc: Global,
+    reader: &mut RecordReader,
+    schema: &Schema,
+    line: &RecordLine<'_>,
+) -> Result<(Key, Message<Row>), Refusal> {
+    let row = reader.read_row(alloc, schema, 1, line)?;
+    let key = encode_row(alloc, &row, schema.keys())?;
+    Ok((key, Message::Put(row)))
+}
+
+// The key that a line is.
+fn del(
+    alloc: Global,
+    reader: &mut RecordReader,
+    schema: &Schema,
+    line: &RecordLine<'_>,
+) -> Result<(Key, Message<Row>), Refusal> {
+    let key = reader.read_key(alloc, schema, 1, line)?;
+    let code = encode_row(alloc, &key, key.len())?;
+    Ok((code, Message::Del))
+}
+
+// What is to become of a key by operations.
+fn ups(alloc: Global, schema: &Schema, upsert: Upsert) -> Result<(Key, Message<Row>), Refusal> {
+    let Upsert { key, ops } = upsert;
+    let code = encode_row(alloc, &key, key.len())?;
+    let base = default_row(alloc, schema, key)?;
+    Ok((code, Message::Ups(Change::new(alloc, base, ops)?)))
+}
+
 // The message that a line of a batch spells.
 fn message(
     alloc: Global,
@@ -23,59 +57,85 @@ fn message(
     item: &Item<'_>,
 ) -> Result<(Key, Message<Row>), Refusal> {
     match item {
-        Item::Put(line) => {
-            let row = reader.read_row(alloc, schema, 1, line)?;
-            let key = encode_row(alloc, &row, schema.keys())?;
-            Ok((key, Message::Put(row)))
+        Item::Put(line) => put(alloc, reader, schema, line),
+        Item::Del(line) => del(alloc, reader, schema, line),
+        Item::Ups(line) => ups(alloc, schema, reader.read_upsert(alloc, schema, 1, line)?),
+    }
+}
+
+// The schema and the shape that a command creates a table with.
+fn table_of(command: Command<'_>) -> Option<(Schema, Shape)> {
+    match command {
+        Command::Table(form) => {
+            let shape = Shape::new(form.fanout, form.buffer, form.leaf).ok()?;
+            let schema = Schema::new(form.columns, form.keys as usize).ok()?;
+            Some((schema, shape))
         }
-        Item::Del(line) => {
-            let key = reader.read_key(alloc, schema, 1, line)?;
-            Ok((encode_row(alloc, &key, key.len())?, Message::Del))
-        }
-        Item::Ups(line) => {
-            let Upsert { key, ops } = reader.read_upsert(alloc, schema, 1, line)?;
-            let code = encode_row(alloc, &key, key.len())?;
-            let base = default_row(alloc, schema, key)?;
-            Ok((code, Message::Ups(Change::new(alloc, base, ops)?)))
+        other => {
+            drop(other);
+            None
         }
     }
 }
 
+// The lines of a batch.
+fn items_of(command: Command<'_>) -> Option<Items<'_>> {
+    match command {
+        Command::Batch(items) => Some(items),
+        other => {
+            drop(other);
+            None
+        }
+    }
+}
+
+// The first table that a script creates.
+fn first_table(alloc: Global, script: &[u8]) -> Result<(Schema, Shape)> {
+    let mut at = 0;
+    for _ in 0..script.len() {
+        match parse_command(alloc, script, at)? {
+            Parsed::End => break,
+            Parsed::Bad { next, .. } => at = next,
+            Parsed::Good { command, next } => {
+                if let Some(table) = table_of(command) {
+                    return Ok(table);
+                }
+                at = next;
+            }
+        }
+    }
+    bail!("it has no table")
+}
+
+// All batches of a script.
+fn all_batches(alloc: Global, script: &[u8]) -> Result<Vec<Items<'_>>> {
+    let mut batches = Vec::new(alloc);
+    let mut at = 0;
+    for _ in 0..script.len() {
+        match parse_command(alloc, script, at)? {
+            Parsed::End => break,
+            Parsed::Bad { next, .. } => at = next,
+            Parsed::Good { command, next } => {
+                if let Some(items) = items_of(command) {
+                    batches.push(items)?;
+                }
+                at = next;
+            }
+        }
+    }
+    Ok(batches)
+}
+
 impl<'a> Batches<'a> {
-    fn of_table(alloc: Global, form: TableForm) -> Result<Self, Refusal> {
-        let schema = Schema::new(form.columns, form.keys as usize)?;
-        let shape = Shape::new(form.fanout, form.buffer, form.leaf)?;
+    /// The first table of a script, and all of its batches.
+    pub(crate) fn read(alloc: Global, script: &'a [u8]) -> Result<Self> {
+        let (schema, shape) = first_table(alloc, script)?;
+        let batches = all_batches(alloc, script)?;
         Ok(Batches {
             schema,
             shape,
-            batches: Vec::new(alloc),
+            batches,
         })
-    }
-
-    /// The batches of a script.
-    pub(crate) fn read(alloc: Global, script: &'a [u8]) -> Result<Self> {
-        let mut table: Option<Batches<'a>> = None;
-        let mut at = 0;
-        for _ in 0..script.len() {
-            match parse_command(alloc, script, at)? {
-                Parsed::End => break,
-                Parsed::Bad { next, .. } => at = next,
-                Parsed::Good { command, next } => {
-                    at = next;
-                    match (command, &mut table) {
-                        (Command::Table(form), None) => {
-                            table = Batches::of_table(alloc, form).ok();
-                        }
-                        (Command::Batch(items), Some(table)) => table.batches.push(items)?,
-                        _ => {}
-                    }
-                }
-            }
-        }
-        match table {
-            Some(table) => Ok(table),
-            None => bail!("it has no table"),
-        }
     }
 
     pub(crate) fn shape(&self) -> Shape {

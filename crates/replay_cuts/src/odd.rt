@@ -75,14 +75,20 @@ pub(crate) fn misfit_of<V: Merge>(
     let (holed, jobs) = cut(alloc, 0, tree, packet, depth, Mode::Absorb)?;
     let pieces = odd_pieces(alloc, shape, jobs, odd)?;
     match fill(alloc, holed, pieces) {
-        Ok(_siblings) => Ok(None),
+        Ok(siblings) => {
+            drop(siblings);
+            Ok(None)
+        }
         Err(FillError::OutOfMemory) => Err(AllocError),
         Err(
             FillError::Misfit {
                 misfit,
-                holed: _holed,
-                pieces: _pieces,
+                holed,
+                pieces,
             },
-        ) => Ok(Some(misfit)),
+        ) => {
+            drop((holed, pieces));
+            Ok(Some(misfit))
+        }
     }
 }

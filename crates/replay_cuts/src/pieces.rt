@@ -91,7 +91,10 @@ pub(crate) fn in_pieces<V: Merge>(
 {
     let shape = tree.shape();
     let (holed, jobs) = cut(alloc, 0, tree, packet, depth, mode)?;
-    let pieces = run_all(alloc, shape, turned(jobs, turn))?;
+    let Ok(pieces) = run_all(alloc, shape, turned(jobs, turn)) else {
+        drop(holed);
+        return Err(FillError::OutOfMemory);
+    };
     let siblings = fill(alloc, holed, pieces)?;
     Ok(crown(alloc, shape, siblings)?)
 }

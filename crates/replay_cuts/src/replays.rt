@@ -11,10 +11,21 @@ use bt_messages::Packet;
 use bt_node::Tree;
 use bt_plan::{Job, Mode, Place, cut};
 use bt_rowtype::Row;
+use bt_script::Items;
 use std::alloc::Global;
 
 /// The most jobs that are named.
 const MOST_NAMED: usize = 4;
+
+// What is said of a flush in pieces that gives no tree.
+fn fault_text(fault: FillError<Row>) -> &'static str {
+    let is_memory = matches!(fault, FillError::OutOfMemory);
+    drop(fault);
+    if is_memory {
+        return "out of memory";
+    }
+    "its pieces do not fill it"
+}
 
 /// A tree after a flush, or drained, in pieces.
 pub(crate) fn divided(
@@ -29,8 +40,7 @@ pub(crate) fn divided(
 {
     match in_pieces(alloc, tree, packet, depth, mode, turn) {
         Ok(tree) => Ok(tree),
-        Err(FillError::OutOfMemory) => bail!("out of memory"),
-        Err(FillError::Misfit { .. }) => bail!("its pieces do not fill it"),
+        Err(fault) => bail!("{}", fault_text(fault)),
     }
 }
 
@@ -44,26 +54,136 @@ fn same_height(alloc: Global, whole: &Tree<Row>, divided: &Tree<Row>) -> Result<
     Ok(height(divided))
 }
 
+// A tree after flushes as a whole, the tree after the same flushes in pieces, and the greatest height so far.
+#[derive(Drop)]
+struct Compared {
+    whole: Tree<Row>,
+    pieces: Tree<Row>,
+    highest: u64,
+}
+
+// The same, with their height, where the trees are alike.
+fn alike(alloc: Global, trees: Compared) -> Result<Compared> {
+    let Compared {
+        whole,
+        pieces,
+        highest,
+    } = trees;
+    match same_height(alloc, &whole, &pieces) {
+        Ok(height) => Ok(Compared {
+            whole,
+            pieces,
+            highest: highest.max(height),
+        }),
+        Err(error) => {
+            drop((whole, pieces));
+            Err(error)
+        }
+    }
+}
+
+// The packet of a batch, twice, or none where one of its lines is refused.
+fn two_packets(
+    alloc: Global,
+    table: &Batches<'_>,
+    items: &Items<'_>,
+) -> Result<Option<(Packet<Row>, Packet<Row>)>> {
+    let Some(packet) = table.packet(alloc, items)? else {
+        return Ok(None);
+    };
+    let Some(same) = table.packet(alloc, items)? else {
+        return Ok(None);
+    };
+    Ok(Some((packet, same)))
+}
+
+// Compares the trees after a packet, or drained.
+fn after(
+    alloc: Global,
+    trees: Compared,
+    packets: (Packet<Row>, Packet<Row>),
+    depth: usize,
+    mode: Mode,
+    turn: Turn,
+) -> Result<Compared>
+    requires { (1 ≤ depth) × (depth ≤ 3) }
+{
+    let Compared {
+        whole,
+        pieces,
+        highest,
+    } = trees;
+    let (packet, same) = packets;
+    let flushed = match mode {
+        Mode::Absorb => whole.sink(alloc, packet),
+        Mode::Drain => whole.drain(alloc),
+    };
+    let divided = divided(alloc, pieces, same, depth, mode, turn);
+    let whole = flushed?;
+    match divided {
+        Ok(pieces) => alike(
+            alloc,
+            Compared {
+                whole,
+                pieces,
+                highest,
+            },
+        ),
+        Err(error) => {
+            drop(whole);
+            Err(error)
+        }
+    }
+}
+
+// Compares the trees after a batch. One that is refused changes neither.
+fn after_batch(
+    alloc: Global,
+    table: &Batches<'_>,
+    items: &Items<'_>,
+    trees: Compared,
+    depth: usize,
+    turn: Turn,
+) -> Result<Compared>
+    requires { (1 ≤ depth) × (depth ≤ 3) }
+{
+    match two_packets(alloc, table, items) {
+        Ok(Some(packets)) => after(alloc, trees, packets, depth, Mode::Absorb, turn),
+        Ok(None) => Ok(trees),
+        Err(error) => {
+            drop(trees);
+            Err(error)
+        }
+    }
+}
+
+// The greatest height of two trees that are drained.
+fn drained_height(alloc: Global, trees: Compared, depth: usize, turn: Turn) -> Result<u64>
+    requires { (1 ≤ depth) × (depth ≤ 3) }
+{
+    let none = (Packet::new(alloc), Packet::new(alloc));
+    let Compared {
+        whole,
+        pieces,
+        highest,
+    } = after(alloc, trees, none, depth, Mode::Drain, turn)?;
+    drop((whole, pieces));
+    Ok(highest)
+}
+
 // Compares the trees after each batch of a script, and at last those that are drained. Gives the greatest height.
 fn compare(alloc: Global, table: &Batches<'_>, depth: usize, turn: Turn) -> Result<u64>
     requires { (1 ≤ depth) × (depth ≤ 3) }
 {
-    let mut whole = Tree::empty(alloc, table.shape());
-    let mut pieces = Tree::empty(alloc, table.shape());
-    let mut highest = 1u64;
+    let mut trees = Compared {
+        whole: Tree::empty(alloc, table.shape()),
+        pieces: Tree::empty(alloc, table.shape()),
+        highest: 1,
+    };
     for items in table.items() {
-        if let (Some(packet), Some(same)) = (
-            table.packet(alloc, items)?,
-            table.packet(alloc, items)?,
-        ) {
-            whole = whole.sink(alloc, packet)?;
-            pieces = divided(alloc, pieces, same, depth, Mode::Absorb, turn)?;
-            highest = highest.max(same_height(alloc, &whole, &pieces)?);
-        }
+        trees = after_batch(alloc, table, items, trees, depth, turn)?;
     }
-    whole = whole.drain(alloc)?;
-    pieces = divided(alloc, pieces, Packet::new(alloc), depth, Mode::Drain, turn)?;
-    Ok(highest.max(same_height(alloc, &whole, &pieces)?))
+    drained_height(alloc, trees, depth, turn)
 }
 
 // The tree before the last batch of a script, and the packet of that.
@@ -100,13 +220,22 @@ fn jobs_text(alloc: Global, jobs: &[Job<Row>]) -> Result<String> {
     Ok(text)
 }
 
+// The jobs of the last batch.
+fn last_jobs(alloc: Global, table: &Batches<'_>, depth: usize) -> Result<Vec<Job<Row>>>
+    requires { (1 ≤ depth) × (depth ≤ 3) }
+{
+    let (tree, packet) = before_last(alloc, table)?;
+    let (holed, jobs) = cut(alloc, 0, tree, packet, depth, Mode::Absorb)?;
+    drop(holed);
+    Ok(jobs)
+}
+
 // Prints the jobs of the last batch.
 fn print_jobs<R: Print + AllocGlobal>(rt: &R, table: &Batches<'_>, depth: usize) -> Result<()>
     requires { (1 ≤ depth) × (depth ≤ 3) }
 {
     let alloc = rt.alloc();
-    let (tree, packet) = before_last(alloc, table)?;
-    let (_holed, jobs) = cut(alloc, 0, tree, packet, depth, Mode::Absorb)?;
+    let jobs = last_jobs(alloc, table, depth)?;
     let text = jobs_text(alloc, jobs.as_slice())?;
     println!(rt; "  cut at {depth}:{text}")?;
     Ok(())
@@ -137,20 +266,27 @@ fn print_misfit<R: Print + AllocGlobal>(
     Ok(())
 }
 
-/// Replays a script, cut at each depth, with the jobs in both orders, and refuses it where a tree differs.
-pub(crate) fn replay<R: Print + AllocGlobal>(rt: &R, name: &str, script: &[u8]) -> Result<()> {
+// Replays the batches of a script, cut at each depth, with the jobs in both orders.
+fn replay_batches<R: Print + AllocGlobal>(rt: &R, name: &str, table: &Batches<'_>) -> Result<()> {
     let alloc = rt.alloc();
-    let table = Batches::read(alloc, script)?;
     let mut highest = 1;
     for depth in 1..4usize {
-        compare(alloc, &table, depth, Turn::Rising)?;
-        highest = compare(alloc, &table, depth, Turn::Falling)?;
+        compare(alloc, table, depth, Turn::Rising)?;
+        highest = compare(alloc, table, depth, Turn::Falling)?;
     }
     println!(rt; "{name}: height {highest}")?;
     for depth in 1..4usize {
-        print_jobs(rt, &table, depth)?;
+        print_jobs(rt, table, depth)?;
     }
-    print_misfit(rt, &table, "its first piece twice", Odd::Twice)?;
-    print_misfit(rt, &table, "a piece at /1", Odd::At(1))?;
-    print_misfit(rt, &table, "no piece", Odd::Missing)
+    print_misfit(rt, table, "its first piece twice", Odd::Twice)?;
+    print_misfit(rt, table, "a piece at /1", Odd::At(1))?;
+    print_misfit(rt, table, "no piece", Odd::Missing)
+}
+
+/// Replays a script, cut at each depth, with the jobs in both orders, and refuses it where a tree differs.
+pub(crate) fn replay<R: Print + AllocGlobal>(rt: &R, name: &str, script: &[u8]) -> Result<()> {
+    let table = Batches::read(rt.alloc(), script)?;
+    let replayed = replay_batches(rt, name, &table);
+    drop(table);
+    replayed
 }

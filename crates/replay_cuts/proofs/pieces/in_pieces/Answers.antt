@@ -16,7 +16,7 @@ fill-requires g c =
     let roomy : IsRoomy c.shape-shape.result = record { fanout = search rules; leaf = search rules } in
     let cut = c.in_ok-holed.ensures in
     cut-turned (effect_of g.V.Merge.merged) c.shape-shape.result roomy c.in_ok-holed.holed c.in_ok-holed.jobs.items c.args.tree c.shape-shape.ensures 0 c.args.packet c.args.depth c.args.mode cut.pieces cut.stand cut.rise
-    c.turned.result.items c.turned.ensures _ c.in_ok-pieces.ensures
+    c.turned.result.items c.turned.ensures _ c.in-Ok.ensures
 
 pub crown-requires : goal.crown-requires
 crown-requires g c =
