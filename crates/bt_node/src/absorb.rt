@@ -1,5 +1,5 @@
 //! How messages go down a node: as the first ones of a stream.
-ghost use Rattle.std.specs.Prelude.{◌≡◌, ◌+◌, ◌≤◌, [], ◌∷◌, true, IfOk, OnOk, drop, length, map, take, vec_len};
+ghost use Rattle.std.specs.Prelude.{◌≡◌, ◌+◌, ◌≤◌, ◌++◌, [], ◌∷◌, true, IfOk, OnOk, drop, length, map, take, vec_len};
 ghost use Rattle.std.specs.List.{zip};
 ghost use Rattle.bt_messages.specs.Bins.{LieBetween, joined, parted, parts, total};
 ghost use Rattle.bt_messages.specs.Effects.{effect_of};
@@ -11,7 +11,7 @@ ghost use Rattle.bt_node.specs.Plans.{planned};
 ghost use Rattle.bt_node.specs.Trees.{inner, nodes};
 ghost use Rattle.bt_node.specs.Marks.{passed, marks_of};
 ghost use Rattle.bt_node.specs.inside.Shares.{AreInOrder, loaded, sums};
-ghost use Rattle.bt_node.specs.inside.Views.{children_of};
+ghost use Rattle.bt_node.specs.inside.Views.{children_of, with_share};
 
 use crate::group::{add_parts, group, leaves};
 use crate::node::{Child, Kind, Node, Siblings};
@@ -92,6 +92,49 @@ fn send<V: Merge>(
     absorb(alloc, shape, node, &mut packet, count)
 }
 
+// Adds what becomes of a child that is flushed, with its share of what comes.
+#[cycle(flushes)]
+fn add_flushed<V: Merge>(
+    alloc: Global,
+    shape: Shape,
+    parts: &mut Vec<Child<V>>,
+    child: Child<V>,
+    stream: &mut Stream<V>,
+    share: usize,
+) -> Result<(), AllocError>
+    requires enough { share ≤ length stream.old }
+    requires in_order { IsInOrder child.node }
+    ensures parts { OnOk result (children_of parts.new.items ≡ children_of parts.old.items ++ flushed (absorb (effect_of V.merged) shape) (with_share child (take share stream.old))) }
+    ensures left { OnOk result (stream.new ≡ drop share stream.old) }
+{
+    let Child {
+        pivot,
+        node,
+        pending,
+    } = child;
+    let nodes = send(alloc, shape, node, pending, stream, share)?;
+    add_parts(alloc, parts, pivot, nodes)?;
+    Ok(())
+}
+
+// Adds a child that is not flushed: its share of what comes is pending for it too.
+fn add_kept<V: Merge>(
+    alloc: Global,
+    parts: &mut Vec<Child<V>>,
+    child: Child<V>,
+    stream: &mut Stream<V>,
+    share: usize,
+) -> Result<(), AllocError>
+    requires { share ≤ length stream.old }
+    ensures parts { OnOk result (children_of parts.new.items ≡ children_of parts.old.items ++ with_share child (take share stream.old) ∷ []) }
+    ensures left { OnOk result (stream.new ≡ drop share stream.old) }
+{
+    let mut child = child;
+    child.pending.add_front(alloc, stream, share)?;
+    parts.push(child)?;
+    Ok(())
+}
+
 // What becomes of children with their shares of what comes, when what is pending for the marked ones goes down to them.
 #[cycle(flushes)]
 fn flush<V: Merge>(
@@ -116,21 +159,10 @@ fn flush<V: Merge>(
         let (Some(share), Some(flushed)) = (shares.next(), marks.next()) else {
             unreachable!()
         };
-        let Child {
-            pivot,
-            node,
-            pending,
-        } = child;
         if flushed {
-            let nodes = send(alloc, shape, node, pending, stream, share)?;
-            add_parts(alloc, &mut parts, pivot, nodes)?;
+            add_flushed(alloc, shape, &mut parts, child, stream, share)?;
         } else {
-            let pending = with_front(alloc, pending, stream, share)?;
-            parts.push(Child {
-                pivot,
-                node,
-                pending,
-            })?;
+            add_kept(alloc, &mut parts, child, stream, share)?;
         }
     }
     Ok(parts)

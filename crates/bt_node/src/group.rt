@@ -56,19 +56,29 @@ fn gather<V: Merge>(alloc: Global, part: Vec<Child<V>>) -> Result<(Key, Node<V>)
     ensures { IfOk result (λ node. (node.0, node.1) ≡ gathered (children_of part.items)) }
 {
     let count = part.len();
+    let mut bins = Vec::with_capacity(alloc, count)?;
     let mut part = part.into_iter();
     let Some(first) = part.next() else {
         unreachable!()
     };
-    let mut children = Siblings::with_capacity(alloc, first.node, count)?;
-    let mut bins = Vec::with_capacity(alloc, count)?;
-    bins.push(first.pending)?;
+    let Child {
+        pivot,
+        node,
+        pending,
+    } = first;
+    bins.push_reserved(pending);
+    let mut children = Siblings::with_capacity(alloc, node, count)?;
     for child in part {
-        children.push(child.pivot, child.node)?;
-        bins.push(child.pending)?;
+        let Child {
+            pivot,
+            node,
+            pending,
+        } = child;
+        bins.push_reserved(pending);
+        children.push(pivot, node)?;
     }
     let bins = Bins::from_packets(bins);
-    Ok((first.pivot, Node::inner(children, bins)))
+    Ok((pivot, Node::inner(children, bins)))
 }
 
 /// The children dealt by the fanout, each part under an inner node.

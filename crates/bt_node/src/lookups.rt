@@ -74,7 +74,7 @@ fn found_at<'a, V: Merge>(
 {
     let mut values = Vec::with_capacity(alloc, keys.len())?;
     for key in keys {
-        values.push(Held::found(rows.find(key)))?;
+        values.push_reserved(Held::found(rows.find(key)));
     }
     Ok(values)
 }
@@ -139,7 +139,7 @@ pub(crate) fn into_values<V: Merge>(
 {
     let mut copies = Vec::with_capacity(alloc, values.len())?;
     for value in values {
-        copies.push(value.into_value(alloc)?)?;
+        copies.push_reserved(value.into_value(alloc)?);
     }
     Ok(copies)
 }

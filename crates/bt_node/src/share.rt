@@ -25,11 +25,11 @@ pub(crate) fn beside<V: Merge>(
         let Some(pending) = packets.next() else {
             return Ok(children);
         };
-        children.push(Child {
+        children.push_reserved(Child {
             pivot,
             node,
             pending,
-        })?;
+        });
     }
     Ok(children)
 }
@@ -48,7 +48,7 @@ pub(crate) fn loads<V: Merge>(
     let _bound = stream.len();
     let mut loads = Vec::with_capacity(alloc, shares.len())?;
     for place in 0..shares.len() {
-        loads.push(bins.count(place) + shares[place] as u64)?;
+        loads.push_reserved(bins.count(place) + shares[place] as u64);
     }
     Ok(loads)
 }

@@ -1,6 +1,6 @@
-use Rattle.std.proofs.Common.{◌≡◌, ◌∙◌, ◌≤◌, [], ◌∷◌, ◌++◌, ap, arith, drop, length, map, refl, rules, subst, sym, take}
+use Rattle.std.proofs.Common.{◌≡◌, ◌∙◌, ◌≤◌, [], ◌∷◌, ◌++◌, append-nil, ap, arith, drop, length, map, refl, rules, subst, sym, take}
 use Rattle.std.proofs.Math.Seq.{take-length}
-use Rattle.std.proofs.lemmas.List.{map-append}
+use Rattle.std.specs.List.{zip}
 use Rattle.std.specs.Vec.Iter.{into_iter_items}
 use Rattle.bt_messages.specs.Bins.{joined, parted, parts, total}
 use Rattle.bt_messages.specs.Effects.{effect_of}
@@ -13,9 +13,9 @@ use Rattle.bt_node.specs.Messages.{with_messages}
 use Rattle.bt_node.specs.Plans.{planned}
 use Rattle.bt_node.specs.Trees.{inner, nodes}
 use Rattle.bt_node.specs.Marks.{marks_of}
-use Rattle.bt_node.specs.inside.Shares.{AreInOrder, sums}
-use Rattle.bt_node.specs.inside.Views.{child_of, children_of, none_pending_of}
-use Rattle.bt_node.proofs.lemmas.code.AbsorbStep.{among, children_in_order, grouped_anew, if_ok, lower, marks-long, long, on_ok, parts_divided, parts_some, stays_here}
+use Rattle.bt_node.specs.inside.Shares.{AreInOrder, loaded, sums}
+use Rattle.bt_node.specs.inside.Views.{children_of, none_pending_of}
+use Rattle.bt_node.proofs.lemmas.code.AbsorbStep.{among, children_in_order, grouped_anew, highest, if_ok, lower, marks-long, long, on_ok, parts_divided, parts_some, pass, stays_here}
 use Rattle.bt_node.proofs.lemmas.code.FlushLoop.{one_flushed, one_kept, rest_fits, same_left}
 use Rattle.bt_node.proofs.lemmas.code.GroupLoops.{nothing_left}
 use Rattle.bt_node.proofs.lemmas.flushes.Divisions.{bins-length}
@@ -152,14 +152,52 @@ pub absorb-returns-in_ok-parts-in-Inner-clause-left : goal.absorb-returns-in_ok-
 absorb-returns-in_ok-parts-in-Inner-clause-left g t c =
     on_ok _ c.group.result (c.in_ok-parts-in-Inner.ensures.left ∙ ap (λ n. drop n c.args.stream.now) c.in_ok-shares-in-Inner.ensures.total)
 
-pub flush-same-pivot-else-flushed : goal.flush-same-pivot-else-flushed
-flush-same-pivot-else-flushed g t c = refl
+pub add_flushed-returns-clause-parts : goal.add_flushed-returns-clause-parts
+add_flushed-returns-clause-parts g t c =
+    c.in_ok-add_parts.ensures ∙ ap (λ ts. children_of c.args.parts.now.items ++ none_pending_of (pivot_first c.args.child.pivot ts)) c.in_ok-nodes.ensures.siblings
 
-pub flush-same-node : goal.flush-same-node
-flush-same-node g t c = refl
+pub flush-loop-child-init : goal.flush-loop-child-init
+flush-loop-child-init g t c =
+    let effect = effect_of g.V.Merge.merged in
+    let stream = c.args.stream.now in
+    let children = c.into_iter-child-iterator.ensures.into_iter_gives.0 in
+    let shares = c.into_iter-shares.ensures.rest in
+    let marks = c.into_iter-marks.ensures.rest in
+    record {
+      parts = ap (λ ps. children_of ps ++ pass effect c.args.shape (zip (loaded (children_of c.into_iter-child-iterator.result.rest.items) (into_iter_items c.into_iter-shares.result) stream) (into_iter_items c.into_iter-marks.result))) c.in_ok-parts.ensures.items
+          ∙ ap (λ cs. pass effect c.args.shape (zip (loaded (children_of cs) (into_iter_items c.into_iter-shares.result) stream) (into_iter_items c.into_iter-marks.result))) children
+          ∙ ap (λ ns. pass effect c.args.shape (zip (loaded (children_of c.args.children.items) ns stream) (into_iter_items c.into_iter-marks.result))) shares
+          ∙ ap (λ bs. pass effect c.args.shape (zip (loaded (children_of c.args.children.items) c.args.shares.items stream) bs)) marks;
+      left = ap (λ ns. drop (total ns) stream) shares;
+      enough = omega (arith, ap total shares, c.requires.enough);
+      in_order = subst (λ cs. AreInOrder (children_of cs)) (sym children) c.requires.in_order;
+      shares = omega (arith, ap length shares, ap length children, c.requires.shares);
+      marks = omega (arith, ap length marks, ap length children, c.requires.marks);
+      no_higher = omega (arith, ap highest children);
+    }
 
-pub flush-loop-child-preserved-in-Continue-branch-3 : goal.flush-loop-child-preserved-in-Continue-branch-3
-flush-loop-child-preserved-in-Continue-branch-3 g t c =
+pub flush-add_flushed-requires : goal.flush-add_flushed-requires
+flush-add_flushed-requires g t c κs within =
+    let steps = c.in-Some.ensures.steps.0 in
+    let before = c.loop-child.invariant in (
+      omega (arith, (among c.in-Some.child c.next.new.self.rest.items c.loop-child.child-iterator.rest.items _ steps before.no_higher).0, c.decreases),
+      (within.0, (within.1, (omega (arith, ap total c.in-Some-Some.ensures.items, before.enough), (subst (λ cs. AreInOrder (children_of cs)) steps before.in_order).0))),
+    )
+
+pub flush-add_kept-requires : goal.flush-add_kept-requires
+flush-add_kept-requires g t c = omega (arith, ap total c.in-Some-Some.ensures.items, c.loop-child.invariant.enough)
+
+pub flush-returns-clause-children : goal.flush-returns-clause-children
+flush-returns-clause-children g t c =
+    let done = c.loop-child.parts.items in
+    let it = c.loop-child.child-iterator.rest in
+    let none : it.items ≡ [] = nothing_left it.items (omega (arith, it.ok.0, c.in-None.ensures.steps.0)) in
+    sym (append-nil (children_of done))
+    ∙ ap (λ cs. children_of done ++ pass (effect_of g.V.Merge.merged) c.args.shape (zip (loaded (children_of cs) (into_iter_items c.loop-child.shares) c.loop-child.stream) (into_iter_items c.loop-child.marks))) (sym none)
+    ∙ c.loop-child.invariant.parts
+
+pub flush-loop-child-preserved-in-Continue-branch-2 : goal.flush-loop-child-preserved-in-Continue-branch-2
+flush-loop-child-preserved-in-Continue-branch-2 g t c =
     let child = c.in-Some.child in
     let share = c.in-Some-Some.share in
     let stream = c.loop-child.stream in
@@ -168,18 +206,17 @@ flush-loop-child-preserved-in-Continue-branch-3 g t c =
     let ns = into_iter_items c.next-in-loop-child.new.self in
     let bs = into_iter_items c.next-in-loop-child-2.new.self in
     let steps = c.in-Some.ensures.steps.0 in
-    let shares : into_iter_items c.loop-child.shares ≡ share ∷ ns = search rules in
-    let mark : into_iter_items c.loop-child.marks ≡ c.in-Some-Some.flushed ∷ bs = search rules in
-    let marks = mark ∙ ap (λ b. b ∷ bs) c.if-flushed.true in
-    let rest = c.in_ok-nodes.ensures.left in
-    let pushed = c.in_ok-add_parts.ensures ∙ ap (λ ts. children_of done ++ none_pending_of (pivot_first child.pivot ts)) c.in_ok-nodes.ensures.siblings in
+    let shares = c.in-Some-Some.ensures.items in
+    let marks = c.in-Some-Some.ensures'.items ∙ ap (λ b. b ∷ bs) c.if-flushed.true in
+    let rest = c.in_ok-add_flushed.ensures.left in
+    let pushed = c.in_ok-add_flushed.ensures.parts in
     let effect = effect_of g.V.Merge.merged in
     let before = c.loop-child.invariant in
     record {
-      parts = one_flushed effect c.args.shape child left c.loop-child.child-iterator.rest.items share ns (into_iter_items c.loop-child.shares) c.send.new.stream stream bs
-          steps shares rest done c.add_parts.new.children.items (into_iter_items c.loop-child.marks) marks pushed ∙ before.parts;
-      left = same_left share ns (into_iter_items c.loop-child.shares) c.send.new.stream stream shares rest _ before.left;
-      enough = rest_fits share ns (into_iter_items c.loop-child.shares) c.send.new.stream stream shares rest before.enough;
+      parts = one_flushed effect c.args.shape child left c.loop-child.child-iterator.rest.items share ns (into_iter_items c.loop-child.shares) c.add_flushed.new.stream stream bs
+          steps shares rest done c.add_flushed.new.parts.items (into_iter_items c.loop-child.marks) marks pushed ∙ before.parts;
+      left = same_left share ns (into_iter_items c.loop-child.shares) c.add_flushed.new.stream stream shares rest _ before.left;
+      enough = rest_fits share ns (into_iter_items c.loop-child.shares) c.add_flushed.new.stream stream shares rest before.enough;
       in_order = (subst (λ cs. AreInOrder (children_of cs)) steps before.in_order).1;
       shares = omega (arith, ap length shares, ap length steps, before.shares);
       marks = omega (arith, ap length marks, ap length steps, before.marks);
@@ -196,20 +233,17 @@ flush-loop-child-preserved g t c =
     let ns = into_iter_items c.next-in-loop-child.new.self in
     let bs = into_iter_items c.next-in-loop-child-2.new.self in
     let steps = c.in-Some.ensures.steps.0 in
-    let shares : into_iter_items c.loop-child.shares ≡ share ∷ ns = search rules in
-    let mark : into_iter_items c.loop-child.marks ≡ c.in-Some-Some.flushed ∷ bs = search rules in
-    let marks = mark ∙ ap (λ b. b ∷ bs) c.if-flushed.false in
-    let rest = c.in_ok-pending.ensures.left in
-    let pushed =
-    ap children_of c.in_ok-push.ensures.items ∙ map-append child_of done _
-    ∙ ap (λ p. children_of done ++ record { pivot = child.pivot; tree = child.node; pending = p } ∷ []) c.in_ok-pending.ensures.packet in
+    let shares = c.in-Some-Some.ensures.items in
+    let marks = c.in-Some-Some.ensures'.items ∙ ap (λ b. b ∷ bs) c.if-flushed.false in
+    let rest = c.in_ok-add_kept.ensures.left in
+    let pushed = c.in_ok-add_kept.ensures.parts in
     let effect = effect_of g.V.Merge.merged in
     let before = c.loop-child.invariant in
     record {
-      parts = one_kept effect c.args.shape child left c.loop-child.child-iterator.rest.items share ns (into_iter_items c.loop-child.shares) c.with_front.new.stream stream bs
-          steps shares rest done c.push.new.self.items (into_iter_items c.loop-child.marks) marks pushed ∙ before.parts;
-      left = same_left share ns (into_iter_items c.loop-child.shares) c.with_front.new.stream stream shares rest _ before.left;
-      enough = rest_fits share ns (into_iter_items c.loop-child.shares) c.with_front.new.stream stream shares rest before.enough;
+      parts = one_kept effect c.args.shape child left c.loop-child.child-iterator.rest.items share ns (into_iter_items c.loop-child.shares) c.add_kept.new.stream stream bs
+          steps shares rest done c.add_kept.new.parts.items (into_iter_items c.loop-child.marks) marks pushed ∙ before.parts;
+      left = same_left share ns (into_iter_items c.loop-child.shares) c.add_kept.new.stream stream shares rest _ before.left;
+      enough = rest_fits share ns (into_iter_items c.loop-child.shares) c.add_kept.new.stream stream shares rest before.enough;
       in_order = (subst (λ cs. AreInOrder (children_of cs)) steps before.in_order).1;
       shares = omega (arith, ap length shares, ap length steps, before.shares);
       marks = omega (arith, ap length marks, ap length steps, before.marks);

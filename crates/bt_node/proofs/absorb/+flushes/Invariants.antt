@@ -23,10 +23,13 @@ invariant-flush-loop-child g l = record {
 }
 
 abbrev pub decreases-absorb : goal.decreases-absorb
-decreases-absorb g l = 3 * height l.node
+decreases-absorb g l = 4 * height l.node
 
 abbrev pub decreases-send : goal.decreases-send
-decreases-send g l = 3 * height l.node + 1
+decreases-send g l = 4 * height l.node + 1
 
 abbrev pub decreases-flush : goal.decreases-flush
-decreases-flush g l = 3 * highest l.children.items + 2
+decreases-flush g l = 4 * highest l.children.items + 3
+
+abbrev pub decreases-add_flushed : goal.decreases-add_flushed
+decreases-add_flushed g l = 4 * height l.child.node + 2

@@ -1,17 +1,22 @@
-use Rattle.std.proofs.Common.{◌≡◌, ◌∙◌, ◌≤◌, [], ap, arith, drop, length, refl, rules, sym, take}
+use Rattle.std.proofs.Common.{◌≡◌, ◌∙◌, ◌≤◌, ◌++◌, [], ap, arith, drop, length, refl, rules, sym, take}
 use Rattle.std.proofs.Math.Seq.{take-length}
 use Rattle.std.proofs.lemmas.List.{length-map}
+use Rattle.std.specs.List.{flat_map}
+use Rattle.std.specs.Vec.Iter.{into_iter_items}
 use Rattle.bt_messages.specs.Bins.{joined, parts, total}
 use Rattle.bt_messages.specs.Effects.{effect_of}
 use Rattle.bt_messages.proofs.offered.Fronts.{sorted_take}
 use Rattle.bt_messages.proofs.offered.Parts.{lie_length}
 use Rattle.bt_messages.proofs.offered.Placed.{alone}
 use Rattle.bt_node.specs.Drains.{drain}
+use Rattle.bt_node.specs.Flushes.{flushed, pivot_first}
 use Rattle.bt_node.specs.Lookups.{pivots_of}
 use Rattle.bt_node.specs.Messages.{with_messages}
-use Rattle.bt_node.specs.inside.Views.{child_of}
-use Rattle.bt_node.proofs.lemmas.code.AbsorbStep.{if_ok, lower, on_ok}
-use Rattle.bt_node.proofs.lemmas.code.DrainStep.{drained_anew, drained_divided, drained_some}
+use Rattle.bt_node.specs.inside.Shares.{loaded}
+use Rattle.bt_node.specs.inside.Views.{child_of, children_of, none_pending_of}
+use Rattle.bt_node.proofs.lemmas.code.AbsorbStep.{among, highest, if_ok, lower, on_ok}
+use Rattle.bt_node.proofs.lemmas.code.DrainStep.{drained_anew, drained_divided, drained_some, one_drained}
+use Rattle.bt_node.proofs.lemmas.code.FlushLoop.{rest_fits, same_left}
 use Rattle.bt_node.proofs.lemmas.code.GroupLoops.{nothing_left}
 use Rattle.bt_node.proofs.lemmas.flushes.Divisions.{bins-length, length-beside}
 use Rattle.bt_node.proofs.drain.+drains.Goals as goal
@@ -72,6 +77,51 @@ drain-returns-in_ok-parts-in-Inner-clause-siblings g t c =
 pub drain-returns-in_ok-parts-in-Inner-clause-left : goal.drain-returns-in_ok-parts-in-Inner-clause-left
 drain-returns-in_ok-parts-in-Inner-clause-left g t c =
     on_ok _ c.group.result (c.in_ok-parts-in-Inner.ensures.left ∙ ap (λ n. drop n c.args.stream.now) c.in_ok-shares-in-Inner.ensures.total)
+
+pub drain_each-loop-child-init : goal.drain_each-loop-child-init
+drain_each-loop-child-init g t c =
+    let each = flat_map (flushed (drain (effect_of g.V.Merge.merged) c.args.shape)) in
+    let stream = c.args.stream.now in
+    let children = c.into_iter-child-iterator.ensures.into_iter_gives.0 in
+    let shares = c.into_iter-shares.ensures.rest in
+    record {
+      parts = ap (λ ps. children_of ps ++ each (loaded (children_of c.into_iter-child-iterator.result.rest.items) (into_iter_items c.into_iter-shares.result) stream)) c.in_ok-parts.ensures.items
+          ∙ ap (λ cs. each (loaded (children_of cs) (into_iter_items c.into_iter-shares.result) stream)) children
+          ∙ ap (λ ns. each (loaded (children_of c.args.children.items) ns stream)) shares;
+      left = ap (λ ns. drop (total ns) stream) shares;
+      enough = omega (arith, ap total shares, c.requires.enough);
+      shares = omega (arith, ap length shares, ap length children, c.requires.shares);
+      no_higher = omega (arith, ap highest children);
+    }
+
+pub drain_each-drain_child-requires : goal.drain_each-drain_child-requires
+drain_each-drain_child-requires g t c κs within =
+    let before = c.loop-child.invariant in (
+      omega (arith, (among c.in-Some.child c.next.new.self.rest.items c.loop-child.child-iterator.rest.items _ c.in-Some.ensures.steps.0 before.no_higher).0, c.decreases),
+      (within.0, (within.1, omega (arith, ap total c.in-Some-next.ensures.items, before.enough))),
+    )
+
+pub drain_each-loop-child-preserved : goal.drain_each-loop-child-preserved
+drain_each-loop-child-preserved g t c =
+    let child = c.in-Some.child in
+    let share = c.in-Some-next.share in
+    let stream = c.loop-child.stream in
+    let done = c.loop-child.parts.items in
+    let left = c.next.new.self.rest.items in
+    let ns = into_iter_items c.next-in-loop-child.new.self in
+    let steps = c.in-Some.ensures.steps.0 in
+    let shares = c.in-Some-next.ensures.items in
+    let rest = c.in_ok-nodes.ensures.left in
+    let pushed = c.in_ok-add_parts.ensures ∙ ap (λ ts. children_of done ++ none_pending_of (pivot_first child.pivot ts)) c.in_ok-nodes.ensures.siblings in
+    let before = c.loop-child.invariant in
+    record {
+      parts = one_drained (effect_of g.V.Merge.merged) c.args.shape child left c.loop-child.child-iterator.rest.items share ns (into_iter_items c.loop-child.shares) c.drain_child.new.stream stream
+          steps shares rest done c.add_parts.new.children.items pushed ∙ before.parts;
+      left = same_left share ns (into_iter_items c.loop-child.shares) c.drain_child.new.stream stream shares rest _ before.left;
+      enough = rest_fits share ns (into_iter_items c.loop-child.shares) c.drain_child.new.stream stream shares rest before.enough;
+      shares = omega (arith, ap length shares, ap length steps, before.shares);
+      no_higher = (among child left c.loop-child.child-iterator.rest.items _ steps before.no_higher).1;
+    }
 
 pub drain_child-returns-then-is_empty-clause-siblings : goal.drain_child-returns-then-is_empty-clause-siblings
 drain_child-returns-then-is_empty-clause-siblings g t c =

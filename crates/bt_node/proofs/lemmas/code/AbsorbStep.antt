@@ -159,5 +159,5 @@ pub lower : {V D : Type 0} (node : Tree V (Message V D)) (xs : Siblings V (Messa
 lower node xs b bins cs here same is = omega (arith, ap height here, ap (λ ys. height_below (nodes ys)) (ap stripped is ∙ stripped-beside xs bins same))
 
 -- a child is no higher than the highest
-pub among : {V D : Type 0} (c : code.Child V D) (cs ds : List (code.Child V D)) (bound : ℕ) → ds ≡ c ∷ cs → highest ds ≤ bound → (3 * height c.node + 1 < 3 * bound + 2) × (highest cs ≤ bound)
+pub among : {V D : Type 0} (c : code.Child V D) (cs ds : List (code.Child V D)) (bound : ℕ) → ds ≡ c ∷ cs → highest ds ≤ bound → (height c.node ≤ bound) × (highest cs ≤ bound)
 among c cs ds bound e h = let all = ap highest e in (omega (arith, all, h), omega (arith, all, h))

@@ -1,17 +1,17 @@
 -- What the code makes of an inner node that is drained is what becomes of it.
-use Rattle.std.proofs.Common.{◌≡◌, ◌≤◌, ℕ, List, Option, length, take, sym, ap, subst, ◌∙◌, arith}
+use Rattle.std.proofs.Common.{◌≡◌, ◌≤◌, ℕ, List, [], ◌∷◌, ◌++◌, Option, append_assoc, drop, length, take, sym, ap, subst, ◌∙◌, arith}
 use Rattle.std.proofs.lemmas.List.{length-map}
 use Rattle.std.specs.List.{flat_map}
 use Rattle.bt_messages.specs.Bins.{LieBetween, joined, parted, parts}
 use Rattle.bt_messages.specs.declared.message.Message.{Message}
 use Rattle.bt_node.specs.declared.node.Child as code
 use Rattle.bt_node.specs.Drains.{drain}
-use Rattle.bt_node.specs.Flushes.{flushed, grouped, shared}
+use Rattle.bt_node.specs.Flushes.{Child, flushed, grouped, shared}
 use Rattle.bt_node.specs.Lookups.{pivots_of}
 use Rattle.bt_node.specs.Messages.{Messages, with_messages}
 use Rattle.bt_node.specs.Trees.{Shape, Siblings, Tree, height, inner, nodes}
 use Rattle.bt_node.specs.inside.Shares.{AreDivided, beside, loaded}
-use Rattle.bt_node.specs.inside.Views.{child_of, children_of}
+use Rattle.bt_node.specs.inside.Views.{child_of, children_of, with_share}
 use Rattle.bt_node.proofs.lemmas.flushes.Divisions.{divided-none, joined-pending, loaded-shared}
 use Rattle.bt_node.proofs.lemmas.flushes.Drains.{all_pending-flushed, drain-led, drain_recurs, flushed-some}
 use Rattle.bt_node.proofs.lemmas.flushes.Groups.{children-nodes}
@@ -47,3 +47,15 @@ module _ {V D : Type 0} (effect : Option V → Message V D → Option V) (s : Sh
       ap (grouped s) all_drained
       ∙ sym (ap (λ t. drain effect s t (take count ms)) here ∙ drain_recurs effect s (nodes xs) (joined bins) (take count ms)
       ∙ ap (λ ys. grouped s (flat_map (flushed (drain effect s)) (shared ys after))) (children-nodes xs))
+
+-- one more child is drained
+module _ {V D : Type 0} (effect : Option V → Message V D → Option V) (s : Shape) (c : code.Child V D) (cs all : List (code.Child V D)) (n : ℕ) (ns shares : List ℕ) (ms stream : Messages (Message V D))
+    (child : all ≡ c ∷ cs) (share : shares ≡ n ∷ ns) (left : ms ≡ drop n stream) (done now : List (code.Child V D)) where
+  abbrev each : List (code.Child V D) → List ℕ → Messages (Message V D) → List (Child V (Message V D))
+  each ds ks zs = flat_map (flushed (drain effect s)) (loaded (children_of ds) ks zs)
+
+  pub one_drained : children_of now ≡ children_of done ++ flushed (drain effect s) (with_share c (take n stream)) → children_of now ++ each cs ns ms ≡ children_of done ++ each all shares stream
+  one_drained pushed =
+      ap (λ ds. ds ++ each cs ns ms) pushed ∙ append_assoc (children_of done) (flushed (drain effect s) (with_share c (take n stream))) (each cs ns ms)
+      ∙ ap (λ zs. children_of done ++ (flushed (drain effect s) (with_share c (take n stream)) ++ each cs ns zs)) left
+      ∙ sym (ap (λ ks. children_of done ++ each all ks stream) share ∙ ap (λ ds. children_of done ++ each ds (n ∷ ns) stream) child)

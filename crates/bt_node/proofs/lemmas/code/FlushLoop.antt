@@ -6,10 +6,10 @@ use Rattle.bt_messages.specs.Bins.{total}
 use Rattle.bt_messages.specs.declared.message.Message.{Message}
 use Rattle.bt_node.specs.declared.node.Child as code
 use Rattle.bt_node.specs.Flushes.{Child, absorb, flushed}
-use Rattle.bt_node.specs.Messages.{Messages, with_messages}
+use Rattle.bt_node.specs.Messages.{Messages}
 use Rattle.bt_node.specs.Trees.{Shape}
 use Rattle.bt_node.specs.inside.Shares.{loaded}
-use Rattle.bt_node.specs.inside.Views.{children_of}
+use Rattle.bt_node.specs.inside.Views.{children_of, with_share}
 use Rattle.bt_node.proofs.lemmas.code.AbsorbStep.{pass}
 
 module _ {X : Type 0} (n : ℕ) (ns shares : List ℕ) (ms stream : List X) (first : shares ≡ n ∷ ns) (left : ms ≡ drop n stream) where
@@ -24,10 +24,6 @@ module _ {X : Type 0} (n : ℕ) (ns shares : List ℕ) (ms stream : List X) (fir
   rest_fits enough = omega (arith, ap total first, ap length left, length-drop n stream, enough)
 
 module _ {V D : Type 0} (effect : Option V → Message V D → Option V) (s : Shape) where
-  -- a child with its share
-  abbrev pub one_loaded : code.Child V D → ℕ → Messages (Message V D) → Child V (Message V D)
-  one_loaded c n ms = record { pivot = c.pivot; tree = c.node; pending = with_messages (take n ms) c.pending }
-
   module _ (c : code.Child V D) (cs all : List (code.Child V D)) (n : ℕ) (ns shares : List ℕ) (ms stream : Messages (Message V D)) (marks_left : List Bool)
       (child : all ≡ c ∷ cs) (share : shares ≡ n ∷ ns) (left : ms ≡ drop n stream) (done now : List (code.Child V D)) where
     abbrev rest : List (Child V (Message V D))
@@ -37,21 +33,21 @@ module _ {V D : Type 0} (effect : Option V → Message V D → Option V) (s : Sh
     same_rest = ap (λ m. pass effect s (zip (loaded (children_of cs) ns m) marks_left)) left
 
     -- a child that is flushed
-    pub one_flushed : (marks : List Bool) → marks ≡ true ∷ marks_left → children_of now ≡ children_of done ++ flushed (absorb effect s) (one_loaded c n stream) →
+    pub one_flushed : (marks : List Bool) → marks ≡ true ∷ marks_left → children_of now ≡ children_of done ++ flushed (absorb effect s) (with_share c (take n stream)) →
         children_of now ++ rest ≡ children_of done ++ pass effect s (zip (loaded (children_of all) shares stream) marks)
     one_flushed marks mark pushed =
-        ap (λ zs. zs ++ rest) pushed ∙ append_assoc (children_of done) (flushed (absorb effect s) (one_loaded c n stream)) rest
-        ∙ ap (λ zs. children_of done ++ (flushed (absorb effect s) (one_loaded c n stream) ++ zs)) same_rest
+        ap (λ zs. zs ++ rest) pushed ∙ append_assoc (children_of done) (flushed (absorb effect s) (with_share c (take n stream))) rest
+        ∙ ap (λ zs. children_of done ++ (flushed (absorb effect s) (with_share c (take n stream)) ++ zs)) same_rest
         ∙ sym (ap (λ bs. children_of done ++ pass effect s (zip (loaded (children_of all) shares stream) bs)) mark
         ∙ ap (λ ks. children_of done ++ pass effect s (zip (loaded (children_of all) ks stream) (true ∷ marks_left))) share
         ∙ ap (λ ds. children_of done ++ pass effect s (zip (loaded (children_of ds) (n ∷ ns) stream) (true ∷ marks_left))) child)
 
     -- a child that takes its share
-    pub one_kept : (marks : List Bool) → marks ≡ false ∷ marks_left → children_of now ≡ children_of done ++ one_loaded c n stream ∷ [] →
+    pub one_kept : (marks : List Bool) → marks ≡ false ∷ marks_left → children_of now ≡ children_of done ++ with_share c (take n stream) ∷ [] →
         children_of now ++ rest ≡ children_of done ++ pass effect s (zip (loaded (children_of all) shares stream) marks)
     one_kept marks mark pushed =
-        ap (λ zs. zs ++ rest) pushed ∙ append_assoc (children_of done) (one_loaded c n stream ∷ []) rest
-        ∙ ap (λ zs. children_of done ++ (one_loaded c n stream ∷ zs)) same_rest
+        ap (λ zs. zs ++ rest) pushed ∙ append_assoc (children_of done) (with_share c (take n stream) ∷ []) rest
+        ∙ ap (λ zs. children_of done ++ (with_share c (take n stream) ∷ zs)) same_rest
         ∙ sym (ap (λ bs. children_of done ++ pass effect s (zip (loaded (children_of all) shares stream) bs)) mark
         ∙ ap (λ ks. children_of done ++ pass effect s (zip (loaded (children_of all) ks stream) (false ∷ marks_left))) share
         ∙ ap (λ ds. children_of done ++ pass effect s (zip (loaded (children_of ds) (n ∷ ns) stream) (false ∷ marks_left))) child)

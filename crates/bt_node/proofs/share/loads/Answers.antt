@@ -9,8 +9,12 @@ overflow_add-count g c =
 pub loop-place-preserved : goal.loop-place-preserved
 loop-place-preserved g c =
     let below : c.loop-place.place < length c.args.bins.now = omega (arith, c.loop-place-test.true, c.requires.len) in
-    one_more_load c.args.bins.now c.args.shares.now c.loop-place.loads.items c.push.new.self.items c.loop-place.place c.count.result below c.loop-place-test.true c.count.ensures.count
-    c.in_ok-push.ensures.items c.loop-place.invariant
+    record {
+      loads = one_more_load c.args.bins.now c.args.shares.now c.loop-place.loads.items c.push_reserved.new.self.items c.loop-place.place c.count.result below c.loop-place-test.true c.count.ensures.count
+          c.push_reserved.ensures.items c.loop-place.invariant.loads;
+      len = omega (arith, c.push_reserved.ensures.len, c.loop-place.invariant.len);
+      room = omega (arith, c.push_reserved.ensures.capacity, c.loop-place.invariant.room);
+    }
 
 pub returns : goal.returns
-returns g c = all_loads c.args.bins.now c.args.shares.now c.loop-place.loads.items c.loop-place.place c.loop-place-test.false c.loop-place.invariant
+returns g c = all_loads c.args.bins.now c.args.shares.now c.loop-place.loads.items c.loop-place.place c.loop-place-test.false c.loop-place.invariant.loads
