@@ -24,3 +24,6 @@ loop-preserved g c = elim c.match-next.branch [
         room = grind (arith, common_steps);
       }
 ]
+
+pub push_reserved-requires : goal.push_reserved-requires
+push_reserved-requires g c = omega (arith, c.loop.invariant.len, c.loop.invariant.room, c.loop-test.true)

@@ -8,7 +8,21 @@ pub same-children : goal.same-children
 same-children g c = refl
 
 pub loop-child-init : goal.loop-child-init
-loop-child-init g c = record { children = refl; bins = refl; room = omega (arith, c.in_ok-bins.ensures.len, c.in_ok-bins.ensures.capacity, c.push_reserved.ensures.len, c.push_reserved.ensures.capacity, c.len-count.ensures, ap length c.into_iter-part.ensures.rest, c.in-Some.ensures.len, ap (λ it. length it.rest.items) c.into_iter-child-iterator.ensures.into_iter_gives) }
+loop-child-init g c = record {
+  children = refl;
+  bins = refl;
+  room = omega (
+    arith,
+    c.in_ok-bins.ensures.len,
+    c.in_ok-bins.ensures.capacity,
+    c.push_reserved.ensures.len,
+    c.push_reserved.ensures.capacity,
+    c.len-count.ensures,
+    ap length c.into_iter-part.ensures.rest,
+    c.in-Some.ensures.len,
+    ap (λ it. length it.rest.items) c.into_iter-child-iterator.ensures.into_iter_gives,
+  );
+}
 
 pub loop-child-init-derived : goal.loop-child-init-derived
 loop-child-init-derived g c = (tt, tt)

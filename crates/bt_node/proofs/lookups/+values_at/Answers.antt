@@ -1,8 +1,9 @@
-use Rattle.std.proofs.Common.{◌∙◌, ◌+◌, ap, arith, drop, length, map, subst, sym, take}
+use Rattle.std.proofs.Common.{◌∙◌, ◌+◌, ◌++◌, ap, arith, drop, length, length-drop, map, subst, sym, take}
 use Rattle.bt_messages.specs.Bins.{LieBetween, joined}
 use Rattle.bt_messages.specs.Effects.{effect_of}
 use Rattle.bt_node.specs.Kinds.{IsDivided, tree_of}
 use Rattle.bt_node.specs.inside.Held.{value_of}
+use Rattle.bt_node.specs.inside.Together.{values_at}
 use Rattle.bt_node.proofs.lemmas.code.AbsorbStep.{if_ok}
 use Rattle.bt_node.proofs.lemmas.code.PivotSearch.{pivots_rise}
 use Rattle.bt_node.proofs.lemmas.code.RowsOfChildren.{child_in_order, child_lower}
@@ -50,3 +51,15 @@ pub returns-in-Leaf : goal.returns-in-Leaf
 returns-in-Leaf g t c =
     if_ok _ _ c.found_at.result (λ values e. e
     ∙ leaf_values (effect_of g.V.Merge.merged) (λ k. k.now) c.args.keys.now c.in-Leaf.rows c.args.node.now (c.kind.ensures.tree ∙ ap tree_of c.in-Leaf.is)) c.found_at.ensures
+
+pub loop-done-init : goal.loop-done-init
+loop-done-init g t c = record {
+  wanted = ap (λ vs. map value_of vs ++ values_at (effect_of g.V.Merge.merged) (map (λ k. k.now) c.args.keys.now) c.args.node.now) c.in_ok-values-in-Inner.ensures.items;
+  within = omega arith;
+}
+
+pub loop-done-smaller : goal.loop-done-smaller
+loop-done-smaller g t c = omega (arith, c.loop-done-test.true, c.first_run-place.ensures.some)
+
+pub first_run-place-requires-clause-some : goal.first_run-place-requires-clause-some
+first_run-place-requires-clause-some g t c = omega (arith, c.loop-done-test.true, ap length c.keys_from.ensures, length-drop c.loop-done.done c.args.keys.now)

@@ -1,4 +1,4 @@
-use Rattle.std.proofs.Common.{◌≡◌, ◌∙◌, ◌<◌, None, Some, [], false, ap, arith, fold, get_or, length, not, refl, rules, subst, sym}
+use Rattle.std.proofs.Common.{◌≡◌, ◌∙◌, ◌<◌, None, Some, [], false, ap, arith, drop, fold, get_or, length, length-drop, not, refl, rules, subst, sym}
 use Rattle.std.proofs.lemmas.List.{length-map}
 use Rattle.std.proofs.lemmas.Result.{on_ok_weaker}
 use Rattle.std.specs.Option.{is_none, option_copied, option_or}
@@ -47,6 +47,20 @@ bin_between-requires g t c =
 pub merged-requires : goal.merged-requires
 merged-requires g t c =
     subst IsSorted (sym c.in_ok-above-in-Inner.ensures.taken) (sorted-where (is_between None (option_copied c.or-high.result)) c.loop-place.newer c.loop-place.invariant.sorted)
+
+pub unreachable-requires : goal.unreachable-requires
+unreachable-requires g t c =
+    let xs = c.in-Inner.children in
+    omega (
+      arith,
+      c.loop-place-test.false,
+      c.loop-place.invariant.few,
+      c.len-place-end.ensures.count,
+      c.pivots-pivots.ensures.some,
+      ap length c.pivots-pivots.ensures.pivots,
+      length-map (drop 1 xs) (λ x. x.0),
+      length-drop 1 xs,
+    )
 
 pub returns : goal.returns
 returns g t c =
