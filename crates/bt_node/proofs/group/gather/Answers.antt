@@ -1,7 +1,5 @@
-use Rattle.std.proofs.Common.{◌≡◌, ◌∷◌, ◌++◌, ◌∙◌, [], append-nil, append_assoc, ap, arith, length, refl, rules, sym}
-use Rattle.bt_node.specs.inside.Views.{children_of}
-use Rattle.bt_node.proofs.lemmas.code.GroupLoops.{bins_of, gather_divided, gather_done, nothing_left}
-use Rattle.bt_node.proofs.lemmas.flushes.Groups.{stripped}
+use Rattle.std.proofs.Common.{◌≡◌, ◌∷◌, ◌∙◌, [], ap, arith, length, refl, sym}
+use Rattle.bt_node.proofs.lemmas.code.GroupLoops.{all_bins, all_taken, bin_taken, child_taken, gather_divided, gather_done, nothing_left}
 use Rattle.bt_node.proofs.group.gather.Goals as goal
 
 pub same-children : goal.same-children
@@ -34,15 +32,13 @@ pub loop-child-preserved : goal.loop-child-preserved
 loop-child-preserved g c =
     let child = c.in-Some-child.child in
     let left = c.next-in-loop-child.new.self.rest.items in
+    let it = c.loop-child.child-iterator.rest in
     let steps = c.in-Some-child.ensures.steps.0 in
+    let so_far = c.loop-child.invariant in
     record {
-      children = ap (λ xs. xs ++ stripped (children_of left)) c.in_ok-push.ensures
-          ∙ append_assoc c.loop-child.children ((child.pivot, child.node) ∷ []) (stripped (children_of left))
-          ∙ ap (λ xs. c.loop-child.children ++ stripped (children_of xs)) (sym steps) ∙ c.loop-child.invariant.children;
-      bins = ap (λ bs. bs ++ bins_of left) c.push_reserved-in-loop-child.ensures.items
-          ∙ append_assoc c.loop-child.bins.items (child.pending ∷ []) (bins_of left)
-          ∙ ap (λ xs. c.loop-child.bins.items ++ bins_of xs) (sym steps) ∙ c.loop-child.invariant.bins;
-      room = omega (arith, ap length steps, c.loop-child.invariant.room, c.push_reserved-in-loop-child.ensures.len, c.push_reserved-in-loop-child.ensures.capacity);
+      children = child_taken child left it.items steps c.loop-child.children c.push.new.self _ c.in_ok-push.ensures so_far.children;
+      bins = bin_taken child left it.items steps c.loop-child.bins.items c.push_reserved-in-loop-child.new.self.items _ c.push_reserved-in-loop-child.ensures.items so_far.bins;
+      room = omega (arith, ap length steps, so_far.room, c.push_reserved-in-loop-child.ensures.len, c.push_reserved-in-loop-child.ensures.capacity);
     }
 
 pub inner-requires : goal.inner-requires
@@ -50,12 +46,11 @@ inner-requires g c =
     let it = c.loop-child.child-iterator.rest in
     let rest = c.into_iter-child-iterator.result.rest.items in
     let first = c.in-Some.first in
-    let e : c.args.part.items ≡ first ∷ rest = search rules in
+    let e : c.args.part.items ≡ first ∷ rest = sym c.into_iter-part.ensures.rest ∙ c.in-Some.ensures.items ∙ ap (λ it. first ∷ it.rest.items) (sym c.into_iter-child-iterator.ensures.into_iter_gives) in
     let none : it.items ≡ [] = nothing_left it.items (omega (arith, it.ok.0, c.in-None.ensures.steps.0)) in
-    let all = sym (append-nil c.loop-child.children) ∙ ap (λ xs. c.loop-child.children ++ stripped (children_of xs)) (sym none)
-    ∙ c.loop-child.invariant.children ∙ ap (λ xs. xs ++ stripped (children_of rest)) c.in_ok-children.ensures in
-    let bins = c.from_packets-bins.ensures ∙ sym (append-nil c.loop-child.bins.items) ∙ ap (λ xs. c.loop-child.bins.items ++ bins_of xs) (sym none)
-    ∙ c.loop-child.invariant.bins ∙ ap (λ bs. bs ++ bins_of rest) (c.push_reserved.ensures.items ∙ ap (λ bs. bs ++ first.pending ∷ []) c.in_ok-bins.ensures.items) in
+    let all = all_taken first rest it.items none c.in_ok-children.children c.loop-child.children c.in_ok-children.ensures c.loop-child.invariant.children in
+    let bins = c.from_packets-bins.ensures
+    ∙ all_bins first rest it.items none c.in_ok-bins.bins.items c.push_reserved.new.self.items c.loop-child.bins.items c.in_ok-bins.ensures.items c.push_reserved.ensures.items c.loop-child.invariant.bins in
     gather_divided c.loop-child.children c.from_packets-bins.result c.args.part.items first rest e all bins c.requires.divided
 
 pub returns : goal.returns
@@ -63,10 +58,9 @@ returns g c =
     let it = c.loop-child.child-iterator.rest in
     let rest = c.into_iter-child-iterator.result.rest.items in
     let first = c.in-Some.first in
-    let e : c.args.part.items ≡ first ∷ rest = search rules in
+    let e : c.args.part.items ≡ first ∷ rest = sym c.into_iter-part.ensures.rest ∙ c.in-Some.ensures.items ∙ ap (λ it. first ∷ it.rest.items) (sym c.into_iter-child-iterator.ensures.into_iter_gives) in
     let none : it.items ≡ [] = nothing_left it.items (omega (arith, it.ok.0, c.in-None.ensures.steps.0)) in
-    let all = sym (append-nil c.loop-child.children) ∙ ap (λ xs. c.loop-child.children ++ stripped (children_of xs)) (sym none)
-    ∙ c.loop-child.invariant.children ∙ ap (λ xs. xs ++ stripped (children_of rest)) c.in_ok-children.ensures in
-    let bins = c.from_packets-bins.ensures ∙ sym (append-nil c.loop-child.bins.items) ∙ ap (λ xs. c.loop-child.bins.items ++ bins_of xs) (sym none)
-    ∙ c.loop-child.invariant.bins ∙ ap (λ bs. bs ++ bins_of rest) (c.push_reserved.ensures.items ∙ ap (λ bs. bs ++ first.pending ∷ []) c.in_ok-bins.ensures.items) in
+    let all = all_taken first rest it.items none c.in_ok-children.children c.loop-child.children c.in_ok-children.ensures c.loop-child.invariant.children in
+    let bins = c.from_packets-bins.ensures
+    ∙ all_bins first rest it.items none c.in_ok-bins.bins.items c.push_reserved.new.self.items c.loop-child.bins.items c.in_ok-bins.ensures.items c.push_reserved.ensures.items c.loop-child.invariant.bins in
     ap (λ t. (first.pivot, t)) c.inner.ensures ∙ gather_done c.loop-child.children c.from_packets-bins.result c.args.part.items first rest e all bins

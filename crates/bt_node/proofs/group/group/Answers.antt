@@ -1,4 +1,4 @@
-use Rattle.std.proofs.Common.{◌≡◌, ◌∷◌, ◌++◌, ◌∙◌, [], ap, arith, refl, rules, subst, sym}
+use Rattle.std.proofs.Common.{◌≡◌, ◌∷◌, ◌++◌, ◌∙◌, [], ap, arith, refl, subst, sym}
 use Rattle.bt_node.specs.Deals.{deal}
 use Rattle.bt_node.specs.inside.Shares.{AreDivided}
 use Rattle.bt_node.specs.inside.Views.{children_of}
@@ -16,14 +16,14 @@ unreachable-requires g c =
 pub gather-requires-clause-some : goal.gather-requires-clause-some
 gather-requires-clause-some g c =
     let parts = c.in_ok-dealt.dealt.items in
-    let split : parts ≡ c.in-Some.first ∷ c.next.new.self.rest.items = search rules in
+    let split : parts ≡ c.in-Some.first ∷ c.next.new.self.rest.items = sym c.into_iter-parts.ensures.rest ∙ c.in-Some.ensures.items in
     let full = parts_full c.fanout.result parts c.args.children.items c.in_ok-dealt.ensures (omega arith) c.requires.some in
     some_length c.in-Some.first.items (subst (λ ps. AllNonEmpty (parts_of ps)) split full).0
 
 pub gather-requires-clause-divided : goal.gather-requires-clause-divided
 gather-requires-clause-divided g c =
     let parts = c.in_ok-dealt.dealt.items in
-    let split : parts ≡ c.in-Some.first ∷ c.next.new.self.rest.items = search rules in
+    let split : parts ≡ c.in-Some.first ∷ c.next.new.self.rest.items = sym c.into_iter-parts.ensures.rest ∙ c.in-Some.ensures.items in
     let whole = subst (λ cs. AreDivided (children_of cs)) (sym (all_dealt c.fanout.result parts c.args.children.items c.in_ok-dealt.ensures)) c.requires.divided in
     first_part c.in-Some.first c.next.new.self.rest.items (subst (λ ps. AreDivided (children_of (all_of ps))) split whole)
 
@@ -31,7 +31,7 @@ pub loop-part-init : goal.loop-part-init
 loop-part-init g c =
     let parts = c.in_ok-dealt.dealt.items in
     let rest = c.into_iter-part-iterator.result.rest.items in
-    let split : parts ≡ c.in-Some.first ∷ rest = search rules in
+    let split : parts ≡ c.in-Some.first ∷ rest = sym c.into_iter-parts.ensures.rest ∙ c.in-Some.ensures.items ∙ ap (λ it. c.in-Some.first ∷ it.rest.items) (sym c.into_iter-part-iterator.ensures.into_iter_gives) in
     let full = parts_full c.fanout.result parts c.args.children.items c.in_ok-dealt.ensures (omega arith) c.requires.some in
     let whole = subst (λ cs. AreDivided (children_of cs)) (sym (all_dealt c.fanout.result parts c.args.children.items c.in_ok-dealt.ensures)) c.requires.divided in
     record {
@@ -73,7 +73,7 @@ returns g c =
     let rest = c.into_iter-part-iterator.result.rest.items in
     let it = c.loop-part.part-iterator.rest in
     let dealt = c.in_ok-dealt.ensures ∙ ap (λ n. deal n c.args.children.items) c.fanout.ensures.value in
-    let split : parts ≡ c.in-Some.first ∷ rest = search rules in
+    let split : parts ≡ c.in-Some.first ∷ rest = sym c.into_iter-parts.ensures.rest ∙ c.in-Some.ensures.items ∙ ap (λ it. c.in-Some.first ∷ it.rest.items) (sym c.into_iter-part-iterator.ensures.into_iter_gives) in
     let none : it.items ≡ [] = nothing_left it.items (omega (arith, it.ok.0, c.in-None.ensures.steps.0)) in
     group_done c.args.shape parts c.args.children.items c.in-Some.first rest it.items c.in_ok-node.field-0-0 c.in_ok-node.node c.in_ok-siblings.siblings c.loop-part.siblings
     dealt split c.in_ok-node.ensures c.in_ok-siblings.ensures c.loop-part.invariant.nodes none

@@ -1,4 +1,4 @@
-use Rattle.std.proofs.Common.{◌≡◌, ◌≤◌, ◌∷◌, ◌++◌, ◌∙◌, [], ap, arith, length, map, rules, subst, sym}
+use Rattle.std.proofs.Common.{◌≡◌, ◌≤◌, ◌∷◌, ◌++◌, ◌∙◌, [], ap, arith, length, map, subst, sym}
 use Rattle.bt_messages.specs.declared.message.Message.{Message}
 use Rattle.bt_node.specs.Deals.{deal}
 use Rattle.bt_node.proofs.lemmas.code.AbsorbStep.{if_ok}
@@ -37,7 +37,7 @@ returns g c =
     let first = c.in-Some.first in
     let it = c.loop-part.part-iterator.rest in
     let dealt = c.in_ok-dealt.ensures ∙ ap (λ n. deal n c.args.rows) c.leaf-most.ensures.value in
-    let split : parts ≡ first ∷ rest = search rules in
+    let split : parts ≡ first ∷ rest = sym c.into_iter-parts.ensures.rest ∙ c.in-Some.ensures.items ∙ ap (λ it. first ∷ it.rest.items) (sym c.into_iter-part-iterator.ensures.into_iter_gives) in
     let empty : it.items ≡ [] = nothing_left it.items (omega (arith, it.ok.0, c.in-None.ensures.steps.0)) in
     let start = c.in_ok-siblings.ensures ∙ ap (λ t. ([], t) ∷ []) c.leaf-2.ensures in
     leaves_done c.args.shape c.args.rows parts first rest it.items c.in_ok-siblings.siblings c.loop-part.siblings dealt split start c.loop-part.invariant empty

@@ -39,6 +39,27 @@ module _ {V D : Type 0} where
   pivots-stripped [] = refl
   pivots-stripped (c ∷ cs) = ap (λ z. c.pivot ∷ z) (pivots-stripped cs)
 
+  -- one more child under the node, before those that are left
+  module _ (c : code.Child V D) (left all : List (code.Child V D)) (is : all ≡ c ∷ left) where
+    pub child_taken : (done now whole : Siblings V (Message V D)) → now ≡ done ++ (c.pivot, c.node) ∷ [] → done ++ stripped (children_of all) ≡ whole → now ++ stripped (children_of left) ≡ whole
+    child_taken done now whole pushed kept =
+        ap (λ xs. xs ++ stripped (children_of left)) pushed ∙ append_assoc done ((c.pivot, c.node) ∷ []) (stripped (children_of left))
+        ∙ ap (λ cs. done ++ stripped (children_of cs)) (sym is) ∙ kept
+
+    pub bin_taken : (done now whole : List (Messages (Message V D))) → now ≡ done ++ c.pending ∷ [] → done ++ bins_of all ≡ whole → now ++ bins_of left ≡ whole
+    bin_taken done now whole pushed kept =
+        ap (λ bs. bs ++ bins_of left) pushed ∙ append_assoc done (c.pending ∷ []) (bins_of left) ∙ ap (λ cs. done ++ bins_of cs) (sym is) ∙ kept
+
+  -- none is left, so all of them are under the node
+  module _ (c : code.Child V D) (rest left : List (code.Child V D)) (none : left ≡ []) where
+    pub all_taken : (start done : Siblings V (Message V D)) → start ≡ ([], c.node) ∷ [] → done ++ stripped (children_of left) ≡ start ++ stripped (children_of rest) → done ≡ ([], c.node) ∷ stripped (children_of rest)
+    all_taken start done begun kept =
+        sym (append-nil done) ∙ ap (λ cs. done ++ stripped (children_of cs)) (sym none) ∙ kept ∙ ap (λ xs. xs ++ stripped (children_of rest)) begun
+
+    pub all_bins : (empty start done : List (Messages (Message V D))) → empty ≡ [] → start ≡ empty ++ c.pending ∷ [] → done ++ bins_of left ≡ start ++ bins_of rest → done ≡ c.pending ∷ bins_of rest
+    all_bins empty start done new begun kept =
+        sym (append-nil done) ∙ ap (λ cs. done ++ bins_of cs) (sym none) ∙ kept ∙ ap (λ bs. bs ++ bins_of rest) (begun ∙ ap (λ bs. bs ++ c.pending ∷ []) new)
+
   module _ (xs : Siblings V (Message V D)) (bins : List (Messages (Message V D))) (part : List (code.Child V D)) (c : code.Child V D) (rest : List (code.Child V D)) (is : part ≡ c ∷ rest)
       (children : xs ≡ ([], c.node) ∷ stripped (children_of rest)) (pending : bins ≡ c.pending ∷ bins_of rest) where
     -- the bins lie between the pivots
