@@ -35,7 +35,7 @@ fn create_table(
         return Err(Refusal::BadSchema);
     };
     let shape = Shape::new(form.fanout, form.buffer, form.leaf)?;
-    *table = Some(Table::new(alloc, schema, shape));
+    drop(table.replace(Table::new(alloc, schema, shape)));
     Ok(count_reply(alloc, b"table ", count)?)
 }
 
@@ -68,13 +68,20 @@ fn index_def(alloc: Global, table: &Table, form: &IndexForm) -> Result<IndexDef,
     ensures suits { IfOk result (λ def. Suits table.now def) }
 {
     let schema = table.schema()?;
-    let def = IndexDef::new(alloc, schema, &form.on, &form.include, form.filter.as_ref());
-    match (def, table.check_index(&form.name)) {
-        (Err(Refusal::OutOfMemory), _) => Err(Refusal::OutOfMemory),
-        (Ok(def), Ok(())) => Ok(def),
-        (Ok(_def), Err(other)) => Err(other),
-        (Err(refusal), Ok(())) => Err(refusal),
-        (Err(refusal), Err(other)) => Err(least_with(Some(other), refusal)),
+    let free = table.check_index(&form.name);
+    match IndexDef::new(alloc, schema, &form.on, &form.include, form.filter.as_ref()) {
+        Err(Refusal::OutOfMemory) => Err(Refusal::OutOfMemory),
+        Err(refusal) => match free {
+            Ok(()) => Err(refusal),
+            Err(other) => Err(least_with(Some(other), refusal)),
+        },
+        Ok(def) => match free {
+            Ok(()) => Ok(def),
+            Err(other) => {
+                drop(def);
+                Err(other)
+            }
+        },
     }
 }
 
@@ -88,10 +95,18 @@ fn create_index(
     ensures refused { IfErr result (step.IsRefused table.old table.new (command.Index form)) }
 {
     let Some(table) = table else {
+        drop(form);
         return Err(Refusal::NoTable);
     };
-    let def = index_def(alloc, table, &form)?;
-    let reply = table.create_index(alloc, form.name, def)?;
+    let def = index_def(alloc, table, &form);
+    let IndexForm {
+        name,
+        on,
+        include,
+        filter,
+    } = form;
+    drop((on, include, filter));
+    let reply = table.create_index(alloc, name, def?)?;
     Ok(reply_text(alloc, reply)?)
 }
 

@@ -145,16 +145,20 @@ impl<S: Sink<Sum>> Sink<Row> for Grouping<S> {
             return Ok(());
         }
         let Some(mut sum) = self.sum.take() else {
-            self.sum = Some(group_of(alloc, self.columns, self.place, row)?);
+            let first = group_of(alloc, self.columns, self.place, row)?;
+            drop(self.sum.replace(first));
             return Ok(());
         };
         if same_values(sum.group.values(), row.first_values(self.columns)) {
             self.is_over = !count_row(&mut sum, self.place, row);
-            self.sum = Some(sum);
+            drop(self.sum.replace(sum));
             return Ok(());
         }
-        self.made.add(alloc, &sum)?;
-        self.sum = Some(group_of(alloc, self.columns, self.place, row)?);
+        let added = self.made.add(alloc, &sum);
+        drop(sum);
+        added?;
+        let next = group_of(alloc, self.columns, self.place, row)?;
+        drop(self.sum.replace(next));
         Ok(())
     }
 }

@@ -148,10 +148,12 @@ fn batch(alloc: Global) -> Result<Vec<(Key, Message<Row>)>, AllocError>
 fn batch_effects(alloc: Global) -> Result<Vec<Effect>, Refusal>
     ensures { IfOk result (λ effects. (def : Definition) → SuitsKinds def spec.kinds → def.keys ≡ 1 → All (SuitsEffect def) effects.items) }
 {
-    let tree = three_rows(alloc)?;
     let batch = batch(alloc)?;
     let packet = Packet::from_batch(alloc, batch)?;
-    Ok(effects(alloc, &tree, &packet)?)
+    let tree = three_rows(alloc)?;
+    let found = effects(alloc, &tree, &packet);
+    drop(tree);
+    Ok(found?)
 }
 
 // Adds a sign and a row, or the sign alone.
@@ -230,10 +232,11 @@ fn packet_text(alloc: Global, packet: &Packet<Entry>) -> Result<Vec<u8>, AllocEr
 
 // What the batch sends to an index that covers some of the keys.
 fn sent_text(alloc: Global, on: &str, include: &str, cover: &Cover) -> Result<Vec<u8>, Refusal> {
-    let def = index(alloc, on, include, None)?;
     let effects = batch_effects(alloc)?;
-    let packet = index_packet(alloc, &def, cover, effects.as_slice())?;
-    Ok(packet_text(alloc, &packet)?)
+    let def = index(alloc, on, include, None)?;
+    let packet = index_packet(alloc, &def, cover, effects.as_slice());
+    drop(def);
+    Ok(packet_text(alloc, &packet?)?)
 }
 
 #[test]
@@ -299,9 +302,11 @@ fn filtered(alloc: Global) -> Result<IndexDef, Refusal>
 
 // The entry in it of a row with a quantity.
 fn filtered_entry(alloc: Global, quantity: i64) -> Result<Option<(Key, Entry)>, Refusal> {
-    let def = filtered(alloc)?;
     let row = row(alloc, 3, quantity)?;
-    Ok(entry(alloc, &def, &row)?)
+    let def = filtered(alloc)?;
+    let found = entry(alloc, &def, &row);
+    drop(def);
+    Ok(found?)
 }
 
 // The key of that entry and its value, nothing where there is none.

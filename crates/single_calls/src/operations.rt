@@ -1,8 +1,8 @@
 //! The operations of upserts.
 use crate::samples::{fields, is_text, refusal_text, row_text, shops};
 use bt_rowtype::{
-    Change, Op, Ops, RecordLine, RecordReader, Refusal, Upsert, Value, apply_ops, check_ops,
-    copy_change, copy_row, default_row, read_ops, read_upsert, write_record,
+    Change, Op, Ops, RecordLine, RecordReader, Refusal, Row, Schema, Upsert, Value, apply_ops,
+    check_ops, copy_change, copy_row, default_row, read_ops, read_upsert, write_record,
 };
 use std::alloc::{AllocError, Global};
 use std::slice;
@@ -39,8 +39,11 @@ fn ops_text(alloc: Global, ops: &[Op]) -> Result<Vec<u8>, AllocError> {
 
 // The operations of a line of the shops, the fourth message of a batch, or why there are none.
 fn ops_of(alloc: Global, line: &str) -> Result<Vec<u8>, Refusal> {
+    let fields = fields(alloc, line)?;
     let schema = shops(alloc)?;
-    match read_ops(alloc, &schema, 4, &fields(alloc, line)?) {
+    let read = read_ops(alloc, &schema, 4, &fields);
+    drop(schema);
+    match read {
         Ok(ops) => Ok(ops_text(alloc, ops.as_slice())?),
         Err(refusal) => Ok(refusal_text(alloc, refusal)?),
     }
@@ -103,20 +106,50 @@ fn upserts_are_read(rt: HostRuntime) {
 }
 
 // What an upsert does to the row of its key, which has none.
+fn change(alloc: Global, schema: &Schema, upsert: Upsert) -> Result<Change, AllocError> {
+    let Upsert { key, ops } = upsert;
+    match default_row(alloc, schema, key) {
+        Ok(base) => Change::new(alloc, base, ops),
+        Err(error) => {
+            drop(ops);
+            Err(error)
+        }
+    }
+}
+
+// What the upsert of a line of these columns does.
+fn change_in(alloc: Global, schema: &Schema, line: &str) -> Result<Change, Refusal> {
+    let fields = fields(alloc, line)?;
+    let upsert = read_upsert(alloc, schema, 1, &fields)?;
+    Ok(change(alloc, schema, upsert)?)
+}
+
+// What the upsert of a line of the shops does.
 fn change_of(alloc: Global, line: &str) -> Result<Change, Refusal> {
     let schema = shops(alloc)?;
-    let upsert = read_upsert(alloc, &schema, 1, &fields(alloc, line)?)?;
-    let Upsert { key, ops } = upsert;
-    let base = default_row(alloc, &schema, key)?;
-    Ok(Change::new(alloc, base, ops)?)
+    let change = change_in(alloc, &schema, line);
+    drop(schema);
+    change
+}
+
+// The row of a key that had none after a change.
+fn changed(alloc: Global, change: &Change) -> Result<Row, AllocError> {
+    let row = copy_row(alloc, change.base())?;
+    match change.ops(alloc) {
+        Ok(ops) => apply_ops(alloc, row, ops.as_slice()),
+        Err(error) => {
+            drop(row);
+            Err(error)
+        }
+    }
 }
 
 // The row of a key that had none after the upsert of a line.
 fn row_after(alloc: Global, line: &str) -> Result<Vec<u8>, Refusal> {
     let change = change_of(alloc, line)?;
-    let ops = change.ops(alloc)?;
-    let row = apply_ops(alloc, copy_row(alloc, change.base())?, ops.as_slice())?;
-    Ok(row_text(alloc, Ok(row))?)
+    let row = changed(alloc, &change);
+    drop(change);
+    Ok(row_text(alloc, Ok(row?))?)
 }
 
 #[test]
@@ -126,11 +159,31 @@ fn operations_change_the_default_row(rt: HostRuntime) {
 }
 
 // A copy of what the upsert of a line does.
+fn copied(alloc: Global, line: &str) -> Result<Change, Refusal> {
+    let change = change_of(alloc, line)?;
+    let copy = copy_change(alloc, &change);
+    drop(change);
+    Ok(copy?)
+}
+
+// An upsert of the row that a change makes of none, with its operations.
+fn upsert_like(alloc: Global, change: &Change) -> Result<Upsert, AllocError> {
+    let key = copy_row(alloc, change.base())?;
+    match change.ops(alloc) {
+        Ok(ops) => Ok(Upsert { key, ops }),
+        Err(error) => {
+            drop(key);
+            Err(error)
+        }
+    }
+}
+
+// The base and the operations of such a copy.
 fn copy_of(alloc: Global, line: &str) -> Result<Vec<u8>, Refusal> {
-    let copy = copy_change(alloc, &change_of(alloc, line)?)?;
-    let key = copy_row(alloc, copy.base())?;
-    let ops = copy.ops(alloc)?;
-    Ok(upsert_text(alloc, Ok(Upsert { key, ops }))?)
+    let copy = copied(alloc, line)?;
+    let upsert = upsert_like(alloc, &copy);
+    drop(copy);
+    Ok(upsert_text(alloc, Ok(upsert?))?)
 }
 
 #[test]

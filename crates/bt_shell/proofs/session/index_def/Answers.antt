@@ -7,13 +7,13 @@ use Rattle.bt_table.specs.Standing.{HasSchema}
 use Rattle.bt_shell.proofs.Definitions.{both_refused}
 use Rattle.bt_shell.proofs.session.index_def.Goals as goal
 
-pub returns-in-Err-Err : goal.returns-in-Err-Err
-returns-in-Err-Err c =
+pub returns-in-Err-free : goal.returns-in-Err-free
+returns-in-Err-free c =
     let state = c.args.table.now in
     let schema = c.in_ok-schema.schema.now in
     let form = c.args.form.now in
-    let has : HasSchema state schema = search rules in
-    let some : c.in-Err-Err.refusal ≢ OutOfMemory = search rules in
-    let made : definition_as schema form.on form.include form.filter ≡ Err c.in-Err-Err.refusal = search rules in
-    let taken : least (index_refusals state form.name) ≡ Some c.in-Err-Err.other = search rules in
-    record { answer = λ _. both_refused state schema form c.in-Err-Err.refusal c.in-Err-Err.other c.least_with.result has made taken c.least_with.ensures; suits = tt }
+    let has : HasSchema state schema = c.in_ok-schema.ensures.schema in
+    let some : c.in-Err.refusal ≢ OutOfMemory = search rules in
+    let made : definition_as schema form.on form.include form.filter ≡ Err c.in-Err.refusal = search rules in
+    let taken : least (index_refusals state form.name) ≡ Some c.in-Err-free.other = c.in-Err-free.ensures.refused in
+    record { answer = λ _. both_refused state schema form c.in-Err.refusal c.in-Err-free.other c.least_with.result has made taken c.least_with.ensures; suits = tt }

@@ -2,5 +2,5 @@ use Rattle.std.proofs.Common.{length, subst, sym}
 use Rattle.bt_fanout.specs.Entries.{IsWithin}
 use Rattle.single_calls.proofs.indexes.filtered_entry.Goals as goal
 
-pub entry-requires : goal.entry-requires
-entry-requires c = subst (λ values. IsWithin c.in_ok-def.def (length values)) (sym c.in_ok-row.ensures) c.in_ok-def.ensures.within
+pub entry-found-requires : goal.entry-found-requires
+entry-found-requires c = subst (λ values. IsWithin c.in_ok-def.def (length values)) (sym c.in_ok-row.ensures) c.in_ok-def.ensures.within
