@@ -1,8 +1,8 @@
 //! The forms of commands: what the words of a head line make.
 ghost use Rattle.std.specs.Prelude.{◌≡◌, ◌≤◌, [], IfOk, codes, false, map};
 ghost use Rattle.bt_script.specs.Commands as spec;
-ghost use Rattle.bt_script.specs.Forms as forms;
 ghost use Rattle.bt_script.specs.Lines as text;
+ghost use Rattle.bt_script.specs.inside.Forms as forms;
 
 use crate::command::{Bounds, Command, IndexForm, Items, SumsForm, TableForm};
 use crate::lines::{

@@ -4,7 +4,7 @@ ghost use Rattle.std.specs.Prelude.{◌≤◌};
 use crate::batches::Batches;
 use crate::pieces::Turn;
 use crate::replays::divided;
-use anyhow::{Result, bail};
+use anyhow::Result;
 use bt_messages::Packet;
 use bt_node::Tree;
 use bt_plan::Mode;
@@ -35,9 +35,13 @@ fn timed<R: Clock + AllocGlobal>(
 ) -> Result<(Tree<Row>, Duration)>
     requires { depth ≤ 3 }
 {
-    let Ok(start) = Instant::now(rt) else {
-        drop((tree, packet));
-        bail!("no time");
+    let start = match Instant::now(rt) {
+        Ok(start) => start,
+        Err(error) => {
+            drop(tree);
+            drop(packet);
+            return Err(error.into());
+        }
     };
     let tree = flushed(rt.alloc(), tree, packet, depth)?;
     match start.elapsed(rt) {
