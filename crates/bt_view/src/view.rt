@@ -150,7 +150,10 @@ fn index_range(
     let range = read_range(alloc, columns, from, to)?;
     match cover {
         Cover::Whole => Ok(range),
-        Cover::Nothing | Cover::UpTo(_) => Err(Refusal::Building),
+        Cover::Nothing | Cover::UpTo(_) => {
+            drop(range);
+            Err(Refusal::Building)
+        }
     }
 }
 
@@ -167,9 +170,11 @@ fn scan_index<S: Sink<Row>>(
 {
     let columns = index_columns(alloc, schema, &index.def)?;
     let key_columns = key_columns(schema, &index.def, columns.as_slice());
-    let range = index_range(alloc, key_columns, &index.cover, from, to)?;
     let kinds = kinds_of(alloc, key_columns)?;
-    Ok(show_entries(alloc, &index.tree, kinds.as_slice(), &range, sink)?)
+    let range = index_range(alloc, key_columns, &index.cover, from, to)?;
+    let shown = show_entries(alloc, &index.tree, kinds.as_slice(), &range, sink);
+    drop(range);
+    Ok(shown?)
 }
 
 /// Shows a sink the rows of the tree of a name in a range: those at or past the key that `from` spells and before the one that `to` spells, by rising key. A
@@ -190,7 +195,9 @@ pub fn scan<S: Sink<Row>>(
     match table.tree(name)? {
         TreeRef::Rows { schema, tree } => {
             let range = read_range(alloc, schema.key_columns(), from, to)?;
-            Ok(show_rows(alloc, tree, &range, sink)?)
+            let shown = show_rows(alloc, tree, &range, sink);
+            drop(range);
+            Ok(shown?)
         }
         TreeRef::Index { schema, index } => scan_index(alloc, schema, index, from, to, sink),
     }
@@ -211,12 +218,19 @@ fn sum_index<S: Sink<Sum>>(
 {
     let columns = index_columns(alloc, schema, &index.def)?;
     let key_columns = key_columns(schema, &index.def, columns.as_slice());
-    let range = index_range(alloc, key_columns, &index.cover, from, to)?;
-    let place = summed_place(columns.as_slice(), key_columns.len(), grouping, column)?;
     let kinds = kinds_of(alloc, key_columns)?;
+    let range = index_range(alloc, key_columns, &index.cover, from, to)?;
+    let place = match summed_place(columns.as_slice(), key_columns.len(), grouping, column) {
+        Ok(place) => place,
+        Err(refusal) => {
+            drop(range);
+            return Err(refusal);
+        }
+    };
     let groups = Grouping::new(grouping as usize, place, sink);
-    let groups = show_entries(alloc, &index.tree, kinds.as_slice(), &range, groups)?;
-    groups.finish(alloc)
+    let shown = show_entries(alloc, &index.tree, kinds.as_slice(), &range, groups);
+    drop(range);
+    shown?.finish(alloc)
 }
 
 /// Shows a sink the groups of the rows that `scan` has, by so many of the first columns, with the sum of the column of a name, in order. One group is kept at a
@@ -239,8 +253,16 @@ pub fn sums<S: Sink<Sum>>(
     match table.tree(name)? {
         TreeRef::Rows { schema, tree } => {
             let range = read_range(alloc, schema.key_columns(), from, to)?;
-            let place = summed_place(schema.columns(), schema.keys(), grouping, column)?;
-            sum_rows(alloc, tree, &range, grouping as usize, place, sink)
+            let place = match summed_place(schema.columns(), schema.keys(), grouping, column) {
+                Ok(place) => place,
+                Err(refusal) => {
+                    drop(range);
+                    return Err(refusal);
+                }
+            };
+            let summed = sum_rows(alloc, tree, &range, grouping as usize, place, sink);
+            drop(range);
+            summed
         }
         TreeRef::Index { schema, index } => {
             sum_index(alloc, schema, index, grouping, column, from, to, sink)

@@ -24,4 +24,4 @@ returns g c = λ table shows.
     let to = option_copied c.args.to in
     let own = c.in_ok-range.range in
     let is : and_then (when_whole index.cover) (range_by table index from to c.args.schema.now) ≡ Ok own = search rules in
-    scan_done table index from to c.args.schema.now shows g.S.Sink.added c.args.sink c.in_ok-show_entries.field-0 own is (search rules)
+    scan_done table index from to c.args.schema.now shows g.S.Sink.added c.args.sink c.in_ok-shown.field-0 own is (search rules)

@@ -19,13 +19,13 @@ returns-in_err-range g c = λ table shows.
     let wanted : refusal ≢ OutOfMemory → made (fold g.S.Sink.added c.args.sink) (sums_of c.args.grouping c.args.column.now from to (Secondary table index)) ≡ Err refusal = λ certain. sums_refused table index from to c.args.schema.now shows c.args.grouping c.args.column.now g.S.Sink.added c.args.sink refusal (told certain) in
     search (rules, wanted)
 
-pub returns-in_err-place : goal.returns-in_err-place
-returns-in_err-place g c = λ table shows.
+pub returns-in-Err : goal.returns-in-Err
+returns-in-Err g c = λ table shows.
     let index = c.args.index.now in
     let from = option_copied c.args.from in
     let to = option_copied c.args.to in
     let own = c.in_ok-range.range in
-    let refusal = c.in_err-place.field-0.0 in
+    let refusal = c.in-Err.refusal in
     let is : and_then (when_whole index.cover) (range_by table index from to c.args.schema.now) ≡ Ok own = search rules in
     let none : place_by table index from to c.args.schema.now shows c.args.grouping c.args.column.now c.args.schema.now ≡ Err refusal = search rules in
     let wanted = no_place table index from to c.args.schema.now shows c.args.grouping c.args.column.now g.S.Sink.added c.args.sink refusal own is none in
@@ -38,9 +38,9 @@ returns g c = λ table shows.
     let to = option_copied c.args.to in
     let own = c.in_ok-range.range in
     let is : and_then (when_whole index.cover) (range_by table index from to c.args.schema.now) ≡ Ok own = search rules in
-    let placed : place_by table index from to c.args.schema.now shows c.args.grouping c.args.column.now c.args.schema.now ≡ Ok c.in_ok-place.place = search rules in
+    let placed : place_by table index from to c.args.schema.now shows c.args.grouping c.args.column.now c.args.schema.now ≡ Ok c.in-Ok.place = search rules in
     let kinds : c.as_slice-3.result.now ≡ kinds_by table index from to c.args.schema.now = search rules in
     let few : c.args.grouping ≤ (index_schema c.args.schema.now index.def).keys = search rules in
     subst (λ answer. Answers answer c.finish.result)
-    (sums_done table index from to c.args.schema.now shows c.args.grouping c.args.column.now g.S.Sink.added c.args.sink c.in_ok-place.place own c.as_slice-3.result.now c.new-groups.result c.in_ok-groups.groups is placed kinds few c.new-groups.ensures c.in_ok-groups.ensures)
+    (sums_done table index from to c.args.schema.now shows c.args.grouping c.args.column.now g.S.Sink.added c.args.sink c.in-Ok.place own c.as_slice-3.result.now c.new-groups.result c.in_ok-shown.field-0 is placed kinds few c.new-groups.ensures c.in_ok-shown.ensures)
     c.finish.ensures

@@ -6,8 +6,8 @@ use Rattle.bt_view.specs.Ranges.{rows_within}
 use Rattle.bt_view.proofs.RowOrder.{ascend}
 use Rattle.bt_view.proofs.view.sums.Goals as goal
 
-pub sum_rows-requires : goal.sum_rows-requires
-sum_rows-requires g c =
+pub sum_rows-summed-requires : goal.sum_rows-summed-requires
+sum_rows-summed-requires g c =
     let range = c.in_ok-range-in-Rows.range in
     let grouping = c.args.grouping in
     let shows : Shows c.args.table.now c.args.name.now (shown.Rows c.in-Rows.schema c.in-Rows.tree) = search rules in
