@@ -58,9 +58,19 @@ fn push_op(
     requires { length word.now ≤ LONGEST_TEXT }
     ensures { OnOk result (values.new.items ≡ values.old.items ++ (value.Text word.now ∷ value.Text name ∷ argument ∷ [])) }
 {
-    values.push(Value::Text(Text::new(alloc, word)?))?;
-    values.push(Value::Text(name))?;
-    values.push(argument)?;
+    let Ok(()) = values.reserve(3) else {
+        drop(name);
+        drop(argument);
+        return Err(AllocError);
+    };
+    let Ok(word) = Text::new(alloc, word) else {
+        drop(name);
+        drop(argument);
+        return Err(AllocError);
+    };
+    values.push_reserved(Value::Text(word));
+    values.push_reserved(Value::Text(name));
+    values.push_reserved(argument);
     Ok(())
 }
 

@@ -46,12 +46,25 @@ pub fn read_range(
 {
     let from = read_bound(alloc, columns, 1, from);
     let to = read_bound(alloc, columns, 2, to);
-    match (from, to) {
-        (Err(Refusal::OutOfMemory), _) => Err(Refusal::OutOfMemory),
-        (_, Err(Refusal::OutOfMemory)) => Err(Refusal::OutOfMemory),
-        (Ok(from), Ok(to)) => Ok(KeyRange { from, to }),
-        (Err(refusal), Ok(_to)) => Err(refusal),
-        (Ok(_from), Err(refusal)) => Err(refusal),
-        (Err(refusal), Err(other)) => Err(least_with(Some(refusal), other)),
+    match from {
+        Ok(from) => match to {
+            Ok(to) => Ok(KeyRange { from, to }),
+            Err(refusal) => {
+                drop(from);
+                Err(refusal)
+            }
+        },
+        Err(Refusal::OutOfMemory) => {
+            drop(to);
+            Err(Refusal::OutOfMemory)
+        }
+        Err(refusal) => match to {
+            Ok(to) => {
+                drop(to);
+                Err(refusal)
+            }
+            Err(Refusal::OutOfMemory) => Err(Refusal::OutOfMemory),
+            Err(other) => Err(least_with(Some(refusal), other)),
+        },
     }
 }
