@@ -254,15 +254,43 @@ fn answer(
         Command::Table(form) => create_table(alloc, table, form),
         Command::Batch(items) => batch(alloc, table, &items),
         Command::Get(fields) => get(alloc, table, &fields),
-        Command::Scan(tree, bounds) => scan(alloc, table, &tree, &bounds, room),
-        Command::Sums(form) => sums(alloc, table, &form, room),
-        Command::Image(tree) => image(alloc, table, &tree),
+        Command::Scan(tree, bounds) => {
+            let reply = scan(alloc, table, &tree, &bounds, room);
+            drop((tree, bounds));
+            reply
+        }
+        Command::Sums(form) => {
+            let reply = sums(alloc, table, &form, room);
+            drop(form);
+            reply
+        }
+        Command::Image(tree) => {
+            let reply = image(alloc, table, &tree);
+            drop(tree);
+            reply
+        }
         Command::Index(form) => create_index(alloc, table, form),
-        Command::Build(name, count) => build(alloc, table, &name, count),
-        Command::Drop(name) => drop_index(alloc, table, &name),
+        Command::Build(name, count) => {
+            let reply = build(alloc, table, &name, count);
+            drop(name);
+            reply
+        }
+        Command::Drop(name) => {
+            let reply = drop_index(alloc, table, &name);
+            drop(name);
+            reply
+        }
         Command::Load(text) => load(rt, alloc, table, &text),
-        Command::Drain(tree) => drain(alloc, table, &tree),
-        Command::Rebuild(tree) => rebuild(alloc, table, &tree),
+        Command::Drain(tree) => {
+            let reply = drain(alloc, table, &tree);
+            drop(tree);
+            reply
+        }
+        Command::Rebuild(tree) => {
+            let reply = rebuild(alloc, table, &tree);
+            drop(tree);
+            reply
+        }
     }
 }
 
