@@ -58,15 +58,18 @@ fn push_op(
     requires { length word.now ≤ LONGEST_TEXT }
     ensures { OnOk result (values.new.items ≡ values.old.items ++ (value.Text word.now ∷ value.Text name ∷ argument ∷ [])) }
 {
-    let Ok(()) = values.reserve(3) else {
+    if let Err(error) = values.reserve(3) {
         drop(name);
         drop(argument);
-        return Err(AllocError);
-    };
-    let Ok(word) = Text::new(alloc, word) else {
-        drop(name);
-        drop(argument);
-        return Err(AllocError);
+        return Err(error);
+    }
+    let word = match Text::new(alloc, word) {
+        Ok(word) => word,
+        Err(error) => {
+            drop(name);
+            drop(argument);
+            return Err(error);
+        }
     };
     values.push_reserved(Value::Text(word));
     values.push_reserved(Value::Text(name));
