@@ -172,15 +172,28 @@ pub fn fill<V: Merge>(
     ensures fit { IfOk result (λ _. misfit holed.1 (pieces_of pieces.items) ≡ None) }
     ensures refused { IfErr result (IsRefusal holed pieces.items) }
 {
-    let places = hole_places(alloc, holed.root())?;
-    if let Some(misfit) = first_misfit(alloc, places.as_slice(), pieces.as_slice())? {
+    let Ok(places) = hole_places(alloc, holed.root()) else {
+        drop(holed);
+        drop(pieces);
+        return Err(FillError::OutOfMemory);
+    };
+    let Ok(misfit) = first_misfit(alloc, places.as_slice(), pieces.as_slice()) else {
+        drop(holed);
+        drop(pieces);
+        return Err(FillError::OutOfMemory);
+    };
+    if let Some(misfit) = misfit {
         return Err(FillError::Misfit {
             misfit,
             holed,
             pieces,
         });
     }
-    let mut slots = seated(alloc, places.as_slice(), pieces)?.into_iter();
+    let Ok(slots) = seated(alloc, places.as_slice(), pieces) else {
+        drop(holed);
+        return Err(FillError::OutOfMemory);
+    };
+    let mut slots = slots.into_iter();
     let (shape, root) = holed.apart();
     Ok(fill_node(alloc, shape, root, &mut slots)?)
 }

@@ -3,7 +3,6 @@ pub mod Cuts
 pub mod Merging
 pub mod Sharing
 pub mod Slices
-pub mod Splits
 pub mod Stable
 pub mod StablePlaces
 pub mod Totals

@@ -9,8 +9,7 @@ use crate::iter::Messages;
 use crate::joined::Joined;
 use crate::message::Merge;
 use crate::packet::Packet;
-use crate::share::{join_each, move_each, room_for_each, rooms_to_join};
-use crate::split::split;
+use crate::share::{move_each, room_for_each};
 use crate::stream::Stream;
 use bt_keycode::Key;
 use std::alloc::{AllocError, Global};
@@ -179,8 +178,8 @@ impl<V: Merge> Bins<V> {
         Ok(())
     }
 
-    /// Adds the messages of a packet, each to the bin of its child, after those of its key. What goes to an empty bin is moved as a
-    /// whole. An `Err` changes nothing, and the packet is gone.
+    /// Adds the messages of a packet, each to the bin of its child, after those of its key. An `Err` changes nothing, and the packet is
+    /// gone.
     pub fn add(
         &mut self,
         alloc: Global,
@@ -191,15 +190,9 @@ impl<V: Merge> Bins<V> {
         ensures added { OnOk result (self.new ≡ added pivots.now packet self.old) }
         ensures err { OnErr result (self.new ≡ self.old) }
     {
-        let stream = packet.into_stream();
+        let mut stream = packet.into_stream();
         let shares = stream.shares(alloc, stream.len(), pivots)?;
-        let newer = split(alloc, stream.into_messages(), shares.as_slice())?;
-        let rooms = rooms_to_join(alloc, self.bins.as_slice(), newer.as_slice())?;
-        let into = Vec::with_capacity(alloc, self.bins.len())?;
-        let older = replace(&mut self.bins, Vec::new(alloc));
-        self.bins = join_each(alloc, older, rooms, newer, into);
-        self.count = count_all(self.bins.as_slice());
-        Ok(())
+        self.add_shares(alloc, &mut stream, shares.as_slice())
     }
 
     /// Takes the messages of a bin, which is then empty. Takes no memory.

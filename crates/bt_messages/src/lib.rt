@@ -25,7 +25,6 @@ mod packet;
 mod places;
 mod share;
 mod sorted;
-mod split;
 mod stream;
 
 pub use bins::Bins;

@@ -1,5 +1,5 @@
 //! Packets: what is sent on at one time.
-ghost use Rattle.std.specs.Prelude.{◌≡◌, ◌==◌, ◌<◌, ◌≤◌, ◌^◌, [], IfOk, OnOk, OnErr, cond, drop, length, take};
+ghost use Rattle.std.specs.Prelude.{◌≡◌, ◌==◌, ◌<◌, ◌≤◌, ◌^◌, [], IfOk, OnOk, OnErr, drop, length, take};
 ghost use Rattle.bt_keycode.specs.Keys.{IsSorted};
 ghost use Rattle.bt_messages.specs.Effects.{DoTheSame, effect_of};
 ghost use Rattle.bt_messages.specs.Messages.{messages_between, messages_from, messages_outside, sorted_batch, with_messages};
@@ -152,18 +152,6 @@ impl<V: Merge> Packet<V> {
             return Ok(Vec::new(alloc));
         }
         Vec::with_capacity(alloc, self.messages.len() + more)
-    }
-
-    // Room for the messages of the packet and newer ones, where it has some.
-    pub(crate) fn room_to_join(
-        &self,
-        alloc: Global,
-        newer: &Packet<V>,
-    ) -> Result<Vec<(Key, Message<V>)>, AllocError>
-        ensures { IfOk result (λ room. HasRoom (cond (length self.now == 0) 0 (length newer.now)) self.now room) }
-    {
-        let more = if self.is_empty() { 0 } else { newer.len() };
-        self.room_with(alloc, more)
     }
 
     // The packet of messages that are sorted by key.

@@ -1,6 +1,5 @@
 //! Shares of a stream, moved to packets.
-ghost use Rattle.std.specs.Prelude.{◌≡◌, ◌==◌, ◌+◌, ◌<◌, ◌≤◌, ◌++◌, ◌^◌, [], IfOk, cond, drop, length, map, take, vec_len, vec_capacity};
-ghost use Rattle.std.specs.List.{zip};
+ghost use Rattle.std.specs.Prelude.{◌≡◌, ◌+◌, ◌<◌, ◌≤◌, ◌++◌, ◌^◌, IfOk, drop, length, take, vec_len, vec_capacity};
 ghost use Rattle.bt_keycode.specs.Keys.{IsSorted};
 ghost use Rattle.bt_messages.specs.Bins.{each_with, parted, total};
 ghost use Rattle.bt_messages.specs.Messages.{with_messages};
@@ -151,69 +150,4 @@ pub(crate) fn move_each<V: Merge>(
             shares[place],
         );
     }
-}
-
-/// For each packet that has messages, room for them and newer ones.
-pub(crate) fn rooms_to_join<V: Merge>(
-    alloc: Global,
-    older: &[Packet<V>],
-    newer: &[Packet<V>],
-) -> Result<Vec<Vec<(Key, Message<V>)>>, AllocError>
-    requires len { length newer.now ≡ length older.now }
-    ensures room { IfOk result (λ rooms. HaveRoom (map (λ x. cond (length x.1 == 0) 0 (length x.0)) (zip newer.now older.now)) older.now rooms.items) }
-    ensures len { IfOk result (λ rooms. length rooms.items ≡ length newer.now) }
-{
-    let mut rooms = Vec::with_capacity(alloc, newer.len())?;
-    for place in 0..newer.len() {
-        let room = older[place].room_to_join(alloc, &newer[place])?;
-        rooms.push_reserved(room);
-    }
-    Ok(rooms)
-}
-
-// Older messages and newer ones, each after those of its key. Where there are no older ones, none is moved.
-fn join<V: Merge>(
-    alloc: Global,
-    older: Packet<V>,
-    room: Vec<(Key, Message<V>)>,
-    newer: Packet<V>,
-) -> Packet<V>
-    requires { HasRoom (cond (length older == 0) 0 (length newer)) older room }
-    ensures { result ≡ with_messages newer older }
-{
-    if older.is_empty() {
-        return Packet::from_sorted(newer.into_messages());
-    }
-    let mut packet = older;
-    let mut room = room;
-    let mut stream = newer.into_stream();
-    let count = stream.len();
-    gain(alloc, &mut packet, &mut room, &mut stream, count);
-    packet
-}
-
-/// Each packet with newer messages, put where there is room for all packets.
-pub(crate) fn join_each<V: Merge>(
-    alloc: Global,
-    older: Vec<Packet<V>>,
-    rooms: Vec<Vec<(Key, Message<V>)>>,
-    newer: Vec<Packet<V>>,
-    into: Vec<Packet<V>>,
-) -> Vec<Packet<V>>
-    requires len { length newer.items ≡ length older.items }
-    requires rooms_len { length rooms.items ≡ length newer.items }
-    requires room { HaveRoom (map (λ x. cond (length x.1 == 0) 0 (length x.0)) (zip newer.items older.items)) older.items rooms.items }
-    requires into { (into.items ≡ []) × (length older.items ≤ vec_capacity into) }
-    ensures { result.items ≡ each_with newer.items older.items }
-{
-    let mut joined = into;
-    let mut rooms = rooms.into_iter();
-    let mut newer = newer.into_iter();
-    for packet in older {
-        let (Some(room), Some(part)) = (rooms.next(), newer.next()) else {
-            unreachable!()
-        };
-        joined.push_reserved(join(alloc, packet, room, part));
-    }
-    joined
 }

@@ -125,15 +125,6 @@ impl<V: Merge> Stream<V> {
         Ok(shares)
     }
 
-    // The messages that are left. Takes no memory.
-    pub(crate) fn into_messages(self) -> Vec<(Key, Message<V>)>
-        ensures messages { result.items ≡ self }
-        ensures sorted { IsSorted result.items }
-    {
-        let Stream { messages } = self;
-        Vec::from(messages)
-    }
-
     // Moves the first messages to where there is room.
     pub(crate) fn move_front(&mut self, count: usize, into: &mut Vec<(Key, Message<V>)>)
         requires count { count ≤ length self.old }

@@ -2,9 +2,11 @@ pub mod Filling
 pub mod Fits
 pub mod Found
 pub mod Holes
+pub mod Loads
 pub mod Marks
 pub mod offered
 pub mod Opening
 pub mod Places
 pub mod PlanSizes
+pub mod Steps
 pub mod WorkedRows

@@ -1,5 +1,5 @@
 -- An inner node whose children are cut one by one, as the code does it.
-use Rattle.std.proofs.Common.{◌≡◌, ◌≤◌, ◌+◌, Result, Ok, Err, OnOk, ℕ, zero, suc, Bool, true, false, cond, List, [], ◌∷◌, ◌++◌, length, map, replicate, set, refl, sym, ap, subst, ◌∙◌, arith, true≢false}
+use Rattle.std.proofs.Common.{◌≡◌, ◌≤◌, ◌+◌, ◌-◌, Result, Ok, Err, OnOk, ℕ, zero, suc, Bool, true, false, cond, List, [], ◌∷◌, ◌++◌, length, map, replicate, set, refl, sym, ap, subst, ◌∙◌, arith, true≢false}
 use Rattle.std.proofs.lemmas.List.{length-map, length-replicate, length-set}
 use Rattle.std.specs.List.{flat_map, zip}
 use Rattle.bt_keycode.specs.Keys.{AllFrom, Key}
@@ -159,15 +159,22 @@ module _ {V M : Type 0} where
   leaf-cut (suc depth) mode s place (leaf rows) u packet same is = ap (λ n. hole (record { place = place; node = n; packet = packet; mode = mode })) (sym same)
   leaf-cut (suc depth) mode s place (inner ns buffer) u packet same is = absurd (true≢false (sym is))
 
+  -- an inner node is opened
+  pub inner-cut : (depth : ℕ) (mode : Mode) (s : Shape) (place : Place) (t : Tree V M) (xs : Siblings V M) (bins : List (Messages M)) (ms packet : Messages M) → 1 ≤ depth →
+      t ≡ inner (nodes xs) (joined bins) → ms ≡ packet → cut_out (suc (depth - 1)) mode s place (inner (nodes xs) (joined bins)) ms ≡ cut_out depth mode s place t packet
+  inner-cut depth mode s place t xs bins ms packet some here all =
+      let deep : suc (depth - 1) ≡ depth = omega (arith, some) in
+      ap (λ d. cut_out d mode s place (inner (nodes xs) (joined bins)) ms) deep ∙ ap (λ u. cut_out depth mode s place u ms) (sym here) ∙ ap (cut_out depth mode s place t) all
+
   all-sized : (s : Shape) (ks : List Key) (ts : List (Tree V M)) → length ts ≤ length ks → AreSized s (nodes (zip ks ts)) → AreSizedNodes s ts
   all-sized s [] [] few sized = tt
   all-sized s [] (t ∷ ts) few sized = absurd (omega (arith, few))
   all-sized s (k ∷ ks) [] few sized = tt
   all-sized s (k ∷ ks) (t ∷ ts) few sized = (sized.0, all-sized s ks ts (omega (arith, few)) sized.1)
 
-  -- an inner node, its children and their bins, its nodes and its pivots
-  module _ (t : Tree V M) (xs : Siblings V M) (bins : List (Messages M)) (ks : List Key) (ts : List (Tree V M)) (here : t ≡ inner (nodes xs) (joined bins)) (divided : LieBetween (pivots_of xs) bins)
-      (parts : xs ≡ behind ks ts) (one_fewer : length ts ≡ length ks + 1) where
+  -- the children of an inner node and their bins, its nodes and its pivots
+  module _ (xs : Siblings V M) (bins : List (Messages M)) (ks : List Key) (ts : List (Tree V M)) (divided : LieBetween (pivots_of xs) bins) (parts : xs ≡ behind ks ts)
+      (one_fewer : length ts ≡ length ks + 1) where
     pivots_are : pivots_of xs ≡ ks
     pivots_are = ap pivots_of parts ∙ behind-pivots ks ts one_fewer
 
@@ -198,25 +205,25 @@ module _ {V M : Type 0} where
         pub kept_divided : LieBetween ks (kept_bins after marks)
         kept_divided = kept_lie ks after marks (as_many_marks ∙ sym after_long) after_lies
 
-        pub node-cut : cut_out (suc depth) mode s place t packet ≡ opened (holed_nodes (behind ks cuts)) (joined (kept_bins after marks))
+        pub node-cut : cut_out (suc depth) mode s place (inner (nodes xs) (joined bins)) packet ≡ opened (holed_nodes (behind ks cuts)) (joined (kept_bins after marks))
         node-cut =
-            ap (λ u. cut_out (suc depth) mode s place u packet) (here ∙ ap (λ ys. inner (nodes ys) (joined bins)) parts)
+            ap (λ ys. cut_out (suc depth) mode s place (inner (nodes ys) (joined bins)) packet) parts
             ∙ opened-each depth mode s place ks ts one_fewer bins packet (subst (λ ys. LieBetween (pivots_of ys) bins) parts divided) after
             (after_is ∙ ap (λ ls. added ls packet bins) (same ∙ sym (behind-pivots ks ts one_fewer))) after_long marks marks_are
 
         -- what the holes tell
-        pub node-told : opened (holed_nodes (behind ks (map (with_holes hole_of) cuts))) (joined (kept_bins after marks)) ≡ with_holes hole_of (cut_out (suc depth) mode s place t packet)
+        pub node-told : opened (holed_nodes (behind ks (map (with_holes hole_of) cuts))) (joined (kept_bins after marks)) ≡ with_holes hole_of (cut_out (suc depth) mode s place (inner (nodes xs) (joined bins)) packet)
         node-told =
             ap (λ hs. opened hs (joined (kept_bins after marks))) (sym (told-zip hole_of ([] ∷ ks) cuts))
             ∙ ap (with_holes hole_of) (sym node-cut)
 
-        pub node-jobs : flat_map holes cuts ≡ holes (cut_out (suc depth) mode s place t packet)
+        pub node-jobs : flat_map holes cuts ≡ holes (cut_out (suc depth) mode s place (inner (nodes xs) (joined bins)) packet)
         node-jobs = sym (ap holes node-cut ∙ holes-zip ([] ∷ ks) cuts (omega (arith, made_long)))
 
     -- the sizes of its nodes
-    pub nodes_sized : (s : Shape) → IsSized s t → (length ts ≤ s.fanout) × AreSizedNodes s ts
+    pub nodes_sized : (s : Shape) → IsSized s (inner (nodes xs) (joined bins)) → (length ts ≤ s.fanout) × AreSizedNodes s ts
     nodes_sized s sized =
-        let opened_up : IsSized s (inner (nodes (behind ks ts)) (joined bins)) = subst (IsSized s) (here ∙ ap (λ ys. inner (nodes ys) (joined bins)) parts) sized in
+        let opened_up : IsSized s (inner (nodes (behind ks ts)) (joined bins)) = subst (IsSized s) (ap (λ ys. inner (nodes ys) (joined bins)) parts) sized in
         let few = opened_up.1 in
         (omega (arith, few, ap length (children-nodes (behind ks ts)), zip-long ([] ∷ ks) ts (omega (arith, one_fewer))), all-sized s ([] ∷ ks) ts (omega (arith, one_fewer)) opened_up.3)
 

@@ -1,24 +1,28 @@
 //! How the flushes of a tree are moved out of it.
-ghost use Rattle.std.specs.Prelude.{◌≡◌, ◌≤◌, ◌<◌, ◌+◌, ◌++◌, ◌∷◌, [], IfOk, OnOk, cond, length, map, replicate};
+ghost use Rattle.std.specs.Prelude.{◌≡◌, ◌≤◌, ◌<◌, ◌+◌, ◌++◌, ◌∷◌, [], IfOk, OnOk, cond, drop, length, map, replicate, suc, take};
 ghost use Rattle.std.specs.List.{flat_map};
+ghost use Rattle.bt_messages.specs.Bins.{LieBetween, each_with, joined, parted, total};
 ghost use Rattle.bt_messages.specs.Effects.{effect_of};
 ghost use Rattle.bt_messages.specs.declared.message.Message.{Message};
 ghost use Rattle.bt_node.specs.Fits.{IsSized};
+ghost use Rattle.bt_node.specs.Lookups.{pivots_of};
+ghost use Rattle.bt_node.specs.Messages.{with_messages};
 ghost use Rattle.bt_node.specs.Plans.{planned};
 ghost use Rattle.bt_node.specs.Marks.{marks_of};
+ghost use Rattle.bt_node.specs.Trees.{inner, nodes};
 ghost use Rattle.bt_plan.specs.Cuts.{cut, cut_out, flush_marks, hole_of};
 ghost use Rattle.bt_plan.specs.Laws.{FillsUp, PlacesRise, StandInHoles};
 ghost use Rattle.bt_plan.specs.Pieces.{holes, with_holes};
 ghost use Rattle.bt_plan.specs.Pieces as pieces;
 ghost use Rattle.bt_plan.specs.Views.{IsCut, job_of, place_of};
-ghost use Rattle.bt_plan.specs.inside.Cutting.{AreSizedNodes, cut_each, kept_bins};
+ghost use Rattle.bt_plan.specs.inside.Cutting.{AreSizedNodes, cut_each, cut_job, kept_bins, sent};
 
 use crate::holed::{Holed, HoledNode};
 use crate::job::{Job, Mode, Place};
 use crate::planning::plan;
 use arrayvec::ArrayVec;
-use bt_messages::{Bins, Merge, Packet};
-use bt_node::{Node, Parts, Shape, Tree};
+use bt_messages::{Bins, Merge, Packet, Stream};
+use bt_node::{Node, Parts, Shape, Siblings, Tree};
 use std::alloc::{AllocError, Global};
 
 // The same mark for so many children.
@@ -33,16 +37,19 @@ fn same_marks(mark: bool, count: usize) -> ArrayVec<bool, 64>
     marks
 }
 
-// How many messages each bin has.
-fn counts<V: Merge>(bins: &Bins<V>) -> ArrayVec<u64, 64>
-    requires { length bins.now ≤ 64 }
-    ensures { result.items ≡ map length bins.now }
+// How many messages are pending for each child: those in its bin, and its share of those that come.
+fn loads<V: Merge>(bins: &Bins<V>, stream: &Stream<V>, shares: &[usize]) -> ArrayVec<u64, 64>
+    requires few { length bins.now ≤ 64 }
+    requires len { length shares.now ≡ length bins.now }
+    requires enough { total shares.now ≤ length stream.now }
+    ensures { result.items ≡ map length (each_with (parted shares.now stream.now) bins.now) }
 {
-    let mut counts = ArrayVec::new();
-    for child in 0..bins.len() {
-        counts.push(bins.count(child));
+    let _bound = stream.len();
+    let mut loads = ArrayVec::new();
+    for child in 0..shares.len() {
+        loads.push(bins.count(child) + shares[child] as u64);
     }
-    counts
+    loads
 }
 
 // Whether each child is planned.
@@ -58,62 +65,101 @@ fn planned_marks(counts: &[u64], capacity: u64) -> ArrayVec<bool, 64>
     marks
 }
 
-// Whether each child is flushed, for which what its bin has is pending.
-fn flush_marks<V: Merge>(mode: Mode, shape: Shape, bins: &Bins<V>) -> ArrayVec<bool, 64>
-    requires { length bins.now ≤ 64 }
-    ensures { result.items ≡ flush_marks mode shape.buffer (map length bins.now) }
+// Whether each child is flushed, where so many messages are pending for each.
+fn flush_marks(mode: Mode, shape: Shape, loads: &[u64]) -> ArrayVec<bool, 64>
+    requires { length loads.now ≤ 64 }
+    ensures { result.items ≡ flush_marks mode shape.buffer loads.now }
 {
     match mode {
-        Mode::Absorb => planned_marks(counts(bins).as_slice(), shape.buffer() as u64),
-        Mode::Drain => same_marks(true, bins.len()),
+        Mode::Absorb => planned_marks(loads, shape.buffer() as u64),
+        Mode::Drain => same_marks(true, loads.len()),
     }
 }
 
-// Moves a node and the messages for it out of its tree, as one more job, and leaves a hole.
+// Moves the node of a job out of its tree, with the messages that it has and, after those, the first ones of a stream, and leaves a hole.
 fn move_out<V: Merge>(
-    mode: Mode,
-    place: Place,
-    node: Node<V>,
-    packet: Packet<V>,
+    alloc: Global,
+    job: Job<V>,
+    stream: &mut Stream<V>,
+    count: usize,
     jobs: &mut Vec<Job<V>>,
 ) -> Result<HoledNode<V>, AllocError>
-    ensures hole { IfOk result (λ hole. hole ≡ pieces.hole (place_of place)) }
-    ensures job { OnOk result (map job_of jobs.new.items ≡ map job_of jobs.old.items ++ record { place = place_of place; node = node; packet = packet; mode = mode } ∷ []) }
+    requires enough { count ≤ length stream.old }
+    ensures hole { IfOk result (λ hole. hole ≡ pieces.hole (place_of job.place)) }
+    ensures job { OnOk result (map job_of jobs.new.items ≡ map job_of jobs.old.items ++ sent (take count stream.old) (job_of job) ∷ []) }
+    ensures left { OnOk result (stream.new ≡ drop count stream.old) }
 {
-    let hole = HoledNode::hole(place.copy());
-    jobs.push(Job {
-        place,
-        node,
-        packet,
-        mode,
-    })?;
+    let mut job = job;
+    job.packet.add_front(alloc, stream, count)?;
+    let hole = HoledNode::hole(job.place.copy());
+    jobs.push(job)?;
     Ok(hole)
 }
 
-// A child of a node that is opened, and what is left in its bin: where it is marked, it is cut with all that the bin has.
+// Messages and, after those of their key, the first ones of a stream, as a stream of their own.
+fn with_front<V: Merge>(
+    alloc: Global,
+    packet: Packet<V>,
+    stream: &mut Stream<V>,
+    count: usize,
+) -> Result<Stream<V>, AllocError>
+    requires { count ≤ length stream.old }
+    ensures all { IfOk result (λ all. all ≡ with_messages (take count stream.old) packet) }
+    ensures left { OnOk result (stream.new ≡ drop count stream.old) }
+{
+    let mut all = packet;
+    all.add_front(alloc, stream, count)?;
+    Ok(all.into_stream())
+}
+
+// A child that is not flushed, and what is in its bin then.
+fn keep<V: Merge>(
+    alloc: Global,
+    child: Job<V>,
+    stream: &mut Stream<V>,
+    share: usize,
+) -> Result<(HoledNode<V>, Packet<V>), AllocError>
+    requires enough { share ≤ length stream.old }
+    ensures node { IfOk result (λ kept. kept.0 ≡ pieces.whole child.node) }
+    ensures bin { IfOk result (λ kept. kept.1 ≡ with_messages (take share stream.old) child.packet) }
+    ensures left { OnOk result (stream.new ≡ drop share stream.old) }
+{
+    let Job {
+        place: _place,
+        node,
+        packet,
+        mode: _mode,
+    } = child;
+    let mut bin = packet;
+    bin.add_front(alloc, stream, share)?;
+    Ok((HoledNode::whole(node), bin))
+}
+
+// A child of a node that is opened, and what is in its bin then: where it is marked, it is cut with all that is pending for it.
 #[cycle(cuts)]
 fn cut_child<V: Merge>(
     alloc: Global,
     shape: Shape,
     depth: usize,
-    mode: Mode,
-    place: Place,
-    node: Node<V>,
-    packet: Packet<V>,
+    child: Job<V>,
     marked: bool,
+    stream: &mut Stream<V>,
+    share: usize,
     jobs: &mut Vec<Job<V>>,
 ) -> Result<(HoledNode<V>, Packet<V>), AllocError>
-    requires sized { IsSized shape node }
-    requires path { length place.path.items + depth ≤ 3 }
-    ensures child { IfOk result (λ cut. cut.0 ≡ with_holes hole_of (cond marked (cut_out depth mode shape (place_of place) node packet) (pieces.whole node))) }
-    ensures kept { IfOk result (λ cut. cut.1 ≡ cond marked [] packet) }
-    ensures jobs { OnOk result (map job_of jobs.new.items ≡ map job_of jobs.old.items ++ holes (cond marked (cut_out depth mode shape (place_of place) node packet) (pieces.whole node))) }
+    requires sized { IsSized shape child.node }
+    requires path { length child.place.path.items + depth ≤ 3 }
+    requires enough { share ≤ length stream.old }
+    ensures child { IfOk result (λ cut. cut.0 ≡ with_holes hole_of (cond marked (cut_job depth shape (sent (take share stream.old) (job_of child))) (pieces.whole child.node))) }
+    ensures kept { IfOk result (λ cut. cut.1 ≡ cond marked [] (with_messages (take share stream.old) child.packet)) }
+    ensures jobs { OnOk result (map job_of jobs.new.items ≡ map job_of jobs.old.items ++ holes (cond marked (cut_job depth shape (sent (take share stream.old) (job_of child))) (pieces.whole child.node))) }
+    ensures left { OnOk result (stream.new ≡ drop share stream.old) }
 {
     if !marked {
-        return Ok((HoledNode::whole(node), packet));
+        return keep(alloc, child, stream, share);
     }
-    let child = cut_node(alloc, shape, depth, mode, place, node, packet, jobs)?;
-    Ok((child, Packet::new(alloc)))
+    let node = cut_node(alloc, shape, depth, child, stream, share, jobs)?;
+    Ok((node, Packet::new(alloc)))
 }
 
 // The children of a node that is opened, cut one by one, and what is left in their bins.
@@ -127,16 +173,21 @@ fn cut_children<V: Merge>(
     nodes: Vec<Node<V>>,
     bins: Bins<V>,
     marks: &[bool],
+    stream: &mut Stream<V>,
+    shares: &[usize],
     jobs: &mut Vec<Job<V>>,
 ) -> Result<(Vec<HoledNode<V>>, Bins<V>), AllocError>
     requires sized { AreSizedNodes shape nodes.items }
     requires few { length nodes.items ≤ 64 }
     requires bins { length bins ≡ length nodes.items }
     requires marks { length marks.now ≡ length nodes.items }
+    requires shares { length shares.now ≡ length nodes.items }
+    requires enough { total shares.now ≤ length stream.old }
     requires path { length place.now.path.items + depth < 3 }
-    ensures children { IfOk result (λ cut. cut.0.items ≡ map (with_holes hole_of) (cut_each depth mode shape (place_of place.now) 0 nodes.items bins marks.now)) }
-    ensures bins { IfOk result (λ cut. cut.1 ≡ kept_bins bins marks.now) }
-    ensures jobs { OnOk result (map job_of jobs.new.items ≡ map job_of jobs.old.items ++ flat_map holes (cut_each depth mode shape (place_of place.now) 0 nodes.items bins marks.now)) }
+    ensures children { IfOk result (λ cut. cut.0.items ≡ map (with_holes hole_of) (cut_each depth mode shape (place_of place.now) 0 nodes.items (each_with (parted shares.now stream.old) bins) marks.now)) }
+    ensures bins { IfOk result (λ cut. cut.1 ≡ kept_bins (each_with (parted shares.now stream.old) bins) marks.now) }
+    ensures jobs { OnOk result (map job_of jobs.new.items ≡ map job_of jobs.old.items ++ flat_map holes (cut_each depth mode shape (place_of place.now) 0 nodes.items (each_with (parted shares.now stream.old) bins) marks.now)) }
+    ensures left { OnOk result (stream.new ≡ drop (total shares.now) stream.old) }
 {
     let mut children = Vec::with_capacity(alloc, nodes.len())?;
     let mut kept = Vec::with_capacity(alloc, nodes.len())?;
@@ -146,64 +197,122 @@ fn cut_children<V: Merge>(
         let Some(packet) = packets.next() else {
             unreachable!()
         };
-        let child = place.child(number as u16);
+        let child = Job {
+            place: place.child(number as u16),
+            node,
+            packet,
+            mode,
+        };
         let (child, left) = cut_child(
             alloc,
             shape,
             depth,
-            mode,
             child,
-            node,
-            packet,
             marks[number],
+            stream,
+            shares[number],
             jobs,
         )?;
-        children.push(child)?;
-        kept.push(left)?;
+        children.push_reserved(child);
+        kept.push_reserved(left);
         number += 1;
     }
     Ok((children, Bins::from_packets(kept)))
 }
 
-// A node and the messages for it, so many levels above the cut.
+// An inner node and the first messages of a stream: its children are cut one by one, so many levels above the cut.
+#[cycle(cuts)]
+fn open<V: Merge>(
+    alloc: Global,
+    shape: Shape,
+    depth: usize,
+    mode: Mode,
+    place: &Place,
+    children: Siblings<V>,
+    bins: Bins<V>,
+    stream: &mut Stream<V>,
+    count: usize,
+    jobs: &mut Vec<Job<V>>,
+) -> Result<HoledNode<V>, AllocError>
+    requires lie { LieBetween (pivots_of children) bins }
+    requires sized { IsSized shape (inner (nodes children) (joined bins)) }
+    requires path { length place.now.path.items + depth < 3 }
+    requires enough { count ≤ length stream.old }
+    ensures holed { IfOk result (λ holed. holed ≡ with_holes hole_of (cut_out (suc depth) mode shape (place_of place.now) (inner (nodes children) (joined bins)) (take count stream.old))) }
+    ensures jobs { OnOk result (map job_of jobs.new.items ≡ map job_of jobs.old.items ++ holes (cut_out (suc depth) mode shape (place_of place.now) (inner (nodes children) (joined bins)) (take count stream.old))) }
+    ensures left { OnOk result (stream.new ≡ drop count stream.old) }
+{
+    let (nodes, pivots) = children.apart();
+    let shares = stream.shares(alloc, count, pivots.as_slice())?;
+    let loads = loads(&bins, stream, shares.as_slice());
+    let marks = flush_marks(mode, shape, loads.as_slice());
+    let (children, bins) = cut_children(
+        alloc,
+        shape,
+        depth,
+        mode,
+        place,
+        nodes,
+        bins,
+        marks.as_slice(),
+        stream,
+        shares.as_slice(),
+        jobs,
+    )?;
+    Ok(HoledNode::opened(children, pivots, bins))
+}
+
+// The node of a job and its messages, with the first ones of a stream after them, so many levels above the cut. Where the job has none, those of the stream
+// stay there on the way down.
 #[cycle(cuts)]
 fn cut_node<V: Merge>(
     alloc: Global,
     shape: Shape,
     depth: usize,
-    mode: Mode,
-    place: Place,
-    node: Node<V>,
-    packet: Packet<V>,
+    job: Job<V>,
+    stream: &mut Stream<V>,
+    count: usize,
     jobs: &mut Vec<Job<V>>,
 ) -> Result<HoledNode<V>, AllocError>
-    requires sized { IsSized shape node }
-    requires path { length place.path.items + depth ≤ 3 }
-    ensures holed { IfOk result (λ holed. holed ≡ with_holes hole_of (cut_out depth mode shape (place_of place) node packet)) }
-    ensures jobs { OnOk result (map job_of jobs.new.items ≡ map job_of jobs.old.items ++ holes (cut_out depth mode shape (place_of place) node packet)) }
+    requires sized { IsSized shape job.node }
+    requires path { length job.place.path.items + depth ≤ 3 }
+    requires enough { count ≤ length stream.old }
+    ensures holed { IfOk result (λ holed. holed ≡ with_holes hole_of (cut_job depth shape (sent (take count stream.old) (job_of job)))) }
+    ensures jobs { OnOk result (map job_of jobs.new.items ≡ map job_of jobs.old.items ++ holes (cut_job depth shape (sent (take count stream.old) (job_of job)))) }
+    ensures left { OnOk result (stream.new ≡ drop count stream.old) }
 {
     if depth == 0 {
-        return move_out(mode, place, node, packet, jobs);
+        return move_out(alloc, job, stream, count, jobs);
     }
+    let _in_order = stream.len();
+    let Job {
+        place,
+        node,
+        packet,
+        mode,
+    } = job;
     match node.apart() {
-        Parts::Leaf(node) => move_out(mode, place, node, packet, jobs),
-        Parts::Inner { children, bins } => {
-            let (nodes, pivots) = children.apart();
-            let mut bins = bins;
-            bins.add(alloc, pivots.as_slice(), packet)?;
-            let marks = flush_marks(mode, shape, &bins);
-            let (children, bins) = cut_children(
-                alloc,
-                shape,
-                depth - 1,
+        Parts::Leaf(node) => {
+            let job = Job {
+                place,
+                node,
+                packet,
                 mode,
-                &place,
-                nodes,
-                bins,
-                marks.as_slice(),
-                jobs,
-            )?;
-            Ok(HoledNode::opened(children, pivots, bins))
+            };
+            move_out(alloc, job, stream, count, jobs)
+        }
+        Parts::Inner { children, bins } => {
+            let below = depth - 1;
+            if packet.is_empty() {
+                return open(
+                    alloc, shape, below, mode, &place, children, bins, stream, count, jobs,
+                );
+            }
+            let mut own = with_front(alloc, packet, stream, count)?;
+            let count = own.len();
+            open(
+                alloc, shape, below, mode, &place, children, bins, &mut own, count, jobs,
+            )
         }
     }
 }
@@ -227,15 +336,13 @@ pub fn cut<V: Merge>(
 {
     let (shape, root) = tree.apart();
     let mut jobs = Vec::new(alloc);
-    let root = cut_node(
-        alloc,
-        shape,
-        depth,
-        mode,
-        Place::root(tree_number),
-        root,
+    let whole = Job {
+        place: Place::root(tree_number),
+        node: root,
         packet,
-        &mut jobs,
-    )?;
+        mode,
+    };
+    let mut none = Packet::new(alloc).into_stream();
+    let root = cut_node(alloc, shape, depth, whole, &mut none, 0, &mut jobs)?;
     Ok((Holed::new(shape, root), jobs))
 }

@@ -18,7 +18,8 @@ fn values_of(alloc: Global, kinds: &[Kind], line: &str) -> Result<Vec<Value>, Re
     let mut values = Vec::new(alloc);
     for (place, kind) in kinds.iter().enumerate() {
         if place < fields.len() {
-            values.push(read_field(alloc, *kind, fields.get(place))?)?;
+            values.reserve(1)?;
+            values.push_reserved(read_field(alloc, *kind, fields.get(place))?);
         }
     }
     Ok(values)
@@ -27,7 +28,10 @@ fn values_of(alloc: Global, kinds: &[Kind], line: &str) -> Result<Vec<Value>, Re
 // The code of the fields of a line, of these kinds.
 fn code_of(alloc: Global, kinds: &[Kind], line: &str) -> Result<Vec<u8>, Refusal> {
     let values = values_of(alloc, kinds, line)?;
-    Ok(hex_of(alloc, &encode(alloc, values.as_slice())?)?)
+    let code = encode(alloc, values.as_slice())?;
+    let text = hex_of(alloc, &code);
+    drop(code);
+    Ok(text?)
 }
 
 #[test]

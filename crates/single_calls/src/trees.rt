@@ -102,8 +102,15 @@ fn tree_text<V: Sample>(alloc: Global, tree: &Tree<V>) -> Result<Vec<u8>, AllocE
     Ok(out)
 }
 
+// The same of a tree that is gone then.
+fn text_of<V: Sample>(alloc: Global, tree: Tree<V>) -> Result<Vec<u8>, AllocError> {
+    let text = tree_text(alloc, &tree);
+    drop(tree);
+    text
+}
+
 fn pending_text<V: Sample>(alloc: Global) -> Result<Vec<u8>, Refusal> {
-    Ok(tree_text(alloc, &pending::<V>(alloc)?)?)
+    Ok(text_of(alloc, pending::<V>(alloc)?)?)
 }
 
 #[test]
@@ -140,8 +147,9 @@ fn crowned_text(alloc: Global) -> Result<Vec<u8>, Refusal> {
         ("g", Sent::Put(70)),
         ("a", Sent::Del),
     ];
-    let tree = absorbed(alloc, four_puts::<Row>(alloc)?, packet(alloc, &batch)?)?;
-    Ok(tree_text(alloc, &tree)?)
+    let packet = packet(alloc, &batch)?;
+    let tree = absorbed(alloc, four_puts::<Row>(alloc)?, packet)?;
+    Ok(text_of(alloc, tree)?)
 }
 
 #[test]
@@ -161,8 +169,10 @@ fn add_inner<V: Sample>(
     children: Siblings<V>,
     bins: Bins<V>,
 ) -> Result<(), AllocError> {
-    add_messages(alloc, out, bins.iter())?;
+    let added = add_messages(alloc, out, bins.iter());
+    drop(bins);
     let (nodes, pivots) = children.apart();
+    added?;
     for pivot in &pivots {
         out.extend_from_slice(pivot.as_slice())?;
     }
@@ -205,13 +215,16 @@ fn the_parts_of_a_root_give_that_root(rt: HostRuntime) {
 }
 
 // The rows of a tree, packed into a tree of their own.
-fn packed(alloc: Global, tree: &Tree<Row>) -> Result<Tree<Row>, AllocError> {
-    pack(alloc, tree.shape(), tree.rows(alloc)?)
+fn packed(alloc: Global, tree: Tree<Row>) -> Result<Tree<Row>, AllocError> {
+    let shape = tree.shape();
+    let rows = tree.rows(alloc);
+    drop(tree);
+    pack(alloc, shape, rows?)
 }
 
 fn packed_text(alloc: Global) -> Result<Vec<u8>, Refusal> {
-    let packed = packed(alloc, &four_puts(alloc)?)?;
-    Ok(tree_text(alloc, &packed)?)
+    let packed = packed(alloc, four_puts(alloc)?)?;
+    Ok(text_of(alloc, packed)?)
 }
 
 #[test]

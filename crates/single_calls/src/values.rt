@@ -62,12 +62,24 @@ fn keys_are_read(rt: HostRuntime) {
     }
 }
 
+// The row of a line of the shops, once it is checked.
+fn checked_row(alloc: Global, line: &str) -> Result<Row, Refusal> {
+    let schema = shops(alloc)?;
+    let fields = fields(alloc, line)?;
+    let row = read_row(alloc, &schema, 4, &fields)?;
+    if let Err(refusal) = schema.check_row(4, &row) {
+        drop(row);
+        return Err(refusal);
+    }
+    Ok(row)
+}
+
 // A copy of the row of a line of the shops.
 fn copy_of(alloc: Global, line: &str) -> Result<Vec<u8>, Refusal> {
-    let schema = shops(alloc)?;
-    let row = read_row(alloc, &schema, 4, &fields(alloc, line)?)?;
-    schema.check_row(4, &row)?;
-    Ok(row_text(alloc, Ok(copy_row(alloc, &row)?))?)
+    let row = checked_row(alloc, line)?;
+    let copy = copy_row(alloc, &row);
+    drop(row);
+    Ok(row_text(alloc, Ok(copy?))?)
 }
 
 #[test]
@@ -120,7 +132,8 @@ fn records_are_read(rt: HostRuntime) {
 fn texts_record(alloc: Global, texts: &str) -> Result<Vec<u8>, AllocError> {
     let mut values = Vec::new(alloc);
     for text in texts.split('|') {
-        values.push(Value::Text(short_text(alloc, text)?))?;
+        values.reserve(1)?;
+        values.push_reserved(Value::Text(short_text(alloc, text)?));
     }
     let mut out = Vec::from_slice(alloc, b"row ")?;
     write_record(&mut out, values.as_slice())?;

@@ -1,5 +1,5 @@
 -- A tree that is cut: its jobs fit their holes, their places rise, and what becomes of them fits the holes, and fills them to what becomes of the tree.
-use Rattle.std.proofs.Common.{◌≡◌, ℕ, List, [], ◌∷◌, ◌∙◌, ap, refl, subst, sym, arith}
+use Rattle.std.proofs.Common.{◌≡◌, ℕ, List, [], ◌∷◌, ◌∙◌, refl, subst, sym, arith}
 use Rattle.std.proofs.lemmas.List.Elements.{recursion_from_All}
 use Rattle.std.specs.FinMap.{find}
 use Rattle.std.specs.List.{All, AllByRecursion as Each}

@@ -1,13 +1,21 @@
 -- The children of an opened node, cut one by one.
 use Rattle.std.specs.Prelude.{ℕ, ◌+◌, Bool, cond, List, [], ◌∷◌}
 use Rattle.bt_node.specs.Fits.{IsSized}
-use Rattle.bt_node.specs.Messages.{Messages}
+use Rattle.bt_node.specs.Messages.{Messages, with_messages}
 use Rattle.bt_node.specs.Trees.{Shape, Tree}
 use Rattle.bt_plan.specs.declared.job.Mode.{Mode}
 use Rattle.bt_plan.specs.Cuts.{Job, child_place, cut_out}
 use Rattle.bt_plan.specs.Pieces.{Holed, Place, whole}
 
 module _ {V M : Type 0} where
+  -- a job with newer messages
+  abbrev pub sent : Messages M → Job V M → Job V M
+  sent newer job = record { place = job.place; node = job.node; packet = with_messages newer job.packet; mode = job.mode }
+
+  -- a job that is cut, so many levels above the cut
+  abbrev pub cut_job : ℕ → Shape → Job V M → Holed V M (Job V M)
+  cut_job depth shape job = cut_out depth job.mode shape job.place job.node job.packet
+
   -- the children from the i-th on, each with its bin and its mark
   abbrev pub cut_each : ℕ → Mode → Shape → Place → ℕ → List (Tree V M) → List (Messages M) → List Bool → List (Holed V M (Job V M))
   cut_each depth mode shape place i [] bins marks = []

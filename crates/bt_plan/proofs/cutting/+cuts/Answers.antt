@@ -1,113 +1,247 @@
-use Rattle.std.proofs.Common.{◌≡◌, ◌≤◌, ◌-◌, ◌++◌, ◌∙◌, suc, ap, arith, length, map, rules, subst, sym}
+use Rattle.std.proofs.Common.{◌≡◌, ◌<◌, ◌≤◌, ◌∙◌, ◌++◌, ap, arith, drop, length, map, refl, rules, subst, sym, take}
+use Rattle.std.proofs.Math.Seq.{take-length}
 use Rattle.std.proofs.lemmas.List.{length-map}
-use Rattle.bt_messages.specs.Bins.{LieBetween, joined}
+use Rattle.std.specs.Vec.Iter.{into_iter_items}
+use Rattle.bt_messages.specs.Bins.{LieBetween, each_with, joined, parted, total}
+use Rattle.bt_messages.specs.Messages.{with_messages}
+use Rattle.bt_messages.proofs.offered.Fronts.{sorted_take}
+use Rattle.bt_messages.proofs.offered.Placed.{alone}
+use Rattle.bt_node.specs.Fits.{IsSized}
 use Rattle.bt_node.specs.Trees.{behind}
 use Rattle.bt_node.proofs.offered.FlushSteps.{if_ok}
-use Rattle.bt_plan.specs.Cuts.{cut_out, hole_of}
+use Rattle.bt_plan.specs.Cuts.{flush_marks, hole_of}
 use Rattle.bt_plan.specs.Pieces.{holed_nodes, holes, opened, with_holes}
 use Rattle.bt_plan.specs.Views.{job_of, place_of}
-use Rattle.bt_plan.proofs.Opening.{after_long, as_many_marks, bins_long, kept_divided, leaf-cut, made_long, node-jobs, node-told, nodes_sized, on_then}
+use Rattle.bt_plan.proofs.Loads.{nothing_pending}
+use Rattle.bt_plan.proofs.Opening.{as_many_marks, bins_long, inner-cut, kept_divided, leaf-cut, made_long, node-jobs, node-told, nodes_sized, on_then}
+use Rattle.bt_plan.proofs.Steps.{enough_after, left_after, next_bin, next_child, one_made, one_made_of, sized_after, some_made_of}
 use Rattle.bt_plan.proofs.cutting.+cuts.Goals as goal
 
-pub cut_node-add-requires : goal.cut_node-add-requires
-cut_node-add-requires g t c =
-    let here = c.in-Inner.ensures in
-    let parts = c.apart-nodes.ensures in
-    let xs = c.in-Inner.children in
-    let bins = c.in-Inner.bins in
-    let ks = c.apart-nodes.result.1.items in
-    let ts = c.apart-nodes.result.0.items in
-    let long = bins_long c.args.node xs bins ks ts here.0 here.1 parts.parts parts.one_fewer in
-    omega (arith, long, ap length c.as_slice.ensures.value)
+-- ---- an inner node that is opened
 
-pub cut_node-flush_marks-marks-requires : goal.cut_node-flush_marks-marks-requires
-cut_node-flush_marks-marks-requires g t c =
-    let here = c.in-Inner.ensures in
+pub open-loads-loads-requires-clause-few : goal.open-loads-loads-requires-clause-few
+open-loads-loads-requires-clause-few g t c =
+    let xs = c.args.children in
+    let bins = c.args.bins in
+    let stream = c.args.stream.now in
+    let lie = c.requires.lie in
     let parts = c.apart-nodes.ensures in
-    let xs = c.in-Inner.children in
-    let bins = c.in-Inner.bins in
     let ks = c.apart-nodes.result.1.items in
     let ts = c.apart-nodes.result.0.items in
-    let sized = nodes_sized c.args.node xs bins ks ts here.0 here.1 parts.parts parts.one_fewer c.args.shape c.requires.sized in
-    let long = after_long c.args.node xs bins ks ts here.0 here.1 parts.parts parts.one_fewer c.as_slice.result.now c.as_slice.ensures.value c.args.packet c.add.new.self c.in_ok-add-in-Inner.ensures.added in
+    let long = bins_long xs bins ks ts lie parts.parts parts.one_fewer in
+    let sized = nodes_sized xs bins ks ts lie parts.parts parts.one_fewer c.args.shape c.requires.sized in
     let most : c.args.shape.fanout ≤ 64 = search rules in
-    omega (arith, sized.0, long, most)
+    omega (arith, long, parts.one_fewer, sized.0, most)
 
-pub cut_node-cut_children-requires : goal.cut_node-cut_children-requires
-cut_node-cut_children-requires g t c κs within =
-    let here = c.in-Inner.ensures in
+pub open-loads-loads-requires-clause-len : goal.open-loads-loads-requires-clause-len
+open-loads-loads-requires-clause-len g t c =
+    let xs = c.args.children in
+    let bins = c.args.bins in
+    let stream = c.args.stream.now in
+    let lie = c.requires.lie in
     let parts = c.apart-nodes.ensures in
-    let xs = c.in-Inner.children in
-    let bins = c.in-Inner.bins in
     let ks = c.apart-nodes.result.1.items in
     let ts = c.apart-nodes.result.0.items in
-    let sized = nodes_sized c.args.node xs bins ks ts here.0 here.1 parts.parts parts.one_fewer c.args.shape c.requires.sized in
-    let long = after_long c.args.node xs bins ks ts here.0 here.1 parts.parts parts.one_fewer c.as_slice.result.now c.as_slice.ensures.value c.args.packet c.add.new.self c.in_ok-add-in-Inner.ensures.added in
-    let marked = as_many_marks c.args.node xs bins ks ts here.0 here.1 parts.parts parts.one_fewer c.as_slice.result.now c.as_slice.ensures.value c.args.packet c.add.new.self c.in_ok-add-in-Inner.ensures.added (c.args.depth - 1) c.args.mode c.args.shape (place_of c.args.place) c.as_slice-in-Inner.result.now (c.as_slice-in-Inner.ensures.value ∙ c.flush_marks-marks.ensures) in
+    let long = bins_long xs bins ks ts lie parts.parts parts.one_fewer in
+    omega (arith, long, ap length c.as_slice-2.ensures.value, c.in_ok-shares.ensures.len, ap length c.as_slice.ensures.value)
+
+pub open-cut_children-requires : goal.open-cut_children-requires
+open-cut_children-requires g t c κs within =
+    let xs = c.args.children in
+    let bins = c.args.bins in
+    let stream = c.args.stream.now in
+    let lie = c.requires.lie in
+    let parts = c.apart-nodes.ensures in
+    let ks = c.apart-nodes.result.1.items in
+    let ts = c.apart-nodes.result.0.items in
+    let shares = c.as_slice-5.result.now in
+    let after_is = ap (λ ns. each_with (parted ns stream) bins) c.as_slice-5.ensures.value ∙ ap (λ ps. each_with ps bins) c.in_ok-shares.ensures.parts in
+    let loads_are = c.loads-loads.ensures ∙ ap (λ ns. map length (each_with (parted ns stream) bins)) (c.as_slice-2.ensures.value ∙ sym c.as_slice-5.ensures.value) in
+    let marks_are = c.as_slice-4.ensures.value ∙ c.flush_marks-marks.ensures ∙ ap (flush_marks c.args.mode c.args.shape.buffer) (c.as_slice-3.ensures.value ∙ loads_are) in
+    let long = bins_long xs bins ks ts lie parts.parts parts.one_fewer in
+    let sized = nodes_sized xs bins ks ts lie parts.parts parts.one_fewer c.args.shape c.requires.sized in
+    let marked = as_many_marks xs bins ks ts lie parts.parts parts.one_fewer c.as_slice.result.now c.as_slice.ensures.value (take c.args.count stream) (each_with (parted shares stream) bins) after_is c.args.depth c.args.mode c.args.shape (place_of c.args.place.now) c.as_slice-4.result.now marks_are in
     let most : c.args.shape.fanout ≤ 64 = search rules in
-    let some : 1 ≤ c.args.depth = search rules in (
-      omega (arith, some, c.decreases),
-      (within.0, (within.1, (sized.1, (omega (arith, sized.0, most), (long, (marked, omega (arith, some, c.requires.path))))))),
+    let as_many : length shares ≡ length ts = omega (arith, parts.one_fewer, ap length c.as_slice-5.ensures.value, c.in_ok-shares.ensures.len, ap length c.as_slice.ensures.value) in
+    let enough : total shares ≤ length stream = omega (arith, ap total c.as_slice-5.ensures.value, c.in_ok-shares.ensures.total, c.requires.enough) in (
+      omega (arith, c.decreases),
+      (within.0, (within.1, (sized.1, (omega (arith, sized.0, most), (omega (arith, long, parts.one_fewer), (marked, (as_many, (enough, c.requires.path)))))))),
     )
 
-pub cut_node-opened-requires-clause-one_fewer : goal.cut_node-opened-requires-clause-one_fewer
-cut_node-opened-requires-clause-one_fewer g t c =
-    let here = c.in-Inner.ensures in
+pub open-opened-requires-clause-one_fewer : goal.open-opened-requires-clause-one_fewer
+open-opened-requires-clause-one_fewer g t c =
+    let xs = c.args.children in
+    let bins = c.args.bins in
+    let stream = c.args.stream.now in
+    let lie = c.requires.lie in
     let parts = c.apart-nodes.ensures in
-    let xs = c.in-Inner.children in
-    let bins = c.in-Inner.bins in
     let ks = c.apart-nodes.result.1.items in
     let ts = c.apart-nodes.result.0.items in
-    let long = made_long c.args.node xs bins ks ts here.0 here.1 parts.parts parts.one_fewer c.as_slice.result.now c.as_slice.ensures.value c.args.packet c.add.new.self c.in_ok-add-in-Inner.ensures.added (c.args.depth - 1) c.args.mode c.args.shape (place_of c.args.place) c.as_slice-in-Inner.result.now (c.as_slice-in-Inner.ensures.value ∙ c.flush_marks-marks.ensures) in
-    ap length c.in_ok-children-in-Inner.ensures.children ∙ length-map _ (with_holes hole_of) ∙ long
+    let shares = c.as_slice-5.result.now in
+    let after_is = ap (λ ns. each_with (parted ns stream) bins) c.as_slice-5.ensures.value ∙ ap (λ ps. each_with ps bins) c.in_ok-shares.ensures.parts in
+    let loads_are = c.loads-loads.ensures ∙ ap (λ ns. map length (each_with (parted ns stream) bins)) (c.as_slice-2.ensures.value ∙ sym c.as_slice-5.ensures.value) in
+    let marks_are = c.as_slice-4.ensures.value ∙ c.flush_marks-marks.ensures ∙ ap (flush_marks c.args.mode c.args.shape.buffer) (c.as_slice-3.ensures.value ∙ loads_are) in
+    ap length c.in_ok-children.ensures.children ∙ length-map _ (with_holes hole_of) ∙ made_long xs bins ks ts lie parts.parts parts.one_fewer c.as_slice.result.now c.as_slice.ensures.value (take c.args.count stream) (each_with (parted shares stream) bins) after_is c.args.depth c.args.mode c.args.shape (place_of c.args.place.now) c.as_slice-4.result.now marks_are
 
-pub cut_node-opened-requires-clause-divided : goal.cut_node-opened-requires-clause-divided
-cut_node-opened-requires-clause-divided g t c =
-    let here = c.in-Inner.ensures in
+pub open-opened-requires-clause-divided : goal.open-opened-requires-clause-divided
+open-opened-requires-clause-divided g t c =
+    let xs = c.args.children in
+    let bins = c.args.bins in
+    let stream = c.args.stream.now in
+    let lie = c.requires.lie in
     let parts = c.apart-nodes.ensures in
-    let xs = c.in-Inner.children in
-    let bins = c.in-Inner.bins in
     let ks = c.apart-nodes.result.1.items in
     let ts = c.apart-nodes.result.0.items in
-    let kept = kept_divided c.args.node xs bins ks ts here.0 here.1 parts.parts parts.one_fewer c.as_slice.result.now c.as_slice.ensures.value c.args.packet c.add.new.self c.in_ok-add-in-Inner.ensures.added (c.args.depth - 1) c.args.mode c.args.shape (place_of c.args.place) c.as_slice-in-Inner.result.now (c.as_slice-in-Inner.ensures.value ∙ c.flush_marks-marks.ensures) in
-    subst (LieBetween ks) (sym c.in_ok-children-in-Inner.ensures.bins) kept
+    let shares = c.as_slice-5.result.now in
+    let after_is = ap (λ ns. each_with (parted ns stream) bins) c.as_slice-5.ensures.value ∙ ap (λ ps. each_with ps bins) c.in_ok-shares.ensures.parts in
+    let loads_are = c.loads-loads.ensures ∙ ap (λ ns. map length (each_with (parted ns stream) bins)) (c.as_slice-2.ensures.value ∙ sym c.as_slice-5.ensures.value) in
+    let marks_are = c.as_slice-4.ensures.value ∙ c.flush_marks-marks.ensures ∙ ap (flush_marks c.args.mode c.args.shape.buffer) (c.as_slice-3.ensures.value ∙ loads_are) in
+    subst (LieBetween ks) (sym c.in_ok-children.ensures.bins) (kept_divided xs bins ks ts lie parts.parts parts.one_fewer c.as_slice.result.now c.as_slice.ensures.value (take c.args.count stream) (each_with (parted shares stream) bins) after_is c.args.depth c.args.mode c.args.shape (place_of c.args.place.now) c.as_slice-4.result.now marks_are)
+
+pub open-returns-clause-holed : goal.open-returns-clause-holed
+open-returns-clause-holed g t c =
+    let xs = c.args.children in
+    let bins = c.args.bins in
+    let stream = c.args.stream.now in
+    let lie = c.requires.lie in
+    let parts = c.apart-nodes.ensures in
+    let ks = c.apart-nodes.result.1.items in
+    let ts = c.apart-nodes.result.0.items in
+    let shares = c.as_slice-5.result.now in
+    let after_is = ap (λ ns. each_with (parted ns stream) bins) c.as_slice-5.ensures.value ∙ ap (λ ps. each_with ps bins) c.in_ok-shares.ensures.parts in
+    let loads_are = c.loads-loads.ensures ∙ ap (λ ns. map length (each_with (parted ns stream) bins)) (c.as_slice-2.ensures.value ∙ sym c.as_slice-5.ensures.value) in
+    let marks_are = c.as_slice-4.ensures.value ∙ c.flush_marks-marks.ensures ∙ ap (flush_marks c.args.mode c.args.shape.buffer) (c.as_slice-3.ensures.value ∙ loads_are) in
+    let cut = c.in_ok-children.ensures in
+    c.opened.ensures ∙ (λ i. opened (holed_nodes (behind ks (cut.children i))) (joined (cut.bins i))) ∙ node-told xs bins ks ts lie parts.parts parts.one_fewer c.as_slice.result.now c.as_slice.ensures.value (take c.args.count stream) (each_with (parted shares stream) bins) after_is c.args.depth c.args.mode c.args.shape (place_of c.args.place.now) c.as_slice-4.result.now marks_are
+
+pub open-returns-clause-jobs : goal.open-returns-clause-jobs
+open-returns-clause-jobs g t c =
+    let xs = c.args.children in
+    let bins = c.args.bins in
+    let stream = c.args.stream.now in
+    let lie = c.requires.lie in
+    let parts = c.apart-nodes.ensures in
+    let ks = c.apart-nodes.result.1.items in
+    let ts = c.apart-nodes.result.0.items in
+    let shares = c.as_slice-5.result.now in
+    let after_is = ap (λ ns. each_with (parted ns stream) bins) c.as_slice-5.ensures.value ∙ ap (λ ps. each_with ps bins) c.in_ok-shares.ensures.parts in
+    let loads_are = c.loads-loads.ensures ∙ ap (λ ns. map length (each_with (parted ns stream) bins)) (c.as_slice-2.ensures.value ∙ sym c.as_slice-5.ensures.value) in
+    let marks_are = c.as_slice-4.ensures.value ∙ c.flush_marks-marks.ensures ∙ ap (flush_marks c.args.mode c.args.shape.buffer) (c.as_slice-3.ensures.value ∙ loads_are) in
+    c.in_ok-children.ensures.jobs ∙ ap (λ js. map job_of c.args.jobs.now.items ++ js) (node-jobs xs bins ks ts lie parts.parts parts.one_fewer c.as_slice.result.now c.as_slice.ensures.value (take c.args.count stream) (each_with (parted shares stream) bins) after_is c.args.depth c.args.mode c.args.shape (place_of c.args.place.now) c.as_slice-4.result.now marks_are)
+
+pub open-returns-clause-left : goal.open-returns-clause-left
+open-returns-clause-left g t c =
+    c.in_ok-children.ensures.left ∙ ap (λ n. drop n c.args.stream.now) (ap total c.as_slice-5.ensures.value ∙ c.in_ok-shares.ensures.total)
+
+-- ---- its children
+
+pub cut_children-loop-node-preserved : goal.cut_children-loop-node-preserved
+cut_children-loop-node-preserved g t c =
+    let place = place_of c.args.place.now in
+    let number = c.loop-node.number in
+    let shares = c.args.shares.now in
+    let marks = c.args.marks.now in
+    let ms = c.loop-node.stream in
+    let rest = c.cut_child.new.stream in
+    let node = c.in-Some.node in
+    let nodes = c.loop-node.node-iterator.rest.items in
+    let later = c.next.new.self.rest.items in
+    let packet = c.in-Some-next.packet in
+    let packets = into_iter_items c.loop-node.packets in
+    let others = into_iter_items c.next-in-loop-node.new.self in
+    let known = c.loop-node.invariant in
+    let steps = c.in-Some.ensures.steps.0 in
+    let here = c.in-Some-next.ensures.items in
+    let cut = c.in_ok-child.ensures in
+    let some = ap length steps in
+    let within : number < length shares = omega (arith, some, known.number, c.requires.shares) in
+    let marked : number < length marks = omega (arith, some, known.number, c.requires.marks) in
+    let next = next_child c.args.depth c.args.mode c.args.shape place number node later nodes packet others packets shares ms rest marks (place_of c.child.result) steps here within marked cut.left
+    c.child.ensures in
+    let bin = next_bin number packet others packets shares ms rest marks here within marked cut.left in
+    record {
+      children = one_made_of (with_holes hole_of) _ _ _ _ _ _ _ c.push_reserved.ensures.items cut.child next known.children;
+      kept = one_made _ _ _ _ _ _ _ c.push_reserved-in-loop-node.ensures.items cut.kept bin known.kept;
+      jobs = some_made_of holes _ _ _ _ _ _ cut.jobs next known.jobs;
+      left = left_after shares number ms rest _ within cut.left known.left;
+      enough = enough_after shares number ms rest within cut.left known.enough;
+      number = omega (arith, some, known.number);
+      packets = omega (arith, some, ap length here, known.packets);
+      sized = sized_after c.args.depth c.args.mode c.args.shape place node later nodes steps known.sized;
+      made = omega (arith, c.push_reserved.ensures.len, known.made);
+      made_bins = omega (arith, c.push_reserved-in-loop-node.ensures.len, known.made_bins);
+      room = omega (arith, c.push_reserved.ensures.capacity, known.room);
+      room_for_bins = omega (arith, c.push_reserved-in-loop-node.ensures.capacity, known.room_for_bins);
+    }
+
+-- ---- a node that is cut
+
+pub cut_node-same-children : goal.cut_node-same-children
+cut_node-same-children g t c = refl
+
+pub cut_node-same-bins : goal.cut_node-same-bins
+cut_node-same-bins g t c = refl
+
+pub cut_node-open-requires-in-Inner : goal.cut_node-open-requires-in-Inner
+cut_node-open-requires-in-Inner g t c κs within =
+    let here = c.in-Inner.ensures in
+    let some : 1 ≤ c.args.depth = search rules in (
+      omega (arith, some, c.decreases),
+      (within.0, (within.1, (here.1, (subst (IsSized c.args.shape) here.0 c.requires.sized, (omega (arith, some, c.requires.path), omega (arith, c.len-count.ensures.len)))))),
+    )
 
 pub cut_node-returns-in-Leaf-clause-holed : goal.cut_node-returns-in-Leaf-clause-holed
 cut_node-returns-in-Leaf-clause-holed g t c =
-    let leaf = leaf-cut c.args.depth c.args.mode c.args.shape (place_of c.args.place) c.args.node c.in-Leaf.node c.args.packet c.in-Leaf.ensures.0 c.in-Leaf.ensures.1 in
+    let job = c.args.job in
+    let all = with_messages (take c.args.count c.args.stream.now) job.packet in
+    let leaf = leaf-cut c.args.depth job.mode c.args.shape (place_of job.place) job.node c.in-Leaf.node all c.in-Leaf.ensures.0 c.in-Leaf.ensures.1 in
     if_ok _ _ c.move_out-in-Leaf.result (λ h e. e ∙ ap (with_holes hole_of) (sym leaf)) c.move_out-in-Leaf.ensures.hole
 
 pub cut_node-returns-in-Leaf-clause-jobs : goal.cut_node-returns-in-Leaf-clause-jobs
 cut_node-returns-in-Leaf-clause-jobs g t c =
-    let leaf = leaf-cut c.args.depth c.args.mode c.args.shape (place_of c.args.place) c.args.node c.in-Leaf.node c.args.packet c.in-Leaf.ensures.0 c.in-Leaf.ensures.1 in
+    let job = c.args.job in
+    let all = with_messages (take c.args.count c.args.stream.now) job.packet in
+    let leaf = leaf-cut c.args.depth job.mode c.args.shape (place_of job.place) job.node c.in-Leaf.node all c.in-Leaf.ensures.0 c.in-Leaf.ensures.1 in
     on_then c.move_out-in-Leaf.result (λ e. e ∙ ap (λ h. map job_of c.args.jobs.now.items ++ holes h) (sym leaf)) c.move_out-in-Leaf.ensures.job
 
-pub cut_node-returns-in_ok-children-in-Inner-clause-holed : goal.cut_node-returns-in_ok-children-in-Inner-clause-holed
-cut_node-returns-in_ok-children-in-Inner-clause-holed g t c =
-    let here = c.in-Inner.ensures in
-    let parts = c.apart-nodes.ensures in
-    let xs = c.in-Inner.children in
-    let bins = c.in-Inner.bins in
-    let ks = c.apart-nodes.result.1.items in
-    let ts = c.apart-nodes.result.0.items in
+pub cut_node-returns-then-is_empty-clause-holed : goal.cut_node-returns-then-is_empty-clause-holed
+cut_node-returns-then-is_empty-clause-holed g t c =
+    let job = c.args.job in
+    let first = take c.args.count c.args.stream.now in
     let some : 1 ≤ c.args.depth = search rules in
-    let deep : suc (c.args.depth - 1) ≡ c.args.depth = omega (arith, some) in
-    let cut = c.in_ok-children-in-Inner.ensures in
-    let told = node-told c.args.node xs bins ks ts here.0 here.1 parts.parts parts.one_fewer c.as_slice.result.now c.as_slice.ensures.value c.args.packet c.add.new.self c.in_ok-add-in-Inner.ensures.added (c.args.depth - 1) c.args.mode c.args.shape (place_of c.args.place) c.as_slice-in-Inner.result.now (c.as_slice-in-Inner.ensures.value ∙ c.flush_marks-marks.ensures) in
-    c.opened.ensures ∙ (λ i. opened (holed_nodes (behind ks (cut.children i))) (joined (cut.bins i))) ∙ told
-    ∙ ap (λ d. with_holes hole_of (cut_out d c.args.mode c.args.shape (place_of c.args.place) c.args.node c.args.packet)) deep
+    let none = nothing_pending job.packet c.is_empty.result c.is_empty.ensures c.if-is_empty.true in
+    let same = sym (ap (with_messages first) none ∙ alone first (sorted_take c.args.count c.args.stream.now c.len-in_order.ensures.sorted)) in
+    let told = inner-cut c.args.depth job.mode c.args.shape (place_of job.place) job.node c.in-Inner.children c.in-Inner.bins first (with_messages first job.packet) some c.in-Inner.ensures.0 same in
+    if_ok _ _ c.open.result (λ h e. e ∙ ap (with_holes hole_of) told) c.open.ensures.holed
 
-pub cut_node-returns-in_ok-children-in-Inner-clause-jobs : goal.cut_node-returns-in_ok-children-in-Inner-clause-jobs
-cut_node-returns-in_ok-children-in-Inner-clause-jobs g t c =
-    let here = c.in-Inner.ensures in
-    let parts = c.apart-nodes.ensures in
-    let xs = c.in-Inner.children in
-    let bins = c.in-Inner.bins in
-    let ks = c.apart-nodes.result.1.items in
-    let ts = c.apart-nodes.result.0.items in
+pub cut_node-returns-then-is_empty-clause-jobs : goal.cut_node-returns-then-is_empty-clause-jobs
+cut_node-returns-then-is_empty-clause-jobs g t c =
+    let job = c.args.job in
+    let first = take c.args.count c.args.stream.now in
     let some : 1 ≤ c.args.depth = search rules in
-    let deep : suc (c.args.depth - 1) ≡ c.args.depth = omega (arith, some) in
-    let told = node-jobs c.args.node xs bins ks ts here.0 here.1 parts.parts parts.one_fewer c.as_slice.result.now c.as_slice.ensures.value c.args.packet c.add.new.self c.in_ok-add-in-Inner.ensures.added (c.args.depth - 1) c.args.mode c.args.shape (place_of c.args.place) c.as_slice-in-Inner.result.now (c.as_slice-in-Inner.ensures.value ∙ c.flush_marks-marks.ensures) in
-    c.in_ok-children-in-Inner.ensures.jobs
-    ∙ ap (λ js. map job_of c.args.jobs.now.items ++ js)
-    (told ∙ ap (λ d. holes (cut_out d c.args.mode c.args.shape (place_of c.args.place) c.args.node c.args.packet)) deep)
+    let none = nothing_pending job.packet c.is_empty.result c.is_empty.ensures c.if-is_empty.true in
+    let same = sym (ap (with_messages first) none ∙ alone first (sorted_take c.args.count c.args.stream.now c.len-in_order.ensures.sorted)) in
+    let told = inner-cut c.args.depth job.mode c.args.shape (place_of job.place) job.node c.in-Inner.children c.in-Inner.bins first (with_messages first job.packet) some c.in-Inner.ensures.0 same in
+    on_then c.open.result (λ e. e ∙ ap (λ h. map job_of c.args.jobs.now.items ++ holes h) told) c.open.ensures.jobs
+
+pub cut_node-returns-in_ok-own-in-Inner-clause-holed : goal.cut_node-returns-in_ok-own-in-Inner-clause-holed
+cut_node-returns-in_ok-own-in-Inner-clause-holed g t c =
+    let job = c.args.job in
+    let first = take c.args.count c.args.stream.now in
+    let own = c.in_ok-own-in-Inner.own in
+    let some : 1 ≤ c.args.depth = search rules in
+    let same = ap (λ n. take n own) c.len-count.ensures.len ∙ take-length own ∙ c.in_ok-own-in-Inner.ensures.all in
+    let told = inner-cut c.args.depth job.mode c.args.shape (place_of job.place) job.node c.in-Inner.children c.in-Inner.bins (take c.len-count.result own) (with_messages first job.packet) some
+    c.in-Inner.ensures.0 same in
+    if_ok _ _ c.open-in-Inner.result (λ h e. e ∙ ap (with_holes hole_of) told) c.open-in-Inner.ensures.holed
+
+pub cut_node-returns-in_ok-own-in-Inner-clause-jobs : goal.cut_node-returns-in_ok-own-in-Inner-clause-jobs
+cut_node-returns-in_ok-own-in-Inner-clause-jobs g t c =
+    let job = c.args.job in
+    let first = take c.args.count c.args.stream.now in
+    let own = c.in_ok-own-in-Inner.own in
+    let some : 1 ≤ c.args.depth = search rules in
+    let same = ap (λ n. take n own) c.len-count.ensures.len ∙ take-length own ∙ c.in_ok-own-in-Inner.ensures.all in
+    let told = inner-cut c.args.depth job.mode c.args.shape (place_of job.place) job.node c.in-Inner.children c.in-Inner.bins (take c.len-count.result own) (with_messages first job.packet) some
+    c.in-Inner.ensures.0 same in
+    on_then c.open-in-Inner.result (λ e. e ∙ ap (λ h. map job_of c.args.jobs.now.items ++ holes h) told) c.open-in-Inner.ensures.jobs

@@ -1,30 +1,41 @@
-use Rattle.std.proofs.Common.{◌≡◌, ◌+◌, ◌*◌, ◌++◌, drop, length, map}
+use Rattle.std.proofs.Common.{◌≡◌, ◌+◌, ◌≤◌, ◌*◌, ◌++◌, drop, length, map, vec_capacity, vec_len}
 use Rattle.std.specs.List.{flat_map}
 use Rattle.std.specs.Vec.Iter.{into_iter_items}
+use Rattle.bt_messages.specs.Bins.{each_with, parted, total}
 use Rattle.bt_plan.specs.Cuts.{hole_of}
 use Rattle.bt_plan.specs.Pieces.{holes, with_holes}
 use Rattle.bt_plan.specs.Views.{job_of, place_of}
 use Rattle.bt_plan.specs.inside.Cutting.{AreSizedNodes, cut_each, kept_bins}
 use Rattle.bt_plan.proofs.cutting.+cuts.Given as goal
 
--- the children so far, and then those that are left with the bins that are left
+-- the children so far, and then those that are left with what is pending for them
 abbrev pub invariant-cut_children-loop-node : goal.invariant-cut_children-loop-node
 invariant-cut_children-loop-node g l = record {
-  children : l.children.items ++ map (with_holes hole_of) (cut_each l.depth l.mode l.shape (place_of l.place) l.number l.node-iterator.rest.items (into_iter_items l.packets) (drop l.number l.marks))
-      ≡ map (with_holes hole_of) (cut_each l.fn.depth l.fn.mode l.fn.shape (place_of l.fn.place) 0 l.fn.nodes.items l.fn.bins l.fn.marks);
-  kept : l.kept.items ++ kept_bins (into_iter_items l.packets) (drop l.number l.marks) ≡ kept_bins l.fn.bins l.fn.marks;
-  jobs : map job_of l.jobs.items ++ flat_map holes (cut_each l.depth l.mode l.shape (place_of l.place) l.number l.node-iterator.rest.items (into_iter_items l.packets) (drop l.number l.marks))
-      ≡ map job_of l.fn.jobs.items ++ flat_map holes (cut_each l.fn.depth l.fn.mode l.fn.shape (place_of l.fn.place) 0 l.fn.nodes.items l.fn.bins l.fn.marks);
+  children : l.children.items ++ map (with_holes hole_of) (cut_each l.depth l.mode l.shape (place_of l.place) l.number l.node-iterator.rest.items (each_with (parted (drop l.number l.shares) l.stream) (into_iter_items l.packets)) (drop l.number l.marks))
+      ≡ map (with_holes hole_of) (cut_each l.fn.depth l.fn.mode l.fn.shape (place_of l.fn.place) 0 l.fn.nodes.items (each_with (parted l.fn.shares l.fn.stream) l.fn.bins) l.fn.marks);
+  kept : l.kept.items ++ kept_bins (each_with (parted (drop l.number l.shares) l.stream) (into_iter_items l.packets)) (drop l.number l.marks) ≡ kept_bins (each_with (parted l.fn.shares l.fn.stream) l.fn.bins) l.fn.marks;
+  jobs : map job_of l.jobs.items ++ flat_map holes (cut_each l.depth l.mode l.shape (place_of l.place) l.number l.node-iterator.rest.items (each_with (parted (drop l.number l.shares) l.stream) (into_iter_items l.packets)) (drop l.number l.marks))
+      ≡ map job_of l.fn.jobs.items ++ flat_map holes (cut_each l.fn.depth l.fn.mode l.fn.shape (place_of l.fn.place) 0 l.fn.nodes.items (each_with (parted l.fn.shares l.fn.stream) l.fn.bins) l.fn.marks);
+  left : drop (total (drop l.number l.shares)) l.stream ≡ drop (total l.fn.shares) l.fn.stream;
+  enough : total (drop l.number l.shares) ≤ length l.stream;
   number : l.number + length l.node-iterator.rest.items ≡ length l.fn.nodes.items;
   packets : length (into_iter_items l.packets) ≡ length l.node-iterator.rest.items;
   sized : AreSizedNodes l.shape l.node-iterator.rest.items;
+  made : vec_len l.children ≤ l.number;
+  made_bins : vec_len l.kept ≤ l.number;
+  room : length l.fn.nodes.items ≤ vec_capacity l.children;
+  room_for_bins : length l.fn.nodes.items ≤ vec_capacity l.kept;
 }
 
+-- a node of depth d opens at depth d - 1
 abbrev pub decreases-cut_node : goal.decreases-cut_node
-decreases-cut_node g l = 3 * l.depth
+decreases-cut_node g l = 4 * l.depth
 
 abbrev pub decreases-cut_child : goal.decreases-cut_child
-decreases-cut_child g l = 3 * l.depth + 1
+decreases-cut_child g l = 4 * l.depth + 1
 
 abbrev pub decreases-cut_children : goal.decreases-cut_children
-decreases-cut_children g l = 3 * l.depth + 2
+decreases-cut_children g l = 4 * l.depth + 2
+
+abbrev pub decreases-open : goal.decreases-open
+decreases-open g l = 4 * l.depth + 3

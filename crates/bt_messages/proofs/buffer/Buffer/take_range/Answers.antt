@@ -2,7 +2,7 @@ use Rattle.std.proofs.Common.{◌≡◌, ◌∙◌, [], ap, sym}
 use Rattle.std.proofs.lemmas.Result.{IfOk-weaker, on_err_weaker, on_ok_weaker}
 use Rattle.std.specs.Option.{option_copied}
 use Rattle.bt_messages.specs.Messages.{messages_between, messages_outside}
-use Rattle.bt_messages.proofs.Splits.{none_older}
+use Rattle.bt_messages.proofs.Cuts.{none_older}
 use Rattle.bt_messages.proofs.buffer.Buffer.take_range.Goals as goal
 
 pub returns-then-is_empty-clause-taken : goal.returns-then-is_empty-clause-taken

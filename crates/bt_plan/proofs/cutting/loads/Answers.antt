@@ -1,0 +1,17 @@
+use Rattle.std.proofs.Common.{◌∙◌, arith}
+use Rattle.bt_plan.proofs.Loads.{all_loads, one_more_load, part_of_total}
+use Rattle.bt_plan.proofs.cutting.loads.Goals as goal
+
+pub overflow_add-count : goal.overflow_add-count
+overflow_add-count g c =
+    omega (arith, c.count.ensures.bound, part_of_total c.args.shares.now c.loop-child.child c.loop-child-test.true, c.requires.enough, c.len-bound.ensures.len, c.len-bound.ensures.bound)
+
+pub loop-child-preserved : goal.loop-child-preserved
+loop-child-preserved g c = record {
+  made = one_more_load c.args.shares.now c.args.stream.now c.args.bins.now c.loop-child.child c.count.result c.loop-child.loads.items c.push.new.self.items c.loop-child-test.true c.requires.len
+      c.requires.enough c.count.ensures.count c.loop-child.invariant.made c.push.ensures.items;
+  count = omega (arith, c.push.ensures.len, c.loop-child.invariant.count);
+}
+
+pub returns : goal.returns
+returns g c = c.loop-child.invariant.made ∙ all_loads c.args.shares.now c.args.stream.now c.args.bins.now c.loop-child.child c.loop-child-test.false c.requires.len
