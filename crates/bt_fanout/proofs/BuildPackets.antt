@@ -4,6 +4,7 @@ use Rattle.std.proofs.Math.ListN.{drop_of_length-le}
 use Rattle.std.proofs.lemmas.List.{drop_more}
 use Rattle.bt_rowtype.specs.declared.value.Kind.{Kind}
 use Rattle.bt_rowtype.specs.declared.value.Value.{Value}
+use Rattle.bt_rowtype.proofs.offered.SameValues.{same_values-sound}
 use Rattle.bt_messages.specs.Effects.{Rows, merged_entry, rows_after}
 use Rattle.bt_messages.specs.Messages.{Messages, sorted_batch}
 use Rattle.bt_fanout.specs.Covers.{is_covered, next_rows, put_of, puts_of}
@@ -13,7 +14,7 @@ use Rattle.bt_fanout.specs.Promises.{BuildsFrom, index_of, own_puts}
 use Rattle.bt_fanout.specs.Selections.{AllStand, covered}
 use Rattle.bt_fanout.proofs.Batches.{stand-covered}
 use Rattle.bt_fanout.proofs.Builds.{builds}
-use Rattle.bt_fanout.proofs.Entries.{apart, same_values-sound}
+use Rattle.bt_fanout.proofs.Entries.{apart}
 
 pub stand-take : {X : Type 0} (Stands : List ℕ → X → Type 0) (n : ℕ) (rows : Rows X) → AllStand Stands rows → AllStand Stands (take n rows)
 stand-take Stands zero rows h = tt

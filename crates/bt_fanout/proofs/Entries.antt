@@ -1,7 +1,5 @@
 -- Entries of rows of the same kinds: those of two keys have two keys.
-use Rattle.std.proofs.Common.{◌≡◌, ℕ, Bool, true, false, List, [], ◌∷◌, ◌++◌, append_assoc, arith, get_or, length, map, take, refl, sym, ap, ◌∙◌, ◌⊎◌, inl, inr, Some, None, if◌then◌else◌, ◌&&◌, true≢false}
-use Rattle.std.specs.Cmp.{booleans_Decides, signed_Decides}
-use Rattle.std.specs.Cmp.Lexicographic.{same_text}
+use Rattle.std.proofs.Common.{◌≡◌, ℕ, Bool, true, false, List, [], ◌∷◌, ◌++◌, append_assoc, arith, get_or, length, map, take, refl, sym, ap, ◌∙◌, ◌⊎◌, inl, inr, Some, None, if◌then◌else◌}
 use Rattle.std.proofs.Math.ListN.{get_or-map}
 use Rattle.std.proofs.lemmas.List.{take_all}
 use Rattle.bt_rowtype.specs.declared.value.Kind.{Kind}
@@ -9,7 +7,7 @@ use Rattle.bt_rowtype.specs.declared.value.Value.{Value}
 use Rattle.bt_rowtype.specs.declared.value.Value.TheVariants as value
 use Rattle.bt_keycode.specs.Codes.{HaveSameKinds, code_of, code_of_value, kind_of}
 use Rattle.bt_keycode.proofs.offered.Codes.{no_proper_prefix}
-use Rattle.bt_fanout.specs.Entries.{Definition, StandsUnder, entry_of, key_of, passes, picked, same_value, same_values, value_in}
+use Rattle.bt_fanout.specs.Entries.{Definition, StandsUnder, entry_of, key_of, passes, picked, value_in}
 use Rattle.bt_fanout.specs.Selections.{AreApart}
 
 -- of two lists that are the same with something behind them, one begins the other
@@ -59,23 +57,3 @@ pub apart : (def : Definition) (kinds : List Kind) → AreApart (StandsUnder def
 apart def kinds j k x y a b s t e f same =
     behind_all (picked def.on x) (picked def.on y) (kinds_picked def.on x y (s.of_kinds ∙ sym t.of_kinds)) j k
     (key_is (passes def.condition x) (code_of (picked def.on x) ++ j) (picked def.include x) a e ∙ same ∙ sym (key_is (passes def.condition y) (code_of (picked def.on y) ++ k) (picked def.include y) b f))
-
--- ---- the same values
-
-same_value-sound : (a b : Value) → same_value a b ≡ true → a ≡ b
-same_value-sound (value.Int a) (value.Int b) h = ap value.Int ((signed_Decides a b).0 h)
-same_value-sound (value.Text a) (value.Text b) h = ap value.Text (same_text a b (sym h))
-same_value-sound (value.Flag a) (value.Flag b) h = ap value.Flag ((booleans_Decides a b).0 h)
-same_value-sound a b h = absurd (true≢false (sym h))
-
-both_true : (a b : Bool) → (a && b) ≡ true → (a ≡ true) × (b ≡ true)
-both_true true b h = (refl, h)
-both_true false b h = absurd (true≢false (sym h))
-
-pub same_values-sound : (a b : List Value) → same_values a b ≡ true → a ≡ b
-same_values-sound [] [] h = refl
-same_values-sound [] (b ∷ bs) h = absurd (true≢false (sym h))
-same_values-sound (a ∷ more) [] h = absurd (true≢false (sym h))
-same_values-sound (a ∷ more) (b ∷ bs) h =
-    let both = both_true (same_value a b) (same_values more bs) h in
-    ap (λ v. v ∷ more) (same_value-sound a b both.0) ∙ ap (λ vs. b ∷ vs) (same_values-sound more bs both.1)

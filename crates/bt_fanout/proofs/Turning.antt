@@ -6,6 +6,7 @@ use Rattle.std.specs.Ordering.{eq_by_cmp}
 use Rattle.std.specs.FinMap.{find}
 use Rattle.bt_rowtype.specs.declared.value.Kind.{Kind}
 use Rattle.bt_rowtype.specs.declared.value.Value.{Value}
+use Rattle.bt_rowtype.proofs.offered.SameValues.{same_values-sound}
 use Rattle.bt_messages.specs.Effects.{Rows, merged_entry, rows_after}
 use Rattle.bt_keycode.specs.Keys.{key_cmp}
 use Rattle.bt_messages.specs.Messages.{Messages, sorted_batch}
@@ -18,7 +19,7 @@ use Rattle.bt_fanout.specs.Selections.{AllStand, between, covered, entry_in, ind
 use Rattle.bt_fanout.specs.declared.cover.Cover.{Cover}
 use Rattle.bt_fanout.specs.declared.effect.Effect.{Effect}
 use Rattle.bt_fanout.proofs.Batches.{index_turns}
-use Rattle.bt_fanout.proofs.Entries.{apart, same_values-sound}
+use Rattle.bt_fanout.proofs.Entries.{apart}
 
 module _ (def : Definition) (kinds : List Kind) where
   -- where rows stand under their keys, a row's entry is the one under its own key

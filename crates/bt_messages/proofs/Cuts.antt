@@ -1,6 +1,5 @@
 -- Sorted messages cut at keys: what `take_range` and `iter_from` stand on.
-use Rattle.std.proofs.Common.{◌≡◌, ℕ, zero, suc, ◌<◌, ◌≤◌, Bool, true, false, not, ◌&&◌, ◌==◌, cond, List, [], ◌∷◌, ◌++◌, ◌-◌, length, take, drop, get_or, Option, Some, None, refl, sym, ap, subst, ◌∙◌, true≢false, arith}
-use Rattle.std.proofs.Math.Dec.{eqb-suc-zero}
+use Rattle.std.proofs.Common.{◌≡◌, ℕ, zero, suc, ◌<◌, ◌≤◌, Bool, true, false, not, ◌&&◌, cond, List, [], ◌∷◌, ◌++◌, ◌-◌, length, take, drop, get_or, Option, Some, None, refl, sym, ap, subst, ◌∙◌, true≢false, arith}
 use Rattle.std.proofs.lemmas.List.{take_rest}
 use Rattle.std.proofs.lemmas.List.Filters.{length-filter_both}
 use Rattle.std.specs.List.{filter}
@@ -11,10 +10,6 @@ use Rattle.bt_keycode.proofs.offered.Order.{from_earlier, later_chain, not_after
 use Rattle.bt_messages.proofs.offered.Placed.{first_stays}
 
 module _ {M : Type 0} where
-  pub none_older : (older : Messages M) (empty : Bool) → empty ≡ (length older == 0) → empty ≡ true → older ≡ []
-  none_older [] empty e t = refl
-  none_older (m ∷ ms) empty e t = absurd (true≢false (sym t ∙ e ∙ eqb-suc-zero (length ms)))
-
   -- ---- a search for a key
 
   pub from_first : (k : List ℕ) (ms : Messages M) (j : ℕ) (d : List ℕ × M) → AllFrom k ms → j < length ms → is_before (get_or ms j d).0 k ≡ false

@@ -2,11 +2,6 @@
 use Rattle.std.proofs.Common.{◌≡◌, ℕ, zero, suc, ◌<◌, ◌≤◌, ◌+◌, ◌-◌, List, [], ◌∷◌, ◌++◌, append_assoc, replicate, get_or, set, length, map, take, drop, Result, Ok, Err, OnOk, OnErr, refl, sym, ap, ◌∙◌, arith}
 use Rattle.bt_messages.specs.Bins.{total}
 
-pub at_most_total : (ns : List ℕ) (i d : ℕ) → i < length ns → get_or ns i d ≤ total ns
-at_most_total [] i d l = absurd (omega (arith, l))
-at_most_total (n ∷ ns) zero d l = omega arith
-at_most_total (n ∷ ns) (suc i) d l = omega (arith, at_most_total ns i d (omega (arith, l)))
-
 module _ {X : Type 0} where
   -- how many there are in all lists
   abbrev pub held : List (List X) → ℕ

@@ -3,3 +3,4 @@ pub mod Fronts
 pub mod Parts
 pub mod Placed
 pub mod Rows
+pub mod Totals

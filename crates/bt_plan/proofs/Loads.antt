@@ -1,22 +1,11 @@
 -- What is pending for each child is counted without the messages: those in its bin, and its share of those that come.
-use Rattle.std.proofs.Common.{◌≡◌, ◌==◌, ◌<◌, ◌≤◌, ◌+◌, ℕ, zero, suc, Bool, true, true≢false, List, [], ◌∷◌, ◌++◌, ◌∙◌, arith, ap, drop, get_or, length, map, refl, sym, take}
-use Rattle.std.proofs.Math.Dec.{eqb-suc-zero}
+use Rattle.std.proofs.Common.{◌≡◌, ◌<◌, ◌≤◌, ◌+◌, ℕ, zero, suc, List, [], ◌∷◌, ◌++◌, ◌∙◌, arith, ap, drop, get_or, length, map, refl, sym, take}
 use Rattle.std.proofs.lemmas.List.{length-drop, length-take-le, take_all}
 use Rattle.bt_messages.specs.Bins.{each_with, parted, total}
 use Rattle.bt_messages.specs.Messages.{Messages, with_messages}
 use Rattle.bt_messages.proofs.offered.Parts.{length-with_messages}
 
--- a number is at most all together
-pub part_of_total : (ns : List ℕ) (i : ℕ) → i < length ns → get_or ns i 0 ≤ total ns
-part_of_total [] i within = absurd (omega (arith, within))
-part_of_total (n ∷ ns) zero within = omega arith
-part_of_total (n ∷ ns) (suc i) within = omega (arith, part_of_total ns i (omega (arith, within)))
-
 module _ {M : Type 0} where
-  pub nothing_pending : (ms : Messages M) (empty : Bool) → empty ≡ (length ms == 0) → empty ≡ true → ms ≡ []
-  nothing_pending [] empty e t = refl
-  nothing_pending (m ∷ ms) empty e t = absurd (true≢false (sym t ∙ e ∙ eqb-suc-zero (length ms)))
-
   -- how many messages each bin has with its share
   abbrev pub loads : List ℕ → Messages M → List (Messages M) → List ℕ
   loads shares ms bins = map length (each_with (parted shares ms) bins)

@@ -2,4 +2,5 @@
 pub mod Fits
 pub mod OnLiterals
 pub mod Readings
+pub mod SameValues
 pub mod Texts

@@ -1,6 +1,5 @@
 pub mod Batches
 pub mod Indexes
-pub mod KeyOrder
 pub mod Loads
 pub mod Mapped
 pub mod offered

@@ -35,7 +35,7 @@ use Rattle.bt_table.specs.declared.reply.Reply.TheVariants.{Batch, Built, Droppe
 use Rattle.bt_table.specs.declared.reply.SentCount.{SentCount}
 use Rattle.bt_table.specs.declared.table.Trees.{Trees}
 use Rattle.bt_table.proofs.Indexes.{building_packet-is, counts_are, each_within, holds_selection, indexes_suit, rows_within, sunk_is, with_entry_trees}
-use Rattle.bt_table.proofs.KeyOrder.{keys_rise}
+use Rattle.bt_table.proofs.offered.KeyOrder.{keys_rise}
 use Rattle.bt_table.proofs.Sinks.{stepped}
 use Rattle.bt_table.proofs.Sound.{batch_keeps_sound, batch_of_schema, found-sound, none_building, renewed-holds, rows_sorted, with_built_index-sound, with_renewed_index-sound, with_renewed_rows-sound, with_rows-sound, with_index-sound, without_index-sound}
 use Rattle.bt_table.proofs.Standing.{rows_after-stand}

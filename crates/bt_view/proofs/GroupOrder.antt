@@ -11,6 +11,7 @@ use Rattle.bt_rowtype.specs.declared.refusal.Refusal.TheVariants.{TooMany}
 use Rattle.bt_rowtype.specs.declared.value.Kind.{Kind}
 use Rattle.bt_rowtype.specs.declared.value.Value.{Value}
 use Rattle.bt_rowtype.specs.Packing.{AreInRange}
+use Rattle.bt_rowtype.proofs.offered.SameValues.{same_values-complete, same_values-sound}
 use Rattle.bt_keycode.specs.Codes.{code_of, kind_of}
 use Rattle.bt_keycode.specs.Keys.{Key, is_before, key_cmp}
 use Rattle.bt_keycode.proofs.offered.Codes.{same_code}
@@ -19,7 +20,6 @@ use Rattle.bt_node.specs.Messages.{Rows}
 use Rattle.bt_view.specs.Groups.{added_to, and_row, group_of, groups_of, most_rows, with_row}
 use Rattle.bt_view.specs.Neighbours.{Ascend, Groups, NoneBefore, ended, grouped, joined, listed, summed}
 use Rattle.bt_view.specs.declared.groups.Sum.{Sum}
-use Rattle.bt_view.proofs.RowOrder.{same_values-complete, same_values-sound}
 
 -- ---- groups in a list, by the codes of their columns
 

@@ -20,7 +20,7 @@ use Rattle.bt_table.specs.Batches.{and_then, made}
 use Rattle.bt_table.specs.Calls.{Secondary, ShowsIndex}
 use Rattle.bt_table.specs.Tables.{PlainTable}
 use Rattle.bt_table.specs.declared.index.Index.{Index}
-use Rattle.bt_table.proofs.KeyOrder.{keys_rise}
+use Rattle.bt_table.proofs.offered.KeyOrder.{keys_rise}
 use Rattle.bt_view.specs.Entries.{and_entry}
 use Rattle.bt_view.specs.Groups.{groups_of, summed_place, sums_of}
 use Rattle.bt_view.specs.Neighbours.{Groups, ended, grouped}

@@ -1,46 +1,25 @@
 -- The groups of the rows of a range come one after the other. Serves grouped sums.
 use Rattle.std.proofs.Common.{◌≡◌, ◌∙◌, ◌≤◌, ℕ, zero, suc, arith, Bool, true, false, T, List, [], ◌∷◌, ◌⊎◌, inl, inr, refl, sym, ap, subst, cond, map, take, ◌&&◌}
-use Rattle.std.specs.Cmp.{booleans_Decides, signed_Decides}
-use Rattle.std.specs.Cmp.Lexicographic.{bytes_decides}
 use Rattle.std.specs.FinMap.Entries.{below_all}
 use Rattle.std.specs.Ordering.{is_eq, is_lt, ordering_then}
 use Rattle.std.specs.declared.cmp.Ordering.{Ordering}
 use Rattle.std.specs.declared.cmp.Ordering.TheVariants.{Less, Equal, Greater}
 use Rattle.bt_rowtype.specs.Schemas.{Schema}
 use Rattle.bt_rowtype.specs.Packing.{AreInRange}
-use Rattle.bt_rowtype.specs.Values.{same_value, same_values, value_cmp, values_cmp}
+use Rattle.bt_rowtype.specs.Values.{value_cmp, values_cmp}
 use Rattle.bt_rowtype.specs.declared.value.Kind.{Kind}
 use Rattle.bt_rowtype.specs.declared.value.Value.{Value}
-use Rattle.bt_rowtype.specs.declared.value.Value.TheVariants as value
 use Rattle.bt_keycode.specs.Codes.{HaveSameKinds, code_of}
 use Rattle.bt_keycode.specs.Keys.{Key, is_before, is_between}
 use Rattle.bt_keycode.proofs.offered.Codes.{codes_ordered}
 use Rattle.bt_keycode.proofs.offered.Order.{not_after, not_before_itself, same_key}
 use Rattle.bt_keycode.proofs.offered.Ranges.{take_in_range}
 use Rattle.bt_node.specs.Messages.{Rows, between}
-use Rattle.bt_fanout.proofs.Entries.{same_values-sound as sound}
 use Rattle.bt_table.specs.Standing.{AllStand, KeysRise, Stands}
 use Rattle.bt_table.proofs.offered.Kinds.{key_kinds}
 use Rattle.bt_view.specs.Neighbours.{Ascend, IsOfKinds, NoneBefore}
 use Rattle.bt_view.specs.Ranges.{rows_within}
 use Rattle.bt_view.specs.declared.range.KeyRange.{KeyRange}
-
--- ---- the same values
-
-pub same_values-sound : (a b : List Value) → same_values a b ≡ true → a ≡ b
-same_values-sound = sound
-
-same_value-itself : (v : Value) → same_value v v ≡ true
-same_value-itself (value.Int n) = (signed_Decides n n).1 refl
-same_value-itself (value.Text bytes) = (bytes_decides bytes bytes).1 refl
-same_value-itself (value.Flag flag) = (booleans_Decides flag flag).1 refl
-
-same_values-itself : (vs : List Value) → same_values vs vs ≡ true
-same_values-itself [] = refl
-same_values-itself (v ∷ vs) = ap (λ b. b && same_values vs vs) (same_value-itself v) ∙ same_values-itself vs
-
-pub same_values-complete : (a b : List Value) → a ≡ b → same_values a b ≡ true
-same_values-complete a b e = ap (λ c. same_values a c) (sym e) ∙ same_values-itself a
 
 -- ---- the order of first values
 

@@ -3,11 +3,11 @@ use Rattle.std.proofs.lemmas.List.{take_all}
 use Rattle.std.proofs.lemmas.Grind.{common_steps}
 use Rattle.bt_messages.specs.Rooms.{HaveRoom}
 use Rattle.bt_messages.proofs.Sharing.{any_default, room_more}
-use Rattle.bt_messages.proofs.Totals.{at_most_total}
+use Rattle.bt_messages.proofs.offered.Totals.{part_of_total}
 use Rattle.bt_messages.proofs.share.room_for_each.Goals as goal
 
 pub room_with-requires : goal.room_with-requires
-room_with-requires g c = omega (arith, c.requires.bound, at_most_total c.args.shares.now c.loop-place.place 0 c.loop-place-test.true)
+room_with-requires g c = omega (arith, c.requires.bound, part_of_total c.args.shares.now c.loop-place.place 0 c.loop-place-test.true)
 
 pub loop-place-preserved : goal.loop-place-preserved
 loop-place-preserved g c =

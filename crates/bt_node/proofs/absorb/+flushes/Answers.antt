@@ -1,4 +1,5 @@
 use Rattle.std.proofs.Common.{◌≡◌, ◌∙◌, ◌≤◌, [], ◌∷◌, ◌++◌, append-nil, ap, arith, drop, length, map, refl, rules, subst, sym, take}
+use Rattle.std.proofs.lemmas.List.{nil_from_length}
 use Rattle.std.proofs.Math.Seq.{take-length}
 use Rattle.std.specs.List.{zip}
 use Rattle.std.specs.Vec.Iter.{into_iter_items}
@@ -17,7 +18,6 @@ use Rattle.bt_node.specs.inside.Shares.{AreInOrder, loaded, sums}
 use Rattle.bt_node.specs.inside.Views.{children_of, none_pending_of}
 use Rattle.bt_node.proofs.lemmas.code.AbsorbStep.{among, children_in_order, grouped_anew, highest, if_ok, lower, marks-long, long, on_ok, parts_divided, parts_some, pass, stays_here}
 use Rattle.bt_node.proofs.lemmas.code.FlushLoop.{one_flushed, one_kept, rest_fits, same_left}
-use Rattle.bt_node.proofs.lemmas.code.GroupLoops.{nothing_left}
 use Rattle.bt_node.proofs.lemmas.flushes.Divisions.{bins-length}
 use Rattle.bt_node.proofs.absorb.+flushes.Goals as goal
 
@@ -191,7 +191,7 @@ pub flush-returns-clause-children : goal.flush-returns-clause-children
 flush-returns-clause-children g t c =
     let done = c.loop-child.parts.items in
     let it = c.loop-child.child-iterator.rest in
-    let none : it.items ≡ [] = nothing_left it.items (omega (arith, it.ok.0, c.in-None.ensures.steps.0)) in
+    let none : it.items ≡ [] = nil_from_length it.items (omega (arith, it.ok.0, c.in-None.ensures.steps.0)) in
     sym (append-nil (children_of done))
     ∙ ap (λ cs. children_of done ++ pass (effect_of g.V.Merge.merged) c.args.shape (zip (loaded (children_of cs) (into_iter_items c.loop-child.shares) c.loop-child.stream) (into_iter_items c.loop-child.marks))) (sym none)
     ∙ c.loop-child.invariant.parts
@@ -254,7 +254,7 @@ pub send-returns-then-is_empty-clause-siblings : goal.send-returns-then-is_empty
 send-returns-then-is_empty-clause-siblings g t c =
     let stream = c.args.stream.now in
     let sorted = c.len-in_order.ensures.sorted in
-    let none : c.args.pending ≡ [] = nothing_left _ (search rules) in
+    let none : c.args.pending ≡ [] = nil_from_length _ (search rules) in
     let same = sym (ap (with_messages (take c.args.share stream)) none ∙ alone (take c.args.share stream) (sorted_take c.args.share stream sorted)) in
     if_ok _ _ c.absorb.result (λ siblings e. e ∙ ap (absorb (effect_of g.V.Merge.merged) c.args.shape c.args.node) same) c.absorb.ensures.siblings
 

@@ -1,6 +1,6 @@
 use Rattle.std.proofs.Common.{◌≡◌, ◌∙◌, ◌≤◌, ◌++◌, [], ap, arith, drop, length, refl, rules, sym, take}
 use Rattle.std.proofs.Math.Seq.{take-length}
-use Rattle.std.proofs.lemmas.List.{length-map}
+use Rattle.std.proofs.lemmas.List.{length-map, nil_from_length}
 use Rattle.std.specs.List.{flat_map}
 use Rattle.std.specs.Vec.Iter.{into_iter_items}
 use Rattle.bt_messages.specs.Bins.{joined, parts, total}
@@ -17,7 +17,6 @@ use Rattle.bt_node.specs.inside.Views.{child_of, children_of, none_pending_of}
 use Rattle.bt_node.proofs.lemmas.code.AbsorbStep.{among, highest, if_ok, lower, on_ok}
 use Rattle.bt_node.proofs.lemmas.code.DrainStep.{drained_anew, drained_divided, drained_some, one_drained}
 use Rattle.bt_node.proofs.lemmas.code.FlushLoop.{rest_fits, same_left}
-use Rattle.bt_node.proofs.lemmas.code.GroupLoops.{nothing_left}
 use Rattle.bt_node.proofs.lemmas.flushes.Divisions.{bins-length, length-beside}
 use Rattle.bt_node.proofs.drain.+drains.Goals as goal
 
@@ -126,7 +125,7 @@ drain_each-loop-child-preserved g t c =
 pub drain_child-returns-then-is_empty-clause-siblings : goal.drain_child-returns-then-is_empty-clause-siblings
 drain_child-returns-then-is_empty-clause-siblings g t c =
     let stream = c.args.stream.now in
-    let none : c.args.pending ≡ [] = nothing_left _ (search rules) in
+    let none : c.args.pending ≡ [] = nil_from_length _ (search rules) in
     let same = sym (ap (with_messages (take c.args.share stream)) none ∙ alone (take c.args.share stream) (sorted_take c.args.share stream c.len-sorted.ensures.sorted)) in
     if_ok _ _ c.drain.result (λ siblings e. e ∙ ap (drain (effect_of g.V.Merge.merged) c.args.shape c.args.node) same) c.drain.ensures.siblings
 

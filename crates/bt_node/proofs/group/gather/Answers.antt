@@ -1,5 +1,6 @@
 use Rattle.std.proofs.Common.{◌≡◌, ◌∷◌, ◌∙◌, [], ap, arith, length, refl, sym}
-use Rattle.bt_node.proofs.lemmas.code.GroupLoops.{all_bins, all_taken, bin_taken, child_taken, gather_divided, gather_done, nothing_left}
+use Rattle.std.proofs.lemmas.List.{nil_from_length}
+use Rattle.bt_node.proofs.lemmas.code.GroupLoops.{all_bins, all_taken, bin_taken, child_taken, gather_divided, gather_done}
 use Rattle.bt_node.proofs.group.gather.Goals as goal
 
 pub same-children : goal.same-children
@@ -47,7 +48,7 @@ inner-requires g c =
     let rest = c.into_iter-child-iterator.result.rest.items in
     let first = c.in-Some.first in
     let e : c.args.part.items ≡ first ∷ rest = sym c.into_iter-part.ensures.rest ∙ c.in-Some.ensures.items ∙ ap (λ it. first ∷ it.rest.items) (sym c.into_iter-child-iterator.ensures.into_iter_gives) in
-    let none : it.items ≡ [] = nothing_left it.items (omega (arith, it.ok.0, c.in-None.ensures.steps.0)) in
+    let none : it.items ≡ [] = nil_from_length it.items (omega (arith, it.ok.0, c.in-None.ensures.steps.0)) in
     let all = all_taken first rest it.items none c.in_ok-children.children c.loop-child.children c.in_ok-children.ensures c.loop-child.invariant.children in
     let bins = c.from_packets-bins.ensures
     ∙ all_bins first rest it.items none c.in_ok-bins.bins.items c.push_reserved.new.self.items c.loop-child.bins.items c.in_ok-bins.ensures.items c.push_reserved.ensures.items c.loop-child.invariant.bins in
@@ -59,7 +60,7 @@ returns g c =
     let rest = c.into_iter-child-iterator.result.rest.items in
     let first = c.in-Some.first in
     let e : c.args.part.items ≡ first ∷ rest = sym c.into_iter-part.ensures.rest ∙ c.in-Some.ensures.items ∙ ap (λ it. first ∷ it.rest.items) (sym c.into_iter-child-iterator.ensures.into_iter_gives) in
-    let none : it.items ≡ [] = nothing_left it.items (omega (arith, it.ok.0, c.in-None.ensures.steps.0)) in
+    let none : it.items ≡ [] = nil_from_length it.items (omega (arith, it.ok.0, c.in-None.ensures.steps.0)) in
     let all = all_taken first rest it.items none c.in_ok-children.children c.loop-child.children c.in_ok-children.ensures c.loop-child.invariant.children in
     let bins = c.from_packets-bins.ensures
     ∙ all_bins first rest it.items none c.in_ok-bins.bins.items c.push_reserved.new.self.items c.loop-child.bins.items c.in_ok-bins.ensures.items c.push_reserved.ensures.items c.loop-child.invariant.bins in

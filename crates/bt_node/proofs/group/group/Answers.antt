@@ -1,8 +1,9 @@
 use Rattle.std.proofs.Common.{◌≡◌, ◌∷◌, ◌++◌, ◌∙◌, [], ap, arith, refl, subst, sym}
+use Rattle.std.proofs.lemmas.List.{nil_from_length}
 use Rattle.bt_node.specs.Deals.{deal}
 use Rattle.bt_node.specs.inside.Shares.{AreDivided}
 use Rattle.bt_node.specs.inside.Views.{children_of}
-use Rattle.bt_node.proofs.lemmas.code.GroupLoops.{all_dealt, all_of, first_part, group_done, groups_of, more, nothing_left, other_parts, parts_full, parts_of}
+use Rattle.bt_node.proofs.lemmas.code.GroupLoops.{all_dealt, all_of, first_part, group_done, groups_of, more, other_parts, parts_full, parts_of}
 use Rattle.bt_node.proofs.lemmas.deals.Parts.{AllNonEmpty, NonEmpty}
 use Rattle.bt_node.proofs.lemmas.flushes.Groups.{deal-some, some_length}
 use Rattle.bt_node.proofs.group.group.Goals as goal
@@ -10,7 +11,7 @@ use Rattle.bt_node.proofs.group.group.Goals as goal
 pub unreachable-requires : goal.unreachable-requires
 unreachable-requires g c =
     let it = c.into_iter-parts.result.rest in
-    let none = sym c.into_iter-parts.ensures.rest ∙ nothing_left it.items (omega (arith, it.ok.0, c.in_default.ensures.cases.0)) in
+    let none = sym c.into_iter-parts.ensures.rest ∙ nil_from_length it.items (omega (arith, it.ok.0, c.in_default.ensures.cases.0)) in
     subst NonEmpty (sym c.in_ok-dealt.ensures ∙ ap parts_of none) (deal-some c.fanout.result c.args.children.items (omega arith))
 
 pub gather-requires-clause-some : goal.gather-requires-clause-some
@@ -74,6 +75,6 @@ returns g c =
     let it = c.loop-part.part-iterator.rest in
     let dealt = c.in_ok-dealt.ensures ∙ ap (λ n. deal n c.args.children.items) c.fanout.ensures.value in
     let split : parts ≡ c.in-Some.first ∷ rest = sym c.into_iter-parts.ensures.rest ∙ c.in-Some.ensures.items ∙ ap (λ it. c.in-Some.first ∷ it.rest.items) (sym c.into_iter-part-iterator.ensures.into_iter_gives) in
-    let none : it.items ≡ [] = nothing_left it.items (omega (arith, it.ok.0, c.in-None.ensures.steps.0)) in
+    let none : it.items ≡ [] = nil_from_length it.items (omega (arith, it.ok.0, c.in-None.ensures.steps.0)) in
     group_done c.args.shape parts c.args.children.items c.in-Some.first rest it.items c.in_ok-node.field-0-0 c.in_ok-node.node c.in_ok-siblings.siblings c.loop-part.siblings
     dealt split c.in_ok-node.ensures c.in_ok-siblings.ensures c.loop-part.invariant.nodes none

@@ -1,8 +1,9 @@
 use Rattle.std.proofs.Common.{◌≡◌, ◌≤◌, ◌∷◌, ◌++◌, ◌∙◌, [], ap, arith, length, map, subst, sym}
+use Rattle.std.proofs.lemmas.List.{nil_from_length}
 use Rattle.bt_messages.specs.declared.message.Message.{Message}
 use Rattle.bt_node.specs.Deals.{deal}
 use Rattle.bt_node.proofs.lemmas.code.AbsorbStep.{if_ok}
-use Rattle.bt_node.proofs.lemmas.code.GroupLoops.{leaves_done, more_leaves, nothing_left, one_leaf}
+use Rattle.bt_node.proofs.lemmas.code.GroupLoops.{leaves_done, more_leaves, one_leaf}
 use Rattle.bt_node.proofs.lemmas.deals.Parts.{NonEmpty}
 use Rattle.bt_node.proofs.lemmas.flushes.Groups.{as_leaf, deal-some}
 use Rattle.bt_node.proofs.group.leaves.Goals as goal
@@ -17,7 +18,7 @@ pub unreachable-requires : goal.unreachable-requires
 unreachable-requires g c =
     let dealt = c.in_ok-dealt.ensures in
     let it = c.into_iter-parts.result.rest in
-    let none = sym c.into_iter-parts.ensures.rest ∙ nothing_left it.items (omega (arith, it.ok.0, c.in_default.ensures.cases.0)) in
+    let none = sym c.into_iter-parts.ensures.rest ∙ nil_from_length it.items (omega (arith, it.ok.0, c.in_default.ensures.cases.0)) in
     subst NonEmpty (sym dealt ∙ none) (deal-some c.leaf-most.result c.args.rows (omega arith))
 
 pub loop-part-preserved : goal.loop-part-preserved
@@ -38,6 +39,6 @@ returns g c =
     let it = c.loop-part.part-iterator.rest in
     let dealt = c.in_ok-dealt.ensures ∙ ap (λ n. deal n c.args.rows) c.leaf-most.ensures.value in
     let split : parts ≡ first ∷ rest = sym c.into_iter-parts.ensures.rest ∙ c.in-Some.ensures.items ∙ ap (λ it. first ∷ it.rest.items) (sym c.into_iter-part-iterator.ensures.into_iter_gives) in
-    let empty : it.items ≡ [] = nothing_left it.items (omega (arith, it.ok.0, c.in-None.ensures.steps.0)) in
+    let empty : it.items ≡ [] = nil_from_length it.items (omega (arith, it.ok.0, c.in-None.ensures.steps.0)) in
     let start = c.in_ok-siblings.ensures ∙ ap (λ t. ([], t) ∷ []) c.leaf-2.ensures in
     leaves_done c.args.shape c.args.rows parts first rest it.items c.in_ok-siblings.siblings c.loop-part.siblings dealt split start c.loop-part.invariant empty

@@ -19,11 +19,6 @@ use Rattle.bt_node.proofs.lemmas.deals.Parts.{joined as joined_parts}
 use Rattle.bt_node.proofs.lemmas.flushes.Groups.{as_leaf, stripped}
 use Rattle.bt_node.proofs.lemmas.flushes.Divisions.{divided-first, divided-rest, joined-pending}
 
--- nothing is left
-pub nothing_left : {X : Type 0} (xs : List X) → length xs ≡ 0 → xs ≡ []
-nothing_left [] e = refl
-nothing_left (x ∷ xs) e = absurd (omega (arith, e))
-
 -- the items of all parts
 abbrev pub all_of : {X : Type 0} → List (Vec X Global) → List X
 all_of = flat_map (λ part. part.items)

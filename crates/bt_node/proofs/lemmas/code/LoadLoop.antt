@@ -1,14 +1,7 @@
 -- Loads are counted place by place.
 use Rattle.std.proofs.Common.{◌≡◌, ◌+◌, ◌<◌, ◌≤◌, ℕ, zero, suc, List, [], ◌∷◌, ◌++◌, append-nil, append_assoc, drop, get_or, length, map, refl, sym, ap, ◌∙◌, arith}
 use Rattle.std.proofs.lemmas.List.{drop_all}
-use Rattle.bt_messages.specs.Bins.{total}
 use Rattle.bt_node.specs.inside.Shares.{sums}
-
--- a number is at most all together
-pub part_of_total : (ns : List ℕ) (i : ℕ) → i < length ns → get_or ns i 0 ≤ total ns
-part_of_total [] i within = absurd (omega (arith, within))
-part_of_total (n ∷ ns) zero within = omega arith
-part_of_total (n ∷ ns) (suc i) within = omega (arith, part_of_total ns i (omega (arith, within)))
 
 sums-none : (ms : List ℕ) → sums ms [] ≡ []
 sums-none [] = refl

@@ -1,8 +1,8 @@
 use Rattle.std.proofs.Common.{◌≡◌, ◌∙◌, ◌++◌, [], ap, arith, length, refl, rules}
+use Rattle.std.proofs.lemmas.List.{nil_from_length}
 use Rattle.std.specs.Vec.Iter.{into_iter_items}
 use Rattle.bt_node.specs.inside.Shares.{beside}
 use Rattle.bt_node.specs.inside.Views.{children_of}
-use Rattle.bt_node.proofs.lemmas.code.GroupLoops.{nothing_left}
 use Rattle.bt_node.proofs.lemmas.code.ShareLoop.{all_beside, beside-none, child_added}
 use Rattle.bt_node.proofs.share.beside.Goals as goal
 
@@ -20,7 +20,7 @@ loop-pivot-init g c = record {
 
 pub returns-in_default-next : goal.returns-in_default-next
 returns-in_default-next g c =
-    let empty : into_iter_items c.loop-pivot.packets ≡ [] = nothing_left _ (search rules) in
+    let empty : into_iter_items c.loop-pivot.packets ≡ [] = nil_from_length _ (search rules) in
     all_beside c.loop-pivot.children.items c.args.siblings _ c.loop-pivot.siblings _ c.args.bins (into_iter_items c.loop-pivot.packets)
     c.loop-pivot.invariant.children (c.into_pairs-siblings.ensures.same c.new.ensures) (c.into_iter-packets.ensures.rest ∙ c.into_packets.ensures)
     (ap (beside c.loop-pivot.siblings) empty ∙ beside-none c.loop-pivot.siblings)

@@ -1,10 +1,11 @@
 use Rattle.std.proofs.Common.{◌<◌, arith, length}
-use Rattle.bt_node.proofs.lemmas.code.LoadLoop.{all_loads, one_more_load, part_of_total}
+use Rattle.bt_messages.proofs.offered.Totals.{part_of_total}
+use Rattle.bt_node.proofs.lemmas.code.LoadLoop.{all_loads, one_more_load}
 use Rattle.bt_node.proofs.share.loads.Goals as goal
 
 pub overflow_add-count : goal.overflow_add-count
 overflow_add-count g c =
-    omega (arith, c.count.ensures.bound, part_of_total c.args.shares.now c.loop-place.place c.loop-place-test.true, c.requires.enough, c.len-bound.ensures.len, c.len-bound.ensures.bound)
+    omega (arith, c.count.ensures.bound, part_of_total c.args.shares.now c.loop-place.place 0 c.loop-place-test.true, c.requires.enough, c.len-bound.ensures.len, c.len-bound.ensures.bound)
 
 pub loop-place-preserved : goal.loop-place-preserved
 loop-place-preserved g c =

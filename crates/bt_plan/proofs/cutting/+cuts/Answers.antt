@@ -6,13 +6,13 @@ use Rattle.bt_messages.specs.Bins.{LieBetween, each_with, joined, parted, total}
 use Rattle.bt_messages.specs.Messages.{with_messages}
 use Rattle.bt_messages.proofs.offered.Fronts.{sorted_take}
 use Rattle.bt_messages.proofs.offered.Placed.{alone}
+use Rattle.bt_messages.proofs.offered.Totals.{nothing_pending}
 use Rattle.bt_node.specs.Fits.{IsSized}
 use Rattle.bt_node.specs.Trees.{behind}
 use Rattle.bt_node.proofs.offered.FlushSteps.{if_ok}
 use Rattle.bt_plan.specs.Cuts.{flush_marks, hole_of}
 use Rattle.bt_plan.specs.Pieces.{holed_nodes, holes, opened, with_holes}
 use Rattle.bt_plan.specs.Views.{job_of, place_of}
-use Rattle.bt_plan.proofs.Loads.{nothing_pending}
 use Rattle.bt_plan.proofs.Opening.{as_many_marks, bins_long, inner-cut, kept_divided, leaf-cut, made_long, node-jobs, node-told, nodes_sized, on_then}
 use Rattle.bt_plan.proofs.Steps.{enough_after, left_after, next_bin, next_child, one_made, one_made_of, sized_after, some_made_of}
 use Rattle.bt_plan.proofs.cutting.+cuts.Goals as goal

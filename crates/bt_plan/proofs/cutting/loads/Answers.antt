@@ -1,10 +1,11 @@
 use Rattle.std.proofs.Common.{◌∙◌, arith}
-use Rattle.bt_plan.proofs.Loads.{all_loads, one_more_load, part_of_total}
+use Rattle.bt_messages.proofs.offered.Totals.{part_of_total}
+use Rattle.bt_plan.proofs.Loads.{all_loads, one_more_load}
 use Rattle.bt_plan.proofs.cutting.loads.Goals as goal
 
 pub overflow_add-count : goal.overflow_add-count
 overflow_add-count g c =
-    omega (arith, c.count.ensures.bound, part_of_total c.args.shares.now c.loop-child.child c.loop-child-test.true, c.requires.enough, c.len-bound.ensures.len, c.len-bound.ensures.bound)
+    omega (arith, c.count.ensures.bound, part_of_total c.args.shares.now c.loop-child.child 0 c.loop-child-test.true, c.requires.enough, c.len-bound.ensures.len, c.len-bound.ensures.bound)
 
 pub loop-child-preserved : goal.loop-child-preserved
 loop-child-preserved g c = record {

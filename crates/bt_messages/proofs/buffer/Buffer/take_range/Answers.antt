@@ -2,17 +2,17 @@ use Rattle.std.proofs.Common.{◌≡◌, ◌∙◌, [], ap, sym}
 use Rattle.std.proofs.lemmas.Result.{IfOk-weaker, on_err_weaker, on_ok_weaker}
 use Rattle.std.specs.Option.{option_copied}
 use Rattle.bt_messages.specs.Messages.{messages_between, messages_outside}
-use Rattle.bt_messages.proofs.Cuts.{none_older}
+use Rattle.bt_messages.proofs.offered.Totals.{nothing_pending}
 use Rattle.bt_messages.proofs.buffer.Buffer.take_range.Goals as goal
 
 pub returns-then-is_empty-clause-taken : goal.returns-then-is_empty-clause-taken
 returns-then-is_empty-clause-taken g c =
-    let none : c.args.self.now ≡ [] = sym c.self.view_is ∙ none_older c.self.inside.messages c.is_empty.result c.is_empty.ensures c.if-is_empty.true in
+    let none : c.args.self.now ≡ [] = sym c.self.view_is ∙ nothing_pending c.self.inside.messages c.is_empty.result c.is_empty.ensures c.if-is_empty.true in
     c.new.ensures ∙ sym (ap (messages_between (option_copied c.args.from) (option_copied c.args.to)) none)
 
 pub returns-then-is_empty-clause-left : goal.returns-then-is_empty-clause-left
 returns-then-is_empty-clause-left g c =
-    let none : c.args.self.now ≡ [] = sym c.self.view_is ∙ none_older c.self.inside.messages c.is_empty.result c.is_empty.ensures c.if-is_empty.true in
+    let none : c.args.self.now ≡ [] = sym c.self.view_is ∙ nothing_pending c.self.inside.messages c.is_empty.result c.is_empty.ensures c.if-is_empty.true in
     none ∙ sym (ap (messages_outside (option_copied c.args.from) (option_copied c.args.to)) none)
 
 pub returns-clause-taken : goal.returns-clause-taken
