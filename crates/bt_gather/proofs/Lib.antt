@@ -1,5 +1,6 @@
 pub mod Filled
 pub mod HolePlaces
+pub mod Kept
 pub mod Opening
 pub mod PlaceOrder
 pub mod Placing

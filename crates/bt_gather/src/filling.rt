@@ -154,6 +154,7 @@ fn fill_node<V: Merge>(
             let (siblings, bins) = placed_parts(alloc, parts, pivots, bins)?;
             regroup(alloc, shape, siblings, bins)
         }
+        HoledParts::Kept { children, bins } => regroup(alloc, shape, children, bins),
     }
 }
 

@@ -216,7 +216,8 @@ impl<V: Merge> Siblings<V> {
         self.nodes.as_slice()
     }
 
-    pub(crate) fn pivots(&self) -> &[Key]
+    /// The pivots between the nodes.
+    pub fn pivots(&self) -> &[Key]
         ensures pivots { result.now ≡ map (λ x. x.0) (drop 1 self.now) }
         ensures some { 1 ≤ length self.now }
     {

@@ -92,8 +92,8 @@ pub fn drain_alone<V: Merge>(
     Ok(nodes)
 }
 
-/// Siblings as children of inner nodes, each with its bin: the deal that ends what becomes of an inner node. An `Err` keeps
-/// neither.
+/// Siblings as children of inner nodes, each with its bin: the deal that ends what becomes of an inner node. Where one node has room
+/// for all, none of them is moved. An `Err` keeps neither.
 pub fn regroup<V: Merge>(
     alloc: Global,
     shape: Shape,
@@ -105,6 +105,9 @@ pub fn regroup<V: Merge>(
     requires divided { LieBetween (pivots_of siblings) bins }
     ensures { IfOk result (λ nodes. nodes ≡ grouped shape (shared siblings (joined bins))) }
 {
+    if siblings.len() <= shape.fanout() {
+        return Siblings::with_capacity(alloc, Node::inner(siblings, bins), 1);
+    }
     let children = beside(alloc, siblings, bins)?;
     group(alloc, shape, children)
 }

@@ -1,10 +1,10 @@
 -- An inner node whose children are cut one by one, as the code does it.
-use Rattle.std.proofs.Common.{◌≡◌, ◌≤◌, ◌+◌, ◌-◌, Result, Ok, Err, OnOk, ℕ, zero, suc, Bool, true, false, cond, List, [], ◌∷◌, ◌++◌, length, map, replicate, set, refl, sym, ap, subst, ◌∙◌, arith, true≢false}
-use Rattle.std.proofs.lemmas.List.{length-map, length-replicate, length-set}
+use Rattle.std.proofs.Common.{◌≡◌, ◌≤◌, ◌+◌, ◌-◌, Result, Ok, Err, OnOk, ℕ, zero, suc, Bool, true, false, cond, List, [], ◌∷◌, ◌++◌, drop, length, map, replicate, set, refl, sym, ap, subst, ◌∙◌, arith, true≢false}
+use Rattle.std.proofs.lemmas.List.{length-drop, length-map, length-replicate, length-set}
 use Rattle.std.specs.List.{flat_map, zip}
 use Rattle.bt_keycode.specs.Keys.{AllFrom, Key}
-use Rattle.bt_messages.specs.Bins.{LieBetween, added, joined}
-use Rattle.bt_messages.proofs.offered.Parts.{added_lie, joined-added, lie_length}
+use Rattle.bt_messages.specs.Bins.{LieBetween, added, joined, total}
+use Rattle.bt_messages.proofs.offered.Parts.{added_lie, joined-added, length-joined, length-with_messages, lie_length}
 use Rattle.bt_node.specs.Fits.{AreSized, IsSized}
 use Rattle.bt_node.specs.Flushes.{Child, counts, shared}
 use Rattle.bt_node.specs.Lookups.{pivots_of}
@@ -12,14 +12,15 @@ use Rattle.bt_node.specs.Messages.{Messages, with_messages}
 use Rattle.bt_node.specs.Plans.{planned}
 use Rattle.bt_node.specs.Trees.{Shape, Siblings, Tree, behind, children, inner, leaf, nodes}
 use Rattle.bt_node.specs.Walks.{is_leaf}
-use Rattle.bt_node.specs.Marks.{set_all}
+use Rattle.bt_node.specs.Marks.{marks_of, set_all}
 use Rattle.bt_node.specs.inside.Shares.{beside}
-use Rattle.bt_node.proofs.offered.FlushSteps.{behind-pivots, beside-shared, children-nodes, from-back, from-joined, from-prefix}
+use Rattle.bt_node.proofs.offered.FlushSteps.{behind-pivots, beside-shared, children-nodes, from-back, from-joined, from-prefix, planned-within}
 use Rattle.bt_plan.specs.declared.job.Mode.{Mode}
 use Rattle.bt_plan.specs.declared.job.Mode.TheVariants.{Absorb, Drain}
 use Rattle.bt_plan.specs.Cuts.{Job, child_place, cut_out, flush_marks, hole_of, left_pending}
-use Rattle.bt_plan.specs.Pieces.{Holed, Place, child, hole, holed_nodes, holes, holes_below, opened, whole, with_holes, with_holes_below}
+use Rattle.bt_plan.specs.Pieces.{Holed, Place, all_whole, child, hole, holed_nodes, holes, holes_below, opened, whole, with_holes, with_holes_below}
 use Rattle.bt_plan.specs.inside.Cutting.{AreSizedNodes, cut_each, kept_bins}
+use Rattle.bt_plan.proofs.offered.KeptNodes.{holes-whole}
 use Rattle.bt_plan.proofs.Filling.{opened_children}
 
 -- ---- children behind their pivots
@@ -54,6 +55,13 @@ module _ {V M H : Type 0} where
   holes-zip [] (h ∷ hs) few = absurd (omega (arith, few))
   holes-zip (k ∷ ks) [] few = refl
   holes-zip (k ∷ ks) (h ∷ hs) few = ap (λ z. holes h ++ z) (holes-zip ks hs (omega (arith, few)))
+
+-- ---- nodes that stay whole
+
+module _ {V M H : Type 0} where
+  told-whole : {G : Type 0} (f : H → G) (xs : Siblings V M) → with_holes_below f (holed_nodes (all_whole xs)) ≡ holed_nodes (all_whole xs)
+  told-whole f [] = refl
+  told-whole f (x ∷ xs) = ap (λ z. child x.0 (whole x.1) z) (told-whole f xs)
 
 -- ---- bins that are emptied
 
@@ -94,6 +102,15 @@ module _ {V M : Type 0} where
   counts-beside (x ∷ xs) [] e = absurd (omega (arith, e))
   counts-beside (x ∷ xs) (b ∷ bs) e = ap (λ ns. length b ∷ ns) (counts-beside xs bs (omega (arith, e)))
 
+  -- the children and their shares of the buffer, once a packet has come into the bins
+  shared-added : (xs : Siblings V M) (bins : List (Messages M)) (packet : Messages M) → LieBetween (pivots_of xs) bins → (after : List (Messages M)) → after ≡ added (pivots_of xs) packet bins →
+      shared (children (nodes xs)) (with_messages packet (joined bins)) ≡ beside xs after
+  shared-added xs bins packet lie after after_is =
+      ap (λ ys. shared ys (with_messages packet (joined bins))) (children-nodes xs)
+      ∙ sym (ap (beside xs) after_is
+      ∙ beside-shared xs (added (pivots_of xs) packet bins) (added_lie (pivots_of xs) packet bins lie)
+      ∙ ap (shared xs) (joined-added (pivots_of xs) packet bins lie))
+
   module _ (depth : ℕ) (mode : Mode) (s : Shape) (place : Place) where
     each-opened : (i : ℕ) (xs : Siblings V M) (bs : List (Messages M)) (ms : List Bool) →
         opened_children depth mode s place i (zip (beside xs bs) ms) ≡ zip (map (λ x. x.0) xs) (cut_each depth mode s place i (map (λ x. x.1) xs) bs ms)
@@ -110,34 +127,76 @@ module _ {V M : Type 0} where
     each-long i (t ∷ ts) (b ∷ bs) [] e f = absurd (omega (arith, f))
     each-long i (t ∷ ts) (b ∷ bs) (m ∷ ms) e f = omega (arith, each-long (i + 1) ts bs ms (omega (arith, e)) (omega (arith, f)))
 
+    abbrev made : List (Child V M) → List Bool → Holed V M (Job V M)
+    made cs ms = opened (holed_nodes (opened_children depth mode s place 0 (zip cs ms))) (left_pending (zip cs ms))
+
     module _ (ks : List Key) (ts : List (Tree V M)) (one_fewer : length ts ≡ length ks + 1) (bins : List (Messages M)) (packet : Messages M)
         (lie : LieBetween (pivots_of (behind ks ts)) bins) (after : List (Messages M)) (after_is : after ≡ added (pivots_of (behind ks ts)) packet bins) (as_many : length after ≡ length ts)
         (marks : List Bool) (marks_are : marks ≡ flush_marks mode s.buffer (map length after)) where
       abbrev xs : Siblings V M
       xs = behind ks ts
 
-      shared_is : shared (children (nodes xs)) (with_messages packet (joined bins)) ≡ beside xs after
-      shared_is =
-          ap (λ ys. shared ys (with_messages packet (joined bins))) (children-nodes xs)
-          ∙ sym (ap (beside xs) after_is
-          ∙ beside-shared xs (added (pivots_of xs) packet bins) (added_lie (pivots_of xs) packet bins lie)
-          ∙ ap (shared xs) (joined-added (pivots_of xs) packet bins lie))
-
-      abbrev made : List (Child V M) → List Bool → Holed V M (Job V M)
-      made cs ms = opened (holed_nodes (opened_children depth mode s place 0 (zip cs ms))) (left_pending (zip cs ms))
-
       -- the node is opened, with its children cut one by one
       pub opened-each : cut_out (suc depth) mode s place (inner (nodes xs) (joined bins)) packet
           ≡ opened (holed_nodes (behind ks (cut_each depth mode s place 0 ts after marks))) (joined (kept_bins after marks))
       opened-each =
           let long : length after ≡ length xs = as_many ∙ sym (zip-long ([] ∷ ks) ts (omega (arith, one_fewer))) in
-          ap (λ cs. made cs (flush_marks mode s.buffer (counts cs))) shared_is
+          ap (λ cs. made cs (flush_marks mode s.buffer (counts cs))) (shared-added xs bins packet lie after after_is)
           ∙ ap (λ ns. made (beside xs after) (flush_marks mode s.buffer ns)) (counts-beside xs after long)
           ∙ ap (made (beside xs after)) (sym marks_are)
           ∙ ap (λ hs. opened (holed_nodes hs) (left_pending (zip (beside xs after) marks))) (each-opened 0 xs after marks)
           ∙ ap (λ b. opened (holed_nodes (zip (map (λ x. x.0) xs) (cut_each depth mode s place 0 (map (λ x. x.1) xs) after marks))) b) (left-kept xs after marks long)
           ∙ ap (λ js. opened (holed_nodes (zip js (cut_each depth mode s place 0 (map (λ x. x.1) xs) after marks))) (joined (kept_bins after marks))) (zip-keys ([] ∷ ks) ts (omega (arith, one_fewer)))
           ∙ ap (λ us. opened (holed_nodes (behind ks (cut_each depth mode s place 0 us after marks))) (joined (kept_bins after marks))) (zip-items ([] ∷ ks) ts (omega (arith, one_fewer)))
+
+-- ---- a node of which no child is flushed
+
+-- where there is room for all messages, no child is marked
+none-marked : (capacity : ℕ) (ns : List ℕ) → total ns ≤ capacity → flush_marks Absorb capacity ns ≡ replicate (length ns) false
+none-marked capacity ns within = ap (λ places. marks_of (length ns) places) (planned-within ns capacity within)
+
+module _ {V M : Type 0} where
+  all-stay : (depth : ℕ) (mode : Mode) (s : Shape) (place : Place) (i : ℕ) (xs : Siblings V M) (bs : List (Messages M)) → length bs ≡ length xs →
+      opened_children depth mode s place i (zip (beside xs bs) (replicate (length bs) false)) ≡ all_whole xs
+  all-stay depth mode s place i [] [] e = refl
+  all-stay depth mode s place i [] (b ∷ bs) e = absurd (omega (arith, e))
+  all-stay depth mode s place i (x ∷ xs) [] e = absurd (omega (arith, e))
+  all-stay depth mode s place i (x ∷ xs) (b ∷ bs) e = ap (λ z. (x.0, whole x.1) ∷ z) (all-stay depth mode s place (suc i) xs bs (omega (arith, e)))
+
+  all-left : (xs : Siblings V M) (bs : List (Messages M)) → length bs ≡ length xs → left_pending (zip (beside xs bs) (replicate (length bs) false)) ≡ joined bs
+  all-left [] [] e = refl
+  all-left [] (b ∷ bs) e = absurd (omega (arith, e))
+  all-left (x ∷ xs) [] e = absurd (omega (arith, e))
+  all-left (x ∷ xs) (b ∷ bs) e = ap (λ z. b ++ z) (all-left xs bs (omega (arith, e)))
+
+  module _ (depth : ℕ) (s : Shape) (place : Place) (xs : Siblings V M) (bins : List (Messages M)) (packet : Messages M) (lie : LieBetween (pivots_of xs) bins) (some : 1 ≤ length xs)
+      (after : List (Messages M)) (after_is : after ≡ added (pivots_of xs) packet bins) where
+    pub kept-lies : LieBetween (pivots_of xs) after
+    kept-lies = subst (LieBetween (pivots_of xs)) (sym after_is) (added_lie (pivots_of xs) packet bins lie)
+
+    kept-cut : length packet + length (joined bins) ≤ s.buffer → cut_out (suc depth) Absorb s place (inner (nodes xs) (joined bins)) packet ≡ opened (holed_nodes (all_whole xs)) (joined after)
+    kept-cut fits =
+        let long : length after ≡ length xs = omega (arith, lie_length (pivots_of xs) after kept-lies, length-map (drop 1 xs) (λ (x : Key × Tree V M). x.0), length-drop 1 xs, some) in
+        let all : length (joined after) ≡ length packet + length (joined bins) =
+            ap (λ bs. length (joined bs)) after_is ∙ ap length (joined-added (pivots_of xs) packet bins lie) ∙ length-with_messages packet (joined bins)
+        in
+        let within : total (map length after) ≤ s.buffer = omega (arith, length-joined after, all, fits) in
+        ap (λ cs. made depth Absorb s place cs (flush_marks Absorb s.buffer (counts cs))) (shared-added xs bins packet lie after after_is)
+        ∙ ap (λ ns. made depth Absorb s place (beside xs after) (flush_marks Absorb s.buffer ns)) (counts-beside xs after long)
+        ∙ ap (made depth Absorb s place (beside xs after)) (none-marked s.buffer (map length after) within)
+        ∙ ap (λ n. made depth Absorb s place (beside xs after) (replicate n false)) (length-map after length)
+        ∙ (λ i. opened (holed_nodes (all-stay depth Absorb s place 0 xs after long i)) (all-left xs after long i))
+
+    -- where there is room, it is kept with all its children
+    pub kept-told : (mode : Mode) → mode ≡ Absorb → length packet + length (joined bins) ≤ s.buffer →
+        opened (holed_nodes (all_whole xs)) (joined after) ≡ with_holes hole_of (cut_out (suc depth) mode s place (inner (nodes xs) (joined bins)) packet)
+    kept-told mode is fits =
+        ap (λ hs. opened hs (joined after)) (sym (told-whole hole_of xs)) ∙ ap (with_holes hole_of) (sym (kept-cut fits))
+        ∙ ap (λ m. with_holes hole_of (cut_out (suc depth) m s place (inner (nodes xs) (joined bins)) packet)) (sym is)
+
+    pub kept-jobs : (mode : Mode) → mode ≡ Absorb → length packet + length (joined bins) ≤ s.buffer → [] ≡ holes (cut_out (suc depth) mode s place (inner (nodes xs) (joined bins)) packet)
+    kept-jobs mode is fits =
+        sym (holes-whole (Job V M) xs) ∙ ap holes (sym (kept-cut fits)) ∙ ap (λ m. holes (cut_out (suc depth) m s place (inner (nodes xs) (joined bins)) packet)) (sym is)
 
 -- ---- marks
 
@@ -175,7 +234,7 @@ module _ {V M : Type 0} where
   -- the children of an inner node and their bins, its nodes and its pivots
   module _ (xs : Siblings V M) (bins : List (Messages M)) (ks : List Key) (ts : List (Tree V M)) (divided : LieBetween (pivots_of xs) bins) (parts : xs ≡ behind ks ts)
       (one_fewer : length ts ≡ length ks + 1) where
-    pivots_are : pivots_of xs ≡ ks
+    pub pivots_are : pivots_of xs ≡ ks
     pivots_are = ap pivots_of parts ∙ behind-pivots ks ts one_fewer
 
     pub bins_long : length bins ≡ length ks + 1

@@ -1,5 +1,5 @@
 //! How the flushes of a tree are moved out of it.
-ghost use Rattle.std.specs.Prelude.{◌≡◌, ◌≤◌, ◌<◌, ◌+◌, ◌++◌, ◌∷◌, [], IfOk, OnOk, cond, drop, length, map, replicate, suc, take};
+ghost use Rattle.std.specs.Prelude.{◌≡◌, ◌≤◌, ◌<◌, ◌+◌, ◌++◌, ◌∷◌, [], IfOk, OnOk, cond, drop, length, map, replicate, suc, take, true};
 ghost use Rattle.std.specs.List.{flat_map};
 ghost use Rattle.bt_messages.specs.Bins.{LieBetween, each_with, joined, parted, total};
 ghost use Rattle.bt_messages.specs.Effects.{effect_of};
@@ -12,9 +12,10 @@ ghost use Rattle.bt_node.specs.Marks.{marks_of};
 ghost use Rattle.bt_node.specs.Trees.{inner, nodes};
 ghost use Rattle.bt_plan.specs.Cuts.{cut, cut_out, flush_marks, hole_of};
 ghost use Rattle.bt_plan.specs.Laws.{FillsUp, PlacesRise, StandInHoles};
-ghost use Rattle.bt_plan.specs.Pieces.{holes, with_holes};
+ghost use Rattle.bt_plan.specs.Pieces.{all_whole, holes, with_holes};
 ghost use Rattle.bt_plan.specs.Pieces as pieces;
 ghost use Rattle.bt_plan.specs.Views.{IsCut, job_of, place_of};
+ghost use Rattle.bt_plan.specs.declared.job.Mode.TheVariants.{Absorb};
 ghost use Rattle.bt_plan.specs.inside.Cutting.{AreSizedNodes, cut_each, cut_job, kept_bins, sent};
 
 use crate::holed::{Holed, HoledNode};
@@ -220,6 +221,36 @@ fn cut_children<V: Merge>(
     Ok((children, Bins::from_packets(kept)))
 }
 
+// Whether no child is flushed, since there is room for so many messages more.
+fn has_room<V: Merge>(mode: Mode, shape: Shape, bins: &Bins<V>, count: usize) -> bool
+    ensures { result ≡ true → (mode ≡ Absorb) × (count + length (joined bins.now) ≤ shape.buffer) }
+{
+    let room = shape.buffer();
+    match mode {
+        Mode::Absorb => count <= room && bins.total() <= (room - count) as u128,
+        Mode::Drain => false,
+    }
+}
+
+// An inner node of which no child is flushed: what comes stays in the bins.
+fn keep_all<V: Merge>(
+    alloc: Global,
+    children: Siblings<V>,
+    bins: Bins<V>,
+    stream: &mut Stream<V>,
+    shares: &[usize],
+) -> Result<HoledNode<V>, AllocError>
+    requires len { length shares.now ≡ length bins }
+    requires enough { total shares.now ≤ length stream.old }
+    requires divided { LieBetween (pivots_of children) (each_with (parted shares.now stream.old) bins) }
+    ensures node { IfOk result (λ node. node ≡ pieces.opened (pieces.holed_nodes (all_whole children)) (joined (each_with (parted shares.now stream.old) bins))) }
+    ensures left { OnOk result (stream.new ≡ drop (total shares.now) stream.old) }
+{
+    let mut bins = bins;
+    bins.add_shares(alloc, stream, shares)?;
+    Ok(HoledNode::kept(children, bins))
+}
+
 // An inner node and the first messages of a stream: its children are cut one by one, so many levels above the cut.
 #[cycle(cuts)]
 fn open<V: Merge>(
@@ -242,8 +273,11 @@ fn open<V: Merge>(
     ensures jobs { OnOk result (map job_of jobs.new.items ≡ map job_of jobs.old.items ++ holes (cut_out (suc depth) mode shape (place_of place.now) (inner (nodes children) (joined bins)) (take count stream.old))) }
     ensures left { OnOk result (stream.new ≡ drop count stream.old) }
 {
+    let shares = stream.shares(alloc, count, children.pivots())?;
+    if has_room(mode, shape, &bins, count) {
+        return keep_all(alloc, children, bins, stream, shares.as_slice());
+    }
     let (nodes, pivots) = children.apart();
-    let shares = stream.shares(alloc, count, pivots.as_slice())?;
     let loads = loads(&bins, stream, shares.as_slice());
     let marks = flush_marks(mode, shape, loads.as_slice());
     let (children, bins) = cut_children(

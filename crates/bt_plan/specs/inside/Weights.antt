@@ -1,5 +1,5 @@
 -- How deep trees in pieces are, by which recursion over them ends.
-use Rattle.std.specs.Prelude.{◌+◌, ◌*◌, ℕ, suc, max}
+use Rattle.std.specs.Prelude.{◌+◌, ◌*◌, ℕ, max}
 use Rattle.bt_node.specs.Trees.{height}
 use Rattle.bt_plan.specs.Pieces.{Holed, HoledNodes, whole, hole, opened, childless, child}
 
@@ -8,7 +8,7 @@ abbrev mutual
   pub weight : {V M H : Type 0} → Holed V M H → ℕ
   weight (whole t) = 2 * height t + 1
   weight (hole h) = 0
-  weight (opened hs buffer) = suc (weight_below hs)
+  weight (opened hs buffer) = weight_below hs + 2
 
   pub weight_below : {V M H : Type 0} → HoledNodes V M H → ℕ
   weight_below childless = 0

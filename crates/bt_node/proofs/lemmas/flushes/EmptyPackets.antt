@@ -59,16 +59,19 @@ module _ {V M : Type 0} where
   stripped-shared (x ∷ y ∷ ys) b = ap (λ z. x ∷ z) (stripped-shared (y ∷ ys) (from y.0 b))
 
   -- one group of children, with their shares of a buffer, is the node that they came from
-  gathered-shared : (ns : Nodes V M) (b : Messages M) → IsLed (children ns) → IsSorted b → (gathered (shared (children ns) b)).1 ≡ inner ns b
-  gathered-shared ns b l r =
-      ap (λ xs. inner (nodes (pivot_first [] xs)) (all_pending (shared (children ns) b))) (stripped-shared (children ns) b)
-      ∙ ap (λ xs. inner (nodes xs) (all_pending (shared (children ns) b))) (led-first (children ns) l)
-      ∙ ap (λ ms. inner ms (all_pending (shared (children ns) b))) (nodes-children ns)
-      ∙ ap (inner ns) (all_pending-shared-all (children ns) b l r)
+  gathered-shared : (xs : Siblings V M) (b : Messages M) → IsLed xs → IsSorted b → (gathered (shared xs b)).1 ≡ inner (nodes xs) b
+  gathered-shared xs b l r =
+      ap (λ ys. inner (nodes (pivot_first [] ys)) (all_pending (shared xs b))) (stripped-shared xs b)
+      ∙ ap (λ ys. inner (nodes ys) (all_pending (shared xs b))) (led-first xs l)
+      ∙ ap (inner (nodes xs)) (all_pending-shared-all xs b l r)
 
   -- children within the fanout are one group
   grouped-one : (s : Shape) (cs : List (Child V M)) → 1 ≤ s.fanout → length cs ≤ s.fanout → grouped s cs ≡ ([], (gathered cs).1) ∷ []
   grouped-one s cs some fits = ap (λ gs. pivot_first [] (map gathered gs)) (deal-one s.fanout cs some fits)
+
+  pub grouped-shared : (s : Shape) (xs : Siblings V M) (b : Messages M) → IsLed xs → IsSorted b → 1 ≤ s.fanout → length xs ≤ s.fanout → grouped s (shared xs b) ≡ ([], inner (nodes xs) b) ∷ []
+  grouped-shared s xs b l r some few =
+      grouped-one s (shared xs b) some (omega (arith, length-shared xs b, few)) ∙ ap (λ t. ([], t) ∷ []) (gathered-shared xs b l r)
 
   -- what becomes of a node whose children and messages are within its shape is the node
   pub still-here : (s : Shape) (ns : Nodes V M) (b : Messages M) → IsLed (children ns) → IsSorted b → 1 ≤ s.fanout → length (children ns) ≤ s.fanout → length b ≤ s.buffer → (flush : Flush V M) →
@@ -77,8 +80,7 @@ module _ {V M : Type 0} where
       let cs = shared (children ns) b in
       let pending : total (counts cs) ≤ s.buffer = omega (arith, total-counts cs, ap length (all_pending-shared-all (children ns) b l r), fits) in
       ap (grouped s) (settled-still (λ c. length c.pending) (flushed flush) (flushed-light flush) s.buffer (total (counts cs)) cs pending)
-      ∙ grouped-one s cs some (omega (arith, length-shared (children ns) b, few))
-      ∙ ap (λ t. ([], t) ∷ []) (gathered-shared ns b l r)
+      ∙ grouped-shared s (children ns) b l r some few ∙ ap (λ ms. ([], inner ms b) ∷ []) (nodes-children ns)
 
 module _ {V M : Type 0} (effect : Option V → M → Option V) (s : Shape) (roomy : IsRoomy s) where
   absorbed-still : (levels : ℕ) (low high : Option Key) (t : Tree V M) → Lies levels low high t → IsSized s t → absorbed effect (suc levels) s t [] ≡ ([], t) ∷ []

@@ -1,19 +1,21 @@
-use Rattle.std.proofs.Common.{◌≡◌, ◌<◌, ◌≤◌, ◌∙◌, ◌++◌, ap, arith, drop, length, map, refl, rules, subst, sym, take}
+use Rattle.std.proofs.Common.{◌≡◌, ◌<◌, ◌≤◌, ◌+◌, ◌∙◌, ◌++◌, ap, append-nil, arith, drop, length, map, refl, rules, subst, sym, take}
 use Rattle.std.proofs.Math.Seq.{take-length}
-use Rattle.std.proofs.lemmas.List.{length-map}
+use Rattle.std.proofs.lemmas.List.{length-map, length-take-le}
 use Rattle.std.specs.Vec.Iter.{into_iter_items}
-use Rattle.bt_messages.specs.Bins.{LieBetween, each_with, joined, parted, total}
+use Rattle.bt_messages.specs.Bins.{LieBetween, each_with, joined, parted, parts, total}
 use Rattle.bt_messages.specs.Messages.{with_messages}
 use Rattle.bt_messages.proofs.offered.Fronts.{sorted_take}
+use Rattle.bt_messages.proofs.offered.Parts.{lie_length}
 use Rattle.bt_messages.proofs.offered.Placed.{alone}
 use Rattle.bt_messages.proofs.offered.Totals.{nothing_pending}
 use Rattle.bt_node.specs.Fits.{IsSized}
+use Rattle.bt_node.specs.Lookups.{pivots_of}
 use Rattle.bt_node.specs.Trees.{behind}
 use Rattle.bt_node.proofs.offered.FlushSteps.{if_ok}
 use Rattle.bt_plan.specs.Cuts.{flush_marks, hole_of}
 use Rattle.bt_plan.specs.Pieces.{holed_nodes, holes, opened, with_holes}
 use Rattle.bt_plan.specs.Views.{job_of, place_of}
-use Rattle.bt_plan.proofs.Opening.{as_many_marks, bins_long, inner-cut, kept_divided, leaf-cut, made_long, node-jobs, node-told, nodes_sized, on_then}
+use Rattle.bt_plan.proofs.Opening.{as_many_marks, bins_long, inner-cut, kept-jobs, kept-lies, kept-told, kept_divided, leaf-cut, made_long, node-jobs, node-told, nodes_sized, on_then, pivots_are}
 use Rattle.bt_plan.proofs.Steps.{enough_after, left_after, next_bin, next_child, one_made, one_made_of, sized_after, some_made_of}
 use Rattle.bt_plan.proofs.cutting.+cuts.Goals as goal
 
@@ -43,7 +45,7 @@ open-loads-loads-requires-clause-len g t c =
     let ks = c.apart-nodes.result.1.items in
     let ts = c.apart-nodes.result.0.items in
     let long = bins_long xs bins ks ts lie parts.parts parts.one_fewer in
-    omega (arith, long, ap length c.as_slice-2.ensures.value, c.in_ok-shares.ensures.len, ap length c.as_slice.ensures.value)
+    omega (arith, long, ap length c.as_slice-2.ensures.value, c.in_ok-shares.ensures.len, ap length (c.pivots.ensures.pivots ∙ pivots_are xs bins ks ts lie parts.parts parts.one_fewer))
 
 pub open-cut_children-requires : goal.open-cut_children-requires
 open-cut_children-requires g t c κs within =
@@ -60,9 +62,9 @@ open-cut_children-requires g t c κs within =
     let marks_are = c.as_slice-4.ensures.value ∙ c.flush_marks-marks.ensures ∙ ap (flush_marks c.args.mode c.args.shape.buffer) (c.as_slice-3.ensures.value ∙ loads_are) in
     let long = bins_long xs bins ks ts lie parts.parts parts.one_fewer in
     let sized = nodes_sized xs bins ks ts lie parts.parts parts.one_fewer c.args.shape c.requires.sized in
-    let marked = as_many_marks xs bins ks ts lie parts.parts parts.one_fewer c.as_slice.result.now c.as_slice.ensures.value (take c.args.count stream) (each_with (parted shares stream) bins) after_is c.args.depth c.args.mode c.args.shape (place_of c.args.place.now) c.as_slice-4.result.now marks_are in
+    let marked = as_many_marks xs bins ks ts lie parts.parts parts.one_fewer c.pivots.result.now (c.pivots.ensures.pivots ∙ pivots_are xs bins ks ts lie parts.parts parts.one_fewer) (take c.args.count stream) (each_with (parted shares stream) bins) after_is c.args.depth c.args.mode c.args.shape (place_of c.args.place.now) c.as_slice-4.result.now marks_are in
     let most : c.args.shape.fanout ≤ 64 = search rules in
-    let as_many : length shares ≡ length ts = omega (arith, parts.one_fewer, ap length c.as_slice-5.ensures.value, c.in_ok-shares.ensures.len, ap length c.as_slice.ensures.value) in
+    let as_many : length shares ≡ length ts = omega (arith, parts.one_fewer, ap length c.as_slice-5.ensures.value, c.in_ok-shares.ensures.len, ap length (c.pivots.ensures.pivots ∙ pivots_are xs bins ks ts lie parts.parts parts.one_fewer)) in
     let enough : total shares ≤ length stream = omega (arith, ap total c.as_slice-5.ensures.value, c.in_ok-shares.ensures.total, c.requires.enough) in (
       omega (arith, c.decreases),
       (within.0, (within.1, (sized.1, (omega (arith, sized.0, most), (omega (arith, long, parts.one_fewer), (marked, (as_many, (enough, c.requires.path)))))))),
@@ -81,7 +83,7 @@ open-opened-requires-clause-one_fewer g t c =
     let after_is = ap (λ ns. each_with (parted ns stream) bins) c.as_slice-5.ensures.value ∙ ap (λ ps. each_with ps bins) c.in_ok-shares.ensures.parts in
     let loads_are = c.loads-loads.ensures ∙ ap (λ ns. map length (each_with (parted ns stream) bins)) (c.as_slice-2.ensures.value ∙ sym c.as_slice-5.ensures.value) in
     let marks_are = c.as_slice-4.ensures.value ∙ c.flush_marks-marks.ensures ∙ ap (flush_marks c.args.mode c.args.shape.buffer) (c.as_slice-3.ensures.value ∙ loads_are) in
-    ap length c.in_ok-children.ensures.children ∙ length-map _ (with_holes hole_of) ∙ made_long xs bins ks ts lie parts.parts parts.one_fewer c.as_slice.result.now c.as_slice.ensures.value (take c.args.count stream) (each_with (parted shares stream) bins) after_is c.args.depth c.args.mode c.args.shape (place_of c.args.place.now) c.as_slice-4.result.now marks_are
+    ap length c.in_ok-children.ensures.children ∙ length-map _ (with_holes hole_of) ∙ made_long xs bins ks ts lie parts.parts parts.one_fewer c.pivots.result.now (c.pivots.ensures.pivots ∙ pivots_are xs bins ks ts lie parts.parts parts.one_fewer) (take c.args.count stream) (each_with (parted shares stream) bins) after_is c.args.depth c.args.mode c.args.shape (place_of c.args.place.now) c.as_slice-4.result.now marks_are
 
 pub open-opened-requires-clause-divided : goal.open-opened-requires-clause-divided
 open-opened-requires-clause-divided g t c =
@@ -96,7 +98,7 @@ open-opened-requires-clause-divided g t c =
     let after_is = ap (λ ns. each_with (parted ns stream) bins) c.as_slice-5.ensures.value ∙ ap (λ ps. each_with ps bins) c.in_ok-shares.ensures.parts in
     let loads_are = c.loads-loads.ensures ∙ ap (λ ns. map length (each_with (parted ns stream) bins)) (c.as_slice-2.ensures.value ∙ sym c.as_slice-5.ensures.value) in
     let marks_are = c.as_slice-4.ensures.value ∙ c.flush_marks-marks.ensures ∙ ap (flush_marks c.args.mode c.args.shape.buffer) (c.as_slice-3.ensures.value ∙ loads_are) in
-    subst (LieBetween ks) (sym c.in_ok-children.ensures.bins) (kept_divided xs bins ks ts lie parts.parts parts.one_fewer c.as_slice.result.now c.as_slice.ensures.value (take c.args.count stream) (each_with (parted shares stream) bins) after_is c.args.depth c.args.mode c.args.shape (place_of c.args.place.now) c.as_slice-4.result.now marks_are)
+    subst (LieBetween ks) (sym c.in_ok-children.ensures.bins) (kept_divided xs bins ks ts lie parts.parts parts.one_fewer c.pivots.result.now (c.pivots.ensures.pivots ∙ pivots_are xs bins ks ts lie parts.parts parts.one_fewer) (take c.args.count stream) (each_with (parted shares stream) bins) after_is c.args.depth c.args.mode c.args.shape (place_of c.args.place.now) c.as_slice-4.result.now marks_are)
 
 pub open-returns-clause-holed : goal.open-returns-clause-holed
 open-returns-clause-holed g t c =
@@ -112,7 +114,7 @@ open-returns-clause-holed g t c =
     let loads_are = c.loads-loads.ensures ∙ ap (λ ns. map length (each_with (parted ns stream) bins)) (c.as_slice-2.ensures.value ∙ sym c.as_slice-5.ensures.value) in
     let marks_are = c.as_slice-4.ensures.value ∙ c.flush_marks-marks.ensures ∙ ap (flush_marks c.args.mode c.args.shape.buffer) (c.as_slice-3.ensures.value ∙ loads_are) in
     let cut = c.in_ok-children.ensures in
-    c.opened.ensures ∙ (λ i. opened (holed_nodes (behind ks (cut.children i))) (joined (cut.bins i))) ∙ node-told xs bins ks ts lie parts.parts parts.one_fewer c.as_slice.result.now c.as_slice.ensures.value (take c.args.count stream) (each_with (parted shares stream) bins) after_is c.args.depth c.args.mode c.args.shape (place_of c.args.place.now) c.as_slice-4.result.now marks_are
+    c.opened.ensures ∙ (λ i. opened (holed_nodes (behind ks (cut.children i))) (joined (cut.bins i))) ∙ node-told xs bins ks ts lie parts.parts parts.one_fewer c.pivots.result.now (c.pivots.ensures.pivots ∙ pivots_are xs bins ks ts lie parts.parts parts.one_fewer) (take c.args.count stream) (each_with (parted shares stream) bins) after_is c.args.depth c.args.mode c.args.shape (place_of c.args.place.now) c.as_slice-4.result.now marks_are
 
 pub open-returns-clause-jobs : goal.open-returns-clause-jobs
 open-returns-clause-jobs g t c =
@@ -127,11 +129,80 @@ open-returns-clause-jobs g t c =
     let after_is = ap (λ ns. each_with (parted ns stream) bins) c.as_slice-5.ensures.value ∙ ap (λ ps. each_with ps bins) c.in_ok-shares.ensures.parts in
     let loads_are = c.loads-loads.ensures ∙ ap (λ ns. map length (each_with (parted ns stream) bins)) (c.as_slice-2.ensures.value ∙ sym c.as_slice-5.ensures.value) in
     let marks_are = c.as_slice-4.ensures.value ∙ c.flush_marks-marks.ensures ∙ ap (flush_marks c.args.mode c.args.shape.buffer) (c.as_slice-3.ensures.value ∙ loads_are) in
-    c.in_ok-children.ensures.jobs ∙ ap (λ js. map job_of c.args.jobs.now.items ++ js) (node-jobs xs bins ks ts lie parts.parts parts.one_fewer c.as_slice.result.now c.as_slice.ensures.value (take c.args.count stream) (each_with (parted shares stream) bins) after_is c.args.depth c.args.mode c.args.shape (place_of c.args.place.now) c.as_slice-4.result.now marks_are)
+    c.in_ok-children.ensures.jobs ∙ ap (λ js. map job_of c.args.jobs.now.items ++ js) (node-jobs xs bins ks ts lie parts.parts parts.one_fewer c.pivots.result.now (c.pivots.ensures.pivots ∙ pivots_are xs bins ks ts lie parts.parts parts.one_fewer) (take c.args.count stream) (each_with (parted shares stream) bins) after_is c.args.depth c.args.mode c.args.shape (place_of c.args.place.now) c.as_slice-4.result.now marks_are)
 
 pub open-returns-clause-left : goal.open-returns-clause-left
 open-returns-clause-left g t c =
     c.in_ok-children.ensures.left ∙ ap (λ n. drop n c.args.stream.now) (ap total c.as_slice-5.ensures.value ∙ c.in_ok-shares.ensures.total)
+
+-- ---- an inner node that is kept with all its children
+
+pub open-shares-requires : goal.open-shares-requires
+open-shares-requires g t c = c.requires.enough
+
+pub open-same-children : goal.open-same-children
+open-same-children g t c = refl
+
+pub open-same-bins : goal.open-same-bins
+open-same-bins g t c = refl
+
+pub open-same-children-2 : goal.open-same-children-2
+open-same-children-2 g t c = refl
+
+pub open-keep_all-requires-clause-len : goal.open-keep_all-requires-clause-len
+open-keep_all-requires-clause-len g t c =
+    omega (arith, ap length c.as_slice.ensures.value, c.in_ok-shares.ensures.len, ap length c.pivots.ensures.pivots, lie_length (pivots_of c.args.children) c.args.bins c.requires.lie)
+
+pub open-keep_all-requires-clause-enough : goal.open-keep_all-requires-clause-enough
+open-keep_all-requires-clause-enough g t c = omega (arith, ap total c.as_slice.ensures.value, c.in_ok-shares.ensures.total, c.requires.enough)
+
+pub open-keep_all-requires-clause-divided : goal.open-keep_all-requires-clause-divided
+open-keep_all-requires-clause-divided g t c =
+    let xs = c.args.children in
+    let bins = c.args.bins in
+    let stream = c.args.stream.now in
+    let after = each_with (parted c.as_slice.result.now stream) bins in
+    let after_is = ap (λ ns. each_with (parted ns stream) bins) c.as_slice.ensures.value ∙ ap (λ ps. each_with ps bins) (c.in_ok-shares.ensures.parts ∙ ap (λ ks. parts ks (take c.args.count stream)) c.pivots.ensures.pivots) in
+    kept-lies c.args.depth c.args.shape (place_of c.args.place.now) xs bins (take c.args.count stream) c.requires.lie c.pivots.ensures.some after after_is
+
+pub open-returns-then-has_room-clause-holed : goal.open-returns-then-has_room-clause-holed
+open-returns-then-has_room-clause-holed g t c =
+    let xs = c.args.children in
+    let bins = c.args.bins in
+    let stream = c.args.stream.now in
+    let after = each_with (parted c.as_slice.result.now stream) bins in
+    let after_is = ap (λ ns. each_with (parted ns stream) bins) c.as_slice.ensures.value ∙ ap (λ ps. each_with ps bins) (c.in_ok-shares.ensures.parts ∙ ap (λ ks. parts ks (take c.args.count stream)) c.pivots.ensures.pivots) in
+    let room = c.has_room.ensures c.if-has_room.true in
+    let fits : length (take c.args.count stream) + length (joined bins) ≤ c.args.shape.buffer = omega (arith, length-take-le c.args.count stream c.requires.enough, room.1) in
+    if_ok _ _ c.keep_all.result (λ h e. e ∙ kept-told c.args.depth c.args.shape (place_of c.args.place.now) xs bins (take c.args.count stream) c.requires.lie c.pivots.ensures.some after after_is c.args.mode room.0 fits) c.keep_all.ensures.node
+
+pub open-returns-then-has_room-clause-jobs : goal.open-returns-then-has_room-clause-jobs
+open-returns-then-has_room-clause-jobs g t c =
+    let xs = c.args.children in
+    let bins = c.args.bins in
+    let stream = c.args.stream.now in
+    let after = each_with (parted c.as_slice.result.now stream) bins in
+    let after_is = ap (λ ns. each_with (parted ns stream) bins) c.as_slice.ensures.value ∙ ap (λ ps. each_with ps bins) (c.in_ok-shares.ensures.parts ∙ ap (λ ks. parts ks (take c.args.count stream)) c.pivots.ensures.pivots) in
+    let room = c.has_room.ensures c.if-has_room.true in
+    let fits : length (take c.args.count stream) + length (joined bins) ≤ c.args.shape.buffer = omega (arith, length-take-le c.args.count stream c.requires.enough, room.1) in
+    let jobs = map job_of c.args.jobs.now.items in
+    on_then c.keep_all.result (λ _. sym (append-nil jobs) ∙ ap (λ js. jobs ++ js) (kept-jobs c.args.depth c.args.shape (place_of c.args.place.now) xs bins (take c.args.count stream) c.requires.lie c.pivots.ensures.some after after_is c.args.mode room.0 fits)) c.keep_all.ensures.left
+
+pub open-returns-then-has_room-clause-left : goal.open-returns-then-has_room-clause-left
+open-returns-then-has_room-clause-left g t c =
+    on_then c.keep_all.result (λ e. e ∙ ap (λ n. drop n c.args.stream.now) (ap total c.as_slice.ensures.value ∙ c.in_ok-shares.ensures.total)) c.keep_all.ensures.left
+
+pub open-loads-loads-requires-clause-enough : goal.open-loads-loads-requires-clause-enough
+open-loads-loads-requires-clause-enough g t c = omega (arith, ap total c.as_slice-2.ensures.value, c.in_ok-shares.ensures.total, c.requires.enough)
+
+pub open-as_slice-requires-3 : goal.open-as_slice-requires-3
+open-as_slice-requires-3 g t c = omega arith
+
+pub open-flush_marks-marks-requires : goal.open-flush_marks-marks-requires
+open-flush_marks-marks-requires g t c = omega (arith, c.as_slice-3.ensures.fits)
+
+pub open-as_slice-requires-4 : goal.open-as_slice-requires-4
+open-as_slice-requires-4 g t c = omega arith
 
 -- ---- its children
 
