@@ -178,7 +178,7 @@ module _ {V M : Type 0} where
     kept-cut fits =
         let long : length after ≡ length xs = omega (arith, lie_length (pivots_of xs) after kept-lies, length-map (drop 1 xs) (λ (x : Key × Tree V M). x.0), length-drop 1 xs, some) in
         let all : length (joined after) ≡ length packet + length (joined bins) =
-            ap (λ bs. length (joined bs)) after_is ∙ ap length (joined-added (pivots_of xs) packet bins lie) ∙ length-with_messages packet (joined bins)
+        ap (λ bs. length (joined bs)) after_is ∙ ap length (joined-added (pivots_of xs) packet bins lie) ∙ length-with_messages packet (joined bins)
         in
         let within : total (map length after) ≤ s.buffer = omega (arith, length-joined after, all, fits) in
         ap (λ cs. made depth Absorb s place cs (flush_marks Absorb s.buffer (counts cs))) (shared-added xs bins packet lie after after_is)
