@@ -1,15 +1,13 @@
 -- The values of a code are those that were encoded. What an index shows of its keys stands on it.
-use Rattle.std.proofs.Common.{◌≡◌, ◌∙◌, ℕ, zero, suc, ◌+◌, ◌-◌, ◌^◌, ◌<◌, ◌≤◌, ◌==◌, arith, Bool, true, false, List, [], ◌∷◌, ◌++◌, append_assoc, append-nil, drop, get_or, length, map, nat_le, take, Option, Some, None, refl, sym, ap, ℤ, pos, negsuc, SFits, w64, if◌then◌else◌}
+use Rattle.std.proofs.Common.{◌≡◌, ◌∙◌, ℕ, suc, ◌+◌, ◌-◌, ◌^◌, ◌<◌, arith, Bool, true, false, List, [], ◌∷◌, ◌++◌, append_assoc, append-nil, drop, map, nat_le, take, Some, refl, sym, ap, ℤ, pos, negsuc, SFits, w64, if◌then◌else◌}
 use Rattle.std.proofs.lemmas.Bool.Decides.{nat_tests}
 use Rattle.std.proofs.lemmas.Nat.{from_be_bytes-to_be_bytes_8}
 use Rattle.std.specs.Int.{from_be_bytes}
 use Rattle.std.specs.Prelude.{option_and_then, option_map}
 use Rattle.bt_rowtype.specs.Packing.{AreInRange, IsInRange}
-use Rattle.bt_rowtype.specs.declared.value.Kind.{Kind}
-use Rattle.bt_rowtype.specs.declared.value.Kind.TheVariants as kind
 use Rattle.bt_rowtype.specs.declared.value.Value.{Value}
 use Rattle.bt_rowtype.specs.declared.value.Value.TheVariants as value
-use Rattle.bt_keycode.specs.Codes.{code_of, code_of_value, escaped, kind_of, raised}
+use Rattle.bt_keycode.specs.Codes.{code_of, code_of_value, kind_of, raised}
 use Rattle.bt_keycode.specs.Decoding.{decoded, first_value, lowered, unescaped}
 use Rattle.bt_keycode.specs.Prefixes.{eight_bytes}
 use Rattle.bt_keycode.proofs.DecodingInts.{raised_below}

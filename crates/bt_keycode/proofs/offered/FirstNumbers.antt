@@ -1,20 +1,24 @@
--- Keys that are the same begin with the same number. A sort by the first eight bytes stands on it.
-use Rattle.std.proofs.Common.{◌≡◌, ℕ, ◌^◌, ◌<◌, sym, ap, ◌∙◌}
-use Rattle.std.specs.Cmp.{tied_itself}
-use Rattle.std.specs.Cmp.Lexicographic.{slice_cmp}
-use Rattle.std.specs.FinMap.{nat_cmp-IsAntisymmetric}
-use Rattle.std.specs.Ordering.{nat_cmp}
-use Rattle.bt_keycode.specs.Keys.{Key}
+-- Keys stand as the numbers that their first eight bytes write, and where these are one as the whole keys. A sort by the first eight bytes stands on it.
+use Rattle.std.proofs.Common.{◌≡◌, ◌≢◌, ℕ, ◌^◌, ◌<◌, refl, sym, ap, ◌∙◌}
+use Rattle.std.specs.Cmp.{nat_cmp_total, tied_itself}
+use Rattle.std.specs.Ordering.{nat_cmp, ordering_then}
+use Rattle.std.specs.declared.cmp.Ordering.{Ordering}
+use Rattle.std.specs.declared.cmp.Ordering.TheVariants.{Less, Equal, Greater}
+use Rattle.bt_keycode.specs.Keys.{Key, key_cmp}
 use Rattle.bt_keycode.specs.Prefixes.{eight_bytes, first_eight}
-use Rattle.bt_keycode.proofs.Numbers.{slice_cmp-eight_bytes}
-use Rattle.bt_keycode.proofs.offered.Order.{total_keys}
+use Rattle.bt_keycode.proofs.Prefixes.{numbers_decide}
 
--- two numbers below 2 ^ 64 that the same eight bytes write are one
-same_number : (h k : ℕ) → h < 2 ^ 64 → k < 2 ^ 64 → eight_bytes h ≡ eight_bytes k → h ≡ k
-same_number h k low under e =
-    nat_cmp-IsAntisymmetric h k
-    (sym (slice_cmp-eight_bytes h k low under) ∙ ap (λ zs. slice_cmp nat_cmp zs (eight_bytes k)) e ∙ tied_itself total_keys (eight_bytes k))
+pub first_numbers_order : (h k : ℕ) (a b : Key) → h < 2 ^ 64 → k < 2 ^ 64 → eight_bytes h ≡ first_eight a → eight_bytes k ≡ first_eight b →
+    ordering_then (nat_cmp h k) (key_cmp a b) ≡ key_cmp a b
+first_numbers_order h k a b low under of_a of_b = by_order (nat_cmp h k) refl
+  where
+    apart : (o : Ordering) → nat_cmp h k ≡ o → o ≢ Equal → h ≢ k
+    apart o is other same = other (sym is ∙ ap (nat_cmp h) (sym same) ∙ tied_itself nat_cmp_total h)
 
--- the first numbers of one key are one
-pub same_first_number : (h k : ℕ) (a b : Key) → h < 2 ^ 64 → k < 2 ^ 64 → eight_bytes h ≡ first_eight a → eight_bytes k ≡ first_eight b → a ≡ b → h ≡ k
-same_first_number h k a b low under of_a of_b e = same_number h k low under (of_a ∙ ap first_eight e ∙ sym of_b)
+    decided : (o : Ordering) → nat_cmp h k ≡ o → o ≢ Equal → o ≡ key_cmp a b
+    decided o is other = sym is ∙ numbers_decide 0 h k a b low under refl of_a of_b (apart o is other)
+
+    by_order : (o : Ordering) → nat_cmp h k ≡ o → ordering_then o (key_cmp a b) ≡ key_cmp a b
+    by_order Equal is = refl
+    by_order Less is = decided Less is (λ e. cc)
+    by_order Greater is = decided Greater is (λ e. cc)
