@@ -9,7 +9,7 @@ ghost use Rattle.bt_fanout.specs.Selections.{named};
 
 use crate::effect::Effect;
 use bt_keycode::Key;
-use bt_messages::{Message, Messages, Packet, effect_borrowed};
+use bt_messages::{Joined, Message, Packet, effect_borrowed};
 use bt_node::Tree;
 use bt_rowtype::{Row, copy_row};
 use std::alloc::{AllocError, Global};
@@ -45,7 +45,7 @@ fn after_group<'a>(
     alloc: Global,
     key: &Key,
     before: Option<Row>,
-    messages: &mut Messages<'a, Row>,
+    messages: &mut Joined<'a, Row>,
 ) -> Result<(Option<Row>, Option<(&'a Key, &'a Message<Row>)>), AllocError>
     ensures value { IfOk result (λ group. group.0 ≡ value_of_group row_effect key.now messages.old before) }
     ensures rest { IfOk result (λ group. with_next (option_map (λ m. (m.0.now, m.1.now)) group.1) messages.new ≡ behind_group key.now messages.old) }
@@ -61,7 +61,7 @@ fn after_group<'a>(
 }
 
 // The first message to another key, from which on messages are left.
-fn behind<'a>(key: &Key, messages: &mut Messages<'a, Row>) -> Option<(&'a Key, &'a Message<Row>)>
+fn behind<'a>(key: &Key, messages: &mut Joined<'a, Row>) -> Option<(&'a Key, &'a Message<Row>)>
     ensures { with_next (option_map (λ m. (m.0.now, m.1.now)) result) messages.new ≡ behind_group key.now messages.old }
 {
     while let Some((at, message)) = messages.next() {

@@ -1,6 +1,7 @@
 pub mod Counts
 pub mod Cuts
 pub mod Merging
+pub mod RunLists
 pub mod Sharing
 pub mod Slices
 pub mod Stable

@@ -34,7 +34,7 @@ step {M} n ns rest os past wanted start between done e h w b p d =
     ∙ ap (λ zs. done ++ with_messages ns zs) (sym p)
 
 -- new messages of which none goes before the last old one stand behind all
-all_behind : {M : Type 0} (older newer : Messages M) (last : List ℕ × M) (i : ℕ) → IsSorted older → IsSorted newer → length older ≡ suc i → last ≡ get_or older i last → AllFrom last.0 newer →
+pub all_behind : {M : Type 0} (older newer : Messages M) (last : List ℕ × M) (i : ℕ) → IsSorted older → IsSorted newer → length older ≡ suc i → last ≡ get_or older i last → AllFrom last.0 newer →
     with_messages newer older ≡ older ++ newer
 all_behind [] newer last i h n l e f = alone newer n
 all_behind {M = M} (o ∷ []) newer last zero h n l e f =

@@ -4,3 +4,4 @@ pub mod Merges
 pub mod Messages
 pub mod Places
 pub mod Rooms
+pub mod Runs

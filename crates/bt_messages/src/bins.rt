@@ -1,10 +1,11 @@
-//! Bins: what is pending at a node, one packet for each child.
+//! Bins: what is pending at a node, one buffer for each child.
 ghost use Rattle.std.specs.Prelude.{◌≡◌, ◌+◌, ◌<◌, ◌≤◌, ◌++◌, ◌^◌, [], IfOk, OnOk, OnErr, drop, length, map, replicate, slice_index_or, slice_set, take, vec_capacity, vec_len};
 ghost use Rattle.bt_keycode.specs.Keys.{IsSorted};
 ghost use Rattle.bt_messages.specs.Bins.{added, each_with, joined, parted, total};
 ghost use Rattle.bt_messages.specs.Messages.{messages_between, messages_from};
 ghost use Rattle.std.specs.Option.{option_copied};
 
+use crate::buffer::Buffer;
 use crate::iter::Messages;
 use crate::joined::Joined;
 use crate::message::Merge;
@@ -19,7 +20,7 @@ use std::mem::replace;
 /// A list of messages for each child, sorted by key, those of one key in the order in which they came.
 #[derive(Drop)]
 pub struct Bins<V: Merge> {
-    bins: Vec<Packet<V>>,
+    bins: Vec<Buffer<V>>,
     count: u128,
 }
 
@@ -35,43 +36,43 @@ impl<V: Merge> Model for Bins<V> {
     ghost invariant = { λ b. b.count ≡ total (map length b.bins.items) };
 }
 
-// The number of messages of all packets.
-fn count_all<V: Merge>(packets: &[Packet<V>]) -> u128
-    ensures { result ≡ total (map length packets.now) }
+// The number of messages of all buffers.
+fn count_all<V: Merge>(buffers: &[Buffer<V>]) -> u128
+    ensures { result ≡ total (map length buffers.now) }
 {
     let mut count = 0;
-    for packet in packets {
-        count += packet.len() as u128;
+    for buffer in buffers {
+        count += buffer.count() as u128;
     }
     count
 }
 
-// Puts so many empty packets behind the others, where there is room.
-fn push_empty<V: Merge>(alloc: Global, packets: &mut Vec<Packet<V>>, count: usize)
-    requires { vec_len packets.old + count ≤ vec_capacity packets.old }
-    ensures pushed { packets.new.items ≡ packets.old.items ++ replicate count [] }
-    ensures capacity { vec_capacity packets.new ≡ vec_capacity packets.old }
+// Puts so many empty buffers behind the others, where there is room.
+fn push_empty<V: Merge>(alloc: Global, buffers: &mut Vec<Buffer<V>>, count: usize)
+    requires { vec_len buffers.old + count ≤ vec_capacity buffers.old }
+    ensures pushed { buffers.new.items ≡ buffers.old.items ++ replicate count [] }
+    ensures capacity { vec_capacity buffers.new ≡ vec_capacity buffers.old }
 {
     for _ in 0..count {
-        packets.push_reserved(Packet::new(alloc));
+        buffers.push_reserved(Buffer::new(alloc));
     }
 }
 
-// Puts so many empty packets before the one at a place.
+// Puts so many empty buffers before the one at a place.
 fn insert_empty<V: Merge>(
     alloc: Global,
-    packets: &mut Vec<Packet<V>>,
+    buffers: &mut Vec<Buffer<V>>,
     place: usize,
     count: usize,
 ) -> Result<(), AllocError>
-    requires { place < length packets.old.items }
-    ensures inserted { OnOk result (packets.new.items ≡ take place packets.old.items ++ replicate count [] ++ drop place packets.old.items) }
-    ensures err { OnErr result (packets.new.items ≡ packets.old.items) }
+    requires { place < length buffers.old.items }
+    ensures inserted { OnOk result (buffers.new.items ≡ take place buffers.old.items ++ replicate count [] ++ drop place buffers.old.items) }
+    ensures err { OnErr result (buffers.new.items ≡ buffers.old.items) }
 {
-    packets.reserve(count)?;
-    let mut later = packets.split_off(place)?;
-    push_empty(alloc, packets, count);
-    packets.append(&mut later)
+    buffers.reserve(count)?;
+    let mut later = buffers.split_off(place)?;
+    push_empty(alloc, buffers, count);
+    buffers.append(&mut later)
 }
 
 impl<V: Merge> Bins<V> {
@@ -84,19 +85,19 @@ impl<V: Merge> Bins<V> {
         Ok(Bins { bins, count: 0 })
     }
 
-    /// A bin of each packet, in order. Takes no memory.
-    pub fn from_packets(packets: Vec<Packet<V>>) -> Self
-        ensures { result ≡ packets.items }
+    /// A bin of each buffer, in order. Takes no memory.
+    pub fn from_buffers(buffers: Vec<Buffer<V>>) -> Self
+        ensures { result ≡ buffers.items }
     {
-        let count = count_all(packets.as_slice());
+        let count = count_all(buffers.as_slice());
         Bins {
-            bins: packets,
+            bins: buffers,
             count,
         }
     }
 
-    /// The bins as packets, in order. Takes no memory.
-    pub fn into_packets(self) -> Vec<Packet<V>>
+    /// The bins as buffers, in order. Takes no memory.
+    pub fn into_buffers(self) -> Vec<Buffer<V>>
         ensures { result.items ≡ self }
     {
         let Bins {
@@ -119,7 +120,7 @@ impl<V: Merge> Bins<V> {
         ensures count { result ≡ length (slice_index_or self.now child []) }
         ensures bound { result < 2 ^ 63 }
     {
-        self.bins[child].len() as u64
+        self.bins[child].count() as u64
     }
 
     /// The number of messages of all bins. It is kept, so that nothing is added up.
@@ -196,13 +197,13 @@ impl<V: Merge> Bins<V> {
     }
 
     /// Takes the messages of a bin, which is then empty. Takes no memory.
-    pub fn take(&mut self, alloc: Global, child: usize) -> Packet<V>
+    pub fn take(&mut self, alloc: Global, child: usize) -> Buffer<V>
         requires { child < length self.old }
         ensures taken { result ≡ slice_index_or self.old child [] }
         ensures left { self.new ≡ slice_set self.old child [] }
     {
-        self.count -= self.bins[child].len() as u128;
-        replace(&mut self.bins[child], Packet::new(alloc))
+        self.count -= self.bins[child].count() as u128;
+        replace(&mut self.bins[child], Buffer::new(alloc))
     }
 
     /// Makes an empty bin into so many empty ones. An `Err` changes nothing.
@@ -224,7 +225,7 @@ impl<V: Merge> Bins<V> {
         ensures err { OnErr result (self.new ≡ self.old) }
     {
         let bins = self.bins.split_off(at)?;
-        let taken = Bins::from_packets(bins);
+        let taken = Bins::from_buffers(bins);
         self.count -= taken.total();
         Ok(taken)
     }

@@ -1,29 +1,39 @@
-//! Buffers: what is pending at a node.
-ghost use Rattle.std.specs.Prelude.{◌≡◌, ◌^◌, ◌<◌, [], IfOk, OnOk, OnErr, length};
-ghost use Rattle.bt_keycode.specs.Keys.{IsSorted};
+//! Buffers: what is pending for a node, one list.
+ghost use Rattle.std.specs.Prelude.{◌≡◌, ◌==◌, ◌<◌, ◌≤◌, ◌^◌, [], IfOk, OnOk, OnErr, drop, length, take};
+ghost use Rattle.bt_keycode.specs.Keys.{AllFrom, IsSorted};
+ghost use Rattle.bt_messages.specs.Bins.{AllBefore};
 ghost use Rattle.bt_messages.specs.Messages.{messages_between, messages_from, messages_outside, with_messages};
+ghost use Rattle.bt_messages.specs.Rooms.{HasRoom};
+ghost use Rattle.bt_messages.specs.Runs.{begins_before};
 ghost use Rattle.std.specs.Option.{option_copied};
 
 use crate::iter::Messages;
-use crate::message::Merge;
+use crate::message::{Merge, Message};
 use crate::packet::Packet;
+use crate::share::gain;
+use crate::sorted;
+use crate::stream::Stream;
 use bt_keycode::Key;
 use std::alloc::{AllocError, Global};
+use std::cmp::Ordering;
 use std::marker::Model;
 
 /// Messages that are pending, sorted by key, those of one key in the order in which they came.
 #[derive(Drop)]
 pub struct Buffer<V: Merge> {
-    messages: Packet<V>,
+    messages: Vec<(Key, Message<V>)>,
 }
 
 impl<V: Merge> Model for Buffer<V> {
     ghost use Rattle.std.specs.Prelude.{List, ℕ};
+    ghost use Rattle.bt_keycode.specs.Keys.{IsSorted};
     ghost use Rattle.bt_messages.specs.declared.message.Message.{Message};
 
     ghost Value = { List (List ℕ × Message V V.Delta) };
 
-    ghost view = { λ b. b.messages };
+    ghost view = { λ b. b.messages.items };
+
+    ghost invariant = { λ b. IsSorted b.messages.items };
 }
 
 impl<V: Merge> Buffer<V> {
@@ -32,7 +42,7 @@ impl<V: Merge> Buffer<V> {
         ensures { result ≡ [] }
     {
         Buffer {
-            messages: Packet::new(alloc),
+            messages: Vec::new(alloc),
         }
     }
 
@@ -44,12 +54,28 @@ impl<V: Merge> Buffer<V> {
         self.messages.len()
     }
 
+    /// Whether there is no message.
+    pub fn is_empty(&self) -> bool
+        ensures { result ≡ (length self.now == 0) }
+    {
+        self.messages.is_empty()
+    }
+
     /// The messages and their keys, in order.
     pub fn iter(&self) -> Messages<'_, V>
         ensures messages { result ≡ self.now }
         ensures sorted { IsSorted self.now }
     {
-        self.messages.iter()
+        Messages::of_sorted(self.messages.as_slice())
+    }
+
+    /// The messages, to be taken off in order. Takes no memory.
+    pub fn into_stream(self) -> Stream<V>
+        ensures { result ≡ self }
+    {
+        let alloc = *self.messages.allocator();
+        let count = self.count();
+        Stream::from_runs(self, Vec::new(alloc), count)
     }
 
     /// The messages with a key at or past this one, in order. The first of them is found by halving.
@@ -57,7 +83,55 @@ impl<V: Merge> Buffer<V> {
         ensures messages { result ≡ messages_from key.now self.now }
         ensures sorted { IsSorted self.now }
     {
-        self.messages.iter_from(key)
+        let place = sorted::place_of(self.messages.as_slice(), key);
+        Messages::of_sorted(&self.messages[place..])
+    }
+
+    // The messages with a key at or past `from` and before `to`.
+    pub(crate) fn iter_between(&self, from: Option<&Key>, to: Option<&Key>) -> Messages<'_, V>
+        ensures messages { result ≡ messages_between (option_copied from.entry) (option_copied to.entry) self.now }
+        ensures sorted { IsSorted result }
+        ensures bound { length result < 2 ^ 63 }
+    {
+        Messages::of_sorted(sorted::between(self.messages.as_slice(), from, to))
+    }
+
+    // Whether the first message has a key before this one.
+    pub(crate) fn begins_before(&self, key: &Key) -> bool
+        ensures { result ≡ begins_before key.now self.now }
+    {
+        match self.messages.first() {
+            Some(first) => first.0.compare(key) == Ordering::Less,
+            None => false,
+        }
+    }
+
+    // How many of the messages have a key before this one.
+    pub(crate) fn place_of(&self, key: &Key) -> usize
+        ensures bound { result ≤ length self.now }
+        ensures before { AllBefore key.now (take result self.now) }
+        ensures from { AllFrom key.now (drop result self.now) }
+    {
+        sorted::place_of(self.messages.as_slice(), key)
+    }
+
+    /// Adds the first messages of a stream, each after those of its key. They are gone from the stream. An `Err` changes nothing.
+    pub fn add_front(
+        &mut self,
+        alloc: Global,
+        stream: &mut Stream<V>,
+        count: usize,
+    ) -> Result<(), AllocError>
+        requires { count ≤ length stream.old }
+        ensures added { OnOk result (self.new ≡ with_messages (take count stream.old) self.old) }
+        ensures left { OnOk result (stream.new ≡ drop count stream.old) }
+        ensures err { OnErr result (self.new ≡ self.old) }
+        ensures err_stream { OnErr result (stream.new ≡ stream.old) }
+    {
+        let _bound = stream.len();
+        let mut room = self.room_with(alloc, count)?;
+        gain(alloc, self, &mut room, stream, count);
+        Ok(())
     }
 
     /// Adds the messages of a packet, each after those of its key. An `Err` changes nothing, and the packet is gone.
@@ -65,10 +139,10 @@ impl<V: Merge> Buffer<V> {
         ensures ok { OnOk result (self.new ≡ with_messages packet self.old) }
         ensures err { OnErr result (self.new ≡ self.old) }
     {
-        let alloc = self.messages.allocator();
+        let alloc = *self.messages.allocator();
         let mut stream = packet.into_stream();
         let count = stream.len();
-        self.messages.add_front(alloc, &mut stream, count)
+        self.add_front(alloc, &mut stream, count)
     }
 
     /// Takes out the messages with a key at or past `from` and before `to`, in order. A bound that is absent doesn't limit.
@@ -83,9 +157,42 @@ impl<V: Merge> Buffer<V> {
         ensures left { OnOk result (self.new ≡ messages_outside (option_copied from.entry) (option_copied to.entry) self.old) }
         ensures err { OnErr result (self.new ≡ self.old) }
     {
-        if self.messages.is_empty() {
+        if self.is_empty() {
             return Ok(Packet::new(alloc));
         }
-        self.messages.take_between(from, to)
+        let taken = sorted::take_between(&mut self.messages, from, to)?;
+        Ok(Packet::from_buffer(alloc, Buffer::from_sorted(taken)))
+    }
+
+    // Room for the messages of the buffer and for so many more, where there are more.
+    pub(crate) fn room_with(
+        &self,
+        alloc: Global,
+        more: usize,
+    ) -> Result<Vec<(Key, Message<V>)>, AllocError>
+        requires { more < 2 ^ 63 }
+        ensures { IfOk result (λ room. HasRoom more self.now room) }
+    {
+        if more == 0 {
+            return Ok(Vec::new(alloc));
+        }
+        Vec::with_capacity(alloc, self.messages.len() + more)
+    }
+
+    // The buffer of messages that are sorted by key.
+    pub(crate) fn from_sorted(messages: Vec<(Key, Message<V>)>) -> Self
+        requires { IsSorted messages.items }
+        ensures { result ≡ messages.items }
+    {
+        Buffer { messages }
+    }
+
+    // The messages and their keys, in order.
+    pub(crate) fn into_messages(self) -> Vec<(Key, Message<V>)>
+        ensures messages { result.items ≡ self }
+        ensures sorted { IsSorted result.items }
+    {
+        let Buffer { messages } = self;
+        messages
     }
 }

@@ -1,19 +1,19 @@
-//! The messages of several packets, gone through one packet after the other.
+//! The messages of several buffers, gone through one buffer after the other.
 ghost use Rattle.std.specs.Prelude.{◌≡◌, ◌++◌, [], length};
 ghost use Rattle.std.specs.Iterator.{YieldsFirstBy, item_count};
 ghost use Rattle.bt_messages.specs.Bins.{joined};
 
+use crate::buffer::Buffer;
 use crate::iter::Messages;
 use crate::message::{Merge, Message};
-use crate::packet::Packet;
 use bt_keycode::Key;
 use std::marker::Model;
 
-/// The messages of packets, one packet after the other. A contract sees the list of those that are left.
+/// The messages of buffers, one buffer after the other. A contract sees the list of those that are left.
 #[derive(Drop)]
 pub struct Joined<'a, V: Merge> {
     first: Messages<'a, V>,
-    others: &'a [Packet<V>],
+    others: &'a [Buffer<V>],
 }
 
 impl<'a, V: Merge> Model for Joined<'a, V> {
@@ -37,14 +37,21 @@ impl<'a, V: Merge> Joined<'a, V> {
         }
     }
 
-    // The messages of these packets.
-    pub(crate) fn of(packets: &'a [Packet<V>]) -> Self
-        ensures { result ≡ joined packets.now }
+    // The messages of these buffers.
+    pub(crate) fn of(buffers: &'a [Buffer<V>]) -> Self
+        ensures { result ≡ joined buffers.now }
     {
         Joined {
             first: Messages::none(),
-            others: packets,
+            others: buffers,
         }
+    }
+
+    // These messages, and those of the buffers behind them.
+    pub(crate) fn behind(first: Messages<'a, V>, others: &'a [Buffer<V>]) -> Self
+        ensures { result ≡ first.entry ++ joined others.now }
+    {
+        Joined { first, others }
     }
 }
 
@@ -57,8 +64,8 @@ impl<'a, V: Merge> Iterator for Joined<'a, V> {
 
     fn next(&mut self) -> Option<(&'a Key, &'a Message<V>)> {
         while self.first.count_left() == 0 {
-            let (packet, others) = self.others.split_first()?;
-            self.first = packet.iter();
+            let (buffer, others) = self.others.split_first()?;
+            self.first = buffer.iter();
             self.others = others;
         }
         self.first.next()

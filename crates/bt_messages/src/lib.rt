@@ -2,8 +2,10 @@
 //!
 //! A message is sent to a key. What it makes of the value there, or of none, is its effect: a put gives its own value, a del
 //! gives none, an upsert what [`Merge::merge`] makes of the old value or of none. Values are rows, and the [`Entry`]s of an
-//! index. A [`Packet`] and a [`Buffer`] hold messages sorted by key, and those of one key in the order in which they came, so
-//! that the later one is the newer. Two upserts of a key stay two messages.
+//! index. A [`Packet`], which is sent on, and a [`Buffer`], in which messages wait, hold them sorted by key, and those of one key in
+//! the order in which they came, so that the later one is the newer. Two upserts of a key stay two messages. A buffer is one list.
+//! A packet lies in runs, lists of a few messages, one after the other: what goes down to another node goes as whole runs, and the
+//! room of each is given back when it is gone through, so that it is used again while it is near.
 //!
 //! ```text
 //! let mut batch = Vec::new(alloc);
@@ -23,6 +25,7 @@ mod joined;
 mod message;
 mod packet;
 mod places;
+mod runs;
 mod share;
 mod sorted;
 mod stream;

@@ -1,12 +1,12 @@
-//! Shares of a stream, moved to packets.
+//! Shares of a stream, moved to buffers.
 ghost use Rattle.std.specs.Prelude.{◌≡◌, ◌+◌, ◌<◌, ◌≤◌, ◌++◌, ◌^◌, IfOk, drop, length, take, vec_len, vec_capacity};
 ghost use Rattle.bt_keycode.specs.Keys.{IsSorted};
 ghost use Rattle.bt_messages.specs.Bins.{each_with, parted, total};
 ghost use Rattle.bt_messages.specs.Messages.{with_messages};
 ghost use Rattle.bt_messages.specs.Rooms.{HasRoom, HaveRoom};
 
+use crate::buffer::Buffer;
 use crate::message::{Merge, Message};
-use crate::packet::Packet;
 use crate::sorted;
 use crate::stream::Stream;
 use bt_keycode::Key;
@@ -14,20 +14,20 @@ use std::alloc::{AllocError, Global};
 use std::collections::VecDeque;
 use std::mem::replace;
 
-/// For each packet, room for what it holds and is to gain.
+/// For each buffer, room for what it holds and is to gain.
 pub(crate) fn room_for_each<V: Merge>(
     alloc: Global,
-    packets: &[Packet<V>],
+    buffers: &[Buffer<V>],
     shares: &[usize],
 ) -> Result<Vec<Vec<(Key, Message<V>)>>, AllocError>
-    requires len { length shares.now ≡ length packets.now }
+    requires len { length shares.now ≡ length buffers.now }
     requires bound { total shares.now < 2 ^ 63 }
-    ensures room { IfOk result (λ rooms. HaveRoom shares.now packets.now rooms.items) }
+    ensures room { IfOk result (λ rooms. HaveRoom shares.now buffers.now rooms.items) }
     ensures len { IfOk result (λ rooms. length rooms.items ≡ length shares.now) }
 {
     let mut rooms = Vec::with_capacity(alloc, shares.len())?;
     for place in 0..shares.len() {
-        let room = packets[place].room_with(alloc, shares[place])?;
+        let room = buffers[place].room_with(alloc, shares[place])?;
         rooms.push_reserved(room);
     }
     Ok(rooms)
@@ -103,48 +103,48 @@ fn merge_front<V: Merge>(
     merge_each(merged, older, stream, count)
 }
 
-/// Moves the first messages of a stream to a packet, whose messages then stand where room was made for all.
+/// Moves the first messages of a stream to a buffer, whose messages then stand where room was made for all.
 pub(crate) fn gain<V: Merge>(
     alloc: Global,
-    packet: &mut Packet<V>,
+    buffer: &mut Buffer<V>,
     room: &mut Vec<(Key, Message<V>)>,
     stream: &mut Stream<V>,
     count: usize,
 )
     requires count { count ≤ length stream.old }
-    requires room { HasRoom count packet.old room.old }
-    ensures gained { packet.new ≡ with_messages (take count stream.old) packet.old }
+    requires room { HasRoom count buffer.old room.old }
+    ensures gained { buffer.new ≡ with_messages (take count stream.old) buffer.old }
     ensures left { stream.new ≡ drop count stream.old }
 {
     if count == 0 {
         return;
     }
-    let older = replace(packet, Packet::new(alloc));
+    let older = replace(buffer, Buffer::new(alloc));
     let mut merged = replace(room, Vec::new(alloc));
     merge_front(&mut merged, older.into_messages(), stream, count);
-    *packet = Packet::from_sorted(merged);
+    *buffer = Buffer::from_sorted(merged);
 }
 
-/// Moves so many messages from the front of a stream to each packet, by way of the rooms.
+/// Moves so many messages from the front of a stream to each buffer, by way of the rooms.
 pub(crate) fn move_each<V: Merge>(
     alloc: Global,
-    packets: &mut Vec<Packet<V>>,
+    buffers: &mut Vec<Buffer<V>>,
     rooms: Vec<Vec<(Key, Message<V>)>>,
     stream: &mut Stream<V>,
     shares: &[usize],
 )
-    requires len { length shares.now ≡ length packets.old.items }
+    requires len { length shares.now ≡ length buffers.old.items }
     requires rooms_len { length rooms.items ≡ length shares.now }
     requires enough { total shares.now ≤ length stream.old }
-    requires room { HaveRoom shares.now packets.old.items rooms.items }
-    ensures moved { packets.new.items ≡ each_with (parted shares.now stream.old) packets.old.items }
+    requires room { HaveRoom shares.now buffers.old.items rooms.items }
+    ensures moved { buffers.new.items ≡ each_with (parted shares.now stream.old) buffers.old.items }
     ensures left { stream.new ≡ drop (total shares.now) stream.old }
 {
     let mut rooms = rooms;
     for place in 0..shares.len() {
         gain(
             alloc,
-            &mut packets[place],
+            &mut buffers[place],
             &mut rooms[place],
             stream,
             shares[place],

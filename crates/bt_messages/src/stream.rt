@@ -1,32 +1,39 @@
 //! Streams: sorted messages that are taken off at the front.
-ghost use Rattle.std.specs.Prelude.{◌≡◌, ◌+◌, ◌<◌, ◌≤◌, ◌^◌, ◌∷◌, ◌++◌, [], ℕ, true, IfOk, MatchOption, drop, length, take, vec_len, vec_capacity};
+ghost use Rattle.std.specs.Prelude.{◌≡◌, ◌+◌, ◌-◌, ◌<◌, ◌≤◌, ◌^◌, ◌∷◌, ◌++◌, [], ℕ, true, IfOk, MatchOption, OnOk, drop, length, slice_index_or, take, vec_len, vec_capacity};
 ghost use Rattle.bt_keycode.specs.Keys.{AllFrom, IsSorted};
-ghost use Rattle.bt_messages.specs.Bins.{AllBefore, parted, parts, total};
+ghost use Rattle.bt_messages.specs.Bins.{AllBefore, joined, parted, parts, total};
 ghost use Rattle.bt_messages.specs.Messages.{messages_before, messages_from, with_messages};
+ghost use Rattle.bt_messages.specs.Runs.{AreRuns, AreSome, begins_before};
 
+use crate::buffer::Buffer;
 use crate::message::{Merge, Message};
+use crate::packet::Packet;
 use bt_keycode::Key;
 use std::alloc::{AllocError, Global};
-use std::cmp::Ordering;
+use std::cmp::{Ordering, min};
 use std::collections::VecDeque;
 use std::marker::Model;
 
 /// Messages sorted by key, to be taken off at the front, those of one key in the order in which they came.
 #[derive(Drop)]
 pub struct Stream<V: Merge> {
-    messages: VecDeque<(Key, Message<V>)>,
+    first: VecDeque<(Key, Message<V>)>,
+    rest: VecDeque<Buffer<V>>,
+    // The number of messages of the rest.
+    later: usize,
 }
 
 impl<V: Merge> Model for Stream<V> {
-    ghost use Rattle.std.specs.Prelude.{List, ℕ};
-    ghost use Rattle.bt_keycode.specs.Keys.{IsSorted};
+    ghost use Rattle.std.specs.Prelude.{◌+◌, ◌++◌, List, length, ℕ};
+    ghost use Rattle.bt_messages.specs.Bins.{joined};
+    ghost use Rattle.bt_messages.specs.Runs.{AreRuns};
     ghost use Rattle.bt_messages.specs.declared.message.Message.{Message};
 
     ghost Value = { List (List ℕ × Message V V.Delta) };
 
-    ghost view = { λ s. s.messages.items };
+    ghost view = { λ s. s.first.items ++ joined s.rest.items };
 
-    ghost invariant = { λ s. IsSorted s.messages.items };
+    ghost invariant = { λ s. AreRuns s.first.items s.rest.items (length s.first.items + s.later) };
 }
 
 // How many of the messages have a key before this one.
@@ -39,32 +46,60 @@ fn place_of<V: Merge>(messages: &VecDeque<(Key, Message<V>)>, key: &Key) -> usiz
     messages.partition_point(|entry| entry.0.compare(key) == Ordering::Less)
 }
 
-// Moves the first messages.
-fn move_front<V: Merge>(
-    messages: &mut VecDeque<(Key, Message<V>)>,
-    count: usize,
-    into: &mut Vec<(Key, Message<V>)>,
-)
-    requires count { count ≤ length messages.old.items }
-    requires room { vec_len into.old + count ≤ vec_capacity into.old }
-    ensures moved { into.new.items ≡ into.old.items ++ take count messages.old.items }
-    ensures left { messages.new.items ≡ drop count messages.old.items }
+// How many runs begin before this key.
+fn runs_before<V: Merge>(runs: &VecDeque<Buffer<V>>, key: &Key) -> usize
+    requires some { AreSome runs.now.items }
+    requires sorted { IsSorted (joined runs.now.items) }
+    ensures bound { result ≤ length runs.now.items }
+    ensures last { 0 < result → begins_before key.now (slice_index_or runs.now.items (result - 1) []) ≡ true }
+    ensures from { AllFrom key.now (joined (drop result runs.now.items)) }
 {
-    for _ in 0..count {
-        if let Some(entry) = messages.pop_front() {
-            into.push_reserved(entry);
-        }
+    runs.partition_point(|run| run.begins_before(key))
+}
+
+// The number of messages of the first runs.
+fn count_of<V: Merge>(runs: &VecDeque<Buffer<V>>, count: usize) -> usize
+    requires count { count ≤ length runs.now.items }
+    requires bound { length (joined runs.now.items) < 2 ^ 63 }
+    ensures { result ≡ length (joined (take count runs.now.items)) }
+{
+    let mut messages = 0;
+    for run in 0..count {
+        messages += runs[run].count();
+    }
+    messages
+}
+
+// The next run takes the place of one of which no message is left.
+#[inline(never)]
+fn refill<V: Merge>(
+    first: &mut VecDeque<(Key, Message<V>)>,
+    rest: &mut VecDeque<Buffer<V>>,
+    later: &mut usize,
+)
+    requires none { length first.old.items ≡ 0 }
+    requires runs { AreRuns first.old.items rest.old.items (length first.old.items + later.old) }
+    ensures same { first.new.items ++ joined rest.new.items ≡ first.old.items ++ joined rest.old.items }
+    ensures runs { AreRuns first.new.items rest.new.items (length first.new.items + later.new) }
+    ensures led { length first.new.items ≡ 0 → first.new.items ++ joined rest.new.items ≡ [] }
+{
+    if let Some(next) = rest.pop_front() {
+        *later -= next.count();
+        *first = VecDeque::from(next.into_messages());
     }
 }
 
 impl<V: Merge> Stream<V> {
-    // Messages that are sorted already.
-    pub(crate) fn from_sorted(messages: Vec<(Key, Message<V>)>) -> Self
-        requires { IsSorted messages.items }
-        ensures { result ≡ messages.items }
+    // So many messages: those of the first list, and of the others behind it.
+    pub(crate) fn from_runs(first: Buffer<V>, rest: Vec<Buffer<V>>, count: usize) -> Self
+        requires { AreRuns first rest.items count }
+        ensures { result ≡ first ++ joined rest.items }
     {
+        let later = count - first.count();
         Stream {
-            messages: VecDeque::from(messages),
+            first: VecDeque::from(first.into_messages()),
+            rest: VecDeque::from(rest),
+            later,
         }
     }
 
@@ -74,15 +109,33 @@ impl<V: Merge> Stream<V> {
         ensures bound { result < 2 ^ 63 }
         ensures sorted { IsSorted self.now }
     {
-        self.messages.len()
+        self.first.len() + self.later
     }
 
     /// Takes off the first message, if there is one.
+    #[inline(always)]
     pub fn pop(&mut self) -> Option<(Key, Message<V>)>
         ensures first { MatchOption result ((self.old ≡ []) × (self.new ≡ [])) (λ m. self.old ≡ m ∷ self.new) }
         ensures sorted { IsSorted self.old }
     {
-        self.messages.pop_front()
+        if self.first.is_empty() {
+            refill(&mut self.first, &mut self.rest, &mut self.later);
+        }
+        self.first.pop_front()
+    }
+
+    // How many of the messages have a key before this one, found by halving: among the runs, and then in one of them.
+    fn place_of(&self, key: &Key) -> usize
+        ensures before { AllBefore key.now (take result self.now) }
+        ensures from { AllFrom key.now (drop result self.now) }
+    {
+        let runs = runs_before(&self.rest, key);
+        if runs == 0 {
+            return place_of(&self.first, key);
+        }
+        let last = runs - 1;
+        let before = count_of(&self.rest, last);
+        self.first.len() + before + self.rest[last].place_of(key)
     }
 
     // Where, from one place on and before another, the messages with a key before this one end.
@@ -94,7 +147,7 @@ impl<V: Merge> Stream<V> {
         ensures before { messages_before key.now (drop from (take to self.now)) ≡ drop from (take result self.now) }
         ensures from { messages_from key.now (drop from (take to self.now)) ≡ drop result (take to self.now) }
     {
-        let place = place_of(&self.messages, key);
+        let place = self.place_of(key);
         if place < from {
             return from;
         }
@@ -132,7 +185,87 @@ impl<V: Merge> Stream<V> {
         ensures moved { into.new.items ≡ into.old.items ++ take count self.old }
         ensures left { self.new ≡ drop count self.old }
     {
-        move_front(&mut self.messages, count, into)
+        for _ in 0..count {
+            if let Some(entry) = self.pop() {
+                into.push_reserved(entry);
+            }
+        }
+    }
+
+    // Takes off the next run as it is, where the stream stands at its start and it has no more messages than so many.
+    fn pop_run(&mut self, most: usize) -> Option<Buffer<V>>
+        ensures { MatchOption result (self.new ≡ self.old) (λ run. (self.old ≡ run ++ self.new) × (0 < length run) × (length run ≤ most)) }
+    {
+        if !self.first.is_empty() {
+            return None;
+        }
+        let next = self.rest.front()?;
+        if next.count() > most {
+            return None;
+        }
+        let run = self.rest.pop_front()?;
+        self.later -= run.count();
+        Some(run)
+    }
+
+    // Takes off so many messages, moved to a list of their own.
+    fn pop_part(&mut self, alloc: Global, count: usize) -> Result<Buffer<V>, AllocError>
+        requires { count ≤ length self.old }
+        ensures part { IfOk result (λ part. part ≡ take count self.old) }
+        ensures left { OnOk result (self.new ≡ drop count self.old) }
+    {
+        let _sorted = self.len();
+        let mut part = Vec::with_capacity(alloc, count)?;
+        self.move_front(count, &mut part);
+        Ok(Buffer::from_sorted(part))
+    }
+
+    // Takes off the next run, or as much of it as so many messages.
+    fn pop_some(&mut self, alloc: Global, most: usize) -> Result<Buffer<V>, AllocError>
+        requires some { 0 < most }
+        requires enough { most ≤ length self.old }
+        ensures taken { IfOk result (λ run. self.old ≡ run ++ self.new) }
+        ensures some { IfOk result (λ run. 0 < length run) }
+        ensures few { IfOk result (λ run. length run ≤ most) }
+    {
+        if let Some(run) = self.pop_run(most) {
+            return Ok(run);
+        }
+        let led = self.first.len();
+        let count = if led == 0 { most } else { min(most, led) };
+        self.pop_part(alloc, count)
+    }
+
+    /// Takes off the first messages, as a packet: whole runs as they are, and moved what is left of the first run and goes of the
+    /// last. After an `Err` some may be gone.
+    pub fn take_front(&mut self, alloc: Global, count: usize) -> Result<Packet<V>, AllocError>
+        requires { count ≤ length self.old }
+        ensures taken { IfOk result (λ packet. packet ≡ take count self.old) }
+        ensures left { OnOk result (self.new ≡ drop count self.old) }
+    {
+        let _sorted = self.len();
+        let mut runs = Vec::new(alloc);
+        let mut left = count;
+        while left > 0 {
+            let run = self.pop_some(alloc, left)?;
+            left -= run.count();
+            runs.push(run)?;
+        }
+        Ok(Packet::from_runs(Buffer::new(alloc), runs, count))
+    }
+
+    // Whether the first message has a key before this one.
+    fn begins_before(&self, key: &Key) -> bool
+        ensures begins { result ≡ begins_before key.now self.now }
+        ensures sorted { IsSorted self.now }
+    {
+        if let Some(first) = self.first.front() {
+            return first.0.compare(key) == Ordering::Less;
+        }
+        match self.rest.front() {
+            Some(run) => run.begins_before(key),
+            None => false,
+        }
     }
 
     // Whether no message goes before one of these, since the first has a key at or past that of the last of these.
@@ -140,12 +273,10 @@ impl<V: Merge> Stream<V> {
         requires { IsSorted older.now }
         ensures { result ≡ true → (count : ℕ) → with_messages (take count self.now) older.now ≡ older.now ++ take count self.now }
     {
-        let Some(first) = self.messages.front() else {
-            return true;
-        };
-        let [.., last] = older else {
-            return true;
-        };
-        first.0.compare(&last.0) != Ordering::Less
+        let _sorted = self.len();
+        match older {
+            [.., last] => !self.begins_before(&last.0),
+            [] => true,
+        }
     }
 }

@@ -18,7 +18,7 @@ use crate::node::{Child, Kind, Node, Siblings};
 use crate::planning::flush_marks;
 use crate::shape::Shape;
 use crate::share::{beside, loads, with_front};
-use bt_messages::{Bins, Merge, Packet, Stream};
+use bt_messages::{Bins, Buffer, Merge, Stream};
 use std::alloc::{AllocError, Global};
 
 // Whether a node stays as it is, but for the messages in its bins: with those that come, none of its sizes is over the shape's.
@@ -74,7 +74,7 @@ fn send<V: Merge>(
     alloc: Global,
     shape: Shape,
     node: Node<V>,
-    pending: Packet<V>,
+    pending: Buffer<V>,
     stream: &mut Stream<V>,
     share: usize,
 ) -> Result<Siblings<V>, AllocError>
@@ -87,9 +87,9 @@ fn send<V: Merge>(
     if pending.is_empty() {
         return absorb(alloc, shape, node, stream, share);
     }
-    let mut packet = with_front(alloc, pending, stream, share)?.into_stream();
-    let count = packet.len();
-    absorb(alloc, shape, node, &mut packet, count)
+    let mut all = with_front(alloc, pending, stream, share)?.into_stream();
+    let count = all.len();
+    absorb(alloc, shape, node, &mut all, count)
 }
 
 // Adds what becomes of a child that is flushed, with its share of what comes.

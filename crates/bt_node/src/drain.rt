@@ -13,7 +13,7 @@ use crate::group::{add_parts, group, leaves};
 use crate::node::{Child, Kind, Node, Siblings};
 use crate::shape::Shape;
 use crate::share::{beside, with_front};
-use bt_messages::{Merge, Packet, Stream};
+use bt_messages::{Buffer, Merge, Stream};
 use std::alloc::{AllocError, Global};
 
 // What becomes of a child that is drained: the messages that are pending for it go down, and its share of those that come. Where
@@ -23,7 +23,7 @@ fn drain_child<V: Merge>(
     alloc: Global,
     shape: Shape,
     node: Node<V>,
-    pending: Packet<V>,
+    pending: Buffer<V>,
     stream: &mut Stream<V>,
     share: usize,
 ) -> Result<Siblings<V>, AllocError>
@@ -35,9 +35,9 @@ fn drain_child<V: Merge>(
     if pending.is_empty() {
         return drain(alloc, shape, node, stream, share);
     }
-    let mut packet = with_front(alloc, pending, stream, share)?.into_stream();
-    let count = packet.len();
-    drain(alloc, shape, node, &mut packet, count)
+    let mut all = with_front(alloc, pending, stream, share)?.into_stream();
+    let count = all.len();
+    drain(alloc, shape, node, &mut all, count)
 }
 
 // What becomes of children that are drained one by one, from left to right, with their shares of what comes.

@@ -9,7 +9,7 @@ use crate::node::{Child, Node, Siblings};
 use crate::rows::Rows;
 use crate::shape::Shape;
 use bt_keycode::Key;
-use bt_messages::{Bins, Merge, Packet};
+use bt_messages::{Bins, Buffer, Merge};
 use std::alloc::{AllocError, Global};
 
 // A copy of the least key of some rows, or the empty key where there are none.
@@ -77,7 +77,7 @@ fn gather<V: Merge>(alloc: Global, part: Vec<Child<V>>) -> Result<(Key, Node<V>)
         bins.push_reserved(pending);
         children.push(pivot, node)?;
     }
-    let bins = Bins::from_packets(bins);
+    let bins = Bins::from_buffers(bins);
     Ok((pivot, Node::inner(children, bins)))
 }
 
@@ -117,7 +117,7 @@ pub(crate) fn add_parts<V: Merge>(
 {
     let mut parts = parts.into_pairs(pivot);
     while let Some((pivot, node)) = parts.next() {
-        let pending = Packet::new(alloc);
+        let pending = Buffer::new(alloc);
         children.push(Child {
             pivot,
             node,

@@ -24,7 +24,7 @@ ghost use Rattle.bt_node.specs.Lookups.{pivots_of};
 
 use crate::rows::Rows;
 use bt_keycode::Key;
-use bt_messages::{Bins, Merge, Packet};
+use bt_messages::{Bins, Buffer, Merge};
 use std::alloc::{AllocError, Global};
 use std::marker::Model;
 use std::mem;
@@ -300,5 +300,5 @@ impl<V: Merge> Pairs<V> {
 pub(crate) struct Child<V: Merge> {
     pub(crate) pivot: Key,
     pub(crate) node: Node<V>,
-    pub(crate) pending: Packet<V>,
+    pub(crate) pending: Buffer<V>,
 }

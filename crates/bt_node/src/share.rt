@@ -7,7 +7,7 @@ ghost use Rattle.bt_node.specs.inside.Views.{children_of};
 
 use crate::node::{Child, Siblings};
 use bt_keycode::Key;
-use bt_messages::{Bins, Merge, Packet, Stream};
+use bt_messages::{Bins, Buffer, Merge, Stream};
 use std::alloc::{AllocError, Global};
 
 /// Siblings as the children of one node, each with the messages of its bin.
@@ -19,10 +19,10 @@ pub(crate) fn beside<V: Merge>(
     ensures { IfOk result (λ children. children_of children.items ≡ beside siblings bins) }
 {
     let mut children = Vec::with_capacity(alloc, siblings.len())?;
-    let mut packets = bins.into_packets().into_iter();
+    let mut buffers = bins.into_buffers().into_iter();
     let mut siblings = siblings.into_pairs(Key::new());
     while let Some((pivot, node)) = siblings.next() {
-        let Some(pending) = packets.next() else {
+        let Some(pending) = buffers.next() else {
             return Ok(children);
         };
         children.push_reserved(Child {
@@ -56,12 +56,12 @@ pub(crate) fn loads<V: Merge>(
 /// Messages, and after those of their key the first ones of a stream, which are gone from it.
 pub(crate) fn with_front<V: Merge>(
     alloc: Global,
-    pending: Packet<V>,
+    pending: Buffer<V>,
     stream: &mut Stream<V>,
     count: usize,
-) -> Result<Packet<V>, AllocError>
+) -> Result<Buffer<V>, AllocError>
     requires { count ≤ length stream.old }
-    ensures packet { IfOk result (λ packet. packet ≡ with_messages (take count stream.old) pending) }
+    ensures all { IfOk result (λ all. all ≡ with_messages (take count stream.old) pending) }
     ensures left { OnOk result (stream.new ≡ drop count stream.old) }
 {
     let mut all = pending;

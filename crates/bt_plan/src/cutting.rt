@@ -17,14 +17,24 @@ ghost use Rattle.bt_plan.specs.Pieces as pieces;
 ghost use Rattle.bt_plan.specs.Views.{IsCut, job_of, place_of};
 ghost use Rattle.bt_plan.specs.declared.job.Mode.TheVariants.{Absorb};
 ghost use Rattle.bt_plan.specs.inside.Cutting.{AreSizedNodes, cut_each, cut_job, kept_bins, sent};
+ghost use Rattle.bt_plan.specs.inside.Entering.{entered_job};
 
 use crate::holed::{Holed, HoledNode};
 use crate::job::{Job, Mode, Place};
 use crate::planning::plan;
 use arrayvec::ArrayVec;
-use bt_messages::{Bins, Merge, Packet, Stream};
+use bt_messages::{Bins, Buffer, Merge, Packet, Stream};
 use bt_node::{Node, Parts, Shape, Siblings, Tree};
 use std::alloc::{AllocError, Global};
+
+// A node that messages enter, with those that were pending for it.
+#[derive(Drop)]
+struct Entered<V: Merge> {
+    place: Place,
+    node: Node<V>,
+    pending: Buffer<V>,
+    mode: Mode,
+}
 
 // The same mark for so many children.
 fn same_marks(mark: bool, count: usize) -> ArrayVec<bool, 64>
@@ -77,38 +87,69 @@ fn flush_marks(mode: Mode, shape: Shape, loads: &[u64]) -> ArrayVec<bool, 64>
     }
 }
 
-// Moves the node of a job out of its tree, with the messages that it has and, after those, the first ones of a stream, and leaves a hole.
+// Messages and, after those of their key, the first ones of a stream, as a packet. Where there are none before these, whole runs of
+// the stream go into it.
+fn packet_of<V: Merge>(
+    alloc: Global,
+    pending: Buffer<V>,
+    stream: &mut Stream<V>,
+    count: usize,
+) -> Result<Packet<V>, AllocError>
+    requires { count ≤ length stream.old }
+    ensures packet { IfOk result (λ packet. packet ≡ with_messages (take count stream.old) pending) }
+    ensures left { OnOk result (stream.new ≡ drop count stream.old) }
+{
+    let _in_order = stream.len();
+    if pending.is_empty() {
+        return stream.take_front(alloc, count);
+    }
+    let mut all = pending;
+    all.add_front(alloc, stream, count)?;
+    Ok(Packet::from_buffer(alloc, all))
+}
+
+// Moves a node out of its tree, with the messages that it has and, after those, the first ones of a stream, as a job, and leaves a hole.
 fn move_out<V: Merge>(
     alloc: Global,
-    job: Job<V>,
+    entered: Entered<V>,
     stream: &mut Stream<V>,
     count: usize,
     jobs: &mut Vec<Job<V>>,
 ) -> Result<HoledNode<V>, AllocError>
     requires enough { count ≤ length stream.old }
-    ensures hole { IfOk result (λ hole. hole ≡ pieces.hole (place_of job.place)) }
-    ensures job { OnOk result (map job_of jobs.new.items ≡ map job_of jobs.old.items ++ sent (take count stream.old) (job_of job) ∷ []) }
+    ensures hole { IfOk result (λ hole. hole ≡ pieces.hole (place_of entered.place)) }
+    ensures job { OnOk result (map job_of jobs.new.items ≡ map job_of jobs.old.items ++ sent (take count stream.old) (entered_job entered) ∷ []) }
     ensures left { OnOk result (stream.new ≡ drop count stream.old) }
 {
-    let mut job = job;
-    job.packet.add_front(alloc, stream, count)?;
-    let hole = HoledNode::hole(job.place.copy());
-    jobs.push(job)?;
+    let Entered {
+        place,
+        node,
+        pending,
+        mode,
+    } = entered;
+    let packet = packet_of(alloc, pending, stream, count)?;
+    let hole = HoledNode::hole(place.copy());
+    jobs.push(Job {
+        place,
+        node,
+        packet,
+        mode,
+    })?;
     Ok(hole)
 }
 
 // Messages and, after those of their key, the first ones of a stream, as a stream of their own.
 fn with_front<V: Merge>(
     alloc: Global,
-    packet: Packet<V>,
+    pending: Buffer<V>,
     stream: &mut Stream<V>,
     count: usize,
 ) -> Result<Stream<V>, AllocError>
     requires { count ≤ length stream.old }
-    ensures all { IfOk result (λ all. all ≡ with_messages (take count stream.old) packet) }
+    ensures all { IfOk result (λ all. all ≡ with_messages (take count stream.old) pending) }
     ensures left { OnOk result (stream.new ≡ drop count stream.old) }
 {
-    let mut all = packet;
+    let mut all = pending;
     all.add_front(alloc, stream, count)?;
     Ok(all.into_stream())
 }
@@ -116,22 +157,22 @@ fn with_front<V: Merge>(
 // A child that is not flushed, and what is in its bin then.
 fn keep<V: Merge>(
     alloc: Global,
-    child: Job<V>,
+    child: Entered<V>,
     stream: &mut Stream<V>,
     share: usize,
-) -> Result<(HoledNode<V>, Packet<V>), AllocError>
+) -> Result<(HoledNode<V>, Buffer<V>), AllocError>
     requires enough { share ≤ length stream.old }
     ensures node { IfOk result (λ kept. kept.0 ≡ pieces.whole child.node) }
-    ensures bin { IfOk result (λ kept. kept.1 ≡ with_messages (take share stream.old) child.packet) }
+    ensures bin { IfOk result (λ kept. kept.1 ≡ with_messages (take share stream.old) child.pending) }
     ensures left { OnOk result (stream.new ≡ drop share stream.old) }
 {
-    let Job {
+    let Entered {
         place: _place,
         node,
-        packet,
+        pending,
         mode: _mode,
     } = child;
-    let mut bin = packet;
+    let mut bin = pending;
     bin.add_front(alloc, stream, share)?;
     Ok((HoledNode::whole(node), bin))
 }
@@ -142,25 +183,25 @@ fn cut_child<V: Merge>(
     alloc: Global,
     shape: Shape,
     depth: usize,
-    child: Job<V>,
+    child: Entered<V>,
     marked: bool,
     stream: &mut Stream<V>,
     share: usize,
     jobs: &mut Vec<Job<V>>,
-) -> Result<(HoledNode<V>, Packet<V>), AllocError>
+) -> Result<(HoledNode<V>, Buffer<V>), AllocError>
     requires sized { IsSized shape child.node }
     requires path { length child.place.path.items + depth ≤ 3 }
     requires enough { share ≤ length stream.old }
-    ensures child { IfOk result (λ cut. cut.0 ≡ with_holes hole_of (cond marked (cut_job depth shape (sent (take share stream.old) (job_of child))) (pieces.whole child.node))) }
-    ensures kept { IfOk result (λ cut. cut.1 ≡ cond marked [] (with_messages (take share stream.old) child.packet)) }
-    ensures jobs { OnOk result (map job_of jobs.new.items ≡ map job_of jobs.old.items ++ holes (cond marked (cut_job depth shape (sent (take share stream.old) (job_of child))) (pieces.whole child.node))) }
+    ensures child { IfOk result (λ cut. cut.0 ≡ with_holes hole_of (cond marked (cut_job depth shape (sent (take share stream.old) (entered_job child))) (pieces.whole child.node))) }
+    ensures kept { IfOk result (λ cut. cut.1 ≡ cond marked [] (with_messages (take share stream.old) child.pending)) }
+    ensures jobs { OnOk result (map job_of jobs.new.items ≡ map job_of jobs.old.items ++ holes (cond marked (cut_job depth shape (sent (take share stream.old) (entered_job child))) (pieces.whole child.node))) }
     ensures left { OnOk result (stream.new ≡ drop share stream.old) }
 {
     if !marked {
         return keep(alloc, child, stream, share);
     }
     let node = cut_node(alloc, shape, depth, child, stream, share, jobs)?;
-    Ok((node, Packet::new(alloc)))
+    Ok((node, Buffer::new(alloc)))
 }
 
 // The children of a node that is opened, cut one by one, and what is left in their bins.
@@ -192,16 +233,16 @@ fn cut_children<V: Merge>(
 {
     let mut children = Vec::with_capacity(alloc, nodes.len())?;
     let mut kept = Vec::with_capacity(alloc, nodes.len())?;
-    let mut packets = bins.into_packets().into_iter();
+    let mut buffers = bins.into_buffers().into_iter();
     let mut number = 0;
     for node in nodes {
-        let Some(packet) = packets.next() else {
+        let Some(pending) = buffers.next() else {
             unreachable!()
         };
-        let child = Job {
+        let child = Entered {
             place: place.child(number as u16),
             node,
-            packet,
+            pending,
             mode,
         };
         let (child, left) = cut_child(
@@ -218,7 +259,7 @@ fn cut_children<V: Merge>(
         kept.push_reserved(left);
         number += 1;
     }
-    Ok((children, Bins::from_packets(kept)))
+    Ok((children, Bins::from_buffers(kept)))
 }
 
 // Whether no child is flushed, since there is room for so many messages more.
@@ -296,53 +337,53 @@ fn open<V: Merge>(
     Ok(HoledNode::opened(children, pivots, bins))
 }
 
-// The node of a job and its messages, with the first ones of a stream after them, so many levels above the cut. Where the job has none, those of the stream
+// A node and the messages that it has, with the first ones of a stream after them, so many levels above the cut. Where it has none, those of the stream
 // stay there on the way down.
 #[cycle(cuts)]
 fn cut_node<V: Merge>(
     alloc: Global,
     shape: Shape,
     depth: usize,
-    job: Job<V>,
+    entered: Entered<V>,
     stream: &mut Stream<V>,
     count: usize,
     jobs: &mut Vec<Job<V>>,
 ) -> Result<HoledNode<V>, AllocError>
-    requires sized { IsSized shape job.node }
-    requires path { length job.place.path.items + depth ≤ 3 }
+    requires sized { IsSized shape entered.node }
+    requires path { length entered.place.path.items + depth ≤ 3 }
     requires enough { count ≤ length stream.old }
-    ensures holed { IfOk result (λ holed. holed ≡ with_holes hole_of (cut_job depth shape (sent (take count stream.old) (job_of job)))) }
-    ensures jobs { OnOk result (map job_of jobs.new.items ≡ map job_of jobs.old.items ++ holes (cut_job depth shape (sent (take count stream.old) (job_of job)))) }
+    ensures holed { IfOk result (λ holed. holed ≡ with_holes hole_of (cut_job depth shape (sent (take count stream.old) (entered_job entered)))) }
+    ensures jobs { OnOk result (map job_of jobs.new.items ≡ map job_of jobs.old.items ++ holes (cut_job depth shape (sent (take count stream.old) (entered_job entered)))) }
     ensures left { OnOk result (stream.new ≡ drop count stream.old) }
 {
     if depth == 0 {
-        return move_out(alloc, job, stream, count, jobs);
+        return move_out(alloc, entered, stream, count, jobs);
     }
     let _in_order = stream.len();
-    let Job {
+    let Entered {
         place,
         node,
-        packet,
+        pending,
         mode,
-    } = job;
+    } = entered;
     match node.apart() {
         Parts::Leaf(node) => {
-            let job = Job {
+            let leaf = Entered {
                 place,
                 node,
-                packet,
+                pending,
                 mode,
             };
-            move_out(alloc, job, stream, count, jobs)
+            move_out(alloc, leaf, stream, count, jobs)
         }
         Parts::Inner { children, bins } => {
             let below = depth - 1;
-            if packet.is_empty() {
+            if pending.is_empty() {
                 return open(
                     alloc, shape, below, mode, &place, children, bins, stream, count, jobs,
                 );
             }
-            let mut own = with_front(alloc, packet, stream, count)?;
+            let mut own = with_front(alloc, pending, stream, count)?;
             let count = own.len();
             open(
                 alloc, shape, below, mode, &place, children, bins, &mut own, count, jobs,
@@ -370,13 +411,14 @@ pub fn cut<V: Merge>(
 {
     let (shape, root) = tree.apart();
     let mut jobs = Vec::new(alloc);
-    let whole = Job {
+    let whole = Entered {
         place: Place::root(tree_number),
         node: root,
-        packet,
+        pending: Buffer::new(alloc),
         mode,
     };
-    let mut none = Packet::new(alloc).into_stream();
-    let root = cut_node(alloc, shape, depth, whole, &mut none, 0, &mut jobs)?;
+    let mut stream = packet.into_stream();
+    let count = stream.len();
+    let root = cut_node(alloc, shape, depth, whole, &mut stream, count, &mut jobs)?;
     Ok((Holed::new(shape, root), jobs))
 }

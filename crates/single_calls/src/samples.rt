@@ -201,7 +201,7 @@ pub(crate) fn packet_text<V: Sample>(
     packet: Packet<V>,
 ) -> Result<Vec<u8>, AllocError> {
     let mut out = Vec::new(alloc);
-    for (key, message) in packet.into_messages().as_slice() {
+    for (key, message) in packet.iter() {
         add_message(alloc, &mut out, key, message)?;
     }
     Ok(out)

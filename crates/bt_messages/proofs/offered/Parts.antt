@@ -129,14 +129,14 @@ module _ {M : Type 0} where
   joined_sorted [] (b ∷ c ∷ bs) h = absurd h
   joined_sorted (k ∷ ks) (b ∷ bs) h = sorted-joined k b (joined bs) h.0 h.1 h.2 (joined_sorted ks bs h.3)
 
-  kept_before : (k : List ℕ) (ms : Messages M) → AllBefore k (messages_before k ms)
+  pub kept_before : (k : List ℕ) (ms : Messages M) → AllBefore k (messages_before k ms)
   kept_before k [] = tt
   kept_before k (m ∷ ms) = elim (is_before m.0 k) as (λ b. is_before m.0 k ≡ b → AllBefore k (cond b (m ∷ messages_before k ms) (messages_before k ms))) [
     | true ↦ λ e. (e, kept_before k ms)
     | false ↦ λ e. kept_before k ms
   ] refl
 
-  kept_from : (k : List ℕ) (ms : Messages M) → AllFrom k (messages_from k ms)
+  pub kept_from : (k : List ℕ) (ms : Messages M) → AllFrom k (messages_from k ms)
   kept_from k [] = tt
   kept_from k (m ∷ ms) = elim (is_before m.0 k) as (λ b. is_before m.0 k ≡ b → AllFrom k (cond (not b) (m ∷ messages_from k ms) (messages_from k ms))) [
     | true ↦ λ e. kept_from k ms

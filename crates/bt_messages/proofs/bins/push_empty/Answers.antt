@@ -5,8 +5,8 @@ use Rattle.bt_messages.proofs.bins.push_empty.Goals as goal
 
 pub loop-preserved : goal.loop-preserved
 loop-preserved g c = record {
-  pushed = replicate_more c.args.count c.loop.counter _ c.loop.packets.items c.push_reserved.new.self.items _ c.loop-test.true c.loop.invariant.pushed
-      (c.push_reserved.ensures.items ∙ ap (λ x. c.loop.packets.items ++ x ∷ []) c.new.ensures);
+  pushed = replicate_more c.args.count c.loop.counter _ c.loop.buffers.items c.push_reserved.new.self.items _ c.loop-test.true c.loop.invariant.pushed
+      (c.push_reserved.ensures.items ∙ ap (λ x. c.loop.buffers.items ++ x ∷ []) c.new.ensures);
   len = grind (arith, common_steps);
   capacity = grind (arith, common_steps);
 }

@@ -7,7 +7,7 @@ merge_front-requires-clause-room g c =
     let merged : vec_len c.replace-merged.result ≡ length c.replace-merged.result.items = search rules in
     let older : vec_len c.into_messages.result ≡ length c.into_messages.result.items = search rules in
     let some : 0 < c.args.count = search rules in
-    fits_all c.args.room.now c.replace-merged.result c.into_messages.result c.args.packet.now c.args.count c.replace-merged.ensures.value
+    fits_all c.args.room.now c.replace-merged.result c.into_messages.result c.args.buffer.now c.args.count c.replace-merged.ensures.value
     (c.into_messages.ensures.messages ∙ c.replace-older.ensures.value) merged older c.requires.room some
 
 pub from_sorted-requires : goal.from_sorted-requires

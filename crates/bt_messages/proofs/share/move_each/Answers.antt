@@ -7,12 +7,12 @@ use Rattle.bt_messages.proofs.share.move_each.Goals as goal
 pub loop-place-preserved : goal.loop-place-preserved
 loop-place-preserved g c =
     let ns = c.args.shares.now in
-    let bs = c.loop-place.packets.items in
+    let bs = c.loop-place.buffers.items in
     let rs = c.loop-place.rooms.items in
     let i = c.loop-place.place in
     let n = get_or ns i 0 in
     let old = c.index_mut.result.now in
-    let new = c.gain.new.packet in
+    let new = c.gain.new.buffer in
     let room = c.index_mut-in-loop-place.result.now in
     let left = c.gain.new.room in
     let s = c.loop-place.stream in
@@ -48,7 +48,7 @@ gain-requires-clause-count g c = omega (arith, c.loop-place.invariant.enough, ap
 pub gain-requires-clause-room : goal.gain-requires-clause-room
 gain-requires-clause-room g c =
     let ns = c.args.shares.now in
-    let bs = c.loop-place.packets.items in
+    let bs = c.loop-place.buffers.items in
     let rs = c.loop-place.rooms.items in
     let i = c.loop-place.place in
     let n = get_or ns i 0 in
@@ -61,13 +61,13 @@ gain-requires-clause-room g c =
 
 pub returns : goal.returns
 returns g c =
-    let packets = c.loop-place.packets.items in
+    let buffers = c.loop-place.buffers.items in
     let place = c.loop-place.place in
     let none = drop_all place c.args.shares.now (omega (arith, c.loop-place-test.false)) in
-    let all : length packets ≤ place = omega (arith, c.loop-place-test.false, c.loop-place.invariant.len) in
+    let all : length buffers ≤ place = omega (arith, c.loop-place-test.false, c.loop-place.invariant.len) in
     record {
       moved =
-          sym (take_all place packets all) ∙ sym (append-nil (take place packets))
-          ∙ sym (ap (λ shares. take place packets ++ each_with (parted shares c.loop-place.stream) (drop place packets)) none) ∙ c.loop-place.invariant.moved;
+          sym (take_all place buffers all) ∙ sym (append-nil (take place buffers))
+          ∙ sym (ap (λ shares. take place buffers ++ each_with (parted shares c.loop-place.stream) (drop place buffers)) none) ∙ c.loop-place.invariant.moved;
       left = sym (ap (λ shares. drop (total shares) c.loop-place.stream) none) ∙ c.loop-place.invariant.left;
     }

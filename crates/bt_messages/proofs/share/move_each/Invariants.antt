@@ -5,10 +5,10 @@ use Rattle.bt_messages.proofs.share.move_each.Given as goal
 
 abbrev pub invariant-loop-place : goal.invariant-loop-place
 invariant-loop-place g l = record {
-  moved : take l.place l.packets.items ++ each_with (parted (drop l.place l.shares) l.stream) (drop l.place l.packets.items) ≡ each_with (parted l.shares l.fn.stream) l.fn.packets.items;
-  len : length l.shares ≡ length l.packets.items;
+  moved : take l.place l.buffers.items ++ each_with (parted (drop l.place l.shares) l.stream) (drop l.place l.buffers.items) ≡ each_with (parted l.shares l.fn.stream) l.fn.buffers.items;
+  len : length l.shares ≡ length l.buffers.items;
   rooms_len : length l.rooms.items ≡ length l.shares;
-  room : HaveRoom (drop l.place l.shares) (drop l.place l.packets.items) (drop l.place l.rooms.items);
+  room : HaveRoom (drop l.place l.shares) (drop l.place l.buffers.items) (drop l.place l.rooms.items);
   left : drop (total (drop l.place l.shares)) l.stream ≡ drop (total l.shares) l.fn.stream;
   enough : total (drop l.place l.shares) ≤ length l.stream;
 }

@@ -12,10 +12,10 @@ room_with-requires g c = omega (arith, c.requires.bound, part_of_total c.args.sh
 pub loop-place-preserved : goal.loop-place-preserved
 loop-place-preserved g c =
     let within : c.loop-place.place < length c.args.shares.now = c.loop-place-test.true in
-    let below : c.loop-place.place < length c.args.packets.now = omega (arith, within, c.requires.len) in
+    let below : c.loop-place.place < length c.args.buffers.now = omega (arith, within, c.requires.len) in
     record {
-      room = room_more c.loop-place.place c.args.shares.now c.args.packets.now c.loop-place.rooms.items c.push_reserved.new.self.items _ c.index-packets-place.result c.in_ok-room.room
-          c.loop-place.invariant.len within below (any_default c.args.shares.now c.loop-place.place 0 _ within) c.index-packets-place.is c.in_ok-room.ensures c.push_reserved.ensures.items c.loop-place.invariant.room;
+      room = room_more c.loop-place.place c.args.shares.now c.args.buffers.now c.loop-place.rooms.items c.push_reserved.new.self.items _ c.index-buffers-place.result c.in_ok-room.room
+          c.loop-place.invariant.len within below (any_default c.args.shares.now c.loop-place.place 0 _ within) c.index-buffers-place.is c.in_ok-room.ensures c.push_reserved.ensures.items c.loop-place.invariant.room;
       len = grind (arith, common_steps);
       capacity = grind (arith, common_steps);
     }
@@ -33,6 +33,6 @@ push_reserved-requires g c =
 
 pub returns : goal.returns
 returns g c = record {
-  room = subst (λ shares. HaveRoom shares c.args.packets.now c.loop-place.rooms.items) (take_all c.loop-place.place c.args.shares.now (omega (arith, c.loop-place-test.false))) c.loop-place.invariant.room;
+  room = subst (λ shares. HaveRoom shares c.args.buffers.now c.loop-place.rooms.items) (take_all c.loop-place.place c.args.shares.now (omega (arith, c.loop-place-test.false))) c.loop-place.invariant.room;
   len = omega (arith, c.loop-place.invariant.len, c.loop-place-test.false, c.loop-place.auto.place-end);
 }

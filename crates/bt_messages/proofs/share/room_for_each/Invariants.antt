@@ -4,7 +4,7 @@ use Rattle.bt_messages.proofs.share.room_for_each.Given as goal
 
 abbrev pub invariant-loop-place : goal.invariant-loop-place
 invariant-loop-place g l = record {
-  room : HaveRoom (take l.place l.shares) l.packets l.rooms.items;
+  room : HaveRoom (take l.place l.shares) l.buffers l.rooms.items;
   len : length l.rooms.items ≡ l.place;
   capacity : length l.shares ≤ vec_capacity l.rooms;
 }

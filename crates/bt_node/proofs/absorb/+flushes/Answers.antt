@@ -260,8 +260,8 @@ send-returns-then-is_empty-clause-siblings g t c =
 
 pub send-returns-clause-siblings : goal.send-returns-clause-siblings
 send-returns-clause-siblings g t c =
-    let packet = c.into_stream-packet.result in
-    let all = ap (λ n. take n packet) c.len-count.ensures.len ∙ take-length packet ∙ c.into_stream-packet.ensures ∙ c.in_ok-with_front.ensures.packet in
+    let stream = c.into_stream-all.result in
+    let all = ap (λ n. take n stream) c.len-count.ensures.len ∙ take-length stream ∙ c.into_stream-all.ensures ∙ c.in_ok-with_front.ensures.all in
     if_ok _ _ c.absorb-2.result (λ siblings e. e ∙ ap (absorb (effect_of g.V.Merge.merged) c.args.shape c.args.node) all) c.absorb-2.ensures.siblings
 
 pub send-returns-clause-left : goal.send-returns-clause-left

@@ -50,9 +50,9 @@ inner-requires g c =
     let e : c.args.part.items ≡ first ∷ rest = sym c.into_iter-part.ensures.rest ∙ c.in-Some.ensures.items ∙ ap (λ it. first ∷ it.rest.items) (sym c.into_iter-child-iterator.ensures.into_iter_gives) in
     let none : it.items ≡ [] = nil_from_length it.items (omega (arith, it.ok.0, c.in-None.ensures.steps.0)) in
     let all = all_taken first rest it.items none c.in_ok-children.children c.loop-child.children c.in_ok-children.ensures c.loop-child.invariant.children in
-    let bins = c.from_packets-bins.ensures
+    let bins = c.from_buffers-bins.ensures
     ∙ all_bins first rest it.items none c.in_ok-bins.bins.items c.push_reserved.new.self.items c.loop-child.bins.items c.in_ok-bins.ensures.items c.push_reserved.ensures.items c.loop-child.invariant.bins in
-    gather_divided c.loop-child.children c.from_packets-bins.result c.args.part.items first rest e all bins c.requires.divided
+    gather_divided c.loop-child.children c.from_buffers-bins.result c.args.part.items first rest e all bins c.requires.divided
 
 pub returns : goal.returns
 returns g c =
@@ -62,6 +62,6 @@ returns g c =
     let e : c.args.part.items ≡ first ∷ rest = sym c.into_iter-part.ensures.rest ∙ c.in-Some.ensures.items ∙ ap (λ it. first ∷ it.rest.items) (sym c.into_iter-child-iterator.ensures.into_iter_gives) in
     let none : it.items ≡ [] = nil_from_length it.items (omega (arith, it.ok.0, c.in-None.ensures.steps.0)) in
     let all = all_taken first rest it.items none c.in_ok-children.children c.loop-child.children c.in_ok-children.ensures c.loop-child.invariant.children in
-    let bins = c.from_packets-bins.ensures
+    let bins = c.from_buffers-bins.ensures
     ∙ all_bins first rest it.items none c.in_ok-bins.bins.items c.push_reserved.new.self.items c.loop-child.bins.items c.in_ok-bins.ensures.items c.push_reserved.ensures.items c.loop-child.invariant.bins in
-    ap (λ t. (first.pivot, t)) c.inner.ensures ∙ gather_done c.loop-child.children c.from_packets-bins.result c.args.part.items first rest e all bins
+    ap (λ t. (first.pivot, t)) c.inner.ensures ∙ gather_done c.loop-child.children c.from_buffers-bins.result c.args.part.items first rest e all bins

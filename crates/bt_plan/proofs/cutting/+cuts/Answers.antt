@@ -217,8 +217,8 @@ cut_children-loop-node-preserved g t c =
     let node = c.in-Some.node in
     let nodes = c.loop-node.node-iterator.rest.items in
     let later = c.next.new.self.rest.items in
-    let packet = c.in-Some-next.packet in
-    let packets = into_iter_items c.loop-node.packets in
+    let pending = c.in-Some-next.pending in
+    let buffers = into_iter_items c.loop-node.buffers in
     let others = into_iter_items c.next-in-loop-node.new.self in
     let known = c.loop-node.invariant in
     let steps = c.in-Some.ensures.steps.0 in
@@ -227,9 +227,9 @@ cut_children-loop-node-preserved g t c =
     let some = ap length steps in
     let within : number < length shares = omega (arith, some, known.number, c.requires.shares) in
     let marked : number < length marks = omega (arith, some, known.number, c.requires.marks) in
-    let next = next_child c.args.depth c.args.mode c.args.shape place number node later nodes packet others packets shares ms rest marks (place_of c.child.result) steps here within marked cut.left
+    let next = next_child c.args.depth c.args.mode c.args.shape place number node later nodes pending others buffers shares ms rest marks (place_of c.child.result) steps here within marked cut.left
     c.child.ensures in
-    let bin = next_bin number packet others packets shares ms rest marks here within marked cut.left in
+    let bin = next_bin number pending others buffers shares ms rest marks here within marked cut.left in
     record {
       children = one_made_of (with_holes hole_of) _ _ _ _ _ _ _ c.push_reserved.ensures.items cut.child next known.children;
       kept = one_made _ _ _ _ _ _ _ c.push_reserved-in-loop-node.ensures.items cut.kept bin known.kept;
@@ -237,7 +237,7 @@ cut_children-loop-node-preserved g t c =
       left = left_after shares number ms rest _ within cut.left known.left;
       enough = enough_after shares number ms rest within cut.left known.enough;
       number = omega (arith, some, known.number);
-      packets = omega (arith, some, ap length here, known.packets);
+      buffers = omega (arith, some, ap length here, known.buffers);
       sized = sized_after c.args.depth c.args.mode c.args.shape place node later nodes steps known.sized;
       made = omega (arith, c.push_reserved.ensures.len, known.made);
       made_bins = omega (arith, c.push_reserved-in-loop-node.ensures.len, known.made_bins);
@@ -263,56 +263,56 @@ cut_node-open-requires-in-Inner g t c κs within =
 
 pub cut_node-returns-in-Leaf-clause-holed : goal.cut_node-returns-in-Leaf-clause-holed
 cut_node-returns-in-Leaf-clause-holed g t c =
-    let job = c.args.job in
-    let all = with_messages (take c.args.count c.args.stream.now) job.packet in
-    let leaf = leaf-cut c.args.depth job.mode c.args.shape (place_of job.place) job.node c.in-Leaf.node all c.in-Leaf.ensures.0 c.in-Leaf.ensures.1 in
+    let entered = c.args.entered in
+    let all = with_messages (take c.args.count c.args.stream.now) entered.pending in
+    let leaf = leaf-cut c.args.depth entered.mode c.args.shape (place_of entered.place) entered.node c.in-Leaf.node all c.in-Leaf.ensures.0 c.in-Leaf.ensures.1 in
     if_ok _ _ c.move_out-in-Leaf.result (λ h e. e ∙ ap (with_holes hole_of) (sym leaf)) c.move_out-in-Leaf.ensures.hole
 
 pub cut_node-returns-in-Leaf-clause-jobs : goal.cut_node-returns-in-Leaf-clause-jobs
 cut_node-returns-in-Leaf-clause-jobs g t c =
-    let job = c.args.job in
-    let all = with_messages (take c.args.count c.args.stream.now) job.packet in
-    let leaf = leaf-cut c.args.depth job.mode c.args.shape (place_of job.place) job.node c.in-Leaf.node all c.in-Leaf.ensures.0 c.in-Leaf.ensures.1 in
+    let entered = c.args.entered in
+    let all = with_messages (take c.args.count c.args.stream.now) entered.pending in
+    let leaf = leaf-cut c.args.depth entered.mode c.args.shape (place_of entered.place) entered.node c.in-Leaf.node all c.in-Leaf.ensures.0 c.in-Leaf.ensures.1 in
     on_then c.move_out-in-Leaf.result (λ e. e ∙ ap (λ h. map job_of c.args.jobs.now.items ++ holes h) (sym leaf)) c.move_out-in-Leaf.ensures.job
 
 pub cut_node-returns-then-is_empty-clause-holed : goal.cut_node-returns-then-is_empty-clause-holed
 cut_node-returns-then-is_empty-clause-holed g t c =
-    let job = c.args.job in
+    let entered = c.args.entered in
     let first = take c.args.count c.args.stream.now in
     let some : 1 ≤ c.args.depth = search rules in
-    let none = nothing_pending job.packet c.is_empty.result c.is_empty.ensures c.if-is_empty.true in
+    let none = nothing_pending entered.pending c.is_empty.result c.is_empty.ensures c.if-is_empty.true in
     let same = sym (ap (with_messages first) none ∙ alone first (sorted_take c.args.count c.args.stream.now c.len-in_order.ensures.sorted)) in
-    let told = inner-cut c.args.depth job.mode c.args.shape (place_of job.place) job.node c.in-Inner.children c.in-Inner.bins first (with_messages first job.packet) some c.in-Inner.ensures.0 same in
+    let told = inner-cut c.args.depth entered.mode c.args.shape (place_of entered.place) entered.node c.in-Inner.children c.in-Inner.bins first (with_messages first entered.pending) some c.in-Inner.ensures.0 same in
     if_ok _ _ c.open.result (λ h e. e ∙ ap (with_holes hole_of) told) c.open.ensures.holed
 
 pub cut_node-returns-then-is_empty-clause-jobs : goal.cut_node-returns-then-is_empty-clause-jobs
 cut_node-returns-then-is_empty-clause-jobs g t c =
-    let job = c.args.job in
+    let entered = c.args.entered in
     let first = take c.args.count c.args.stream.now in
     let some : 1 ≤ c.args.depth = search rules in
-    let none = nothing_pending job.packet c.is_empty.result c.is_empty.ensures c.if-is_empty.true in
+    let none = nothing_pending entered.pending c.is_empty.result c.is_empty.ensures c.if-is_empty.true in
     let same = sym (ap (with_messages first) none ∙ alone first (sorted_take c.args.count c.args.stream.now c.len-in_order.ensures.sorted)) in
-    let told = inner-cut c.args.depth job.mode c.args.shape (place_of job.place) job.node c.in-Inner.children c.in-Inner.bins first (with_messages first job.packet) some c.in-Inner.ensures.0 same in
+    let told = inner-cut c.args.depth entered.mode c.args.shape (place_of entered.place) entered.node c.in-Inner.children c.in-Inner.bins first (with_messages first entered.pending) some c.in-Inner.ensures.0 same in
     on_then c.open.result (λ e. e ∙ ap (λ h. map job_of c.args.jobs.now.items ++ holes h) told) c.open.ensures.jobs
 
 pub cut_node-returns-in_ok-own-in-Inner-clause-holed : goal.cut_node-returns-in_ok-own-in-Inner-clause-holed
 cut_node-returns-in_ok-own-in-Inner-clause-holed g t c =
-    let job = c.args.job in
+    let entered = c.args.entered in
     let first = take c.args.count c.args.stream.now in
     let own = c.in_ok-own-in-Inner.own in
     let some : 1 ≤ c.args.depth = search rules in
     let same = ap (λ n. take n own) c.len-count.ensures.len ∙ take-length own ∙ c.in_ok-own-in-Inner.ensures.all in
-    let told = inner-cut c.args.depth job.mode c.args.shape (place_of job.place) job.node c.in-Inner.children c.in-Inner.bins (take c.len-count.result own) (with_messages first job.packet) some
+    let told = inner-cut c.args.depth entered.mode c.args.shape (place_of entered.place) entered.node c.in-Inner.children c.in-Inner.bins (take c.len-count.result own) (with_messages first entered.pending) some
     c.in-Inner.ensures.0 same in
     if_ok _ _ c.open-in-Inner.result (λ h e. e ∙ ap (with_holes hole_of) told) c.open-in-Inner.ensures.holed
 
 pub cut_node-returns-in_ok-own-in-Inner-clause-jobs : goal.cut_node-returns-in_ok-own-in-Inner-clause-jobs
 cut_node-returns-in_ok-own-in-Inner-clause-jobs g t c =
-    let job = c.args.job in
+    let entered = c.args.entered in
     let first = take c.args.count c.args.stream.now in
     let own = c.in_ok-own-in-Inner.own in
     let some : 1 ≤ c.args.depth = search rules in
     let same = ap (λ n. take n own) c.len-count.ensures.len ∙ take-length own ∙ c.in_ok-own-in-Inner.ensures.all in
-    let told = inner-cut c.args.depth job.mode c.args.shape (place_of job.place) job.node c.in-Inner.children c.in-Inner.bins (take c.len-count.result own) (with_messages first job.packet) some
+    let told = inner-cut c.args.depth entered.mode c.args.shape (place_of entered.place) entered.node c.in-Inner.children c.in-Inner.bins (take c.len-count.result own) (with_messages first entered.pending) some
     c.in-Inner.ensures.0 same in
     on_then c.open-in-Inner.result (λ e. e ∙ ap (λ h. map job_of c.args.jobs.now.items ++ holes h) told) c.open-in-Inner.ensures.jobs

@@ -11,15 +11,15 @@ use Rattle.bt_plan.proofs.cutting.+cuts.Given as goal
 -- the children so far, and then those that are left with what is pending for them
 abbrev pub invariant-cut_children-loop-node : goal.invariant-cut_children-loop-node
 invariant-cut_children-loop-node g l = record {
-  children : l.children.items ++ map (with_holes hole_of) (cut_each l.depth l.mode l.shape (place_of l.place) l.number l.node-iterator.rest.items (each_with (parted (drop l.number l.shares) l.stream) (into_iter_items l.packets)) (drop l.number l.marks))
+  children : l.children.items ++ map (with_holes hole_of) (cut_each l.depth l.mode l.shape (place_of l.place) l.number l.node-iterator.rest.items (each_with (parted (drop l.number l.shares) l.stream) (into_iter_items l.buffers)) (drop l.number l.marks))
       ≡ map (with_holes hole_of) (cut_each l.fn.depth l.fn.mode l.fn.shape (place_of l.fn.place) 0 l.fn.nodes.items (each_with (parted l.fn.shares l.fn.stream) l.fn.bins) l.fn.marks);
-  kept : l.kept.items ++ kept_bins (each_with (parted (drop l.number l.shares) l.stream) (into_iter_items l.packets)) (drop l.number l.marks) ≡ kept_bins (each_with (parted l.fn.shares l.fn.stream) l.fn.bins) l.fn.marks;
-  jobs : map job_of l.jobs.items ++ flat_map holes (cut_each l.depth l.mode l.shape (place_of l.place) l.number l.node-iterator.rest.items (each_with (parted (drop l.number l.shares) l.stream) (into_iter_items l.packets)) (drop l.number l.marks))
+  kept : l.kept.items ++ kept_bins (each_with (parted (drop l.number l.shares) l.stream) (into_iter_items l.buffers)) (drop l.number l.marks) ≡ kept_bins (each_with (parted l.fn.shares l.fn.stream) l.fn.bins) l.fn.marks;
+  jobs : map job_of l.jobs.items ++ flat_map holes (cut_each l.depth l.mode l.shape (place_of l.place) l.number l.node-iterator.rest.items (each_with (parted (drop l.number l.shares) l.stream) (into_iter_items l.buffers)) (drop l.number l.marks))
       ≡ map job_of l.fn.jobs.items ++ flat_map holes (cut_each l.fn.depth l.fn.mode l.fn.shape (place_of l.fn.place) 0 l.fn.nodes.items (each_with (parted l.fn.shares l.fn.stream) l.fn.bins) l.fn.marks);
   left : drop (total (drop l.number l.shares)) l.stream ≡ drop (total l.fn.shares) l.fn.stream;
   enough : total (drop l.number l.shares) ≤ length l.stream;
   number : l.number + length l.node-iterator.rest.items ≡ length l.fn.nodes.items;
-  packets : length (into_iter_items l.packets) ≡ length l.node-iterator.rest.items;
+  buffers : length (into_iter_items l.buffers) ≡ length l.node-iterator.rest.items;
   sized : AreSizedNodes l.shape l.node-iterator.rest.items;
   made : vec_len l.children ≤ l.number;
   made_bins : vec_len l.kept ≤ l.number;

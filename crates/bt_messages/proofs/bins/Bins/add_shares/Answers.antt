@@ -19,10 +19,10 @@ pub move_each-requires-clause-enough : goal.move_each-requires-clause-enough
 move_each-requires-clause-enough g c = c.requires.enough
 
 pub move_each-requires-clause-room : goal.move_each-requires-clause-room
-move_each-requires-clause-room g c = subst (λ packets. HaveRoom c.args.shares.now packets c.in_ok-rooms.rooms.items) c.as_slice.ensures.value c.in_ok-rooms.ensures.room
+move_each-requires-clause-room g c = subst (λ buffers. HaveRoom c.args.shares.now buffers c.in_ok-rooms.rooms.items) c.as_slice.ensures.value c.in_ok-rooms.ensures.room
 
 pub invariant_of-self : goal.invariant_of-self
-invariant_of-self g c = c.count_all-self-inside.ensures ∙ ap (λ packets. total (map length packets)) c.as_slice-2.ensures.value
+invariant_of-self g c = c.count_all-self-inside.ensures ∙ ap (λ buffers. total (map length buffers)) c.as_slice-2.ensures.value
 
 pub returns-clause-added : goal.returns-clause-added
 returns-clause-added g c = c.move_each.ensures.moved ∙ ap (each_with (parted c.args.shares.now c.args.stream.now)) c.self.view_is

@@ -5,9 +5,9 @@ use Rattle.bt_messages.proofs.bins.Bins.take.Goals as goal
 pub overflow_sub-self : goal.overflow_sub-self
 overflow_sub-self g c =
     let below : c.args.child < length c.self.inside.bins.items = rw c.self.view_is c.requires in
-    (held-emptied c.self.inside.bins.items c.args.child c.index.result.now _ c.self.inside.count c.len.result below c.index.ensures c.len.ensures.count refl c.self.invariant).0
+    (held-emptied c.self.inside.bins.items c.args.child c.index.result.now _ c.self.inside.count c.count.result below c.index.ensures c.count.ensures.count refl c.self.invariant).0
 
 pub invariant_of-self : goal.invariant_of-self
 invariant_of-self g c =
     let below : c.args.child < length c.self.inside.bins.items = rw c.self.view_is c.requires in
-    (held-emptied c.self.inside.bins.items c.args.child c.index.result.now c.replace.new.dest c.self.inside.count c.len.result below c.index.ensures c.len.ensures.count (c.replace.ensures.after ∙ c.new.ensures) c.self.invariant).1
+    (held-emptied c.self.inside.bins.items c.args.child c.index.result.now c.replace.new.dest c.self.inside.count c.count.result below c.index.ensures c.count.ensures.count (c.replace.ensures.after ∙ c.new.ensures) c.self.invariant).1

@@ -1,5 +1,4 @@
 use Rattle.std.proofs.Common.{◌≡◌, ◌∙◌, [], ap, sym}
-use Rattle.std.proofs.lemmas.Result.{IfOk-weaker, on_err_weaker, on_ok_weaker}
 use Rattle.std.specs.Option.{option_copied}
 use Rattle.bt_messages.specs.Messages.{messages_between, messages_outside}
 use Rattle.bt_messages.proofs.offered.Totals.{nothing_pending}
@@ -7,21 +6,16 @@ use Rattle.bt_messages.proofs.buffer.Buffer.take_range.Goals as goal
 
 pub returns-then-is_empty-clause-taken : goal.returns-then-is_empty-clause-taken
 returns-then-is_empty-clause-taken g c =
-    let none : c.args.self.now ≡ [] = sym c.self.view_is ∙ nothing_pending c.self.inside.messages c.is_empty.result c.is_empty.ensures c.if-is_empty.true in
+    let none : c.args.self.now ≡ [] = nothing_pending c.args.self.now c.is_empty.result c.is_empty.ensures c.if-is_empty.true in
     c.new.ensures ∙ sym (ap (messages_between (option_copied c.args.from) (option_copied c.args.to)) none)
 
 pub returns-then-is_empty-clause-left : goal.returns-then-is_empty-clause-left
 returns-then-is_empty-clause-left g c =
-    let none : c.args.self.now ≡ [] = sym c.self.view_is ∙ nothing_pending c.self.inside.messages c.is_empty.result c.is_empty.ensures c.if-is_empty.true in
+    let none : c.args.self.now ≡ [] = nothing_pending c.args.self.now c.is_empty.result c.is_empty.ensures c.if-is_empty.true in
     none ∙ sym (ap (messages_outside (option_copied c.args.from) (option_copied c.args.to)) none)
 
 pub returns-clause-taken : goal.returns-clause-taken
-returns-clause-taken g c =
-    IfOk-weaker c.take_between.result _ _ (λ packet e. e ∙ ap (messages_between (option_copied c.args.from) (option_copied c.args.to)) c.self.view_is) c.take_between.ensures.taken
+returns-clause-taken g c = c.from_buffer.ensures ∙ c.from_sorted.ensures ∙ c.in_ok-taken.ensures.taken ∙ ap (messages_between (option_copied c.args.from) (option_copied c.args.to)) c.self.view_is
 
 pub returns-clause-left : goal.returns-clause-left
-returns-clause-left g c =
-    on_ok_weaker c.take_between.result (λ e. e ∙ ap (messages_outside (option_copied c.args.from) (option_copied c.args.to)) c.self.view_is) c.take_between.ensures.left
-
-pub returns-clause-err : goal.returns-clause-err
-returns-clause-err g c = on_err_weaker c.take_between.result (λ e. e ∙ c.self.view_is) c.take_between.ensures.err
+returns-clause-left g c = c.in_ok-taken.ensures.kept ∙ ap (messages_outside (option_copied c.args.from) (option_copied c.args.to)) c.self.view_is

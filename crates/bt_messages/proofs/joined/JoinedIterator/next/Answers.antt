@@ -10,8 +10,8 @@ pub loop-self-preserved : goal.loop-self-preserved
 loop-self-preserved g c =
     let others = c.loop-self.self-inside.others.now in
     let none = nil_from_length c.loop-self.self-inside.first (sym c.count_left.ensures ∙ c.loop-self-test.true) in
-    ap (λ ms. ms ++ joined c.in_ok-packet.others.now) c.iter-self-inside.ensures.messages
-    ∙ sym (ap joined c.in_ok-packet.ensures.cases.0) ∙ sym (ap (λ ms. ms ++ joined others) none) ∙ c.loop-self.invariant
+    ap (λ ms. ms ++ joined c.in_ok-buffer.others.now) c.iter-self-inside.ensures.messages
+    ∙ sym (ap joined c.in_ok-buffer.ensures.cases.0) ∙ sym (ap (λ ms. ms ++ joined others) none) ∙ c.loop-self.invariant
 
 pub loop-self-smaller : goal.loop-self-smaller
-loop-self-smaller g c = omega (arith, c.in_ok-packet.ensures.cases.1)
+loop-self-smaller g c = omega (arith, c.in_ok-buffer.ensures.cases.1)

@@ -1,7 +1,7 @@
 use Rattle.std.proofs.Common.{◌∙◌, ap, drop, rules, sym}
 use Rattle.bt_keycode.specs.Keys.{IsSorted}
 use Rattle.bt_messages.proofs.Cuts.{tail_sorted}
-use Rattle.bt_messages.proofs.packet.Packet.iter_from.Goals as goal
+use Rattle.bt_messages.proofs.buffer.Buffer.iter_from.Goals as goal
 
 pub of_sorted-requires : goal.of_sorted-requires
 of_sorted-requires g c =

@@ -1,7 +1,7 @@
 use Rattle.std.proofs.Common.{ap, arith, length}
 use Rattle.std.specs.Option.{option_copied}
 use Rattle.bt_messages.proofs.Cuts.{fewer_between}
-use Rattle.bt_messages.proofs.packet.Packet.iter_between.Goals as goal
+use Rattle.bt_messages.proofs.buffer.Buffer.iter_between.Goals as goal
 
 pub returns-clause-bound : goal.returns-clause-bound
 returns-clause-bound g c =

@@ -1,6 +1,6 @@
 use Rattle.std.proofs.Common.{◌≡◌, ◌+◌, ap, length, rules}
 use Rattle.bt_messages.proofs.Sharing.{new_room}
-use Rattle.bt_messages.proofs.packet.Packet.room_with.Goals as goal
+use Rattle.bt_messages.proofs.buffer.Buffer.room_with.Goals as goal
 
 pub returns : goal.returns
 returns g c =

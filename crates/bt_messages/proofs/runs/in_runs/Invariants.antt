@@ -1,0 +1,10 @@
+use Rattle.std.proofs.Common.{◌≡◌, ◌++◌}
+use Rattle.bt_messages.specs.Bins.{joined}
+use Rattle.bt_messages.specs.Runs.{AreSome}
+use Rattle.bt_messages.proofs.runs.in_runs.Given as goal
+
+abbrev pub invariant-loop-entry : goal.invariant-loop-entry
+invariant-loop-entry g l = record {
+  all : (joined l.runs.items ++ l.run.items) ++ l.entry-iterator.rest.items ≡ l.fn.messages.items;
+  some : AreSome l.runs.items;
+}
