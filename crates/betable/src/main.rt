@@ -36,7 +36,7 @@ fn names_no_file(alloc: Global, words: &Texts) -> bool {
 
 // Passes the words and the streams on. Replies leave through a buffer. At a terminal, who started the program is told what
 // it waits for; an error of that stream is let go.
-fn run<R, I, E>(rt: &R, input: I, errors: &mut E) -> Result<u8, ProgramFault>
+fn run<R, I, E>(rt: &R, input: I, errors: &mut Counted<E>) -> Result<u8, ProgramFault>
 where
     R: Env + Files + AllocGlobal + Print + Threads + Sync,
     I: Read + IsTerminal + Drop,
@@ -62,7 +62,7 @@ where
 }
 
 fn main(rt: HostRuntime) -> ExitCode {
-    let mut errors = rt.stderr();
+    let mut errors = Counted::new(rt.stderr());
     let status = match run(&rt, rt.reader(), &mut errors) {
         Ok(status) => status,
         Err(fault) => fault.report(&mut errors),

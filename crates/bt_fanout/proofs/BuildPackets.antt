@@ -7,7 +7,7 @@ use Rattle.bt_rowtype.specs.declared.value.Value.{Value}
 use Rattle.bt_rowtype.proofs.offered.SameValues.{same_values-sound}
 use Rattle.bt_messages.specs.Effects.{Rows, merged_entry, rows_after}
 use Rattle.bt_messages.specs.Messages.{Messages, sorted_batch}
-use Rattle.bt_fanout.specs.Covers.{is_covered, next_rows, put_of, puts_of}
+use Rattle.bt_fanout.specs.Covers.{is_covered, next_rows, put_of_entry, puts_of}
 use Rattle.bt_fanout.specs.Effects.{EntryMessage, entry_effect}
 use Rattle.bt_fanout.specs.Entries.{Definition, StandsUnder, entry_of, own_entry, same_values}
 use Rattle.bt_fanout.specs.Promises.{BuildsFrom, index_of, own_puts}
@@ -24,14 +24,14 @@ stand-take Stands (suc n) (r ∷ rows) h = (h.0, stand-take Stands n rows h.1)
 pub own_puts-are : (def : Definition) (kinds : List Kind) (rows : Rows (List Value)) → AllStand (StandsUnder def kinds) rows → own_puts def rows ≡ puts_of (entry_of def) rows
 own_puts-are def kinds [] h = refl
 own_puts-are def kinds (r ∷ rows) h =
-    ap (λ k. put_of (entry_of def k r.1) ++ own_puts def rows) h.0.under ∙ ap (λ ms. put_of (entry_of def r.0 r.1) ++ ms) (own_puts-are def kinds rows h.1)
+    ap (λ k. put_of_entry (entry_of def k r.1) ++ own_puts def rows) h.0.under ∙ ap (λ ms. put_of_entry (entry_of def r.0 r.1) ++ ms) (own_puts-are def kinds rows h.1)
 
 -- the puts of one row more
 pub one_more : (def : Definition) (rows : Rows (List Value)) (i : ℕ) (row : List ℕ × List Value) (whole old new : Messages EntryMessage) → i < length rows → row ≡ get_or rows i row →
-    whole ≡ old ++ own_puts def (drop i rows) → new ≡ old ++ put_of (own_entry def (Some row.1)) → whole ≡ new ++ own_puts def (drop (i + 1) rows)
+    whole ≡ old ++ own_puts def (drop i rows) → new ≡ old ++ put_of_entry (own_entry def (Some row.1)) → whole ≡ new ++ own_puts def (drop (i + 1) rows)
 one_more def rows i row whole old new within is so more =
     so ∙ ap (λ rs. old ++ own_puts def rs) (drop_more rows i row within ∙ ap (λ r. r ∷ drop (i + 1) rows) (sym is))
-    ∙ sym (append_assoc old (put_of (own_entry def (Some row.1))) (own_puts def (drop (i + 1) rows)))
+    ∙ sym (append_assoc old (put_of_entry (own_entry def (Some row.1))) (own_puts def (drop (i + 1) rows)))
     ∙ ap (λ ms. ms ++ own_puts def (drop (i + 1) rows)) (sym more)
 
 -- none are left

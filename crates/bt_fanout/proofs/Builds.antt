@@ -10,7 +10,7 @@ use Rattle.bt_keycode.specs.Keys.{is_before, key_cmp}
 use Rattle.bt_messages.specs.Messages.{sorted_batch}
 use Rattle.bt_keycode.proofs.offered.Order.{apart as apart_keys, before_chain, neither_before, not_after, not_before_itself, same_key}
 use Rattle.bt_messages.proofs.offered.Rows.{rows_after-sorted_batch}
-use Rattle.bt_fanout.specs.Covers.{cover_after, is_covered, last_key, moved_to, next_rows, put_of, puts_of}
+use Rattle.bt_fanout.specs.Covers.{cover_after, is_covered, last_key, moved_to, next_rows, put_of_entry, puts_of}
 use Rattle.bt_fanout.specs.Selections.{AllStand, AreApart, between, covered, entry_in, keys_of, select, sent}
 use Rattle.bt_fanout.specs.declared.cover.Cover.{Cover}
 use Rattle.bt_fanout.specs.declared.cover.Cover.TheVariants.{Nothing, UpTo, Whole}
@@ -194,7 +194,7 @@ module _ {X : Type 0} where
   ] refl
 
 module _ {X E D : Type 0} (entry : List ℕ → X → Option (List ℕ × E)) (same : E → E → Bool) where
-  put_of-is : (e : Option (List ℕ × E)) → put_of {D = D} e ≡ between {D = D} same None e
+  put_of-is : (e : Option (List ℕ × E)) → put_of_entry {D = D} e ≡ between {D = D} same None e
   put_of-is None = refl
   put_of-is (Some e) = refl
 
@@ -208,7 +208,7 @@ module _ {X E D : Type 0} (entry : List ℕ → X → Option (List ℕ × E)) (s
       let rest = sent entry {D = D} same (λ k. find key_cmp k old) (λ k. find key_cmp k new) (keys_of some) in
       let was : find key_cmp r.0 old ≡ None = (s r.0).1 (ap is_some f.0) in
       let is : find key_cmp r.0 new ≡ Some r.1 = (s r.0).0 ∙ ap (λ y. cond (is_some y) y (find key_cmp r.0 old)) f.0 in
-      ap (λ ms. put_of {D = D} (entry r.0 r.1) ++ ms) (puts_are_sent cover next rows read s some f.1)
+      ap (λ ms. put_of_entry {D = D} (entry r.0 r.1) ++ ms) (puts_are_sent cover next rows read s some f.1)
       ∙ ap (λ m. m ++ rest) (put_of-is (entry r.0 r.1))
       ∙ ap (λ x. between {D = D} same (entry_in entry r.0 x) (entry r.0 r.1) ++ rest) (sym was)
       ∙ ap (λ x. between {D = D} same (entry_in entry r.0 (find key_cmp r.0 old)) (entry_in entry r.0 x) ++ rest) (sym is)

@@ -15,7 +15,7 @@ use Rattle.bt_messages.specs.Messages.{Messages}
 use Rattle.bt_keycode.proofs.offered.Order.{apart as apart_keys, neither_before, not_before_itself, same_key, total_keys}
 use Rattle.bt_messages.proofs.offered.Rows.{find-rows_after, value_before}
 use Rattle.bt_fanout.specs.Effects.{RowMessage, effects_at, effects_of, row_effect}
-use Rattle.bt_fanout.specs.Groups.{behind_group, value_of_group}
+use Rattle.bt_fanout.specs.inside.Groups.{behind_group, value_of_group}
 use Rattle.bt_fanout.specs.Selections.{named}
 use Rattle.bt_fanout.specs.declared.effect.Effect.{Effect}
 use Rattle.bt_fanout.proofs.Lookups.{equal_itself, t_first, t_second}

@@ -2,7 +2,7 @@
 use Rattle.std.proofs.Common.{◌≡◌, ◌<◌, ◌+◌, ◌++◌, ℕ, false, List, [], ◌∷◌, ap, append_assoc, sym, ◌∙◌, drop, get_or, length, slice_get, Some}
 use Rattle.std.proofs.lemmas.List.{drop_more}
 use Rattle.std.proofs.lemmas.Option.{get_or_from_slice_get}
-use Rattle.bt_rowtype.specs.Packing.{HasText, IsInRange}
+use Rattle.bt_rowtype.specs.Values.{HasText, IsInRange}
 use Rattle.bt_rowtype.specs.declared.value.Value.{Value}
 use Rattle.bt_rowtype.specs.declared.value.Value.TheVariants as value
 use Rattle.bt_fanout.specs.Entries.{picked, value_in}

@@ -8,10 +8,10 @@ use Rattle.std.proofs.lemmas.List.Elements.{All-head, All-tail, All-weaker, All-
 use Rattle.std.proofs.lemmas.List.Sums.{AllPass-from_list_all, list_all-from_AllPass}
 use Rattle.bt_rowtype.specs.declared.value.Value.{Value}
 use Rattle.bt_messages.specs.Effects.{Rows}
-use Rattle.bt_fanout.specs.Covers.{cover_after, is_covered, last_key, next_cover, next_rows, put_of}
+use Rattle.bt_fanout.specs.Covers.{cover_after, is_covered, last_key, next_cover, next_rows, put_of_entry}
 use Rattle.bt_fanout.specs.Entries.{Definition, HasPlace, IsWithin, has_place, is_within, own_entry}
 use Rattle.bt_fanout.specs.Promises.{own_puts}
-use Rattle.bt_fanout.specs.Readings.{RowsRead, and_row, cover_behind, entry_within, moved_by, none_read, with_row}
+use Rattle.bt_fanout.specs.inside.Readings.{RowsRead, and_row, cover_behind, entry_within, moved_by, none_read, with_row}
 use Rattle.bt_fanout.specs.Selections.{covered}
 use Rattle.bt_fanout.specs.declared.cover.Cover.{Cover}
 use Rattle.bt_fanout.specs.declared.cover.Cover.TheVariants.{UpTo, Whole}
@@ -78,8 +78,8 @@ module _ (def : Definition) where
   messages_read read [] h = sym (append-nil read.messages)
   messages_read read (r ∷ rows) h =
       messages_read (with_row def read r) rows (All-tail HasPlaces r rows h)
-      ∙ append_assoc read.messages (put_of (entry_within def r.1)) (own_puts def rows)
-      ∙ ap (λ e. read.messages ++ (put_of e ++ own_puts def rows)) (entry_is r.1 (All-head HasPlaces r rows h))
+      ∙ append_assoc read.messages (put_of_entry (entry_within def r.1)) (own_puts def rows)
+      ∙ ap (λ e. read.messages ++ (put_of_entry e ++ own_puts def rows)) (entry_is r.1 (All-head HasPlaces r rows h))
 
   left_read : (read : RowsRead) (rows : Rows (List Value)) → (fold (with_row def) read rows).left ≡ read.left - length rows
   left_read read [] = omega arith

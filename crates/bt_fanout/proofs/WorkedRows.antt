@@ -5,8 +5,7 @@ use Rattle.bt_rowtype.specs.declared.value.Kind.{Kind}
 use Rattle.bt_rowtype.specs.declared.value.Kind.TheVariants as kind
 use Rattle.bt_rowtype.specs.declared.value.Value.{Value}
 use Rattle.bt_rowtype.specs.declared.value.Value.TheVariants as value
-use Rattle.bt_keycode.specs.Codes.{code_of}
-use Rattle.bt_keycode.specs.Prefixes.{eight_bytes}
+use Rattle.bt_keycode.specs.Codes.{code_of, eight_bytes}
 use Rattle.bt_messages.specs.Effects.{Rows, rows_after}
 use Rattle.bt_messages.specs.Messages.{Messages, messages_between, sorted_batch}
 use Rattle.bt_messages.specs.declared.message.Message.TheVariants.{Put, Del}
@@ -15,7 +14,7 @@ use Rattle.bt_fanout.specs.Effects.{EntryMessage, RowMessage, entry_effect, row_
 use Rattle.bt_fanout.specs.Entries.{Definition, StandsUnder, SuitsKinds, entry_of, same_values}
 use Rattle.bt_fanout.specs.Promises.{index_of}
 use Rattle.bt_fanout.specs.Selections.{AllStand, index_messages}
-use Rattle.bt_fanout.specs.Readings.{none_read, with_row}
+use Rattle.bt_fanout.specs.inside.Readings.{none_read, with_row}
 use Rattle.bt_fanout.specs.declared.cover.Cover.{Cover}
 use Rattle.bt_fanout.specs.declared.cover.Cover.TheVariants.{Nothing, UpTo, Whole}
 use Rattle.bt_fanout.proofs.offered.Suiting.{all_more, all_none}

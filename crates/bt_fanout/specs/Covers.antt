@@ -44,11 +44,11 @@ abbrev pub cover_after : {X : Type 0} → ℕ → Cover → Rows X → Cover
 cover_after n cover rows = next_cover n cover (next_rows n cover rows)
 
 -- a put of an entry, if there is one
-abbrev pub put_of : {E D : Type 0} → Option (Key × E) → Messages (Message E D)
-put_of None = []
-put_of (Some e) = (e.0, Put e.1) ∷ []
+abbrev pub put_of_entry : {E D : Type 0} → Option (Key × E) → Messages (Message E D)
+put_of_entry None = []
+put_of_entry (Some e) = (e.0, Put e.1) ∷ []
 
 -- the entries of rows as puts
 abbrev pub puts_of : {X E D : Type 0} → (Key → X → Option (Key × E)) → Rows X → Messages (Message E D)
 puts_of entry [] = []
-puts_of entry (r ∷ rows) = put_of (entry r.0 r.1) ++ puts_of entry rows
+puts_of entry (r ∷ rows) = put_of_entry (entry r.0 r.1) ++ puts_of entry rows

@@ -2,7 +2,6 @@ pub mod Covers
 pub mod Definitions
 pub mod Effects
 pub mod Entries
-pub mod Groups
 pub mod Promises
-pub mod Readings
 pub mod Selections
+pub mod inside

@@ -6,7 +6,7 @@ use Rattle.bt_rowtype.specs.declared.value.Value.{Value}
 use Rattle.bt_keycode.specs.Keys.{key_cmp}
 use Rattle.bt_messages.specs.Effects.{Rows, rows_after}
 use Rattle.bt_messages.specs.Messages.{Messages, sorted_batch}
-use Rattle.bt_fanout.specs.Covers.{cover_after, is_covered, next_rows, put_of}
+use Rattle.bt_fanout.specs.Covers.{cover_after, is_covered, next_rows, put_of_entry}
 use Rattle.bt_fanout.specs.Effects.{EntryMessage, RowMessage, effects_of, entry_effect, row_effect}
 use Rattle.bt_fanout.specs.Entries.{Definition, StandsUnder, entry_of, own_entry, same_values}
 use Rattle.bt_fanout.specs.Selections.{AllStand, covered, index_messages, select}
@@ -35,7 +35,7 @@ TurnsIndex def cover effects packet =
 -- the entries of rows under their own keys as puts
 abbrev pub own_puts : Definition → Rows (List Value) → Messages EntryMessage
 own_puts def [] = []
-own_puts def (r ∷ rows) = put_of (own_entry def (Some r.1)) ++ own_puts def rows
+own_puts def (r ∷ rows) = put_of_entry (own_entry def (Some r.1)) ++ own_puts def rows
 
 -- where the rows are those that a step of building reads, the packet turns the index of the rows covered before it into that of the rows covered after it
 abbrev pub BuildsFrom : Definition → Rows (List Value) → Messages EntryMessage → Type 0

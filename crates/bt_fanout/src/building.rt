@@ -2,7 +2,7 @@
 ghost use Rattle.std.specs.Prelude.{◌≡◌, ◌++◌, IfOk, OnOk, length};
 ghost use Rattle.std.specs.List.{All};
 ghost use Rattle.bt_messages.specs.Messages.{sorted_batch};
-ghost use Rattle.bt_fanout.specs.Covers.{put_of};
+ghost use Rattle.bt_fanout.specs.Covers.{put_of_entry};
 ghost use Rattle.bt_fanout.specs.Entries.{IsWithin};
 ghost use Rattle.bt_fanout.specs.Promises.{BuildsFrom, own_puts};
 
@@ -18,7 +18,7 @@ pub(crate) fn add_put(
     messages: &mut Vec<(Key, Message<Entry>)>,
     entry: Option<(Key, Entry)>,
 ) -> Result<(), AllocError>
-    ensures { OnOk result (messages.new.items ≡ messages.old.items ++ put_of entry) }
+    ensures { OnOk result (messages.new.items ≡ messages.old.items ++ put_of_entry entry) }
 {
     match entry {
         Some((key, value)) => {

@@ -4,7 +4,7 @@ ghost use Rattle.std.specs.FinMap.{find};
 ghost use Rattle.bt_keycode.specs.Keys.{key_cmp};
 ghost use Rattle.bt_node.specs.Flushes.{holds};
 ghost use Rattle.bt_fanout.specs.Effects.{effects_of, row_effect};
-ghost use Rattle.bt_fanout.specs.Groups.{behind_group, value_of_group, with_next};
+ghost use Rattle.bt_fanout.specs.inside.Groups.{behind_group, value_of_group, with_next};
 ghost use Rattle.bt_fanout.specs.Selections.{named};
 
 use crate::effect::Effect;

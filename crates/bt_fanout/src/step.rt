@@ -7,7 +7,7 @@ ghost use Rattle.bt_fanout.specs.Covers.{cover_after, next_rows};
 ghost use Rattle.bt_fanout.specs.Effects.{row_effect};
 ghost use Rattle.bt_fanout.specs.Entries.{IsWithin};
 ghost use Rattle.bt_fanout.specs.Promises.{BuildsFrom, own_puts};
-ghost use Rattle.bt_fanout.specs.Readings as spec;
+ghost use Rattle.bt_fanout.specs.inside.Readings as spec;
 
 use crate::building::add_put;
 use crate::cover::{Cover, copy_cover, next_key};
@@ -40,7 +40,7 @@ struct Builder<'a> {
 
 impl<'a> Model for Builder<'a> {
     ghost use Rattle.bt_fanout.specs.Entries.{Definition};
-    ghost use Rattle.bt_fanout.specs.Readings.{RowsRead};
+    ghost use Rattle.bt_fanout.specs.inside.Readings.{RowsRead};
 
     ghost Value = { Definition × RowsRead };
 

@@ -1,8 +1,7 @@
 -- From the answers that came in to what a run of all jobs promises.
-use Rattle.std.proofs.Common.{◌≡◌, ◌≢◌, ℕ, zero, suc, ◌<◌, ◌≤◌, List, [], ◌∷◌, ◌++◌, All, length, set, map, replicate, Vec, Global, Option, Some, None, IfSome, Result, Ok, Err, sym, refl, ap, ◌∙◌, subst, ⊎_elim, append_assoc, append-nil, arith}
-use Rattle.std.proofs.lemmas.List.{length-set, length-replicate, get_or-replicate}
+use Rattle.std.proofs.Common.{◌≡◌, ◌≢◌, ℕ, zero, suc, ◌+◌, ◌<◌, ◌≤◌, List, [], ◌∷◌, ◌++◌, length, set, map, get_or, replicate, Vec, Global, Option, Some, None, IfSome, Result, Ok, Err, sym, refl, ap, ◌∙◌, subst, ⊎_elim, append_assoc, append-nil, arith}
+use Rattle.std.proofs.lemmas.List.{length-set, length-replicate, get_or-replicate, map-append, replicate_more}
 use Rattle.std.proofs.lemmas.Bool.Decides.{nat_tests}
-use Rattle.std.proofs.lemmas.List.Elements.{All-head, All-rest}
 use mathlib.Core.Option.{some, some-ne-none, some-injective}
 use lib.ListN.{get_elem?}
 use Rattle.crossbeam_queue.proofs.Lists.{at_set}
@@ -10,12 +9,18 @@ use Rattle.bt_gang.specs.declared.answers.Answer.{Answer}
 use Rattle.bt_gang.specs.declared.answers.Answers.{Answers}
 use Rattle.bt_gang.specs.Numbers.{is_it, joined, times, once_below}
 use Rattle.bt_gang.specs.Numbered.{numbered}
-use Rattle.bt_gang.specs.Answers.{MayAnswer, AllMay, AllBelow, puts, ok_slots, answers_in, numbers_in}
+use Rattle.bt_gang.specs.Answers.{MayAnswer, AllMay}
+use Rattle.bt_gang.specs.inside.Places.{AllBelow, Filled, IsFaultAmong, IsFull, puts, ok_slots, answers_in, numbers_in}
+use Rattle.bt_gang.specs.inside.Workers.{AllFrom, HasServed, out_of}
+use Rattle.bt_gang.specs.declared.jobs.Jobs.{Jobs}
+use Rattle.bt_gang.specs.declared.workers.Worker.{Worker}
 use Rattle.bt_gang.specs.declared.run.GangFault.{GangFault}
-use Rattle.bt_gang.specs.declared.run.GangFault.TheVariants.{OutOfMemory}
-use Rattle.bt_gang.specs.Run.{Filled, Answered, AreValues, AllRun, EachOnce, IsLeast, listed}
+use Rattle.bt_gang.specs.declared.run.GangFault.TheVariants.{OutOfMemory, Job}
+use Rattle.bt_gang.specs.Board.{start}
+use Rattle.bt_gang.specs.Crews.{most_workers}
+use Rattle.bt_gang.specs.Run.{Answered, AreAllTaken, AreValues, EachOnce, HasAnswers, IsLeast, number_lists}
 use Rattle.bt_gang.proofs.Numbers.{total-append, times-below, at_below}
-use Rattle.bt_gang.proofs.Rules.{at_most_once, below_once}
+use Rattle.bt_gang.proofs.Rules.{at_most_once, below_once, empty_list}
 use Rattle.bt_gang.proofs.Serving.{numbered-append, may-append, read_at}
 
 abbrev value_or : {A : Type 0} → A → Option A → A
@@ -59,6 +64,15 @@ module _ {D F : Type 0} where
   below-back n [] ys all = all
   below-back n (x ∷ xs) ys all = below-back n xs ys all.1
 
+  ok_there : (ds : List D) (i : ℕ) → ¬ (get_elem? (ok_slots {F = F} ds) i ≡ some None)
+  ok_there [] i none = some-ne-none None (sym none)
+  ok_there (d ∷ ds) zero none = subst HasValue (some-injective (Some (Ok d)) None none) tt
+  ok_there (d ∷ ds) (suc i) none = ok_there ds i none
+
+  -- where each place has a value, none is empty
+  pub ok_full : (slots : List (Option (Result D F))) (ds : List D) → slots ≡ ok_slots ds → IsFull slots
+  ok_full slots ds e i none = ok_there ds i (ap (λ l. get_elem? l i) (sym e) ∙ none)
+
   numbers_of_one : (o : Option (Answers D F)) → numbered (answers_in o) ≡ numbers_in o
   numbers_of_one None = refl
   numbers_of_one (Some a) = refl
@@ -73,15 +87,12 @@ module _ {J D F : Type 0} (allows : J → Result D F → Type 0) where
   below_all jobs n [] e all = tt
   below_all jobs n (x ∷ xs) e all = (let l = at_below jobs x.number all.0.0 all.0.1 in omega arith, below_all jobs n xs e all.1)
 
-  may_one : (jobs : List J) (o : Option (Answers D F)) → IfSome o (λ a. AllMay allows jobs a.list.items) → AllMay allows jobs (answers_in o)
-  may_one jobs None all = tt
-  may_one jobs (Some a) all = all
-
-  pub may_joined : (jobs : List J) (outs : List (Option (Answers D F))) → All (λ o. IfSome o (λ a. AllMay allows jobs a.list.items)) outs → AllMay allows jobs (joined (map answers_in outs))
-  may_joined jobs [] all = tt
-  may_joined jobs (o ∷ os) all =
-      let P : Option (Answers D F) → Type 0 = λ o. IfSome o (λ a. AllMay allows jobs a.list.items) in
-      may-append allows jobs (answers_in o) (joined (map answers_in os)) (may_one jobs o (All-head P o os all)) (may_joined jobs os (All-rest P o os (o ∷ os) refl all))
+  -- each of the answers that came back is one that its job may give
+  pub may_back : (jobs : Jobs J) (all : List J) (first : ℕ) (workers : List (Option (Worker J D F))) → AllFrom (λ number w. IfSome w (HasServed allows jobs all [] number)) first workers
+      → AllMay allows all (joined (map answers_in (map out_of workers)))
+  may_back jobs all first [] served = tt
+  may_back jobs all first (None ∷ ws) served = may_back jobs all (suc first) ws served.1
+  may_back jobs all first (Some w ∷ ws) served = may-append allows all w.out.list.items (joined (map answers_in (map out_of ws))) served.0.may (may_back jobs all (suc first) ws served.1)
 
   filled_put : (jobs : List J) (slots : List (Option (Result D F))) (came : List ℕ) (n : ℕ) (v : Result D F) → Filled allows jobs slots came → MayAnswer allows jobs n v → Filled allows jobs (set slots n (Some v)) (came ++ n ∷ [])
   filled_put jobs slots came n v f may = record {
@@ -150,14 +161,14 @@ module _ {J D F : Type 0} (allows : J → Result D F → Type 0) where
   some_at (d ∷ ds) (suc i) l = some_at ds i (omega arith)
 
   -- where no place is empty, each has a value
-  full_at : (slots : List (Option (Result D F))) (i : ℕ) → ((k : ℕ) → ¬ (get_elem? slots k ≡ some None)) → i < length slots → (value : Result D F) × (get_elem? slots i ≡ some (Some value))
+  full_at : (slots : List (Option (Result D F))) (i : ℕ) → IsFull slots → i < length slots → (value : Result D F) × (get_elem? slots i ≡ some (Some value))
   full_at slots i full l = by (some_at slots i l).0 (some_at slots i l).1 where
     by : (o : Option (Result D F)) → get_elem? slots i ≡ some o → (value : Result D F) × (get_elem? slots i ≡ some (Some value))
     by None e = absurd (full i e)
     by (Some value) e = (value, e)
 
-  pub all_run : (jobs : List J) (slots : List (Option (Result D F))) (came : List ℕ) → Filled allows jobs slots came → ((k : ℕ) → ¬ (get_elem? slots k ≡ some None)) → AllRun allows jobs
-  all_run jobs slots came f full i l = let v = full_at slots i full (let s = f.size in omega arith) in (v.0, f.may i v.0 v.1)
+  pub has_answers : (jobs : List J) (slots : List (Option (Result D F))) (came : List ℕ) → Filled allows jobs slots came → IsFull slots → HasAnswers allows jobs
+  has_answers jobs slots came f full i l = let v = full_at slots i full (let s = f.size in omega arith) in (v.0, f.may i v.0 v.1)
 
   pub least : (jobs : List J) (slots : List (Option (Result D F))) (came : List ℕ) (number : ℕ) (fault : F) (before : List D) (after : List (Option (Result D F)))
       → Filled allows jobs slots came → length before ≡ number → slots ≡ ok_slots before ++ Some (Err fault) ∷ after
@@ -168,12 +179,12 @@ module _ {J D F : Type 0} (allows : J → Result D F → Type 0) where
   )
 
   -- where no place is empty and no number came twice, each came once
-  pub all_once : (jobs : List J) (slots : List (Option (Result D F))) (came : List ℕ) → Filled allows jobs slots came → ((k : ℕ) → ¬ (get_elem? slots k ≡ some None))
+  pub all_once : (jobs : List J) (slots : List (Option (Result D F))) (came : List ℕ) → Filled allows jobs slots came → IsFull slots
       → ((x : ℕ) → times x came ≤ once_below x (length jobs)) → (x : ℕ) → times x came ≡ once_below x (length jobs)
   all_once jobs slots came f full most x = exactly_once x (length jobs) (times x came) (most x) (λ l. let v = full_at slots x full (let s = f.size in omega arith) in f.full x v.0 v.1)
 
   -- where each number came once, no place is empty
-  pub none_empty : (jobs : List J) (slots : List (Option (Result D F))) (came : List ℕ) → Filled allows jobs slots came → ((x : ℕ) → times x came ≡ once_below x (length jobs)) → (i : ℕ) → ¬ (get_elem? slots i ≡ some None)
+  pub none_empty : (jobs : List J) (slots : List (Option (Result D F))) (came : List ℕ) → Filled allows jobs slots came → ((x : ℕ) → times x came ≡ once_below x (length jobs)) → IsFull slots
   none_empty jobs slots came f once i e = let l = at_below slots i None e in let a = f.size in let b = f.empty i e in let c = once i in absurd (grind (arith, nat_tests, a, b, c, l))
 
 module _ {J D F : Type 0} (allows : J → Result D F → Type 0) (value : J → D) (only : (job : J) (d : D) → allows job (Ok d) → d ≡ value job) where
@@ -188,12 +199,8 @@ module _ {J D F : Type 0} (allows : J → Result D F → Type 0) (value : J → 
       let rest : ds ≡ map value js = values_are js ds ((let l = a.0 in omega arith), λ i x e. a.1 (suc i) x e) in
       (λ i. head i ∷ rest i)
 
-listed-snoc : (vs : List (Vec ℕ Global)) (x : Vec ℕ Global) → listed (vs ++ x ∷ []) ≡ listed vs ++ x.items
-listed-snoc [] x = append-nil x.items
-listed-snoc (v ∷ vs) x = ap (λ l. v.items ++ l) (listed-snoc vs x) ∙ sym (append_assoc v.items (listed vs) x.items)
-
-pub listed_one : (vs ws : List (Vec ℕ Global)) (x : Vec ℕ Global) (ns : List ℕ) → vs ≡ [] → ws ≡ vs ++ x ∷ [] → x.items ≡ ns → listed ws ≡ ns
-listed_one vs ws x ns none e f = ap listed e ∙ (listed-snoc vs x ∙ (ap (λ l. listed l ++ x.items) none ∙ f))
+pub lists-more : (vs ws : List (Vec ℕ Global)) (x : Vec ℕ Global) (ns : List ℕ) → ws ≡ vs ++ x ∷ [] → x.items ≡ ns → number_lists ws ≡ number_lists vs ++ ns ∷ []
+lists-more vs ws x ns e f = ap number_lists e ∙ (map-append (λ (v : Vec ℕ Global). v.items) vs (x ∷ []) ∙ ap (λ l. number_lists vs ++ l ∷ []) f)
 
 module _ {D F : Type 0} where
   -- one more worker's answers were placed
@@ -211,25 +218,40 @@ module _ {D F : Type 0} where
       subst (λ n. AllBelow n (joined (map answers_in rest))) (sym (ap length f ∙ length-puts old (answers_in o)))
       (below-back (length old) (answers_in o) (joined (map answers_in rest)) (subst (λ l. AllBelow (length old) (joined (map answers_in l))) e all))
 
-  -- one more worker's numbers were listed
-  pub listed_more : (vs ws : List (Vec ℕ Global)) (x : Vec ℕ Global) (all : List ℕ) (o : Option (Answers D F)) (left rest : List (Option (Answers D F)))
-      → left ≡ o ∷ rest → ws ≡ vs ++ x ∷ [] → x.items ≡ numbers_in o → listed vs ++ joined (map numbers_in left) ≡ all → listed ws ++ joined (map numbers_in rest) ≡ all
+  -- one more worker's list
+  pub listed_more : (vs ws : List (Vec ℕ Global)) (x : Vec ℕ Global) (all : List (List ℕ)) (o : Option (Answers D F)) (left rest : List (Option (Answers D F)))
+      → left ≡ o ∷ rest → ws ≡ vs ++ x ∷ [] → x.items ≡ numbers_in o → number_lists vs ++ map numbers_in left ≡ all → number_lists ws ++ map numbers_in rest ≡ all
   listed_more vs ws x all o left rest e f n g =
-      ap (λ l. listed l ++ joined (map numbers_in rest)) f ∙ (ap (λ l. l ++ joined (map numbers_in rest)) (listed-snoc vs x ∙ ap (λ l. listed vs ++ l) n)
-      ∙ (append_assoc (listed vs) (numbers_in o) (joined (map numbers_in rest)) ∙ (ap (λ l. listed vs ++ joined (map numbers_in l)) (sym e) ∙ g)))
+      ap (λ l. l ++ map numbers_in rest) (lists-more vs ws x (numbers_in o) f n)
+      ∙ (append_assoc (number_lists vs) (numbers_in o ∷ []) (map numbers_in rest) ∙ (ap (λ l. number_lists vs ++ map numbers_in l) (sym e) ∙ g))
 
 module _ {J D F : Type 0} (allows : J → Result D F → Type 0) where
   pub values_stand : (jobs : List J) (ds : List D) → Answered allows jobs ds → AreValues allows jobs ds
   values_stand jobs ds a = λ value only. values_are allows value only jobs ds a
 
-  pub none_answered : (jobs : List J) (ds : List D) → length jobs ≡ 0 → ds ≡ [] → Answered allows jobs ds
-  none_answered jobs ds none e = (ap length e ∙ sym none, λ i d x. absurd (let l = at_below ds i d x in let k = ap length e in omega arith))
+  -- the fault that the places show
+  pub least_among : (jobs : List J) (slots : List (Option (Result D F))) (came : List ℕ) (fault : GangFault F) → Filled allows jobs slots came → IsFaultAmong slots fault → IsLeast allows jobs fault
+  least_among jobs slots came OutOfMemory f among = tt
+  least_among jobs slots came (Job number fault) f among =
+      let e = among.1 in
+      let l = least allows jobs slots came number fault e.0 e.1 f e.2 e.3 in
+      (l.0, l.1, has_answers allows jobs slots came f among.0)
 
-  pub no_room : (jobs : List J) (fault : GangFault F) → fault ≡ OutOfMemory → IsLeast allows jobs fault
-  no_room jobs fault e = subst (IsLeast allows jobs) (sym e) tt
+none_joined : (workers : ℕ) → joined {X = ℕ} (replicate workers []) ≡ []
+none_joined zero = refl
+none_joined (suc workers) = none_joined workers
 
-pub none_listed : (n : ℕ) (vs : List (Vec ℕ Global)) → n ≡ 0 → listed vs ≡ [] → EachOnce n vs
-none_listed n vs none e x = ap (times x) e ∙ (times-below x 0 ∙ ap (once_below x) (sym none))
+pub none_listed : (n workers : ℕ) (vs : List (Vec ℕ Global)) → n ≡ 0 → number_lists vs ≡ replicate workers [] → EachOnce n vs
+none_listed n workers vs none e x = ap (λ ls. times x (joined ls)) e ∙ (ap (times x) (none_joined workers) ∙ (times-below x 0 ∙ ap (once_below x) (sym none)))
 
-pub listed_none : (vs ws : List (Vec ℕ Global)) (x : Vec ℕ Global) → ws ≡ vs ++ x ∷ [] → x.items ≡ [] → listed vs ≡ [] → listed ws ≡ []
-listed_none vs ws x e f k = ap listed e ∙ (listed-snoc vs x ∙ (λ i. k i ++ f i))
+pub none_taken : (n workers : ℕ) (vs : List (Vec ℕ Global)) → n ≡ 0 → number_lists vs ≡ replicate workers [] → AreAllTaken n (number_lists vs)
+none_taken n workers vs none e = record {
+  board = start most_workers;
+  reached = ([], refl);
+  put = sym none;
+  waiting = refl;
+  taken = λ w. empty_list most_workers w ∙ (sym (empty_list workers w) ∙ ap (λ ls. get_or ls w []) (sym e));
+}
+
+pub one_empty : (counter : ℕ) (vs ws : List (Vec ℕ Global)) (x : Vec ℕ Global) → ws ≡ vs ++ x ∷ [] → x.items ≡ [] → number_lists vs ≡ replicate counter [] → number_lists ws ≡ replicate (counter + 1) []
+one_empty counter vs ws x e f k = lists-more vs ws x [] e f ∙ (ap (λ l. l ++ [] ∷ []) k ∙ replicate_more counter [])

@@ -1,79 +1,168 @@
 -- What the answers of all workers are, once all passes that can be had came back.
-use Rattle.std.proofs.Common.{◌≡◌, ℕ, ◌+◌, ◌≤◌, List, [], ◌∷◌, ◌++◌, All, length, map, replicate, Vec, Global, Option, None, IfSome, Result, sym, ap, ◌∙◌, subst, arith}
+use Rattle.std.proofs.Common.{◌≡◌, ℕ, suc, ◌+◌, ◌<◌, ◌≤◌, List, [], ◌∷◌, ◌++◌, All, length, length-append, map, get_or, replicate, Vec, Global, Option, None, IfSome, IsSome, Result, sym, ap, ◌∙◌, subst, arith}
 use Rattle.std.proofs.lemmas.List.{length-map, length-replicate}
 use Rattle.crossbeam_queue.specs.Passes.{view}
 use Rattle.bt_gang.specs.declared.answers.Answer.{Answer}
 use Rattle.bt_gang.specs.declared.answers.Answers.{Answers}
 use Rattle.bt_gang.specs.declared.jobs.Jobs.{Jobs}
 use Rattle.bt_gang.specs.declared.rule.Known.{Known}
+use Rattle.bt_gang.specs.declared.run.GangFault.{GangFault}
+use Rattle.bt_gang.specs.declared.run.GangFault.TheVariants.{OutOfMemory}
 use Rattle.bt_gang.specs.declared.workers.Worker.{Worker}
-use Rattle.bt_gang.specs.Numbers.{joined, times, once_below}
+use Rattle.bt_gang.specs.Numbers.{joined, times, below, once_below}
 use Rattle.bt_gang.specs.Numbered.{numbered}
-use Rattle.bt_gang.specs.Queue.{HasList, numbers_of}
-use Rattle.bt_gang.specs.Answers.{AllBelow, AllMay, FoundNothing, Gains, answers_in, numbers_in, puts}
-use Rattle.bt_gang.specs.Run.{Filled, listed}
-use Rattle.bt_gang.specs.Workers.{HasServedCaller, TookIn}
+use Rattle.bt_gang.specs.Crews.{most_workers}
+use Rattle.bt_gang.specs.Queue.{NothingWaits, gained, known, numbers_of, taken_list}
+use Rattle.bt_gang.specs.Answers.{AllMay, FoundNothing, Gains}
+use Rattle.bt_gang.specs.Run.{AreAllTaken, EachOnce, number_lists}
+use Rattle.bt_gang.specs.inside.Places.{AllBelow, Filled, IsFaultAmong, IsFull, answers_in, numbers_in, puts}
+use Rattle.bt_gang.specs.inside.Workers.{AllFrom, AreEmptyWhereAbsent, AreListsOf, HasServed, HasServedCaller, TookIn, lists_back, lists_left, out_of}
+use Rattle.bt_gang.proofs.Numbers.{length-below, same_total, times-below, total-length}
 use Rattle.bt_gang.proofs.Serving.{may-append, numbered-append}
-use Rattle.bt_gang.proofs.Working.{room_left, took_all, took_last}
-use Rattle.bt_gang.proofs.Filling.{below-back, below-front, below_all, filled, length-puts, listed_one, may_joined, numbers_joined, puts-append}
+use Rattle.bt_gang.proofs.WorkerLists.{all_back, all_lists, length-left, lists_stand, no_numbers_back, numbers-append, numbers-back, numbers-left}
+use Rattle.bt_gang.proofs.Filling.{all_once, below-back, below-front, below_all, filled, length-puts, lists-more, may_back, none_empty, numbers_joined, puts-append}
 
 module _ {J D F : Type 0} (allows : J → Result D F → Type 0) where
-  -- each is an answer that its job may give, no number came twice, and where all passes came back each came
-  pub record HaveCome (all : List J) (given_away back : ℕ) (answers : List (Answer D F)) : Type 0 where
-    pub may : AllMay allows all answers
-    pub most : (x : ℕ) → times x (numbered answers) ≤ once_below x (length all)
-    pub each : back ≡ given_away → (x : ℕ) → times x (numbered answers) ≡ once_below x (length all)
+  -- what the caller's pass knows, whose last pop found nothing, and what the answers are
+  pub record HaveCome (all : List J) (given_away : ℕ) (v : Known J) (own : List (Answer D F)) (outs : List (Option (Answers D F))) : Type 0 where
+    pub knows : v ≡ known all (taken_list 0 (numbered own) ∷ (lists_left most_workers (suc given_away) ++ lists_back 1 outs))
+    pub few : given_away < most_workers
+    pub back : length outs ≡ given_away
+    pub may : AllMay allows all (own ++ joined (map answers_in outs))
+    pub settled : NothingWaits v
+    pub last : FoundNothing v
 
-  pub caller_last : (jobs : Jobs J) (all : List J) (k : ℕ) (mine : Worker J D F) → HasServedCaller allows jobs all k mine → HasList (view mine.pass)
-  caller_last jobs all k mine h = let l = ap (λ (y : Known J). length y.lists) h.served.knows in omega arith
+  took_all : (jobs : Jobs J) (all : List J) (k : ℕ) (mine : Worker J D F) (outs : List (Option (Answers D F))) (w : Known J) → HasServedCaller allows jobs all k mine → TookIn (view mine.pass) w outs
+      → w ≡ known all (taken_list 0 (numbered mine.out.list.items) ∷ (lists_left most_workers (suc k) ++ lists_back 1 outs))
+  took_all jobs all k mine outs w h t = t ∙ ap (λ (y : Known J). known y.jobs (y.lists ++ lists_back 1 outs)) h.served.knows
 
-  pub jobs_last : (jobs : Jobs J) (all : List J) (k : ℕ) (mine : Worker J D F) (lists : List (List ℕ)) (back : ℕ) (w : Known J) → HasServedCaller allows jobs all k mine → TookIn (view mine.pass) w back lists → w.jobs ≡ all
-  jobs_last jobs all k mine lists back w h t = ap (λ (y : Known J). y.jobs) (took_all all h.served.number (numbered mine.out.list.items) h.others back lists (view mine.pass) w h.served.knows t)
+  pub jobs_last : (jobs : Jobs J) (all : List J) (k : ℕ) (mine : Worker J D F) (outs : List (Option (Answers D F))) (w : Known J) → HasServedCaller allows jobs all k mine → TookIn (view mine.pass) w outs → w.jobs ≡ all
+  jobs_last jobs all k mine outs w h t = ap (λ (y : Known J). y.jobs) (took_all jobs all k mine outs w h t)
 
-  pub room_last : (jobs : Jobs J) (all : List J) (k : ℕ) (mine : Worker J D F) (lists : List (List ℕ)) (back : ℕ) (w : Known J) → HasServedCaller allows jobs all k mine → TookIn (view mine.pass) w back lists
+  pub room_last : (jobs : Jobs J) (all : List J) (k : ℕ) (mine : Worker J D F) (outs : List (Option (Answers D F))) (w : Known J) → HasServedCaller allows jobs all k mine → TookIn (view mine.pass) w outs
       → length w.jobs ≤ mine.out.spare + length (numbers_of w.lists)
-  room_last jobs all k mine lists back w h t =
-      room_left all h.served.number mine.out.spare (numbered mine.out.list.items) h.others back lists (view mine.pass) w h.served.knows t
-      (let s = h.spare in let l = length-map mine.out.list.items (λ (a : Answer D F). a.number) in omega arith)
+  room_last jobs all k mine outs w h t =
+      let e = took_all jobs all k mine outs w h t in
+      let own = numbered mine.out.list.items in
+      let others = lists_left most_workers (suc k) ++ lists_back 1 outs in
+      let j : length w.jobs ≡ length all = ap (λ (y : Known J). length y.jobs) e in
+      let n : length (numbers_of w.lists) ≡ length (own ++ numbers_of others) = ap (λ (y : Known J). length (numbers_of y.lists)) e in
+      let l = length-append own (numbers_of others) in
+      let m = length-map mine.out.list.items (λ (a : Answer D F). a.number) in
+      let s = h.spare in
+      omega arith
 
-  pub have_come : (jobs : Jobs J) (all : List J) (k : ℕ) (mine : Worker J D F) (outs : List (Option (Answers D F))) (back : ℕ) (w u : Known J) (out : Answers D F)
-      → HasServedCaller allows jobs all k mine → TookIn (view mine.pass) w back (map numbers_in outs) → All (λ o. IfSome o (λ a. AllMay allows all a.list.items)) outs
-      → Gains allows w u mine.out out → FoundNothing u → HaveCome all k back (out.list.items ++ joined (map answers_in outs))
-  have_come jobs all k mine outs back w u out h t each g last =
+  pub have_come : (jobs : Jobs J) (all : List J) (k : ℕ) (mine : Worker J D F) (others : List (Option (Worker J D F))) (outs : List (Option (Answers D F))) (w v : Known J) (out : Answers D F)
+      → HasServedCaller allows jobs all k mine → k ≡ length others → AllFrom (λ number o. IfSome o (HasServed allows jobs all [] number)) 1 others → outs ≡ map out_of others → TookIn (view mine.pass) w outs
+      → Gains allows w v mine.out out → FoundNothing v → NothingWaits v → HaveCome all k v out.list.items outs
+  have_come jobs all k mine others outs w v out h len served is t g last settled =
       let own = mine.out.list.items in
-      let rest = joined (map answers_in outs) in
-      let r = took_last all h.served.number (numbered own) (numbered g.added) h.others back (map numbers_in outs) (view mine.pass) w u h.served.knows h.empty t g.pass in
-      let added : AllMay allows all g.added = subst (λ js. AllMay allows js g.added) (jobs_last jobs all k mine (map numbers_in outs) back w h t) g.may in
       let here : numbered out.list.items ≡ numbered own ++ numbered g.added = ap numbered g.list ∙ numbered-append own g.added in
-      let ns : numbered (out.list.items ++ rest) ≡ numbers_of u.lists = numbered-append out.list.items rest ∙ ((λ i. here i ++ numbers_joined outs i) ∙ sym r.1) in
-      let n : length u.jobs ≡ length all = ap length r.0 in
+      let added : AllMay allows all g.added = subst (λ js. AllMay allows js g.added) (jobs_last jobs all k mine outs w h t) g.may in
+      let back : AllMay allows all (joined (map answers_in outs)) = subst (λ os. AllMay allows all (joined (map answers_in os))) (sym is) (may_back allows jobs all 1 others served) in
       record {
-        may = may-append allows all out.list.items rest (subst (AllMay allows all) (sym g.list) (may-append allows all own g.added h.served.may added)) (may_joined allows all outs each);
-        most = λ x. let a = (last x).0 in let b = ap (times x) ns in let c = ap (once_below x) n in omega arith;
-        each = λ e x.
-            let full : length u.lists ≡ 64 = (let l = r.2 in let q = h.left in omega arith) in
-            ap (times x) ns ∙ ((last x).1 full ∙ ap (once_below x) n);
+        knows = g.pass ∙ (ap (λ y. gained y (numbered g.added)) (took_all jobs all k mine outs w h t)
+            ∙ ap (λ ns. known all (taken_list 0 ns ∷ (lists_left most_workers (suc k) ++ lists_back 1 outs))) (sym here));
+        few = h.few;
+        back = ap length is ∙ (length-map others (λ (o : Option (Worker J D F)). out_of o) ∙ sym len);
+        may = may-append allows all out.list.items (joined (map answers_in outs)) (subst (AllMay allows all) (sym g.list) (may-append allows all own g.added h.served.may added)) back;
+        settled = settled;
+        last = last;
       }
 
-  pub below_own : (all : List J) (k back : ℕ) (own rest : List (Answer D F)) (slots : List (Option (Result D F))) → HaveCome all k back (own ++ rest)
-      → slots ≡ replicate (length all) None → AllBelow (length slots) own
-  below_own all k back own rest slots h e = below-front (length slots) own rest (below_all allows all (length slots) (own ++ rest) (ap length e ∙ length-replicate (length all) None) h.may)
+module _ {J D F : Type 0} (allows : J → Result D F → Type 0) (all : List J) (k : ℕ) (v : Known J) (own : List (Answer D F)) (outs : List (Option (Answers D F))) (come : HaveCome allows all k v own outs) where
+  -- the numbers of the answers are those in the lists of the pass
+  numbers_come : numbered (own ++ joined (map answers_in outs)) ≡ numbers_of v.lists
+  numbers_come =
+      let left = lists_left most_workers (suc k) in
+      let back = lists_back 1 outs in
+      let lists : numbers_of (left ++ back) ≡ joined (map numbers_in outs) = numbers-append left back ∙ ((λ i. numbers-left most_workers (suc k) i ++ numbers-back 1 outs i)) in
+      numbered-append own (joined (map answers_in outs)) ∙ ((λ i. numbered own ++ (numbers_joined outs ∙ sym lists) i) ∙ sym (ap (λ (y : Known J). numbers_of y.lists) come.knows))
 
-  pub below_rest : (all : List J) (k back : ℕ) (own rest : List (Answer D F)) (slots mid : List (Option (Result D F))) → HaveCome all k back (own ++ rest)
-      → slots ≡ replicate (length all) None → mid ≡ puts slots own → AllBelow (length mid) rest
-  below_rest all k back own rest slots mid h e f =
-      below-back (length mid) own rest (below_all allows all (length mid) (own ++ rest) (ap length f ∙ (length-puts slots own ∙ (ap length e ∙ length-replicate (length all) None))) h.may)
+  jobs_come : length v.jobs ≡ length all
+  jobs_come = ap (λ (y : Known J). length y.jobs) come.knows
+
+  pub most_come : (x : ℕ) → times x (numbered (own ++ joined (map answers_in outs))) ≤ once_below x (length all)
+  most_come x = let a = (come.last x).0 in let b = ap (times x) numbers_come in let c = ap (once_below x) jobs_come in omega arith
+
+  -- where each worker came back, so did each number
+  each_come : (others : List (Option (Worker J D F))) → outs ≡ map out_of others → All IsSome others → (x : ℕ) → times x (numbered (own ++ joined (map answers_in outs))) ≡ once_below x (length all)
+  each_come others is some x =
+      let full : length v.lists ≡ most_workers =
+      (let l = ap (λ (y : Known J). length y.lists) come.knows in
+      let a = length-append (lists_left most_workers (suc k)) (lists_back 1 outs) in
+      let b = length-left most_workers (suc k) come.few in
+      let c : length (lists_back 1 outs) ≡ length others = ap (λ os. length (lists_back 1 os)) is ∙ all_back 1 others some in
+      let d = ap length is in
+      let e = length-map others (λ (o : Option (Worker J D F)). out_of o) in
+      let f = come.back in
+      omega arith) in
+      ap (times x) numbers_come ∙ ((come.last x).1 full ∙ ap (once_below x) jobs_come)
+
+  pub below_own : (slots : List (Option (Result D F))) → slots ≡ replicate (length all) None → AllBelow (length slots) own
+  below_own slots e = below-front (length slots) own (joined (map answers_in outs)) (below_all allows all (length slots) (own ++ joined (map answers_in outs)) (ap length e ∙ length-replicate (length all) None) come.may)
+
+  pub below_rest : (slots mid : List (Option (Result D F))) → slots ≡ replicate (length all) None → mid ≡ puts slots own → AllBelow (length mid) (joined (map answers_in outs))
+  below_rest slots mid e f =
+      below-back (length mid) own (joined (map answers_in outs))
+      (below_all allows all (length mid) (own ++ joined (map answers_in outs)) (ap length f ∙ (length-puts slots own ∙ (ap length e ∙ length-replicate (length all) None))) come.may)
 
   -- the answers of the caller and of the others in places that were empty
-  pub filled_all : (all : List J) (k back : ℕ) (own rest : List (Answer D F)) (empty mid slots : List (Option (Result D F))) → HaveCome all k back (own ++ rest)
-      → empty ≡ replicate (length all) None → mid ≡ puts empty own → slots ≡ puts mid rest → Filled allows all slots (numbered (own ++ rest))
-  filled_all all k back own rest empty mid slots h e f g =
-      filled allows all (own ++ rest) slots (g ∙ (ap (λ s. puts s rest) (f ∙ ap (λ s. puts s own) e) ∙ sym (puts-append (replicate (length all) None) own rest))) h.may
+  pub filled_all : (empty mid slots : List (Option (Result D F))) → empty ≡ replicate (length all) None → mid ≡ puts empty own → slots ≡ puts mid (joined (map answers_in outs))
+      → Filled allows all slots (numbered (own ++ joined (map answers_in outs)))
+  filled_all empty mid slots e f g =
+      filled allows all (own ++ joined (map answers_in outs)) slots
+      (g ∙ (ap (λ s. puts s (joined (map answers_in outs))) (f ∙ ap (λ s. puts s own) e) ∙ sym (puts-append (replicate (length all) None) own (joined (map answers_in outs))))) come.may
+
+  -- a place is empty only where a worker did not come back
+  pub memory_wanted : (slots : List (Option (Result D F))) (fault : GangFault F) (others : List (Option (Worker J D F))) → Filled allows all slots (numbered (own ++ joined (map answers_in outs)))
+      → outs ≡ map out_of others → IsFaultAmong slots fault → fault ≡ OutOfMemory → ¬ (All IsSome others)
+  memory_wanted slots fault others f is among wanted some =
+      let empty = subst (IsFaultAmong slots) wanted among in
+      none_empty allows all slots (numbered (own ++ joined (map answers_in outs))) f (each_come others is some) empty.0 empty.1
+
+  module _ (vs : List (Vec ℕ Global)) (lists : number_lists vs ≡ numbered own ∷ map numbers_in outs) where
+    -- one that was not started has an empty list
+    pub are_empty : (others : List (Option (Worker J D F))) → outs ≡ map out_of others → AreEmptyWhereAbsent others (number_lists vs)
+    are_empty others is place absent =
+        ap (λ ls. get_or ls (suc place) []) lists ∙ (ap (λ os. get_or (map numbers_in os) place []) is ∙ no_numbers_back others place absent)
+
+    -- the lists of numbers are those of the pass
+    pub are_lists : AreListsOf v (number_lists vs)
+    are_lists = subst (AreListsOf v) (sym lists) (lists_stand most_workers k v (numbered own) outs come.back come.few (ap (λ (y : Known J). y.lists) come.knows))
+
+    module _ (slots : List (Option (Result D F))) (f : Filled allows all slots (numbered (own ++ joined (map answers_in outs)))) (full : IsFull slots) where
+      came_once : (x : ℕ) → times x (numbered (own ++ joined (map answers_in outs))) ≡ once_below x (length all)
+      came_once = all_once allows all slots (numbered (own ++ joined (map answers_in outs))) f full most_come
+
+      pub once : EachOnce (length all) vs
+      once x =
+          ap (λ ls. times x (joined ls)) lists
+          ∙ (ap (times x) ((λ i. numbered own ++ sym (numbers_joined outs) i) ∙ sym (numbered-append own (joined (map answers_in outs)))) ∙ came_once x)
+
+      -- the board that the last pop showed
+      pub all_taken : AreAllTaken (length all) (number_lists vs)
+      all_taken =
+          let one : ℕ → ℕ = λ _. 1 in
+          let n = length all in
+          let came = numbered (own ++ joined (map answers_in outs)) in
+          let a = same_total came (below n) (λ x. came_once x ∙ sym (times-below x n)) one in
+          let b = total-length came in
+          let d = total-length (below n) in
+          let e = length-below n in
+          let g = ap length numbers_come in
+          let m = jobs_come in
+          let numbers : length (numbers_of v.lists) ≡ length v.jobs = omega arith in
+          record {
+            board = come.settled.board;
+            reached = come.settled.reached;
+            put = come.settled.put ∙ jobs_come;
+            waiting = come.settled.waiting;
+            taken = λ w. all_lists most_workers v come.settled numbers w ∙ sym (are_lists w);
+          }
 
 module _ {D F : Type 0} where
-  -- the lists of numbers are those of the answers
-  pub listed_all : (own : List (Answer D F)) (outs : List (Option (Answers D F))) (ws was vs : List (Vec ℕ Global)) (x : Vec ℕ Global)
-      → was ≡ [] → vs ≡ was ++ x ∷ [] → x.items ≡ numbered own → listed ws ≡ listed vs ++ joined (map numbers_in outs) → listed ws ≡ numbered (own ++ joined (map answers_in outs))
-  listed_all own outs ws was vs x none e f k =
-      let here : listed vs ≡ numbered own = listed_one was vs x (numbered own) none e f in
-      k ∙ ((λ i. here i ++ sym (numbers_joined outs) i) ∙ sym (numbered-append own (joined (map answers_in outs))))
+  -- the caller's list, and then those of the others
+  pub lists_placed : (own : List (Answer D F)) (outs : List (Option (Answers D F))) (ws was vs : List (Vec ℕ Global)) (x : Vec ℕ Global)
+      → was ≡ [] → vs ≡ was ++ x ∷ [] → x.items ≡ numbered own → number_lists ws ≡ number_lists vs ++ map numbers_in outs → number_lists ws ≡ numbered own ∷ map numbers_in outs
+  lists_placed own outs ws was vs x none e f k = k ∙ ap (λ l. l ++ map numbers_in outs) (lists-more was vs x (numbered own) e f ∙ ap (λ l. number_lists l ++ numbered own ∷ []) none)

@@ -2,6 +2,7 @@ pub mod Numbers
 pub mod Accounts
 pub mod Rules
 pub mod Takers
+pub mod WorkerLists
 pub mod Serving
 pub mod Placing
 pub mod Working

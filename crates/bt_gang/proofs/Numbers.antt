@@ -2,7 +2,9 @@
 use Rattle.std.proofs.Common.{◌≡◌, ◌≢◌, ℕ, zero, suc, ◌+◌, ◌<◌, ◌≤◌, List, [], ◌∷◌, ◌++◌, length, length-append, map, set, get_or, take, refl, sym, ap, ◌∙◌, arith}
 use Rattle.std.proofs.lemmas.List.{take_more, take_all}
 use Rattle.std.proofs.lemmas.Bool.Decides.{nat_tests}
+use mathlib.Core.Logic.{dite}
 use mathlib.Core.Option.{some, some-ne-none, some-injective}
+use native.Mathlib.Decide.{ℕ_discrete}
 use lib.ListN.{get_elem?}
 use Rattle.bt_gang.specs.Numbers.{total, joined, is_it, times, below, once_below}
 
@@ -88,3 +90,37 @@ module _ {X : Type 0} (f : X → ℕ) (d : X) (xs : List X) where
   -- f of each place of the list
   pub total-places : (n : ℕ) → length xs ≡ n → total (λ i. f (get_or xs i d)) (below n) ≡ total f xs
   total-places n len = total-first_places n (omega arith) ∙ ap (total f) (take_all n xs (omega arith))
+
+pub once_itself : (x : ℕ) → is_it x x ≡ 1
+once_itself x = grind (arith, nat_tests)
+
+pub not_another : (x y : ℕ) → y ≢ x → is_it x y ≡ 0
+not_another x y ne = grind (arith, nat_tests, ne)
+
+-- a number that stands in a list, and the others
+pub taken_out : (x : ℕ) (ys : List ℕ) → 0 < times x ys → (others : List ℕ) × ((h : ℕ → ℕ) → total h ys ≡ h x + total h others)
+taken_out x [] l = absurd (omega arith)
+taken_out x (y ∷ ys) l = dite (ℕ_discrete y x)
+    (λ e. (ys, λ h. ap (λ k. h k + total h ys) e))
+    (λ ne.
+    let none = not_another x y ne in
+    let r = taken_out x ys (omega arith) in
+    (y ∷ r.0, λ h. let e = r.1 h in omega arith))
+
+-- where no number stands more often in a list than in another, the other has the same numbers, and these besides
+pub besides : (xs ys : List ℕ) → ((x : ℕ) → times x xs ≤ times x ys) → (others : List ℕ) × ((h : ℕ → ℕ) → total h xs + total h others ≡ total h ys)
+besides [] ys most = (ys, λ h. omega arith)
+besides (x ∷ xs) ys most =
+    let r = taken_out x ys (let l = most x in let k = once_itself x in omega arith) in
+    let s = besides xs r.0 (λ y. let l = most y in let e = r.1 (is_it y) in omega arith) in
+    (s.0, λ h. let e = r.1 h in let f = s.1 h in omega arith)
+
+-- where each number stands as often in a list as in another, they weigh the same
+pub same_total : (xs ys : List ℕ) → ((x : ℕ) → times x xs ≡ times x ys) → (h : ℕ → ℕ) → total h xs ≡ total h ys
+same_total xs ys same h =
+    let a = (besides xs ys (λ x. let e = same x in omega arith)).1 h in
+    let b = (besides ys xs (λ x. let e = same x in omega arith)).1 h in
+    omega arith
+
+pub weighs_part : (h : ℕ → ℕ) (x : ℕ) (ys : List ℕ) → 0 < times x ys → h x ≤ total h ys
+weighs_part h x ys l = let e = (taken_out x ys l).1 h in omega arith

@@ -4,7 +4,7 @@ use Rattle.std.specs.Option.{is_some}
 use mathlib.Core.Option.{some, some-injective}
 use lib.ListN.{get_elem?}
 use Rattle.crossbeam_queue.proofs.Lists.{at_index}
-use Rattle.bt_gang.specs.Answers.{ok_slots}
+use Rattle.bt_gang.specs.inside.Places.{ok_slots}
 
 module _ {D F : Type 0} where
   pub ok_slots-snoc : (ds : List D) (d : D) (rest : List (Option (Result D F))) → ok_slots ds ++ Some (Ok d) ∷ rest ≡ ok_slots (ds ++ d ∷ []) ++ rest

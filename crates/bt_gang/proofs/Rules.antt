@@ -12,8 +12,8 @@ use Rattle.bt_gang.specs.declared.rule.TakenList.{TakenList}
 use Rattle.bt_gang.specs.Numbers.{total, joined, is_it, times, below, once_below}
 use Rattle.bt_gang.specs.Board.{State, start, after_put, after_take}
 use Rattle.bt_gang.specs.Board.Event.{Put, Take}
-use Rattle.bt_gang.specs.Queue.{taken_list, no_lists, given, kept, workers_of, numbers_of, AreTaken, known, HasList, queued, Stand, EachPass, IsBoard, Pushed, Popped, Accounts}
-use Rattle.bt_gang.proofs.Numbers.{total-append, total-set, total-one, total-two, total-length, total-joined, total-places, length-below, times-below, at_more, at_end}
+use Rattle.bt_gang.specs.Queue.{taken_list, no_lists, given, kept, workers_of, numbers_of, AreTaken, known, HasList, queued, Stand, EachPass, IsBoard, IsBoardOf, Pushed, Popped}
+use Rattle.bt_gang.proofs.Numbers.{total-append, total-set, total-one, total-two, total-length, total-joined, total-map, total-places, length-below, times-below, at_more, at_end, once_itself, besides, same_total}
 use Rattle.bt_gang.proofs.Accounts.{accounted, freed}
 
 pub count_lists : (ls : List TakenList) → total (λ _. 1) (workers_of ls) ≡ length ls
@@ -22,9 +22,6 @@ count_lists (l ∷ ls) = let e = count_lists ls in omega arith
 
 pub at_most_once : (x n : ℕ) → once_below x n ≤ 1
 at_most_once x n = grind (arith, nat_tests)
-
-once_itself : (x : ℕ) → is_it x x ≡ 1
-once_itself x = grind (arith, nat_tests)
 
 nowhere_here : (x y k : ℕ) → is_it x y + k ≡ 0 → y ≢ x
 nowhere_here x y k e same = grind (arith, nat_tests, e, same)
@@ -80,22 +77,18 @@ weigh_lists h taken (l ∷ ls) are =
     let m = ap (total h) are.0 in
     omega (arith, e, a, m)
 
-empty_at : (n i : ℕ) → get_or {A = List ℕ} (replicate n []) i [] ≡ []
-empty_at zero i = refl
-empty_at (suc n) zero = refl
-empty_at (suc n) (suc i) = empty_at n i
+pub empty_list : (n i : ℕ) → get_or {A = List ℕ} (replicate n []) i [] ≡ []
+empty_list zero i = refl
+empty_list (suc n) zero = refl
+empty_list (suc n) (suc i) = empty_list n i
 
 taken_none : (n : ℕ) (workers : List ℕ) → AreTaken (replicate n []) (map (λ w. taken_list w []) workers)
 taken_none n [] = tt
-taken_none n (w ∷ ws) = (empty_at n w, taken_none n ws)
+taken_none n (w ∷ ws) = (empty_list n w, taken_none n ws)
 
 workers_none : (workers : List ℕ) → workers_of (map (λ w. taken_list w []) workers) ≡ workers
 workers_none [] = refl
 workers_none (w ∷ ws) = ap (λ l. w ∷ l) (workers_none ws)
-
-no_workers : (h : ℕ → ℕ) (ls : List TakenList) → total (λ _. 1) (workers_of ls) ≡ 0 → total h (workers_of ls) ≡ 0
-no_workers h [] e = refl
-no_workers h (l ∷ ls) e = absurd (omega arith)
 
 module _ {J : Type 0} where
   stand-snoc : (jobs more : List J) (items : List (NumberedJob J)) (x : NumberedJob J) → Stand jobs items → get_elem? (jobs ++ more) x.number ≡ some x.job → Stand (jobs ++ more) (items ++ x ∷ [])
@@ -121,9 +114,18 @@ module _ {J : Type 0} where
     waiting = refl;
     stand = tt;
     taken = each_one (λ v. AreTaken (replicate n []) v.lists) (known [] (no_lists n)) (taken_none n (below n));
-    apart = λ h. let e = ap (total h) (workers_none (below n)) in omega arith;
+    apart = λ w. let e = ap (times w) (workers_none (below n)) in let t = times-below w n in omega arith;
     know = each_one (λ v. HasList v → v.jobs ≡ []) (known [] (no_lists n)) (λ _. refl);
   }
+
+  weigh_workers : (h : ℕ → ℕ) (views : List (Known J)) → total h (joined (map (λ (v : Known J). workers_of v.lists) views)) ≡ total (λ (v : Known J). total h (workers_of v.lists)) views
+  weigh_workers h views = total-joined h (map (λ (v : Known J). workers_of v.lists) views) ∙ total-map (λ l. total h l) (λ (v : Known J). workers_of v.lists) views
+
+  -- however the workers are weighed
+  apart_weighed : (n : ℕ) (items : List (NumberedJob J)) (views : List (Known J)) → IsBoard n items views → (h : ℕ → ℕ) → total (λ (v : Known J). total h (workers_of v.lists)) views ≡ total h (below n)
+  apart_weighed n items views b h =
+      sym (weigh_workers h views)
+      ∙ same_total (joined (map (λ (v : Known J). workers_of v.lists) views)) (below n) (λ w. weigh_workers (is_it w) views ∙ (b.apart w ∙ sym (times-below w n))) h
 
   pub pushes : (n room port : ℕ) (v : Known J) (x : NumberedJob J) → length v.lists ≡ n → 0 < n → x.number ≡ length v.jobs → Pushes (IsBoard n) room port v x (Pushed v x)
   pushes n room port v x every some_worker next items views free b at =
@@ -141,11 +143,11 @@ module _ {J : Type 0} where
           waiting = ap (λ l. l ++ b.board.put ∷ []) b.waiting ∙ (ap (λ k. queued items ++ k ∷ []) (b.put ∙ sym here) ∙ sym (map-append (λ (item : NumberedJob J). item.number) items (x ∷ [])));
           stand = stand-snoc b.jobs (x.job ∷ []) items x b.stand (subst (λ k. get_elem? new k ≡ some x.job) (sym here) (at_end b.jobs x.job));
           taken = each_set (λ u. AreTaken b.board.taken u.lists) views port w (b.taken port v at) (λ j u _ e. b.taken j u e);
-          apart = λ h. let t = total-set (λ (u : Known J). total h (workers_of u.lists)) views port v w at in let p = b.apart h in omega arith;
+          apart = λ worker. let t = total-set (λ (u : Known J). times worker (workers_of u.lists)) views port v w at in let p = b.apart worker in omega arith;
           know = each_set (λ u. HasList u → u.jobs ≡ new) views port w (λ _. ap (λ js. js ++ x.job ∷ []) same)
               (λ j u ne e some_list.
               let two = total-two f views port j v u at e ne in
-              let p = b.apart (λ _. 1) in
+              let p = apart_weighed n items views b (λ _. 1) in
               let a = count_lists v.lists in
               let c = count_lists u.lists in
               let l = total-length (below n) in
@@ -162,8 +164,7 @@ module _ {J : Type 0} where
       let w : ℕ = l.worker in
       let f : Known J → ℕ = λ u. times w (workers_of u.lists) in
       let one = total-one f views port (known jobs (l ∷ rest)) at in
-      let p = b.apart (is_it w) in
-      let q = times-below w n in
+      let p = b.apart w in
       let r = at_most_once w n in
       let s = once_itself w in
       (below_once w n (omega arith), omega arith)
@@ -174,27 +175,41 @@ module _ {J : Type 0} where
       let w : ℕ = l.worker in
       let f : Known J → ℕ = λ u. times w (workers_of u.lists) in
       let two = total-two f views port j (known jobs (l ∷ rest)) u at at' ne in
-      let p = b.apart (is_it w) in
-      let q = times-below w n in
+      let p = b.apart w in
       let r = at_most_once w n in
       let s = once_itself w in
       omega arith
 
-  -- what all workers took, by the passes
-  by_passes : (n : ℕ) (items : List (NumberedJob J)) (views : List (Known J)) (h : ℕ → ℕ) (b : IsBoard n items views)
-      → total (λ (u : Known J). total (λ w. total h (get_or b.board.taken w [])) (workers_of u.lists)) views ≡ total h (joined b.board.taken)
-  by_passes n items views h b =
-      b.apart (λ w. total h (get_or b.board.taken w []))
-      ∙ (total-places (λ t. total h t) [] b.board.taken n (accounted n b.board b.reached).taken ∙ sym (total-joined h b.board.taken))
+  -- what a pass learns: of the jobs that it knows, each is in one of its lists, in the queue, or in a list that it has not
+  pub weighed : (n : ℕ) (v : Known J) (items : List (NumberedJob J)) (b : IsBoardOf n v items)
+      → (others : List ℕ) × ((h : ℕ → ℕ) → total h (workers_of v.lists) + total h others ≡ total h (below n))
+      × ((h : ℕ → ℕ) → total h (numbers_of v.lists) + total (λ w. total h (get_or b.board.taken w [])) others + total h (queued items) ≡ total h (below (length v.jobs)))
+  weighed n v items b =
+      let r = besides (workers_of v.lists) (below n) (λ w. let l = b.apart w in let e = times-below w n in omega arith) in
+      let a = accounted n b.board b.reached in (
+        r.0,
+        r.1,
+        (λ h.
+            let weight : ℕ → ℕ = λ w. total h (get_or b.board.taken w []) in
+            let p = a.all h in
+            let q = a.lists h in
+            let w = ap (total h) b.waiting in
+            let e = r.1 weight in
+            let m = weigh_lists h b.board.taken v.lists b.taken in
+            let t = total-places (λ t. total h t) [] b.board.taken n a.taken ∙ sym (total-joined h b.board.taken) in
+            let k : total h (below (length v.jobs)) ≡ total h (below b.board.put) = ap (λ i. total h (below i)) (sym b.put) in
+            omega (arith, p, q, w, e, m, t, k)),
+      )
 
-  lists_le : (n port : ℕ) (items : List (NumberedJob J)) (views : List (Known J)) (v : Known J) (h : ℕ → ℕ) (b : IsBoard n items views)
-      → get_elem? views port ≡ some v → total h (numbers_of v.lists) ≤ total h (joined b.board.taken)
-  lists_le n port items views v h b at =
-      let f : Known J → ℕ = λ u. total (λ w. total h (get_or b.board.taken w [])) (workers_of u.lists) in
-      let one = total-one f views port v at in
-      let a = by_passes n items views h b in
-      let m = weigh_lists h b.board.taken v.lists (b.taken port v at) in
-      omega (arith, one, a, m)
+  pub learns : (n port : ℕ) (v : Known J) → HasList v → Learns (IsBoard n) port v (IsBoardOf n v)
+  learns n port v some_list items views b at = record {
+    board = b.board;
+    reached = b.reached;
+    put = b.put ∙ sym (ap length (b.know port v at some_list));
+    waiting = b.waiting;
+    taken = b.taken port v at;
+    apart = λ w. let l = total-one (λ (u : Known J). times w (workers_of u.lists)) views port v at in let e = b.apart w in omega arith;
+  }
 
   pops_from : (n port : ℕ) (jobs : List J) (l : TakenList) (rest : List TakenList) → Pops (IsBoard n) port (known jobs (l ∷ rest)) (Popped (known jobs (l ∷ rest)))
   pops_from n port jobs l rest x items views b at =
@@ -222,23 +237,17 @@ module _ {J : Type 0} where
             taken_else t.taken l.worker new rest only.1 (subst (λ ts. AreTaken ts rest) (sym f.3) are.1),
           )
               (λ j u ne e. taken_else t.taken l.worker new u.lists (not_there n port j (x ∷ items) views jobs l rest u b at ne e) (subst (λ ts. AreTaken ts u.lists) (sym f.3) (b.taken j u e)));
-          apart = λ h. let q = total-set (λ (u : Known J). total h (workers_of u.lists)) views port v w at in let p = b.apart h in omega arith;
+          apart = λ worker. let q = total-set (λ (u : Known J). times worker (workers_of u.lists)) views port v w at in let p = b.apart worker in omega arith;
           know = each_set (λ u. HasList u → u.jobs ≡ b.jobs) views port w (λ _. same) (λ j u _ e. b.know j u e);
         },
         (
           refl,
           subst (λ js. get_elem? js x.number ≡ some x.job) (sym same) b.stand.0,
           (let one : ℕ → ℕ = λ _. 1 in
-              let a = accounted n b.board b.reached in
-              let p = a.all one in
-              let q = a.lists one in
-              let le = lists_le n port (x ∷ items) views v one b at in
+              let e = (weighed n v (x ∷ items) (learns n port v (omega arith) (x ∷ items) views b at)).2 one in
               let c = total-length (numbers_of (l ∷ rest)) in
-              let d = ap (total one) b.waiting in
-              let e = total-length (below b.board.put) ∙ length-below b.board.put in
-              let g = b.put in
-              let k : length jobs ≡ length b.jobs = ap length same in
-              omega (arith, p, q, le, c, d, e, g, k)),
+              let d = total-length (below (length jobs)) ∙ length-below (length jobs) in
+              omega (arith, c, d, e)),
         ),
       )
 
@@ -260,12 +269,12 @@ module _ {J : Type 0} where
         stand = b.stand;
         taken = each_snoc (λ u. AreTaken b.board.taken u.lists) vs r (taken_given b.board.taken v.lists (b.taken port v at))
             (each_set (λ u. AreTaken b.board.taken u.lists) views port l (taken_kept b.board.taken v.lists (b.taken port v at)) (λ j u _ e. b.taken j u e));
-        apart = λ h.
-            let f : Known J → ℕ = λ u. total h (workers_of u.lists) in
+        apart = λ w.
+            let f : Known J → ℕ = λ u. times w (workers_of u.lists) in
             let t = total-set f views port v l at in
             let q = total-append f vs (r ∷ []) in
-            let k = kept_given h v.lists in
-            let p = b.apart h in
+            let k = kept_given (is_it w) v.lists in
+            let p = b.apart w in
             omega arith;
         know = each_snoc (λ u. HasList u → u.jobs ≡ b.jobs) vs r (λ some. b.know port v at (given_some v.lists some))
             (each_set (λ u. HasList u → u.jobs ≡ b.jobs) views port l (λ some. b.know port v at (kept_some v.lists some)) (λ j u _ e. b.know j u e));
@@ -286,56 +295,13 @@ module _ {J : Type 0} where
         stand = b.stand;
         taken = each_set (λ x. AreTaken b.board.taken x.lists) vs other spent tt
             (λ j x _ e. each_set (λ y. AreTaken b.board.taken y.lists) views port both (taken-append b.board.taken v.lists u.lists (b.taken port v at) (b.taken other u there)) (λ i y _ f. b.taken i y f) j x e);
-        apart = λ h.
-            let f : Known J → ℕ = λ x. total h (workers_of x.lists) in
+        apart = λ w.
+            let f : Known J → ℕ = λ x. times w (workers_of x.lists) in
             let s = total-set f views port v both at in
             let t = total-set f vs other u spent at' in
-            let a = workers-append h v.lists u.lists in
-            let p = b.apart h in
+            let a = workers-append (is_it w) v.lists u.lists in
+            let p = b.apart w in
             omega arith;
         know = each_set (λ x. HasList x → x.jobs ≡ b.jobs) vs other spent (λ none. absurd (omega arith))
             (λ j x _ e. each_set (λ y. HasList y → y.jobs ≡ b.jobs) views port both (λ _. b.know port v at some_list) (λ i y _ f. b.know i y f) j x e);
       }
-
-  none_of : (p f : Known J → ℕ) → ((u : Known J) → p u ≡ 0 → f u ≡ 0) → (views : List (Known J)) → total p views ≡ 0 → total f views ≡ 0
-  none_of p f zeros [] all = refl
-  none_of p f zeros (u ∷ us) all = let z = zeros u (omega arith) in let r = none_of p f zeros us (omega arith) in omega arith
-
-  -- where one pass has all of p, no other adds to f
-  alone : (p f : Known J → ℕ) → ((u : Known J) → p u ≡ 0 → f u ≡ 0) → (views : List (Known J)) (port : ℕ) (v : Known J) → get_elem? views port ≡ some v → total p views ≡ p v → total f views ≡ f v
-  alone p f zeros [] port v at all = absurd (some-ne-none v (sym at))
-  alone p f zeros (u ∷ us) zero v at all =
-      let e : u ≡ v = some-injective u v at in
-      let q : p u ≡ p v = ap p e in
-      let g : f u ≡ f v = ap f e in
-      let r = none_of p f zeros us (omega arith) in
-      omega arith
-  alone p f zeros (u ∷ us) (suc port) v at all =
-      let more = total-one p us port v at in
-      let z = zeros u (omega arith) in
-      let r = alone p f zeros us port v at (omega arith) in
-      omega arith
-
-  learns_of : (n port : ℕ) (v : Known J) (items : List (NumberedJob J)) (views : List (Known J)) → HasList v → IsBoard n items views → get_elem? views port ≡ some v → (h : ℕ → ℕ)
-      → (total h (numbers_of v.lists) ≤ total h (below (length v.jobs))) × (length v.lists ≡ n → total h (numbers_of v.lists) + total h (queued items) ≡ total h (below (length v.jobs)))
-  learns_of n port v items views some_list b at h =
-      let a = accounted n b.board b.reached in
-      let p = a.all h in
-      let q = a.lists h in
-      let le = lists_le n port items views v h b at in
-      let g : length v.jobs ≡ b.board.put = ap length (b.know port v at some_list) ∙ sym b.put in
-      let k : total h (below (length v.jobs)) ≡ total h (below b.board.put) = ap (λ i. total h (below i)) g in
-      let w = ap (total h) b.waiting in (
-        omega (arith, p, q, le, k, w),
-        (λ every.
-            let weight : ℕ → ℕ = λ i. total h (get_or b.board.taken i []) in
-            let counts : total (λ (u : Known J). total (λ _. 1) (workers_of u.lists)) views ≡ total (λ _. 1) (workers_of v.lists) =
-            b.apart (λ _. 1) ∙ (total-length (below n) ∙ (length-below n ∙ (sym every ∙ sym (count_lists v.lists)))) in
-            let mine = alone (λ u. total (λ _. 1) (workers_of u.lists)) (λ u. total weight (workers_of u.lists)) (λ u. no_workers weight u.lists) views port v at counts in
-            let by = by_passes n items views h b in
-            let m = weigh_lists h b.board.taken v.lists (b.taken port v at) in
-            omega (arith, p, q, k, w, mine, by, m)),
-      )
-
-  pub learns : (port : ℕ) (v : Known J) → HasList v → Learns (IsBoard 64) port v (Accounts v)
-  learns port v some_list items views b at h = learns_of 64 port v items views some_list b at h

@@ -1,6 +1,6 @@
 -- What one more job adds to the list of a pass and to the answers.
 use Rattle.std.proofs.Common.{◌≡◌, ℕ, zero, suc, ◌+◌, ◌<◌, ◌≤◌, List, [], ◌∷◌, ◌++◌, All, length, length-append, map, get_or, Result, sym, refl, ap, ◌∙◌, subst, append_assoc, append-nil, arith}
-use Rattle.std.proofs.lemmas.List.{map-append, length-map}
+use Rattle.std.proofs.lemmas.List.{map-append, length-map, nil_from_length}
 use mathlib.Core.Option.{some, some-injective}
 use lib.ListN.{get_elem?}
 use Rattle.bt_gang.specs.declared.answers.Answer.{Answer}
@@ -9,10 +9,12 @@ use Rattle.bt_gang.specs.declared.rule.Known.{Known}
 use Rattle.bt_gang.specs.declared.rule.NumberedJob.{NumberedJob}
 use Rattle.bt_gang.specs.declared.rule.TakenList.{TakenList}
 use Rattle.bt_gang.specs.Numbers.{total, is_it, below}
-use Rattle.bt_gang.specs.Queue.{taken_list, no_lists, grown, numbers_of, known, gained, HasList, Popped, Accounts, queued}
+use Rattle.bt_gang.specs.Crews.{most_workers}
+use Rattle.bt_gang.specs.Queue.{taken_list, no_lists, grown, numbers_of, known, gained, HasList, IsBoardOf, Popped, queued}
 use Rattle.bt_gang.specs.Numbered.{numbered}
 use Rattle.bt_gang.specs.Answers.{AllMay, Gains, FoundNothing}
 use Rattle.bt_gang.proofs.Numbers.{times-below, total-length, length-below, at_below}
+use Rattle.bt_gang.proofs.Rules.{count_lists, weighed}
 
 module _ {D F : Type 0} where
   pub numbered-append : (xs ys : List (Answer D F)) → numbered (xs ++ ys) ≡ numbered xs ++ numbered ys
@@ -104,27 +106,42 @@ none_taken [] h = refl
 none_taken (w ∷ ws) h = none_taken ws h
 
 module _ {J : Type 0} where
-  no_items : (h : ℕ → ℕ) (items : List (NumberedJob J)) → length items ≡ 0 → total h (queued items) ≡ 0
-  no_items h [] e = refl
-  no_items h (i ∷ items) e = absurd (omega arith)
+  -- where a pass has the lists of all workers, each job is in one of them or in the queue
+  all_weighed : (n : ℕ) (v : Known J) (items : List (NumberedJob J)) → IsBoardOf n v items → length v.lists ≡ n → (h : ℕ → ℕ) → total h (numbers_of v.lists) + total h (queued items) ≡ total h (below (length v.jobs))
+  all_weighed n v items b all h =
+      let r = weighed n v items b in
+      let one : ℕ → ℕ = λ _. 1 in
+      let e = r.1 one in
+      let a = count_lists v.lists in
+      let c = total-length (below n) in
+      let d = length-below n in
+      let f = total-length r.0 in
+      let none : r.0 ≡ [] = nil_from_length r.0 (omega arith) in
+      let k = r.2 h in
+      let z : total (λ w. total h (get_or b.board.taken w [])) r.0 ≡ 0 = ap (total (λ w. total h (get_or b.board.taken w []))) none in
+      omega arith
 
-  pub found_nothing : (v w : Known J) → w ≡ v → (items : List (NumberedJob J)) × (length items ≡ 0) × Accounts v items → FoundNothing w
-  found_nothing v w e (items, none, a) = subst FoundNothing (sym e) (λ job.
-      let p = a (is_it job) in
-      let t = times-below job (length v.jobs) in
-      let z = no_items (is_it job) items none in
-      (let q = p.0 in omega arith, λ all. let q = p.1 all in omega arith))
+  pub found_nothing : (n : ℕ) (v : Known J) → IsBoardOf n v [] → n ≡ most_workers → FoundNothing v
+  found_nothing n v b most = λ job.
+      let t = times-below job (length v.jobs) in (
+        (let k = (weighed n v [] b).2 (is_it job) in omega arith),
+        (λ all. let k = all_weighed n v [] b (all ∙ sym most) (is_it job) in omega arith),
+      )
 
-  pub lists_length : (v : Known J) (jobs : List J) → v ≡ known jobs (no_lists 64) → length v.lists ≡ 64
-  lists_length v jobs e = ap (λ (y : Known J). length y.lists) e ∙ length-none 64
+  -- nothing waited at the last pop
+  pub nothing_waits : (n : ℕ) (v w : Known J) → w ≡ v → (items : List (NumberedJob J)) × (length items ≡ 0) × IsBoardOf n v items → IsBoardOf n w []
+  nothing_waits n v w e (items, none, b) = subst (λ u. IsBoardOf n u []) (sym e) (subst (IsBoardOf n v) (nil_from_length items none) b)
+
+  pub lists_length : (n : ℕ) (v : Known J) (jobs : List J) → v ≡ known jobs (no_lists n) → length v.lists ≡ n
+  lists_length n v jobs e = ap (λ (y : Known J). length y.lists) e ∙ length-none n
 
   -- a queue that has as many places as jobs is not full before the last
-  pub never_full : (v : Known J) (jobs : List J) (places : ℕ) → v ≡ known jobs (no_lists 64) → (items : List (NumberedJob J)) × (length items ≡ places) × Accounts v items → places ≡ length jobs
-  never_full v jobs places e (items, full, a) =
+  pub never_full : (n : ℕ) (v : Known J) (jobs : List J) (places : ℕ) → v ≡ known jobs (no_lists n) → (items : List (NumberedJob J)) × (length items ≡ places) × IsBoardOf n v items → places ≡ length jobs
+  never_full n v jobs places e (items, full, b) =
       let one : ℕ → ℕ = λ _. 1 in
-      let p = (a one).1 (lists_length v jobs e) in
+      let p = all_weighed n v items b (lists_length n v jobs e) one in
       let q = total-length (queued items) ∙ length-map items (λ (item : NumberedJob J). item.number) in
-      let r = ap (λ (y : Known J). total one (numbers_of y.lists)) e ∙ none_taken (below 64) one in
+      let r = ap (λ (y : Known J). total one (numbers_of y.lists)) e ∙ none_taken (below n) one in
       let s = total-length (below (length v.jobs)) ∙ length-below (length v.jobs) in
       let t = ap (λ (y : Known J). length y.jobs) e in
       omega arith

@@ -7,7 +7,7 @@ use native.Mathlib.Decide.{ℕ_discrete}
 use Rattle.bt_gang.specs.Numbers.{below}
 use Rattle.bt_gang.specs.Board.{state, start, after_put, after_take, after_hand, IsReached}
 use Rattle.bt_gang.specs.Board.Event.{Put, Take, Hand}
-use Rattle.bt_gang.specs.Takers.{places, lists_of, kept_state}
+use Rattle.bt_gang.specs.inside.Takers.{places, lists_of, kept_state}
 use Rattle.bt_gang.proofs.Numbers.{length-below, total-length, total-set_or}
 use Rattle.bt_gang.proofs.Accounts.{accounted, weight_held, total-holding}
 
@@ -31,7 +31,7 @@ places_other w t at [] ne =
     ap (λ (b : Bool). if b then at ∷ [] else []) e
 places_other w t at (x ∷ ts) ne = ap (λ l. if nat_eq x w then at ∷ l else l) (places_other w t (suc at) ts ne)
 
-below_at : (n i : ℕ) → i < n → get_or (below n) i 0 ≡ i
+pub below_at : (n i : ℕ) → i < n → get_or (below n) i 0 ≡ i
 below_at zero i l = absurd (omega arith)
 below_at (suc n) i l = dite (ℕ_discrete i n)
     (λ e. get_or_push (below n) n 0 i (length-below n ∙ sym e) ∙ sym e)

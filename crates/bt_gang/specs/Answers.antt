@@ -1,5 +1,5 @@
 -- What the answers of some jobs say.
-use Rattle.std.specs.Prelude.{◌≡◌, ℕ, ◌+◌, ◌<◌, ◌≤◌, List, [], ◌∷◌, ◌++◌, length, Option, Some, None, Result, Ok, set, ⊤}
+use Rattle.std.specs.Prelude.{◌≡◌, ℕ, ◌+◌, ◌≤◌, List, [], ◌∷◌, ◌++◌, length, Result, ⊤}
 use mathlib.Core.Option.{some}
 use lib.ListN.{get_elem?}
 use Rattle.bt_gang.specs.declared.answers.Answer.{Answer}
@@ -33,28 +33,3 @@ module _ {J : Type 0} where
       (job : ℕ)
       → (times job (numbers_of v.lists) ≤ once_below job (length v.jobs))
       × (HasAll v → times job (numbers_of v.lists) ≡ once_below job (length v.jobs))
-
-module _ {D F : Type 0} where
-  abbrev pub AllBelow : ℕ → List (Answer D F) → Type 0
-  AllBelow n [] = ⊤
-  AllBelow n (a ∷ rest) = (a.number < n) × AllBelow n rest
-
-  -- the places after the answers came in
-  abbrev pub puts : List (Option (Result D F)) → List (Answer D F) → List (Option (Result D F))
-  puts slots [] = slots
-  puts slots (a ∷ rest) = puts (set slots a.number (Some a.value)) rest
-
-  -- places that have these values
-  abbrev pub ok_slots : List D → List (Option (Result D F))
-  ok_slots [] = []
-  ok_slots (d ∷ ds) = Some (Ok d) ∷ ok_slots ds
-
-  -- a worker's answers: none where it was not started
-  abbrev pub answers_in : Option (Answers D F) → List (Answer D F)
-  answers_in None = []
-  answers_in (Some a) = a.list.items
-
-  -- the numbers of a worker's answers: none where it was not started
-  abbrev pub numbers_in : Option (Answers D F) → List ℕ
-  numbers_in None = []
-  numbers_in (Some a) = numbered a.list.items

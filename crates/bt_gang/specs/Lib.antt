@@ -1,9 +1,8 @@
+pub mod inside
 pub mod Numbers
 pub mod Board
-pub mod Takers
-pub mod Queue
 pub mod Crews
+pub mod Queue
 pub mod Numbered
 pub mod Answers
-pub mod Workers
 pub mod Run

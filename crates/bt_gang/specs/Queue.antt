@@ -1,19 +1,13 @@
 -- The rule of the queue: what waits in it and what the passes took is a state of the board.
-use Rattle.std.specs.Prelude.{◌≡◌, ℕ, ◌+◌, ◌<◌, ◌≤◌, List, [], ◌∷◌, ◌++◌, length, map, get_or, ⊤}
+use Rattle.std.specs.Prelude.{◌≡◌, ℕ, ◌<◌, ◌≤◌, List, [], ◌∷◌, ◌++◌, length, map, get_or, ⊤}
 use mathlib.Core.Option.{some}
 use lib.ListN.{get_elem?}
 use Rattle.bt_gang.specs.declared.rule.Known.{Known}
 use Rattle.bt_gang.specs.declared.rule.NumberedJob.{NumberedJob}
 use Rattle.bt_gang.specs.declared.rule.TakenList.{TakenList}
-use Rattle.bt_gang.specs.Numbers.{total, joined, below}
+use Rattle.bt_gang.specs.Numbers.{total, joined, times, below, once_below}
 use Rattle.bt_gang.specs.Board.{State, IsReached}
-
--- the most workers of a crew
-abbrev pub most_workers : ℕ
-most_workers = 64
-
-abbrev pub TakenLists : Type 0
-TakenLists = List TakenList
+use Rattle.bt_gang.specs.Crews.{most_workers}
 
 abbrev pub taken_list : ℕ → List ℕ → TakenList
 taken_list worker numbers = record { worker = worker; numbers = numbers }
@@ -81,7 +75,7 @@ module _ {J : Type 0} where
   abbrev pub EachPass : (Known J → Type 0) → List (Known J) → Type 0
   EachPass P views = (port : ℕ) (v : Known J) → get_elem? views port ≡ some v → P v
 
-  -- a run of the board leads to a state with these queued jobs and taken lists; each worker's list is in one pass, once, however the workers are weighed; and a pass with a list knows the jobs
+  -- a run of the board leads to a state with these queued jobs and taken lists; each worker's list is in one pass, once; and a pass with a list knows the jobs
   pub record IsBoard (workers : ℕ) (items : List (NumberedJob J)) (views : List (Known J)) : Type 0 where
     pub jobs : List J
     pub board : State
@@ -90,7 +84,7 @@ module _ {J : Type 0} where
     pub waiting : board.waiting ≡ queued items
     pub stand : Stand jobs items
     pub taken : EachPass (λ v. AreTaken board.taken v.lists) views
-    pub apart : (h : ℕ → ℕ) → total (λ (v : Known J). total h (workers_of v.lists)) views ≡ total h (below workers)
+    pub apart : (worker : ℕ) → total (λ (v : Known J). times worker (workers_of v.lists)) views ≡ once_below worker workers
     pub know : EachPass (λ v. HasList v → v.jobs ≡ jobs) views
 
   abbrev pub IsQueue : List (NumberedJob J) → List (Known J) → Type 0
@@ -104,9 +98,15 @@ module _ {J : Type 0} where
   abbrev pub Popped : Known J → NumberedJob J → Known J → Type 0
   Popped v item w = (w ≡ gained v (item.number ∷ [])) × (get_elem? v.jobs item.number ≡ some item.job) × (length (numbers_of v.lists) < length v.jobs)
 
-  -- however the numbers are weighed: the lists of a pass have no job more than once; and where it has all lists, a job is in them or in the queue
-  abbrev pub Accounts : Known J → List (NumberedJob J) → Type 0
-  Accounts v items =
-      (h : ℕ → ℕ)
-      → (total h (numbers_of v.lists) ≤ total h (below (length v.jobs)))
-      × (HasAll v → total h (numbers_of v.lists) + total h (queued items) ≡ total h (below (length v.jobs)))
+  -- what one pass learns of the board: a run leads to a state in which as many jobs were put as the pass knows, these wait, and each list of the pass is what its worker took; no worker has two lists in the pass
+  pub record IsBoardOf (workers : ℕ) (v : Known J) (items : List (NumberedJob J)) : Type 0 where
+    pub board : State
+    pub reached : IsReached workers board
+    pub put : board.put ≡ length v.jobs
+    pub waiting : board.waiting ≡ queued items
+    pub taken : AreTaken board.taken v.lists
+    pub apart : (worker : ℕ) → times worker (workers_of v.lists) ≤ once_below worker workers
+
+  -- the board of a pass, with no job waiting
+  abbrev pub NothingWaits : Known J → Type 0
+  NothingWaits v = IsBoardOf most_workers v []

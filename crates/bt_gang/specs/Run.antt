@@ -1,29 +1,36 @@
 -- What a run of all jobs promises.
-use Rattle.std.specs.Prelude.{◌≡◌, ℕ, ◌<◌, List, length, map, Option, Some, None, Result, Ok, Err, Vec}
+use Rattle.std.specs.Prelude.{◌≡◌, ℕ, ◌<◌, List, [], length, map, get_or, Result, Ok, Err, Vec}
 use Rattle.std.specs.Global.{Global}
 use mathlib.Core.Option.{some}
 use lib.ListN.{get_elem?}
 use Rattle.bt_gang.specs.declared.run.GangFault.{GangFault}
 use Rattle.bt_gang.specs.declared.run.GangFault.TheVariants.{OutOfMemory, Job}
 use Rattle.bt_gang.specs.Numbers.{joined, times, once_below}
+use Rattle.bt_gang.specs.Board.{State, IsReached}
+use Rattle.bt_gang.specs.Crews.{most_workers}
 use Rattle.bt_gang.specs.Answers.{MayAnswer}
+
+-- the lists of these numbers
+abbrev pub number_lists : List (Vec ℕ Global) → List (List ℕ)
+number_lists vs = map (λ (v : Vec ℕ Global). v.items) vs
 
 -- the numbers in these lists, one list after the other
 abbrev pub listed : List (Vec ℕ Global) → List ℕ
-listed vs = joined (map (λ (v : Vec ℕ Global). v.items) vs)
+listed vs = joined (number_lists vs)
 
 -- each number below n stands in one of the lists, once, and no other does
 abbrev pub EachOnce : ℕ → List (Vec ℕ Global) → Type 0
 EachOnce n lists = (number : ℕ) → times number (listed lists) ≡ once_below number n
 
-module _ {J D F : Type 0} (allows : J → Result D F → Type 0) where
-  -- the places of the numbers that came in are full, each with what its job may answer, and the others are empty
-  pub record Filled (jobs : List J) (slots : List (Option (Result D F))) (came : List ℕ) : Type 0 where
-    pub size : length slots ≡ length jobs
-    pub may : (i : ℕ) (value : Result D F) → get_elem? slots i ≡ some (Some value) → MayAnswer allows jobs i value
-    pub full : (i : ℕ) (value : Result D F) → get_elem? slots i ≡ some (Some value) → 0 < times i came
-    pub empty : (i : ℕ) → get_elem? slots i ≡ some None → times i came ≡ 0
+-- a run of the board leads to a state in which so many jobs were put, none of them waits, and each worker took its list; one that has no list took nothing
+pub record AreAllTaken (n : ℕ) (lists : List (List ℕ)) : Type 0 where
+  pub board : State
+  pub reached : IsReached most_workers board
+  pub put : board.put ≡ n
+  pub waiting : board.waiting ≡ []
+  pub taken : (worker : ℕ) → get_or board.taken worker [] ≡ get_or lists worker []
 
+module _ {J D F : Type 0} (allows : J → Result D F → Type 0) where
   -- at each number there is a value that its job may answer
   abbrev pub Answered : List J → List D → Type 0
   Answered jobs done = (length done ≡ length jobs) × ((number : ℕ) (d : D) → get_elem? done number ≡ some d → MayAnswer allows jobs number (Ok d))
@@ -32,13 +39,13 @@ module _ {J D F : Type 0} (allows : J → Result D F → Type 0) where
   abbrev pub AreValues : List J → List D → Type 0
   AreValues jobs done = (value : J → D) → ((job : J) (d : D) → allows job (Ok d) → d ≡ value job) → done ≡ map value jobs
 
-  -- each job was run: it has an answer that it may give
-  abbrev pub AllRun : List J → Type 0
-  AllRun jobs = (number : ℕ) → number < length jobs → (value : Result D F) × MayAnswer allows jobs number value
+  -- for each job there is an answer that it may give
+  abbrev pub HasAnswers : List J → Type 0
+  HasAnswers jobs = (number : ℕ) → number < length jobs → (value : Result D F) × MayAnswer allows jobs number value
 
-  -- the job may answer this fault, each job of a lower number may answer a value, and all were run
+  -- the job may answer this fault, each job of a lower number may answer a value, and for each other there is an answer that it may give
   abbrev pub IsLeast : List J → GangFault F → Type 0
   IsLeast jobs = elim [
     | OutOfMemory ↦ Unit
-    | Job number fault ↦ MayAnswer allows jobs number (Err fault) × ((i : ℕ) → i < number → (d : D) × MayAnswer allows jobs i (Ok d)) × AllRun jobs
+    | Job number fault ↦ MayAnswer allows jobs number (Err fault) × ((i : ℕ) → i < number → (d : D) × MayAnswer allows jobs i (Ok d)) × HasAnswers jobs
   ]

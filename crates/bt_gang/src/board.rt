@@ -21,7 +21,7 @@ pub struct Board {
 impl Model for Board {
     ghost use Rattle.std.specs.Prelude.{◌≤◌, length, vec_capacity};
     ghost use Rattle.bt_gang.specs.Board.{IsReached, Roomy};
-    ghost use Rattle.bt_gang.specs.Takers.{kept_state};
+    ghost use Rattle.bt_gang.specs.inside.Takers.{kept_state};
 
     ghost Value = { Roomy };
 

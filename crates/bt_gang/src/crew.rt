@@ -1,5 +1,5 @@
 //! Who works, and what is called around each job.
-ghost use Rattle.std.specs.Prelude.{◌≡◌, ◌<◌, ◌≤◌, ◌⊎◌, IfErr, IfOk, OnErr};
+ghost use Rattle.std.specs.Prelude.{◌≡◌, ◌<◌, IfErr, IfOk};
 ghost use Rattle.bt_rowtype.specs.declared.refusal.Refusal.TheVariants.{BadCrew};
 ghost use Rattle.bt_gang.specs.Crews.{IsCrew};
 

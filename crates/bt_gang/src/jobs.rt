@@ -1,7 +1,8 @@
 //! The jobs of one call, in their queue.
 ghost use Rattle.std.specs.Prelude.{◌≡◌, ◌<◌, IfOk, vec_len};
 ghost use Rattle.crossbeam_queue.specs.Passes.{IsPassOf, view};
-ghost use Rattle.bt_gang.specs.Queue.{known, most_workers, no_lists};
+ghost use Rattle.bt_gang.specs.Crews.{most_workers};
+ghost use Rattle.bt_gang.specs.Queue.{known, no_lists};
 
 use crate::rule::{JobQueue, Known, NumberedJob, Push};
 use crossbeam_queue::Pass;

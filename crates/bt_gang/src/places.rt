@@ -1,5 +1,5 @@
 //! Places that are empty at first.
-ghost use Rattle.std.specs.Prelude.{◌≡◌, IfOk, None, replicate, vec_capacity, vec_len, ◌≤◌};
+ghost use Rattle.std.specs.Prelude.{◌≡◌, IfOk, None, replicate};
 
 use std::alloc::{AllocError, Global};
 

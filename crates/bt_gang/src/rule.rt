@@ -28,7 +28,8 @@ pub struct JobRule;
 
 impl<J> Protocol<NumberedJob<J>, Known<J>> for JobRule {
     ghost use Rattle.std.specs.Prelude.{[]};
-    ghost use Rattle.bt_gang.specs.Queue.{IsQueue, known, most_workers, no_lists};
+    ghost use Rattle.bt_gang.specs.Crews.{most_workers};
+    ghost use Rattle.bt_gang.specs.Queue.{IsQueue, known, no_lists};
 
     ghost holds = { IsQueue };
 
@@ -55,7 +56,7 @@ impl<J> Join<Known<J>> for WorkerPass {
     ghost spent = { known [] [] };
 }
 
-/// A push by the caller. Where the queue is full, the pass learns what it holds.
+/// A push by the caller. The queue's trait asks what a pass learns where the queue is full, which never comes.
 pub struct Push;
 
 impl<J> Outcome<NumberedJob<J>, Known<J>> for Push {
@@ -65,9 +66,10 @@ impl<J> Outcome<NumberedJob<J>, Known<J>> for Push {
 }
 
 impl<J> Lesson<NumberedJob<J>, Known<J>> for Push {
-    ghost use Rattle.bt_gang.specs.Queue.{Accounts};
+    ghost use Rattle.bt_gang.specs.Crews.{most_workers};
+    ghost use Rattle.bt_gang.specs.Queue.{IsBoardOf};
 
-    ghost fact = { Accounts };
+    ghost fact = { IsBoardOf most_workers };
 }
 
 /// A pop that takes the front, or one that finds nothing, by which the pass learns that no job waits.
@@ -80,9 +82,10 @@ impl<J> Outcome<NumberedJob<J>, Known<J>> for Pop {
 }
 
 impl<J> Lesson<NumberedJob<J>, Known<J>> for Pop {
-    ghost use Rattle.bt_gang.specs.Queue.{Accounts};
+    ghost use Rattle.bt_gang.specs.Crews.{most_workers};
+    ghost use Rattle.bt_gang.specs.Queue.{IsBoardOf};
 
-    ghost fact = { Accounts };
+    ghost fact = { IsBoardOf most_workers };
 }
 
 pub type JobQueue<J> = RuledArrayQueue<NumberedJob<J>, Known<J>, JobRule>;

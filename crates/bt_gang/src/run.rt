@@ -1,11 +1,12 @@
 //! All jobs of a call, run by a crew.
-ghost use Rattle.std.specs.Prelude.{◌≡◌, ◌+◌, ◌-◌, ◌<◌, ◌≤◌, ℕ, List, [], ◌++◌, All, IfErr, IfOk, IfSome, length, map, None, Option, replicate, vec_capacity, vec_len};
+ghost use Rattle.std.specs.Prelude.{◌≡◌, ◌+◌, ◌-◌, ◌<◌, ◌≤◌, List, [], ◌++◌, All, IfErr, IfOk, IfSome, IsSome, length, map, None, Option, replicate, vec_capacity, vec_len};
 ghost use Rattle.crossbeam_queue.specs.Passes.{IsPassOf, view};
 ghost use Rattle.bt_gang.specs.Numbers.{joined};
-ghost use Rattle.bt_gang.specs.Answers.{AllBelow, AllMay, answers_in, numbers_in, puts};
+ghost use Rattle.bt_gang.specs.Queue.{NothingWaits};
 ghost use Rattle.bt_gang.specs.declared.run.GangFault.TheVariants.{OutOfMemory};
-ghost use Rattle.bt_gang.specs.Run.{Answered, AreValues, EachOnce, Filled, IsLeast, listed};
-ghost use Rattle.bt_gang.specs.Workers.{HasServed, HasServedCaller, IsReady, IsReadyCaller};
+ghost use Rattle.bt_gang.specs.Run.{Answered, AreAllTaken, AreValues, EachOnce, IsLeast, number_lists};
+ghost use Rattle.bt_gang.specs.inside.Places.{AllBelow, IsFaultAmong, answers_in, numbers_in, ok_slots, puts};
+ghost use Rattle.bt_gang.specs.inside.Workers.{AllFrom, AreEmptyWhereAbsent, AreListsOf, HasServed, HasServedCaller, IsReady, IsReadyCaller};
 
 use crate::answers::Answers;
 use crate::crew::{Crew, Gate};
@@ -58,12 +59,12 @@ fn serve_all<'s, E, W: Work + Sync, G: Gate + Sync, R: Threads + Wait + Sync>(
     back: Vec<Option<Worker<W::Job, W::Done, W::Fault>>>,
 ) -> Served<W::Job, W::Done, W::Fault>
     requires mine { IsReadyCaller jobs.now all.now.value.items (vec_len workers) mine }
-    requires workers { All (λ w. IsReady jobs.now all.now.value.items [] w) workers.items }
+    requires workers { AllFrom (IsReady jobs.now all.now.value.items []) 1 workers.items }
     requires children { (children.items ≡ []) × (vec_len workers ≤ vec_capacity children) }
     requires back { (back.items ≡ []) × (vec_len workers ≤ vec_capacity back) }
     requires accepts { All (λ job. W.accepts work.now job) all.now.value.items }
     ensures mine { HasServedCaller (W.allows work.now) jobs.now all.now.value.items (vec_len workers) result.mine }
-    ensures others { All (λ w. IfSome w (λ w. HasServed (W.allows work.now) jobs.now all.now.value.items [] w)) result.others.items }
+    ensures others { AllFrom (λ number w. IfSome w (HasServed (W.allows work.now) jobs.now all.now.value.items [] number)) 1 result.others.items }
     ensures len { vec_len result.others ≡ vec_len workers }
 {
     let children = start(scope, rt, alloc, work, jobs, all, crew, workers, children);
@@ -86,12 +87,12 @@ fn serve_threads<W: Work + Sync, G: Gate + Sync, R: Threads + Wait + Sync>(
     back: Vec<Option<Worker<W::Job, W::Done, W::Fault>>>,
 ) -> Served<W::Job, W::Done, W::Fault>
     requires mine { IsReadyCaller jobs.now all.now.value.items (vec_len workers) mine }
-    requires workers { All (λ w. IsReady jobs.now all.now.value.items [] w) workers.items }
+    requires workers { AllFrom (IsReady jobs.now all.now.value.items []) 1 workers.items }
     requires children { (children.items ≡ []) × (vec_len workers ≤ vec_capacity children) }
     requires back { (back.items ≡ []) × (vec_len workers ≤ vec_capacity back) }
     requires accepts { All (λ job. W.accepts work.now job) all.now.value.items }
     ensures mine { HasServedCaller (W.allows work.now) jobs.now all.now.value.items (vec_len workers) result.mine }
-    ensures others { All (λ w. IfSome w (λ w. HasServed (W.allows work.now) jobs.now all.now.value.items [] w)) result.others.items }
+    ensures others { AllFrom (λ number w. IfSome w (HasServed (W.allows work.now) jobs.now all.now.value.items [] number)) 1 result.others.items }
     ensures len { vec_len result.others ≡ vec_len workers }
 {
     thread::scope(
@@ -99,12 +100,12 @@ fn serve_threads<W: Work + Sync, G: Gate + Sync, R: Threads + Wait + Sync>(
         rt,
         move |scope| -> Served<W::Job, W::Done, W::Fault>
             requires { IsReadyCaller jobs.now all.now.value.items (vec_len workers) mine
-                × All (λ w. IsReady jobs.now all.now.value.items [] w) workers.items
+                × AllFrom (IsReady jobs.now all.now.value.items []) 1 workers.items
                 × (children.items ≡ []) × (vec_len workers ≤ vec_capacity children)
                 × (back.items ≡ []) × (vec_len workers ≤ vec_capacity back)
                 × All (λ job. W.accepts work.now job) all.now.value.items }
             ensures { HasServedCaller (W.allows work.entry.now) jobs.entry.now all.entry.now.value.items (vec_len workers) result.mine
-                × All (λ w. IfSome w (λ w. HasServed (W.allows work.entry.now) jobs.entry.now all.entry.now.value.items [] w)) result.others.items
+                × AllFrom (λ number w. IfSome w (HasServed (W.allows work.entry.now) jobs.entry.now all.entry.now.value.items [] number)) 1 result.others.items
                 × (vec_len result.others ≡ vec_len workers) }
         {
             serve_all(
@@ -140,7 +141,7 @@ fn place_all<D: Drop, F: Drop>(
     requires numbers { AllBelow (length slots.old.items) (joined (map answers_in outs.items)) }
     requires room { vec_len taken + vec_len outs ≤ vec_capacity taken }
     ensures slots { slots.new.items ≡ puts slots.old.items (joined (map answers_in outs.items)) }
-    ensures numbers { listed result.items ≡ listed taken.items ++ joined (map numbers_in outs.items) }
+    ensures numbers { number_lists result.items ≡ number_lists taken.items ++ map numbers_in outs.items }
     ensures len { vec_len result ≡ vec_len taken + vec_len outs }
 {
     for out in outs {
@@ -149,7 +150,26 @@ fn place_all<D: Drop, F: Drop>(
     taken
 }
 
-// Takes in the passes, runs what is left of the jobs, and places the answers.
+// The values where each place has one, and else the first fault. Want of memory where a place is empty.
+fn values_or_fault<D: Drop, F: Drop>(
+    slots: Slots<D, F>,
+    done: Vec<D>,
+) -> Result<Vec<D>, GangFault<F>>
+    requires { (done.items ≡ []) × (vec_len slots ≤ vec_capacity done) }
+    ensures values { IfOk result (λ d. slots.items ≡ ok_slots d.items) }
+    ensures fault { IfErr result (IsFaultAmong slots.items) }
+{
+    if !is_full(&slots) {
+        return Err(GangFault::OutOfMemory);
+    }
+    match values(slots, done) {
+        Ok(done) => Ok(done),
+        Err(JobFault { number, fault }) => Err(GangFault::Job { number, fault }),
+    }
+}
+
+// Takes in the passes, runs what is left of the jobs, and places the answers. Gives the caller's pass too, which has the lists of
+// those that came back. An answer is missing only where one did not.
 fn finish<W: Work, G: Gate, R: Wait>(
     rt: &R,
     alloc: Global,
@@ -162,35 +182,39 @@ fn finish<W: Work, G: Gate, R: Wait>(
     mut slots: Slots<W::Done, W::Fault>,
     mut taken: Vec<Vec<usize>>,
     done: Vec<W::Done>,
-) -> Result<Ran<W::Done>, GangFault<W::Fault>>
+) -> Result<(Ran<W::Done>, JobPass<W::Job>), GangFault<W::Fault>>
     requires mine { HasServedCaller (W.allows work.now) jobs.now all.now.value.items (vec_len served.others) served.mine }
-    requires others { All (λ w. IfSome w (λ w. HasServed (W.allows work.now) jobs.now all.now.value.items [] w)) served.others.items }
+    requires others { AllFrom (λ number w. IfSome w (HasServed (W.allows work.now) jobs.now all.now.value.items [] number)) 1 served.others.items }
     requires came { (came.items ≡ []) × (vec_len served.others ≤ vec_capacity came) }
     requires slots { slots.items ≡ replicate (length all.now.value.items) None }
     requires taken { (taken.items ≡ []) × (vec_len served.others + 1 ≤ vec_capacity taken) }
     requires done { (done.items ≡ []) × (length all.now.value.items ≤ vec_capacity done) }
     requires accepts { All (λ job. W.accepts work.now job) all.now.value.items }
-    ensures lists { IfOk result (λ r. vec_len r.taken ≡ vec_len served.others + 1) }
-    ensures once { IfOk result (λ r. EachOnce (length all.now.value.items) r.taken.items) }
-    ensures done { IfOk result (λ r. Answered (W.allows work.now) all.now.value.items r.done.items) }
+    ensures pass { IfOk result (λ r. IsPassOf jobs.now.queue r.1) }
+    ensures lists { IfOk result (λ r. vec_len r.0.taken ≡ vec_len served.others + 1) }
+    ensures jobs { IfOk result (λ r. (view r.1).jobs ≡ all.now.value.items) }
+    ensures taken { IfOk result (λ r. AreListsOf (view r.1) (number_lists r.0.taken.items)) }
+    ensures absent { IfOk result (λ r. AreEmptyWhereAbsent served.others.items (number_lists r.0.taken.items)) }
+    ensures settled { IfOk result (λ r. NothingWaits (view r.1)) }
+    ensures board { IfOk result (λ r. AreAllTaken (length all.now.value.items) (number_lists r.0.taken.items)) }
+    ensures once { IfOk result (λ r. EachOnce (length all.now.value.items) r.0.taken.items) }
+    ensures done { IfOk result (λ r. Answered (W.allows work.now) all.now.value.items r.0.done.items) }
     ensures fault { IfErr result (IsLeast (W.allows work.now) all.now.value.items) }
+    ensures memory { IfErr result (λ fault. fault ≡ OutOfMemory → ¬ (All IsSome served.others.items)) }
 {
     let Served { mine, others } = served;
-    let Worker { mut pass, mut out } = mine;
-    let started = others.len();
-    let (outs, back) = take_in(work, jobs, all, &mut pass, others, came);
+    let Worker {
+        number: _number,
+        mut pass,
+        mut out,
+    } = mine;
+    let outs = take_in(work, jobs, all, &mut pass, others, came);
     serve(rt, alloc, work, jobs, &mut pass, crew, &mut out);
     taken.push_reserved(place(out, &mut slots));
     let taken = place_all(alloc, outs, &mut slots, taken);
-    if !is_full(&slots) {
-        if back == started {
-            unreachable!()
-        }
-        return Err(GangFault::OutOfMemory);
-    }
-    match values(slots, done) {
-        Ok(done) => Ok(Ran { done, taken }),
-        Err(JobFault { number, fault }) => Err(GangFault::Job { number, fault }),
+    match values_or_fault(slots, done) {
+        Ok(done) => Ok((Ran { done, taken }, pass)),
+        Err(fault) => Err(fault),
     }
 }
 
@@ -198,7 +222,7 @@ fn finish<W: Work, G: Gate, R: Wait>(
 fn ran_nothing<D: Drop, F: Drop>(alloc: Global, workers: usize) -> Result<Ran<D>, GangFault<F>>
     ensures done { IfOk result (λ r. r.done.items ≡ []) }
     ensures len { IfOk result (λ r. vec_len r.taken ≡ workers) }
-    ensures taken { IfOk result (λ r. listed r.taken.items ≡ []) }
+    ensures taken { IfOk result (λ r. number_lists r.taken.items ≡ replicate workers []) }
     ensures refused { IfErr result (λ fault. fault ≡ OutOfMemory) }
 {
     let Ok(mut taken) = Vec::with_capacity(alloc, workers) else {
@@ -223,6 +247,7 @@ pub fn run_jobs<W: Work + Sync, G: Gate + Sync, R: Threads + Wait + Sync>(
 ) -> Result<Ran<W::Done>, GangFault<W::Fault>>
     requires accepts { All (λ job. W.accepts work.now job) jobs.items }
     ensures lists { IfOk result (λ r. vec_len r.taken ≡ crew.now.workers) }
+    ensures taken { IfOk result (λ r. AreAllTaken (length jobs.items) (number_lists r.taken.items)) }
     ensures once { IfOk result (λ r. EachOnce (length jobs.items) r.taken.items) }
     ensures done { IfOk result (λ r. Answered (W.allows work.now) jobs.items r.done.items) }
     ensures values { IfOk result (λ r. AreValues (W.allows work.now) jobs.items r.done.items) }
@@ -243,6 +268,7 @@ pub fn run_jobs<W: Work + Sync, G: Gate + Sync, R: Threads + Wait + Sync>(
     let jobs = &made;
     let workers = split(jobs, all, &mut pass, room.outs, room.workers);
     let mine = Worker {
+        number: 0,
         pass,
         out: room.out,
     };
@@ -258,7 +284,11 @@ pub fn run_jobs<W: Work + Sync, G: Gate + Sync, R: Threads + Wait + Sync>(
         room.children,
         room.back,
     );
-    finish(
+    let finished = finish(
         rt, alloc, work, jobs, all, crew, served, room.came, room.slots, room.taken, room.done,
-    )
+    );
+    match finished {
+        Ok((ran, _pass)) => Ok(ran),
+        Err(fault) => Err(fault),
+    }
 }

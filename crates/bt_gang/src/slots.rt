@@ -2,8 +2,8 @@
 ghost use Rattle.std.specs.Prelude.{◌≡◌, ◌<◌, ◌≤◌, ℕ, List, [], ◌∷◌, ◌++◌, length, vec_capacity, vec_len, Err, IfErr, IfOk, IsTrue, IsFalse, None, Option, Result, Some, set};
 ghost use lib.ListN.{get_elem?};
 ghost use mathlib.Core.Option.{some};
-ghost use Rattle.bt_gang.specs.Answers.{AllBelow, ok_slots, puts};
 ghost use Rattle.bt_gang.specs.Numbered.{numbered};
+ghost use Rattle.bt_gang.specs.inside.Places.{AllBelow, IsFull, ok_slots, puts};
 
 use crate::answers::Answers;
 
@@ -30,9 +30,9 @@ pub(crate) fn place<D: Drop, F: Drop>(out: Answers<D, F>, slots: &mut Slots<D, F
     out.numbers
 }
 
-/// Whether there are as many different numbers among the answers as jobs.
+/// Whether no place is empty: there are as many different numbers among the answers as jobs.
 pub(crate) fn is_full<D, F>(slots: &Slots<D, F>) -> bool
-    ensures full { IsTrue result → (i : ℕ) → ¬ (get_elem? slots.now.items i ≡ some None) }
+    ensures full { IsTrue result → IsFull slots.now.items }
     ensures free { IsFalse result → (i : ℕ) × (get_elem? slots.now.items i ≡ some None) }
 {
     for place in 0..slots.len() {
@@ -55,7 +55,7 @@ pub(crate) fn values<D: Drop, F: Drop>(
     slots: Slots<D, F>,
     mut done: Vec<D>,
 ) -> Result<Vec<D>, JobFault<F>>
-    requires full { (i : ℕ) → ¬ (get_elem? slots.items i ≡ some None) }
+    requires full { IsFull slots.items }
     requires done { (done.items ≡ []) × (vec_len slots ≤ vec_capacity done) }
     ensures ok { IfOk result (λ d. slots.items ≡ ok_slots d.items) }
     ensures err { IfErr result (λ e. (before : List D) × (after : List (Option (Result D F))) × (length before ≡ e.number) × (slots.items ≡ ok_slots before ++ Some (Err e.fault) ∷ after)) }

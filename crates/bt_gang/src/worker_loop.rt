@@ -1,7 +1,7 @@
 //! One worker's loop.
 ghost use Rattle.std.specs.Prelude.{◌+◌, ◌≤◌, All, length};
 ghost use Rattle.crossbeam_queue.specs.Passes.{IsPassOf, view};
-ghost use Rattle.bt_gang.specs.Queue.{HasList, numbers_of};
+ghost use Rattle.bt_gang.specs.Queue.{HasList, NothingWaits, numbers_of};
 ghost use Rattle.bt_gang.specs.Answers.{FoundNothing, Gains};
 
 use crate::answers::Answers;
@@ -28,6 +28,7 @@ pub fn serve<W: Work, G: Gate, R: Wait>(
     requires spare { length (view pass.old).jobs ≤ out.old.spare + length (numbers_of (view pass.old).lists) }
     ensures pass { IsPassOf jobs.now.queue pass.new }
     ensures gains { Gains (W.allows work.now) (view pass.old) (view pass.new) out.old out.new }
+    ensures settled { NothingWaits (view pass.new) }
     ensures last { FoundNothing (view pass.new) }
 {
     for _ in rt.forever() {

@@ -1,11 +1,9 @@
 //! The workers of one call: passes are split off, threads are started and joined, and passes are taken in.
-ghost use Rattle.std.specs.Prelude.{◌≡◌, ◌+◌, ◌<◌, ◌≤◌, ℕ, List, [], ◌++◌, ◌∷◌, All, IfSome, length, map, vec_capacity, vec_len};
+ghost use Rattle.std.specs.Prelude.{◌≡◌, ◌+◌, ◌<◌, ◌≤◌, List, [], All, IfSome, length, map, vec_capacity, vec_len};
 ghost use Rattle.crossbeam_queue.specs.Passes.{IsPassOf, view};
-ghost use Rattle.bt_gang.specs.Numbers.{joined};
-ghost use Rattle.bt_gang.specs.Numbered.{numbered};
-ghost use Rattle.bt_gang.specs.Queue.{HasList, TakenLists, known, most_workers, no_lists, numbers_of};
-ghost use Rattle.bt_gang.specs.Answers.{AllMay, FoundNothing, numbers_in};
-ghost use Rattle.bt_gang.specs.Workers.{HasServed, IsCaller, IsReady, TookIn};
+ghost use Rattle.bt_gang.specs.Crews.{most_workers};
+ghost use Rattle.bt_gang.specs.Queue.{HasList, known, no_lists};
+ghost use Rattle.bt_gang.specs.inside.Workers.{AllFrom, HasServed, IsCaller, IsPromise, IsReady, TookIn, out_of};
 
 use crate::answers::Answers;
 use crate::crew::{Crew, Gate};
@@ -18,31 +16,33 @@ use std::snapshot::Snapshot;
 use std::sync::Wait;
 use std::thread::{Promise, PromisedHandle, Scope, Threads};
 
-/// A worker's pass and its answers.
+/// A worker's number, its pass and its answers. The caller is worker 0.
 #[derive(Drop)]
 pub struct Worker<J: Drop, D, F> {
+    pub number: usize,
     pub pass: JobPass<J>,
     pub out: Answers<D, F>,
 }
 
 pub(crate) type WorkerOf<W> = Worker<<W as Work>::Job, <W as Work>::Done, <W as Work>::Fault>;
 
-/// That a thread gives back its pass with an answer for each job that it took.
+/// That the thread of the worker with this number gives back its pass with an answer for each job that it took.
 #[derive(Drop)]
 pub struct GivesBack<W: Work> {
+    number: usize,
     work: Snapshot<W>,
     jobs: Snapshot<Jobs<W::Job>>,
     all: Snapshot<Snapshot<Vec<W::Job>>>,
 }
 
 impl<W: Work> Promise<Worker<W::Job, W::Done, W::Fault>> for GivesBack<W> {
-    ghost kept_by = { λ p r. HasServed (W.allows p.work.value) p.jobs.value p.all.value.value.items [] r };
+    ghost kept_by = { λ p r. HasServed (W.allows p.work.value) p.jobs.value p.all.value.value.items [] p.number r };
 }
 
 /// The thread of a worker, or nothing where it could not be started.
 pub(crate) type Child<W> = Option<PromisedHandle<WorkerOf<W>, GivesBack<W>>>;
 
-/// A worker for each list of answers: its pass gets the list of one worker.
+/// A worker for each list of answers, with the numbers from 1 on: its pass gets the list of the worker with its number.
 pub(crate) fn split<J: Drop, D: Drop, F: Drop>(
     jobs: &Jobs<J>,
     all: &Snapshot<Vec<J>>,
@@ -52,14 +52,19 @@ pub(crate) fn split<J: Drop, D: Drop, F: Drop>(
 ) -> Vec<Worker<J, D, F>>
     requires pass { IsPassOf jobs.now.queue pass.old × (view pass.old ≡ known all.now.value.items (no_lists most_workers)) }
     requires outs { All (λ a. (a.list.items ≡ []) × (a.spare ≡ length all.now.value.items)) outs.items }
-    requires room { (workers.items ≡ []) × (vec_len outs < 64) × (vec_len outs ≤ vec_capacity workers) }
+    requires room { (workers.items ≡ []) × (vec_len outs < most_workers) × (vec_len outs ≤ vec_capacity workers) }
     ensures pass { IsPassOf jobs.now.queue pass.new × IsCaller all.now.value.items (vec_len outs) (view pass.new) }
-    ensures each { All (λ w. IsReady jobs.now all.now.value.items [] w) result.items }
+    ensures each { AllFrom (IsReady jobs.now all.now.value.items []) 1 result.items }
     ensures len { vec_len result ≡ vec_len outs }
 {
     for out in outs {
+        let number = workers.len() + 1;
         let theirs = jobs.queue.another::<WorkerPass>(pass);
-        workers.push_reserved(Worker { pass: theirs, out });
+        workers.push_reserved(Worker {
+            number,
+            pass: theirs,
+            out,
+        });
     }
     workers
 }
@@ -74,13 +79,17 @@ fn served<W: Work, G: Gate, R: Wait>(
     crew: &Crew<G>,
     worker: Worker<W::Job, W::Done, W::Fault>,
 ) -> Worker<W::Job, W::Done, W::Fault>
-    requires worker { IsReady jobs.now all.now.value.items [] worker }
+    requires worker { IsReady jobs.now all.now.value.items [] worker.number worker }
     requires accepts { All (λ job. W.accepts work.now job) all.now.value.items }
-    ensures { HasServed (W.allows work.now) jobs.now all.now.value.items [] result }
+    ensures { HasServed (W.allows work.now) jobs.now all.now.value.items [] worker.number result }
 {
-    let Worker { mut pass, mut out } = worker;
+    let Worker {
+        number,
+        mut pass,
+        mut out,
+    } = worker;
     serve(rt, alloc, work, jobs, &mut pass, crew, &mut out);
-    Worker { pass, out }
+    Worker { number, pass, out }
 }
 
 /// Starts a thread for each worker but the caller. One that cannot be started is absent, and its jobs are left to the others.
@@ -95,18 +104,20 @@ pub(crate) fn start<'s, E, W: Work + Sync, G: Gate + Sync, R: Threads + Wait + S
     workers: Vec<Worker<W::Job, W::Done, W::Fault>>,
     mut children: Vec<Option<PromisedHandle<Worker<W::Job, W::Done, W::Fault>, GivesBack<W>>>>,
 ) -> Vec<Option<PromisedHandle<Worker<W::Job, W::Done, W::Fault>, GivesBack<W>>>>
-    requires workers { All (λ w. IsReady jobs.now all.now.value.items [] w) workers.items }
+    requires workers { AllFrom (IsReady jobs.now all.now.value.items []) 1 workers.items }
     requires room { (children.items ≡ []) × (vec_len workers ≤ vec_capacity children) }
     requires accepts { All (λ job. W.accepts work.now job) all.now.value.items }
-    ensures each { All (λ child. IfSome child (λ h. (h.promise.jobs.value ≡ jobs.now) × (h.promise.work.value ≡ work.now) × (h.promise.all.value ≡ all.now))) result.items }
+    ensures each { AllFrom (λ number child. IfSome child (λ h. IsPromise work.now jobs.now all.now.value.items number h.promise)) 1 result.items }
     ensures len { vec_len result ≡ vec_len workers }
 {
     for worker in workers {
+        let number = worker.number;
         let task = move || -> Worker<W::Job, W::Done, W::Fault>
-            requires { IsReady jobs.now all.now.value.items [] worker × All (λ job. W.accepts work.now job) all.now.value.items }
-            ensures { HasServed (W.allows work.entry.now) jobs.entry.now all.entry.now.value.items [] result }
+            requires { IsReady jobs.now all.now.value.items [] worker.number worker × All (λ job. W.accepts work.now job) all.now.value.items }
+            ensures { HasServed (W.allows work.entry.now) jobs.entry.now all.entry.now.value.items [] worker.number result }
         { served(rt, alloc, work, jobs, all, crew, worker) };
         let promise = GivesBack {
+            number,
             work: Snapshot::of(work),
             jobs: Snapshot::of(jobs),
             all: Snapshot::of(all),
@@ -128,9 +139,9 @@ pub(crate) fn join_all<W: Work, R: Threads>(
     children: Vec<Option<PromisedHandle<Worker<W::Job, W::Done, W::Fault>, GivesBack<W>>>>,
     mut back: Vec<Option<Worker<W::Job, W::Done, W::Fault>>>,
 ) -> Vec<Option<Worker<W::Job, W::Done, W::Fault>>>
-    requires children { All (λ child. IfSome child (λ h. (h.promise.jobs.value ≡ jobs.now) × (h.promise.work.value ≡ work.now) × (h.promise.all.value ≡ all.now))) children.items }
+    requires children { AllFrom (λ number child. IfSome child (λ h. IsPromise work.now jobs.now all.now.value.items number h.promise)) 1 children.items }
     requires room { (back.items ≡ []) × (vec_len children ≤ vec_capacity back) }
-    ensures each { All (λ w. IfSome w (λ w. HasServed (W.allows work.now) jobs.now all.now.value.items [] w)) result.items }
+    ensures each { AllFrom (λ number w. IfSome w (HasServed (W.allows work.now) jobs.now all.now.value.items [] number)) 1 result.items }
     ensures len { vec_len result ≡ vec_len children }
 {
     for child in children {
@@ -142,7 +153,7 @@ pub(crate) fn join_all<W: Work, R: Threads>(
     back
 }
 
-/// Takes in the passes of those that were started. Gives the answers of each worker, and how many passes came back.
+/// Takes in the passes of those that were started. Gives the answers of each worker.
 pub(crate) fn take_in<W: Work>(
     work: &W,
     jobs: &Jobs<W::Job>,
@@ -150,25 +161,27 @@ pub(crate) fn take_in<W: Work>(
     pass: &mut JobPass<W::Job>,
     workers: Vec<Option<Worker<W::Job, W::Done, W::Fault>>>,
     mut outs: Vec<Option<Answers<W::Done, W::Fault>>>,
-) -> (Vec<Option<Answers<W::Done, W::Fault>>>, usize)
+) -> Vec<Option<Answers<W::Done, W::Fault>>>
     requires pass { IsPassOf jobs.now.queue pass.old × HasList (view pass.old) }
-    requires workers { All (λ w. IfSome w (λ w. HasServed (W.allows work.now) jobs.now all.now.value.items [] w)) workers.items }
+    requires workers { AllFrom (λ number w. IfSome w (HasServed (W.allows work.now) jobs.now all.now.value.items [] number)) 1 workers.items }
     requires room { (outs.items ≡ []) × (vec_len workers ≤ vec_capacity outs) }
-    ensures pass { IsPassOf jobs.now.queue pass.new × TookIn (view pass.old) (view pass.new) result.1 (map numbers_in result.0.items) }
-    ensures each { All (λ o. IfSome o (λ a. AllMay (W.allows work.now) all.now.value.items a.list.items)) result.0.items }
-    ensures len { vec_len result.0 ≡ vec_len workers }
+    ensures pass { IsPassOf jobs.now.queue pass.new × TookIn (view pass.old) (view pass.new) result.items }
+    ensures outs { result.items ≡ map out_of workers.items }
+    ensures len { vec_len result ≡ vec_len workers }
 {
-    let mut back = 0;
     for worker in workers {
         match worker {
             Some(served) => {
-                let Worker { pass: theirs, out } = served;
+                let Worker {
+                    number: _number,
+                    pass: theirs,
+                    out,
+                } = served;
                 jobs.queue.absorb::<WorkerPass>(pass, theirs);
                 outs.push_reserved(Some(out));
-                back += 1;
             }
             None => outs.push_reserved(None),
         }
     }
-    (outs, back)
+    outs
 }

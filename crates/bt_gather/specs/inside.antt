@@ -1,3 +1,4 @@
 pub mod Fillings
 pub mod Marks
 pub mod Slots
+pub mod Views

@@ -10,8 +10,7 @@ use Rattle.std.specs.declared.cmp.Ordering.TheVariants.{Less, Equal, Greater}
 use Rattle.std.proofs.lemmas.Int.{ints}
 use Rattle.bt_rowtype.specs.declared.value.Value.{Value}
 use Rattle.bt_rowtype.specs.declared.value.Value.TheVariants as value
-use Rattle.bt_keycode.specs.Codes.{HaveSameKinds, code_of, code_of_value, escaped, kind_of, raised}
-use Rattle.bt_keycode.specs.Prefixes.{eight_bytes}
+use Rattle.bt_keycode.specs.Codes.{HaveSameKinds, code_of, code_of_value, eight_bytes, escaped, kind_of, raised}
 use Rattle.bt_keycode.proofs.Escapes.{escaped_compare, escaped_unique, then_assoc, then_equal}
 use Rattle.bt_keycode.proofs.Numbers.{slice_cmp-eight_bytes}
 

@@ -4,15 +4,15 @@ use Rattle.bt_rowtype.specs.declared.value.Kind.{Kind}
 use Rattle.bt_rowtype.specs.declared.value.Kind.TheVariants as kind
 use Rattle.bt_rowtype.specs.declared.value.Value.{Value}
 use Rattle.bt_rowtype.specs.declared.value.Value.TheVariants as value
-use Rattle.bt_rowtype.specs.Packing.{AreInRange, IsInRange}
-use Rattle.bt_keycode.specs.Codes.{IsCodeOf, code_of, code_of_value, escaped, kind_of, raised}
-use Rattle.bt_keycode.specs.Prefixes.{eight_bytes, first_eight}
+use Rattle.bt_rowtype.specs.Values.{AreInRange, IsInRange}
+use Rattle.bt_keycode.specs.Codes.{IsCode, IsCodeOf, IsNoCode, code_of, code_of_value, eight_bytes, escaped, kind_of, raised}
+use Rattle.bt_keycode.specs.Prefixes.{first_eight}
 use Rattle.bt_rowtype.specs.Texts.{is_text}
 use Rattle.bt_rowtype.proofs.offered.Texts.{long_text}
 use Rattle.std.proofs.lemmas.Int.{to_z-of_z}
 use Rattle.std.proofs.Math.Seq.{take-length}
 use Rattle.std.proofs.lemmas.List.{length-take, map-append, take-append-drop, take_more}
-use Rattle.bt_keycode.specs.Decoding.{BeginsWith, BeginsWithAll, BeginsWithNo, BeginsWithNone, IsCode, IsNoCode, unescaped}
+use Rattle.bt_keycode.specs.inside.Decoding.{BeginsWith, BeginsWithAll, BeginsWithNo, BeginsWithNone, unescaped}
 use Rattle.bt_keycode.proofs.DecodingInts.{eight_and_others, eight_long, same_int}
 use Rattle.bt_keycode.proofs.DecodingTexts.{both_read, read_again, spelled, split_end}
 

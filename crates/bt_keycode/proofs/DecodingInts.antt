@@ -2,11 +2,11 @@
 use Rattle.std.proofs.Common.{◌≡◌, ℕ, zero, suc, refl, [], ◌∷◌, ◌^◌, ◌-◌, ◌<◌, ◌≤◌, List, ◌++◌, length, take, drop, ℤ, pos, negsuc, SFits, w64, sym, ap, ◌∙◌, arith}
 use Rattle.std.proofs.lemmas.Nat.{from_be_bytes-to_be_bytes_8}
 use Rattle.std.specs.Int.{from_be_bytes}
-use Rattle.bt_keycode.specs.Codes.{raised}
+use Rattle.bt_keycode.specs.Codes.{eight_bytes, raised}
 use Rattle.std.proofs.Math.ListN.{length-drop}
 use Rattle.std.proofs.Math.Seq.{take-length}
-use Rattle.bt_rowtype.specs.Shorts.{padded}
-use Rattle.bt_keycode.specs.Prefixes.{eight_bytes, first_eight}
+use Rattle.bt_rowtype.specs.Paddings.{padded}
+use Rattle.bt_keycode.specs.Prefixes.{first_eight}
 
 pub raised_below : (a : ℤ) → SFits w64 a → raised a < 2 ^ 64
 raised_below (pos n) fits = let f = fits.sfits in omega arith

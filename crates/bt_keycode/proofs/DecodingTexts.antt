@@ -2,7 +2,7 @@
 use Rattle.std.proofs.Common.{◌≡◌, ℕ, zero, suc, ◌==◌, List, [], ◌∷◌, ◌++◌, Option, Some, None, false, if◌then◌else◌, append_assoc, refl, sym, ap, ◌∙◌, inl, inr, arith, length, length-append, ◌<◌}
 use Rattle.std.proofs.lemmas.Bool.{cases_Bool, eqb-true}
 use Rattle.bt_keycode.specs.Codes.{escaped}
-use Rattle.bt_keycode.specs.Decoding.{after_bytes, unescaped}
+use Rattle.bt_keycode.specs.inside.Decoding.{after_bytes, unescaped}
 
 not_zero : (n : ℕ) → (suc n == 0) ≡ false
 not_zero n = elim (cases_Bool (suc n == 0)) [ inl same ↦ let e = eqb-true (suc n) 0 same in cc | inr other ↦ other ]

@@ -8,7 +8,7 @@ use Rattle.std.specs.declared.cmp.Ordering.{Ordering}
 use Rattle.std.specs.declared.cmp.Ordering.TheVariants.{Less, Equal, Greater}
 use Rattle.std.proofs.Math.Arith.{mod-mul}
 use Rattle.std.proofs.Math.Nat.{pow-succ', mul-le-mul_right}
-use Rattle.bt_keycode.specs.Prefixes.{eight_bytes}
+use Rattle.bt_keycode.specs.Codes.{eight_bytes}
 
 -- numbers of two digits in a base: the first digits decide, and else the second ones
 two_digits : (base a b c d : ℕ) → b < base → d < base → (o p : Ordering) →

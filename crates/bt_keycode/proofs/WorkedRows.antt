@@ -1,9 +1,8 @@
 -- Codes of worked values, computed from the definitions.
 use Rattle.std.proofs.Common.{◌≡◌, true, false, [], ◌∷◌, pos, negsuc, refl, codes}
 use Rattle.bt_rowtype.specs.declared.value.Value.TheVariants as value
-use Rattle.bt_keycode.specs.Codes.{code_of}
+use Rattle.bt_keycode.specs.Codes.{code_of, eight_bytes}
 use Rattle.bt_keycode.specs.Hex.{hex_text}
-use Rattle.bt_keycode.specs.Prefixes.{eight_bytes}
 
 -- of 3
 three : code_of (value.Int (pos 3) ∷ []) ≡ 128 ∷ 0 ∷ 0 ∷ 0 ∷ 0 ∷ 0 ∷ 0 ∷ 3 ∷ []

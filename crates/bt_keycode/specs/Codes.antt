@@ -1,16 +1,20 @@
--- The key code of values.
+-- The key code of values, and which bytes are one.
+use Rattle.std.specs.Int.{bytes_high_first}
 use Rattle.std.specs.Prelude.{ℕ, suc, ◌≡◌, ◌==◌, ◌+◌, ◌-◌, ◌^◌, ◌++◌, List, [], ◌∷◌, map, if◌then◌else◌, ℤ, pos, negsuc}
-use Rattle.bt_rowtype.specs.Packing.{AreInRange}
+use Rattle.bt_rowtype.specs.Values.{AreInRange}
 use Rattle.bt_rowtype.specs.declared.value.Kind.{Kind}
 use Rattle.bt_rowtype.specs.declared.value.Kind.TheVariants as kind
 use Rattle.bt_rowtype.specs.declared.value.Value.{Value}
 use Rattle.bt_rowtype.specs.declared.value.Value.TheVariants as value
-use Rattle.bt_keycode.specs.Prefixes.{eight_bytes}
 
 -- an int moved up by 2^63, which inverts the sign bit of its 64 bits
 abbrev pub raised : ℤ → ℕ
 raised (pos n) = 2 ^ 63 + n
 raised (negsuc n) = 2 ^ 63 - suc n
+
+-- the eight bytes of a number, the highest first
+unfoldable pub eight_bytes : ℕ → List ℕ
+eight_bytes n = bytes_high_first 8 n
 
 -- the bytes of a text with 255 behind each zero byte
 abbrev pub escaped : List ℕ → List ℕ
@@ -48,3 +52,11 @@ pub record IsCodeOf (kinds : List Kind) (bytes : List ℕ) (values : List Value)
   pub of_kinds : map kind_of values ≡ kinds
   pub in_range : AreInRange values
   pub code : code_of values ≡ bytes
+
+-- bytes are the code of values of these kinds
+abbrev pub IsCode : List Kind → List ℕ → Type 0
+IsCode kinds bytes = (values : List Value) × IsCodeOf kinds bytes values
+
+-- bytes are the code of no values of these kinds
+abbrev pub IsNoCode : List Kind → List ℕ → Type 0
+IsNoCode kinds bytes = (values : List Value) → IsCodeOf kinds bytes values → ⊥

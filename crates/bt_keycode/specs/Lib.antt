@@ -1,5 +1,5 @@
+pub mod inside
 pub mod Codes
-pub mod Decoding
 pub mod Hex
 pub mod Keys
 pub mod Prefixes

@@ -4,9 +4,8 @@ ghost use Rattle.std.specs.Prelude.{◌≡◌, ◌≤◌, ◌+◌, ◌++◌, ◌
 ghost use Rattle.std.specs.Ordering.{int_cmp};
 ghost use Rattle.bt_rowtype.specs.Values.{value_cmp, values_cmp};
 ghost use Rattle.bt_rowtype.specs.Views.{shown};
-ghost use Rattle.bt_keycode.specs.Codes.{HaveSameKinds, IsNoProperPrefix, code_of, code_of_value, escaped, kind_of, raised};
+ghost use Rattle.bt_keycode.specs.Codes.{HaveSameKinds, IsNoProperPrefix, code_of, code_of_value, eight_bytes, escaped, kind_of, raised};
 ghost use Rattle.bt_keycode.specs.Keys.{key_cmp};
-ghost use Rattle.bt_keycode.specs.Prefixes.{eight_bytes};
 
 use crate::key::Key;
 use arrayvec::ArrayVec;
@@ -66,7 +65,7 @@ fn add_text(bytes: &mut Vec<u8>, text: &[u8]) -> Result<(), AllocError>
 }
 
 // Adds the code of an int.
-#[tactic(auto, unfolding(crate::specs::Prefixes::eight_bytes))]
+#[tactic(auto, unfolding(crate::specs::Codes::eight_bytes))]
 fn add_int(bytes: &mut Vec<u8>, number: i64) -> Result<(), AllocError>
     ensures { OnOk result (bytes.new.items ≡ bytes.old.items ++ eight_bytes (raised number)) }
 {
@@ -86,7 +85,7 @@ fn add_code(bytes: &mut Vec<u8>, value: ValueRef<'_>) -> Result<(), AllocError>
 }
 
 // The length of the code of a value, but for the bytes behind zero bytes.
-#[tactic(auto, using(crate::proofs::Lengths::length_text), unfolding(crate::specs::Prefixes::eight_bytes))]
+#[tactic(auto, using(crate::proofs::Lengths::length_text), unfolding(crate::specs::Codes::eight_bytes))]
 fn room_of(value: ValueRef<'_>) -> usize
     ensures { result ≤ length (code_of_value (shown value.entry)) }
 {
@@ -111,7 +110,7 @@ fn room_for(values: Values<'_>) -> usize
 }
 
 // The key that is the code of an int.
-#[tactic(auto, unfolding(crate::specs::Prefixes::eight_bytes))]
+#[tactic(auto, unfolding(crate::specs::Codes::eight_bytes))]
 fn encode_int(alloc: Global, number: i64) -> Result<Key, AllocError>
     ensures { IfOk result (λ key. key ≡ eight_bytes (raised number)) }
 {
@@ -133,7 +132,7 @@ fn add_short_text(code: &mut ArrayVec<u8, SHORT_CODE>, text: &[u8]) -> bool
 }
 
 // Adds the code of a value where there is room for it and no text has a zero byte.
-#[tactic(auto, using(crate::proofs::Escapes::escaped_no_zero), unfolding(crate::specs::Prefixes::eight_bytes))]
+#[tactic(auto, using(crate::proofs::Escapes::escaped_no_zero), unfolding(crate::specs::Codes::eight_bytes))]
 fn add_short(code: &mut ArrayVec<u8, SHORT_CODE>, value: ValueRef<'_>) -> bool
     ensures { result ≡ true → code.new.items ≡ code.old.items ++ code_of_value (shown value.entry) }
 {

@@ -1,7 +1,7 @@
 //! Values from their key code.
 ghost use Rattle.std.specs.Prelude.{◌≡◌, ◌<◌, ◌≤◌, ◌++◌, ◌∷◌, [], IfErr, IfOk, IfSome, IfNone, IsErrOf, List, None, Some, false, true, length, take, ℕ};
-ghost use Rattle.bt_keycode.specs.Codes.{IsCodeOf, raised};
-ghost use Rattle.bt_keycode.specs.Decoding.{BeginsWith, BeginsWithAll, BeginsWithNo, BeginsWithNone, IsCode, IsNoCode, after_bytes, ended, unescaped};
+ghost use Rattle.bt_keycode.specs.Codes.{IsCode, IsCodeOf, IsNoCode, raised};
+ghost use Rattle.bt_keycode.specs.inside.Decoding.{BeginsWith, BeginsWithAll, BeginsWithNo, BeginsWithNone, after_bytes, ended, unescaped};
 ghost use Rattle.bt_rowtype.specs.Texts.{is_text};
 ghost use Rattle.bt_rowtype.specs.declared.value.Value.{Value as value};
 
@@ -63,7 +63,7 @@ fn read_flag(bytes: &[u8]) -> Result<(Value, &[u8]), DecodeError>
 }
 
 // The first byte of a text from its code, unless that ends or breaks off here, and what comes after it.
-#[tactic(auto, unfolding(crate::specs::Decoding::unescaped))]
+#[tactic(auto, unfolding(crate::specs::inside::Decoding::unescaped))]
 fn next_byte(code: &[u8]) -> Option<(u8, &[u8])>
     ensures byte { IfSome result (λ read. unescaped code.now ≡ after_bytes (read.0 ∷ []) (unescaped read.1.now)) }
     ensures shorter { IfSome result (λ read. length read.1.now < length code.now) }

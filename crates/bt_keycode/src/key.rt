@@ -2,7 +2,8 @@
 ghost use Rattle.std.specs.Prelude.{◌≡◌, ◌++◌, ◌≤◌, [], IfOk, OnOk, OnErr, drop, length};
 ghost use Rattle.bt_keycode.specs.Hex.{hex_text};
 ghost use Rattle.bt_keycode.specs.Keys.{key_cmp};
-ghost use Rattle.bt_keycode.specs.Prefixes.{eight_bytes, first_eight};
+ghost use Rattle.bt_keycode.specs.Codes.{eight_bytes};
+ghost use Rattle.bt_keycode.specs.Prefixes.{first_eight};
 
 use crate::hex;
 use bt_rowtype::Bytes;

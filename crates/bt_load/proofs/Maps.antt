@@ -15,7 +15,7 @@ use Rattle.bt_rowtype.specs.declared.refusal.Refusal.TheVariants.{DuplicateKey}
 use Rattle.bt_rowtype.specs.declared.value.Value.{Value}
 use Rattle.bt_keycode.specs.Keys.{Key, key_cmp}
 use Rattle.bt_keycode.proofs.offered.Order.{is_less, same_key, total_keys}
-use Rattle.bt_load.specs.Maps.{RowMap, key_of, map_of, with_rows}
+use Rattle.bt_load.specs.Maps.{RowMap, key_of, map_of, map_with_rows}
 
 -- whether two keys are one
 abbrev pub is_key : Key → Key → Bool
@@ -33,7 +33,7 @@ abbrev pub with_pairs : ℕ → RowMap → RowMap → Result RowMap Refusal
 with_pairs item m [] = Ok m
 with_pairs item m (p ∷ ps) = if is_some (find key_cmp p.0 m) then Err (DuplicateKey item) else with_pairs (item + 1) (put key_cmp p.0 p.1 m) ps
 
-pub by_pairs : (keys item : ℕ) (m : RowMap) (rows : List (List Value)) → with_rows keys item m rows ≡ with_pairs item m (keyed keys rows)
+pub by_pairs : (keys item : ℕ) (m : RowMap) (rows : List (List Value)) → map_with_rows keys item m rows ≡ with_pairs item m (keyed keys rows)
 by_pairs keys item m [] = refl
 by_pairs keys item m (row ∷ rows) =
     ap (λ r. if is_some (find key_cmp (key_of keys row) m) then Err (DuplicateKey item) else r) (by_pairs keys (item + 1) (put key_cmp (key_of keys row) row m) rows)

@@ -6,7 +6,7 @@ use Rattle.std.specs.Cmp.{IsStrictWeakOrder, nat_cmp_total, on_total, then_total
 use Rattle.std.specs.Ordering.{is_lt}
 use Rattle.bt_keycode.specs.Keys.{Key}
 use Rattle.bt_keycode.proofs.offered.Order.{total_keys}
-use Rattle.bt_load.specs.Sorts.{placed_cmp}
+use Rattle.bt_load.specs.inside.Sorts.{placed_cmp}
 use Rattle.bt_load.specs.declared.placed.Placed.{Placed}
 
 -- whether one comes before another

@@ -8,7 +8,7 @@ use lib.Dec.{leb}
 use Rattle.std.specs.List.Sorted.{IsPermutation}
 use Rattle.bt_rowtype.specs.declared.value.Value.{Value}
 use Rattle.bt_load.specs.Maps.{key_of}
-use Rattle.bt_load.specs.Sorts.{placed_from, times}
+use Rattle.bt_load.specs.inside.Sorts.{placed_from, times}
 use Rattle.bt_load.specs.declared.placed.Placed.{Placed}
 
 -- ---- how many times a place is among others

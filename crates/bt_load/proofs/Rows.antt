@@ -5,8 +5,7 @@ use Rattle.std.specs.Result.{result_err, result_map_both, result_ok}
 use Rattle.bt_rowtype.specs.Answers.{Answers}
 use Rattle.bt_rowtype.specs.Ops.{all_read, unless}
 use Rattle.bt_rowtype.specs.Refusals.{least}
-use Rattle.bt_rowtype.specs.Values.{read_as}
-use Rattle.bt_rowtype.specs.Packing.{AreInRange}
+use Rattle.bt_rowtype.specs.Values.{AreInRange, read_as}
 use Rattle.bt_rowtype.specs.declared.refusal.Refusal.{Refusal}
 use Rattle.bt_rowtype.specs.declared.schema.Column.{Column}
 use Rattle.bt_rowtype.specs.declared.value.Value.{Value}

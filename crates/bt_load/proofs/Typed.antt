@@ -12,7 +12,7 @@ use Rattle.bt_rowtype.specs.declared.refusal.Refusal.TheVariants.{BadField, BadL
 use Rattle.bt_rowtype.specs.declared.schema.Column.{Column}
 use Rattle.bt_rowtype.specs.declared.value.Value.{Value}
 use Rattle.bt_load.specs.Loads.{typed_from}
-use Rattle.bt_load.specs.Typed.{AreRowsOrNone, HaveValues, IsRowOrNone}
+use Rattle.bt_load.specs.inside.Typed.{AreRowsOrNone, HaveValues, IsRowOrNone}
 
 abbrev Answer : Type 0
 Answer = Result (List Value) Refusal

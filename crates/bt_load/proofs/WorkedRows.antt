@@ -10,7 +10,7 @@ use Rattle.bt_rowtype.specs.declared.value.Value.{Value}
 use Rattle.bt_rowtype.specs.declared.value.Value.TheVariants as value
 use Rattle.bt_rowtype.proofs.offered.OnLiterals.{rowtype_on_literals}
 use Rattle.bt_keycode.specs.Keys.{Key}
-use Rattle.bt_keycode.specs.Prefixes.{eight_bytes}
+use Rattle.bt_keycode.specs.Codes.{eight_bytes}
 use Rattle.bt_load.specs.Loads.{loaded}
 use Rattle.bt_load.specs.Maps.{map_of}
 

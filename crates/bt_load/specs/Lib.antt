@@ -1,5 +1,4 @@
 pub mod Loads
 pub mod Maps
-pub mod Typed
-pub mod Sorts
 pub mod Standing
+pub mod inside

@@ -16,11 +16,11 @@ abbrev pub key_of : ℕ → List Value → Key
 key_of keys row = code_of (take keys row)
 
 -- a map with rows put into it one after the other, or the refusal of the first of them, counted from an item on, whose key is there
-abbrev pub with_rows : ℕ → ℕ → RowMap → List (List Value) → Result RowMap Refusal
-with_rows keys item rows [] = Ok rows
-with_rows keys item rows (row ∷ others) =
-    if is_some (find key_cmp (key_of keys row) rows) then Err (DuplicateKey item) else with_rows keys (item + 1) (put key_cmp (key_of keys row) row rows) others
+abbrev pub map_with_rows : ℕ → ℕ → RowMap → List (List Value) → Result RowMap Refusal
+map_with_rows keys item rows [] = Ok rows
+map_with_rows keys item rows (row ∷ others) =
+    if is_some (find key_cmp (key_of keys row) rows) then Err (DuplicateKey item) else map_with_rows keys (item + 1) (put key_cmp (key_of keys row) row rows) others
 
 -- the map of rows, or the refusal of the first whose key an earlier one has, counted from 1
 abbrev pub map_of : ℕ → List (List Value) → Result RowMap Refusal
-map_of keys rows = with_rows keys 1 [] rows
+map_of keys rows = map_with_rows keys 1 [] rows

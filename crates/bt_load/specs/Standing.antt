@@ -1,6 +1,6 @@
 -- Rows of columns, and rows that stand under their keys.
 use Rattle.std.specs.Prelude.{ℕ, ◌≡◌, true, List, [], ◌∷◌}
-use Rattle.bt_rowtype.specs.Packing.{AreInRange}
+use Rattle.bt_rowtype.specs.Values.{AreInRange}
 use Rattle.bt_rowtype.specs.Schemas.{Schema, fit_columns}
 use Rattle.bt_rowtype.specs.declared.schema.Column.{Column}
 use Rattle.bt_rowtype.specs.declared.value.Value.{Value}

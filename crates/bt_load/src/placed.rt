@@ -3,7 +3,7 @@ ghost use Rattle.std.specs.List.{AllAdjacentBelow};
 ghost use Rattle.std.specs.List.Sorted.{IsPermutation, IsSorted};
 ghost use Rattle.std.specs.Prelude.{◌≡◌, ◌≢◌, ◌<◌, ◌≤◌, ◌+◌, ℕ, Err, IfErr, IfOk, length, map, true};
 ghost use Rattle.bt_load.specs.Maps.{map_of};
-ghost use Rattle.bt_load.specs.Sorts.{IsFirstRepeat, IsKeyBelow, lesser_of, pair_at, placed_cmp, placed_from, repeats_at, times};
+ghost use Rattle.bt_load.specs.inside.Sorts.{IsFirstRepeat, IsKeyBelow, lesser_of, pair_at, placed_cmp, placed_from, repeats_at, times};
 
 use bt_keycode::{Key, encode_row};
 use bt_rowtype::{Refusal, Row};

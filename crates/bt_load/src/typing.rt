@@ -1,6 +1,6 @@
 //! The rows that records spell.
 ghost use Rattle.std.specs.Prelude.{◌≡◌, ◌≤◌, ◌+◌, IfOk, drop, length, take, true};
-ghost use Rattle.bt_load.specs.Typed.{AreRowsOrNone, HaveValues, IsReadingOf, IsRowOrNone};
+ghost use Rattle.bt_load.specs.inside.Typed.{AreRowsOrNone, HaveValues, IsReadingOf, IsRowOrNone};
 
 use bt_rowtype::{Reading, RecordLine, RecordReader, Row, Schema};
 use rayon::prelude::*;

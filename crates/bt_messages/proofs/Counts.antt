@@ -2,7 +2,8 @@
 use Rattle.std.proofs.Common.{◌≡◌, ℕ, ◌+◌, ◌-◌, ◌≤◌, ◌<◌, List, [], ◌∷◌, ◌++◌, append_assoc, get_or, length, map, take, drop, refl, sym, ap, ◌∙◌, arith}
 use Rattle.std.proofs.lemmas.List.{drop-drop, drop-take, drop_more}
 use Rattle.bt_messages.specs.Messages.{Messages, messages_before, messages_from}
-use Rattle.bt_messages.specs.Bins.{parted, parts, total}
+use Rattle.bt_messages.specs.Bins.{parts}
+use Rattle.bt_messages.specs.Parts.{parted, total}
 
 -- the parts of these sizes, from a place on
 abbrev pub sliced : {M : Type 0} → ℕ → List ℕ → Messages M → List (Messages M)

@@ -3,7 +3,7 @@ use Rattle.std.proofs.Common.{◌≡◌, ◌==◌, Ordering, Less, Equal, Greate
 use Rattle.std.proofs.Math.Seq.{take-nil}
 use Rattle.std.proofs.lemmas.Bool.{false≢true}
 use Rattle.std.specs.Ordering.{is_lt, ordering_index}
-use Rattle.bt_messages.specs.Merges.{messages_past, messages_up_to}
+use Rattle.bt_messages.specs.inside.Merges.{messages_past, messages_up_to}
 use Rattle.bt_keycode.specs.Keys.{AllFrom, IsSorted, is_before}
 use Rattle.bt_messages.specs.Messages.{Messages, with_messages}
 use Rattle.bt_messages.proofs.Cuts.{from_first, nothing}

@@ -7,7 +7,7 @@ use Rattle.bt_keycode.specs.Keys.{AllFrom, IsSorted, is_before}
 use Rattle.bt_keycode.proofs.offered.Order.{from_earlier, later_chain}
 use Rattle.bt_messages.specs.Bins.{AllBefore, joined}
 use Rattle.bt_messages.specs.Messages.{Messages, with_messages}
-use Rattle.bt_messages.specs.Runs.{AreRuns, AreSome, begins_before}
+use Rattle.bt_messages.specs.inside.Runs.{AreRuns, AreSome, begins_before}
 use Rattle.bt_messages.proofs.Merging.{all_behind}
 use Rattle.bt_messages.proofs.offered.Fronts.{from-take, sorted_take}
 

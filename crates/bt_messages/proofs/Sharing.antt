@@ -2,10 +2,11 @@
 use Rattle.std.proofs.Common.{◌≡◌, ℕ, zero, suc, ◌<◌, ◌≤◌, ◌+◌, ◌-◌, List, [], ◌∷◌, ◌++◌, Vec, Global, append_assoc, length, take, drop, get_or, set, vec_len, vec_capacity, Result, Ok, Err, IfOk, refl, sym, ap, subst, ◌∙◌, arith}
 use Rattle.std.proofs.lemmas.List.{drop-drop, drop-set-lt, length-drop, drop_more, take_more_set}
 use Rattle.bt_keycode.specs.Keys.{IsSorted}
-use Rattle.bt_messages.specs.Bins.{each_with, parted, total}
-use Rattle.bt_messages.specs.Merges.{messages_past, messages_up_to}
+use Rattle.bt_messages.specs.Bins.{each_with}
+use Rattle.bt_messages.specs.Parts.{parted, total}
+use Rattle.bt_messages.specs.inside.Merges.{messages_past, messages_up_to}
 use Rattle.bt_messages.specs.Messages.{Messages, with_messages}
-use Rattle.bt_messages.specs.Rooms.{HasRoom, HaveRoom}
+use Rattle.bt_messages.specs.inside.Rooms.{HasRoom, HaveRoom}
 use Rattle.bt_messages.proofs.Merging.{step}
 use Rattle.bt_messages.proofs.offered.Fronts.{one_taken, sorted_take}
 use Rattle.bt_messages.proofs.offered.Placed.{sorted-with_messages}

@@ -1,6 +1,6 @@
 -- How many messages bins hold together.
 use Rattle.std.proofs.Common.{◌≡◌, ℕ, zero, suc, ◌<◌, ◌≤◌, ◌+◌, ◌-◌, List, [], ◌∷◌, ◌++◌, append_assoc, replicate, get_or, set, length, map, take, drop, Result, Ok, Err, OnOk, OnErr, refl, sym, ap, ◌∙◌, arith}
-use Rattle.bt_messages.specs.Bins.{total}
+use Rattle.bt_messages.specs.Parts.{total}
 
 module _ {X : Type 0} where
   -- how many there are in all lists

@@ -1,17 +1,7 @@
 -- Messages divided at pivots, and bins: one list of messages for each child.
-use Rattle.std.specs.Prelude.{ℕ, ◌≡◌, ◌+◌, true, List, [], ◌∷◌, ◌++◌, drop, take}
+use Rattle.std.specs.Prelude.{◌≡◌, true, List, [], ◌∷◌, ◌++◌}
 use Rattle.bt_keycode.specs.Keys.{AllFrom, IsSorted, Key, is_before}
 use Rattle.bt_messages.specs.Messages.{Messages, messages_before, messages_from, with_messages}
-
--- numbers together
-abbrev pub total : List ℕ → ℕ
-total [] = 0
-total (n ∷ ns) = n + total ns
-
--- the items in parts of these sizes, in order
-abbrev pub parted : {X : Type 0} → List ℕ → List X → List (List X)
-parted [] xs = []
-parted (n ∷ ns) xs = take n xs ∷ parted ns (drop n xs)
 
 -- messages divided at pivots: those before the first, those from it on and before the next, and so on
 abbrev pub parts : {M : Type 0} → List Key → Messages M → List (Messages M)

@@ -1,7 +1,8 @@
 //! Bins: what is pending at a node, one buffer for each child.
 ghost use Rattle.std.specs.Prelude.{◌≡◌, ◌+◌, ◌<◌, ◌≤◌, ◌++◌, ◌^◌, [], IfOk, OnOk, OnErr, drop, length, map, replicate, slice_index_or, slice_set, take, vec_capacity, vec_len};
 ghost use Rattle.bt_keycode.specs.Keys.{IsSorted};
-ghost use Rattle.bt_messages.specs.Bins.{added, each_with, joined, parted, total};
+ghost use Rattle.bt_messages.specs.Bins.{added, each_with, joined};
+ghost use Rattle.bt_messages.specs.Parts.{parted, total};
 ghost use Rattle.bt_messages.specs.Messages.{messages_between, messages_from};
 ghost use Rattle.std.specs.Option.{option_copied};
 
@@ -15,7 +16,6 @@ use crate::stream::Stream;
 use bt_keycode::Key;
 use std::alloc::{AllocError, Global};
 use std::marker::Model;
-use std::mem::replace;
 
 /// A list of messages for each child, sorted by key, those of one key in the order in which they came.
 #[derive(Drop)]
@@ -26,7 +26,7 @@ pub struct Bins<V: Merge> {
 
 impl<V: Merge> Model for Bins<V> {
     ghost use Rattle.std.specs.Prelude.{◌≡◌, List, length, map, ℕ};
-    ghost use Rattle.bt_messages.specs.Bins.{total};
+    ghost use Rattle.bt_messages.specs.Parts.{total};
     ghost use Rattle.bt_messages.specs.declared.message.Message.{Message};
 
     ghost Value = { List (List (List ℕ × Message V V.Delta)) };
@@ -197,13 +197,13 @@ impl<V: Merge> Bins<V> {
     }
 
     /// Takes the messages of a bin, which is then empty. Takes no memory.
-    pub fn take(&mut self, alloc: Global, child: usize) -> Buffer<V>
+    pub fn take(&mut self, child: usize) -> Packet<V>
         requires { child < length self.old }
         ensures taken { result ≡ slice_index_or self.old child [] }
         ensures left { self.new ≡ slice_set self.old child [] }
     {
         self.count -= self.bins[child].count() as u128;
-        replace(&mut self.bins[child], Buffer::new(alloc))
+        self.bins[child].take()
     }
 
     /// Makes an empty bin into so many empty ones. An `Err` changes nothing.

@@ -3,8 +3,8 @@ ghost use Rattle.std.specs.Prelude.{◌≡◌, ◌==◌, ◌<◌, ◌≤◌, ◌
 ghost use Rattle.bt_keycode.specs.Keys.{AllFrom, IsSorted};
 ghost use Rattle.bt_messages.specs.Bins.{AllBefore};
 ghost use Rattle.bt_messages.specs.Messages.{messages_between, messages_from, messages_outside, with_messages};
-ghost use Rattle.bt_messages.specs.Rooms.{HasRoom};
-ghost use Rattle.bt_messages.specs.Runs.{begins_before};
+ghost use Rattle.bt_messages.specs.inside.Rooms.{HasRoom};
+ghost use Rattle.bt_messages.specs.inside.Runs.{begins_before};
 ghost use Rattle.std.specs.Option.{option_copied};
 
 use crate::iter::Messages;
@@ -17,6 +17,7 @@ use bt_keycode::Key;
 use std::alloc::{AllocError, Global};
 use std::cmp::Ordering;
 use std::marker::Model;
+use std::mem::replace;
 
 /// Messages that are pending, sorted by key, those of one key in the order in which they came.
 #[derive(Drop)]
@@ -143,6 +144,15 @@ impl<V: Merge> Buffer<V> {
         let mut stream = packet.into_stream();
         let count = stream.len();
         self.add_front(alloc, &mut stream, count)
+    }
+
+    // Takes the messages. The empty list that is left has the allocator of the one that is taken.
+    pub(crate) fn take(&mut self) -> Packet<V>
+        ensures taken { result ≡ self.old }
+        ensures left { self.new ≡ [] }
+    {
+        let alloc = *self.messages.allocator();
+        Packet::from_buffer(alloc, replace(self, Buffer::new(alloc)))
     }
 
     /// Takes out the messages with a key at or past `from` and before `to`, in order. A bound that is absent doesn't limit.

@@ -4,7 +4,7 @@ ghost use Rattle.bt_keycode.specs.Keys.{IsSorted};
 ghost use Rattle.bt_messages.specs.Bins.{joined};
 ghost use Rattle.bt_messages.specs.Effects.{DoTheSame, effect_of};
 ghost use Rattle.bt_messages.specs.Messages.{sorted_batch};
-ghost use Rattle.bt_messages.specs.Runs.{AreRuns};
+ghost use Rattle.bt_messages.specs.inside.Runs.{AreRuns};
 
 use crate::buffer::Buffer;
 use crate::joined::Joined;
@@ -29,7 +29,7 @@ pub struct Packet<V: Merge> {
 impl<V: Merge> Model for Packet<V> {
     ghost use Rattle.std.specs.Prelude.{◌++◌, List, ℕ};
     ghost use Rattle.bt_messages.specs.Bins.{joined};
-    ghost use Rattle.bt_messages.specs.Runs.{AreRuns};
+    ghost use Rattle.bt_messages.specs.inside.Runs.{AreRuns};
     ghost use Rattle.bt_messages.specs.declared.message.Message.{Message};
 
     ghost Value = { List (List ℕ × Message V V.Delta) };

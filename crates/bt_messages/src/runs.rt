@@ -2,7 +2,7 @@
 ghost use Rattle.std.specs.Prelude.{◌≡◌, ◌<◌, ◌++◌, IfOk, OnOk, vec_capacity, vec_len};
 ghost use Rattle.bt_keycode.specs.Keys.{IsSorted};
 ghost use Rattle.bt_messages.specs.Bins.{joined};
-ghost use Rattle.bt_messages.specs.Runs.{AreSome};
+ghost use Rattle.bt_messages.specs.inside.Runs.{AreSome};
 
 use crate::buffer::Buffer;
 use crate::message::{Merge, Message};

@@ -1,9 +1,10 @@
 //! Shares of a stream, moved to buffers.
 ghost use Rattle.std.specs.Prelude.{◌≡◌, ◌+◌, ◌<◌, ◌≤◌, ◌++◌, ◌^◌, IfOk, drop, length, take, vec_len, vec_capacity};
 ghost use Rattle.bt_keycode.specs.Keys.{IsSorted};
-ghost use Rattle.bt_messages.specs.Bins.{each_with, parted, total};
+ghost use Rattle.bt_messages.specs.Bins.{each_with};
+ghost use Rattle.bt_messages.specs.Parts.{parted, total};
 ghost use Rattle.bt_messages.specs.Messages.{with_messages};
-ghost use Rattle.bt_messages.specs.Rooms.{HasRoom, HaveRoom};
+ghost use Rattle.bt_messages.specs.inside.Rooms.{HasRoom, HaveRoom};
 
 use crate::buffer::Buffer;
 use crate::message::{Merge, Message};

@@ -1,9 +1,10 @@
 //! Streams: sorted messages that are taken off at the front.
 ghost use Rattle.std.specs.Prelude.{◌≡◌, ◌+◌, ◌-◌, ◌<◌, ◌≤◌, ◌^◌, ◌∷◌, ◌++◌, [], ℕ, true, IfOk, MatchOption, OnOk, drop, length, slice_index_or, take, vec_len, vec_capacity};
 ghost use Rattle.bt_keycode.specs.Keys.{AllFrom, IsSorted};
-ghost use Rattle.bt_messages.specs.Bins.{AllBefore, joined, parted, parts, total};
+ghost use Rattle.bt_messages.specs.Bins.{AllBefore, joined, parts};
+ghost use Rattle.bt_messages.specs.Parts.{parted, total};
 ghost use Rattle.bt_messages.specs.Messages.{messages_before, messages_from, with_messages};
-ghost use Rattle.bt_messages.specs.Runs.{AreRuns, AreSome, begins_before};
+ghost use Rattle.bt_messages.specs.inside.Runs.{AreRuns, AreSome, begins_before};
 
 use crate::buffer::Buffer;
 use crate::message::{Merge, Message};
@@ -26,7 +27,7 @@ pub struct Stream<V: Merge> {
 impl<V: Merge> Model for Stream<V> {
     ghost use Rattle.std.specs.Prelude.{◌+◌, ◌++◌, List, length, ℕ};
     ghost use Rattle.bt_messages.specs.Bins.{joined};
-    ghost use Rattle.bt_messages.specs.Runs.{AreRuns};
+    ghost use Rattle.bt_messages.specs.inside.Runs.{AreRuns};
     ghost use Rattle.bt_messages.specs.declared.message.Message.{Message};
 
     ghost Value = { List (List ℕ × Message V V.Delta) };

@@ -17,7 +17,7 @@ use Rattle.bt_node.specs.Plans.{planned}
 use Rattle.bt_node.specs.Trees.{Shape, Tree, leaf, inner, Nodes, none, node}
 use Rattle.bt_node.specs.Flushes.{sunk, holds}
 use Rattle.bt_node.specs.Drains.{drained, packed, rebuilt}
-use Rattle.bt_node.specs.Lookups.{value_at}
+use Rattle.bt_node.specs.inside.Lookups.{value_at}
 
 -- an upsert adds to the value, or to none
 abbrev merged : Option ℤ → ℤ → ℤ

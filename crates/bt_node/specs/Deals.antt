@@ -1,7 +1,7 @@
 -- Dealing: items in order become parts, as even as can be.
 use Rattle.std.specs.Prelude.{ℕ, ◌+◌, ◌-◌, ◌/◌, ◌%◌, max, List, ◌++◌, length, replicate}
 use Rattle.std.specs.Int.{div_ceil}
-pub use Rattle.bt_messages.specs.Bins.{parted}
+pub use Rattle.bt_messages.specs.Parts.{parted}
 
 -- the sizes of k parts of n items: the first n % k parts have one item more than the others
 abbrev pub even : ℕ → ℕ → List ℕ

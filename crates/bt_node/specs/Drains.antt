@@ -11,7 +11,8 @@ abbrev pub packed : {V M : Type 0} → Shape → Rows V → Tree V M
 packed shape rows = crown shape (leaves shape rows)
 
 module _ {V M : Type 0} (effect : Option V → M → Option V) where
-  -- what becomes of a node and a packet when every message goes down to the leaves, with a bound on the node's height
+  -- What becomes of a node and a packet when every message goes down to the leaves, with a bound on the node's height, at which `drain` never drops a packet:
+  -- clause `one_rule` of the call `drain_alone`.
   abbrev pub drain_at : ℕ → Shape → Flush V M
   drain_at height shape (leaf rows) packet = leaves shape (rows_after effect packet rows)
   drain_at zero shape (inner ns buffer) packet = ([], inner ns buffer) ∷ []

@@ -78,3 +78,8 @@ AreFit shape xs = (levels : ℕ) × SiblingsFit shape levels None None xs
 abbrev pub WhereFits : {V M : Type 0} → Shape → Tree V M → Messages M → (ℕ → Option Key → Option Key → Type 0) → Type 0
 WhereFits shape t packet Fact =
     (levels : ℕ) (low high : Option Key) → NodeFits shape levels low high t → AllWithin low high packet → Fact levels low high
+
+-- a fact of siblings and messages, wherever the siblings fit between two limits and the messages lie between them
+abbrev pub WhereSiblingsFit : {V M : Type 0} → Shape → Siblings V M → Messages M → (ℕ → Option Key → Option Key → Type 0) → Type 0
+WhereSiblingsFit shape xs messages Fact =
+    (levels : ℕ) (low high : Option Key) → SiblingsFit shape levels low high xs → AllWithin low high messages → Fact levels low high

@@ -70,7 +70,7 @@ module _ {V M : Type 0} where
   abbrev pub leaves : Shape → Rows V → Siblings V M
   leaves shape rows = pivot_first [] (map (λ part. (first_key (λ r. r.0) part, leaf part)) (deal shape.leaf rows))
 
-  -- one node for all siblings, with a bound on the levels that are put above them
+  -- One node for all siblings, with a bound on the levels that are put above them, at which `crown` never drops one: clause `stands` of the call `crown`.
   abbrev pub crowned : ℕ → Shape → Siblings V M → Tree V M
   crowned levels shape [] = leaf []
   crowned levels shape (x ∷ []) = x.1
@@ -82,7 +82,7 @@ module _ {V M : Type 0} where
   crown shape xs = crowned (length xs) shape xs
 
 module _ {V M : Type 0} (effect : Option V → M → Option V) where
-  -- what becomes of a node and a packet, with a bound on the node's height
+  -- What becomes of a node and a packet, with a bound on the node's height, at which `absorb` never drops a packet: clause `one_rule` of the call `absorb_alone`.
   abbrev pub absorbed : ℕ → Shape → Flush V M
   absorbed height shape (leaf rows) packet = leaves shape (rows_after effect packet rows)
   absorbed zero shape (inner ns buffer) packet = ([], inner ns buffer) ∷ []

@@ -1,5 +1,5 @@
 -- What calls on trees promise beside the definitions, a named fact each.
-use Rattle.std.specs.Prelude.{◌≡◌, ℕ, ◌<◌, ◌≤◌, List, [], ◌∷◌, length}
+use Rattle.std.specs.Prelude.{◌≡◌, ℕ, suc, ◌<◌, ◌≤◌, List, [], ◌∷◌, length}
 use Rattle.std.specs.List.{flat_map}
 use Rattle.std.specs.declared.option.Option.{Option}
 use Rattle.bt_keycode.specs.Keys.{Key}
@@ -9,7 +9,7 @@ use Rattle.bt_node.specs.Loops.{replaced, items_at}
 use Rattle.bt_node.specs.Trees.{Shape, Tree, inner, Nodes, Siblings, children, height}
 use Rattle.bt_node.specs.Flushes.{Child, Flush, counts, shared, none_pending, flushed, flushed_over, fullest_flushed, grouped, absorb, crown, holds, all_hold}
 use Rattle.bt_node.specs.Drains.{drain}
-use Rattle.bt_node.specs.Fits.{SiblingsFit, AreHigh, WhereFits}
+use Rattle.bt_node.specs.Fits.{SiblingsFit, AreHigh, WhereFits, WhereSiblingsFit}
 
 -- ---- children that are flushed
 
@@ -54,6 +54,17 @@ module _ {V M : Type 0} (effect : Option V → M → Option V) (shape : Shape) (
   abbrev pub DrainByOneRule : Siblings V M → Type 0
   DrainByOneRule xs = (ns : Nodes V M) (buffer : Messages M) → t ≡ inner ns buffer →
       xs ≡ grouped shape (flat_map (flushed (drain effect shape)) (shared (children ns) (with_messages packet buffer)))
+
+-- ---- siblings and the messages that are pending for them, dealt as children of inner nodes
+
+-- the nodes fit one level higher, where the siblings fit and the messages lie
+abbrev pub FitAbove : {V M : Type 0} → Shape → Siblings V M → Messages M → Siblings V M → Type 0
+FitAbove shape xs messages ys = WhereSiblingsFit shape xs messages (λ levels low high. SiblingsFit shape (suc levels) low high ys)
+
+-- the nodes hold what the siblings that fit held, after the messages
+abbrev pub HoldAllAfter : {V M : Type 0} → (Option V → M → Option V) → Shape → Siblings V M → Messages M → Siblings V M → Type 0
+HoldAllAfter effect shape xs messages ys =
+    WhereSiblingsFit shape xs messages (λ levels low high. all_hold effect ys ≡ rows_after effect messages (all_hold effect xs))
 
 -- ---- what trees hold
 

@@ -1,12 +1,9 @@
 pub mod inside
 pub mod Deals
 pub mod Drains
-pub mod Falls
 pub mod Fits
 pub mod Flushes
-pub mod Kinds
 pub mod Laws
-pub mod Lookups
 pub mod Loops
 pub mod Marks
 pub mod Messages

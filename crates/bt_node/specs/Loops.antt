@@ -11,13 +11,13 @@ module _ {X : Type 0} (weight : X → ℕ) (parts : X → List X) where
   opened_at (suc i) (x ∷ xs) = x ∷ opened_at i xs
 
   -- While the weights are more than the capacity together, the leftmost of the heaviest is replaced by its parts, and the choice is made anew.
-  -- With a bound on the turns.
+  -- With a bound on the turns, at which `flushed_over` never stops early: clause `in_turn` of the call `absorb_alone`.
   abbrev pub settled : ℕ → ℕ → List X → List X
   settled capacity zero xs = xs
   settled capacity (suc turns) xs =
       cond (nat_le (total (map weight xs)) capacity) xs (settled capacity turns (opened_at (fullest (map weight xs)) xs))
 
-  -- the items that this loop replaces, in turn
+  -- The items that this loop replaces, in turn. Where they are children, the bound never stops it early: clause `planned` of the call `absorb_alone`.
   abbrev pub replaced : ℕ → ℕ → List X → List X
   replaced capacity zero xs = []
   replaced capacity (suc turns) xs =

@@ -1,21 +1,5 @@
--- Marks on the items of a list, and one pass that replaces the marked ones.
-use Rattle.std.specs.Prelude.{◌≡◌, ℕ, zero, suc, Bool, true, false, cond, List, [], ◌∷◌, map, set, replicate}
-use Rattle.std.specs.List.{flat_map}
-
--- the list with a mark at a place
-abbrev pub marked : {X : Type 0} → ℕ → List (X × Bool) → List (X × Bool)
-marked i [] = []
-marked zero (s ∷ ss) = (s.0, true) ∷ ss
-marked (suc i) (s ∷ ss) = s ∷ marked i ss
-
--- the list with a mark at each of these places
-abbrev pub marked_all : {X : Type 0} → List ℕ → List (X × Bool) → List (X × Bool)
-marked_all [] ss = ss
-marked_all (i ∷ is) ss = marked_all is (marked i ss)
-
--- the list without a mark
-abbrev pub unmarked : {X : Type 0} → List X → List (X × Bool)
-unmarked = map (λ x. (x, false))
+-- Marks on the children of a node, by their places.
+use Rattle.std.specs.Prelude.{ℕ, Bool, true, false, List, [], ◌∷◌, set, replicate}
 
 -- true at each of these places
 abbrev pub set_all : List ℕ → List Bool → List Bool
@@ -25,13 +9,3 @@ set_all (i ∷ is) marks = set_all is (set marks i true)
 -- for each of n children, whether its place is among these
 abbrev pub marks_of : ℕ → List ℕ → List Bool
 marks_of n places = set_all places (replicate n false)
-
-module _ {X : Type 0} (weight : X → ℕ) (parts : X → List X) where
-  -- the list after one pass that replaces each item with a mark
-  abbrev pub passed : List (X × Bool) → List X
-  passed = flat_map (λ s. cond s.1 (parts s.0) (s.0 ∷ []))
-
-  -- each of these weighs nothing
-  abbrev pub IsLight : List X → Type 0
-  IsLight [] = Unit {0}
-  IsLight (x ∷ xs) = (weight x ≡ 0) × IsLight xs

@@ -5,8 +5,7 @@ use Rattle.bt_messages.specs.declared.message.Message.{Message}
 use Rattle.bt_node.specs.declared.node.Parts.{Parts}
 use Rattle.bt_node.specs.declared.node.Parts.TheVariants.{Leaf, Inner}
 use Rattle.bt_keycode.specs.Keys.{Key, is_before}
-use Rattle.bt_node.specs.Lookups.{pivots_of}
-use Rattle.bt_node.specs.Trees.{Tree, inner, nodes}
+use Rattle.bt_node.specs.Trees.{Tree, inner, nodes, pivots_of}
 use Rattle.bt_node.specs.Walks.{is_leaf}
 
 -- a leaf is given back as it is, an inner node as its children and the bins between their pivots, which are its buffer

@@ -1,6 +1,6 @@
 -- Which children are flushed, by the numbers of messages that are pending for them.
 use Rattle.std.specs.Prelude.{ℕ, zero, suc, ◌+◌, max, cond, nat_le, nat_eq, List, [], ◌∷◌, set}
-pub use Rattle.bt_messages.specs.Bins.{total}
+pub use Rattle.bt_messages.specs.Parts.{total}
 
 -- the largest count
 abbrev pub most : List ℕ → ℕ
@@ -45,7 +45,8 @@ shortest capacity (x ∷ xs) = cond (nat_le (x.1 + total_of xs) capacity) [] (x.
 abbrev pub planned : List ℕ → ℕ → List ℕ
 planned counts capacity = shortest capacity (ranked (placed 0 counts))
 
--- The same without a plan: while more than the capacity is pending, the fullest is emptied, and the choice is made anew. With a bound on the turns.
+-- The same without a plan: while more than the capacity is pending, the fullest is emptied, and the choice is made anew. With a bound on the turns: with as
+-- many turns as messages it never stops early: clauses `places` and `renewed` of the call `plan` of bt_plan.
 abbrev pub renewed : ℕ → ℕ → List ℕ → List ℕ
 renewed capacity zero counts = []
 renewed capacity (suc turns) counts =

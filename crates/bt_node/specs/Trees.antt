@@ -1,5 +1,5 @@
 -- Bε-trees: rows in the leaves, pivots, children and a buffer of messages in the inner nodes.
-use Rattle.std.specs.Prelude.{ℕ, suc, max, List, [], ◌∷◌}
+use Rattle.std.specs.Prelude.{ℕ, suc, max, List, [], ◌∷◌, drop, map}
 use Rattle.std.specs.List.{zip}
 use Rattle.bt_keycode.specs.Keys.{Key}
 use Rattle.bt_node.specs.Messages.{Rows, Messages}
@@ -27,6 +27,10 @@ Siblings V M = List (Key × Tree V M)
 -- each item behind the pivot before it, and the first behind the empty key
 abbrev pub behind : {X : Type 0} → List Key → List X → List (Key × X)
 behind pivots xs = zip ([] ∷ pivots) xs
+
+-- the pivots between siblings
+abbrev pub pivots_of : {V M : Type 0} → Siblings V M → List Key
+pivots_of xs = map (λ x. x.0) (drop 1 xs)
 
 -- the children of a node as a list
 abbrev pub children : {V M : Type 0} → Nodes V M → Siblings V M

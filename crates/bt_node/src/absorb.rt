@@ -1,15 +1,16 @@
 //! How messages go down a node: as the first ones of a stream.
 ghost use Rattle.std.specs.Prelude.{◌≡◌, ◌+◌, ◌≤◌, ◌++◌, [], ◌∷◌, true, IfOk, OnOk, drop, length, map, take, vec_len};
 ghost use Rattle.std.specs.List.{zip};
-ghost use Rattle.bt_messages.specs.Bins.{LieBetween, joined, parted, parts, total};
+ghost use Rattle.bt_messages.specs.Bins.{LieBetween, joined, parts};
+ghost use Rattle.bt_messages.specs.Parts.{parted, total};
 ghost use Rattle.bt_messages.specs.Effects.{effect_of};
 ghost use Rattle.bt_node.specs.Fits.{IsInOrder, IsLed};
 ghost use Rattle.bt_node.specs.Flushes.{absorb, flushed};
-ghost use Rattle.bt_node.specs.Lookups.{pivots_of};
 ghost use Rattle.bt_node.specs.Messages.{with_messages};
 ghost use Rattle.bt_node.specs.Plans.{planned};
-ghost use Rattle.bt_node.specs.Trees.{inner, nodes};
-ghost use Rattle.bt_node.specs.Marks.{passed, marks_of};
+ghost use Rattle.bt_node.specs.Trees.{inner, nodes, pivots_of};
+ghost use Rattle.bt_node.specs.Marks.{marks_of};
+ghost use Rattle.bt_node.specs.inside.Passes.{passed};
 ghost use Rattle.bt_node.specs.inside.Shares.{AreInOrder, loaded, sums};
 ghost use Rattle.bt_node.specs.inside.Views.{children_of, with_share};
 

@@ -1,7 +1,7 @@
 //! How all messages of a node, and those that come to it, go down to its leaves.
 ghost use Rattle.std.specs.Prelude.{◌≡◌, ◌≤◌, IfOk, OnOk, drop, length, take};
 ghost use Rattle.std.specs.List.{flat_map};
-ghost use Rattle.bt_messages.specs.Bins.{total};
+ghost use Rattle.bt_messages.specs.Parts.{total};
 ghost use Rattle.bt_messages.specs.Effects.{effect_of};
 ghost use Rattle.bt_node.specs.Drains.{drain};
 ghost use Rattle.bt_node.specs.Flushes.{flushed};

@@ -4,7 +4,7 @@ ghost use Rattle.std.specs.Option.{option_copied};
 ghost use Rattle.bt_keycode.specs.Keys.{AllFrom, IsSorted, is_before, is_before_upper};
 ghost use Rattle.bt_messages.specs.Effects.{effect_of};
 ghost use Rattle.bt_messages.specs.Messages.{messages_between, messages_outside, with_messages};
-ghost use Rattle.bt_messages.specs.Merges.{messages_past, messages_up_to};
+ghost use Rattle.bt_messages.specs.inside.Merges.{messages_past, messages_up_to};
 ghost use Rattle.bt_node.specs.Messages.{before, from, value_after};
 ghost use Rattle.bt_node.specs.inside.Held.{value_of};
 

@@ -29,9 +29,9 @@
 //! most so many, at a cost that goes by what is shown and by the nodes on the way (`visit_first`).
 //!
 //! `specs` has the definitions. `Trees` are the nodes, `Flushes` says what becomes of a node and a packet of messages, `Drains` what becomes of it
-//! when no message is to be left on the way, and which trees are made of rows alone, and `Fits` which trees are in order. `Lookups` reads one key.
-//! `Plans` and `Loops` say which children are flushed. `Laws` are the facts that calls promise beside these definitions; what private code cites
-//! stands in `inside`. `proofs` has small trees worked out, in `WorkedRows`.
+//! when no message is to be left on the way, and which trees are made of rows alone, and `Fits` which trees are in order. `Plans` and `Loops` say
+//! which children are flushed. `Laws` are the facts that calls promise beside these definitions; what private code cites stands in `inside`.
+//! `proofs` has small trees worked out, in `WorkedRows`.
 #![tactic(auto)]
 
 mod absorb;

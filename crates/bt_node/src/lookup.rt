@@ -3,7 +3,7 @@ ghost use Rattle.std.specs.Prelude.{◌≡◌, ◌<◌, ◌≤◌, [], IfOk, len
 ghost use Rattle.bt_keycode.specs.Keys.{AllFrom, IsSorted};
 ghost use Rattle.bt_messages.specs.Effects.{effect_of};
 ghost use Rattle.bt_node.specs.Fits.{IsInOrder};
-ghost use Rattle.bt_node.specs.Lookups.{pivots_up_to, value_at};
+ghost use Rattle.bt_node.specs.inside.Lookups.{pivots_up_to, value_at};
 ghost use Rattle.bt_node.specs.Messages.{value_after};
 ghost use Rattle.bt_node.specs.Parts.{AreRising};
 ghost use Rattle.bt_node.specs.inside.Held.{BeginsWith, value_of};

@@ -16,11 +16,10 @@ ghost use Rattle.std.specs.Prelude.{◌≡◌, ◌∷◌, ◌++◌, ◌+◌, ◌
 ghost use Rattle.bt_node.specs.Fits.{IsLed};
 ghost use Rattle.bt_node.specs.Flushes.{pivot_first};
 ghost use Rattle.bt_node.specs.Parts.{AreRising, IsApart};
-ghost use Rattle.bt_node.specs.Trees.{behind};
+ghost use Rattle.bt_node.specs.Trees.{behind, pivots_of};
 ghost use Rattle.bt_node.specs.Trees as trees;
-ghost use Rattle.bt_node.specs.Kinds.{IsDivided, tree_of};
+ghost use Rattle.bt_node.specs.inside.Kinds.{IsDivided, tree_of};
 ghost use Rattle.bt_messages.specs.Bins.{LieBetween, joined};
-ghost use Rattle.bt_node.specs.Lookups.{pivots_of};
 
 use crate::rows::Rows;
 use bt_keycode::Key;
@@ -76,17 +75,17 @@ impl<V: Merge> Model for Node<V> {
 
     ghost coded = { tree_code V.code (message_code V.code V.Delta.code) };
 
-    ghost use Rattle.bt_node.specs.Kinds.{tree_of};
+    ghost use Rattle.bt_node.specs.inside.Kinds.{tree_of};
 
     ghost view = { λ n. tree_of n.kind };
 
-    ghost use Rattle.bt_node.specs.Kinds.{IsDivided};
+    ghost use Rattle.bt_node.specs.inside.Kinds.{IsDivided};
 
     ghost invariant = { λ n. IsDivided n.kind };
 
     ghost size = { λ t. 2 * trees.height t };
 
-    ghost use Rattle.bt_node.specs.Falls.{below_node};
+    ghost use Rattle.bt_node.specs.inside.Falls.{below_node};
 
     ghost size_decreases = { λ n h. below_node V.Merge n.kind };
 }
@@ -109,7 +108,7 @@ impl<V: Merge> Model for Siblings<V> {
 
     ghost size = { λ xs. 2 * trees.height_below (trees.nodes xs) + 1 };
 
-    ghost use Rattle.bt_node.specs.Falls.{below_siblings};
+    ghost use Rattle.bt_node.specs.inside.Falls.{below_siblings};
 
     ghost size_decreases = { λ s h. below_siblings s.pivots.items s.nodes.items h };
 }

@@ -1,6 +1,6 @@
 //! What is pending for each child of a node.
 ghost use Rattle.std.specs.Prelude.{◌≡◌, ◌≤◌, IfOk, OnOk, drop, length, map, take};
-ghost use Rattle.bt_messages.specs.Bins.{total};
+ghost use Rattle.bt_messages.specs.Parts.{total};
 ghost use Rattle.bt_node.specs.Messages.{with_messages};
 ghost use Rattle.bt_node.specs.inside.Shares.{beside, sums};
 ghost use Rattle.bt_node.specs.inside.Views.{children_of};

@@ -8,9 +8,8 @@ ghost use Rattle.bt_messages.specs.Bins.{LieBetween, joined};
 ghost use Rattle.bt_node.specs.Drains.{AreDry, IsDry, drain, drained, packed, rebuilt};
 ghost use Rattle.bt_node.specs.Fits.{AreFit, HasShape, IsInOrder};
 ghost use Rattle.bt_node.specs.Flushes.{absorb, crown, grouped, holds, shared, sunk};
-ghost use Rattle.bt_node.specs.Laws.{ChosenArePlanned, ComeByOneRule, DrainByOneRule, FitThere, FlushesInTurn, HoldRowsAfter, HoldsAfter, HoldsAll, HoldsTheSame, KeepHeight, StandsAbove, StayWithoutPacket};
-ghost use Rattle.bt_node.specs.Lookups.{pivots_of};
-ghost use Rattle.bt_node.specs.Trees.{leaf, nodes};
+ghost use Rattle.bt_node.specs.Laws.{ChosenArePlanned, ComeByOneRule, DrainByOneRule, FitAbove, FitThere, FlushesInTurn, HoldAllAfter, HoldRowsAfter, HoldsAfter, HoldsAll, HoldsTheSame, KeepHeight, StandsAbove, StayWithoutPacket};
+ghost use Rattle.bt_node.specs.Trees.{leaf, nodes, pivots_of};
 
 use crate::absorb::absorb;
 use crate::crowned::crowned;
@@ -103,7 +102,9 @@ pub fn regroup<V: Merge>(
     requires several { 2 ≤ length siblings }
     requires capacity { length (joined bins) ≤ shape.buffer }
     requires divided { LieBetween (pivots_of siblings) bins }
-    ensures { IfOk result (λ nodes. nodes ≡ grouped shape (shared siblings (joined bins))) }
+    ensures nodes { IfOk result (λ nodes. nodes ≡ grouped shape (shared siblings (joined bins))) }
+    ensures fits { IfOk result (FitAbove shape siblings (joined bins)) }
+    ensures rows { IfOk result (HoldAllAfter (effect_of V.merged) shape siblings (joined bins)) }
 {
     if siblings.len() <= shape.fanout() {
         return Siblings::with_capacity(alloc, Node::inner(siblings, bins), 1);

@@ -5,7 +5,7 @@ ghost use Rattle.bt_keycode.specs.Keys.{AllWithin, IsSorted};
 ghost use Rattle.bt_messages.specs.Effects.{effect_of};
 ghost use Rattle.bt_node.specs.Fits.{IsInOrder};
 ghost use Rattle.bt_node.specs.Flushes.{holds};
-ghost use Rattle.bt_node.specs.Lookups.{first_place};
+ghost use Rattle.bt_node.specs.inside.Lookups.{first_place};
 ghost use Rattle.bt_node.specs.Messages.{between, rows_after};
 ghost use Rattle.bt_node.specs.Parts.{AreRising};
 ghost use Rattle.bt_node.specs.inside.Bounds.{next_bound};

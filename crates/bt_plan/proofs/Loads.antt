@@ -1,7 +1,8 @@
 -- What is pending for each child is counted without the messages: those in its bin, and its share of those that come.
 use Rattle.std.proofs.Common.{◌≡◌, ◌<◌, ◌≤◌, ◌+◌, ℕ, zero, suc, List, [], ◌∷◌, ◌++◌, ◌∙◌, arith, ap, drop, get_or, length, map, refl, sym, take}
 use Rattle.std.proofs.lemmas.List.{length-drop, length-take-le, take_all}
-use Rattle.bt_messages.specs.Bins.{each_with, parted, total}
+use Rattle.bt_messages.specs.Bins.{each_with}
+use Rattle.bt_messages.specs.Parts.{parted, total}
 use Rattle.bt_messages.specs.Messages.{Messages, with_messages}
 use Rattle.bt_messages.proofs.offered.Parts.{length-with_messages}
 

@@ -1,15 +1,15 @@
 -- Children beside marks: flushed in one pass, and divided again from their pivots and all their messages.
-use Rattle.std.proofs.Common.{◌≡◌, ℕ, Bool, true, false, List, [], ◌∷◌, ◌++◌, map, length, replicate, refl, sym, ap, subst, ◌∙◌}
+use Rattle.std.proofs.Common.{◌≡◌, ◌≤◌, ℕ, Bool, true, false, List, [], ◌∷◌, ◌++◌, map, length, replicate, refl, sym, ap, subst, ◌∙◌, arith}
 use Rattle.std.proofs.lemmas.List.{length-map}
 use Rattle.std.specs.List.{flat_map, zip}
 use Rattle.std.specs.declared.option.Option.{Option}
 use Rattle.bt_keycode.specs.Keys.{Key}
 use Rattle.bt_messages.specs.Bins.{LieBetween}
 use Rattle.bt_node.specs.Flushes.{Child, Flush, counts, flushed, none_pending, pivot_first, shared}
-use Rattle.bt_node.specs.Lookups.{pivots_of}
 use Rattle.bt_node.specs.Plans.{planned}
-use Rattle.bt_node.specs.Trees.{Siblings}
-use Rattle.bt_node.specs.Marks.{marks_of, passed}
+use Rattle.bt_node.specs.Trees.{Siblings, pivots_of}
+use Rattle.bt_node.specs.Marks.{marks_of}
+use Rattle.bt_node.specs.inside.Passes.{passed}
 use Rattle.bt_node.specs.inside.Shares.{beside}
 use Rattle.bt_node.proofs.offered.FlushSteps.{ChildrenLie, all_pending, beside-shared, divided-lie, joined-pending, marked-zip, names, names-slots, shared-nothing, slots, stripped}
 use Rattle.bt_plan.specs.declared.job.Mode.{Mode}
@@ -50,7 +50,7 @@ module _ {V M : Type 0} where
 
   -- ---- what the pass makes
 
-  all_pending-none : (xs : Siblings V M) (cs : List (Child V M)) → all_pending (none_pending xs ++ cs) ≡ all_pending cs
+  pub all_pending-none : (xs : Siblings V M) (cs : List (Child V M)) → all_pending (none_pending xs ++ cs) ≡ all_pending cs
   all_pending-none [] cs = refl
   all_pending-none (x ∷ xs) cs = all_pending-none xs cs
 
@@ -103,12 +103,16 @@ module _ {V M : Type 0} where
   pivots-stripped [] = refl
   pivots-stripped (c ∷ cs) = ap (λ z. c.pivot ∷ z) (pivots-stripped cs)
 
-  -- children in their places
+  -- what is pending for children in their places lies between the pivots around each
+  pub lies-divided : (levels : ℕ) (low high : Option Key) (cs : List (Child V M)) → 1 ≤ length cs → ChildrenLie levels low high cs → LieBetween (pivots_of (stripped cs)) (map (λ c. c.pending) cs)
+  lies-divided levels low high [] some p = absurd (omega (arith, some))
+  lies-divided levels low high (c ∷ cs) some p =
+      subst (λ ks. LieBetween ks (map (λ (d : Child V M). d.pending) (c ∷ cs))) (pivots-stripped cs) (divided-lie levels low high (c ∷ cs) p)
+
+  -- so they can be divided again
   pub lies-divides : (levels : ℕ) (low high : Option Key) (cs : List (Child V M)) → ChildrenLie levels low high cs → Divides cs
   lies-divides levels low high [] p = refl
   lies-divides levels low high (c ∷ cs) p =
-      let bins = map (λ (d : Child V M). d.pending) (c ∷ cs) in
-      let divided : LieBetween (pivots_of (stripped (c ∷ cs))) bins = subst (λ ks. LieBetween ks bins) (pivots-stripped cs) (divided-lie levels low high (c ∷ cs) p) in
       ap (shared (stripped (c ∷ cs))) (sym (joined-pending (c ∷ cs)))
-      ∙ sym (beside-shared (stripped (c ∷ cs)) bins divided)
+      ∙ sym (beside-shared (stripped (c ∷ cs)) (map (λ (d : Child V M). d.pending) (c ∷ cs)) (lies-divided levels low high (c ∷ cs) (omega arith) p))
       ∙ beside-stripped (c ∷ cs)

@@ -3,14 +3,14 @@ use Rattle.std.proofs.Common.{◌≡◌, ◌≤◌, ◌+◌, ◌-◌, Result, Ok
 use Rattle.std.proofs.lemmas.List.{length-drop, length-map, length-replicate, length-set}
 use Rattle.std.specs.List.{flat_map, zip}
 use Rattle.bt_keycode.specs.Keys.{AllFrom, Key}
-use Rattle.bt_messages.specs.Bins.{LieBetween, added, joined, total}
+use Rattle.bt_messages.specs.Bins.{LieBetween, added, joined}
+use Rattle.bt_messages.specs.Parts.{total}
 use Rattle.bt_messages.proofs.offered.Parts.{added_lie, joined-added, length-joined, length-with_messages, lie_length}
 use Rattle.bt_node.specs.Fits.{AreSized, IsSized}
 use Rattle.bt_node.specs.Flushes.{Child, counts, shared}
-use Rattle.bt_node.specs.Lookups.{pivots_of}
 use Rattle.bt_node.specs.Messages.{Messages, with_messages}
 use Rattle.bt_node.specs.Plans.{planned}
-use Rattle.bt_node.specs.Trees.{Shape, Siblings, Tree, behind, children, inner, leaf, nodes}
+use Rattle.bt_node.specs.Trees.{Shape, Siblings, Tree, behind, children, inner, leaf, nodes, pivots_of}
 use Rattle.bt_node.specs.Walks.{is_leaf}
 use Rattle.bt_node.specs.Marks.{marks_of, set_all}
 use Rattle.bt_node.specs.inside.Shares.{beside}

@@ -2,9 +2,8 @@
 use Rattle.std.specs.Prelude.{◌≡◌, ◌+◌, ℕ, List, length, map}
 use Rattle.bt_messages.specs.Bins.{LieBetween, joined}
 use Rattle.bt_messages.specs.declared.message.Message.{Message}
-use Rattle.bt_node.specs.Lookups.{pivots_of}
 use Rattle.bt_node.specs.Messages.{Messages}
-use Rattle.bt_node.specs.Trees.{Shape, Tree, behind}
+use Rattle.bt_node.specs.Trees.{Shape, Tree, behind, pivots_of}
 use Rattle.bt_plan.specs.declared.holed.HoledParts.{HoledParts}
 use Rattle.bt_plan.specs.declared.holed.HoledParts.TheVariants.{Whole, Hole, Opened, Kept}
 use Rattle.bt_plan.specs.declared.job.Job as code

@@ -1,5 +1,5 @@
 pub mod Cutting
+pub mod DepthBounds
 pub mod Entering
 pub mod Falls
 pub mod Stored
-pub mod Weights

@@ -1,15 +1,15 @@
 //! How the flushes of a tree are moved out of it.
 ghost use Rattle.std.specs.Prelude.{◌≡◌, ◌≤◌, ◌<◌, ◌+◌, ◌++◌, ◌∷◌, [], IfOk, OnOk, cond, drop, length, map, replicate, suc, take, true};
 ghost use Rattle.std.specs.List.{flat_map};
-ghost use Rattle.bt_messages.specs.Bins.{LieBetween, each_with, joined, parted, total};
+ghost use Rattle.bt_messages.specs.Bins.{LieBetween, each_with, joined};
+ghost use Rattle.bt_messages.specs.Parts.{parted, total};
 ghost use Rattle.bt_messages.specs.Effects.{effect_of};
 ghost use Rattle.bt_messages.specs.declared.message.Message.{Message};
 ghost use Rattle.bt_node.specs.Fits.{IsSized};
-ghost use Rattle.bt_node.specs.Lookups.{pivots_of};
 ghost use Rattle.bt_node.specs.Messages.{with_messages};
 ghost use Rattle.bt_node.specs.Plans.{planned};
 ghost use Rattle.bt_node.specs.Marks.{marks_of};
-ghost use Rattle.bt_node.specs.Trees.{inner, nodes};
+ghost use Rattle.bt_node.specs.Trees.{inner, nodes, pivots_of};
 ghost use Rattle.bt_plan.specs.Cuts.{cut, cut_out, flush_marks, hole_of};
 ghost use Rattle.bt_plan.specs.Laws.{FillsUp, PlacesRise, StandInHoles};
 ghost use Rattle.bt_plan.specs.Pieces.{all_whole, holes, with_holes};

@@ -15,8 +15,7 @@
 //! other, as the node's buffer.
 ghost use Rattle.std.specs.Prelude.{◌≡◌, ◌+◌, length};
 ghost use Rattle.bt_messages.specs.Bins.{LieBetween, joined};
-ghost use Rattle.bt_node.specs.Lookups.{pivots_of};
-ghost use Rattle.bt_node.specs.Trees.{behind};
+ghost use Rattle.bt_node.specs.Trees.{behind, pivots_of};
 ghost use Rattle.bt_plan.specs.Pieces as pieces;
 ghost use Rattle.bt_plan.specs.Pieces.{all_whole};
 ghost use Rattle.bt_plan.specs.Views.{IsDivided, holed_of, place_of};
@@ -72,9 +71,9 @@ impl<V: Merge> Model for HoledNode<V> {
 
     ghost invariant = { λ n. IsDivided n.parts };
 
-    ghost use Rattle.bt_plan.specs.inside.Weights.{weight};
+    ghost use Rattle.bt_plan.specs.inside.DepthBounds.{depth_bound};
 
-    ghost size = { weight };
+    ghost size = { depth_bound };
 
     ghost use Rattle.bt_plan.specs.inside.Falls.{below_node};
 

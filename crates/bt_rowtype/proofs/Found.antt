@@ -11,7 +11,8 @@ use Rattle.csv.specs.declared.parser.Action.TheVariants as act
 use Rattle.csv.specs.declared.parser.State.{State}
 use Rattle.csv.specs.declared.parser.State.TheVariants as st
 use Rattle.csv.proofs.RoundTrip.{record-same}
-use Rattle.bt_rowtype.specs.Records.{csv_record, fields_in, has_mark, is_refused, record_of}
+use Rattle.bt_rowtype.specs.Records.{csv_record, has_mark, is_refused, record_of}
+use Rattle.bt_rowtype.specs.inside.RecordParts.{fields_in}
 
 -- ---- how many fields
 

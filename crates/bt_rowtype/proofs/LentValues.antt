@@ -3,7 +3,7 @@ use Rattle.std.proofs.Common.{ℕ, ◌<◌, List, sym, subst, get_or, length, ma
 use Rattle.std.proofs.lemmas.List.{get_or-map, length-map, map-set}
 use Rattle.std.proofs.lemmas.List.Elements.{All-set}
 use Rattle.std.specs.List.{All}
-use Rattle.bt_rowtype.specs.Packing.{HasText}
+use Rattle.bt_rowtype.specs.Values.{HasText}
 use Rattle.bt_rowtype.specs.Views.{shown}
 use Rattle.bt_rowtype.specs.declared.value_ref.ValueRef.{ValueRef}
 

@@ -7,7 +7,8 @@ use Rattle.std.specs.Int.{cast_signed, cast_unsigned}
 use Rattle.std.proofs.Math.Seq.{drop-append_seam, take-append_seam}
 use Rattle.bt_rowtype.specs.declared.value.Value.{Value}
 use Rattle.bt_rowtype.specs.declared.value.Value.TheVariants as value
-use Rattle.bt_rowtype.specs.Packing.{AreInRange, IsInRange, IsPacked, first_of, int_bytes, int_from, packed, offset_of, packed_value, unpacked, unpacked_by, width_of, HasFirst, IsAt}
+use Rattle.bt_rowtype.specs.Values.{AreInRange, IsInRange}
+use Rattle.bt_rowtype.specs.inside.Packing.{IsPacked, first_of, int_bytes, int_from, packed, offset_of, packed_value, unpacked, unpacked_by, width_of, HasFirst, IsAt}
 
 pub length_int_bytes : (n : ℤ) → length (int_bytes n) ≡ 8
 unfolding int_bytes

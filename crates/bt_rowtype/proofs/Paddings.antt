@@ -1,6 +1,6 @@
 -- Bytes with zeros behind them.
 use Rattle.std.proofs.Common.{ℕ, zero, suc, ◌≡◌, ◌≤◌, ◌++◌, List, [], ◌∷◌, arith, drop, length, refl, replicate, take, ap}
-use Rattle.bt_rowtype.specs.Shorts.{padded}
+use Rattle.bt_rowtype.specs.Paddings.{padded}
 
 -- as many as there are
 pub padded-all : (bytes : List ℕ) → padded (length bytes) bytes ≡ bytes

@@ -2,7 +2,7 @@
 use Rattle.std.proofs.Common.{◌≡◌, ℕ, zero, suc, ◌-◌, ◌<◌, ◌≤◌, List, [], ◌∷◌, ◌++◌, length, length-append, length-drop, take, drop, get_or, slice_get, Some, refl, ap, sym, ◌∙◌, arith}
 use Rattle.std.proofs.lemmas.List.{drop_all, take-append-le, drop-append-le}
 use Rattle.std.proofs.Math.Seq.{drop-append_seam, take-length}
-use Rattle.bt_rowtype.specs.Pieces.{LieWithin, part, pieces}
+use Rattle.bt_rowtype.specs.inside.Pieces.{LieWithin, part, pieces}
 use Rattle.bt_rowtype.specs.declared.fields.Place.{Place}
 
 pub length_pieces : (bytes : List ℕ) (places : List Place) → length (pieces bytes places) ≡ length places

@@ -8,8 +8,9 @@ use Rattle.csv.specs.Machine.{next_record}
 use Rattle.csv.specs.Reading.{default_config}
 use Rattle.csv.specs.declared.parser.State.TheVariants as st
 use Rattle.csv.proofs.RoundTrip.{start-same, record-same}
-use Rattle.bt_rowtype.specs.Pieces.{part, pieces}
-use Rattle.bt_rowtype.specs.Records.{csv_record, fields_in, is_special, parts_of}
+use Rattle.bt_rowtype.specs.inside.Pieces.{part, pieces}
+use Rattle.bt_rowtype.specs.Records.{csv_record}
+use Rattle.bt_rowtype.specs.inside.RecordParts.{fields_in, is_special, parts_of}
 use Rattle.bt_rowtype.specs.declared.fields.Place.{Place}
 use Rattle.bt_rowtype.proofs.Pieces.{more_pieces}
 

@@ -2,7 +2,7 @@
 use Rattle.std.proofs.Common.{ℕ, List, [], ◌∷◌, ◌++◌, ◌+◌, ◌<◌, ◌≤◌, ◌≡◌, ◌≢◌, ◌∙◌, refl, ap, length, take, get_or, append_assoc}
 use Rattle.std.proofs.lemmas.List.{take_all}
 use Rattle.csv.specs.Writing.{default_writer, escaped, quoted}
-use Rattle.bt_rowtype.specs.Records.{Grows}
+use Rattle.bt_rowtype.specs.inside.RecordParts.{Grows}
 use Rattle.csv.proofs.WriteFacts.{escaped-double, escaped-other, quoted-step}
 
 -- a quote stands there twice

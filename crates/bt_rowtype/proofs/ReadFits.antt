@@ -7,7 +7,8 @@ use Rattle.std.specs.Prelude.{option_map}
 use Rattle.std.specs.Result.{result_ok}
 use Rattle.bt_rowtype.proofs.Columnwise.{some_read}
 use Rattle.bt_rowtype.specs.Ints.{int_of}
-use Rattle.bt_rowtype.specs.Ops.{OpFits, OpsFit, add_of, add_of_kind, at_column, both_read, named_from, op_of, open_column, open_kind, ops_of, set_of, unless}
+use Rattle.bt_rowtype.specs.Ops.{add_of, add_of_kind, at_column, both_read, named_from, op_of, open_column, open_kind, ops_of, set_of, unless}
+use Rattle.bt_rowtype.specs.inside.Fits.{OpFits, OpsFit}
 use Rattle.bt_rowtype.specs.Schemas.{Schema, fit_columns, fits_kind}
 use Rattle.bt_rowtype.specs.Texts.{is_text}
 use Rattle.bt_rowtype.specs.Values.{flag_of, value_of, with_first}

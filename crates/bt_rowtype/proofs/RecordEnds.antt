@@ -14,7 +14,8 @@ use Rattle.csv.specs.declared.parser.State.{State}
 use Rattle.csv.specs.declared.parser.State.TheVariants as st
 use Rattle.csv.proofs.RoundTrip.{record-same}
 use Rattle.memchr.specs.Find.{Nowhere, Passes}
-use Rattle.bt_rowtype.specs.Records.{EndsAt, begins_record, csv_record, fields_in, is_line_end, is_special}
+use Rattle.bt_rowtype.specs.Records.{csv_record}
+use Rattle.bt_rowtype.specs.inside.RecordParts.{EndsAt, begins_record, fields_in, is_line_end, is_special}
 use Rattle.bt_rowtype.proofs.Found.{ends_inside, is_inside, or-left, or-right, step_inside}
 use Rattle.bt_rowtype.proofs.ReaderSteps.{at_byte, ends, goes_on}
 use Rattle.bt_rowtype.proofs.RecordsOf.{first_record}

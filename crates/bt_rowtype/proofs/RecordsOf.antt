@@ -8,7 +8,7 @@ use Rattle.csv.specs.Reading.{default_config, records, records_from, records_nex
 use Rattle.csv.specs.declared.parser.Action.{Action}
 use Rattle.csv.specs.declared.parser.State.{State}
 use Rattle.csv.specs.declared.parser.State.TheVariants as st
-use Rattle.bt_rowtype.specs.Records.{is_line_end}
+use Rattle.bt_rowtype.specs.inside.RecordParts.{is_line_end}
 
 -- ---- the state between two records
 

@@ -7,8 +7,9 @@ use Rattle.bt_rowtype.specs.Ops.{added, after_op}
 use Rattle.bt_rowtype.specs.declared.op.Op.TheVariants.{Add}
 use Rattle.bt_rowtype.specs.declared.value.Value.{Value}
 use Rattle.bt_rowtype.specs.declared.value.Value.TheVariants as value
-use Rattle.bt_rowtype.specs.Additions.{number_of}
-use Rattle.bt_rowtype.specs.Packing.{AreInRange, IsAt, IsInRange, IsPacked, first_of, int_bytes, packed, packed_value, unpacked, width_of}
+use Rattle.bt_rowtype.specs.inside.Additions.{number_of}
+use Rattle.bt_rowtype.specs.Values.{AreInRange, IsInRange}
+use Rattle.bt_rowtype.specs.inside.Packing.{IsAt, IsPacked, first_of, int_bytes, packed, packed_value, unpacked, width_of}
 use Rattle.bt_rowtype.proofs.Packing.{are_packed, has_first, in_range-append, in_range-take, packed-append, unpacked-packed}
 use Rattle.bt_rowtype.proofs.Walks.{take_one_more, unpacked_none}
 

@@ -4,7 +4,8 @@ use Rattle.std.proofs.lemmas.Bool.Decides.{nat_tests}
 use Rattle.std.proofs.lemmas.List.{take-set-le}
 use Rattle.std.proofs.lemmas.Str.{IsUtf8-nil, is_utf8-from_IsUtf8}
 use Rattle.std.specs.Prelude.{map, option_map}
-use Rattle.bt_rowtype.specs.Ops.{OpFits, add_fault, added, after_op, open_kind, set_fault}
+use Rattle.bt_rowtype.specs.Ops.{add_fault, added, after_op, open_kind, set_fault}
+use Rattle.bt_rowtype.specs.inside.Fits.{OpFits}
 use Rattle.bt_rowtype.specs.Schemas.{Schema, fit_columns, fits_kind}
 use Rattle.bt_rowtype.specs.Values.{default_of}
 use Rattle.bt_rowtype.specs.declared.op.Op.{Op}

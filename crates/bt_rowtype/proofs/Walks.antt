@@ -4,7 +4,8 @@ use Rattle.std.proofs.Math.Logic.{⊎_elim}
 use Rattle.std.proofs.lemmas.Bool.{cases_lt, ne_eqb}
 use Rattle.std.proofs.lemmas.List.{take_all, drop_all}
 use Rattle.bt_rowtype.specs.declared.value.Value.{Value}
-use Rattle.bt_rowtype.specs.Packing.{IsInRange, IsAt, IsPacked, first_of, offset_of, packed, packed_value, unpacked, unpacked_by, width_of}
+use Rattle.bt_rowtype.specs.Values.{IsInRange}
+use Rattle.bt_rowtype.specs.inside.Packing.{IsAt, IsPacked, first_of, offset_of, packed, packed_value, unpacked, unpacked_by, width_of}
 use Rattle.bt_rowtype.proofs.Packing.{are_packed, has_first, in_range-append, in_range-take, is_at, packed-append, unpacked-packed}
 
 pub unpacked_none : unpacked [] ≡ []

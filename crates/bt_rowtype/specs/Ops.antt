@@ -1,11 +1,10 @@
 -- The operations of an upsert, and what they make of a row.
-use Rattle.std.specs.Prelude.{◌≡◌, ℕ, suc, ◌+◌, ◌-◌, ◌*◌, ◌%◌, ◌==◌, ◌&&◌, Bool, List, [], ◌∷◌, ◌++◌, codes, drop, take, length, map, get_or, set, slice_get, nat_le, Option, Some, None, option_map, Result, Ok, Err, if◌then◌else◌, ℤ, pos, ◌+ℤ◌}
+use Rattle.std.specs.Prelude.{ℕ, suc, ◌+◌, ◌-◌, ◌*◌, ◌%◌, ◌==◌, ◌&&◌, Bool, List, [], ◌∷◌, ◌++◌, codes, drop, take, length, map, get_or, set, slice_get, nat_le, Option, Some, None, option_map, Result, Ok, Err, if◌then◌else◌, ℤ, pos, ◌+ℤ◌}
 use Rattle.std.specs.Cmp.Lexicographic.{pointwise}
 use Rattle.std.specs.Int.{saturate_to_bits}
 use Rattle.std.specs.List.{filter_map}
 use Rattle.std.specs.Result.{result_err, result_ok}
 use Rattle.bt_rowtype.specs.Ints.{int_of}
-use Rattle.bt_rowtype.specs.Limits.{most_ops}
 use Rattle.bt_rowtype.specs.Refusals.{least, lesser}
 use Rattle.bt_rowtype.specs.Schemas.{Schema, fits_kind}
 use Rattle.bt_rowtype.specs.Values.{default_of, or_refused, value_of, values_of}
@@ -91,6 +90,10 @@ ops_of schema item (word ∷ []) = []
 ops_of schema item (word ∷ name ∷ []) = []
 ops_of schema item (word ∷ name ∷ argument ∷ fields) = op_of schema item word name argument ∷ ops_of schema item fields
 
+-- how many operations an upsert has at most
+abbrev pub most_ops : ℕ
+most_ops = 16
+
 -- whether a record has the fields of a key and of 1 to 16 operations
 abbrev pub is_upsert : ℕ → ℕ → Bool
 is_upsert keys fields = (nat_le (keys + 3) fields && nat_le fields (keys + 3 * most_ops)) && ((fields - keys) % 3 == 0)
@@ -144,15 +147,6 @@ add_fault (Some other) = Some NotInt
 abbrev pub fault_of : Schema → ℕ → Op → Option Refusal
 fault_of schema item (Set place new) = set_fault item new (open_kind schema place)
 fault_of schema item (Add place n) = add_fault (open_kind schema place)
-
--- an operation that has no fault in a schema, whichever item it is
-abbrev pub OpFits : Schema → Op → Type 0
-OpFits schema op = (item : ℕ) → fault_of schema item op ≡ None
-
--- each of them
-abbrev pub OpsFit : Schema → List Op → Type 0
-OpsFit schema [] = Unit {0}
-OpsFit schema (op ∷ ops) = OpFits schema op × OpsFit schema ops
 
 -- whether these are 1 to 16 operations of a schema, or their least refusal as this item
 abbrev pub checked_ops : Schema → ℕ → List Op → Result (Unit {0}) Refusal

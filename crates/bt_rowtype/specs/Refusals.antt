@@ -57,11 +57,11 @@ item_of (DuplicateKey item) = Some item
 item_of other = None
 
 -- whether its number is less than the other's, or of equal numbers its item
-abbrev pub is_before : Refusal → Refusal → Bool
-is_before a b = if number_of a == number_of b then nat_lt (unwrap_or (item_of a) 0) (unwrap_or (item_of b) 0) else nat_lt (number_of a) (number_of b)
+abbrev pub is_lesser : Refusal → Refusal → Bool
+is_lesser a b = if number_of a == number_of b then nat_lt (unwrap_or (item_of a) 0) (unwrap_or (item_of b) 0) else nat_lt (number_of a) (number_of b)
 
 abbrev pub lesser : Refusal → Refusal → Refusal
-lesser a b = if is_before b a then b else a
+lesser a b = if is_lesser b a then b else a
 
 -- the least of one that was found, if one was, and of others
 abbrev pub least_from : Option Refusal → List Refusal → Option Refusal

@@ -1,5 +1,5 @@
 -- The columns of a table.
-use Rattle.std.specs.Prelude.{ℕ, ◌≡◌, ◌==◌, ◌&&◌, not, Bool, true, false, List, [], ◌∷◌, length, nat_le, Result, Ok, Err, if◌then◌else◌}
+use Rattle.std.specs.Prelude.{ℕ, ◌==◌, ◌&&◌, not, Bool, true, false, List, [], ◌∷◌, length, nat_le, Result, Ok, Err, if◌then◌else◌}
 use Rattle.std.specs.List.{list_any}
 use Rattle.std.specs.Cmp.Lexicographic.{pointwise}
 use Rattle.bt_rowtype.specs.declared.refusal.Refusal.{Refusal}
@@ -9,7 +9,6 @@ use Rattle.bt_rowtype.specs.declared.value.Kind.{Kind}
 use Rattle.bt_rowtype.specs.declared.value.Kind.TheVariants as kind
 use Rattle.bt_rowtype.specs.declared.value.Value.{Value}
 use Rattle.bt_rowtype.specs.declared.value.Value.TheVariants as value
-use Rattle.bt_rowtype.specs.Limits.{most_columns, most_keys}
 use Rattle.bt_rowtype.specs.Texts.{is_text}
 
 -- what a contract sees of a schema: its columns, of which the first `keys` are the key
@@ -26,12 +25,17 @@ abbrev pub are_apart : List Column → Bool
 are_apart [] = true
 are_apart (column ∷ columns) = not (has_column column.name columns) && are_apart columns
 
+-- how many columns a table has at most
+abbrev pub most_columns : ℕ
+most_columns = 16
+
+-- how many of them its key has at most
+abbrev pub most_keys : ℕ
+most_keys = 4
+
 -- 1 to 16 columns with different names, of which 1 to 4 are the key
 abbrev pub is_schema : List Column → ℕ → Bool
 is_schema columns keys = (nat_le 1 (length columns) && nat_le (length columns) most_columns) && (nat_le 1 keys && nat_le keys most_keys && nat_le keys (length columns)) && are_apart columns
-
-abbrev pub IsSchema : List Column → ℕ → Type 0
-IsSchema columns keys = is_schema columns keys ≡ true
 
 -- whether a value is one of a kind
 abbrev pub fits_kind : Kind → Value → Bool

@@ -1,7 +1,10 @@
 -- Which bytes are a text of a column.
 use Rattle.std.specs.Prelude.{ℕ, ◌&&◌, Bool, List, length, nat_le}
 use Rattle.std.specs.Str.{is_utf8}
-use Rattle.bt_rowtype.specs.Limits.{longest_text}
+
+-- how many bytes a text has at most
+abbrev pub longest_text : ℕ
+longest_text = 255
 
 -- whether bytes are a text of a column: UTF-8, and not too long
 abbrev pub is_text : List ℕ → Bool

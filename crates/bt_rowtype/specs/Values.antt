@@ -1,5 +1,5 @@
--- Values, how fields spell them, and their order.
-use Rattle.std.specs.Prelude.{ℕ, ◌==◌, ◌&&◌, Bool, true, false, List, [], ◌∷◌, codes, length, nat_le, nat_lt, take, Option, Some, None, option_map, option_and_then, Result, Ok, Err, if◌then◌else◌, pos}
+-- Values, how fields spell them, their range, and their order.
+use Rattle.std.specs.Prelude.{ℕ, ◌≡◌, ◌==◌, ◌&&◌, Bool, true, false, List, [], ◌∷◌, codes, length, nat_le, nat_lt, take, Option, Some, None, option_map, option_and_then, Result, Ok, Err, if◌then◌else◌, FitsSigned, pos}
 use Rattle.std.specs.Bool.{beq}
 use Rattle.std.specs.Fmt.{signed_decimal}
 use Rattle.std.specs.Ordering.{bool_cmp, int_cmp, int_eq, nat_cmp}
@@ -7,6 +7,7 @@ use Rattle.std.specs.Str.{str_eq_ignore_ascii_case}
 use Rattle.std.specs.declared.cmp.Ordering.{Ordering}
 use Rattle.std.specs.declared.cmp.Ordering.TheVariants.{Equal}
 use Rattle.std.specs.Cmp.Lexicographic.{pointwise, slice_cmp}
+use Rattle.std.specs.Int.{w64}
 use Rattle.bt_rowtype.specs.Ints.{int_of}
 use Rattle.bt_rowtype.specs.Texts.{is_text}
 use Rattle.bt_rowtype.specs.declared.refusal.Refusal.{Refusal}
@@ -85,3 +86,20 @@ same_value a b = false
 
 abbrev pub same_values : List Value → List Value → Bool
 same_values = pointwise same_value
+
+-- if a value is a text, its bytes are one
+abbrev pub HasText : Value → Type 0
+HasText (value.Int n) = Unit {0}
+HasText (value.Text bytes) = is_text bytes ≡ true
+HasText (value.Flag flag) = Unit {0}
+
+-- a value is within the range of its kind: an int has 64 bits, a text is UTF-8 of at most 255 bytes
+abbrev pub IsInRange : Value → Type 0
+IsInRange (value.Int n) = FitsSigned w64 n
+IsInRange (value.Text bytes) = is_text bytes ≡ true
+IsInRange (value.Flag flag) = Unit {0}
+
+-- each of them
+abbrev pub AreInRange : List Value → Type 0
+AreInRange [] = Unit {0}
+AreInRange (v ∷ vs) = IsInRange v × AreInRange vs

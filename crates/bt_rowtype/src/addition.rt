@@ -2,8 +2,8 @@
 ghost use Rattle.std.specs.Prelude.{◌≡◌, ◌≤◌, ◌+◌, ◌++◌, ◌+ℤ◌, drop, length, take};
 ghost use Rattle.std.specs.Int.{saturate_to_bits};
 ghost use Rattle.bt_rowtype.specs.Ops.{after_op};
-ghost use Rattle.bt_rowtype.specs.Additions.{number_of};
-ghost use Rattle.bt_rowtype.specs.Packing.{IsPacked, first_of, int_bytes, unpacked, width_of};
+ghost use Rattle.bt_rowtype.specs.inside.Additions.{number_of};
+ghost use Rattle.bt_rowtype.specs.inside.Packing.{IsPacked, first_of, int_bytes, unpacked, width_of};
 ghost use Rattle.bt_rowtype.specs.declared.op.Op.TheVariants.{Add};
 
 use crate::packed::{int_at, offset, tail};
@@ -29,7 +29,7 @@ fn int_here(bytes: &[u8], at: usize) -> Option<i64>
 }
 
 // Writes another int over the one that begins here.
-#[tactic(auto, unfolding(crate::specs::Packing::int_bytes))]
+#[tactic(auto, unfolding(crate::specs::inside::Packing::int_bytes))]
 fn write_int(bytes: &mut [u8], at: usize, number: i64)
     requires { at + 9 ≤ length bytes.old }
     ensures { bytes.new ≡ take (at + 1) bytes.old ++ (int_bytes number ++ drop (at + 9) bytes.old) }

@@ -1,6 +1,7 @@
 //! Bytes, of which a few take no memory of their own.
 ghost use Rattle.std.specs.Prelude.{◌≡◌, ◌≤◌, [], IfOk, IsOk, length, take};
-ghost use Rattle.bt_rowtype.specs.Shorts.{FitsInside, bytes_of, padded as padded_to};
+ghost use Rattle.bt_rowtype.specs.Paddings.{padded as padded_to};
+ghost use Rattle.bt_rowtype.specs.inside.Shorts.{FitsInside, bytes_of};
 
 use std::alloc::{AllocError, Global};
 use std::marker::Model;
@@ -25,7 +26,7 @@ pub struct Bytes {
 
 impl Model for Bytes {
     ghost use Rattle.std.specs.Prelude.{List, ℕ};
-    ghost use Rattle.bt_rowtype.specs.Shorts.{FitsInside, bytes_of};
+    ghost use Rattle.bt_rowtype.specs.inside.Shorts.{FitsInside, bytes_of};
 
     ghost Value = { List ℕ };
 

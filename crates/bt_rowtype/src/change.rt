@@ -1,6 +1,6 @@
 //! What an upsert does to the row of its key.
 ghost use Rattle.std.specs.Prelude.{◌≡◌, ◌∷◌, [], IfOk};
-ghost use Rattle.bt_rowtype.specs.Changes.{ops_of};
+ghost use Rattle.bt_rowtype.specs.inside.Changes.{ops_of};
 ghost use Rattle.bt_rowtype.specs.Ops as spec;
 
 use crate::copies::clone_all;
@@ -31,7 +31,7 @@ pub struct Change {
 const _: () = prove!(size_of::<Change>() == 48);
 
 impl Model for Change {
-    ghost use Rattle.bt_rowtype.specs.Changes.{ops_of};
+    ghost use Rattle.bt_rowtype.specs.inside.Changes.{ops_of};
     ghost use Rattle.bt_rowtype.specs.Ops as spec;
 
     ghost Value = { spec.Change };

@@ -1,7 +1,8 @@
 //! Cutting a text at its commas.
 ghost use Rattle.std.specs.Prelude.{◌≡◌, ◌≤◌, is_some, length, true, IfOk};
-ghost use Rattle.bt_rowtype.specs.Pieces.{LieWithin, pieces};
-ghost use Rattle.bt_rowtype.specs.Records.{csv_record, fields_in, is_special as is_quote_or_end};
+ghost use Rattle.bt_rowtype.specs.inside.Pieces.{LieWithin, pieces};
+ghost use Rattle.bt_rowtype.specs.Records.{csv_record};
+ghost use Rattle.bt_rowtype.specs.inside.RecordParts.{fields_in, is_special as is_quote_or_end};
 
 use crate::fields::Place;
 use std::alloc::AllocError;

@@ -1,9 +1,8 @@
 //! Reading one field.
 ghost use Rattle.std.specs.Prelude.{◌≡◌, Err, IfSome, None, option_map};
 ghost use Rattle.bt_rowtype.specs.Answers.{Answers};
-ghost use Rattle.bt_rowtype.specs.Packing.{HasText};
+ghost use Rattle.bt_rowtype.specs.Values.{HasText, flag_of, or_refused, value_of};
 ghost use Rattle.bt_rowtype.specs.Texts.{is_text};
-ghost use Rattle.bt_rowtype.specs.Values.{flag_of, or_refused, value_of};
 ghost use Rattle.bt_rowtype.specs.Views.{shown};
 ghost use Rattle.bt_rowtype.specs.declared.value.Kind.TheVariants as kind;
 

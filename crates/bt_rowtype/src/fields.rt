@@ -1,5 +1,5 @@
 //! The fields of one record, lent or owned.
-ghost use Rattle.bt_rowtype.specs.Pieces.{LieWithin, part, pieces};
+ghost use Rattle.bt_rowtype.specs.inside.Pieces.{LieWithin, part, pieces};
 ghost use Rattle.std.specs.Prelude.{◌≡◌, ◌==◌, ◌++◌, ◌∷◌, ◌<◌, ◌≤◌, [], Some, length, slice_get, OnOk, OnErr};
 
 use std::alloc::{AllocError, Global};
@@ -40,7 +40,7 @@ pub(crate) struct Record<'a> {
 
 impl<'a> Model for Record<'a> {
     ghost use Rattle.std.specs.Prelude.{List, ℕ, length};
-    ghost use Rattle.bt_rowtype.specs.Pieces.{LieWithin, pieces};
+    ghost use Rattle.bt_rowtype.specs.inside.Pieces.{LieWithin, pieces};
 
     ghost Value = { List (List ℕ) };
 
@@ -93,7 +93,7 @@ pub struct Fields {
 
 impl Model for Fields {
     ghost use Rattle.std.specs.Prelude.{List, ℕ, length};
-    ghost use Rattle.bt_rowtype.specs.Pieces.{LieWithin, pieces};
+    ghost use Rattle.bt_rowtype.specs.inside.Pieces.{LieWithin, pieces};
 
     ghost Value = { List (List ℕ) };
 

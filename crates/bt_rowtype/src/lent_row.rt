@@ -1,7 +1,7 @@
 //! The values of a row while operations change them.
 ghost use Rattle.std.specs.Prelude.{◌≡◌, IfOk, set};
 ghost use Rattle.bt_rowtype.specs.Ops.{added as added_to, after_op};
-ghost use Rattle.bt_rowtype.specs.Packing.{HasText};
+ghost use Rattle.bt_rowtype.specs.Values.{HasText};
 ghost use Rattle.bt_rowtype.specs.Views.{shown};
 
 use crate::addition::sum;
@@ -21,7 +21,7 @@ pub(crate) struct LentRow<'a> {
 impl<'a> Model for LentRow<'a> {
     ghost use Rattle.std.specs.Prelude.{List, map};
     ghost use Rattle.std.specs.List.{All};
-    ghost use Rattle.bt_rowtype.specs.Packing.{HasText};
+    ghost use Rattle.bt_rowtype.specs.Values.{HasText};
     ghost use Rattle.bt_rowtype.specs.Views.{shown};
     ghost use Rattle.bt_rowtype.specs.declared.value.Value.{Value as value};
 

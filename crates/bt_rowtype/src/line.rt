@@ -2,7 +2,8 @@
 ghost use Rattle.std.specs.Prelude.{◌≡◌, ◌==◌, is_some, true, IfOk};
 ghost use Rattle.std.specs.List.{list_all, list_any};
 ghost use Rattle.csv.specs.Reading.{strip_bom};
-ghost use Rattle.bt_rowtype.specs.Records.{csv_record, fields_in, has_mark as is_behind_mark, record_of};
+ghost use Rattle.bt_rowtype.specs.Records.{csv_record, has_mark as is_behind_mark, record_of};
+ghost use Rattle.bt_rowtype.specs.inside.RecordParts.{fields_in};
 
 use crate::cut::cut_plain;
 use crate::fields::Fields;
@@ -21,7 +22,8 @@ pub struct RecordLine<'a> {
 
 impl<'a> Model for RecordLine<'a> {
     ghost use Rattle.std.specs.Prelude.{◌≡◌, List, ℕ, is_some, true};
-    ghost use Rattle.bt_rowtype.specs.Records.{csv_record, fields_in};
+    ghost use Rattle.bt_rowtype.specs.Records.{csv_record};
+    ghost use Rattle.bt_rowtype.specs.inside.RecordParts.{fields_in};
 
     ghost Value = { List (List ℕ) };
 

@@ -1,8 +1,7 @@
 //! Operations on single columns, and what they do to a row.
 ghost use Rattle.std.specs.Prelude.{◌≡◌, IfOk, OnOk, drop};
 ghost use Rattle.bt_rowtype.specs.Ops as spec;
-ghost use Rattle.bt_rowtype.specs.Packing.{HasText};
-ghost use Rattle.bt_rowtype.specs.Values.{default_of};
+ghost use Rattle.bt_rowtype.specs.Values.{HasText, default_of};
 ghost use Rattle.bt_rowtype.specs.Views.{shown};
 
 use crate::copies::TryClone;

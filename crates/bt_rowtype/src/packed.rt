@@ -1,6 +1,6 @@
 //! Reading values in a string of bytes.
 ghost use Rattle.std.specs.Prelude.{◌≡◌, ◌≤◌, ◌<◌, drop, length, take};
-ghost use Rattle.bt_rowtype.specs.Packing.{IsAt, IsPacked, first_of, int_from, unpacked, width_of};
+ghost use Rattle.bt_rowtype.specs.inside.Packing.{IsAt, IsPacked, first_of, int_from, unpacked, width_of};
 ghost use Rattle.bt_rowtype.specs.Views.{shown};
 
 use crate::value_ref::ValueRef;
@@ -22,7 +22,7 @@ pub(crate) fn front<'a>(bytes: &'a [u8], at: usize) -> &'a [u8]
 }
 
 // The int of the eight bytes behind a tag.
-#[tactic(auto, unfolding(crate::specs::Packing::int_from))]
+#[tactic(auto, unfolding(crate::specs::inside::Packing::int_from))]
 pub(crate) fn int_at(bytes: &[u8]) -> i64
     requires { 9 ≤ length bytes.now }
     ensures { result ≡ int_from (drop 1 bytes.now) }

@@ -1,7 +1,8 @@
 //! Rows.
 ghost use Rattle.std.specs.Prelude.{◌≡◌, ◌≤◌, ◌<◌, ◌++◌, ◌∷◌, [], IfOk, OnOk, OnErr, Some, drop, length, slice_get, take, true};
 ghost use Rattle.bt_rowtype.specs.Ops.{after_op};
-ghost use Rattle.bt_rowtype.specs.Packing.{HasText, IsInRange, IsPacked, int_bytes, packed, packed_value, unpacked};
+ghost use Rattle.bt_rowtype.specs.Values.{HasText, IsInRange};
+ghost use Rattle.bt_rowtype.specs.inside.Packing.{IsPacked, int_bytes, packed, packed_value, unpacked};
 ghost use Rattle.bt_rowtype.specs.Texts.{is_text};
 ghost use Rattle.bt_rowtype.specs.Views.{shown};
 ghost use Rattle.bt_rowtype.specs.declared.op.Op.TheVariants.{Set, Add};
@@ -32,7 +33,7 @@ const _: () = prove!(size_of::<Option<Row>>() == 40);
 impl Model for Row {
     ghost use Rattle.std.specs.Prelude.{List};
     ghost use Rattle.bt_rowtype.specs.declared.value.Value.{Value as value};
-    ghost use Rattle.bt_rowtype.specs.Packing.{IsPacked, unpacked};
+    ghost use Rattle.bt_rowtype.specs.inside.Packing.{IsPacked, unpacked};
 
     ghost Value = { List value };
 
@@ -42,7 +43,7 @@ impl Model for Row {
 }
 
 // The eight bytes of an int.
-#[tactic(auto, unfolding(crate::specs::Packing::int_bytes))]
+#[tactic(auto, unfolding(crate::specs::inside::Packing::int_bytes))]
 fn bytes_of_int(number: i64) -> [u8; 8]
     ensures { result ≡ int_bytes number }
 {

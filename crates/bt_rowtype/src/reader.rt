@@ -5,9 +5,10 @@
 ghost use Rattle.std.specs.Prelude.{◌≡◌, ◌<◌, ◌≤◌, false, is_some, length, true, IfOk};
 ghost use Rattle.csv.specs.Machine.{is_end, step as csv_step};
 ghost use Rattle.csv.specs.Reading.{default_config};
-ghost use Rattle.bt_rowtype.specs.Pieces.{LieWithin, pieces};
-ghost use Rattle.bt_rowtype.specs.Reader.{csv_action, csv_state};
-ghost use Rattle.bt_rowtype.specs.Records.{EndsAt, begins_record, csv_record, fields_in};
+ghost use Rattle.bt_rowtype.specs.inside.Pieces.{LieWithin, pieces};
+ghost use Rattle.bt_rowtype.specs.inside.Reader.{csv_action, csv_state};
+ghost use Rattle.bt_rowtype.specs.Records.{csv_record};
+ghost use Rattle.bt_rowtype.specs.inside.RecordParts.{EndsAt, begins_record, fields_in};
 
 use crate::fields::Place;
 use std::alloc::AllocError;

@@ -2,7 +2,8 @@
 ghost use Rattle.std.specs.Prelude.{◌≡◌, ◌++◌, ◌∷◌, [], IfOk, OnOk, OnErr, List, codes, if◌then◌else◌, length, map, ℕ};
 ghost use Rattle.std.specs.Fmt.{signed_decimal};
 ghost use Rattle.csv.specs.Writing.{default_writer, escaped, field_text, needs_quotes as text_needs_quotes, next_sep, quoted};
-ghost use Rattle.bt_rowtype.specs.Records.{Grows, record_of, record_text};
+ghost use Rattle.bt_rowtype.specs.Records.{record_of, record_text};
+ghost use Rattle.bt_rowtype.specs.inside.RecordParts.{Grows};
 ghost use Rattle.bt_rowtype.specs.Values.{text_of};
 ghost use Rattle.bt_rowtype.specs.Views.{shown};
 

@@ -4,7 +4,8 @@ ghost use Rattle.std.specs.Result.{result_map_both};
 ghost use Rattle.bt_rowtype.specs.Answers.{Answers};
 ghost use Rattle.bt_rowtype.specs.Loads as loads;
 ghost use Rattle.bt_rowtype.specs.Ops as spec;
-ghost use Rattle.bt_rowtype.specs.Records.{csv_record, fields_in};
+ghost use Rattle.bt_rowtype.specs.Records.{csv_record};
+ghost use Rattle.bt_rowtype.specs.inside.RecordParts.{fields_in};
 ghost use Rattle.bt_rowtype.specs.Values.{prefix_as, read_as};
 
 use crate::cut::cut_plain;

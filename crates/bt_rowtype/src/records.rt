@@ -1,7 +1,8 @@
 //! The records of a text, one after the other.
 ghost use Rattle.std.specs.Prelude.{◌≡◌, ◌≤◌, ◌+◌, ◌∷◌, [], drop, false, length, true, IfNone, IfSome, MatchOption};
 ghost use Rattle.csv.specs.Reading.{default_config, records, strip_bom};
-ghost use Rattle.bt_rowtype.specs.Records.{EndsAt, begins_record, has_mark as is_behind_mark, is_line_end as ends_line};
+ghost use Rattle.bt_rowtype.specs.Records.{has_mark as is_behind_mark};
+ghost use Rattle.bt_rowtype.specs.inside.RecordParts.{EndsAt, begins_record, is_line_end as ends_line};
 
 use crate::line::{RecordLine, has_mark, without_mark};
 use crate::reader::record_end;

@@ -123,11 +123,11 @@ impl Refusal {
 }
 
 impl Refusal {
-    ghost use Rattle.bt_rowtype.specs.Refusals.{is_before, lesser};
+    ghost use Rattle.bt_rowtype.specs.Refusals.{is_lesser, lesser};
 
     // Whether its number is less, or of equal numbers its item.
     fn is_before(&self, other: &Refusal) -> bool
-        ensures { result ≡ is_before self.now other.now }
+        ensures { result ≡ is_lesser self.now other.now }
     {
         let (number, other_number) = (self.number(), other.number());
         if number != other_number {

@@ -2,8 +2,7 @@
 ghost use Rattle.std.specs.Prelude.{◌≡◌, ◌≢◌, ◌≤◌, Err, IfOk, length, take};
 ghost use Rattle.std.specs.Result.{result_map_both};
 ghost use Rattle.bt_rowtype.specs.Answers.{Answers};
-ghost use Rattle.bt_rowtype.specs.Packing.{HasText};
-ghost use Rattle.bt_rowtype.specs.Values.{or_refused, prefix_as, read_as, value_of, values_of};
+ghost use Rattle.bt_rowtype.specs.Values.{HasText, or_refused, prefix_as, read_as, value_of, values_of};
 ghost use Rattle.bt_rowtype.specs.Views.{shown};
 
 use crate::field::read_value;

@@ -1,8 +1,8 @@
 //! The bytes of a row, of which a few take no memory of their own.
 ghost use Rattle.std.specs.Prelude.{◌≡◌, ◌≤◌, ◌+◌, ◌++◌, [], IfOk, OnOk, OnErr, length, nat_le, take};
 ghost use Rattle.bt_rowtype.specs.Ops.{after_op};
-ghost use Rattle.bt_rowtype.specs.Packing.{IsPacked, unpacked};
-ghost use Rattle.bt_rowtype.specs.RowBytes.{FitsInside, bytes_of};
+ghost use Rattle.bt_rowtype.specs.inside.Packing.{IsPacked, unpacked};
+ghost use Rattle.bt_rowtype.specs.inside.RowBytes.{FitsInside, bytes_of};
 ghost use Rattle.bt_rowtype.specs.declared.op.Op.TheVariants.{Add};
 
 use crate::addition::add_at;
@@ -36,7 +36,7 @@ pub(crate) struct RowBytes {
 
 impl Model for RowBytes {
     ghost use Rattle.std.specs.Prelude.{List, ℕ};
-    ghost use Rattle.bt_rowtype.specs.RowBytes.{FitsInside, bytes_of};
+    ghost use Rattle.bt_rowtype.specs.inside.RowBytes.{FitsInside, bytes_of};
 
     ghost Value = { List ℕ };
 

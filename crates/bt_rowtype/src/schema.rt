@@ -38,7 +38,7 @@ pub struct Schema {
 }
 
 impl Model for Schema {
-    ghost use Rattle.bt_rowtype.specs.Schemas.{IsSchema};
+    ghost use Rattle.bt_rowtype.specs.inside.Fits.{IsSchema};
     ghost use Rattle.bt_rowtype.specs.Schemas as schemas;
 
     ghost Value = { schemas.Schema };

@@ -1,6 +1,6 @@
 //! Values that are read where they lie.
 ghost use Rattle.std.specs.Prelude.{◌≡◌, IfOk};
-ghost use Rattle.bt_rowtype.specs.Packing.{HasText};
+ghost use Rattle.bt_rowtype.specs.Values.{HasText};
 ghost use Rattle.bt_rowtype.specs.Views.{shown};
 
 use crate::text::Text;

@@ -1,7 +1,8 @@
 //! Going through values, in a list of them or in a row.
 ghost use Rattle.std.specs.Prelude.{◌≡◌, ◌∷◌, ◌==◌, [], Some, IfSome, IfNone, length};
-ghost use Rattle.bt_rowtype.specs.Packing.{HasText, IsInRange, IsPacked, first_of, unpacked, width_of};
-ghost use Rattle.bt_rowtype.specs.Sources.{IsSource, left};
+ghost use Rattle.bt_rowtype.specs.Values.{HasText, IsInRange};
+ghost use Rattle.bt_rowtype.specs.inside.Packing.{IsPacked, first_of, unpacked, width_of};
+ghost use Rattle.bt_rowtype.specs.inside.Sources.{IsSource, left};
 ghost use Rattle.bt_rowtype.specs.Values as spec;
 ghost use Rattle.bt_rowtype.specs.Views.{shown};
 
@@ -27,7 +28,7 @@ pub struct Values<'a> {
 impl<'a> Model for Values<'a> {
     ghost use Rattle.std.specs.Prelude.{List};
     ghost use Rattle.bt_rowtype.specs.declared.value.Value.{Value as value};
-    ghost use Rattle.bt_rowtype.specs.Sources.{IsSource, left};
+    ghost use Rattle.bt_rowtype.specs.inside.Sources.{IsSource, left};
 
     ghost Value = { List value };
 

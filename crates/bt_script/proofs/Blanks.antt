@@ -3,7 +3,7 @@ use Rattle.std.proofs.Common.{ℕ, List, [], ◌∷◌, ◌≡◌, ◌==◌, ref
 use Rattle.std.proofs.Math.Dec.{eqb-suc-zero}
 use Rattle.std.proofs.lemmas.Bool.{cases_Bool}
 use Rattle.std.specs.List.{prefix_len}
-use Rattle.bt_script.specs.Blocks.{and_line, with_last}
+use Rattle.bt_script.specs.inside.Blocks.{and_line, with_last}
 use Rattle.bt_script.specs.Commands.{item_from}
 use Rattle.bt_script.specs.Lines.{is_blank, without_spaces}
 use Rattle.bt_rowtype.specs.declared.item.Item.{Item}

@@ -5,9 +5,9 @@ use Rattle.std.proofs.lemmas.List.{append-nil, drop_all, map-append}
 use Rattle.std.proofs.lemmas.List.Elements.{filter-append}
 use Rattle.std.proofs.lemmas.List.Sums.{fold-append}
 use Rattle.std.specs.Prelude.{option_map}
-use Rattle.bt_script.specs.Blocks.{IsBlock, and_line, ended, headed, with_last}
-use Rattle.bt_script.specs.Commands.{Inside, Outside, all_some, and_bound, batch_of, begins, bounds_of, closing_of, command_of, commands_from, is_blank_line, is_word, item_of, items_of, load_of, or_syntax, scan_of, step, sums_of, unbounded, unfinished}
-use Rattle.bt_script.specs.Lines.{lines, text_of, words, without_return}
+use Rattle.bt_script.specs.inside.Blocks.{IsBlock, and_line, ended, headed, with_last}
+use Rattle.bt_script.specs.Commands.{Inside, Outside, all_some, and_bound, batch_command, begins, bounds_of, closing_of, command_of, commands_from, is_blank_line, is_word, item_of_line, items_of, line_step, load_command, or_syntax, scan_command, sums_command, unbounded, unfinished}
+use Rattle.bt_script.specs.Lines.{lines, text_of_lines, words, without_return}
 use Rattle.bt_script.specs.declared.command.Command.{Command}
 
 -- one more, at the end
@@ -24,11 +24,11 @@ all_some-snoc (Some y ∷ os) o = ap (option_map (λ xs. y ∷ xs)) (all_some-sn
 
 -- one more line of a batch
 pub items-more : (block : List (List ℕ)) (line : List ℕ) → items_of (block ++ line ∷ []) ≡ and_line (items_of block) (without_return line)
-unfolding items_of item_of
+unfolding items_of item_of_line
 items-more block line = elim (cases_Bool (is_blank_line line)) [
   | inl blank ↦ rw (filter-append (λ l. not (is_blank_line l)) block (line ∷ []), blank, append-nil (filter (λ l. not (is_blank_line l)) block)) refl
-  | inr some ↦ rw (filter-append (λ l. not (is_blank_line l)) block (line ∷ []), some, map-append item_of (filter (λ l. not (is_blank_line l)) block) (line ∷ []))
-      (all_some-snoc (map item_of (filter (λ l. not (is_blank_line l)) block)) (item_of line))
+  | inr some ↦ rw (filter-append (λ l. not (is_blank_line l)) block (line ∷ []), some, map-append item_of_line (filter (λ l. not (is_blank_line l)) block) (line ∷ []))
+      (all_some-snoc (map item_of_line (filter (λ l. not (is_blank_line l)) block)) (item_of_line line))
 ]
 
 -- one more line of bounds
@@ -39,13 +39,13 @@ bounds-more block line = fold-append (λ bounds one. and_bound bounds (without_r
 -- a line that does not close the block
 pub inside-more : (head closing : List ℕ) (block : List (List ℕ)) (line : List ℕ) (more : List (List ℕ)) → is_word (without_return line) closing ≡ false
     → commands_from (Inside head closing block) (line ∷ more) ≡ commands_from (Inside head closing (block ++ line ∷ [])) more
-unfolding commands_from step
+unfolding commands_from line_step
 inside-more head closing block line more other = rw other refl
 
 -- the line that closes it
 pub inside-closed : (head closing : List ℕ) (block : List (List ℕ)) (line : List ℕ) (more : List (List ℕ)) → is_word (without_return line) closing ≡ true
     → commands_from (Inside head closing block) (line ∷ more) ≡ or_syntax (command_of head block) ∷ commands_from Outside more
-unfolding commands_from step
+unfolding commands_from line_step
 inside-closed head closing block line more closes = rw closes refl
 
 -- the end of the script
@@ -103,28 +103,28 @@ pub headed-line : (head : List ℕ) (more : List (List ℕ)) (command : Option C
 unfolding closing_of
 headed-line head more command no_batch no_scan no_sums no_load is = rw (no_batch, no_scan, no_sums, no_load, is) refl
 
-pub command-batch : (head : List ℕ) (block : List (List ℕ)) → begins (words head) (codes "batch") ≡ true → command_of head block ≡ batch_of (words head) (items_of block)
+pub command-batch : (head : List ℕ) (block : List (List ℕ)) → begins (words head) (codes "batch") ≡ true → command_of head block ≡ batch_command (words head) (items_of block)
 unfolding command_of
 command-batch head block is = rw is refl
 
 pub command-scan : (head : List ℕ) (block : List (List ℕ)) → begins (words head) (codes "batch") ≡ false → begins (words head) (codes "scan") ≡ true
-    → command_of head block ≡ scan_of (words head) (bounds_of block)
+    → command_of head block ≡ scan_command (words head) (bounds_of block)
 unfolding command_of
 command-scan head block other is = rw (other, is) refl
 
 pub command-sums : (head : List ℕ) (block : List (List ℕ)) → begins (words head) (codes "batch") ≡ false → begins (words head) (codes "scan") ≡ false → begins (words head) (codes "sums") ≡ true
-    → command_of head block ≡ sums_of (words head) (bounds_of block)
+    → command_of head block ≡ sums_command (words head) (bounds_of block)
 unfolding command_of
 command-sums head block no_batch no_scan is = rw (no_batch, no_scan, is) refl
 
 pub command-load : (head : List ℕ) (block : List (List ℕ)) → begins (words head) (codes "batch") ≡ false → begins (words head) (codes "scan") ≡ false
-    → begins (words head) (codes "sums") ≡ false → begins (words head) (codes "load") ≡ true → command_of head block ≡ load_of (words head) (text_of block)
+    → begins (words head) (codes "sums") ≡ false → begins (words head) (codes "load") ≡ true → command_of head block ≡ load_command (words head) (text_of_lines block)
 unfolding command_of
 command-load head block no_batch no_scan no_sums is = rw (no_batch, no_scan, no_sums, is) refl
 
 -- the text of a block that is not closed does not count
-pub ended-load : (closed : Bool) (ws : List (List ℕ)) (found text : List ℕ) → (closed ≡ true → found ≡ text) → ended closed (load_of ws text) ≡ ended closed (load_of ws found)
-ended-load true ws found text same = ap (λ (t : List ℕ). or_syntax (load_of ws t)) (sym (same refl))
+pub ended-load : (closed : Bool) (ws : List (List ℕ)) (found text : List ℕ) → (closed ≡ true → found ≡ text) → ended closed (load_command ws text) ≡ ended closed (load_command ws found)
+ended-load true ws found text same = ap (λ (t : List ℕ). or_syntax (load_command ws t)) (sym (same refl))
 ended-load false ws found text same = elim (cases_Bool (length ws == 1)) [
   | inl alone ↦ rw alone refl
   | inr more ↦ rw more refl
@@ -132,11 +132,11 @@ ended-load false ws found text same = elim (cases_Bool (length ws == 1)) [
 
 -- a line outside of blocks: one that heads a command, and a blank one
 pub outside-head : (line : List ℕ) (more : List (List ℕ)) → is_blank_line line ≡ false → commands_from Outside (line ∷ more) ≡ headed (without_return line) more
-unfolding commands_from step
+unfolding commands_from line_step
 outside-head line more some = rw some refl
 
 pub outside-blank : (line : List ℕ) (more : List (List ℕ)) → is_blank_line line ≡ true → commands_from Outside (line ∷ more) ≡ commands_from Outside more
-unfolding commands_from step
+unfolding commands_from line_step
 outside-blank line more none = rw none refl
 
 pub outside-end : commands_from Outside [] ≡ []

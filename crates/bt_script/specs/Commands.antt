@@ -11,7 +11,7 @@ use Rattle.bt_rowtype.specs.declared.refusal.Refusal.TheVariants.{Syntax, Unfini
 use Rattle.bt_rowtype.specs.declared.schema.Column.{Column}
 use Rattle.bt_rowtype.specs.declared.value.Kind.{Kind}
 use Rattle.bt_rowtype.specs.declared.value.Kind.TheVariants as kind
-use Rattle.bt_script.specs.Lines.{behind_words, is_blank, is_name, lines, name_of, number_of, text_of, without_return, without_spaces, words}
+use Rattle.bt_script.specs.Lines.{behind_words, is_blank, is_name, lines, name_of_word, number_of_word, text_of_lines, without_return, without_spaces, words}
 use Rattle.bt_script.specs.declared.command.Command.{Command}
 use Rattle.bt_script.specs.declared.command.Command.TheVariants.{Batch, Build, Drain, Drop, Get, Image, Index, Load, Rebuild, Scan, Sums, Table}
 use Rattle.bt_script.specs.declared.command.Bounds.{Bounds}
@@ -49,26 +49,26 @@ item_from line =
     else (if is_some (behind_prefix (codes "del ") line) then option_map Del (record_behind (codes "del ") line)
     else option_map Ups (record_behind (codes "ups ") line))
 
-unfoldable pub item_of : List ℕ → Option Item
-item_of line = item_from (without_spaces (without_return line))
+unfoldable pub item_of_line : List ℕ → Option Item
+item_of_line line = item_from (without_spaces (without_return line))
 
 abbrev pub is_blank_line : List ℕ → Bool
 is_blank_line line = is_blank (without_return line)
 
 -- the messages of a batch: one of each line that is not blank
 unfoldable pub items_of : List (List ℕ) → Option (List Item)
-items_of block = all_some (map item_of (filter (λ line. not (is_blank_line line)) block))
+items_of block = all_some (map item_of_line (filter (λ line. not (is_blank_line line)) block))
 
 -- the kind that a word names
-abbrev pub kind_of : List ℕ → Option Kind
-kind_of word =
+abbrev pub kind_of_word : List ℕ → Option Kind
+kind_of_word word =
     if is_word word (codes "int") then Some kind.Int
     else (if is_word word (codes "text") then Some kind.Text else (if is_word word (codes "flag") then Some kind.Flag else None))
 
 -- a column: its name, a colon and its kind
 abbrev pub column_from : List (List ℕ) → Option Column
 column_from parts =
-    if (length parts == 2) && is_name (word_at parts 0) then option_map (λ k. record { name = word_at parts 0; kind = k }) (kind_of (word_at parts 1)) else None
+    if (length parts == 2) && is_name (word_at parts 0) then option_map (λ k. record { name = word_at parts 0; kind = k }) (kind_of_word (word_at parts 1)) else None
 
 unfoldable pub column_of : List ℕ → Option Column
 column_of word = column_from (slice_split (λ b. b == 58) word)
@@ -77,20 +77,20 @@ abbrev pub form_of : ℕ → ℕ → ℕ → ℕ → List Column → Command
 form_of fanout buffer leaf keys columns = Table (record { fanout = fanout; buffer = buffer; leaf = leaf; keys = keys; columns = columns })
 
 -- table, four numbers, and one column or more
-unfoldable pub table_of : List (List ℕ) → Option Command
-table_of ws =
+unfoldable pub table_command : List (List ℕ) → Option Command
+table_command ws =
     if nat_le 6 (length ws) then
     option_and_then (λ fanout. option_and_then (λ buffer. option_and_then (λ leaf. option_and_then (λ keys. option_map (form_of fanout buffer leaf keys)
-    (all_some (map column_of (drop 5 ws)))) (number_of (word_at ws 4))) (number_of (word_at ws 3))) (number_of (word_at ws 2))) (number_of (word_at ws 1))
+    (all_some (map column_of (drop 5 ws)))) (number_of_word (word_at ws 4))) (number_of_word (word_at ws 3))) (number_of_word (word_at ws 2))) (number_of_word (word_at ws 1))
     else None
 
 -- batch, with its messages
-abbrev pub batch_of : List (List ℕ) → Option (List Item) → Option Command
-batch_of ws items = if length ws == 1 then option_map Batch items else None
+abbrev pub batch_command : List (List ℕ) → Option (List Item) → Option Command
+batch_command ws items = if length ws == 1 then option_map Batch items else None
 
 -- load, with the text of its block as it stands
-abbrev pub load_of : List (List ℕ) → List ℕ → Option Command
-load_of ws text = if length ws == 1 then Some (Load text) else None
+abbrev pub load_command : List (List ℕ) → List ℕ → Option Command
+load_command ws text = if length ws == 1 then Some (Load text) else None
 
 -- no bound
 abbrev pub unbounded : Bounds
@@ -112,31 +112,31 @@ unfoldable pub bounds_of : List (List ℕ) → Option Bounds
 bounds_of block = fold (λ bounds line. and_bound bounds (without_return line)) (Some unbounded) block
 
 -- scan and the name of a tree, with its bounds
-abbrev pub scan_of : List (List ℕ) → Option Bounds → Option Command
-scan_of ws bounds = if (length ws == 2) && is_name (word_at ws 1) then option_map (Scan (word_at ws 1)) bounds else None
+abbrev pub scan_command : List (List ℕ) → Option Bounds → Option Command
+scan_command ws bounds = if (length ws == 2) && is_name (word_at ws 1) then option_map (Scan (word_at ws 1)) bounds else None
 
 abbrev pub sums_from : List ℕ → ℕ → List ℕ → Bounds → Command
 sums_from tree columns column bounds = Sums (record { tree = tree; columns = columns; column = column; bounds = bounds })
 
 -- sums, the name of a tree, a number and the name of a column, with its bounds
-unfoldable pub sums_of : List (List ℕ) → Option Bounds → Option Command
-sums_of ws bounds =
+unfoldable pub sums_command : List (List ℕ) → Option Bounds → Option Command
+sums_command ws bounds =
     if length ws == 4 then
     option_and_then (λ tree. option_and_then (λ columns. option_and_then (λ column. option_map (sums_from tree columns column) bounds)
-    (name_of (word_at ws 3))) (number_of (word_at ws 2))) (name_of (word_at ws 1))
+    (name_of_word (word_at ws 3))) (number_of_word (word_at ws 2))) (name_of_word (word_at ws 1))
     else None
 
 -- get, one space and a record
-abbrev pub get_of : List ℕ → Option Command
-get_of head = option_map Get (record_behind (codes "get ") (without_spaces head))
+abbrev pub get_command : List ℕ → Option Command
+get_command head = option_map Get (record_behind (codes "get ") (without_spaces head))
 
 -- the name that stands behind the first word, with no other word behind it
 abbrev pub only_name : List (List ℕ) → Option (List ℕ)
-only_name ws = if length ws == 2 then name_of (word_at ws 1) else None
+only_name ws = if length ws == 2 then name_of_word (word_at ws 1) else None
 
 -- the names that commas join
 unfoldable pub names_of : List ℕ → Option (List (List ℕ))
-names_of word = all_some (map name_of (slice_split (λ b. b == 44) word))
+names_of word = all_some (map name_of_word (slice_split (λ b. b == 44) word))
 
 -- how a test is spelled
 abbrev pub test_of : List ℕ → Option Test
@@ -158,7 +158,7 @@ constant_of rest = option_and_then only_field (record_behind (codes " ") rest)
 unfoldable pub filter_of : List ℕ → List (List ℕ) → ℕ → Option Filter
 filter_of head ws at =
     option_and_then (λ column. option_and_then (λ t. option_map (λ constant. record { column = column; test = t; constant = constant })
-    (constant_of (behind_words (at + 3) head))) (test_of (word_at ws (at + 2)))) (name_of (word_at ws (at + 1)))
+    (constant_of (behind_words (at + 3) head))) (test_of (word_at ws (at + 2)))) (name_of_word (word_at ws (at + 1)))
 
 -- the filter of an index, which begins with the word at a place: none, where the line ends before it
 abbrev pub filter_from : List ℕ → List (List ℕ) → ℕ → Option (Option Filter)
@@ -175,24 +175,24 @@ abbrev pub included_of : List (List ℕ) → Option (List (List ℕ))
 included_of ws = if includes ws then names_of (word_at ws 5) else Some []
 
 -- the filter of an index, which stands behind the columns
-abbrev pub condition_of : List ℕ → List (List ℕ) → Option (Option Filter)
-condition_of head ws = filter_from head ws (if includes ws then 6 else 4)
+abbrev pub index_filter : List ℕ → List (List ℕ) → Option (Option Filter)
+index_filter head ws = filter_from head ws (if includes ws then 6 else 4)
 
 abbrev pub index_from : List ℕ → List (List ℕ) → List (List ℕ) → Option Filter → Command
 index_from name on include filter = Index (record { name = name; on = on; include = include; filter = filter })
 
 -- index, its name, `on` and the names of columns, the columns to include and the filter, as far as they are there
-unfoldable pub index_of : List ℕ → List (List ℕ) → Option Command
-index_of head ws =
+unfoldable pub index_command : List ℕ → List (List ℕ) → Option Command
+index_command head ws =
     if is_word (word_at ws 2) (codes "on") then
     option_and_then (λ name. option_and_then (λ on. option_and_then (λ include. option_map (index_from name on include)
-    (condition_of head ws)) (included_of ws)) (names_of (word_at ws 3))) (name_of (word_at ws 1))
+    (index_filter head ws)) (included_of ws)) (names_of (word_at ws 3))) (name_of_word (word_at ws 1))
     else None
 
 -- build, the name of an index and a number
-unfoldable pub build_of : List (List ℕ) → Option Command
-build_of ws =
-    if length ws == 3 then option_and_then (λ name. option_map (Build name) (number_of (word_at ws 2))) (name_of (word_at ws 1))
+unfoldable pub build_command : List (List ℕ) → Option Command
+build_command ws =
+    if length ws == 3 then option_and_then (λ name. option_map (Build name) (number_of_word (word_at ws 2))) (name_of_word (word_at ws 1))
     else None
 
 -- whether the first of the words is this one
@@ -208,8 +208,8 @@ command_on ws name =
     else (if begins ws (codes "rebuild") then Some (Rebuild name) else None)))
 
 -- image, drop, drain or rebuild, and one name
-abbrev pub named_of : List (List ℕ) → Option Command
-named_of ws = option_and_then (command_on ws) (only_name ws)
+abbrev pub named_command : List (List ℕ) → Option Command
+named_command ws = option_and_then (command_on ws) (only_name ws)
 
 -- the line that closes the block of a command, where it has one
 unfoldable pub closing_of : List (List ℕ) → Option (List ℕ)
@@ -222,14 +222,14 @@ closing_of ws =
 -- the command of its head line, which has these words, and of the lines of its block, if it is one
 abbrev pub command_from : List ℕ → List (List ℕ) → List (List ℕ) → Option Command
 command_from head ws block =
-    if begins ws (codes "batch") then batch_of ws (items_of block)
-    else (if begins ws (codes "scan") then scan_of ws (bounds_of block)
-    else (if begins ws (codes "sums") then sums_of ws (bounds_of block)
-    else (if begins ws (codes "load") then load_of ws (text_of block)
-    else (if begins ws (codes "table") then table_of ws
-    else (if begins ws (codes "get") then get_of head
-    else (if begins ws (codes "index") then index_of head ws
-    else (if begins ws (codes "build") then build_of ws else named_of ws)))))))
+    if begins ws (codes "batch") then batch_command ws (items_of block)
+    else (if begins ws (codes "scan") then scan_command ws (bounds_of block)
+    else (if begins ws (codes "sums") then sums_command ws (bounds_of block)
+    else (if begins ws (codes "load") then load_command ws (text_of_lines block)
+    else (if begins ws (codes "table") then table_command ws
+    else (if begins ws (codes "get") then get_command head
+    else (if begins ws (codes "index") then index_command head ws
+    else (if begins ws (codes "build") then build_command ws else named_command ws)))))))
 
 -- the command of its head line and the lines of its block, if it is one
 unfoldable pub command_of : List ℕ → List (List ℕ) → Option Command
@@ -262,9 +262,9 @@ abbrev pub begun : List ℕ → Place × List Answer
 begun head = opened head (closing_of (words head))
 
 -- one line: where the next one stands, and the command that ends here, if one does
-unfoldable pub step : Place → List ℕ → Place × List Answer
-step Outside line = if is_blank_line line then (Outside, []) else begun (without_return line)
-step (Inside head closing block) line =
+unfoldable pub line_step : Place → List ℕ → Place × List Answer
+line_step Outside line = if is_blank_line line then (Outside, []) else begun (without_return line)
+line_step (Inside head closing block) line =
     if is_word (without_return line) closing then (Outside, or_syntax (command_of head block) ∷ [])
     else (Inside head closing (block ++ line ∷ []), [])
 
@@ -276,7 +276,7 @@ ending (Inside head closing block) = unfinished (command_of head block) ∷ []
 -- the commands of lines, from a place on
 unfoldable pub commands_from : Place → List (List ℕ) → List Answer
 commands_from place [] = ending place
-commands_from place (line ∷ more) = (step place line).1 ++ commands_from (step place line).0 more
+commands_from place (line ∷ more) = (line_step place line).1 ++ commands_from (line_step place line).0 more
 
 -- the commands of a script
 abbrev pub commands : List ℕ → List Answer

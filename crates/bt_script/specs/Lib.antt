@@ -1,4 +1,3 @@
-pub mod Blocks
 pub mod Commands
 pub mod Lines
 pub mod Options

@@ -9,9 +9,9 @@ lines [] = []
 lines (b ∷ bs) = if b == 10 then [] ∷ lines bs else onto_first b (lines bs)
 
 -- the bytes of some lines, with the line feed behind each of them
-unfoldable pub text_of : List (List ℕ) → List ℕ
-text_of [] = []
-text_of (line ∷ more) = line ++ 10 ∷ text_of more
+unfoldable pub text_of_lines : List (List ℕ) → List ℕ
+text_of_lines [] = []
+text_of_lines (line ∷ more) = line ++ 10 ∷ text_of_lines more
 
 -- a line without the one carriage return at its end
 abbrev pub without_return : List ℕ → List ℕ
@@ -30,8 +30,8 @@ abbrev pub without_spaces : List ℕ → List ℕ
 without_spaces line = drop (length (take_while (λ b. b == 32) line)) line
 
 -- the number that a word of 1 to 9 digits writes
-abbrev pub number_of : List ℕ → Option ℕ
-number_of word = if nat_le 1 (length word) && nat_le (length word) 9 && list_all is_digit word then Some (number_written word) else None
+abbrev pub number_of_word : List ℕ → Option ℕ
+number_of_word word = if nat_le 1 (length word) && nat_le (length word) 9 && list_all is_digit word then Some (number_written word) else None
 
 -- a to z
 abbrev pub is_letter : ℕ → Bool
@@ -46,8 +46,8 @@ abbrev pub is_name : List ℕ → Bool
 is_name word = nat_le 1 (length word) && nat_le (length word) 32 && is_letter (get_or word 0 0) && list_all is_name_byte word
 
 -- the name that a word is
-abbrev pub name_of : List ℕ → Option (List ℕ)
-name_of word = if is_name word then Some word else None
+abbrev pub name_of_word : List ℕ → Option (List ℕ)
+name_of_word word = if is_name word then Some word else None
 
 -- what stands in a line behind its first word
 abbrev pub behind_word : List ℕ → List ℕ

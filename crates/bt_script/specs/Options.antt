@@ -1,9 +1,8 @@
 -- The options of the program, and what the words of its command line give.
-use Rattle.std.specs.Prelude.{◌≡◌, ◌≢◌, ◌⊎◌, [], List, None, Some, codes}
+use Rattle.std.specs.Prelude.{◌≡◌, ◌≢◌, [], List, None, Some, codes}
 use Rattle.clap.specs.Words.{App, IsAmong, Kinds, Row, Rule, Text, fault_of, first_of, matches_of, new_app, new_rule, with_rule}
 use Rattle.clap.specs.declared.builder.ArgAction.TheVariants.{Set}
 use Rattle.clap.specs.declared.error.kind.ErrorKind.{ErrorKind}
-use Rattle.clap.specs.declared.error.kind.ErrorKind.TheVariants as kinds
 use Rattle.clap.specs.declared.error.kind.ErrorKind.TheVariants.{DisplayHelp}
 use Rattle.bt_script.specs.declared.words.WordsError.{WordsError}
 use Rattle.bt_script.specs.declared.words.WordsError.TheVariants.{Faulty, Help, OutOfMemory}
@@ -45,9 +44,3 @@ abbrev pub HasFault : List Text → WordsError → Type 0
 HasFault words Faulty = IsFaulty words
 HasFault words (Help text) = AsksHelp words
 HasFault words OutOfMemory = Unit {0}
-
--- an error is what one of clap of this kind comes to
-abbrev pub ComesOf : ErrorKind → WordsError → Type 0
-ComesOf kind Faulty = (kind ≢ kinds.OutOfMemory) × (kind ≢ DisplayHelp)
-ComesOf kind (Help text) = kind ≡ DisplayHelp
-ComesOf kind OutOfMemory = (kind ≡ kinds.OutOfMemory) ⊎ (kind ≡ DisplayHelp)

@@ -1,5 +1,5 @@
--- Streams that keep whether a call failed and how many bytes passed, by the bytes that a reader has left and a writer holds.
-use Rattle.std.specs.Prelude.{◌≡◌, ◌==◌, ◌&&◌, ◌+◌, ◌<◌, ◌≤◌, ◌⊎◌, length, not, ℕ, Bool, true, List, take, Option, Result, Ok, Err, MatchResult}
+-- Streams that keep whether a call failed, how many bytes passed and whether all were flushed, by the bytes that a reader has left and a writer holds.
+use Rattle.std.specs.Prelude.{◌≡◌, ◌==◌, ◌&&◌, ◌+◌, ◌<◌, ◌≤◌, ◌⊎◌, length, not, ℕ, Bool, false, true, List, take, Option, Result, Ok, Err, MatchResult}
 use Rattle.std.specs.Io.KnownBytes.{Appends, Consumes}
 use Rattle.std.specs.Io.Iter.{u64_saturate}
 use Rattle.bt_script.specs.declared.counted.Counted.{Counted}
@@ -11,6 +11,10 @@ source_of stream = stream.inner
 -- a call on it failed
 abbrev pub has_failed : {T : Type 0} → Counted T → Bool
 has_failed stream = stream.failed
+
+-- it took bytes as a writer, and no flush since then succeeded
+abbrev pub has_unflushed : {T : Type 0} → Counted T → Bool
+has_unflushed stream = stream.unflushed
 
 -- how many bytes it gave as a reader, or took as a writer; held at the greatest u64
 abbrev pub count_of : {T : Type 0} → Counted T → ℕ
@@ -36,6 +40,10 @@ GaveAtMost remaining old new limit = (bytes : List ℕ) × (length bytes ≤ lim
 abbrev pub FailsToGive : {R : Type 0} → (R → Option (List ℕ)) → Counted R → Counted R → ℕ → Type 0
 FailsToGive remaining old new limit = (has_failed new ≡ true) ⊎ ((bytes : List ℕ) × (limit < length bytes) × Gave remaining old new bytes)
 
+-- a reader has not failed, and gave at most a limit of bytes
+abbrev pub GivesWithin : {R : Type 0} → (R → Option (List ℕ)) → Counted R → Counted R → ℕ → Type 0
+GivesWithin remaining old new limit = (has_failed new ≡ false) × GaveAtMost remaining old new limit
+
 -- a writer took these bytes: it counted them, and where its bytes are known, they grew by them
 abbrev pub Took : {W : Type 0} → (W → Option (List ℕ)) → Counted W → Counted W → List ℕ → Type 0
 Took contents old new bytes = Appends (contents (source_of old)) (contents (source_of new)) bytes × Counts old new (length bytes)
@@ -48,3 +56,8 @@ TookPrefix contents old new text = (count : ℕ) × Took contents old new (take 
 abbrev pub write_failed : {E : Type 0} → Result ℕ E → ℕ → Bool
 write_failed (Ok taken) offered = (taken == 0) && not (offered == 0)
 write_failed (Err error) offered = true
+
+-- a write took a byte
+abbrev pub took_some : {E : Type 0} → Result ℕ E → Bool
+took_some (Ok taken) = not (taken == 0)
+took_some (Err error) = false

@@ -1,1 +1,3 @@
+pub mod Blocks
+pub mod Errors
 pub mod Forms

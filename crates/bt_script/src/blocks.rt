@@ -1,6 +1,6 @@
 //! The blocks of batches, scans and sums.
 ghost use Rattle.std.specs.Prelude.{◌≡◌, ◌≤◌, IfOk, List, codes, length, ℕ};
-ghost use Rattle.bt_script.specs.Blocks.{IsBlock, and_line};
+ghost use Rattle.bt_script.specs.inside.Blocks.{IsBlock, and_line};
 ghost use Rattle.bt_script.specs.Commands as spec;
 
 use crate::command::{Bounds, Items};

@@ -1,30 +1,34 @@
-//! A reader or writer that keeps whether a call on it failed, and how many bytes passed.
-ghost use Rattle.std.specs.Prelude.{◌≡◌, ◌||◌, length, false, is_err};
+//! A reader or writer that keeps whether a call on it failed, how many bytes passed, and whether all were flushed.
+ghost use Rattle.std.specs.Prelude.{◌≡◌, ◌&&◌, ◌||◌, length, false, is_err};
 ghost use Rattle.std.specs.Io.{ReadsAtMost, WritesAtMost};
 ghost use Rattle.std.specs.Io.KnownBytes.{Keeps, ReadConsumes, WriteAppends};
-ghost use Rattle.bt_script.specs.Streams.{CountsPassed, count_of, has_failed, source_of, write_failed};
+ghost use Rattle.bt_script.specs.Streams.{CountsPassed, count_of, has_failed, has_unflushed, source_of, took_some, write_failed};
 
 use std::io;
 use std::io::{Read, Write};
 
-/// A reader or writer that passes its calls on, keeps whether one of them has failed, and counts its bytes.
+/// A reader or writer that passes its calls on, keeps whether one of them has failed, counts its bytes, and keeps whether
+/// a writer took some that no flush followed.
 #[derive(Drop)]
 pub struct Counted<T> {
     inner: T,
     failed: bool,
+    unflushed: bool,
     count: u64,
 }
 
 impl<T> Counted<T> {
-    /// The stream, of which no call has failed, and no byte is counted.
+    /// The stream, of which no call has failed, no byte is counted, and none waits for a flush.
     pub fn new(inner: T) -> Self
         ensures inner { source_of result ≡ inner }
         ensures failed { has_failed result ≡ false }
+        ensures unflushed { has_unflushed result ≡ false }
         ensures count { count_of result ≡ 0 }
     {
         Counted {
             inner,
             failed: false,
+            unflushed: false,
             count: 0,
         }
     }
@@ -34,6 +38,13 @@ impl<T> Counted<T> {
         ensures { result ≡ has_failed self.now }
     {
         self.failed
+    }
+
+    /// Whether bytes were written since the last flush that did not fail.
+    pub fn unflushed(&self) -> bool
+        ensures { result ≡ has_unflushed self.now }
+    {
+        self.unflushed
     }
 
     /// How many bytes were read from it or written to it. The count holds at the greatest `u64`.
@@ -51,6 +62,7 @@ impl<R: Read> Read for Counted<R> {
         ensures bound { ReadsAtMost result buf.new }
         ensures bytes { ReadConsumes (R.remaining (source_of self.old)) (R.remaining (source_of self.new)) result buf.new }
         ensures failed { has_failed self.new ≡ (has_failed self.old || is_err result) }
+        ensures unflushed { has_unflushed self.new ≡ has_unflushed self.old }
         ensures count { CountsPassed self.old self.new result }
     {
         let result = self.inner.read(buf);
@@ -69,12 +81,14 @@ impl<W: Write> Write for Counted<W> {
         ensures bound { WritesAtMost result buf.now }
         ensures bytes { WriteAppends (W.contents (source_of self.old)) (W.contents (source_of self.new)) result buf.now }
         ensures failed { has_failed self.new ≡ (has_failed self.old || write_failed result (length buf.now)) }
+        ensures unflushed { has_unflushed self.new ≡ (has_unflushed self.old || took_some result) }
         ensures count { CountsPassed self.old self.new result }
     {
         let result = self.inner.write(buf);
         let failed = match &result {
             Ok(taken) => {
                 self.count = self.count.saturating_add(*taken as u64);
+                self.unflushed = self.unflushed || *taken > 0;
                 *taken == 0 && !buf.is_empty()
             }
             Err(_) => true,
@@ -88,11 +102,13 @@ impl<W: Write> Write for Counted<W> {
     fn flush(&mut self) -> io::Result<()>
         ensures bytes { Keeps (W.contents (source_of self.old)) (W.contents (source_of self.new)) }
         ensures failed { has_failed self.new ≡ (has_failed self.old || is_err result) }
+        ensures unflushed { has_unflushed self.new ≡ (has_unflushed self.old && is_err result) }
         ensures count { count_of self.new ≡ count_of self.old }
     {
         let result = self.inner.flush();
-        if result.is_err() {
-            self.failed = true;
+        match &result {
+            Ok(()) => self.unflushed = false,
+            Err(_) => self.failed = true,
         }
         result
     }

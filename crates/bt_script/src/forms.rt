@@ -14,7 +14,7 @@ use bt_rowtype::{Bytes, Column, Columns, Filter, Kind, Test, Text, Texts};
 use std::alloc::{AllocError, Global};
 
 fn parse_kind(word: &[u8]) -> Option<Kind>
-    ensures { result ≡ spec.kind_of word.now }
+    ensures { result ≡ spec.kind_of_word word.now }
 {
     if is_word(word, b"int") {
         return Some(Kind::Int);
@@ -59,9 +59,9 @@ fn parse_columns(alloc: Global, words: &[&[u8]]) -> Result<Option<Columns>, Allo
     Ok(Some(columns))
 }
 
-#[tactic(auto, unfolding(crate::specs::Commands::table_of))]
+#[tactic(auto, unfolding(crate::specs::Commands::table_command))]
 fn table_command<'a>(alloc: Global, words: &[&[u8]]) -> Result<Option<Command<'a>>, AllocError>
-    ensures { IfOk result (λ command. command ≡ spec.table_of (map (λ w. w.now) words.now)) }
+    ensures { IfOk result (λ command. command ≡ spec.table_command (map (λ w. w.now) words.now)) }
 {
     if words.len() < 6 {
         return Ok(None);
@@ -92,7 +92,7 @@ fn table_command<'a>(alloc: Global, words: &[&[u8]]) -> Result<Option<Command<'a
 
 /// The command of a batch: its messages, and no word behind the first one.
 pub fn batch_command<'a>(words: &[&[u8]], items: Option<Items<'a>>) -> Option<Command<'a>>
-    ensures { result ≡ spec.batch_of (map (λ w. w.now) words.now) items.entry }
+    ensures { result ≡ spec.batch_command (map (λ w. w.now) words.now) items.entry }
 {
     if words.len() == 1 {
         items.map(Command::Batch)
@@ -103,7 +103,7 @@ pub fn batch_command<'a>(words: &[&[u8]], items: Option<Items<'a>>) -> Option<Co
 
 /// The command of a load: the text of its block, and no word behind the first one.
 pub fn load_command<'a>(words: &[&[u8]], text: BlockText<'a>) -> Option<Command<'a>>
-    ensures { result ≡ spec.load_of (map (λ w. w.now) words.now) text.entry }
+    ensures { result ≡ spec.load_command (map (λ w. w.now) words.now) text.entry }
 {
     if words.len() == 1 {
         Some(Command::Load(text))
@@ -118,7 +118,7 @@ pub fn scan_command<'a>(
     words: &[&[u8]],
     bounds: Option<Bounds<'a>>,
 ) -> Result<Option<Command<'a>>, AllocError>
-    ensures { IfOk result (λ command. command ≡ spec.scan_of (map (λ w. w.now) words.now) bounds.entry) }
+    ensures { IfOk result (λ command. command ≡ spec.scan_command (map (λ w. w.now) words.now) bounds.entry) }
 {
     if words.len() != 2 {
         return Ok(None);
@@ -152,13 +152,13 @@ fn parse_summed(alloc: Global, words: &[&[u8]]) -> Result<Option<(Text, u32, Tex
 }
 
 /// The command of sums: the name of a tree, a number and the name of a column, and bounds.
-#[tactic(auto, unfolding(crate::specs::Commands::sums_of))]
+#[tactic(auto, unfolding(crate::specs::Commands::sums_command))]
 pub fn sums_command<'a>(
     alloc: Global,
     words: &[&[u8]],
     bounds: Option<Bounds<'a>>,
 ) -> Result<Option<Command<'a>>, AllocError>
-    ensures { IfOk result (λ command. command ≡ spec.sums_of (map (λ w. w.now) words.now) bounds.entry) }
+    ensures { IfOk result (λ command. command ≡ spec.sums_command (map (λ w. w.now) words.now) bounds.entry) }
 {
     let Some((tree, columns, column)) = parse_summed(alloc, words)? else {
         return Ok(None);
@@ -175,7 +175,7 @@ pub fn sums_command<'a>(
 }
 
 fn get_command(head: &[u8]) -> Option<Command<'_>>
-    ensures { result ≡ spec.get_of head.now }
+    ensures { result ≡ spec.get_command head.now }
 {
     record_behind(b"get ", without_spaces(head)).map(Command::Get)
 }
@@ -210,7 +210,7 @@ fn command_on<'a>(words: &[&[u8]], name: Text) -> Option<Command<'a>>
 }
 
 fn named_command<'a>(alloc: Global, words: &[&[u8]]) -> Result<Option<Command<'a>>, AllocError>
-    ensures { IfOk result (λ command. command ≡ spec.named_of (map (λ w. w.now) words.now)) }
+    ensures { IfOk result (λ command. command ≡ spec.named_command (map (λ w. w.now) words.now)) }
 {
     match only_name(alloc, words)? {
         Some(name) => Ok(command_on(words, name)),
@@ -319,7 +319,7 @@ fn parse_condition(
     head: &[u8],
     words: &[&[u8]],
 ) -> Result<Option<Option<Filter>>, AllocError>
-    ensures { IfOk result (λ filter. filter ≡ spec.condition_of head.now (map (λ w. w.now) words.now)) }
+    ensures { IfOk result (λ filter. filter ≡ spec.index_filter head.now (map (λ w. w.now) words.now)) }
 {
     let at = if includes(words) { 6 } else { 4 };
     parse_filter_from(alloc, head, words, at)
@@ -349,13 +349,13 @@ fn index_on<'a>(
     }
 }
 
-#[tactic(auto, unfolding(crate::specs::Commands::index_of))]
+#[tactic(auto, unfolding(crate::specs::Commands::index_command))]
 fn index_command<'a>(
     alloc: Global,
     head: &[u8],
     words: &[&[u8]],
 ) -> Result<Option<Command<'a>>, AllocError>
-    ensures { IfOk result (λ command. command ≡ spec.index_of head.now (map (λ w. w.now) words.now)) }
+    ensures { IfOk result (λ command. command ≡ spec.index_command head.now (map (λ w. w.now) words.now)) }
 {
     if !is_word(word_at(words, 2), b"on") {
         return Ok(None);
@@ -369,9 +369,9 @@ fn index_command<'a>(
     }
 }
 
-#[tactic(auto, unfolding(crate::specs::Commands::build_of))]
+#[tactic(auto, unfolding(crate::specs::Commands::build_command))]
 fn build_command<'a>(alloc: Global, words: &[&[u8]]) -> Result<Option<Command<'a>>, AllocError>
-    ensures { IfOk result (λ command. command ≡ spec.build_of (map (λ w. w.now) words.now)) }
+    ensures { IfOk result (λ command. command ≡ spec.build_command (map (λ w. w.now) words.now)) }
 {
     if words.len() != 3 {
         return Ok(None);

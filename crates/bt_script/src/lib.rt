@@ -4,8 +4,8 @@
 //! A script is any list of bytes. It is cut into lines and lines into commands, of which some have a block with a closing
 //! line. What stands at a place is a command, or what is refused as none, and the place behind it.
 //!
-//! A stream keeps whether a call on it failed, and how many bytes it gave or took; so a fault can be told from want of memory
-//! also where no contract knows the bytes.
+//! A stream keeps whether a call on it failed, how many bytes it gave or took, and whether a flush followed the last of them;
+//! so a fault can be told from want of memory, and a whole run from one cut short, also where no contract knows the bytes.
 //!
 //! ```text
 //! let mut reader = Counted::new(b"table 4 3 2 1 id:int qty:int\nbatch\nput 1,10\nend\n".as_slice());

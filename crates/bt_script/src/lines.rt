@@ -168,7 +168,7 @@ fn digits_value(word: &[u8]) -> u32
 
 /// The number that a word of 1 to 9 digits writes.
 pub fn parse_number(word: &[u8]) -> Option<u32>
-    ensures { result ≡ text.number_of word.now }
+    ensures { result ≡ text.number_of_word word.now }
 {
     if word.is_empty() || word.len() > 9 || !has_digits(word) {
         return None;
@@ -199,7 +199,7 @@ fn is_name(word: &[u8]) -> bool
 
 // The name that a word is.
 fn name_text(word: &[u8]) -> Option<&str>
-    ensures name { option_map (λ n. n.now) result ≡ text.name_of word.now }
+    ensures name { option_map (λ n. n.now) result ≡ text.name_of_word word.now }
     ensures short { IfSome result (λ n. length n.now ≤ 32) }
 {
     if !is_name(word) {
@@ -213,7 +213,7 @@ fn name_text(word: &[u8]) -> Option<&str>
 
 /// The name that a word is: 1 to 32 letters, digits and `_`, the first one a letter.
 pub fn parse_name(alloc: Global, word: &[u8]) -> Result<Option<Text>, AllocError>
-    ensures { IfOk result (λ name. name ≡ text.name_of word.now) }
+    ensures { IfOk result (λ name. name ≡ text.name_of_word word.now) }
 {
     match name_text(word) {
         Some(name) => Ok(Some(Text::new(alloc, name)?)),

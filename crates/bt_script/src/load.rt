@@ -1,7 +1,7 @@
 //! The block of a load.
 ghost use Rattle.std.specs.Prelude.{◌≡◌, ◌≤◌, List, codes, length, true, ℕ};
-ghost use Rattle.bt_script.specs.Blocks.{IsBlock};
-ghost use Rattle.bt_script.specs.Lines.{text_of};
+ghost use Rattle.bt_script.specs.inside.Blocks.{IsBlock};
+ghost use Rattle.bt_script.specs.Lines.{text_of_lines};
 
 use crate::blocks::Block;
 use crate::lines::{is_word, next_line, without_return};
@@ -33,7 +33,7 @@ impl<'a> BlockText<'a> {
 /// The block of a load: its text, or all that the script has left where no line closes it. No memory is taken.
 pub fn read_text(script: &[u8], start: usize) -> Block<BlockText<'_>>
     requires { start ≤ length script.now }
-    ensures block { (block : List (List ℕ)) × (result.closed ≡ true → result.content ≡ text_of block)
+    ensures block { (block : List (List ℕ)) × (result.closed ≡ true → result.content ≡ text_of_lines block)
         × IsBlock script.now start (codes ".") block result.closed result.next }
     ensures within { (start ≤ result.next) × (result.next ≤ length script.now) }
 {

@@ -1,6 +1,6 @@
 //! The parser of commands: what stands at a place of a script.
 ghost use Rattle.std.specs.Prelude.{◌≡◌, ◌∷◌, ◌<◌, ◌≤◌, IfOk, List, codes, drop, false, length, map, true, ℕ};
-ghost use Rattle.bt_script.specs.Blocks.{FindsHeaded, NextBehind, ended};
+ghost use Rattle.bt_script.specs.inside.Blocks.{FindsHeaded, NextBehind, ended};
 ghost use Rattle.bt_script.specs.Commands as spec;
 ghost use Rattle.bt_script.specs.Lines as text;
 

@@ -1,7 +1,8 @@
 //! The words of the command line.
 ghost use Rattle.std.specs.Prelude.{◌≡◌, ◌⊎◌, [], IfOk, IfErr, IsErrOf, OnOk, codes, map, option_map, string_bytes};
 ghost use Rattle.clap.specs.Words.{FailsBy, app_of, first_of, first_value, found_of, kind_of, rows_of};
-ghost use Rattle.bt_script.specs.Options.{ComesOf, HasFault, MustBeRefused, betable, kinds_of_words, rows_of_words};
+ghost use Rattle.bt_script.specs.inside.Errors.{ComesOf};
+ghost use Rattle.bt_script.specs.Options.{HasFault, MustBeRefused, betable, kinds_of_words, rows_of_words};
 
 use bt_rowtype::Texts;
 use clap::error::ErrorKind;

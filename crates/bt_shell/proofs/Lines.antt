@@ -3,7 +3,8 @@ use Rattle.std.proofs.Common.{◌≡◌, ◌+◌, ℕ, List, [], ◌∷◌, ◌+
 use Rattle.std.specs.Prelude.{flat_map}
 use Rattle.bt_rowtype.specs.declared.refusal.Refusal.{Refusal}
 use Rattle.bt_table.specs.Batches.{made}
-use Rattle.bt_shell.specs.Replies.{count_line, with_line}
+use Rattle.bt_shell.specs.inside.Lines.{with_line}
+use Rattle.bt_shell.specs.Replies.{count_line}
 
 module _ {T : Type 0} (line : T → List ℕ) where
   -- the lines of things after others, and the number of all

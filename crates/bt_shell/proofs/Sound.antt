@@ -3,6 +3,7 @@ use Rattle.std.proofs.Common.{ℕ, ◌≡◌, ◌≤◌, arith, not, Bool, true,
 use Rattle.std.proofs.lemmas.Bool.Decides.{nat_tests}
 use Rattle.bt_rowtype.specs.Refusals.{least}
 use Rattle.bt_rowtype.specs.Schemas.{is_schema}
+use Rattle.bt_rowtype.specs.Ops.{unless}
 use Rattle.bt_rowtype.specs.declared.schema.Column.{Column}
 use Rattle.bt_rowtype.specs.declared.refusal.Refusal.{Refusal}
 use Rattle.bt_rowtype.specs.declared.refusal.Refusal.TheVariants.{BadSchema, BadShape, TableExists}
@@ -17,14 +18,14 @@ use Rattle.bt_fanout.specs.Entries.{Definition}
 use Rattle.bt_fanout.proofs.offered.Definitions.{definition_suits}
 use Rattle.bt_shell.specs.Replies.{count_line}
 use Rattle.bt_shell.specs.Runs.{after_commands}
-use Rattle.bt_shell.specs.Steps.{Done, State, checked, created, definition_of, form_refusals, or_refused, outcome, seen, table_of, told, turn}
+use Rattle.bt_shell.specs.Steps.{Done, State, checked, created, definition_of, done_or_refused, form_refusals, outcome, seen, table_of, told, turn}
 use Rattle.bt_table.specs.Batches.{one_if}
 use Rattle.bt_table.specs.Calls as call
-use Rattle.bt_table.specs.Calls.{name_refusals, step, unless_by}
-use Rattle.bt_table.specs.Standing.{IsSound}
+use Rattle.bt_table.specs.Calls.{name_refusals, step}
+use Rattle.bt_table.specs.Standing.{CompleteIndexesHold, IsSound}
 use Rattle.bt_table.specs.Tables.{Intact, Lost, TableState}
 use Rattle.bt_table.specs.declared.reply.Reply.{Reply}
-use Rattle.bt_table.proofs.offered.Steps.{empty_is_sound, shape_is_roomy, step_keeps_sound}
+use Rattle.bt_table.proofs.offered.Steps.{empty_is_sound, shape_is_roomy, sound_hold, step_keeps_sound}
 
 shape_allowed : (exists schema shape : Bool) → least (one_if exists TableExists ++ (one_if (not schema) BadSchema ++ one_if (not shape) BadShape)) ≡ None → shape ≡ true
 shape_allowed exists schema true none = refl
@@ -47,7 +48,7 @@ few_keys columns keys test = grind (arith, nat_tests)
 abbrev IsSoundAfter : Result Done Refusal → Type 0
 IsSoundAfter after = IfOk after (λ (done : Done). IfSome done.0 IsSound)
 
-when_allowed : (refusal : Option Refusal) (done : Done) → (refusal ≡ None → IfSome done.0 IsSound) → IsSoundAfter (unless_by refusal done)
+when_allowed : (refusal : Option Refusal) (done : Done) → (refusal ≡ None → IfSome done.0 IsSound) → IsSoundAfter (unless refusal done)
 when_allowed (Some refusal) done sound = tt
 when_allowed None done sound = sound refl
 
@@ -110,7 +111,7 @@ command_keeps_sound (Some table) (Load text) sound = told_keeps_sound _ (step_ke
 command_keeps_sound (Some table) (Drain tree) sound = told_keeps_sound _ (step_keeps_sound table (call.Drain tree) tt sound)
 command_keeps_sound (Some table) (Rebuild tree) sound = told_keeps_sound _ (step_keeps_sound table (call.Rebuild tree) tt sound)
 
-refused_keeps_sound : (state : State) (after : Result Done Refusal) → IfSome state IsSound → IsSoundAfter after → IfSome (or_refused state after).0 IsSound
+refused_keeps_sound : (state : State) (after : Result Done Refusal) → IfSome state IsSound → IsSoundAfter after → IfSome (done_or_refused state after).0 IsSound
 refused_keeps_sound state (Ok done) sound after = after
 refused_keeps_sound state (Err refusal) sound after = sound
 
@@ -123,3 +124,8 @@ pub commands_keep_sound : (state : State) (answers : List Answer) → IfSome sta
 unfolding after_commands
 commands_keep_sound state [] sound = sound
 commands_keep_sound state (answer ∷ more) sound = commands_keep_sound (turn state answer).0 more (turn_keeps_sound state answer sound)
+
+-- complete indexes hold what they select, where there is a table and it is sound
+pub hold_where_sound : (state : State) → IfSome state IsSound → IfSome state CompleteIndexesHold
+hold_where_sound None sound = tt
+hold_where_sound (Some table) sound = sound_hold table sound

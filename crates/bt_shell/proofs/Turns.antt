@@ -6,7 +6,8 @@ use Rattle.std.specs.Io.KnownBytes.{Keeps}
 use Rattle.bt_script.specs.Streams.{Took, TookPrefix, count_of, source_of}
 use Rattle.bt_script.specs.declared.counted.Counted.{Counted}
 use Rattle.bt_script.proofs.offered.Streams.{prefix-all, prefix-done, prefix-more, Took-kept, Took-nil, Took-trans}
-use Rattle.bt_shell.specs.Runs.{IsScriptOf, IsTurn, TookReplies, WritesPrefix, WritesReplies, WritesRun, after_commands, replies, run}
+use Rattle.bt_shell.specs.inside.Turns.{IsTurn}
+use Rattle.bt_shell.specs.Runs.{IsScriptOf, TookReplies, WritesPrefix, WritesReplies, WritesRun, after_commands, replies, run}
 use Rattle.bt_shell.specs.Steps.{State, turn}
 
 pub replies-append : (state : State) (done more : List Answer) → replies state (done ++ more) ≡ replies state done ++ replies (after_commands state done) more

@@ -3,3 +3,4 @@ pub mod Replies
 pub mod Runs
 pub mod Statuses
 pub mod Steps
+pub mod inside

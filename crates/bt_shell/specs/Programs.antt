@@ -1,9 +1,13 @@
 -- What the program does by its words, for streams of which calls may fail.
-use Rattle.std.specs.Prelude.{◌≡◌, [], false, List, Option, None, ℕ}
-use Rattle.bt_script.specs.Options.{IsToReadInput, kinds_of_words}
-use Rattle.bt_script.specs.Streams.{has_failed, source_of}
+use Rattle.std.specs.Prelude.{◌≡◌, [], false, true, List, Option, None, ℕ}
+use Rattle.bt_script.specs.Options.{IsFaulty, IsToReadInput, kinds_of_words}
+use Rattle.bt_script.specs.Streams.{FailsToGive, GivesWithin, Took, has_failed, source_of}
 use Rattle.bt_script.specs.declared.counted.Counted.{Counted}
+use Rattle.bt_script.specs.declared.streams.RunFault.TheVariants.{OutOfMemory, Read, Write}
+use Rattle.bt_script.specs.declared.streams.TheConstants.{SCRIPT_LIMIT}
 use Rattle.bt_shell.specs.Runs.{WritesPrefix, WritesReplies, WritesRun}
+use Rattle.bt_shell.specs.declared.entry.ProgramFault.{ProgramFault}
+use Rattle.bt_shell.specs.declared.entry.ProgramFault.TheVariants.{Run, Words}
 
 -- the words are read, and name a script to run
 abbrev pub IsToRun : List (List ℕ) → Type 0
@@ -32,3 +36,11 @@ module _ {I W : Type 0} (remaining : I → Option (List ℕ)) (contents : W → 
 
   abbrev pub AnswersReplies : Type 0
   AnswersReplies = ForScript remaining words input (λ known. WritesReplies contents known old new)
+
+module _ {I W : Type 0} (remaining : I → Option (List ℕ)) (contents : W → Option (List ℕ)) (words : List (List ℕ)) (input read : Counted I) (output written : Counted W) where
+  -- what each fault comes of and leaves; a failed read may also be one of a file, whose reader no contract knows
+  abbrev pub HasCause : ProgramFault → Type 0
+  HasCause Words = IsFaulty words
+  HasCause (Run Read) = IsToRun words × (IsToReadInput words → FailsToGive remaining input read SCRIPT_LIMIT) × Took contents output written []
+  HasCause (Run Write) = (has_failed written ≡ true) × GivesWithin remaining input read SCRIPT_LIMIT
+  HasCause (Run OutOfMemory) = GivesWithin remaining input read SCRIPT_LIMIT × AnswersReplies remaining contents words input output written

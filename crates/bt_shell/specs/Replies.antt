@@ -1,5 +1,5 @@
 -- The texts of replies.
-use Rattle.std.specs.Prelude.{ℕ, ◌+◌, Bool, true, false, List, [], ◌++◌, length, map, flat_map, Option, Some, None, codes, decimal}
+use Rattle.std.specs.Prelude.{ℕ, Bool, true, false, List, [], ◌++◌, length, map, flat_map, Option, Some, None, codes, decimal}
 use Rattle.std.specs.Fmt.{signed_decimal}
 use Rattle.bt_rowtype.specs.Records.{record_text}
 use Rattle.bt_rowtype.specs.Refusals.{item_of, name_of, number_of}
@@ -22,10 +22,6 @@ row_line row = codes "row " ++ (record_text (map text_of row) ++ codes "\n")
 -- the line of a group: how many rows it has, the sum, and the columns by which rows are grouped
 abbrev pub sum_line : Sum → List ℕ
 sum_line sum = codes "sum " ++ (decimal sum.count ++ (codes " " ++ (signed_decimal sum.total ++ (codes " " ++ (record_text (map text_of sum.group) ++ codes "\n")))))
-
--- lines and their number, with one more
-abbrev pub with_line : {T : Type 0} → (T → List ℕ) → List ℕ × ℕ → T → List ℕ × ℕ
-with_line line lines item = (lines.0 ++ line item, lines.1 + 1)
 
 -- the lines of all rows, and their number
 abbrev pub scan_reply : List (List Value) → List ℕ

@@ -23,13 +23,6 @@ run script = replies None (commands script)
 abbrev pub state_after_commands : List ℕ → ℕ → State
 state_after_commands script n = after_commands None (take n (commands script))
 
--- one turn: the first of these commands is answered by a text and leaves a table, and then come the others
-pub record IsTurn (old new : State) (all others : List Answer) (text : List ℕ) : Type 0 where
-  pub answer : Answer
-  pub first : all ≡ answer ∷ others
-  pub said : text ≡ (turn old answer).1
-  pub left : new ≡ (turn old answer).0
-
 -- a script that a reader may have had: its bytes, where they are known
 abbrev pub IsScriptOf : Option (List ℕ) → List ℕ → Type 0
 IsScriptOf known script = IfSome known (λ bytes. bytes ≡ script)

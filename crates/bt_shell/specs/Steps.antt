@@ -1,9 +1,9 @@
 -- What a command does to the table, what it is answered, and why it is refused.
-use Rattle.std.specs.Prelude.{ℕ, ◌≡◌, ◌≢◌, not, List, ◌++◌, length, Option, Some, None, is_some, Result, Ok, Err, codes}
+use Rattle.std.specs.Prelude.{ℕ, not, List, ◌++◌, length, Option, Some, None, is_some, Result, Ok, Err, codes}
 use Rattle.bt_rowtype.specs.Refusals.{least, lesser}
 use Rattle.bt_rowtype.specs.Schemas.{is_schema}
 use Rattle.bt_rowtype.specs.declared.refusal.Refusal.{Refusal}
-use Rattle.bt_rowtype.specs.declared.refusal.Refusal.TheVariants.{BadSchema, BadShape, Failed, NoTable, OutOfMemory, TableExists}
+use Rattle.bt_rowtype.specs.declared.refusal.Refusal.TheVariants.{BadSchema, BadShape, Failed, NoTable, TableExists}
 use Rattle.bt_node.specs.Shapes.{is_shape}
 use Rattle.bt_script.specs.Commands.{Answer}
 use Rattle.bt_script.specs.declared.command.Command.{Command}
@@ -18,7 +18,7 @@ use Rattle.bt_view.specs.Ranges.{scan}
 use Rattle.bt_shell.specs.Replies.{count_line, refused_text, reply_text, scan_reply, sums_reply}
 use Rattle.bt_table.specs.Batches.{made, one_if}
 use Rattle.bt_table.specs.Calls as call
-use Rattle.bt_table.specs.Calls.{name_refusals, step, unless}
+use Rattle.bt_table.specs.Calls.{name_refusals, step, unless_any}
 use Rattle.bt_table.specs.Tables.{TableState, Intact, Lost, empty_table}
 use Rattle.bt_table.specs.declared.reply.Reply.{Reply}
 
@@ -67,7 +67,7 @@ created state name (Err refusal) = Err refusal
 -- A command: the table after it and what it is answered, or its refusal, the least that applies; that there is no table comes before
 -- all that a table would say.
 abbrev pub outcome : State → Command → Result Done Refusal
-outcome state (Table form) = unless (form_refusals state form) (Some (table_of form), count_line (codes "table ") (length form.columns))
+outcome state (Table form) = unless_any (form_refusals state form) (Some (table_of form), count_line (codes "table ") (length form.columns))
 outcome None command = Err NoTable
 outcome (Some table) (Batch items) = told (step table (call.Apply items))
 outcome (Some table) (Get fields) = told (step table (call.Get fields))
@@ -82,19 +82,11 @@ outcome (Some table) (Drain tree) = told (step table (call.Drain tree))
 outcome (Some table) (Rebuild tree) = told (step table (call.Rebuild tree))
 
 -- a command that is refused leaves the table as it is
-abbrev pub or_refused : State → Result Done Refusal → Done
-or_refused state (Ok done) = done
-or_refused state (Err refusal) = (state, refused_text refusal)
+abbrev pub done_or_refused : State → Result Done Refusal → Done
+done_or_refused state (Ok done) = done
+done_or_refused state (Err refusal) = (state, refused_text refusal)
 
 -- what stands at a place of a script: the table after it, and what it is answered
 abbrev pub turn : State → Answer → Done
 turn state (Err refusal) = (state, refused_text refusal)
-turn state (Ok command) = or_refused state (outcome state command)
-
--- a command leaves this table and is answered by this text
-abbrev pub IsDone : State → State → Command → List ℕ → Type 0
-IsDone old new command text = outcome old command ≡ Ok (new, text)
-
--- a command is refused so and leaves the table as it was, unless memory was wanting
-abbrev pub IsRefused : State → State → Command → Refusal → Type 0
-IsRefused old new command refusal = refusal ≢ OutOfMemory → (outcome old command ≡ Err refusal) × (new ≡ old)
+turn state (Ok command) = done_or_refused state (outcome state command)

@@ -1,10 +1,12 @@
 //! The program over any runtime and streams.
-ghost use Rattle.std.specs.Prelude.{◌≡◌, ◌≤◌, ◌+◌, ◌⊎◌, [], false, true, IfSome, OnOk, OnErr, IsErrOf, ℕ, List};
+ghost use Rattle.std.specs.Prelude.{◌≡◌, ◌≤◌, ◌+◌, ◌≢◌, ◌⊎◌, [], false, true, IfSome, OnOk, OnErr, IsErrOf, ℕ, List};
 ghost use Rattle.bt_script.specs.Options.{AsksHelp, IsFaulty, IsToReadInput, MustBeRefused};
-ghost use Rattle.bt_script.specs.Streams.{FailsToGive, GaveAtMost, Took, count_of, has_failed, source_of};
-ghost use Rattle.bt_shell.specs.Programs.{AnswersPrefix, AnswersReplies, AnswersScript, AreHealthy, IsToRun, LeavesInput};
+ghost use Rattle.bt_script.specs.Streams.{FailsToGive, GaveAtMost, GivesWithin, Took, count_of, has_failed, has_unflushed, source_of};
+ghost use Rattle.bt_shell.specs.Programs.{AnswersPrefix, AnswersReplies, AnswersScript, AreHealthy, HasCause, IsToRun, LeavesInput};
 ghost use Rattle.bt_shell.specs.Runs.{WritesPrefix, WritesReplies, WritesRun, state_after_commands};
-ghost use Rattle.bt_table.specs.Standing.{IsSound};
+ghost use Rattle.bt_shell.specs.Statuses.{TookLine, line_of, status_of};
+ghost use Rattle.bt_shell.specs.declared.entry.ProgramFault.{ProgramFault};
+ghost use Rattle.bt_table.specs.Standing.{CompleteIndexesHold, IsSound};
 ghost use Rattle.std.specs.declared.option.Option.TheVariants.{None};
 
 use crate::run::{Session, flush};
@@ -15,16 +17,13 @@ use std::io::{Read, Write};
 use std::rt::Files;
 use std::thread::Threads;
 use std::{fs, mem};
-use thiserror::Error;
 
 /// Why the program ends with a status other than 0.
-#[derive(Debug, Drop, Error)]
+#[derive(Debug, Drop)]
 pub enum ProgramFault {
     /// The command line says nothing to run.
-    #[error("faulty command line")]
     Words,
     /// The run ended early.
-    #[error(transparent)]
     Run(RunFault),
 }
 
@@ -52,14 +51,25 @@ impl From<AllocError> for ProgramFault {
 }
 
 impl ProgramFault {
-    ghost use Rattle.bt_shell.specs.Statuses.{status_of};
+    // The fault as a line of standard error.
+    fn line(&self) -> &'static str
+        ensures { result.now ≡ line_of self.now }
+    {
+        match self {
+            ProgramFault::Words => "betable: faulty command line\n",
+            ProgramFault::Run(RunFault::Read) => "betable: read failed\n",
+            ProgramFault::Run(RunFault::Write) => "betable: write failed\n",
+            ProgramFault::Run(RunFault::OutOfMemory) => "betable: out of memory\n",
+        }
+    }
 
     /// Writes the fault as one line, after `betable: `, and answers the exit status: 2 for the command line, and 1 for a
     /// run. An error of the stream is let go.
-    pub fn report<E: Write>(&self, errors: &mut E) -> u8
-        ensures { result ≡ status_of self.now }
+    pub fn report<E: Write>(&self, errors: &mut Counted<E>) -> u8
+        ensures status { result ≡ status_of self.now }
+        ensures line { TookLine E.contents errors.old errors.new self.now }
     {
-        let _ = writeln!(errors, "betable: {self}");
+        let _ = write_text(errors, self.line().as_bytes());
         match self {
             ProgramFault::Words => 2,
             ProgramFault::Run(_) => 1,
@@ -78,6 +88,7 @@ fn run_file<R: Files + AllocGlobal + Threads + Sync, W: Write>(
     ensures ok { OnOk result (WritesRun W.contents None output.old output.new) }
     ensures err { OnErr result (WritesPrefix W.contents None output.old output.new) }
     ensures healthy { OnOk result (has_failed output.new ≡ false) }
+    ensures flushed { OnOk result (has_unflushed output.new ≡ false) }
     ensures unread { IsErrOf result RunFault.Read → output.new ≡ output.old }
     ensures write { IsErrOf result RunFault.Write → has_failed output.new ≡ true }
     ensures memory { IsErrOf result RunFault.OutOfMemory → has_failed output.new ≡ false }
@@ -103,15 +114,19 @@ fn run_words<R: Files + AllocGlobal + Threads + Sync, I: Read, W: Write>(
     ensures err { OnErr result (AnswersPrefix I.remaining W.contents words.now input.old output.old output.new) }
     ensures healthy { OnOk result (AreHealthy input.new output.new) }
     ensures words { OnOk result (IsToRun words.now ⊎ AsksHelp words.now) }
+    ensures short { OnOk result (GaveAtMost I.remaining input.old input.new SCRIPT_LIMIT) }
 
     // Which fault it is, and what it leaves.
     ensures faulty { IsErrOf result ProgramFault.Words → IsFaulty words.now }
     ensures refused { MustBeRefused words.now → IsErrOf result ProgramFault.Words ⊎ IsErrOf result (ProgramFault.Run RunFault.OutOfMemory) }
     ensures unwritten { MustBeRefused words.now → output.new ≡ output.old }
+    ensures asked { IsErrOf result (ProgramFault.Run RunFault.Read) → IsToRun words.now }
     ensures read { IsErrOf result (ProgramFault.Run RunFault.Read) → IsToReadInput words.now → FailsToGive I.remaining input.old input.new SCRIPT_LIMIT }
     ensures unread { IsErrOf result (ProgramFault.Run RunFault.Read) → output.new ≡ output.old }
     ensures write { IsErrOf result (ProgramFault.Run RunFault.Write) → has_failed output.new ≡ true }
+    ensures given { IsErrOf result (ProgramFault.Run RunFault.Write) → GivesWithin I.remaining input.old input.new SCRIPT_LIMIT }
     ensures memory { IsErrOf result (ProgramFault.Run RunFault.OutOfMemory) → AreHealthy input.new output.new }
+    ensures within { IsErrOf result (ProgramFault.Run RunFault.OutOfMemory) → GaveAtMost I.remaining input.old input.new SCRIPT_LIMIT }
     ensures replies { IsErrOf result (ProgramFault.Run RunFault.OutOfMemory) → AnswersReplies I.remaining W.contents words.now input.old output.old output.new }
 
     // What is read.
@@ -144,16 +159,20 @@ fn answer<R: Files + AllocGlobal + Threads + Sync, I: Read, W: Write>(
     ensures ok { OnOk result (AnswersScript I.remaining W.contents words.now input.old output.old output.new) }
     ensures err { OnErr result (AnswersPrefix I.remaining W.contents words.now input.old output.old output.new) }
     ensures healthy { OnOk result (AreHealthy input.new output.new) }
+    ensures flushed { OnOk result (has_unflushed output.new ≡ false) }
     ensures words { OnOk result (IsToRun words.now ⊎ AsksHelp words.now) }
+    ensures short { OnOk result (GaveAtMost I.remaining input.old input.new SCRIPT_LIMIT) }
 
     // Which fault it is, and what it leaves.
     ensures faulty { IsErrOf result ProgramFault.Words → IsFaulty words.now }
     ensures refused { MustBeRefused words.now → IsErrOf result ProgramFault.Words ⊎ IsErrOf result (ProgramFault.Run RunFault.OutOfMemory) }
     ensures unwritten { MustBeRefused words.now → Took W.contents output.old output.new [] }
+    ensures asked { IsErrOf result (ProgramFault.Run RunFault.Read) → IsToRun words.now }
     ensures read { IsErrOf result (ProgramFault.Run RunFault.Read) → IsToReadInput words.now → FailsToGive I.remaining input.old input.new SCRIPT_LIMIT }
     ensures unread { IsErrOf result (ProgramFault.Run RunFault.Read) → Took W.contents output.old output.new [] }
     ensures write { IsErrOf result (ProgramFault.Run RunFault.Write) → has_failed output.new ≡ true }
-    ensures memory { IsErrOf result (ProgramFault.Run RunFault.OutOfMemory) → has_failed input.new ≡ false }
+    ensures given { IsErrOf result (ProgramFault.Run RunFault.Write) → GivesWithin I.remaining input.old input.new SCRIPT_LIMIT }
+    ensures memory { IsErrOf result (ProgramFault.Run RunFault.OutOfMemory) → GivesWithin I.remaining input.old input.new SCRIPT_LIMIT }
     ensures replies { IsErrOf result (ProgramFault.Run RunFault.OutOfMemory) → AnswersReplies I.remaining W.contents words.now input.old output.old output.new }
 
     // What is read.
@@ -177,7 +196,7 @@ pub fn program<R: Files + AllocGlobal + Threads + Sync, I: Read, W: Write, E: Wr
     words: &Texts,
     input: &mut Counted<I>,
     output: &mut Counted<W>,
-    errors: &mut E,
+    errors: &mut Counted<E>,
 ) -> u8
     requires reads { has_failed input.old ≡ false }
     requires writes { has_failed output.old ≡ false }
@@ -190,13 +209,18 @@ pub fn program<R: Files + AllocGlobal + Threads + Sync, I: Read, W: Write, E: Wr
     // What each status says.
     ensures words { result ≡ 0 → IsToRun words.now ⊎ AsksHelp words.now }
     ensures healthy { result ≡ 0 → AreHealthy input.new output.new }
+    ensures short { result ≡ 0 → GaveAtMost I.remaining input.old input.new SCRIPT_LIMIT }
+    ensures flushed { result ≡ 0 → has_unflushed output.new ≡ false }
     ensures quiet { result ≡ 0 → errors.new ≡ errors.old }
+    ensures told { result ≢ 0 → (fault : ProgramFault) × (result ≡ status_of fault) × HasCause I.remaining W.contents words.now input.old input.new output.old output.new fault
+        × TookLine E.contents errors.old errors.new fault }
     ensures faulty { result ≡ 2 → IsFaulty words.now }
     ensures refused { MustBeRefused words.now → (result ≡ 2) ⊎ (result ≡ 1) }
     ensures unwritten { MustBeRefused words.now → Took W.contents output.old output.new [] }
 
     // Between any two commands of any script the table, where there is one, is sound.
     ensures sound { (script : List ℕ) (n : ℕ) → IfSome (state_after_commands script n) IsSound }
+    ensures complete { (script : List ℕ) (n : ℕ) → IfSome (state_after_commands script n) CompleteIndexesHold }
 
     // What is read.
     ensures untouched { LeavesInput words.now input.old input.new }

@@ -2,6 +2,7 @@
 ghost use Rattle.std.specs.Prelude.{◌≡◌, ◌++◌, ◌+◌, [], IfOk, None, OnOk, Some, flat_map};
 ghost use Rattle.bt_shell.specs.Replies.{count_line, item_text, refused_text, row_line, sum_line};
 ghost use Rattle.bt_shell.specs.Replies as spec;
+ghost use Rattle.bt_shell.specs.inside.Lines.{with_line};
 
 use bt_rowtype::{Refusal, Row, Text, write_row};
 use bt_table::{Reply, SentCount};
@@ -186,7 +187,7 @@ impl Lines {
 }
 
 impl Sink<Row> for Lines {
-    ghost added = { spec.with_line spec.row_line };
+    ghost added = { with_line spec.row_line };
 
     fn add(&mut self, _alloc: Global, row: &Row) -> Result<(), AllocError> {
         if let Err(error) = write_row_line(&mut self.text, row) {
@@ -200,7 +201,7 @@ impl Sink<Row> for Lines {
 }
 
 impl Sink<Sum> for Lines {
-    ghost added = { spec.with_line spec.sum_line };
+    ghost added = { with_line spec.sum_line };
 
     fn add(&mut self, _alloc: Global, sum: &Sum) -> Result<(), AllocError> {
         if let Err(error) = write_sum_line(&mut self.text, sum) {

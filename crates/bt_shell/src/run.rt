@@ -1,9 +1,9 @@
 //! The run of a script.
 ghost use Rattle.std.specs.Prelude.{◌≡◌, ◌+◌, false, true, IfSome, IsErrOf, OnErr, OnOk, ℕ, List};
 ghost use Rattle.std.specs.Io.KnownBytes.{Keeps};
-ghost use Rattle.bt_script.specs.Streams.{FailsToGive, GaveAtMost, Took, TookPrefix, count_of, has_failed, source_of};
+ghost use Rattle.bt_script.specs.Streams.{FailsToGive, GaveAtMost, GivesWithin, Took, TookPrefix, count_of, has_failed, has_unflushed, source_of};
 ghost use Rattle.bt_shell.specs.Runs.{Runs, TookReplies, WritesPrefix, WritesReplies, run, state_after_commands};
-ghost use Rattle.bt_table.specs.Standing.{IsSound};
+ghost use Rattle.bt_table.specs.Standing.{CompleteIndexesHold, IsSound};
 
 use crate::session::next_reply;
 use bt_script::{Counted, RunFault, SCRIPT_LIMIT, read_script, write_text};
@@ -17,6 +17,7 @@ pub(crate) fn flush<W: Write>(writer: &mut Counted<W>) -> Result<(), RunFault>
     ensures bytes { Keeps (W.contents (source_of writer.old)) (W.contents (source_of writer.new)) }
     ensures count { count_of writer.new ≡ count_of writer.old }
     ensures healthy { OnOk result (has_failed writer.new ≡ has_failed writer.old) }
+    ensures flushed { OnOk result (has_unflushed writer.new ≡ false) }
     ensures fault { OnErr result (IsErrOf result RunFault.Write × (has_failed writer.new ≡ true)) }
 {
     if writer.flush().is_err() {
@@ -35,6 +36,7 @@ fn write_replies<W: Write>(
 ) -> Result<(), RunFault>
     ensures ok { OnOk result (Took W.contents writer.old writer.new (run script.now)) }
     ensures healthy { OnOk result (has_failed writer.new ≡ has_failed writer.old) }
+    ensures flushed { OnOk result (has_unflushed writer.new ≡ false) }
     ensures err { OnErr result (TookPrefix W.contents writer.old writer.new (run script.now)) }
     ensures no_read { IsErrOf result RunFault.Read → ⊥ }
     ensures write { IsErrOf result RunFault.Write → has_failed writer.new ≡ true }
@@ -81,9 +83,12 @@ impl Session {
         ensures ok { OnOk result (Runs R.remaining W.contents reader.old reader.new writer.old writer.new) }
         ensures err { OnErr result (WritesPrefix W.contents (R.remaining (source_of reader.old)) writer.old writer.new) }
         ensures healthy { OnOk result ((has_failed reader.new ≡ false) × (has_failed writer.new ≡ false)) }
+        ensures short { OnOk result (GaveAtMost R.remaining reader.old reader.new SCRIPT_LIMIT) }
+        ensures flushed { OnOk result (has_unflushed writer.new ≡ false) }
         ensures read { IsErrOf result RunFault.Read → FailsToGive R.remaining reader.old reader.new SCRIPT_LIMIT }
         ensures unread { IsErrOf result RunFault.Read → writer.new ≡ writer.old }
         ensures write { IsErrOf result RunFault.Write → has_failed writer.new ≡ true }
+        ensures given { IsErrOf result RunFault.Write → GivesWithin R.remaining reader.old reader.new SCRIPT_LIMIT }
         ensures memory { IsErrOf result RunFault.OutOfMemory → (has_failed reader.new ≡ false) × (has_failed writer.new ≡ false) }
         ensures within { IsErrOf result RunFault.OutOfMemory → GaveAtMost R.remaining reader.old reader.new SCRIPT_LIMIT }
         ensures replies { IsErrOf result RunFault.OutOfMemory → WritesReplies W.contents (R.remaining (source_of reader.old)) writer.old writer.new }
@@ -111,17 +116,23 @@ pub fn run_script<R: Read, W: Write>(
     ensures ok { OnOk result (Runs R.remaining W.contents reader.old reader.new writer.old writer.new) }
     ensures err { OnErr result (WritesPrefix W.contents (R.remaining (source_of reader.old)) writer.old writer.new) }
     ensures healthy { OnOk result ((has_failed reader.new ≡ false) × (has_failed writer.new ≡ false)) }
+    ensures short { OnOk result (GaveAtMost R.remaining reader.old reader.new SCRIPT_LIMIT) }
+    ensures flushed { OnOk result (has_unflushed writer.new ≡ false) }
 
     // Which fault it is, and what it leaves.
     ensures read { IsErrOf result RunFault.Read → FailsToGive R.remaining reader.old reader.new SCRIPT_LIMIT }
     ensures unread { IsErrOf result RunFault.Read → writer.new ≡ writer.old }
     ensures write { IsErrOf result RunFault.Write → has_failed writer.new ≡ true }
+    ensures given { IsErrOf result RunFault.Write → GivesWithin R.remaining reader.old reader.new SCRIPT_LIMIT }
     ensures memory { IsErrOf result RunFault.OutOfMemory → (has_failed reader.new ≡ false) × (has_failed writer.new ≡ false) }
     ensures within { IsErrOf result RunFault.OutOfMemory → GaveAtMost R.remaining reader.old reader.new SCRIPT_LIMIT }
     ensures replies { IsErrOf result RunFault.OutOfMemory → WritesReplies W.contents (R.remaining (source_of reader.old)) writer.old writer.new }
 
     // Between any two commands of any script the table, where there is one, is sound.
     ensures sound { (script : List ℕ) (n : ℕ) → IfSome (state_after_commands script n) IsSound }
+
+    // So each complete index holds exactly the entries that its definition selects from the rows.
+    ensures complete { (script : List ℕ) (n : ℕ) → IfSome (state_after_commands script n) CompleteIndexesHold }
 
     // No more than one byte over the limit is read.
     ensures at_most { GaveAtMost R.remaining reader.old reader.new (SCRIPT_LIMIT + 1) }

@@ -2,7 +2,7 @@
 ghost use Rattle.std.specs.Prelude.{◌≡◌, ◌<◌, ◌≤◌, Ok, IfErr, IfOk, IfNone, IfSome, OnOk, [], drop, length};
 ghost use Rattle.bt_script.specs.Commands.{commands};
 ghost use Rattle.bt_script.specs.declared.command.Command.TheVariants as command;
-ghost use Rattle.bt_shell.specs.Runs.{IsTurn};
+ghost use Rattle.bt_shell.specs.inside.Turns.{IsDone, IsRefused, IsTurn};
 ghost use Rattle.bt_shell.specs.Steps as step;
 ghost use Rattle.bt_rowtype.specs.Answers.{Answers};
 ghost use Rattle.bt_table.specs.Standing.{Suits};
@@ -24,8 +24,8 @@ fn create_table(
     table: &mut Option<Table>,
     form: TableForm,
 ) -> Result<Vec<u8>, Refusal>
-    ensures done { IfOk result (λ text. step.IsDone table.old table.new (command.Table form) text.items) }
-    ensures refused { IfErr result (step.IsRefused table.old table.new (command.Table form)) }
+    ensures done { IfOk result (λ text. IsDone table.old table.new (command.Table form) text.items) }
+    ensures refused { IfErr result (IsRefused table.old table.new (command.Table form)) }
 {
     if table.is_some() {
         return Err(Refusal::TableExists);
@@ -41,8 +41,8 @@ fn create_table(
 
 // Applies the messages of a batch.
 fn batch(alloc: Global, table: &mut Option<Table>, items: &Items<'_>) -> Result<Vec<u8>, Refusal>
-    ensures done { IfOk result (λ text. step.IsDone table.old table.new (command.Batch items.now) text.items) }
-    ensures refused { IfErr result (step.IsRefused table.old table.new (command.Batch items.now)) }
+    ensures done { IfOk result (λ text. IsDone table.old table.new (command.Batch items.now) text.items) }
+    ensures refused { IfErr result (IsRefused table.old table.new (command.Batch items.now)) }
 {
     let Some(table) = table else {
         return Err(Refusal::NoTable);
@@ -52,8 +52,8 @@ fn batch(alloc: Global, table: &mut Option<Table>, items: &Items<'_>) -> Result<
 }
 
 fn get(alloc: Global, table: &Option<Table>, fields: &RecordLine<'_>) -> Result<Vec<u8>, Refusal>
-    ensures done { IfOk result (λ text. step.IsDone table.now table.now (command.Get fields.now) text.items) }
-    ensures refused { IfErr result (step.IsRefused table.now table.now (command.Get fields.now)) }
+    ensures done { IfOk result (λ text. IsDone table.now table.now (command.Get fields.now) text.items) }
+    ensures refused { IfErr result (IsRefused table.now table.now (command.Get fields.now)) }
 {
     let Some(table) = table else {
         return Err(Refusal::NoTable);
@@ -91,8 +91,8 @@ fn create_index(
     table: &mut Option<Table>,
     form: IndexForm,
 ) -> Result<Vec<u8>, Refusal>
-    ensures done { IfOk result (λ text. step.IsDone table.old table.new (command.Index form) text.items) }
-    ensures refused { IfErr result (step.IsRefused table.old table.new (command.Index form)) }
+    ensures done { IfOk result (λ text. IsDone table.old table.new (command.Index form) text.items) }
+    ensures refused { IfErr result (IsRefused table.old table.new (command.Index form)) }
 {
     let Some(table) = table else {
         drop(form);
@@ -117,8 +117,8 @@ fn build(
     name: &Text,
     count: u32,
 ) -> Result<Vec<u8>, Refusal>
-    ensures done { IfOk result (λ text. step.IsDone table.old table.new (command.Build name.now count) text.items) }
-    ensures refused { IfErr result (step.IsRefused table.old table.new (command.Build name.now count)) }
+    ensures done { IfOk result (λ text. IsDone table.old table.new (command.Build name.now count) text.items) }
+    ensures refused { IfErr result (IsRefused table.old table.new (command.Build name.now count)) }
 {
     let Some(table) = table else {
         return Err(Refusal::NoTable);
@@ -129,8 +129,8 @@ fn build(
 
 // Takes an index out of the table.
 fn drop_index(alloc: Global, table: &mut Option<Table>, name: &Text) -> Result<Vec<u8>, Refusal>
-    ensures done { IfOk result (λ text. step.IsDone table.old table.new (command.Drop name.now) text.items) }
-    ensures refused { IfErr result (step.IsRefused table.old table.new (command.Drop name.now)) }
+    ensures done { IfOk result (λ text. IsDone table.old table.new (command.Drop name.now) text.items) }
+    ensures refused { IfErr result (IsRefused table.old table.new (command.Drop name.now)) }
 {
     let Some(table) = table else {
         return Err(Refusal::NoTable);
@@ -146,8 +146,8 @@ fn scan(
     bounds: &Bounds<'_>,
     room: Vec<u8>,
 ) -> Result<Vec<u8>, Refusal>
-    ensures done { IfOk result (λ text. step.IsDone table.now table.now (command.Scan name.now bounds.now) text.items) }
-    ensures refused { IfErr result (step.IsRefused table.now table.now (command.Scan name.now bounds.now)) }
+    ensures done { IfOk result (λ text. IsDone table.now table.now (command.Scan name.now bounds.now) text.items) }
+    ensures refused { IfErr result (IsRefused table.now table.now (command.Scan name.now bounds.now)) }
 {
     let Some(table) = table else {
         return Err(Refusal::NoTable);
@@ -169,8 +169,8 @@ fn sums(
     form: &SumsForm<'_>,
     room: Vec<u8>,
 ) -> Result<Vec<u8>, Refusal>
-    ensures done { IfOk result (λ text. step.IsDone table.now table.now (command.Sums form.now) text.items) }
-    ensures refused { IfErr result (step.IsRefused table.now table.now (command.Sums form.now)) }
+    ensures done { IfOk result (λ text. IsDone table.now table.now (command.Sums form.now) text.items) }
+    ensures refused { IfErr result (IsRefused table.now table.now (command.Sums form.now)) }
 {
     let Some(table) = table else {
         return Err(Refusal::NoTable);
@@ -189,8 +189,8 @@ fn sums(
 }
 
 fn image(alloc: Global, table: &Option<Table>, name: &Text) -> Result<Vec<u8>, Refusal>
-    ensures done { IfOk result (λ text. step.IsDone table.now table.now (command.Image name.now) text.items) }
-    ensures refused { IfErr result (step.IsRefused table.now table.now (command.Image name.now)) }
+    ensures done { IfOk result (λ text. IsDone table.now table.now (command.Image name.now) text.items) }
+    ensures refused { IfErr result (IsRefused table.now table.now (command.Image name.now)) }
 {
     let Some(table) = table else {
         return Err(Refusal::NoTable);
@@ -205,8 +205,8 @@ fn load(
     table: &mut Option<Table>,
     text: &BlockText<'_>,
 ) -> Result<Vec<u8>, Refusal>
-    ensures done { IfOk result (λ reply. step.IsDone table.old table.new (command.Load text.now) reply.items) }
-    ensures refused { IfErr result (step.IsRefused table.old table.new (command.Load text.now)) }
+    ensures done { IfOk result (λ reply. IsDone table.old table.new (command.Load text.now) reply.items) }
+    ensures refused { IfErr result (IsRefused table.old table.new (command.Load text.now)) }
 {
     let Some(table) = table else {
         return Err(Refusal::NoTable);
@@ -217,8 +217,8 @@ fn load(
 
 // Flushes every buffer of a tree.
 fn drain(alloc: Global, table: &mut Option<Table>, name: &Text) -> Result<Vec<u8>, Refusal>
-    ensures done { IfOk result (λ text. step.IsDone table.old table.new (command.Drain name.now) text.items) }
-    ensures refused { IfErr result (step.IsRefused table.old table.new (command.Drain name.now)) }
+    ensures done { IfOk result (λ text. IsDone table.old table.new (command.Drain name.now) text.items) }
+    ensures refused { IfErr result (IsRefused table.old table.new (command.Drain name.now)) }
 {
     let Some(table) = table else {
         return Err(Refusal::NoTable);
@@ -229,8 +229,8 @@ fn drain(alloc: Global, table: &mut Option<Table>, name: &Text) -> Result<Vec<u8
 
 // Builds a tree anew.
 fn rebuild(alloc: Global, table: &mut Option<Table>, name: &Text) -> Result<Vec<u8>, Refusal>
-    ensures done { IfOk result (λ text. step.IsDone table.old table.new (command.Rebuild name.now) text.items) }
-    ensures refused { IfErr result (step.IsRefused table.old table.new (command.Rebuild name.now)) }
+    ensures done { IfOk result (λ text. IsDone table.old table.new (command.Rebuild name.now) text.items) }
+    ensures refused { IfErr result (IsRefused table.old table.new (command.Rebuild name.now)) }
 {
     let Some(table) = table else {
         return Err(Refusal::NoTable);
@@ -247,8 +247,8 @@ fn answer(
     command: Command<'_>,
     room: Vec<u8>,
 ) -> Result<Vec<u8>, Refusal>
-    ensures done { IfOk result (λ text. step.IsDone table.old table.new command.entry text.items) }
-    ensures refused { IfErr result (step.IsRefused table.old table.new command.entry) }
+    ensures done { IfOk result (λ text. IsDone table.old table.new command.entry text.items) }
+    ensures refused { IfErr result (IsRefused table.old table.new command.entry) }
 {
     match command {
         Command::Table(form) => create_table(alloc, table, form),

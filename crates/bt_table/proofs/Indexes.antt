@@ -26,7 +26,8 @@ use Rattle.bt_fanout.proofs.offered.Packets.{effects-sorted_batch}
 use Rattle.bt_fanout.proofs.offered.Standing.{stands_under}
 use Rattle.bt_fanout.proofs.offered.Suiting.{all_more, all_none, of_whole, suits_effects, suits_row}
 use Rattle.bt_fanout.proofs.offered.Turns.{packet_turns}
-use Rattle.bt_table.specs.Indexes.{EntryTree, building_packet, built_index, covers_nothing, entry_tree, indexes_after, is_complete, is_name_of, is_nothing, named_from, packed_index, packet_for, packet_of, sent_count, sunk_index, sunk_indexes, with_tree, with_trees}
+use Rattle.bt_table.specs.Indexes.{EntryTree, building_packet, built_index, covers_nothing, index_named_from, indexes_after, is_complete, is_name_of, is_nothing, packed_index, packet_of, sent_count, sunk_index, with_tree}
+use Rattle.bt_table.specs.inside.IndexTrees.{entry_tree, packet_for, sunk_indexes, with_trees}
 use Rattle.bt_table.specs.Standing.{AllStand, AreSoundIndexes, HoldsSelection, IsSoundIndex}
 use Rattle.bt_table.specs.Tables.{RowMessages}
 use Rattle.bt_fanout.specs.declared.cover.Cover.{Cover}
@@ -218,10 +219,10 @@ module _ (schema : Schema) (shape : Shape) (rows : Rows (List Value)) where
   sound-set (index ∷ indexes) (suc place) other sound one = (sound.0, sound-set indexes place other sound.1 one)
 
   -- the index that a name finds is one of them
-  pub sound-found : (place : ℕ) (name : List ℕ) (indexes : List Index) → AreSoundIndexes schema shape rows indexes → IfSome (named_from place name indexes) (λ found. IsSoundIndex schema shape rows found.1)
+  pub sound-found : (place : ℕ) (name : List ℕ) (indexes : List Index) → AreSoundIndexes schema shape rows indexes → IfSome (index_named_from place name indexes) (λ found. IsSoundIndex schema shape rows found.1)
   sound-found place name [] sound = tt
   sound-found place name (index ∷ indexes) sound =
-      elim (is_name_of name index) as (λ b. IfSome (if b then Some (place, index) else named_from (suc place) name indexes) (λ found. IsSoundIndex schema shape rows found.1)) [
+      elim (is_name_of name index) as (λ b. IfSome (if b then Some (place, index) else index_named_from (suc place) name indexes) (λ found. IsSoundIndex schema shape rows found.1)) [
         | true ↦ sound.0
         | false ↦ sound-found (suc place) name indexes sound.1
       ]

@@ -9,8 +9,9 @@ use Rattle.bt_node.specs.Trees.{Shape}
 use Rattle.bt_node.proofs.offered.ShapedTrees.{holds-sorted, sunk-has_shape, sunk-holds}
 use Rattle.bt_rowtype.specs.Schemas.{Schema}
 use Rattle.bt_table.specs.Indexes.{indexes_after}
-use Rattle.bt_table.specs.Tables.{RowMessages, RowTree, after_batch, held_by, row_effect}
+use Rattle.bt_table.specs.Tables.{RowMessages, RowTree, after_batch, held_by}
 use Rattle.bt_table.specs.declared.index.Index.{Index}
+use Rattle.bt_fanout.specs.Effects.{row_effect}
 
 -- the batch is sorted for the tree, which changes no row
 pub holds-after_batch : (shape : Shape) (t : RowTree) (batch : RowMessages) → HasShape shape t

@@ -4,16 +4,16 @@ use Rattle.std.specs.FinMap.{is_sorted}
 use Rattle.std.specs.List.{filter_map, list_all}
 use Rattle.std.specs.Result.{result_ok}
 use Rattle.bt_messages.specs.declared.message.Message.{Message}
-use Rattle.bt_rowtype.specs.Ops.{Change, OpsFit, after_ops, default_row, upsert_as}
+use Rattle.bt_rowtype.specs.Ops.{Change, after_ops, default_row, upsert_as}
+use Rattle.bt_rowtype.specs.inside.Fits.{OpsFit}
 use Rattle.bt_rowtype.specs.Schemas.{Schema, fit_columns}
-use Rattle.bt_rowtype.specs.Values.{read_as}
+use Rattle.bt_rowtype.specs.Values.{AreInRange, read_as}
 use Rattle.bt_rowtype.specs.declared.op.Op.{Op}
 use Rattle.bt_rowtype.specs.Refusals.{least}
 use Rattle.bt_rowtype.specs.declared.refusal.Refusal.{Refusal}
 use Rattle.bt_rowtype.specs.declared.refusal.Refusal.TheVariants.{Building, NotEmpty}
 use Rattle.bt_rowtype.specs.declared.value.Value.{Value}
 use Rattle.bt_rowtype.proofs.offered.Fits.{after_ops_fits, after_ops_key, default_row_fits, default_row_key, read_fits, upsert_fits}
-use Rattle.bt_rowtype.specs.Packing.{AreInRange}
 use Rattle.bt_keycode.specs.Codes.{code_of}
 use Rattle.bt_keycode.proofs.offered.Ranges.{OpsInRange, after_ops_in_range, default_row_in_range, read_in_range, upsert_in_range}
 use Rattle.bt_keycode.specs.Keys.{key_cmp}
@@ -23,12 +23,12 @@ use Rattle.bt_node.specs.Messages.{Rows, rows_after}
 use Rattle.bt_node.specs.Trees.{Shape, Tree}
 use Rattle.bt_node.proofs.offered.PackedTrees.{drained-has_shape, drained-holds, packed-has_shape, packed-holds, rebuilt-has_shape, rebuilt-holds}
 use Rattle.bt_node.proofs.offered.ShapedTrees.{holds-sorted}
-use Rattle.bt_fanout.specs.Effects.{entry_effect}
+use Rattle.bt_fanout.specs.Effects.{entry_effect, row_effect}
 use Rattle.bt_rowtype.specs.declared.item.Item.{Item}
 use Rattle.bt_rowtype.specs.declared.item.Item.TheVariants.{Put, Del, Ups}
 use Rattle.bt_table.specs.Batches.{del_of, made, messages_of, one_if, put_of, read_batch, read_key, read_message, ups_of}
 use Rattle.bt_table.specs.Standing.{AllStand, AreOfSchema, IsOfSchema, IsSoundIndex, IsSoundTable, Stands, Suits}
-use Rattle.bt_table.specs.Tables.{Intact, PlainTable, RowMessage, RowMessages, after_batch, row_effect}
+use Rattle.bt_table.specs.Tables.{Intact, KeyedMessage, PlainTable, RowMessages, after_batch}
 use Rattle.bt_fanout.specs.Entries.{Definition}
 use Rattle.bt_fanout.proofs.offered.Suiting.{of_nothing}
 use Rattle.bt_table.specs.Calls.{Upkeep, Draining, Rebuilding, renewed, renewed_index, with_index, with_index_at, with_renewed_index, with_renewed_rows, with_rows, without_index}
@@ -78,7 +78,7 @@ message_of_schema schema item (Ups fields) =
       | Err refusal ↦ λ is range. tt
     ] refl (upsert_in_range schema item fields)
 
-one_message : (schema : Schema) (read : Result RowMessage Refusal) (others : List (Result RowMessage Refusal)) → IfOk read (IsOfSchema schema) → AreOfSchema schema (filter_map result_ok others)
+one_message : (schema : Schema) (read : Result KeyedMessage Refusal) (others : List (Result KeyedMessage Refusal)) → IfOk read (IsOfSchema schema) → AreOfSchema schema (filter_map result_ok others)
     → AreOfSchema schema (filter_map result_ok (read ∷ others))
 one_message schema (Ok message) others fit rest = (fit, rest)
 one_message schema (Err refusal) others fit rest = rest

@@ -14,22 +14,23 @@ use Rattle.bt_table.proofs.Loads.{map_of-sorted, map_of-stand}
 use Rattle.bt_messages.specs.Effects.{Rows, rows_after}
 use Rattle.bt_messages.specs.Messages.{Messages, sorted_batch}
 use Rattle.bt_messages.specs.declared.message.Message.{Message}
-use Rattle.bt_rowtype.specs.Ops.{Change}
+use Rattle.bt_rowtype.specs.Ops.{Change, unless}
 use Rattle.bt_node.specs.Drains.{packed}
 use Rattle.bt_node.specs.Flushes.{sunk}
 use Rattle.bt_node.specs.Trees.{Shape}
 use Rattle.bt_node.proofs.offered.PackedTrees.{packed-holds}
 use Rattle.bt_fanout.specs.Covers.{cover_after, next_rows}
-use Rattle.bt_fanout.specs.Effects.{EntryMessage, SuitsEffect, effects_of}
+use Rattle.bt_fanout.specs.Effects.{EntryMessage, SuitsEffect, effects_of, row_effect}
 use Rattle.bt_rowtype.specs.declared.item.Item.{Item}
 use Rattle.bt_table.specs.Batches.{and_then, batch_refusals, made, messages_of}
 use Rattle.bt_fanout.specs.Entries.{Definition, IsWithin}
 use Rattle.bt_fanout.specs.Promises.{own_puts}
 use Rattle.bt_fanout.specs.declared.cover.Cover.{Cover}
-use Rattle.bt_table.specs.Calls.{Apply, BuildStep, DropIndex, IsStep, Load, Primary, Secondary, ShowsIndex, ShowsRows, Upkeep, after_build, after_load, built, dropped, is_bare, is_primary, load_refusals, renewed, renewed_index, secondary, step, tree_named, unless, unless_by, with_index_at, with_renewed_rows, with_rows}
-use Rattle.bt_table.specs.Indexes.{EntryTree, advanced, built_index, empty_index, entry_tree, index_named, indexes_after, is_complete, packed_index, packet_for, packet_of, sent_count, sunk_indexes, with_trees}
+use Rattle.bt_table.specs.Calls.{Apply, BuildStep, DropIndex, IsStep, Load, Primary, Secondary, ShowsIndex, ShowsRows, Upkeep, after_build, after_load, built, dropped, is_bare, is_primary, load_refusals, renewed, renewed_index, secondary, step, tree_named, unless_any, with_index_at, with_renewed_rows, with_rows}
+use Rattle.bt_table.specs.Indexes.{EntryTree, advanced, built_index, empty_index, index_named, indexes_after, is_complete, packed_index, packet_of, sent_count}
+use Rattle.bt_table.specs.inside.IndexTrees.{entry_tree, packet_for, sunk_indexes, with_trees}
 use Rattle.bt_table.specs.Standing.{AllStand, IsSoundIndex, IsSoundTable, IsSoundUnlessLost, Suits}
-use Rattle.bt_table.specs.Tables.{PlainTable, RowMessages, RowTree, TableState, Intact, after_batch, held_by, row_effect, state_of}
+use Rattle.bt_table.specs.Tables.{PlainTable, RowMessages, RowTree, TableState, Intact, after_batch, held_by, state_of}
 use Rattle.bt_table.specs.declared.index.Index.{Index}
 use Rattle.bt_table.specs.declared.reply.Reply.TheVariants.{Batch, Built, Dropped, Loaded}
 use Rattle.bt_table.specs.declared.reply.SentCount.{SentCount}
@@ -90,7 +91,7 @@ module _ (schema : Schema) (kept : Option Trees) (trees : Trees) (is : kept ≡ 
       batch_is_step state was allowed =
           let counts = sent_are ∙ counts_are schema before.shape before.rows batch (rows_sorted before was_sound) was_sound.rows rows_stand indexes was_sound.indexes in
           ap (λ s. step s (Apply items)) (sym was ∙ ap (state_of schema) is)
-          ∙ ap (λ o. unless_by o (Intact (after_batch before batch), Batch (length items) (map (λ index. sent_count index (packet_of before.rows batch index)) indexes))) allowed
+          ∙ ap (λ o. unless o (Intact (after_batch before batch), Batch (length items) (map (λ index. sent_count index (packet_of before.rows batch index)) indexes))) allowed
           ∙ (λ i. Ok (Intact (sym stepped_to i), Batch (length items) (sym counts i)))
 
   module _ (state : TableState) (was : state_of schema kept ≡ state) where
@@ -155,8 +156,8 @@ module _ (schema : Schema) (kept : Option Trees) (trees : Trees) (is : kept ≡ 
         pub load_is_step : (count : ℕ) → count ≡ length map_is → IsStep state (Intact (held_by schema tree items)) (Load text) (Loaded count)
         load_is_step count count_is =
             ap (λ s. step s (Load text)) state_is
-            ∙ ap (λ r. made (after_load before) (and_then (map_of schema.keys) (and_then (unless (load_refusals indexes trees.rows.1)) r))) read
-            ∙ ap (λ o. made (after_load before) (and_then (map_of schema.keys) (unless_by o rows))) allowed
+            ∙ ap (λ r. made (after_load before) (and_then (map_of schema.keys) (and_then (unless_any (load_refusals indexes trees.rows.1)) r))) read
+            ∙ ap (λ o. made (after_load before) (and_then (map_of schema.keys) (unless o rows))) allowed
             ∙ ap (made (after_load before)) mapped
             ∙ (λ i. Ok (Intact (sym loaded_to i), Loaded (sym count_is i)))
 

@@ -13,7 +13,7 @@ use Rattle.bt_keycode.specs.Codes.{code_of}
 use Rattle.bt_messages.specs.declared.message.Message.TheVariants as message
 use Rattle.bt_rowtype.specs.declared.item.Item.{Item}
 use Rattle.bt_rowtype.specs.declared.item.Item.TheVariants.{Put, Del, Ups}
-use Rattle.bt_table.specs.Tables.{RowMessage, RowMessages}
+use Rattle.bt_table.specs.Tables.{KeyedMessage, RowMessages}
 
 -- what is made of a value, where it could be read
 abbrev pub made : {A B : Type 0} → (A → B) → Result A Refusal → Result B Refusal
@@ -30,25 +30,25 @@ abbrev pub read_key : Schema → ℕ → List (List ℕ) → Result (List Value)
 read_key schema item fields = read_as (take schema.keys schema.columns) item fields
 
 -- the message to put a row, which goes to the code of its key
-abbrev pub put_of : ℕ → List Value → RowMessage
+abbrev pub put_of : ℕ → List Value → KeyedMessage
 put_of keys row = (code_of (take keys row), message.Put row)
 
 -- the message to remove the row of a key
-abbrev pub del_of : List Value → RowMessage
+abbrev pub del_of : List Value → KeyedMessage
 del_of key = (code_of key, message.Del)
 
 -- the message to change the row of a key, which carries the default row of the key
-abbrev pub ups_of : Schema → List Value × List Op → RowMessage
+abbrev pub ups_of : Schema → List Value × List Op → KeyedMessage
 ups_of schema upsert = (code_of upsert.0, message.Ups (record { base = default_row schema upsert.0; ops = upsert.1 }))
 
 -- the message that a record spells in a table, or its refusal as this item
-abbrev pub read_message : Schema → ℕ → Item → Result RowMessage Refusal
+abbrev pub read_message : Schema → ℕ → Item → Result KeyedMessage Refusal
 read_message schema item (Put fields) = made (put_of schema.keys) (read_as schema.columns item fields)
 read_message schema item (Del fields) = made del_of (read_key schema item fields)
 read_message schema item (Ups fields) = made (ups_of schema) (upsert_as schema item fields)
 
 -- what the records of a batch spell, counted from an item on
-abbrev pub read_batch : Schema → ℕ → List Item → List (Result RowMessage Refusal)
+abbrev pub read_batch : Schema → ℕ → List Item → List (Result KeyedMessage Refusal)
 read_batch schema item [] = []
 read_batch schema item (line ∷ lines) = read_message schema item line ∷ read_batch schema (item + 1) lines
 

@@ -7,6 +7,7 @@ use Rattle.bt_rowtype.specs.Refusals.{least}
 use Rattle.bt_rowtype.specs.Schemas.{Schema}
 use Rattle.bt_rowtype.specs.declared.refusal.Refusal.{Refusal}
 use Rattle.bt_rowtype.specs.Values.{or_refused}
+use Rattle.bt_rowtype.specs.Ops.{unless}
 use Rattle.bt_rowtype.specs.declared.refusal.Refusal.TheVariants.{AlreadyComplete, Building, Failed, NameTaken, NoSuchTree, NotEmpty, OutOfMemory, TooMany}
 use Rattle.bt_rowtype.specs.declared.value.Value.{Value}
 use Rattle.bt_keycode.specs.Codes.{code_of}
@@ -20,14 +21,14 @@ use Rattle.bt_load.specs.Loads.{loaded}
 use Rattle.bt_load.specs.Maps.{map_of}
 use Rattle.bt_rowtype.specs.declared.item.Item.{Item}
 use Rattle.bt_fanout.specs.Covers.{next_rows}
-use Rattle.bt_fanout.specs.Effects.{entry_effect}
+use Rattle.bt_fanout.specs.Effects.{entry_effect, row_effect}
 use Rattle.bt_fanout.specs.Definitions.{kinds_of}
 use Rattle.bt_fanout.specs.Entries.{Definition, SuitsKinds}
 use Rattle.bt_fanout.specs.Promises.{index_of}
 use Rattle.bt_table.specs.Batches.{and_then, batch_refusals, made, messages_of, one_if, read_key}
 use Rattle.bt_table.specs.Indexes.{built_index, empty_index, index_named, is_complete, packed_index, packet_of, sent_count, with_tree}
 use Rattle.bt_table.specs.Standing.{AllStand, HoldsSelection, KeysRise}
-use Rattle.bt_table.specs.Tables.{PlainTable, RowMessages, RowTree, TableState, Intact, Lost, after_batch, row_effect}
+use Rattle.bt_table.specs.Tables.{PlainTable, RowMessages, RowTree, TableState, Intact, Lost, after_batch}
 use Rattle.bt_table.specs.declared.index.Index.{Index}
 use Rattle.bt_table.specs.declared.table.TreeRef.{TreeRef}
 use Rattle.bt_table.specs.declared.table.TreeRef.TheVariants as shown
@@ -54,14 +55,9 @@ pub data Call : Type 0 where
   -- to build a tree anew from what it holds
   Rebuild : (name : List ℕ) → Call
 
--- a value, or the refusal where there is one
-abbrev pub unless_by : {A : Type 0} → Option Refusal → A → Result A Refusal
-unless_by (Some refusal) value = Err refusal
-unless_by None value = Ok value
-
 -- a value, or the least of the refusals where some apply
-abbrev pub unless : {A : Type 0} → List Refusal → A → Result A Refusal
-unless refusals value = unless_by (least refusals) value
+abbrev pub unless_any : {A : Type 0} → List Refusal → A → Result A Refusal
+unless_any refusals value = unless (least refusals) value
 
 -- whether a name is that of the tree of rows
 abbrev pub is_primary : List ℕ → Bool
@@ -120,7 +116,7 @@ load_refusals indexes tree = one_if (not (list_all is_complete indexes)) Buildin
 
 -- the map of the rows of a text, or the least refusal: of its header and its records, of the table, of a key that comes again
 abbrev pub loaded_rows : PlainTable → List ℕ → Result (Rows (List Value)) Refusal
-loaded_rows table text = and_then (map_of table.schema.keys) (and_then (unless (load_refusals table.indexes table.tree)) (loaded table.schema.columns text))
+loaded_rows table text = and_then (map_of table.schema.keys) (and_then (unless_any (load_refusals table.indexes table.tree)) (loaded table.schema.columns text))
 
 -- a table with these rows in place of its own, in a tree that is packed of them, and with indexes whose trees are packed of their entries
 abbrev pub with_rows : PlainTable → Rows (List Value) → PlainTable
@@ -162,10 +158,10 @@ with_renewed upkeep table name =
 abbrev pub step : TableState → Call → Result (TableState × Reply) Refusal
 step Lost call = Err Failed
 step (Intact table) (Apply items) =
-    unless (batch_refusals table.schema items)
+    unless_any (batch_refusals table.schema items)
     (Intact (after_batch table (messages_of table.schema items)), Batch (length items) (sent_counts table (messages_of table.schema items)))
 step (Intact table) (Get fields) = made (λ key. (Intact table, Row (find key_cmp (code_of key) table.rows))) (read_key table.schema 1 fields)
-step (Intact table) (CreateIndex name def) = unless (name_refusals table name) (Intact (with_index table name def), Created name)
+step (Intact table) (CreateIndex name def) = unless_any (name_refusals table name) (Intact (with_index table name def), Created name)
 step (Intact table) (BuildStep name count) = built table name count (index_named name table.indexes)
 step (Intact table) (DropIndex name) = dropped table name (index_named name table.indexes)
 step (Intact table) (Load text) = made (after_load table) (loaded_rows table text)

@@ -8,13 +8,11 @@ use Rattle.bt_node.specs.Drains.{packed}
 use Rattle.bt_node.specs.Flushes.{sunk}
 use Rattle.bt_node.specs.Trees.{Shape, Tree, leaf}
 use Rattle.bt_fanout.specs.Covers.{cover_after, is_covered, is_whole, next_rows, puts_of}
-use Rattle.bt_fanout.specs.Effects.{EntryMessage, RowMessage, entry_effect, row_effect, sent_for_all}
+use Rattle.bt_fanout.specs.Effects.{EntryMessage, RowMessage, entry_effect, row_effect}
 use Rattle.bt_fanout.specs.Entries.{Definition, entry_of, same_values}
-use Rattle.bt_fanout.specs.Promises.{own_puts}
 use Rattle.bt_fanout.specs.Selections.{index_messages, select}
 use Rattle.bt_fanout.specs.declared.cover.Cover.{Cover}
 use Rattle.bt_fanout.specs.declared.cover.Cover.TheVariants.{Nothing, UpTo, Whole}
-use Rattle.bt_fanout.specs.declared.effect.Effect.{Effect}
 use Rattle.bt_table.specs.declared.index.Index.{Index}
 use Rattle.bt_table.specs.declared.reply.SentCount.{SentCount}
 
@@ -27,13 +25,13 @@ EntryTree = Tree (List Value) EntryMessage
 abbrev pub is_name_of : List ℕ → Index → Bool
 is_name_of name index = pointwise ◌==◌ index.name name
 
--- the first index of this name, and its place, counted from one
-abbrev pub named_from : ℕ → List ℕ → List Index → Option (ℕ × Index)
-named_from place name [] = None
-named_from place name (index ∷ indexes) = if is_name_of name index then Some (place, index) else named_from (suc place) name indexes
+-- the first index of this name, and its place, counted from the one that is given
+abbrev pub index_named_from : ℕ → List ℕ → List Index → Option (ℕ × Index)
+index_named_from place name [] = None
+index_named_from place name (index ∷ indexes) = if is_name_of name index then Some (place, index) else index_named_from (suc place) name indexes
 
 abbrev pub index_named : List ℕ → List Index → Option (ℕ × Index)
-index_named = named_from 0
+index_named = index_named_from 0
 
 -- ---- a new index
 
@@ -60,10 +58,6 @@ with_tree index tree = record index { tree = tree }
 
 -- ---- batches
 
--- the packet that effects on rows mean for an index
-abbrev pub packet_for : List Effect → Index → Messages EntryMessage
-packet_for effects index = sorted_batch (sent_for_all index.def index.cover effects)
-
 -- the packet that a batch on rows means for an index
 abbrev pub packet_of : Rows (List Value) → Messages RowMessage → Index → Messages EntryMessage
 packet_of rows batch index = sorted_batch (index_messages (entry_of index.def) same_values row_effect (is_covered index.cover) batch rows)
@@ -75,12 +69,6 @@ sent_count index packet = record { name = index.name; count = length packet }
 -- an index after a packet
 abbrev pub sunk_index : Index → Messages EntryMessage → Index
 sunk_index index packet = record index { tree = (index.tree.0, sunk entry_effect index.tree.0 index.tree.1 packet) }
-
--- indexes, each after its packet
-abbrev pub sunk_indexes : List Index → List (Messages EntryMessage) → List Index
-sunk_indexes [] packets = []
-sunk_indexes (index ∷ indexes) [] = []
-sunk_indexes (index ∷ indexes) (packet ∷ packets) = sunk_index index packet ∷ sunk_indexes indexes packets
 
 -- indexes after a batch on rows
 abbrev pub indexes_after : Rows (List Value) → Messages RowMessage → List Index → List Index
@@ -105,13 +93,3 @@ built_index n rows index = advanced index (building_packet n rows index) (cover_
 -- an index of all these rows: its tree is packed of the entries that its definition selects of them
 abbrev pub packed_index : Rows (List Value) → Index → Index
 packed_index rows index = with_tree index (index.tree.0, packed index.tree.0 (select (entry_of index.def) rows))
-
--- a tree of the entries of rows for an index: they go as puts to an empty one
-abbrev pub entry_tree : Rows (List Value) → Index → Shape × EntryTree
-entry_tree rows index = (index.tree.0, sunk entry_effect index.tree.0 (leaf []) (sorted_batch (own_puts index.def rows)))
-
--- indexes, each with one of these trees; those for which there is none as they are
-abbrev pub with_trees : List Index → List (Shape × EntryTree) → List Index
-with_trees indexes [] = indexes
-with_trees [] (tree ∷ trees) = []
-with_trees (index ∷ indexes) (tree ∷ trees) = with_tree index tree ∷ with_trees indexes trees

@@ -1,6 +1,7 @@
 -- Where the rows of a table stand, and what is true of a table between any two commands.
 use Rattle.std.specs.Prelude.{◌≡◌, ◌≤◌, true, length, List, [], ◌∷◌, Option, IfSome, T, map, take}
 use Rattle.std.specs.FinMap.{is_sorted}
+use Rattle.std.specs.List.{All}
 use Rattle.bt_rowtype.specs.Schemas.{Schema}
 use Rattle.bt_rowtype.specs.Values.{values_cmp}
 use Rattle.bt_rowtype.specs.declared.value.Value.{Value}
@@ -9,13 +10,13 @@ use Rattle.bt_node.specs.Flushes.{holds}
 use Rattle.bt_node.specs.Messages.{Rows}
 use Rattle.bt_node.specs.Trees.{Shape}
 use Rattle.bt_fanout.specs.Definitions.{kinds_of}
-use Rattle.bt_fanout.specs.Effects.{entry_effect}
+use Rattle.bt_fanout.specs.Effects.{entry_effect, row_effect}
 use Rattle.bt_fanout.specs.Entries.{Definition, SuitsKinds, entry_of}
 use Rattle.bt_fanout.specs.Promises.{index_of}
 use Rattle.bt_fanout.specs.Selections.{select}
 use Rattle.bt_table.specs.Indexes.{is_complete}
 use Rattle.bt_table.specs.declared.index.Index.{Index}
-use Rattle.bt_table.specs.Tables.{PlainTable, RowMessage, RowMessages, TableState, Intact, Lost, row_effect}
+use Rattle.bt_table.specs.Tables.{PlainTable, KeyedMessage, RowMessages, TableState, Intact, Lost}
 -- each of the rows stands under the code of its key columns, and is of the schema: one value of each column's kind, within the range of its kind
 pub use Rattle.bt_load.specs.Standing.{AllStand, Stands}
 
@@ -30,6 +31,11 @@ pub record IsSoundIndex (schema : Schema) (shape : Shape) (rows : Rows (List Val
 -- an index that is complete holds exactly the entries that its definition selects from the rows
 abbrev pub HoldsSelection : Rows (List Value) → Index → Type 0
 HoldsSelection rows index = is_complete index ≡ true → holds entry_effect index.tree.1 ≡ select (entry_of index.def) rows
+
+-- each complete index of a table that is not lost holds exactly the entries that its definition selects from the rows now
+abbrev pub CompleteIndexesHold : TableState → Type 0
+CompleteIndexesHold (Intact table) = All (HoldsSelection table.rows) table.indexes
+CompleteIndexesHold Lost = Unit {0}
 
 -- each of the indexes is sound
 abbrev pub AreSoundIndexes : Schema → Shape → Rows (List Value) → List Index → Type 0
@@ -55,7 +61,7 @@ IsSoundUnlessLost (Intact table) = IsSoundTable table
 IsSoundUnlessLost Lost = Unit {0}
 
 -- a message is of a schema: of a row that stands at its key, or of none, it makes one that stands there, or none
-abbrev pub IsOfSchema : Schema → RowMessage → Type 0
+abbrev pub IsOfSchema : Schema → KeyedMessage → Type 0
 IsOfSchema schema message =
     (old : Option (List Value)) → IfSome old (λ row. Stands schema message.0 row) → IfSome (row_effect old message.1) (λ row. Stands schema message.0 row)
 

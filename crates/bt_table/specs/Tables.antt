@@ -1,9 +1,8 @@
 -- A table, and what a batch leaves of it.
 use Rattle.std.specs.Prelude.{List, [], Option, Some, None}
-use Rattle.bt_rowtype.specs.Ops.{Change, merged}
+use Rattle.bt_rowtype.specs.Ops.{Change}
 use Rattle.bt_rowtype.specs.Schemas.{Schema}
 use Rattle.bt_rowtype.specs.declared.value.Value.{Value}
-use Rattle.bt_messages.specs.Effects.{effect_of}
 use Rattle.bt_messages.specs.Messages.{sorted_batch}
 use Rattle.bt_messages.specs.declared.message.Message.{Message}
 use Rattle.bt_node.specs.Flushes.{holds, sunk}
@@ -13,17 +12,14 @@ use Rattle.bt_node.specs.Trees.{Shape, Tree, leaf}
 use Rattle.bt_table.specs.Indexes.{indexes_after}
 use Rattle.bt_table.specs.declared.index.Index.{Index}
 use Rattle.bt_table.specs.declared.table.Trees.{Trees}
+use Rattle.bt_fanout.specs.Effects.{row_effect}
 
 -- a message to the key of a row, and messages
-abbrev pub RowMessage : Type 0
-RowMessage = Key × Message (List Value) Change
+abbrev pub KeyedMessage : Type 0
+KeyedMessage = Key × Message (List Value) Change
 
 abbrev pub RowMessages : Type 0
-RowMessages = List RowMessage
-
--- what a message makes of the row at its key
-abbrev pub row_effect : Option (List Value) → Message (List Value) Change → Option (List Value)
-row_effect = effect_of merged
+RowMessages = List KeyedMessage
 
 -- a tree of rows
 abbrev pub RowTree : Type 0

@@ -7,6 +7,7 @@ ghost use Rattle.bt_fanout.specs.Effects.{SuitsEffect, effects_of, entry_effect,
 ghost use Rattle.bt_fanout.specs.Covers.{is_whole};
 ghost use Rattle.bt_fanout.specs.Entries.{IsWithin};
 ghost use Rattle.bt_table.specs.Indexes as spec;
+ghost use Rattle.bt_table.specs.inside.IndexTrees.{entry_tree, packet_for, sunk_indexes, with_trees};
 
 use crate::reply::SentCount;
 use bt_fanout::{Cover, Effect, IndexDef, build_packet, effects, index_packet};
@@ -97,8 +98,8 @@ pub struct FanOut {
 // What effects on rows send to indexes.
 fn packets_for(alloc: Global, indexes: &[Index], effects: &[Effect]) -> Result<FanOut, AllocError>
     requires { All (λ index. All (SuitsEffect index.def) effects.now) indexes.now }
-    ensures packets { IfOk result (λ out. out.packets.items ≡ map (spec.packet_for effects.now) indexes.now) }
-    ensures sent { IfOk result (λ out. out.sent ≡ map (λ index. spec.sent_count index (spec.packet_for effects.now index)) indexes.now) }
+    ensures packets { IfOk result (λ out. out.packets.items ≡ map (packet_for effects.now) indexes.now) }
+    ensures sent { IfOk result (λ out. out.sent ≡ map (λ index. spec.sent_count index (packet_for effects.now index)) indexes.now) }
 {
     let mut packets = Vec::new(alloc);
     let mut sent = Sequence::new(alloc);
@@ -133,8 +134,8 @@ pub fn fan_out(
     indexes: &[Index],
 ) -> Result<FanOut, AllocError>
     requires { All (λ index. All (SuitsEffect index.def) (effects_of packet.now (holds row_effect tree.now.1))) indexes.now }
-    ensures packets { IfOk result (λ out. out.packets.items ≡ map (spec.packet_for (effects_of packet.now (holds row_effect tree.now.1))) indexes.now) }
-    ensures sent { IfOk result (λ out. out.sent ≡ map (λ index. spec.sent_count index (spec.packet_for (effects_of packet.now (holds row_effect tree.now.1)) index)) indexes.now) }
+    ensures packets { IfOk result (λ out. out.packets.items ≡ map (packet_for (effects_of packet.now (holds row_effect tree.now.1))) indexes.now) }
+    ensures sent { IfOk result (λ out. out.sent ≡ map (λ index. spec.sent_count index (packet_for (effects_of packet.now (holds row_effect tree.now.1)) index)) indexes.now) }
 {
     if cover_nothing(indexes) {
         return packets_for(alloc, indexes, &[]);
@@ -169,7 +170,7 @@ pub fn sink_all(
     packets: Vec<Packet<Entry>>,
 ) -> Result<Vec<Index>, AllocError>
     requires { length packets.items ≡ length indexes.items }
-    ensures { IfOk result (λ after. after.items ≡ spec.sunk_indexes indexes.items packets.items) }
+    ensures { IfOk result (λ after. after.items ≡ sunk_indexes indexes.items packets.items) }
 {
     let mut after = Vec::with_capacity(alloc, indexes.len())?;
     let mut packets = packets.into_iter();
@@ -245,7 +246,7 @@ fn packed_entries(
     rows: &[(Key, Row)],
 ) -> Result<Tree<Entry>, AllocError>
     requires { All (λ row. IsWithin index.now.def (length row.1)) rows.now }
-    ensures { IfOk result (λ tree. tree ≡ spec.entry_tree rows.now index.now) }
+    ensures { IfOk result (λ tree. tree ≡ entry_tree rows.now index.now) }
 {
     let packet = build_packet(alloc, &index.def, rows)?;
     Tree::empty(alloc, index.tree.shape()).sink(alloc, packet)
@@ -258,7 +259,7 @@ pub fn pack_entries(
     rows: &[(Key, Row)],
 ) -> Result<Vec<Tree<Entry>>, AllocError>
     requires { All (λ index. All (λ row. IsWithin index.def (length row.1)) rows.now) indexes.now }
-    ensures { IfOk result (λ trees. trees.items ≡ map (spec.entry_tree rows.now) indexes.now) }
+    ensures { IfOk result (λ trees. trees.items ≡ map (entry_tree rows.now) indexes.now) }
 {
     let mut trees = Vec::new(alloc);
     for index in indexes {
@@ -271,7 +272,7 @@ pub fn pack_entries(
 /// Puts other trees in the places of those of indexes, one for each. Takes no memory.
 pub fn put_trees(indexes: &mut Vec<Index>, trees: Vec<Tree<Entry>>)
     requires { length trees.items ≡ length indexes.old.items }
-    ensures { indexes.new.items ≡ spec.with_trees indexes.old.items trees.items }
+    ensures { indexes.new.items ≡ with_trees indexes.old.items trees.items }
 {
     let mut place = 0;
     for tree in trees {

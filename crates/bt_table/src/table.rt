@@ -1,10 +1,12 @@
 //! Tables and their calls.
+#![tactic(auto, using(crate::proofs::offered::Steps::unless_lost_hold))]
+
 ghost use Rattle.std.specs.Prelude.{◌≡◌, ◌<◌, Err, IfErr, IfNone, IfOk, IfSome, IsErrOf, None, OnErr, OnOk, Some, false, length, slice_get, true};
 ghost use Rattle.bt_rowtype.specs.Refusals.{least};
 ghost use Rattle.bt_table.specs.Calls as spec;
 ghost use Rattle.bt_table.specs.Indexes.{index_named};
 ghost use Rattle.bt_table.specs.Calls.{Apply, CreateIndex, Drain, DropIndex, Get, Load, Rebuild, IsCertain, IsRefused, IsStep, Shows, StaysOrIsLost, index_refusals, is_primary, step, tree_named};
-ghost use Rattle.bt_table.specs.Standing.{HasSchema, Suits};
+ghost use Rattle.bt_table.specs.Standing.{CompleteIndexesHold, HasSchema, IsSoundUnlessLost, Suits};
 ghost use Rattle.bt_table.specs.Tables.{Intact, Lost, empty_table};
 
 use crate::batch::read_messages;
@@ -116,9 +118,19 @@ fn check_load(indexes: &[Index], tree: &Tree<Row>) -> Result<(), Refusal>
 }
 
 impl Table {
+    // What is true of a table between any two calls. Nothing is done: a call that changed the trees ends with it, so that its own contract says it.
+    fn soundness(&self)
+        ensures complete { CompleteIndexesHold self.now }
+        ensures sound { IsSoundUnlessLost self.now }
+    {
+        let _trees = &self.trees;
+    }
+
     /// A table with no rows and no indexes.
     pub fn new(alloc: Global, schema: Schema, shape: Shape) -> Self
-        ensures { result ≡ Intact (empty_table schema shape) }
+        ensures empty { result ≡ Intact (empty_table schema shape) }
+        ensures complete { CompleteIndexesHold result }
+        ensures sound { IsSoundUnlessLost result }
     {
         let rows = Tree::empty(alloc, shape);
         // An empty tree fits its shape, which a walk says of every tree; and the key columns of a schema are columns of it.
@@ -135,6 +147,8 @@ impl Table {
     pub fn schema(&self) -> Result<&Schema, Refusal>
         ensures schema { IfOk result (λ schema. HasSchema self.now schema.now) }
         ensures refused { IfErr result (λ refusal. (self.now ≡ Lost) × (refusal ≡ Refusal.Failed)) }
+        ensures complete { CompleteIndexesHold self.now }
+        ensures sound { IsSoundUnlessLost self.now }
     {
         if self.trees.is_none() {
             return Err(Refusal::Failed);
@@ -148,7 +162,10 @@ impl Table {
         ensures done { IfOk result (IsStep self.old self.new (Apply items.now)) }
         ensures refused { IfErr result (IsRefused self.old self.new (Apply items.now)) }
         ensures memory { IsErrOf result Refusal.OutOfMemory → StaysOrIsLost self.old self.new }
+        ensures kept { IfErr (step self.old (Apply items.now)) (λ _. self.new ≡ self.old) }
         ensures failed { self.old ≡ Lost → IsErrOf result Refusal.Failed }
+        ensures complete { CompleteIndexesHold self.new }
+        ensures sound { IsSoundUnlessLost self.new }
     {
         let Some(trees) = &self.trees else {
             return Err(Refusal::Failed);
@@ -167,6 +184,7 @@ impl Table {
         let rows = rows.sink(alloc, packet)?;
         let indexes = sink_all(alloc, indexes, packets)?;
         drop(self.trees.replace(Trees { rows, indexes }));
+        self.soundness();
         Ok(Reply::Batch {
             count: items.len(),
             sent,
@@ -178,6 +196,8 @@ impl Table {
     pub fn check_index(&self, name: &Text) -> Result<(), Refusal>
         ensures free { OnOk result (least (index_refusals self.now name.now) ≡ None) }
         ensures refused { IfErr result (λ refusal. least (index_refusals self.now name.now) ≡ Some refusal) }
+        ensures complete { CompleteIndexesHold self.now }
+        ensures sound { IsSoundUnlessLost self.now }
     {
         let Some(trees) = &self.trees else {
             return Err(Refusal::Failed);
@@ -201,8 +221,11 @@ impl Table {
         requires { Suits self.old def }
         ensures done { IfOk result (IsStep self.old self.new (CreateIndex name def)) }
         ensures refused { IfErr result (IsRefused self.old self.new (CreateIndex name def)) }
+        ensures certain { IsCertain self.old (CreateIndex name def) result }
         ensures unchanged { OnErr result (self.new ≡ self.old) }
         ensures failed { self.old ≡ Lost → IsErrOf result Refusal.Failed }
+        ensures complete { CompleteIndexesHold self.new }
+        ensures sound { IsSoundUnlessLost self.new }
     {
         if let Err(refusal) = self.check_index(&name) {
             drop((name, def));
@@ -219,6 +242,7 @@ impl Table {
         let index = empty_index(alloc, rows.shape(), name, def);
         let pushed = indexes.push(index);
         drop(self.trees.replace(Trees { rows, indexes }));
+        self.soundness();
         pushed?;
         Ok(Reply::Created(created))
     }
@@ -232,6 +256,8 @@ impl Table {
         ensures certain { IsCertain self.old (spec.BuildStep name.now count) result }
         ensures memory { IsErrOf result Refusal.OutOfMemory → StaysOrIsLost self.old self.new }
         ensures failed { self.old ≡ Lost → IsErrOf result Refusal.Failed }
+        ensures complete { CompleteIndexesHold self.new }
+        ensures sound { IsSoundUnlessLost self.new }
     {
         let Some(trees) = &self.trees else {
             return Err(Refusal::Failed);
@@ -257,6 +283,7 @@ impl Table {
             return Err(Refusal::OutOfMemory);
         };
         drop(self.trees.replace(Trees { rows, indexes }));
+        self.soundness();
         Ok(Reply::Built {
             name,
             read,
@@ -268,6 +295,8 @@ impl Table {
     pub fn drop_index(&mut self, name: &Text) -> Result<Reply, Refusal>
         ensures done { IfOk result (IsStep self.old self.new (DropIndex name.now)) }
         ensures refused { IfErr result (λ refusal. (step self.old (DropIndex name.now) ≡ Err refusal) × (self.new ≡ self.old)) }
+        ensures complete { CompleteIndexesHold self.new }
+        ensures sound { IsSoundUnlessLost self.new }
     {
         let Some(trees) = &self.trees else {
             return Err(Refusal::Failed);
@@ -280,6 +309,7 @@ impl Table {
         };
         let dropped = into_name(indexes.remove(place));
         drop(self.trees.replace(Trees { rows, indexes }));
+        self.soundness();
         Ok(Reply::Dropped(dropped))
     }
 
@@ -299,6 +329,8 @@ impl Table {
         ensures refused { IfErr result (IsRefused self.old self.new (Load text.now)) }
         ensures unchanged { OnErr result (self.new ≡ self.old) }
         ensures failed { self.old ≡ Lost → IsErrOf result Refusal.Failed }
+        ensures complete { CompleteIndexesHold self.new }
+        ensures sound { IsSoundUnlessLost self.new }
     {
         let Some(trees) = &self.trees else {
             return Err(Refusal::Failed);
@@ -321,6 +353,7 @@ impl Table {
                 indexes,
             }),
         );
+        self.soundness();
         Ok(Reply::Loaded(count))
     }
 
@@ -331,6 +364,8 @@ impl Table {
         ensures certain { IsCertain self.old (Drain name.now) result }
         ensures memory { IsErrOf result Refusal.OutOfMemory → StaysOrIsLost self.old self.new }
         ensures failed { self.old ≡ Lost → IsErrOf result Refusal.Failed }
+        ensures complete { CompleteIndexesHold self.new }
+        ensures sound { IsSoundUnlessLost self.new }
     {
         let Some(trees) = &self.trees else {
             return Err(Refusal::Failed);
@@ -356,6 +391,7 @@ impl Table {
                 drop(self.trees.replace(Trees { rows, indexes }));
             }
         }
+        self.soundness();
         Ok(Reply::Drained(drained))
     }
 
@@ -366,6 +402,8 @@ impl Table {
         ensures certain { IsCertain self.old (Rebuild name.now) result }
         ensures unchanged { OnErr result (self.new ≡ self.old) }
         ensures failed { self.old ≡ Lost → IsErrOf result Refusal.Failed }
+        ensures complete { CompleteIndexesHold self.new }
+        ensures sound { IsSoundUnlessLost self.new }
     {
         let Some(trees) = &self.trees else {
             return Err(Refusal::Failed);
@@ -397,6 +435,7 @@ impl Table {
                 drop(self.trees.replace(Trees { rows, indexes }));
             }
         }
+        self.soundness();
         Ok(Reply::Rebuilt(rebuilt))
     }
 
@@ -405,6 +444,8 @@ impl Table {
         ensures done { IfOk result (IsStep self.now self.now (Get fields.now)) }
         ensures refused { IfErr result (IsRefused self.now self.now (Get fields.now)) }
         ensures failed { self.now ≡ Lost → IsErrOf result Refusal.Failed }
+        ensures complete { CompleteIndexesHold self.now }
+        ensures sound { IsSoundUnlessLost self.now }
     {
         let Some(trees) = &self.trees else {
             return Err(Refusal::Failed);
@@ -419,6 +460,8 @@ impl Table {
     pub fn tree(&self, name: &Text) -> Result<TreeRef<'_>, Refusal>
         ensures shown { IfOk result (λ shown. Shows self.now name.now shown) }
         ensures refused { IfErr result (λ refusal. tree_named self.now name.now ≡ Err refusal) }
+        ensures complete { CompleteIndexesHold self.now }
+        ensures sound { IsSoundUnlessLost self.now }
     {
         let Some(trees) = &self.trees else {
             return Err(Refusal::Failed);

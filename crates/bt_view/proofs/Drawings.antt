@@ -5,7 +5,7 @@ use Rattle.bt_messages.specs.declared.message.Message.{Message}
 use Rattle.bt_keycode.specs.Keys.{Key}
 use Rattle.bt_node.specs.Trees.{Tree, leaf, inner, Nodes, none, node, Siblings, children, height, height_below}
 use Rattle.bt_node.specs.Walks.{children_of}
-use Rattle.bt_view.specs.Drawings.{child_text, highest, own_text, pivot_text, siblings_text}
+use Rattle.bt_view.specs.inside.Drawings.{child_text, highest, own_text, pivot_text, siblings_text}
 use Rattle.bt_view.specs.Images.{deeper, inner_line, message_line, node_text, others_text, pivot_line}
 
 pub same_item : {X : Type 0} (x y : X) → Some x ≡ Some y → x ≡ y

@@ -1,5 +1,5 @@
 -- Entries of an index as the rows that it selects, key by key. Serves scans and sums of an index.
-use Rattle.std.proofs.Common.{◌≡◌, ◌∙◌, ℕ, Bool, true, false, List, [], ◌∷◌, Option, Some, None, refl, sym, ap, subst, cond, fold, map}
+use Rattle.std.proofs.Common.{◌≡◌, ◌∙◌, Bool, true, false, List, [], ◌∷◌, Option, Some, None, refl, sym, ap, subst, cond, fold, map}
 use Rattle.std.specs.FinMap.{put}
 use Rattle.std.specs.FinMap.Entries.{by_order}
 use Rattle.std.specs.List.{cons_option}
@@ -8,20 +8,12 @@ use Rattle.std.specs.declared.cmp.Ordering.{Ordering}
 use Rattle.std.specs.declared.cmp.Ordering.TheVariants.{Less, Equal, Greater}
 use Rattle.bt_rowtype.specs.declared.value.Kind.{Kind}
 use Rattle.bt_rowtype.specs.declared.value.Value.{Value}
-use Rattle.bt_keycode.specs.Codes.{IsCodeOf, kind_of}
-use Rattle.bt_keycode.specs.Decoding.{decoded}
 use Rattle.bt_keycode.specs.Keys.{Key, is_between, key_cmp}
-use Rattle.bt_keycode.proofs.offered.Decoded.{decoded_again}
 use Rattle.bt_keycode.proofs.offered.Order.{same_key}
 use Rattle.bt_node.specs.Messages.{Rows, between}
 use Rattle.bt_fanout.specs.Selections.{with_entry}
-use Rattle.bt_view.specs.Entries.{and_entry, row_of_entry, rows_of_entries, with_entry_row}
+use Rattle.bt_view.specs.inside.Entries.{and_entry, row_of_entry, rows_of_entries, with_entry_row}
 use Rattle.bt_view.specs.declared.range.KeyRange.{KeyRange}
-
--- a code of values of these kinds is decoded to them
-pub decoded_code : (kinds : List Kind) (bytes : List ℕ) (values : List Value) → IsCodeOf kinds bytes values → decoded kinds bytes ≡ Some values
-decoded_code kinds bytes values is =
-    ap (λ k. decoded k bytes) (sym is.of_kinds) ∙ ap (decoded (map kind_of values)) (sym is.code) ∙ decoded_again values is.in_range
 
 module _ (kinds : List Kind) where
   -- rows under the keys of entries, each what its entry shows

@@ -6,11 +6,10 @@ use Rattle.std.specs.FinMap.{find, put}
 use Rattle.std.specs.FinMap.Entries.{by_order}
 use Rattle.std.specs.Ordering.{is_eq, ordering_reverse}
 use Rattle.std.specs.declared.cmp.Ordering.TheVariants.{Greater}
-use Rattle.bt_rowtype.specs.Values.{or_refused, same_values}
+use Rattle.bt_rowtype.specs.Values.{AreInRange, or_refused, same_values}
 use Rattle.bt_rowtype.specs.declared.refusal.Refusal.TheVariants.{TooMany}
 use Rattle.bt_rowtype.specs.declared.value.Kind.{Kind}
 use Rattle.bt_rowtype.specs.declared.value.Value.{Value}
-use Rattle.bt_rowtype.specs.Packing.{AreInRange}
 use Rattle.bt_rowtype.proofs.offered.SameValues.{same_values-complete, same_values-sound}
 use Rattle.bt_keycode.specs.Codes.{code_of, kind_of}
 use Rattle.bt_keycode.specs.Keys.{Key, is_before, key_cmp}
@@ -18,7 +17,7 @@ use Rattle.bt_keycode.proofs.offered.Codes.{same_code}
 use Rattle.bt_keycode.proofs.offered.Order.{before_chain, is_less, neither_before, sides, total_keys}
 use Rattle.bt_node.specs.Messages.{Rows}
 use Rattle.bt_view.specs.Groups.{added_to, and_row, group_of, groups_of, most_rows, with_row}
-use Rattle.bt_view.specs.Neighbours.{Ascend, Groups, NoneBefore, ended, grouped, joined, listed, summed}
+use Rattle.bt_view.specs.inside.Neighbours.{Ascend, Groups, NoneBefore, ended, grouped, joined, listed, summed}
 use Rattle.bt_view.specs.declared.groups.Sum.{Sum}
 
 -- ---- groups in a list, by the codes of their columns

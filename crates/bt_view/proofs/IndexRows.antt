@@ -9,7 +9,7 @@ use Rattle.std.specs.Ordering.{is_eq}
 use Rattle.std.specs.Prelude.{option_map}
 use Rattle.std.specs.declared.cmp.Ordering.{Ordering}
 use Rattle.std.specs.declared.cmp.Ordering.TheVariants.{Less, Equal, Greater}
-use Rattle.bt_rowtype.specs.Packing.{AreInRange, IsInRange}
+use Rattle.bt_rowtype.specs.Values.{AreInRange, IsInRange}
 use Rattle.bt_rowtype.specs.Schemas.{Schema, fit_columns, fits_kind}
 use Rattle.bt_rowtype.specs.declared.schema.Column.{Column}
 use Rattle.bt_rowtype.specs.declared.value.Kind.{Kind}
@@ -23,15 +23,12 @@ use Rattle.bt_fanout.specs.Entries.{Definition, entry_of, passes, picked, value_
 use Rattle.bt_fanout.specs.Selections.{select, with_entry}
 use Rattle.bt_table.specs.Standing.{AllStand, Stands}
 use Rattle.bt_table.proofs.offered.Kinds.{key_kinds}
-use Rattle.bt_view.specs.Entries.{row_of_entry}
+use Rattle.bt_view.specs.inside.Entries.{index_kinds, row_of_entry}
 use Rattle.bt_view.specs.Ranges.{column_in, index_row, index_schema}
-use Rattle.bt_view.proofs.EntryRows.{AreShown, IsShown, decoded_code, shown-with}
+use Rattle.bt_view.proofs.CodedKeys.{both_true, values_of_code}
+use Rattle.bt_view.proofs.EntryRows.{AreShown, IsShown, shown-with}
 
 -- ---- lists of values and columns side by side
-
-both_true : (a b : Bool) → (a && b) ≡ true → (a ≡ true) × (b ≡ true)
-both_true true b h = (refl, h)
-both_true false b h = absurd (true≢false (sym h))
 
 fit-append : (cs ds : List Column) (vs ws : List Value) → fit_columns cs vs ≡ true → fit_columns ds ws ≡ true → fit_columns (cs ++ ds) (vs ++ ws) ≡ true
 fit-append [] ds [] ws f g = g
@@ -98,8 +95,8 @@ module _ (schema : Schema) (def : Definition) (on : All (λ place. place < lengt
   abbrev of_index : Schema
   of_index = index_schema schema def
 
-  abbrev pub index_kinds : List Kind
-  index_kinds = map (λ c. c.kind) (take of_index.keys of_index.columns)
+  abbrev kinds : List Kind
+  kinds = index_kinds schema def
 
   -- the values of the key of the row that an index has for one
   abbrev own_key : List Value → List Value
@@ -126,7 +123,7 @@ module _ (schema : Schema) (def : Definition) (on : All (λ place. place < lengt
         (in_range-picked row def.include stands.in_range);
   }
 
-  shown_in_index : (key : Key) (row : List Value) → Stands schema key row → IsShown index_kinds (entry_of def key row) (index_row schema.keys def key row)
+  shown_in_index : (key : Key) (row : List Value) → Stands schema key row → IsShown kinds (entry_of def key row) (index_row schema.keys def key row)
   shown_in_index key row stands = by_test (passes def.condition row)
     where
       of : Stands of_index (code_of (picked def.on row) ++ key) (own_key row ++ picked def.include row)
@@ -135,24 +132,24 @@ module _ (schema : Schema) (def : Definition) (on : All (λ place. place < lengt
       first : take of_index.keys (own_key row ++ picked def.include row) ≡ own_key row
       first = own_key-first row (picked def.include row) stands.fits
 
-      read : row_of_entry index_kinds (code_of (picked def.on row) ++ key, picked def.include row) ≡ Some (own_key row ++ picked def.include row)
+      read : row_of_entry kinds (code_of (picked def.on row) ++ key, picked def.include row) ≡ Some (own_key row ++ picked def.include row)
       read =
           ap (option_map (λ values. values ++ picked def.include row))
-          (decoded_code index_kinds (code_of (picked def.on row) ++ key) (own_key row) (record {
+          (values_of_code kinds (code_of (picked def.on row) ++ key) (own_key row) (record {
             of_kinds = ap (map kind_of) (sym first) ∙ key_kinds of_index.keys of_index.columns (own_key row ++ picked def.include row) of.fits;
             in_range = subst AreInRange first (take_in_range of_index.keys (own_key row ++ picked def.include row) of.in_range);
             code = ap code_of (sym first) ∙ sym of.placed;
           }))
 
-      by_test : (b : Bool) → IsShown index_kinds (if b then Some (code_of (picked def.on row) ++ key, picked def.include row) else None)
+      by_test : (b : Bool) → IsShown kinds (if b then Some (code_of (picked def.on row) ++ key, picked def.include row) else None)
           (option_map (λ (entry : Key × List Value). (entry.0, own_key row ++ entry.1)) (if b then Some (code_of (picked def.on row) ++ key, picked def.include row) else None))
       by_test true = (refl, read)
       by_test false = tt
 
-  pub all_shown : (rows : Rows (List Value)) → AllStand schema rows → AreShown index_kinds (select (entry_of def) rows) (select (index_row schema.keys def) rows)
+  pub all_shown : (rows : Rows (List Value)) → AllStand schema rows → AreShown kinds (select (entry_of def) rows) (select (index_row schema.keys def) rows)
   all_shown [] all = tt
   all_shown (r ∷ rows) all =
-      shown-with index_kinds (entry_of def r.0 r.1) (index_row schema.keys def r.0 r.1) (select (entry_of def) rows) (select (index_row schema.keys def) rows)
+      shown-with kinds (entry_of def r.0 r.1) (index_row schema.keys def r.0 r.1) (select (entry_of def) rows) (select (index_row schema.keys def) rows)
       (shown_in_index r.0 r.1 all.0) (all_shown rows all.1)
 
   pub all_stand : (rows : Rows (List Value)) → AllStand schema rows → AllStand of_index (select (index_row schema.keys def) rows)

@@ -7,7 +7,6 @@ use Rattle.bt_rowtype.specs.declared.refusal.Refusal.{Refusal}
 use Rattle.bt_rowtype.specs.Values.{or_refused}
 use Rattle.bt_rowtype.specs.declared.refusal.Refusal.TheVariants.{Building, TooMany}
 use Rattle.bt_rowtype.specs.declared.schema.Column.{Column}
-use Rattle.bt_rowtype.specs.declared.value.Kind.{Kind}
 use Rattle.bt_rowtype.specs.declared.value.Value.{Value}
 use Rattle.bt_node.specs.Flushes.{holds}
 use Rattle.bt_node.specs.Messages.{Rows, between}
@@ -21,9 +20,9 @@ use Rattle.bt_table.specs.Calls.{Secondary, ShowsIndex}
 use Rattle.bt_table.specs.Tables.{PlainTable}
 use Rattle.bt_table.specs.declared.index.Index.{Index}
 use Rattle.bt_table.proofs.offered.KeyOrder.{keys_rise}
-use Rattle.bt_view.specs.Entries.{and_entry}
+use Rattle.bt_view.specs.inside.Entries.{and_entry, index_kinds}
 use Rattle.bt_view.specs.Groups.{groups_of, summed_place, sums_of}
-use Rattle.bt_view.specs.Neighbours.{Groups, ended, grouped}
+use Rattle.bt_view.specs.inside.Neighbours.{Groups, ended, grouped}
 use Rattle.bt_view.specs.declared.groups.Sum.{Sum}
 use Rattle.bt_view.specs.Ranges.{index_row, index_schema, range_as, rows_within, scan_of, when_whole}
 use Rattle.bt_view.specs.declared.range.KeyRange.{KeyRange}
@@ -62,9 +61,6 @@ module _ (table : PlainTable) (index : Index) (from to : Option (List (List ℕ)
   abbrev pub range_by : Schema → Result KeyRange Refusal
   range_by schema = range_as (take (index_schema schema index.def).keys (index_schema schema index.def).columns) from to
 
-  abbrev pub kinds_by : Schema → List Kind
-  kinds_by schema = map (λ c. c.kind) (take (index_schema schema index.def).keys (index_schema schema index.def).columns)
-
   module _ (schema : Schema) (shows : ShowsIndex table schema index) where
     pub scan_refused : {S : Type 0} (added : S → List Value → S) (sink : S) (refusal : Refusal) → and_then (when_whole index.cover) (range_by schema) ≡ Err refusal
         → made (fold added sink) (scan_of from to (Secondary table index)) ≡ Err refusal
@@ -73,18 +69,18 @@ module _ (table : PlainTable) (index : Index) (from to : Option (List (List ℕ)
 
     -- what goes through the entries of a range goes through the rows
     pub through : {S : Type 0} (added : S → List Value → S) (sink after : S) (own : KeyRange) → is_whole index.cover ≡ true
-        → after ≡ fold (and_entry added (kinds_by schema)) sink (between own.from own.to (holds entry_effect index.tree.1)) → after ≡ fold added sink (rows_within own rows)
+        → after ≡ fold (and_entry added (index_kinds schema index.def)) sink (between own.from own.to (holds entry_effect index.tree.1)) → after ≡ fold added sink (rows_within own rows)
     through added sink after own whole said =
         let on = under table.schema.columns index.def.on shows.suits.within.on in
         let include = under table.schema.columns index.def.include shows.suits.within.include in
         let shown = all_shown table.schema index.def on include shows.few table.rows shows.stand in
-        let kinds = kinds_by table.schema in
+        let kinds = index_kinds table.schema index.def in
         let folds = shown-fold kinds added sink (between own.from own.to (select (entry_of index.def) table.rows)) (between own.from own.to rows) (shown-between kinds own (select (entry_of index.def) table.rows) rows shown) in
-        subst (λ s. after ≡ fold (and_entry added (kinds_by s)) sink (between own.from own.to (holds entry_effect index.tree.1))) shows.schema_is said
+        subst (λ s. after ≡ fold (and_entry added (index_kinds s index.def)) sink (between own.from own.to (holds entry_effect index.tree.1))) shows.schema_is said
         ∙ ap (λ es. fold (and_entry added kinds) sink (between own.from own.to es)) (shows.complete whole) ∙ folds
 
     pub scan_done : {S : Type 0} (added : S → List Value → S) (sink after : S) (own : KeyRange) → and_then (when_whole index.cover) (range_by schema) ≡ Ok own
-        → after ≡ fold (and_entry added (kinds_by schema)) sink (between own.from own.to (holds entry_effect index.tree.1)) → made (fold added sink) (scan_of from to (Secondary table index)) ≡ Ok after
+        → after ≡ fold (and_entry added (index_kinds schema index.def)) sink (between own.from own.to (holds entry_effect index.tree.1)) → made (fold added sink) (scan_of from to (Secondary table index)) ≡ Ok after
     scan_done added sink after own is said =
         let both = done (fold added sink) range (is_whole index.cover) own (subst (λ s. and_then (when_whole index.cover) (range_by s) ≡ Ok own) shows.schema_is is) in
         both.1 ∙ ap Ok (sym (through added sink after own both.0 said))
@@ -122,18 +118,17 @@ module _ (table : PlainTable) (index : Index) (from to : Option (List (List ℕ)
           (has_range (fold added sink) range (is_whole index.cover) own (subst (λ s. and_then (when_whole index.cover) (range_by s) ≡ Ok own) shows.schema_is is)).1
           ∙ ap (λ p. made (fold added sink) (and_then (λ place. groups_of grouping place (rows_within own rows)) p)) (subst (λ s. place_by s ≡ Err refusal) shows.schema_is none)
 
-      pub sums_done : {S : Type 0} (added : S → Sum → S) (sink : S) (place : ℕ) (own : KeyRange) (kinds : List Kind) (start groups : ℕ × ℕ × Groups S) → and_then (when_whole index.cover) (range_by schema) ≡ Ok own
-          → place_by schema ≡ Ok place → kinds ≡ kinds_by schema → grouping ≤ (index_schema schema index.def).keys → ◌≡◌ {A = ℕ × ℕ × Groups S} start (grouping, place, Some (sink, None))
-          → groups ≡ fold (and_entry (λ (g : ℕ × ℕ × Groups S) row. (g.0, g.1, grouped added g.0 g.1 g.2 row)) kinds) start (between own.from own.to (holds entry_effect index.tree.1))
+      pub sums_done : {S : Type 0} (added : S → Sum → S) (sink : S) (place : ℕ) (own : KeyRange) (start groups : ℕ × ℕ × Groups S) → and_then (when_whole index.cover) (range_by schema) ≡ Ok own
+          → place_by schema ≡ Ok place → grouping ≤ (index_schema schema index.def).keys → ◌≡◌ {A = ℕ × ℕ × Groups S} start (grouping, place, Some (sink, None))
+          → groups ≡ fold (and_entry (λ (g : ℕ × ℕ × Groups S) row. (g.0, g.1, grouped added g.0 g.1 g.2 row)) (index_kinds schema index.def)) start (between own.from own.to (holds entry_effect index.tree.1))
           → or_refused TooMany (ended added groups.2) ≡ made (fold added sink) (sums_of grouping column from to (Secondary table index))
-      sums_done {S} added sink place own kinds start groups is placed same few begins said =
+      sums_done {S} added sink place own start groups is placed few begins said =
           let on = under table.schema.columns index.def.on shows.suits.within.on in
           let include = under table.schema.columns index.def.include shows.suits.within.include in
           let ranged = has_range (fold added sink) range (is_whole index.cover) own (subst (λ s. and_then (when_whole index.cover) (range_by s) ≡ Ok own) shows.schema_is is) in
           let stand = all_stand table.schema index.def on include shows.few table.rows shows.stand in
           let rise = keys_rise (index_schema table.schema index.def) rows stand (all_rise table.schema index.def on include shows.few table.rows) in
           let ascending = ascend (index_schema table.schema index.def) grouping (subst (λ s. grouping ≤ (index_schema s index.def).keys) shows.schema_is few) own rows stand rise in
-          let went = through (λ (g : ℕ × ℕ × Groups S) row. (g.0, g.1, grouped added g.0 g.1 g.2 row)) start groups own ranged.0
-          (subst (λ ks. groups ≡ fold (and_entry (λ (g : ℕ × ℕ × Groups S) row. (g.0, g.1, grouped added g.0 g.1 g.2 row)) ks) start (between own.from own.to (holds entry_effect index.tree.1))) same said) in
+          let went = through (λ (g : ℕ × ℕ × Groups S) row. (g.0, g.1, grouped added g.0 g.1 g.2 row)) start groups own ranged.0 said in
           of_rows added sink grouping place (map (λ c. c.kind) (take grouping (index_schema table.schema index.def).columns)) (rows_within own rows) start groups ascending begins went
           ∙ sym (ranged.1 ∙ ap (λ p. made (fold added sink) (and_then (λ place. groups_of grouping place (rows_within own rows)) p)) (subst (λ s. place_by s ≡ Ok place) shows.schema_is placed))

@@ -1,3 +1,4 @@
+pub mod CodedKeys
 pub mod Drawings
 pub mod EntryRows
 pub mod GroupOrder

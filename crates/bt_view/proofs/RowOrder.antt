@@ -5,8 +5,7 @@ use Rattle.std.specs.Ordering.{is_eq, is_lt, ordering_then}
 use Rattle.std.specs.declared.cmp.Ordering.{Ordering}
 use Rattle.std.specs.declared.cmp.Ordering.TheVariants.{Less, Equal, Greater}
 use Rattle.bt_rowtype.specs.Schemas.{Schema}
-use Rattle.bt_rowtype.specs.Packing.{AreInRange}
-use Rattle.bt_rowtype.specs.Values.{value_cmp, values_cmp}
+use Rattle.bt_rowtype.specs.Values.{AreInRange, value_cmp, values_cmp}
 use Rattle.bt_rowtype.specs.declared.value.Kind.{Kind}
 use Rattle.bt_rowtype.specs.declared.value.Value.{Value}
 use Rattle.bt_keycode.specs.Codes.{HaveSameKinds, code_of}
@@ -17,7 +16,7 @@ use Rattle.bt_keycode.proofs.offered.Ranges.{take_in_range}
 use Rattle.bt_node.specs.Messages.{Rows, between}
 use Rattle.bt_table.specs.Standing.{AllStand, KeysRise, Stands}
 use Rattle.bt_table.proofs.offered.Kinds.{key_kinds}
-use Rattle.bt_view.specs.Neighbours.{Ascend, IsOfKinds, NoneBefore}
+use Rattle.bt_view.specs.inside.Neighbours.{Ascend, IsOfKinds, NoneBefore}
 use Rattle.bt_view.specs.Ranges.{rows_within}
 use Rattle.bt_view.specs.declared.range.KeyRange.{KeyRange}
 

@@ -8,7 +8,7 @@ use Rattle.bt_rowtype.specs.declared.value.Kind.{Kind}
 use Rattle.bt_rowtype.specs.declared.value.Value.{Value}
 use Rattle.bt_table.specs.Batches.{made}
 use Rattle.bt_view.specs.Groups.{group_of, groups_of, most_rows, with_row}
-use Rattle.bt_view.specs.Neighbours.{Ascend, Groups, ended, grouped, is_of, listed, summed}
+use Rattle.bt_view.specs.inside.Neighbours.{Ascend, Groups, ended, grouped, is_of, listed, summed}
 use Rattle.bt_view.proofs.GroupOrder.{by_neighbours}
 use Rattle.bt_view.specs.declared.groups.Sum.{Sum}
 

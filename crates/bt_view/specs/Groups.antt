@@ -16,17 +16,17 @@ use Rattle.bt_node.specs.Messages.{Rows}
 use Rattle.bt_table.specs.Calls.{NamedTree, tree_named}
 use Rattle.bt_table.specs.Tables.{TableState}
 use Rattle.bt_table.specs.Batches.{and_then}
-use Rattle.bt_view.specs.Ranges.{range_of, rows_of, rows_within, schema_of}
+use Rattle.bt_view.specs.Ranges.{range_of, rows_of_tree, rows_within, schema_of}
 use Rattle.bt_view.specs.declared.groups.Sum.{Sum}
 
 -- the number that a value is; 0 where it is no int
-abbrev pub number_of : Value → ℤ
-number_of (value.Int n) = n
-number_of other = pos 0
+abbrev pub number_of_value : Value → ℤ
+number_of_value (value.Int n) = n
+number_of_value other = pos 0
 
 -- the number at a place of a row
 abbrev pub number_in : List Value → ℕ → ℤ
-number_in row place = number_of (get_or row place (value.Flag false))
+number_in row place = number_of_value (get_or row place (value.Flag false))
 
 -- the group of one row: its first columns
 abbrev pub group_of : ℕ → ℕ → List Value → Sum
@@ -60,17 +60,20 @@ abbrev pub int_place : ℕ × Kind → Result ℕ Refusal
 int_place (place, kind.Int) = Ok place
 int_place (place, other) = Err NotInt
 
--- the place of the column of this name that is summed, where a group is that of so many of the first columns, at least one and key columns all
+-- the place of a column that is summed, where one of its name was found, and a group is that of so many of the first columns, at least one and key columns all
+abbrev pub summed_at : ℕ → ℕ → Option (ℕ × Kind) → Result ℕ Refusal
+summed_at keys grouping found = if nat_le 1 grouping && nat_le grouping keys then at_column int_place found else Err NoSuchColumn
+
+-- the place of the column of this name that is summed
 abbrev pub summed_place : List Column → ℕ → ℕ → List ℕ → Result ℕ Refusal
-summed_place columns keys grouping name =
-    if nat_le 1 grouping && nat_le grouping keys then at_column int_place (named_from 0 name columns) else Err NoSuchColumn
+summed_place columns keys grouping name = summed_at keys grouping (named_from 0 name columns)
 
 -- the groups of a range of a tree by so many of its first columns, with the sum of the column of this name, or the first of these refusals: of the bounds, of
 -- an index that is building, of the columns, and of a group that has too many rows
 abbrev pub sums_of : ℕ → List ℕ → Option (List (List ℕ)) → Option (List (List ℕ)) → NamedTree → Result (List Sum) Refusal
 sums_of grouping column from to tree =
     and_then (λ range. and_then (λ rows. and_then (λ place. groups_of grouping place (rows_within range rows))
-    (summed_place (schema_of tree).columns (schema_of tree).keys grouping column)) (rows_of tree)) (range_of tree from to)
+    (summed_place (schema_of tree).columns (schema_of tree).keys grouping column)) (rows_of_tree tree)) (range_of tree from to)
 
 -- the groups of a range of the tree of a name
 abbrev pub sums : TableState → List ℕ → ℕ → List ℕ → Option (List (List ℕ)) → Option (List (List ℕ)) → Result (List Sum) Refusal

@@ -50,8 +50,8 @@ first_line name high = codes "image " ++ (name ++ (codes " height " ++ (decimal 
 
 module _ {V : Type 0} (value_text : V → List ℕ) where
   -- the line of a row of a leaf
-  abbrev pub row_line : List ℕ → Key × V → List ℕ
-  row_line indent row = key_line indent (codes "=") row.0 (value_text row.1)
+  abbrev pub leaf_row_line : List ℕ → Key × V → List ℕ
+  leaf_row_line indent row = key_line indent (codes "=") row.0 (value_text row.1)
 
   -- and by what stands behind the key of an upsert, with its space
   module _ {D : Type 0} (delta_text : D → List ℕ) where
@@ -64,7 +64,7 @@ module _ {V : Type 0} (value_text : V → List ℕ) where
     -- The lines of a node behind its indent, and of what is below it: its rows, or its messages and then its children. A pivot stands before each child but the first.
     abbrev mutual
       pub node_text : List ℕ → Tree V (Message V D) → List ℕ
-      node_text indent (leaf rows) = leaf_line indent (length rows) ++ flat_map (row_line (deeper indent)) rows
+      node_text indent (leaf rows) = leaf_line indent (length rows) ++ flat_map (leaf_row_line (deeper indent)) rows
       node_text indent (inner ns buffer) =
           inner_line indent (length (children ns)) (length buffer) ++ (flat_map (message_line (deeper indent)) buffer ++ children_text (deeper indent) ns)
 

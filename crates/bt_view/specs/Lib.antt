@@ -1,6 +1,4 @@
-pub mod Drawings
-pub mod Entries
+pub mod inside
 pub mod Groups
 pub mod Images
-pub mod Neighbours
 pub mod Ranges

@@ -52,6 +52,10 @@ range_as columns from to = made (λ bounds. record { from = bounds.0; to = bound
 abbrev pub range_of : NamedTree → Option (List (List ℕ)) → Option (List (List ℕ)) → Result KeyRange Refusal
 range_of tree from to = range_as (take (schema_of tree).keys (schema_of tree).columns) from to
 
+-- the range without a bound
+abbrev pub all_keys : KeyRange
+all_keys = record { from = None; to = None }
+
 -- the rows whose key lies in a range, by rising key: at or past its lower bound and before its upper one
 abbrev pub rows_within : KeyRange → Rows (List Value) → List (List Value)
 rows_within range rows = map (λ row. row.1) (between range.from range.to rows)
@@ -65,13 +69,13 @@ abbrev pub when_whole : {T : Type 0} → Cover → T → Result T Refusal
 when_whole cover answer = if is_whole cover then Ok answer else Err Building
 
 -- the rows of a tree by their keys: those of the table, or those that an index selects of them
-abbrev pub rows_of : NamedTree → Result (Rows (List Value)) Refusal
-rows_of (Primary table) = Ok table.rows
-rows_of (Secondary table index) = when_whole index.cover (select (index_row table.schema.keys index.def) table.rows)
+abbrev pub rows_of_tree : NamedTree → Result (Rows (List Value)) Refusal
+rows_of_tree (Primary table) = Ok table.rows
+rows_of_tree (Secondary table index) = when_whole index.cover (select (index_row table.schema.keys index.def) table.rows)
 
 -- the rows of a range of a tree, or the first of these refusals: of the bounds, and of an index that is building
 abbrev pub scan_of : Option (List (List ℕ)) → Option (List (List ℕ)) → NamedTree → Result (List (List Value)) Refusal
-scan_of from to tree = and_then (λ range. made (rows_within range) (rows_of tree)) (range_of tree from to)
+scan_of from to tree = and_then (λ range. made (rows_within range) (rows_of_tree tree)) (range_of tree from to)
 
 -- the rows of a range of the tree of a name
 abbrev pub scan : TableState → List ℕ → Option (List (List ℕ)) → Option (List (List ℕ)) → Result (List (List Value)) Refusal

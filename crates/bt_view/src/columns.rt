@@ -1,9 +1,11 @@
 //! The columns of the rows of an index.
-ghost use Rattle.std.specs.Prelude.{◌≡◌, ◌≤◌, ◌+◌, IfOk, OnOk, ◌++◌, length, map, take};
+ghost use Rattle.std.specs.Prelude.{◌≡◌, ◌<◌, ◌≤◌, ◌++◌, IfOk, IfSome, OnOk, length, map, take};
+ghost use Rattle.bt_rowtype.specs.Ops.{named_from};
 ghost use Rattle.bt_view.specs.Ranges as spec;
+ghost use Rattle.bt_view.specs.inside.Entries.{index_kinds};
 
 use bt_fanout::IndexDef;
-use bt_rowtype::{Column, Columns, Kind, Schema, Text};
+use bt_rowtype::{Column, Columns, Kind, Schema, Text, find_column};
 use std::alloc::{AllocError, Global};
 
 fn copy_column(alloc: Global, column: &Column) -> Result<Column, AllocError>
@@ -68,26 +70,84 @@ pub(crate) fn index_columns(
     Ok(shown)
 }
 
-/// The kinds of columns.
-pub(crate) fn kinds_of(alloc: Global, columns: &[Column]) -> Result<Vec<Kind>, AllocError>
-    ensures { IfOk result (λ kinds. kinds.items ≡ map (λ c. c.kind) columns.now) }
+// The name and the kind of the column at a place; no name and the kind of a flag where there is none.
+fn name_and_kind(columns: &[Column], place: usize) -> (&[u8], Kind)
+    ensures name { result.0.now ≡ (spec.column_in columns.now place).name }
+    ensures kind { result.1 ≡ (spec.column_in columns.now place).kind }
+{
+    match columns.get(place) {
+        Some(column) => (column.name.as_bytes(), column.kind),
+        None => (&[], Kind::Flag),
+    }
+}
+
+// The kinds of the columns at places.
+fn kinds_at(alloc: Global, columns: &[Column], places: &[usize]) -> Result<Vec<Kind>, AllocError>
+    ensures { IfOk result (λ kinds. kinds.items ≡ map (λ place. (spec.column_in columns.now place).kind) places.now) }
 {
     let mut kinds = Vec::new(alloc);
-    for column in columns {
+    for place in places {
+        let (_name, kind) = name_and_kind(columns, *place);
+        kinds.push(kind)?;
+    }
+    Ok(kinds)
+}
+
+/// The kinds of the columns of the key of an index.
+pub(crate) fn index_kinds(
+    alloc: Global,
+    schema: &Schema,
+    def: &IndexDef,
+) -> Result<Vec<Kind>, AllocError>
+    ensures { IfOk result (λ kinds. kinds.items ≡ index_kinds schema.now def.now) }
+{
+    let mut kinds = kinds_at(alloc, schema.columns(), def.on())?;
+    for column in schema.key_columns() {
         kinds.push(column.kind)?;
     }
     Ok(kinds)
 }
 
-/// How many of the columns of the rows of an index are its key.
-pub(crate) fn key_count(schema: &Schema, def: &IndexDef, columns: &[Column]) -> usize
-    requires { columns.now ≡ (spec.index_schema schema.now def.now).columns }
-    ensures count { result ≡ (spec.index_schema schema.now def.now).keys }
-    ensures within { result ≤ length columns.now }
+// The first of the columns at places that has a name: which of the places is its own, and its kind.
+fn find_placed(columns: &[Column], places: &[usize], name: &[u8]) -> Option<(usize, Kind)>
+    ensures found { result ≡ named_from 0 name.now (map (spec.column_in columns.now) places.now) }
+    ensures within { IfSome result (λ f. f.0 < length places.now) }
 {
-    // The key columns of a schema are columns of it, so that none of them is left out here.
-    let _keys = schema.keys();
-    columns.len() - def.include().len()
+    for (at, place) in places.iter().enumerate() {
+        let (own, kind) = name_and_kind(columns, *place);
+        if own == name {
+            return Some((at, kind));
+        }
+    }
+    None
+}
+
+/// The first column of the rows of an index that has a name: its place and its kind. Takes no memory.
+pub(crate) fn find_index_column(
+    schema: &Schema,
+    def: &IndexDef,
+    name: &[u8],
+) -> Option<(usize, Kind)>
+    ensures { result ≡ named_from 0 name.now (spec.index_schema schema.now def.now).columns }
+{
+    let on = def.on();
+    if let Some(found) = find_placed(schema.columns(), on, name) {
+        return Some(found);
+    }
+    let keys = schema.key_columns();
+    if let Some((place, kind)) = find_column(keys, 0, name) {
+        return Some((on.len() + place, kind));
+    }
+    let (place, kind) = find_placed(schema.columns(), def.include(), name)?;
+    Some((on.len() + keys.len() + place, kind))
+}
+
+/// How many of the columns of the rows of an index are its key.
+pub(crate) fn key_count(schema: &Schema, def: &IndexDef) -> usize
+    ensures count { result ≡ (spec.index_schema schema.now def.now).keys }
+    ensures within { result ≤ length (spec.index_schema schema.now def.now).columns }
+{
+    def.on().len() + schema.key_columns().len()
 }
 
 /// The columns of the key of an index, the first ones.
@@ -100,5 +160,5 @@ pub(crate) fn key_columns<'a>(
     ensures columns { result.now ≡ take (spec.index_schema schema.now def.now).keys (spec.index_schema schema.now def.now).columns }
     ensures count { length result.now ≡ (spec.index_schema schema.now def.now).keys }
 {
-    &columns[..key_count(schema, def, columns)]
+    &columns[..key_count(schema, def)]
 }

@@ -5,11 +5,11 @@ ghost use Rattle.bt_rowtype.specs.Answers.{Answers};
 ghost use Rattle.bt_rowtype.specs.Values.{or_refused};
 ghost use Rattle.bt_rowtype.specs.Views.{shown};
 ghost use Rattle.bt_view.specs.Groups as spec;
-ghost use Rattle.bt_view.specs.Neighbours.{IsBounded, ended, grouped};
+ghost use Rattle.bt_view.specs.inside.Neighbours.{IsBounded, ended, grouped};
 
 use crate::sink::Sink;
 use bt_fanout::add_first;
-use bt_rowtype::{Column, Kind, Refusal, Row, Text, ValueRef, find_column, same_values};
+use bt_rowtype::{Kind, Refusal, Row, ValueRef, same_values};
 use std::alloc::{AllocError, Global};
 use std::marker::Model;
 
@@ -25,7 +25,7 @@ pub struct Sum {
 }
 
 fn number_of(value: ValueRef<'_>) -> i64
-    ensures { result ≡ spec.number_of (shown value.entry) }
+    ensures { result ≡ spec.number_of_value (shown value.entry) }
 {
     match value {
         ValueRef::Int(number) => number,
@@ -94,7 +94,7 @@ pub(crate) struct Grouping<S: Sink<Sum>> {
 
 impl<S: Sink<Sum>> Model for Grouping<S> {
     ghost use Rattle.std.specs.Prelude.{ℕ, IfSome, None, Some, if◌then◌else◌};
-    ghost use Rattle.bt_view.specs.Neighbours.{Groups, IsBounded};
+    ghost use Rattle.bt_view.specs.inside.Neighbours.{Groups, IsBounded};
 
     ghost Value = { ℕ × ℕ × Groups S };
 
@@ -163,22 +163,21 @@ impl<S: Sink<Sum>> Sink<Row> for Grouping<S> {
     }
 }
 
-/// The place of the column of this name that is summed. `NoSuchColumn` where a group is not that of at least one and at most all key columns, or where there is
-/// no such column, `NotInt` where it is not int.
+/// The place of a column that is summed, where one of its name was found. `NoSuchColumn` where a group is not that of at least one and at most all key
+/// columns, or where none was found, `NotInt` where it is not int. Takes no memory.
 pub fn summed_place(
-    columns: &[Column],
+    found: Option<(usize, Kind)>,
     keys: usize,
     grouping: u32,
-    name: &Text,
 ) -> Result<usize, Refusal>
-    ensures place { result ≡ spec.summed_place columns.now keys grouping name.now }
+    ensures place { result ≡ spec.summed_at keys grouping found }
     ensures few { IfOk result (λ _. grouping ≤ keys) }
 {
     let grouping = grouping as usize;
     if grouping == 0 || grouping > keys {
         return Err(Refusal::NoSuchColumn);
     }
-    match find_column(columns, 0, name.as_bytes()) {
+    match found {
         Some((place, Kind::Int)) => Ok(place),
         Some((_place, _)) => Err(Refusal::NotInt),
         None => Err(Refusal::NoSuchColumn),

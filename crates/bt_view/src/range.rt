@@ -1,9 +1,7 @@
 //! The range of keys between two bounds.
-ghost use Rattle.std.specs.Prelude.{◌≡◌, ◌+◌, ◌++◌, IfOk, OnOk, length, map, take};
+ghost use Rattle.std.specs.Prelude.{◌≡◌, None, Ok};
 ghost use Rattle.std.specs.Option.{option_copied};
 ghost use Rattle.bt_rowtype.specs.Answers.{Answers};
-ghost use Rattle.bt_fanout.specs.Definitions.{kinds_of};
-ghost use Rattle.bt_fanout.specs.Entries.{SuitsKinds};
 ghost use Rattle.bt_view.specs.Ranges as spec;
 
 use bt_keycode::{Key, encode_row};
@@ -24,7 +22,8 @@ fn read_bound(
     item: u64,
     bound: Option<&RecordLine<'_>>,
 ) -> Result<Option<Key>, Refusal>
-    ensures { Answers (spec.bound_as columns.now item (option_copied bound.entry)) result }
+    ensures answer { Answers (spec.bound_as columns.now item (option_copied bound.entry)) result }
+    ensures absent { bound.entry ≡ None → result ≡ Ok None }
 {
     let Some(line) = bound else {
         return Ok(None);
@@ -35,14 +34,15 @@ fn read_bound(
 }
 
 /// The range between two bounds of these key columns, each of which spells at least one of the first of them. Of their refusals, `BadField` and
-/// `BadLength` with item 1 for `from` and 2 for `to`, the least is answered.
+/// `BadLength` with item 1 for `from` and 2 for `to`, the least is answered. Where there is no bound no memory is asked for.
 pub fn read_range(
     alloc: Global,
     columns: &[Column],
     from: Option<&RecordLine<'_>>,
     to: Option<&RecordLine<'_>>,
 ) -> Result<KeyRange, Refusal>
-    ensures { Answers (spec.range_as columns.now (option_copied from.entry) (option_copied to.entry)) result }
+    ensures answer { Answers (spec.range_as columns.now (option_copied from.entry) (option_copied to.entry)) result }
+    ensures unbounded { from.entry ≡ None → to.entry ≡ None → result ≡ Ok spec.all_keys }
 {
     let from = read_bound(alloc, columns, 1, from);
     let to = read_bound(alloc, columns, 2, to);

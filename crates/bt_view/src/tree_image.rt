@@ -2,7 +2,7 @@
 ghost use Rattle.std.specs.Prelude.{◌≡◌, ◌<◌, ◌-◌, ◌^◌, ◌++◌, ◌∷◌, [], IfOk, OnOk, codes, flat_map, length, min, slice_get};
 ghost use Rattle.bt_node.specs.Trees as trees;
 ghost use Rattle.bt_node.specs.Walks.{children_of, messages_of, rows_of};
-ghost use Rattle.bt_view.specs.Drawings.{own_text, pivot_text};
+ghost use Rattle.bt_view.specs.inside.Drawings.{own_text, pivot_text};
 ghost use Rattle.bt_view.specs.Images as spec;
 
 use crate::drawing::Drawing;
@@ -141,7 +141,7 @@ fn write_rows<V: Merge, D: Drawing<V>>(
     indent: &[u8],
     walk: &Walk<V>,
 ) -> Result<(), AllocError>
-    ensures { OnOk result (out.new.items ≡ out.old.items ++ flat_map (spec.row_line (D.value_text drawing.now) indent.now) (rows_of walk.now)) }
+    ensures { OnOk result (out.new.items ≡ out.old.items ++ flat_map (spec.leaf_row_line (D.value_text drawing.now) indent.now) (rows_of walk.now)) }
 {
     for place in 0..walk.row_count() {
         let (key, value) = walk.row(place);

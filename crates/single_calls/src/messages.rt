@@ -1,7 +1,7 @@
 //! Packets, buffers and what messages make of values.
 use crate::samples::{Sample, Sent, buffer_text, is_text, key, message, packet, packet_text};
 use bt_keycode::Key;
-use bt_messages::{Buffer, Entry, effect};
+use bt_messages::{Bins, Buffer, Entry, effect};
 use bt_rowtype::Row;
 use std::alloc::{AllocError, Global};
 
@@ -96,6 +96,94 @@ fn ranges_are_taken_out(rt: HostRuntime) {
         is_text(
             ranges_text(rt.alloc(), "b", "c"),
             "|+b2 |+c3 -c0 ~c4 |+a1 ~a5 |"
+        )
+    );
+}
+
+// Bins divided at c and e, with puts to a, d, d and i.
+fn divided<V: Sample>(alloc: Global) -> Result<Bins<V>, AllocError> {
+    let pivots = [key(alloc, "c")?, key(alloc, "e")?];
+    let batch = [
+        ("a", Sent::Put(10)),
+        ("d", Sent::Put(40)),
+        ("d", Sent::Put(41)),
+        ("i", Sent::Put(90)),
+    ];
+    let mut bins = Bins::new(alloc, 3)?;
+    bins.add(alloc, &pivots, packet(alloc, &batch)?)?;
+    Ok(bins)
+}
+
+// Adds the number of messages of each bin and of all of them, with a bar behind.
+fn add_counts<V: Sample>(
+    alloc: Global,
+    out: &mut Vec<u8>,
+    bins: &Bins<V>,
+) -> Result<(), AllocError> {
+    for child in 0..bins.len() {
+        let count = format!(in alloc; "{} ", bins.count(child))?;
+        out.extend_from_slice(count.as_bytes())?;
+    }
+    let total = format!(in alloc; "of {}|", bins.total())?;
+    out.extend_from_slice(total.as_bytes())
+}
+
+// Takes the messages of the second bin, and adds them with a bar behind.
+fn add_second<V: Sample>(
+    alloc: Global,
+    out: &mut Vec<u8>,
+    bins: &mut Bins<V>,
+) -> Result<(), AllocError> {
+    if bins.len() < 2 {
+        return Ok(());
+    }
+    let taken = packet_text(alloc, bins.take(1))?;
+    out.extend_from_slice(taken.as_slice())?;
+    out.extend_from_slice(b"|")
+}
+
+// The counts of bins, the messages of the second one, and the counts without them.
+fn taken_bin_text<V: Sample>(alloc: Global) -> Result<Vec<u8>, AllocError> {
+    let mut out = Vec::new(alloc);
+    let mut bins = divided::<V>(alloc)?;
+    add_counts(alloc, &mut out, &bins)?;
+    add_second(alloc, &mut out, &mut bins)?;
+    add_counts(alloc, &mut out, &bins)?;
+    Ok(out)
+}
+
+#[test]
+fn a_bin_is_taken(rt: HostRuntime) {
+    let expected = "1 2 1 of 4|+d40 +d41 |1 0 1 of 2|";
+    assert!(rt; is_text(taken_bin_text::<Row>(rt.alloc()), expected));
+    assert!(rt; is_text(taken_bin_text::<Entry>(rt.alloc()), expected));
+}
+
+// The counts of bins when the second one is taken and spread over two, of those from the fourth on, and of the others.
+fn divided_bins_text(alloc: Global) -> Result<Vec<u8>, AllocError> {
+    let mut out = Vec::new(alloc);
+    let mut bins = divided::<Row>(alloc)?;
+    add_second(alloc, &mut out, &mut bins)?;
+    if bins.len() < 2 || bins.count(1) > 0 {
+        return Ok(out);
+    }
+    bins.spread(alloc, 1, 2)?;
+    add_counts(alloc, &mut out, &bins)?;
+    if bins.len() < 3 {
+        return Ok(out);
+    }
+    let others = bins.divide(3)?;
+    add_counts(alloc, &mut out, &others)?;
+    add_counts(alloc, &mut out, &bins)?;
+    Ok(out)
+}
+
+#[test]
+fn an_empty_bin_is_spread(rt: HostRuntime) {
+    assert!(rt;
+        is_text(
+            divided_bins_text(rt.alloc()),
+            "+d40 +d41 |1 0 0 1 of 2|1 of 1|1 0 0 of 1|"
         )
     );
 }

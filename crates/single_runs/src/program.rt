@@ -3,6 +3,7 @@ use crate::streams::{Failing, Full};
 use bt_rowtype::{Item, RecordLine, Texts};
 use bt_shell::{Command, Counted, Parsed, WordsError, parse_command, program, read_words};
 use std::alloc::{AllocError, Global};
+use std::fs;
 use std::rt::Files;
 use std::test::Fail;
 use std::thread::Threads;
@@ -31,8 +32,9 @@ fn said(alloc: Global, line: &str) -> Result<String, AllocError> {
 }
 
 // What a help text is to name: the options, the commands of a script, and where its language stands.
-const NAMED: [&str; 12] = [
+const NAMED: [&str; 13] = [
     "--script <FILE>",
+    "Reads the script from FILE",
     "--help",
     "\n  table F C L K name:kind ..  ",
     "\n  batch  ",
@@ -79,7 +81,7 @@ fn command_lines(rt: HostRuntime) -> Result<(), Fail> {
 // gives `run`.
 fn answer<R: Files + AllocGlobal + Threads + Sync>(
     rt: &R,
-    line: &str,
+    words: &Texts,
     calls: u32,
     room: usize,
 ) -> Result<String, AllocError> {
@@ -93,12 +95,12 @@ fn answer<R: Files + AllocGlobal + Threads + Sync>(
         taken: &mut taken,
         room,
     });
-    let mut errors = Vec::new(alloc);
-    let words = words_of(alloc, line)?;
-    let status = program(rt, &words, &mut input, &mut output, &mut errors);
+    let mut lines = Vec::new(alloc);
+    let mut errors = Counted::new(&mut lines);
+    let status = program(rt, words, &mut input, &mut output, &mut errors);
     let start = &taken[..taken.len().min(16)];
-    errors.extend_from_slice(start)?;
-    let text = String::from_utf8_lossy(alloc, errors.as_slice())?;
+    lines.extend_from_slice(start)?;
+    let text = String::from_utf8_lossy(alloc, lines.as_slice())?;
     format!(in alloc; "{status} {text}")
 }
 
@@ -108,14 +110,33 @@ fn statuses(rt: HostRuntime) -> Result<(), Fail> {
         ("", 9, 4096, "0 refused 1 Syntax"),
         ("", 1, 4096, "1 betable: read failed\n"),
         ("", 9, 7, "1 betable: write failed\nrefused"),
-        ("--script missing", 9, 0, "1 betable: read failed\n"),
         ("--workers 0", 9, 0, "2 betable: faulty command line\n"),
         ("--help", 0, 4096, "0 Runs a script of"),
         ("--help", 0, 5, "1 betable: write failed\nRuns "),
     ] {
-        let text = answer(&rt, line, calls, room)?;
+        let words = words_of(rt.alloc(), line)?;
+        let text = answer(&rt, &words, calls, room)?;
         assert_eq!(rt; text.as_str(), expected);
     }
+    Ok(())
+}
+
+#[test]
+fn scripts_in_files(rt: HostRuntime) -> Result<(), Fail> {
+    fs::write(&rt, "script", b"table 4 3 2 1 id:int qty:int\n".as_slice())?;
+    fs::write(&rt, " script", b"table 4 3 2 1 id:int\n".as_slice())?;
+    for (file, expected) in [
+        ("script", "0 table 2\n"),
+        (" script", "0 table 1\n"),
+        ("missing", "1 betable: read failed\n"),
+    ] {
+        let mut words = words_of(rt.alloc(), "--script")?;
+        words.push(file)?;
+        let text = answer(&rt, &words, 9, 4096)?;
+        assert_eq!(rt; text.as_str(), expected);
+    }
+    fs::remove_file(&rt, "script")?;
+    fs::remove_file(&rt, " script")?;
     Ok(())
 }
 

@@ -74,13 +74,15 @@ impl Write for Flushes {
     }
 }
 
-// Runs a short script over a stream of flushes.
+// The fault of a short run over a stream of flushes, and whether replies were left that no flush followed.
 fn run_over_flushes<R: AllocGlobal + Threads + Sync>(
     rt: &R,
     stream: &mut Flushes,
-) -> Result<(), RunFault> {
+) -> (Result<(), RunFault>, bool) {
     let mut reader = Counted::new(b"scan primary\ngo\n".as_slice());
-    run_script(rt, rt.alloc(), &mut reader, &mut Counted::new(stream))
+    let mut writer = Counted::new(stream);
+    let result = run_script(rt, rt.alloc(), &mut reader, &mut writer);
+    (result, writer.unflushed())
 }
 
 #[test]
@@ -89,14 +91,15 @@ fn a_flush_reaches_the_stream(rt: HostRuntime) {
         count: 0,
         fails: false,
     };
-    assert!(rt; run_over_flushes(&rt, &mut stream).is_ok());
+    let (result, unflushed) = run_over_flushes(&rt, &mut stream);
+    assert!(rt; result.is_ok() && !unflushed);
     assert_eq!(rt; stream.count, 1);
     let mut stream = Flushes {
         count: 0,
         fails: true,
     };
-    let result = run_over_flushes(&rt, &mut stream);
-    assert!(rt; matches!(&result, Err(RunFault::Write)));
+    let (result, unflushed) = run_over_flushes(&rt, &mut stream);
+    assert!(rt; matches!(&result, Err(RunFault::Write)) && unflushed);
 }
 
 // The fault of a run over such streams, what it writes, and the counts of bytes that it read and wrote.

@@ -12,7 +12,7 @@ use Rattle.bt_plan.specs.Laws.{PlacesRise, StandInHoles}
 use Rattle.bt_plan.specs.Pieces.{Holed, HoledNodes, Pieces, Place, child, childless, hole, holes, holes_below, opened, place_cmp, whole, with_holes, with_holes_below}
 use Rattle.bt_plan.proofs.offered.Cuts.{Answers, pieces-fit}
 use Rattle.bt_gather.specs.Laws.{IsFillable}
-use Rattle.bt_gather.specs.Misfits.{AreRising}
+use Rattle.bt_gather.specs.Misfits.{AreRisingPlaces}
 
 map-both : {H G : Type 0} (told : H → G) (xs ys : List H) → map told (xs ++ ys) ≡ map told xs ++ map told ys
 map-both told [] ys = refl
@@ -46,7 +46,7 @@ module _ {V M : Type 0} where
   pub cut-fillable : (effect : Option V → M → Option V) (shape : Shape) → IsRoomy shape → (c : Pieced V M) → StandInHoles shape c → PlacesRise c → (pieces : Pieces V M) →
       All (Answers effect shape pieces) c.jobs → IsFillable shape c.holed pieces
   cut-fillable effect shape roomy c stand rise pieces all = record {
-    rise = subst AreRising (sym (ap holes stand.holed ∙ holes-told hole_of stand.tree ∙ ap (map hole_of) (sym stand.jobs))) (subst T (sorted-same c.jobs) rise);
+    rise = subst AreRisingPlaces (sym (ap holes stand.holed ∙ holes-told hole_of stand.tree ∙ ap (map hole_of) (sym stand.jobs))) (subst T (sorted-same c.jobs) rise);
     levels = stand.levels;
     fits = pieces-fit effect shape roomy c stand pieces all;
   }

@@ -1,10 +1,9 @@
 -- Codes of values of the same kinds: their order, and that none begins another. The order of a table's rows stands on these.
 use Rattle.std.proofs.Common.{◌≡◌, List, [], ◌∷◌, ◌++◌, refl, ap, ◌∙◌}
 use Rattle.std.specs.Ordering.{ordering_then}
-use Rattle.bt_rowtype.specs.Values.{value_cmp, values_cmp}
+use Rattle.bt_rowtype.specs.Values.{AreInRange, IsInRange, value_cmp, values_cmp}
 use Rattle.bt_rowtype.specs.declared.value.Value.{Value}
 use Rattle.bt_rowtype.specs.declared.value.Value.TheVariants as value
-use Rattle.bt_rowtype.specs.Packing.{AreInRange, IsInRange}
 use Rattle.bt_keycode.specs.Codes.{HaveSameKinds, IsNoProperPrefix, code_of, code_of_value, kind_of}
 use Rattle.bt_keycode.specs.Keys.{key_cmp}
 use Rattle.bt_keycode.proofs.Codes.{codes_compare, flags_compare, ints_compare, no_prefix, texts_compare}

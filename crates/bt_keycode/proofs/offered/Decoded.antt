@@ -4,12 +4,11 @@ use Rattle.std.proofs.lemmas.Bool.Decides.{nat_tests}
 use Rattle.std.proofs.lemmas.Nat.{from_be_bytes-to_be_bytes_8}
 use Rattle.std.specs.Int.{from_be_bytes}
 use Rattle.std.specs.Prelude.{option_and_then, option_map}
-use Rattle.bt_rowtype.specs.Packing.{AreInRange, IsInRange}
+use Rattle.bt_rowtype.specs.Values.{AreInRange, IsInRange}
 use Rattle.bt_rowtype.specs.declared.value.Value.{Value}
 use Rattle.bt_rowtype.specs.declared.value.Value.TheVariants as value
-use Rattle.bt_keycode.specs.Codes.{code_of, code_of_value, kind_of, raised}
-use Rattle.bt_keycode.specs.Decoding.{decoded, first_value, lowered, unescaped}
-use Rattle.bt_keycode.specs.Prefixes.{eight_bytes}
+use Rattle.bt_keycode.specs.Codes.{code_of, code_of_value, eight_bytes, kind_of, raised}
+use Rattle.bt_keycode.specs.inside.Decoding.{decoded, first_value, lowered, unescaped}
 use Rattle.bt_keycode.proofs.DecodingInts.{raised_below}
 use Rattle.bt_keycode.proofs.DecodingTexts.{read_again, split_end}
 

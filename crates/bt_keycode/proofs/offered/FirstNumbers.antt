@@ -5,7 +5,8 @@ use Rattle.std.specs.Ordering.{nat_cmp, ordering_then}
 use Rattle.std.specs.declared.cmp.Ordering.{Ordering}
 use Rattle.std.specs.declared.cmp.Ordering.TheVariants.{Less, Equal, Greater}
 use Rattle.bt_keycode.specs.Keys.{Key, key_cmp}
-use Rattle.bt_keycode.specs.Prefixes.{eight_bytes, first_eight}
+use Rattle.bt_keycode.specs.Codes.{eight_bytes}
+use Rattle.bt_keycode.specs.Prefixes.{first_eight}
 use Rattle.bt_keycode.proofs.Prefixes.{numbers_decide}
 
 pub first_numbers_order : (h k : ℕ) (a b : Key) → h < 2 ^ 64 → k < 2 ^ 64 → eight_bytes h ≡ first_eight a → eight_bytes k ≡ first_eight b →

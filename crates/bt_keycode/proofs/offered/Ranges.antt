@@ -9,11 +9,10 @@ use Rattle.std.specs.Prelude.{FitsSigned, option_map}
 use Rattle.std.specs.Result.{result_err, result_ok}
 use Rattle.bt_rowtype.specs.Ints.{int_of, is_numeral, number_up_to, number_written}
 use Rattle.bt_rowtype.specs.Ops.{add_of, add_of_kind, added, after_op, after_ops, all_read, at_column, both_read, default_row, is_upsert, key_as, op_of, open_column, ops_as, ops_of, set_of, unless, upsert_as}
-use Rattle.bt_rowtype.specs.Packing.{AreInRange, IsInRange}
+use Rattle.bt_rowtype.specs.Values.{AreInRange, IsInRange, default_of, flag_of, or_refused, read_as, value_of, values_of, with_first}
 use Rattle.bt_rowtype.specs.Refusals.{least}
 use Rattle.bt_rowtype.specs.Schemas.{Schema}
 use Rattle.bt_rowtype.specs.Texts.{is_text}
-use Rattle.bt_rowtype.specs.Values.{default_of, flag_of, or_refused, read_as, value_of, values_of, with_first}
 use Rattle.bt_rowtype.specs.declared.op.Op.{Op}
 use Rattle.bt_rowtype.specs.declared.op.Op.TheVariants.{Set, Add}
 use Rattle.bt_rowtype.specs.declared.refusal.Refusal.{Refusal}

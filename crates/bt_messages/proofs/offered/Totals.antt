@@ -1,7 +1,7 @@
 -- How many messages there are: none, and in one of several lists at most as many as in all. Serves what counts them without going through them.
 use Rattle.std.proofs.Common.{◌≡◌, ◌==◌, ◌<◌, ◌≤◌, ℕ, zero, suc, Bool, true, true≢false, List, [], ◌∷◌, ◌∙◌, arith, get_or, length, refl, sym}
 use Rattle.std.proofs.Math.Dec.{eqb-suc-zero}
-use Rattle.bt_messages.specs.Bins.{total}
+use Rattle.bt_messages.specs.Parts.{total}
 use Rattle.bt_messages.specs.Messages.{Messages}
 
 pub nothing_pending : {M : Type 0} (ms : Messages M) (empty : Bool) → empty ≡ (length ms == 0) → empty ≡ true → ms ≡ []

@@ -9,6 +9,7 @@ pub mod Laws
 pub mod NodeSizes
 pub mod Passes
 pub mod Recursion
+pub mod Regrouped
 pub mod RowsKept
 pub mod Shares
 pub mod ValuesKept

@@ -1,7 +1,7 @@
 -- Keys that are looked up together.
 use Rattle.std.specs.Prelude.{◌≡◌, ℕ, suc, cond, List, [], ◌∷◌, map, Option}
 use Rattle.bt_keycode.specs.Keys.{Key, is_between}
-use Rattle.bt_node.specs.Lookups.{pivots_up_to, value_at}
+use Rattle.bt_node.specs.inside.Lookups.{pivots_up_to, value_at}
 use Rattle.bt_node.specs.Messages.{Messages, value_after}
 use Rattle.bt_node.specs.Trees.{Tree}
 

@@ -20,8 +20,8 @@ use Rattle.bt_plan.proofs.Fits.{cut-fits}
 use Rattle.bt_plan.proofs.Found.{all-stand, filled-standing}
 use Rattle.bt_plan.proofs.Holes.{Somewhere, each-asked, told-fits}
 use Rattle.bt_plan.proofs.Places.{cut-rises}
--- children in their places, divided again from their pivots and all that is pending for them
-pub use Rattle.bt_plan.proofs.Marks.{lies-divides}
+-- children side by side, and what is pending for them
+pub use Rattle.bt_plan.proofs.Marks.{all_pending-none, lies-divided, stripped-none}
 -- trees in pieces whose holes tell something else
 pub use Rattle.bt_plan.proofs.Found.{filled-as}
 pub use Rattle.bt_plan.proofs.Holes.{bins-long, told-fits}

@@ -4,8 +4,7 @@ use Rattle.std.proofs.lemmas.Bool.{cases_Bool, le-leb, leb-true, lt-leb}
 use Rattle.std.specs.Prelude.{IsUtf8}
 use Rattle.std.specs.Str.{is_utf8}
 use Rattle.std.proofs.lemmas.Str.{IsUtf8-nil, is_utf8-from_IsUtf8, IsUtf8-from_is_utf8}
-use Rattle.bt_rowtype.specs.Limits.{longest_text}
-use Rattle.bt_rowtype.specs.Texts.{is_text}
+use Rattle.bt_rowtype.specs.Texts.{is_text, longest_text}
 
 and_true : (b : Bool) → b ≡ (b && true)
 and_true true = refl

@@ -9,6 +9,7 @@ use Rattle.bt_rowtype.specs.declared.refusal.Refusal.{Refusal}
 use Rattle.bt_rowtype.specs.declared.refusal.Refusal.TheVariants.{AlreadyComplete, NoSuchTree}
 use Rattle.bt_rowtype.specs.declared.value.Value.{Value}
 use Rattle.bt_rowtype.specs.Values.{or_refused}
+use Rattle.bt_rowtype.specs.Ops.{unless}
 use Rattle.bt_keycode.specs.Codes.{code_of}
 use Rattle.bt_keycode.specs.Keys.{key_cmp}
 use Rattle.bt_node.specs.Fits.{IsRoomy}
@@ -21,9 +22,9 @@ use Rattle.bt_load.proofs.offered.Loaded.{loaded-of}
 use Rattle.bt_load.specs.Standing.{AreOf}
 use Rattle.bt_table.proofs.Loads.{map_of-sorted, map_of-stand}
 use Rattle.bt_table.specs.Batches.{and_then, batch_refusals, made, messages_of, read_key}
-use Rattle.bt_table.specs.Calls.{after_build, after_load, built, Call, Apply, BuildStep, CreateIndex, Drain, DropIndex, Get, Load, Rebuild, Upkeep, Draining, Rebuilding, dropped, is_bare, is_primary, load_refusals, name_refusals, sent_counts, step, unless, unless_by, with_index, with_renewed, with_renewed_index, with_renewed_rows}
+use Rattle.bt_table.specs.Calls.{after_build, after_load, built, Call, Apply, BuildStep, CreateIndex, Drain, DropIndex, Get, Load, Rebuild, Upkeep, Draining, Rebuilding, dropped, is_bare, is_primary, load_refusals, name_refusals, sent_counts, step, unless_any, with_index, with_renewed, with_renewed_index, with_renewed_rows}
 use Rattle.bt_table.specs.Indexes.{index_named, is_complete}
-use Rattle.bt_table.specs.Standing.{AreSoundIndexes, HoldsSelection, IsSound, IsSoundTable, Suits}
+use Rattle.bt_table.specs.Standing.{AreSoundIndexes, CompleteIndexesHold, HoldsSelection, IsSound, IsSoundTable, IsSoundUnlessLost, Suits}
 use Rattle.bt_table.specs.Tables.{PlainTable, TableState, Intact, Lost, after_batch, empty_table}
 use Rattle.bt_table.specs.declared.reply.Reply.{Reply}
 use Rattle.bt_table.specs.declared.reply.Reply.TheVariants.{Batch, Created, Drained, Rebuilt, Row}
@@ -44,7 +45,7 @@ empty_is_sound schema shape few roomy = record {
 pub shape_is_roomy : (shape : Shape) → is_shape shape.fanout shape.buffer shape.leaf ≡ true → IsRoomy shape
 shape_is_roomy shape test = record { fanout = grind (arith, nat_tests); leaf = grind (arith, nat_tests) }
 
-when_allowed : (refusal : Option Refusal) (table : PlainTable) (reply : Reply) → IsSoundTable table → IfOk (unless_by refusal (Intact table, reply)) (λ (after : TableState × Reply). IsSound after.0)
+when_allowed : (refusal : Option Refusal) (table : PlainTable) (reply : Reply) → IsSoundTable table → IfOk (unless refusal (Intact table, reply)) (λ (after : TableState × Reply). IsSound after.0)
 when_allowed (Some refusal) table reply sound = tt
 when_allowed None table reply sound = sound
 
@@ -64,13 +65,13 @@ map_keeps_sound table rows (Ok map) is fit complete sound =
     with_rows-sound table map (map_of-stand table.schema rows map fit is) (map_of-sorted table.schema.keys rows map is) complete sound
 
 allowed_keeps_sound : (table : PlainTable) (rows : List (List Value)) (refusal : Option Refusal) → least (load_refusals table.indexes table.tree) ≡ refusal → AreOf table.schema.columns rows
-    → IsSoundTable table → IfOk (made (after_load table) (and_then (map_of table.schema.keys) (unless_by refusal rows))) (λ (after : TableState × Reply). IsSound after.0)
+    → IsSoundTable table → IfOk (made (after_load table) (and_then (map_of table.schema.keys) (unless refusal rows))) (λ (after : TableState × Reply). IsSound after.0)
 allowed_keeps_sound table rows (Some refusal) is fit sound = tt
 allowed_keeps_sound table rows None is fit sound =
     map_keeps_sound table rows (map_of table.schema.keys rows) refl fit (none_building (list_all is_complete table.indexes) (is_bare table.tree) is) sound
 
 load_keeps_sound : (table : PlainTable) (text : List ℕ) (read : Result (List (List Value)) Refusal) → loaded table.schema.columns text ≡ read → IsSoundTable table
-    → IfOk (made (after_load table) (and_then (map_of table.schema.keys) (and_then (unless (load_refusals table.indexes table.tree)) read))) (λ (after : TableState × Reply). IsSound after.0)
+    → IfOk (made (after_load table) (and_then (map_of table.schema.keys) (and_then (unless_any (load_refusals table.indexes table.tree)) read))) (λ (after : TableState × Reply). IsSound after.0)
 load_keeps_sound table text (Err refusal) is sound = tt
 load_keeps_sound table text (Ok rows) is sound =
     allowed_keeps_sound table rows (least (load_refusals table.indexes table.tree)) refl (loaded-of table.schema.columns text rows is) sound
@@ -132,3 +133,13 @@ complete_indexes_hold table sound = each table.indexes sound.indexes
     each [] sound = all_none (HoldsSelection table.rows)
     each (index ∷ indexes) sound =
         all_more (HoldsSelection table.rows) index indexes (holds_selection table.schema table.shape table.rows index sound.0) (each indexes sound.1)
+
+-- the same of a table that may be lost
+pub unless_lost_hold : (state : TableState) → IsSoundUnlessLost state → CompleteIndexesHold state
+unless_lost_hold (Intact table) sound = complete_indexes_hold table sound
+unless_lost_hold Lost sound = tt
+
+-- and of one that is sound
+pub sound_hold : (state : TableState) → IsSound state → CompleteIndexesHold state
+sound_hold (Intact table) sound = complete_indexes_hold table sound
+sound_hold Lost sound = absurd sound

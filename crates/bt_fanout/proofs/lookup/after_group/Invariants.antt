@@ -1,6 +1,6 @@
 use Rattle.std.proofs.Common.{◌≡◌, length}
 use Rattle.bt_fanout.specs.Effects.{row_effect}
-use Rattle.bt_fanout.specs.Groups.{behind_group, value_of_group}
+use Rattle.bt_fanout.specs.inside.Groups.{behind_group, value_of_group}
 use Rattle.bt_fanout.proofs.lookup.after_group.Given as goal
 
 abbrev pub invariant-loop-at : goal.invariant-loop-at

@@ -1,5 +1,5 @@
 use Rattle.std.proofs.Common.{◌≡◌, length}
-use Rattle.bt_fanout.specs.Groups.{behind_group}
+use Rattle.bt_fanout.specs.inside.Groups.{behind_group}
 use Rattle.bt_fanout.proofs.lookup.behind.Given as goal
 
 abbrev pub invariant-loop-at : goal.invariant-loop-at

@@ -4,7 +4,7 @@ use Rattle.std.specs.FinMap.{find}
 use Rattle.bt_keycode.specs.Keys.{key_cmp}
 use Rattle.bt_node.specs.Flushes.{holds}
 use Rattle.bt_fanout.specs.Effects.{row_effect}
-use Rattle.bt_fanout.specs.Groups.{value_of_group, with_next}
+use Rattle.bt_fanout.specs.inside.Groups.{value_of_group, with_next}
 use Rattle.bt_fanout.specs.Selections.{named}
 use Rattle.bt_fanout.proofs.Groups.{at_end, fewer_left, one_found, one_group, same_found, some_found}
 use Rattle.bt_fanout.proofs.lookup.effects.Goals as goal

@@ -4,7 +4,7 @@ use Rattle.std.specs.Vec.Iter.{into_iter_items}
 use Rattle.bt_keycode.specs.Keys.{IsSorted, key_cmp}
 use Rattle.bt_node.specs.Flushes.{holds}
 use Rattle.bt_fanout.specs.Effects.{effects_of, row_effect}
-use Rattle.bt_fanout.specs.Groups.{with_next}
+use Rattle.bt_fanout.specs.inside.Groups.{with_next}
 use Rattle.bt_fanout.specs.Selections.{named}
 use Rattle.bt_fanout.proofs.lookup.effects.Given as goal
 

@@ -1,5 +1,5 @@
 use Rattle.std.proofs.Common.{rules, ap, option_map, refl}
-use Rattle.bt_fanout.specs.Groups.{with_next}
+use Rattle.bt_fanout.specs.inside.Groups.{with_next}
 use Rattle.bt_fanout.proofs.Groups.{fewer_left, one_key}
 use Rattle.bt_fanout.proofs.lookup.named_keys.Goals as goal
 

@@ -1,6 +1,6 @@
 use Rattle.std.proofs.Common.{◌≡◌, ◌++◌, length, map, option_map}
 use Rattle.bt_keycode.specs.Keys.{IsSorted}
-use Rattle.bt_fanout.specs.Groups.{with_next}
+use Rattle.bt_fanout.specs.inside.Groups.{with_next}
 use Rattle.bt_fanout.specs.Selections.{named}
 use Rattle.bt_fanout.proofs.lookup.named_keys.Given as goal
 

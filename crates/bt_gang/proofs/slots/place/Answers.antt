@@ -1,6 +1,6 @@
 use Rattle.std.proofs.Common.{◌≡◌, ◌∙◌, [], length, ap, sym, subst, arith}
 use Rattle.std.proofs.lemmas.List.{nil_from_length}
-use Rattle.bt_gang.specs.Answers.{AllBelow, puts}
+use Rattle.bt_gang.specs.inside.Places.{AllBelow, puts}
 use Rattle.bt_gang.proofs.slots.place.Goals as goal
 
 pub put-requires : goal.put-requires

@@ -1,6 +1,6 @@
 use Rattle.std.proofs.Common.{◌≡◌, length}
 use Rattle.std.specs.Vec.Iter.{into_iter_items}
-use Rattle.bt_gang.specs.Answers.{AllBelow, puts}
+use Rattle.bt_gang.specs.inside.Places.{AllBelow, puts}
 use Rattle.bt_gang.proofs.slots.place.Given as goal
 
 abbrev pub invariant-loop-answer : goal.invariant-loop-answer

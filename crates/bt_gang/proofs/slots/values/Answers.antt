@@ -1,6 +1,6 @@
 use Rattle.std.proofs.Common.{◌≡◌, ◌∙◌, ◌++◌, ap, append-nil, arith, rules, length, length-append, Some, Ok, [], ◌∷◌}
 use Rattle.std.proofs.lemmas.List.{nil_from_length}
-use Rattle.bt_gang.specs.Answers.{ok_slots}
+use Rattle.bt_gang.specs.inside.Places.{ok_slots}
 use Rattle.bt_gang.proofs.Placing.{step_ok, none_at}
 use Rattle.bt_gang.proofs.slots.values.Goals as goal
 

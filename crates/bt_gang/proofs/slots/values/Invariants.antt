@@ -1,6 +1,6 @@
 use Rattle.std.proofs.Common.{◌≡◌, ◌++◌, ◌+◌, ◌≤◌, length, vec_len, vec_capacity}
 use Rattle.std.specs.Vec.Iter.{into_iter_items, into_iter_len}
-use Rattle.bt_gang.specs.Answers.{ok_slots}
+use Rattle.bt_gang.specs.inside.Places.{ok_slots}
 use Rattle.bt_gang.proofs.slots.values.Given as goal
 
 abbrev pub invariant-loop-slot : goal.invariant-loop-slot

@@ -1,27 +1,39 @@
-use Rattle.std.proofs.Common.{◌≡◌, [], None, Some, IfSome, sym, subst, rules}
-use Rattle.std.proofs.lemmas.List.Elements.{All-head, All-push, All-rest, All-same}
+use Rattle.std.proofs.Common.{◌+◌, ℕ, [], Option, None, Some, IfSome, length, vec_len, ap, subst, rules, arith}
 use Rattle.std.specs.declared.thread.PromisedHandle.{PromisedHandle}
 use Rattle.bt_gang.specs.declared.workers.Worker.{Worker}
 use Rattle.bt_gang.specs.declared.workers.GivesBack.{GivesBack}
-use Rattle.bt_gang.specs.Workers.{HasServed}
+use Rattle.bt_gang.specs.inside.Workers.{HasServed, IsPromise}
+use Rattle.bt_gang.proofs.Working.{from_more, from_next, from_none, from_same, promised}
 use Rattle.bt_gang.proofs.workers.join_all.Goals as goal
+
+pub loop-child-init : goal.loop-child-init
+loop-child-init g c =
+    let empty = c.requires.room.0 in
+    let given = c.into_iter-child-iterator.ensures.into_iter_gives in
+    let H : ℕ → Option (PromisedHandle (Worker g.row.W-Job.Denot g.row.W-Done.Denot g.row.W-Fault.Denot) (GivesBack g.row.W.Denot g.row.W-Job.Denot g.row.W-Done.Denot g.row.W-Fault.Denot)) → Type 0 =
+    λ number child. IfSome child (λ h. IsPromise c.args.work.now c.args.jobs.now c.args.all.now.value.items number h.promise) in
+    let Q : ℕ → Option (Worker g.row.W-Job.Denot g.row.W-Done.Denot g.row.W-Fault.Denot) → Type 0 = λ number w. IfSome w (HasServed (g.W.Work.allows c.args.work.now) c.args.jobs.now c.args.all.now.value.items [] number) in
+    record {
+      children = from_same H _ _ _ _ given.0 (omega (arith, c.args.back.ok.0, ap length empty)) c.requires.children;
+      back = from_none Q 1 c.args.back.items empty;
+      count = omega (arith, c.args.back.ok.0, ap length empty, given.1);
+      room = c.requires.room.1;
+    }
 
 pub loop-child-preserved-in-Some-child : goal.loop-child-preserved-in-Some-child
 loop-child-preserved-in-Some-child g c =
     let i = c.loop-child.invariant in
-    let s = c.in-Some.ensures.steps in
-    let jobs = c.args.jobs.now in
-    let H : PromisedHandle (Worker g.row.W-Job.Denot g.row.W-Done.Denot g.row.W-Fault.Denot) (GivesBack g.row.W.Denot g.row.W-Job.Denot g.row.W-Done.Denot g.row.W-Fault.Denot) → Type 0 = λ h. (h.promise.jobs.value ≡ jobs) × (h.promise.work.value ≡ c.args.work.now) × (h.promise.all.value ≡ c.args.all.now) in
-    let Q : Worker g.row.W-Job.Denot g.row.W-Done.Denot g.row.W-Fault.Denot → Type 0 = λ w. HasServed (g.W.Work.allows c.args.work.now) jobs c.args.all.now.value.items [] w in
-    let first : IfSome c.in-Some.child H = All-head (λ o. IfSome o H) c.in-Some.child _ (All-same (λ o. IfSome o H) _ _ (sym s.0) i.children) in
-    let promised : H c.in-Some-child.child = subst (λ o. IfSome o H) c.in-Some-child.is first in
-    let p = c.in-Some-child.child.promise in
-    let third : HasServed (g.W.Work.allows p.work.value) jobs p.all.value.value.items [] c.join.result = subst (λ b. HasServed (g.W.Work.allows p.work.value) b p.all.value.value.items [] c.join.result) promised.0 c.join.ensures in
-    let half : HasServed (g.W.Work.allows p.work.value) jobs c.args.all.now.value.items [] c.join.result = subst (λ a. HasServed (g.W.Work.allows p.work.value) jobs a.value.items [] c.join.result) promised.2 third in
-    let one : Q c.join.result = subst (λ w. HasServed (g.W.Work.allows w) jobs c.args.all.now.value.items [] c.join.result) promised.1 half in
+    let H : ℕ → Option (PromisedHandle (Worker g.row.W-Job.Denot g.row.W-Done.Denot g.row.W-Fault.Denot) (GivesBack g.row.W.Denot g.row.W-Job.Denot g.row.W-Done.Denot g.row.W-Fault.Denot)) → Type 0 =
+    λ number child. IfSome child (λ h. IsPromise c.args.work.now c.args.jobs.now c.args.all.now.value.items number h.promise) in
+    let Q : ℕ → Option (Worker g.row.W-Job.Denot g.row.W-Done.Denot g.row.W-Fault.Denot) → Type 0 = λ number w. IfSome w (HasServed (g.W.Work.allows c.args.work.now) c.args.jobs.now c.args.all.now.value.items [] number) in
+    let more = c.push_reserved.ensures in
+    let both = from_next H _ (1 + vec_len c.push_reserved.new.self) _ _ _ c.in-Some.ensures.steps.0 (omega (arith, more.len)) i.children in
+    let number = 1 + vec_len c.loop-child.back in
+    let is : H number (Some c.in-Some-child.child) = subst (H number) c.in-Some-child.is both.0 in
+    let one : Q number (Some c.join.result) = promised g.W.Work.allows c.args.work.now c.args.jobs.now c.args.all.now.value.items number c.in-Some-child.child.promise c.join.result is c.join.ensures in
     record {
-      children = All-rest (λ o. IfSome o H) c.in-Some.child _ _ s.0 i.children;
-      back = All-same (λ o. IfSome o Q) _ _ c.push_reserved.ensures.items (All-push (λ o. IfSome o Q) c.loop-child.back.items (Some c.join.result) i.back one);
+      children = both.1;
+      back = from_more Q 1 number c.loop-child.back.items _ (Some c.join.result) more.items (ap (λ k. 1 + k) c.loop-child.back.ok.0) i.back one;
       count = search rules;
       room = search rules;
     }
@@ -29,13 +41,14 @@ loop-child-preserved-in-Some-child g c =
 pub loop-child-preserved : goal.loop-child-preserved
 loop-child-preserved g c =
     let i = c.loop-child.invariant in
-    let s = c.in-Some.ensures.steps in
-    let jobs = c.args.jobs.now in
-    let H : PromisedHandle (Worker g.row.W-Job.Denot g.row.W-Done.Denot g.row.W-Fault.Denot) (GivesBack g.row.W.Denot g.row.W-Job.Denot g.row.W-Done.Denot g.row.W-Fault.Denot) → Type 0 = λ h. (h.promise.jobs.value ≡ jobs) × (h.promise.work.value ≡ c.args.work.now) × (h.promise.all.value ≡ c.args.all.now) in
-    let Q : Worker g.row.W-Job.Denot g.row.W-Done.Denot g.row.W-Fault.Denot → Type 0 = λ w. HasServed (g.W.Work.allows c.args.work.now) jobs c.args.all.now.value.items [] w in
+    let H : ℕ → Option (PromisedHandle (Worker g.row.W-Job.Denot g.row.W-Done.Denot g.row.W-Fault.Denot) (GivesBack g.row.W.Denot g.row.W-Job.Denot g.row.W-Done.Denot g.row.W-Fault.Denot)) → Type 0 =
+    λ number child. IfSome child (λ h. IsPromise c.args.work.now c.args.jobs.now c.args.all.now.value.items number h.promise) in
+    let Q : ℕ → Option (Worker g.row.W-Job.Denot g.row.W-Done.Denot g.row.W-Fault.Denot) → Type 0 = λ number w. IfSome w (HasServed (g.W.Work.allows c.args.work.now) c.args.jobs.now c.args.all.now.value.items [] number) in
+    let more = c.push_reserved-in-None-child.ensures in
+    let both = from_next H _ (1 + vec_len c.push_reserved-in-None-child.new.self) _ _ _ c.in-Some.ensures.steps.0 (omega (arith, more.len)) i.children in
     record {
-      children = All-rest (λ o. IfSome o H) c.in-Some.child _ _ s.0 i.children;
-      back = All-same (λ o. IfSome o Q) _ _ c.push_reserved-in-None-child.ensures.items (All-push (λ o. IfSome o Q) c.loop-child.back.items None i.back tt);
+      children = both.1;
+      back = from_more Q 1 (1 + vec_len c.loop-child.back) c.loop-child.back.items _ None more.items (ap (λ k. 1 + k) c.loop-child.back.ok.0) i.back tt;
       count = search rules;
       room = search rules;
     }

@@ -1,11 +1,12 @@
-use Rattle.std.proofs.Common.{◌≡◌, ◌+◌, ◌<◌, ℕ, [], length, vec_len, sym, ap, subst, rules, arith}
-use Rattle.std.proofs.lemmas.List.Elements.{All-head, All-nil, All-push, All-rest, All-same}
+use Rattle.std.proofs.Common.{◌≡◌, ◌+◌, ◌<◌, ℕ, suc, [], length, vec_len, sym, ap, subst, rules, arith}
+use Rattle.std.proofs.lemmas.List.Elements.{All-head, All-rest, All-same}
 use Rattle.crossbeam_queue.specs.Passes.{view}
 use Rattle.bt_gang.specs.declared.answers.Answers.{Answers}
 use Rattle.bt_gang.specs.declared.workers.Worker.{Worker}
-use Rattle.bt_gang.specs.Workers.{IsCaller, IsReady}
+use Rattle.bt_gang.specs.Crews.{most_workers}
+use Rattle.bt_gang.specs.inside.Workers.{IsCaller, IsReady}
 use Rattle.bt_gang.proofs.Rules.{forks}
-use Rattle.bt_gang.proofs.Working.{caller_first, caller_next}
+use Rattle.bt_gang.proofs.Working.{caller_first, caller_next, from_more, from_none}
 use Rattle.bt_gang.proofs.workers.split.Goals as goal
 
 all_split : (made left outs : ℕ) → made + left ≡ outs → left ≡ 0 → made ≡ outs
@@ -21,7 +22,7 @@ loop-out-init g c =
     let empty = c.requires.room.0 in
     let zero : vec_len c.args.workers ≡ 0 = omega (arith, ap length empty, c.args.workers.ok.0) in
     let P : Answers g.row.D.Denot g.row.F.Denot → Type 0 = λ a. (a.list.items ≡ []) × (a.spare ≡ length all) in
-    let Q : Worker g.row.J.Denot g.row.D.Denot g.row.F.Denot → Type 0 = λ w. IsReady c.args.jobs.now all [] w in
+    let Q : ℕ → Worker g.row.J.Denot g.row.D.Denot g.row.F.Denot → Type 0 = IsReady c.args.jobs.now all [] in
     record {
       pass = c.requires.pass.0;
       caller = subst (λ k. IsCaller all k (view c.args.pass.now)) (sym zero) (caller_first all _ c.requires.pass.1);
@@ -29,11 +30,11 @@ loop-out-init g c =
       count = counted _ _ _ zero given.1;
       few = c.requires.room.1;
       room = c.requires.room.2;
-      each = All-same Q _ _ empty (All-nil Q);
+      each = from_none Q 1 c.args.workers.items empty;
     }
 
 pub another-theirs-requires-clause-rule : goal.another-theirs-requires-clause-rule
-another-theirs-requires-clause-rule g c = forks 64 _ _
+another-theirs-requires-clause-rule g c = forks most_workers _ _
 
 pub loop-out-preserved : goal.loop-out-preserved
 loop-out-preserved g c =
@@ -41,11 +42,12 @@ loop-out-preserved g c =
     let s = c.in-Some.ensures.steps in
     let all = c.args.all.now.value.items in
     let P : Answers g.row.D.Denot g.row.F.Denot → Type 0 = λ a. (a.list.items ≡ []) × (a.spare ≡ length all) in
-    let Q : Worker g.row.J.Denot g.row.D.Denot g.row.F.Denot → Type 0 = λ w. IsReady c.args.jobs.now all [] w in
-    let few : vec_len c.loop-out.workers < 63 = omega (arith, i.count, i.few, s.1) in
+    let Q : ℕ → Worker g.row.J.Denot g.row.D.Denot g.row.F.Denot → Type 0 = IsReady c.args.jobs.now all [] in
+    let few : suc (vec_len c.loop-out.workers) < most_workers = omega (arith, i.count, i.few, s.1) in
     let n = caller_next all _ _ (view c.loop-out.pass) _ _ i.caller few c.push_reserved.ensures.len c.another-theirs.ensures.rule.0 c.another-theirs.ensures.rule.1 in
     let one : P c.in-Some.out = All-head P c.in-Some.out _ (All-same P _ _ (sym s.0) i.outs) in
-    let ready : Q (record { pass = c.another-theirs.result; out = c.in-Some.out }) = record { pass = c.another-theirs.ensures.queue.1; number = n.1.0; knows = n.1.1; list = one.0; spare = one.1 } in
+    let ready : Q (vec_len c.push_reserved.new.self) (record { number = c.len-number.result + 1; pass = c.another-theirs.result; out = c.in-Some.out }) =
+    record { is = omega (arith, c.len-number.ensures, c.push_reserved.ensures.len); pass = c.another-theirs.ensures.queue.1; knows = n.1; list = one.0; spare = one.1 } in
     record {
       pass = search rules;
       caller = n.0;
@@ -53,7 +55,7 @@ loop-out-preserved g c =
       count = search rules;
       few = i.few;
       room = search rules;
-      each = All-same Q _ _ c.push_reserved.ensures.items (All-push Q c.loop-out.workers.items _ i.each ready);
+      each = from_more Q 1 (vec_len c.push_reserved.new.self) c.loop-out.workers.items _ _ c.push_reserved.ensures.items (omega (arith, c.push_reserved.ensures.len, c.loop-out.workers.ok.0)) i.each ready;
     }
 
 pub returns-clause-pass : goal.returns-clause-pass

@@ -1,7 +1,8 @@
 use Rattle.std.proofs.Common.{◌≡◌, ◌+◌, ◌<◌, ◌≤◌, [], All, length, vec_len, vec_capacity}
 use Rattle.std.specs.Vec.Iter.{into_iter_items, into_iter_len}
 use Rattle.crossbeam_queue.specs.Passes.{view, IsPassOf}
-use Rattle.bt_gang.specs.Workers.{IsCaller, IsReady}
+use Rattle.bt_gang.specs.Crews.{most_workers}
+use Rattle.bt_gang.specs.inside.Workers.{AllFrom, IsCaller, IsReady}
 use Rattle.bt_gang.proofs.workers.split.Given as goal
 
 abbrev pub invariant-loop-out : goal.invariant-loop-out
@@ -10,7 +11,7 @@ invariant-loop-out g l = record {
   caller : IsCaller l.all.value.items (vec_len l.workers) (view l.pass);
   outs : All (λ a. (a.list.items ≡ []) × (a.spare ≡ length l.all.value.items)) (into_iter_items l.out-iterator);
   count : vec_len l.workers + into_iter_len l.out-iterator ≡ vec_len l.fn.outs;
-  few : vec_len l.fn.outs < 64;
+  few : vec_len l.fn.outs < most_workers;
   room : vec_len l.fn.outs ≤ vec_capacity l.workers;
-  each : All (λ w. IsReady l.jobs l.all.value.items [] w) l.workers.items;
+  each : AllFrom (IsReady l.jobs l.all.value.items []) 1 l.workers.items;
 }

@@ -2,7 +2,7 @@ use Rattle.std.proofs.Common.{◌≡◌, rules, subst, sym, take}
 use Rattle.bt_rowtype.proofs.offered.Texts.{no_text, short_text}
 use Rattle.bt_rowtype.specs.declared.value.Kind.TheVariants as kind
 use Rattle.bt_rowtype.specs.declared.value.Value.TheVariants as value
-use Rattle.bt_keycode.specs.Decoding.{BeginsWith}
+use Rattle.bt_keycode.specs.inside.Decoding.{BeginsWith}
 use Rattle.bt_keycode.proofs.Decoding.{no_code, no_text_code, part_bound, text_found}
 use Rattle.bt_keycode.proofs.decoder.read_text.Goals as goal
 

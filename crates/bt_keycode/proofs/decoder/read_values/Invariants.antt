@@ -1,5 +1,5 @@
 use Rattle.std.proofs.Common.{take}
-use Rattle.bt_keycode.specs.Decoding.{BeginsWithAll}
+use Rattle.bt_keycode.specs.inside.Decoding.{BeginsWithAll}
 use Rattle.bt_keycode.proofs.decoder.read_values.Given as goal
 
 -- the values so far are those of the kinds so far, and the bytes that are left come after them

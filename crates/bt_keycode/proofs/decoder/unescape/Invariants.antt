@@ -1,5 +1,5 @@
 use Rattle.std.proofs.Common.{◌≡◌, ◌≤◌, length, take}
-use Rattle.bt_keycode.specs.Decoding.{after_bytes, unescaped}
+use Rattle.bt_keycode.specs.inside.Decoding.{after_bytes, unescaped}
 use Rattle.bt_keycode.proofs.decoder.unescape.Given as goal
 
 -- the bytes read so far, and what is read of those that are left, are what is read of all

@@ -1,6 +1,6 @@
 use Rattle.std.proofs.Common.{ℕ, ◌<◌, ◌∷◌, [], List, get_or, rules, refl}
 use Rattle.std.proofs.lemmas.Nat.{be_bytes_8}
-use Rattle.bt_keycode.specs.Prefixes.{eight_bytes}
+use Rattle.bt_keycode.specs.Codes.{eight_bytes}
 use Rattle.bt_keycode.proofs.Paddings.{are_small, first_eight-places}
 use Rattle.bt_keycode.proofs.key.prefix_of.Goals as goal
 

@@ -1,6 +1,6 @@
 use Rattle.std.proofs.Common.{arith, ◌≡◌, ◌∙◌, ◌+◌, [], get_or, sym, ap, subst, true≢false, Some}
 use Rattle.std.proofs.lemmas.List.{get_or_default}
-use Rattle.bt_load.specs.Sorts.{IsFirstRepeat, Repeats, at}
+use Rattle.bt_load.specs.inside.Sorts.{IsFirstRepeat, Repeats, at}
 use Rattle.bt_load.specs.declared.placed.Placed.{Placed}
 use Rattle.bt_load.proofs.Repeats.{one_more_repeats, one_more_stays}
 use Rattle.bt_load.proofs.placed.first_repeat.Goals.{then-repeats, else-repeats}

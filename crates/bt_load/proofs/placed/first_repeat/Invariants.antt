@@ -1,4 +1,4 @@
-use Rattle.bt_load.specs.Sorts.{IsFirstRepeat}
+use Rattle.bt_load.specs.inside.Sorts.{IsFirstRepeat}
 use Rattle.bt_load.proofs.placed.first_repeat.Given as goal
 
 abbrev pub invariant-loop-next : goal.invariant-loop-next

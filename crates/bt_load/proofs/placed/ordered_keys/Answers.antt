@@ -1,7 +1,7 @@
 use Rattle.std.proofs.Common.{rules, arith, length, Some, None}
 use Rattle.std.proofs.lemmas.List.Sorted.{length_permutation}
 use Rattle.std.specs.List.Sorted.{IsPermutation}
-use Rattle.bt_load.specs.Sorts.{IsFirstRepeat, placed_from}
+use Rattle.bt_load.specs.inside.Sorts.{IsFirstRepeat, placed_from}
 use Rattle.bt_load.proofs.Repeats.{length-placed_from, repeat_refused, repeat_within, rises}
 use Rattle.bt_load.proofs.placed.ordered_keys.Goals as goal
 

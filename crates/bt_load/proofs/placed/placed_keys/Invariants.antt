@@ -1,5 +1,5 @@
 use Rattle.std.proofs.Common.{◌≡◌, ◌++◌, drop}
-use Rattle.bt_load.specs.Sorts.{placed_from}
+use Rattle.bt_load.specs.inside.Sorts.{placed_from}
 use Rattle.bt_load.proofs.placed.placed_keys.Given as goal
 
 -- the keys so far stand before those of the rows that are left

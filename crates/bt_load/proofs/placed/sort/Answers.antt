@@ -1,7 +1,7 @@
 use Rattle.std.proofs.Common.{◌≡◌, ◌∙◌, ap, length, rules, subst, sym}
 use Rattle.std.proofs.lemmas.List.Sorted.{answers_always}
 use Rattle.std.specs.List.Sorted.{IsSorted}
-use Rattle.bt_load.specs.Sorts.{placed_cmp}
+use Rattle.bt_load.specs.inside.Sorts.{placed_cmp}
 use Rattle.bt_load.proofs.Orders.{placed_before, placed_ranks, written_back}
 use Rattle.bt_load.proofs.placed.sort.Goals as goal
 

@@ -1,6 +1,6 @@
 use Rattle.std.proofs.Common.{rules, arith, ◌≡◌, ◌∷◌, ◌++◌, List, map, subst, ap, ◌∙◌}
 use Rattle.std.proofs.lemmas.Grind.{common_steps}
-use Rattle.bt_load.specs.Sorts.{pair_at}
+use Rattle.bt_load.specs.inside.Sorts.{pair_at}
 use Rattle.bt_load.specs.declared.placed.Placed.{Placed}
 use Rattle.bt_load.proofs.Places.{AreLeft, all_left, all_taken, first_within, others_left, taken_is, taken_more}
 use Rattle.bt_load.proofs.placed.with_rows.Goals as goal

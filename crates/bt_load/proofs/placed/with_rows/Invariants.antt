@@ -1,5 +1,5 @@
 use Rattle.std.proofs.Common.{◌≡◌, ◌++◌, map}
-use Rattle.bt_load.specs.Sorts.{pair_at}
+use Rattle.bt_load.specs.inside.Sorts.{pair_at}
 use Rattle.bt_load.proofs.Places.{AreLeft}
 use Rattle.bt_load.proofs.placed.with_rows.Given as goal
 

@@ -1,5 +1,5 @@
 use Rattle.std.proofs.Common.{◌∙◌, Ok, ap, subst, sym}
-use Rattle.bt_load.specs.Typed.{HaveValues}
+use Rattle.bt_load.specs.inside.Typed.{HaveValues}
 use Rattle.bt_load.proofs.Typed.{all_finish, all_rows}
 use Rattle.bt_load.proofs.read.read_lines.Goals as goal
 

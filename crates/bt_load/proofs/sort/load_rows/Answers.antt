@@ -1,7 +1,7 @@
 use Rattle.std.proofs.Common.{rules, length}
 use Rattle.std.specs.List.{AllAdjacentBelow}
 use Rattle.std.specs.List.Sorted.{IsPermutation}
-use Rattle.bt_load.specs.Sorts.{IsKeyBelow, placed_from}
+use Rattle.bt_load.specs.inside.Sorts.{IsKeyBelow, placed_from}
 use Rattle.bt_load.proofs.Maps.{is_true, sorted_is_map}
 use Rattle.bt_load.proofs.Places.{moved-once, moved-past}
 use Rattle.bt_load.proofs.Repeats.{pairs_are, pairs_rise}

@@ -1,6 +1,6 @@
 use Rattle.std.proofs.Common.{◌<◌, ◌++◌, ◌∙◌, ap, arith, length, rules, subst, sym}
 use Rattle.bt_messages.specs.Bins.{joined}
-use Rattle.bt_messages.specs.Runs.{AreSome}
+use Rattle.bt_messages.specs.inside.Runs.{AreSome}
 use Rattle.bt_messages.proofs.RunLists.{joined-push, some-push}
 use Rattle.bt_messages.proofs.runs.add_run.Goals as goal
 

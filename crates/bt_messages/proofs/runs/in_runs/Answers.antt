@@ -2,7 +2,7 @@ use Rattle.std.proofs.Common.{◌≡◌, ◌∷◌, ◌++◌, [], ◌∙◌, ap,
 use Rattle.std.proofs.lemmas.List.{nil_from_length}
 use Rattle.bt_keycode.specs.Keys.{IsSorted}
 use Rattle.bt_messages.specs.Bins.{joined}
-use Rattle.bt_messages.specs.Runs.{AreSome}
+use Rattle.bt_messages.specs.inside.Runs.{AreSome}
 use Rattle.bt_messages.proofs.RunLists.{sorted_left, sorted_right}
 use Rattle.bt_messages.proofs.runs.in_runs.Goals as goal
 

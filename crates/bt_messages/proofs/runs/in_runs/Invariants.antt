@@ -1,6 +1,6 @@
 use Rattle.std.proofs.Common.{◌≡◌, ◌++◌}
 use Rattle.bt_messages.specs.Bins.{joined}
-use Rattle.bt_messages.specs.Runs.{AreSome}
+use Rattle.bt_messages.specs.inside.Runs.{AreSome}
 use Rattle.bt_messages.proofs.runs.in_runs.Given as goal
 
 abbrev pub invariant-loop-entry : goal.invariant-loop-entry

@@ -1,5 +1,5 @@
 use Rattle.std.proofs.Common.{◌≡◌, ◌-◌, ◌∷◌, ◌++◌, [], ◌∙◌, ap, arith, drop, length, sym, take, vec_capacity, vec_len}
-use Rattle.bt_messages.specs.Merges.{messages_past}
+use Rattle.bt_messages.specs.inside.Merges.{messages_past}
 use Rattle.bt_messages.specs.Messages.{with_messages}
 use Rattle.bt_messages.proofs.Sharing.{front_step}
 use Rattle.bt_messages.proofs.offered.Fronts.{one_taken}

@@ -1,6 +1,7 @@
 use Rattle.std.proofs.Common.{◌<◌, ◌≤◌, ◌++◌, ◌∙◌, ap, arith, drop, get_or, length, length-set, refl, sym, take}
 use Rattle.std.proofs.lemmas.List.{append-nil, drop_all, drop_more, take_all}
-use Rattle.bt_messages.specs.Bins.{each_with, parted, total}
+use Rattle.bt_messages.specs.Bins.{each_with}
+use Rattle.bt_messages.specs.Parts.{parted, total}
 use Rattle.bt_messages.proofs.Sharing.{any_default, enough_next, left_next, moved_next, room_here, room_later}
 use Rattle.bt_messages.proofs.share.move_each.Goals as goal
 

@@ -1,6 +1,7 @@
 use Rattle.std.proofs.Common.{◌≡◌, ◌≤◌, ◌++◌, drop, length, take}
-use Rattle.bt_messages.specs.Bins.{each_with, parted, total}
-use Rattle.bt_messages.specs.Rooms.{HaveRoom}
+use Rattle.bt_messages.specs.Bins.{each_with}
+use Rattle.bt_messages.specs.Parts.{parted, total}
+use Rattle.bt_messages.specs.inside.Rooms.{HaveRoom}
 use Rattle.bt_messages.proofs.share.move_each.Given as goal
 
 abbrev pub invariant-loop-place : goal.invariant-loop-place

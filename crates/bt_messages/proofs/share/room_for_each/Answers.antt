@@ -1,7 +1,7 @@
 use Rattle.std.proofs.Common.{◌<◌, ap, arith, length, subst}
 use Rattle.std.proofs.lemmas.List.{take_all}
 use Rattle.std.proofs.lemmas.Grind.{common_steps}
-use Rattle.bt_messages.specs.Rooms.{HaveRoom}
+use Rattle.bt_messages.specs.inside.Rooms.{HaveRoom}
 use Rattle.bt_messages.proofs.Sharing.{any_default, room_more}
 use Rattle.bt_messages.proofs.offered.Totals.{part_of_total}
 use Rattle.bt_messages.proofs.share.room_for_each.Goals as goal

@@ -1,5 +1,5 @@
 use Rattle.std.proofs.Common.{◌≡◌, ◌≤◌, length, take, vec_capacity}
-use Rattle.bt_messages.specs.Rooms.{HaveRoom}
+use Rattle.bt_messages.specs.inside.Rooms.{HaveRoom}
 use Rattle.bt_messages.proofs.share.room_for_each.Given as goal
 
 abbrev pub invariant-loop-place : goal.invariant-loop-place

@@ -1,6 +1,6 @@
 use Rattle.std.proofs.Common.{rules}
 use Rattle.std.proofs.lemmas.List.Sorted.{IsPartitionPoint-from_clause}
-use Rattle.bt_messages.specs.Runs.{begins_before}
+use Rattle.bt_messages.specs.inside.Runs.{begins_before}
 use Rattle.bt_messages.proofs.RunLists.{last_run, later_runs, parted_runs}
 use Rattle.bt_messages.proofs.stream.runs_before.Goals as goal
 

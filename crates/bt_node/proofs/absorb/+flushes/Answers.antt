@@ -3,16 +3,16 @@ use Rattle.std.proofs.lemmas.List.{nil_from_length}
 use Rattle.std.proofs.Math.Seq.{take-length}
 use Rattle.std.specs.List.{zip}
 use Rattle.std.specs.Vec.Iter.{into_iter_items}
-use Rattle.bt_messages.specs.Bins.{joined, parted, parts, total}
+use Rattle.bt_messages.specs.Bins.{joined, parts}
+use Rattle.bt_messages.specs.Parts.{parted, total}
 use Rattle.bt_messages.specs.Effects.{effect_of}
 use Rattle.bt_messages.proofs.offered.Fronts.{sorted_take}
 use Rattle.bt_messages.proofs.offered.Parts.{lie_length}
 use Rattle.bt_messages.proofs.offered.Placed.{alone}
 use Rattle.bt_node.specs.Flushes.{absorb, pivot_first}
-use Rattle.bt_node.specs.Lookups.{pivots_of}
 use Rattle.bt_node.specs.Messages.{with_messages}
 use Rattle.bt_node.specs.Plans.{planned}
-use Rattle.bt_node.specs.Trees.{inner, nodes}
+use Rattle.bt_node.specs.Trees.{inner, nodes, pivots_of}
 use Rattle.bt_node.specs.Marks.{marks_of}
 use Rattle.bt_node.specs.inside.Shares.{AreInOrder, loaded, sums}
 use Rattle.bt_node.specs.inside.Views.{children_of, none_pending_of}

@@ -1,8 +1,8 @@
 use Rattle.std.proofs.Common.{◌∷◌, ◌∙◌, [], ap, arith, subst, sym, take}
-use Rattle.bt_messages.specs.Bins.{LieBetween, each_with, joined, total}
+use Rattle.bt_messages.specs.Bins.{LieBetween, each_with, joined}
+use Rattle.bt_messages.specs.Parts.{total}
 use Rattle.bt_messages.proofs.offered.Parts.{added_lie, joined-added, lie_length}
-use Rattle.bt_node.specs.Lookups.{pivots_of}
-use Rattle.bt_node.specs.Trees.{inner, nodes}
+use Rattle.bt_node.specs.Trees.{inner, nodes, pivots_of}
 use Rattle.bt_node.proofs.lemmas.code.AbsorbStep.{if_ok}
 use Rattle.bt_node.proofs.absorb.kept.Goals as goal
 

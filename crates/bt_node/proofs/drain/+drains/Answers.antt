@@ -3,14 +3,15 @@ use Rattle.std.proofs.Math.Seq.{take-length}
 use Rattle.std.proofs.lemmas.List.{length-map, nil_from_length}
 use Rattle.std.specs.List.{flat_map}
 use Rattle.std.specs.Vec.Iter.{into_iter_items}
-use Rattle.bt_messages.specs.Bins.{joined, parts, total}
+use Rattle.bt_messages.specs.Bins.{joined, parts}
+use Rattle.bt_messages.specs.Parts.{total}
 use Rattle.bt_messages.specs.Effects.{effect_of}
 use Rattle.bt_messages.proofs.offered.Fronts.{sorted_take}
 use Rattle.bt_messages.proofs.offered.Parts.{lie_length}
 use Rattle.bt_messages.proofs.offered.Placed.{alone}
 use Rattle.bt_node.specs.Drains.{drain}
 use Rattle.bt_node.specs.Flushes.{flushed, pivot_first}
-use Rattle.bt_node.specs.Lookups.{pivots_of}
+use Rattle.bt_node.specs.Trees.{pivots_of}
 use Rattle.bt_node.specs.Messages.{with_messages}
 use Rattle.bt_node.specs.inside.Shares.{loaded}
 use Rattle.bt_node.specs.inside.Views.{child_of, children_of, none_pending_of}

@@ -8,14 +8,15 @@ use Rattle.bt_node.specs.declared.node.Child as code
 use Rattle.bt_node.specs.Messages.{Messages, with_messages}
 use Rattle.bt_node.specs.Plans.{planned, total}
 use Rattle.bt_node.specs.inside.Shares.{AreDivided, AreInOrder, beside, loaded, sums}
-use Rattle.bt_node.specs.Marks.{marks_of, passed, set_all}
-use Rattle.bt_node.specs.Trees.{Shape, Siblings, Tree, leaf, inner, height, height_below, nodes}
-use Rattle.bt_messages.specs.Bins.{LieBetween, joined, parted, parts}
+use Rattle.bt_node.specs.Marks.{marks_of, set_all}
+use Rattle.bt_node.specs.inside.Passes.{passed}
+use Rattle.bt_node.specs.Trees.{Shape, Siblings, Tree, leaf, inner, height, height_below, nodes, pivots_of}
+use Rattle.bt_messages.specs.Bins.{LieBetween, joined, parts}
+use Rattle.bt_messages.specs.Parts.{parted}
 use Rattle.bt_messages.proofs.offered.Parts.{joined_sorted, length-with_messages}
 use Rattle.bt_messages.proofs.offered.Placed.{sorted-with_messages}
 use Rattle.std.specs.declared.option.Option.TheVariants.{None}
 use Rattle.bt_node.specs.Fits.{IsInOrder, IsLed}
-use Rattle.bt_node.specs.Lookups.{pivots_of}
 use Rattle.bt_node.specs.Flushes.{Child, absorb, absorbed, counts, flushed, flushed_over, gathered, grouped, pivot_first, shared}
 use Rattle.bt_node.specs.inside.Views.{child_of, children_of}
 use Rattle.bt_node.proofs.lemmas.deals.Parts.{NonEmpty}
@@ -26,7 +27,7 @@ use Rattle.bt_node.proofs.lemmas.flushes.Recursion.{absorb_recurs}
 use Rattle.bt_node.proofs.lemmas.flushes.EmptyPackets.{still-here}
 use Rattle.bt_node.proofs.lemmas.flushes.Divisions.{beside-in_order, counts-bins, divided-lie, length-beside, length-first, length-loaded, loaded-shared, stripped-beside}
 use Rattle.bt_node.proofs.lemmas.flushes.Laws.{anywhere}
-use Rattle.bt_node.proofs.lemmas.flushes.NodeSizes.{length-shared}
+use Rattle.bt_node.proofs.lemmas.flushes.Shares.{length-shared}
 use Rattle.bt_node.proofs.lemmas.flushes.Passes.{Keeps, names-slots, passed-lie, slots}
 use Rattle.bt_node.proofs.lemmas.flushes.RowsKept.{absorb-keeps}
 use Rattle.bt_node.proofs.lemmas.flushes.Shares.{shared-lie}

@@ -4,7 +4,7 @@ use Rattle.std.specs.declared.option.Option.{Option}
 use Rattle.std.specs.declared.option.Option.TheVariants.{None, Some}
 use Rattle.std.specs.Option.{is_none, option_copied, option_or}
 use Rattle.bt_keycode.specs.Keys.{Key, is_before, is_before_lower, is_before_upper, is_between}
-use Rattle.bt_node.specs.Lookups.{first_place, pivots_up_to}
+use Rattle.bt_node.specs.inside.Lookups.{first_place, pivots_up_to}
 use Rattle.bt_node.specs.Parts.{AreRising}
 use Rattle.bt_node.specs.inside.Bounds.{next_bound, where_before}
 use Rattle.bt_keycode.proofs.offered.Order.{before_later, later_chain, not_after, not_before_itself}

@@ -2,20 +2,20 @@
 use Rattle.std.proofs.Common.{◌≡◌, ◌≤◌, ℕ, List, ◌∷◌, ◌++◌, Option, append_assoc, drop, length, take, sym, ap, subst, ◌∙◌, arith}
 use Rattle.std.proofs.lemmas.List.{length-map}
 use Rattle.std.specs.List.{flat_map}
-use Rattle.bt_messages.specs.Bins.{LieBetween, joined, parted, parts}
+use Rattle.bt_messages.specs.Bins.{LieBetween, joined, parts}
+use Rattle.bt_messages.specs.Parts.{parted}
 use Rattle.bt_messages.specs.declared.message.Message.{Message}
 use Rattle.bt_node.specs.declared.node.Child as code
 use Rattle.bt_node.specs.Drains.{drain}
 use Rattle.bt_node.specs.Flushes.{Child, flushed, grouped, shared}
-use Rattle.bt_node.specs.Lookups.{pivots_of}
 use Rattle.bt_node.specs.Messages.{Messages, with_messages}
-use Rattle.bt_node.specs.Trees.{Shape, Siblings, Tree, height, inner, nodes}
+use Rattle.bt_node.specs.Trees.{Shape, Siblings, Tree, height, inner, nodes, pivots_of}
 use Rattle.bt_node.specs.inside.Shares.{AreDivided, beside, loaded}
 use Rattle.bt_node.specs.inside.Views.{child_of, children_of, with_share}
 use Rattle.bt_node.proofs.lemmas.flushes.Divisions.{divided-none, joined-pending, loaded-shared}
 use Rattle.bt_node.proofs.lemmas.flushes.Drains.{all_pending-flushed, drain-led, drain_recurs, flushed-some}
 use Rattle.bt_node.proofs.lemmas.flushes.Groups.{children-nodes}
-use Rattle.bt_node.proofs.lemmas.flushes.NodeSizes.{length-shared}
+use Rattle.bt_node.proofs.lemmas.flushes.Shares.{length-shared}
 
 module _ {V D : Type 0} (effect : Option V → Message V D → Option V) (s : Shape) (xs : Siblings V (Message V D)) (bins : List (Messages (Message V D))) (ms : Messages (Message V D)) (count : ℕ) (shares : List ℕ)
     (lie : LieBetween (pivots_of xs) bins) (sizes : parted shares ms ≡ parts (pivots_of xs) (take count ms))

@@ -4,12 +4,11 @@ use Rattle.std.specs.List.{flat_map}
 use Rattle.std.proofs.lemmas.List.{drop-map, length-map, map-append, take-map}
 use Rattle.bt_keycode.specs.Keys.{Key}
 use Rattle.bt_messages.specs.Bins.{LieBetween, joined}
-use Rattle.bt_node.specs.Lookups.{pivots_of}
 use Rattle.bt_node.specs.inside.Shares.{AreDivided}
 use Rattle.bt_messages.specs.declared.message.Message.{Message}
 use Rattle.bt_node.specs.declared.node.Child as code
 use Rattle.bt_node.specs.Messages.{Messages, Rows}
-use Rattle.bt_node.specs.Trees.{Shape, Siblings, Tree, inner, leaf, nodes}
+use Rattle.bt_node.specs.Trees.{Shape, Siblings, Tree, inner, leaf, nodes, pivots_of}
 use Rattle.bt_node.specs.Deals.{deal, parted, sizes}
 use Rattle.bt_node.specs.Flushes.{Child, first_key, gathered, grouped, leaves, pivot_first}
 use Rattle.bt_node.specs.inside.Views.{child_of, children_of}

@@ -10,7 +10,7 @@ use Rattle.bt_keycode.specs.Keys.{AllFrom, Key, key_cmp, is_before, IsSorted}
 use Rattle.bt_messages.specs.declared.message.Message.{Message}
 use Rattle.bt_node.specs.Messages.{Messages, from, value_after}
 use Rattle.bt_node.specs.Trees.{Siblings, Tree, inner, nodes}
-use Rattle.bt_node.specs.Lookups.{pivots_up_to, value_at, value_below}
+use Rattle.bt_node.specs.inside.Lookups.{pivots_up_to, value_at, value_below}
 use Rattle.bt_node.specs.inside.Held.{BeginsWith, Resets, begun, value_of}
 use Rattle.bt_node.specs.declared.held.Held.{Held}
 use Rattle.bt_keycode.proofs.offered.Order.{all_within-from, apart_back, not_before_itself, total_keys}

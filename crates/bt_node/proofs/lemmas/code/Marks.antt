@@ -2,7 +2,8 @@
 use Rattle.std.proofs.Common.{◌≡◌, ℕ, zero, suc, Bool, false, true, List, [], ◌∷◌, length, set, replicate, refl, sym, ap, ◌∙◌}
 use Rattle.std.specs.List.{zip}
 use Rattle.bt_node.specs.Plans.{planned}
-use Rattle.bt_node.specs.Marks.{set_all, marks_of, passed, marked, marked_all, unmarked}
+use Rattle.bt_node.specs.Marks.{set_all, marks_of}
+use Rattle.bt_node.specs.inside.Passes.{passed, marked, marked_all, unmarked}
 use Rattle.bt_node.specs.Flushes.{Child, Flush, counts, flushed, flushed_over}
 use Rattle.bt_node.proofs.lemmas.flushes.Passes.{flushed-planned}
 

@@ -5,7 +5,7 @@ use Rattle.std.specs.declared.option.Option.{Option}
 use Rattle.std.specs.declared.option.Option.TheVariants.{Some}
 use Rattle.bt_keycode.specs.Keys.{Key, SideBySide, is_before}
 use Rattle.bt_node.specs.Fits.{IsInOrder}
-use Rattle.bt_node.specs.Lookups.{pivots_up_to}
+use Rattle.bt_node.specs.inside.Lookups.{pivots_up_to}
 use Rattle.bt_node.specs.Messages.{Messages}
 use Rattle.bt_node.specs.Parts.{AreRising}
 use Rattle.bt_node.specs.Trees.{Siblings, Tree, inner, nodes}

@@ -9,9 +9,9 @@ use Rattle.bt_messages.specs.Messages.{messages_outside as outside}
 use Rattle.bt_messages.specs.declared.message.Message.{Message}
 use Rattle.bt_node.specs.Fits.{IsInOrder, SiblingsLie}
 use Rattle.bt_node.specs.Flushes.{all_hold, holds}
-use Rattle.bt_node.specs.Lookups.{pivots_of, pivots_up_to, value_at}
+use Rattle.bt_node.specs.inside.Lookups.{pivots_up_to, value_at}
 use Rattle.bt_node.specs.Messages.{Messages, Rows, between, rows_after, value_after, with_messages}
-use Rattle.bt_node.specs.Trees.{Siblings, Tree, children, inner, nodes}
+use Rattle.bt_node.specs.Trees.{Siblings, Tree, children, inner, nodes, pivots_of}
 use Rattle.bt_node.proofs.lemmas.flushes.Groups.{children-nodes}
 use Rattle.bt_node.proofs.lemmas.flushes.RowsKept.{holds-lie}
 use Rattle.bt_node.proofs.lemmas.lookups.HeldValues.{value_at-held, value_below-held}

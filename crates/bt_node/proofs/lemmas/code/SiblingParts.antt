@@ -5,7 +5,7 @@ use Rattle.std.specs.List.{zip}
 use Rattle.bt_node.specs.Fits.{IsLed}
 use Rattle.bt_node.specs.Flushes.{pivot_first}
 use Rattle.bt_keycode.specs.Keys.{Key}
-use Rattle.bt_node.specs.Kinds.{tree_of}
+use Rattle.bt_node.specs.inside.Kinds.{tree_of}
 use Rattle.bt_node.specs.Messages.{Messages}
 use Rattle.bt_node.specs.Trees.{Siblings, Tree, behind}
 use Rattle.bt_node.specs.Walks.{children_of}

@@ -11,7 +11,7 @@ use Rattle.bt_messages.specs.Bins.{LieBetween, joined}
 use Rattle.bt_messages.specs.declared.message.Message.{Message}
 use Rattle.bt_node.specs.Fits.{Lies}
 use Rattle.bt_node.specs.Flushes.{holds}
-use Rattle.bt_node.specs.Lookups.{pivots_up_to, value_at}
+use Rattle.bt_node.specs.inside.Lookups.{pivots_up_to, value_at}
 use Rattle.bt_node.specs.Messages.{Messages, Rows, from, value_after}
 use Rattle.bt_node.specs.Trees.{Siblings, Tree, inner, leaf, nodes}
 use Rattle.bt_node.specs.inside.Bounds.{where_before}

@@ -4,14 +4,14 @@ use Rattle.std.proofs.lemmas.List.{length-drop, length-map}
 use Rattle.std.specs.declared.option.Option.{Option}
 use Rattle.std.specs.declared.option.Option.TheVariants.{Some}
 use Rattle.bt_keycode.specs.Keys.{AllFrom, AllWithin, IsSorted, Key}
-use Rattle.bt_messages.specs.Bins.{AllBefore, LieBetween, each_with, joined, parted, parts}
+use Rattle.bt_messages.specs.Bins.{AllBefore, LieBetween, each_with, joined, parts}
+use Rattle.bt_messages.specs.Parts.{parted}
 use Rattle.bt_messages.proofs.offered.Parts.{added_is, length-with_messages, lie_length, parts-joined}
 use Rattle.bt_node.specs.Fits.{SiblingsLie}
 use Rattle.bt_node.specs.Flushes.{Child, counts, shared}
-use Rattle.bt_node.specs.Lookups.{pivots_of}
 use Rattle.bt_node.specs.Messages.{Messages, before, from, with_messages}
 use Rattle.bt_node.specs.Plans.{total}
-use Rattle.bt_node.specs.Trees.{Siblings, Tree}
+use Rattle.bt_node.specs.Trees.{Siblings, Tree, pivots_of}
 use Rattle.bt_node.specs.inside.Shares.{AreDivided, AreInOrder, beside, loaded, sums}
 use Rattle.bt_node.proofs.lemmas.flushes.Children.{ChildrenLie, all_pending}
 use Rattle.bt_node.proofs.lemmas.flushes.Groups.{all_pending-within, stripped}

@@ -5,7 +5,7 @@ use Rattle.std.specs.declared.option.Option.{Option}
 use Rattle.bt_keycode.specs.Keys.{Key, AllWithin}
 use Rattle.bt_node.specs.Messages.{Rows, Messages, rows_after, with_messages}
 use Rattle.bt_node.specs.Deals.{deal}
-use Rattle.bt_node.specs.Marks.{passed}
+use Rattle.bt_node.specs.inside.Passes.{passed}
 use Rattle.bt_node.specs.Trees.{Shape, Tree, leaf, inner, Nodes, Siblings, children, nodes, height, height_below}
 use Rattle.bt_node.specs.Flushes.{Child, Flush, pivot_first, shared, none_pending, flushed, gathered, grouped, leaves, crowned, crown, holds, all_hold}
 use Rattle.bt_node.specs.Fits.{IsLed, Lies, AreSized, NodeFits, SiblingsFit, IsRoomy}

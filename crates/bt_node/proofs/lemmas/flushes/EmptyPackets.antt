@@ -12,9 +12,10 @@ use Rattle.bt_node.proofs.lemmas.keys.SortedLists.{sorted-where}
 use Rattle.bt_node.proofs.lemmas.deals.PartSizes.{deal-one}
 use Rattle.bt_node.proofs.lemmas.plans.Capacity.{settled-still}
 use Rattle.bt_node.proofs.lemmas.flushes.Children.{all_pending}
-use Rattle.bt_node.proofs.lemmas.flushes.Groups.{stripped, as_leaf, nodes-children}
+use Rattle.bt_node.proofs.lemmas.flushes.Groups.{some_length, led-full, stripped, as_leaf, nodes-children}
 use Rattle.bt_node.proofs.lemmas.flushes.Passes.{flushed-light}
-use Rattle.bt_node.proofs.lemmas.flushes.NodeSizes.{length-shared, total-counts}
+use Rattle.bt_node.proofs.lemmas.flushes.NodeSizes.{total-counts}
+use Rattle.bt_node.proofs.lemmas.flushes.Shares.{length-shared}
 use Rattle.bt_node.proofs.lemmas.flushes.RowsKept.{absorb-at}
 
 module _ {M : Type 0} where
@@ -45,13 +46,10 @@ led-first (x ∷ xs) l = ap (λ k. (k, x.1) ∷ xs) (sym l)
 
 module _ {V M : Type 0} where
   -- a sorted buffer is its shares joined
-  pub all_pending-shared : (x : Key × Tree V M) (xs : Siblings V M) (b : Messages M) → IsSorted b → all_pending (shared (x ∷ xs) b) ≡ b
-  all_pending-shared x [] b r = append-nil b
-  all_pending-shared x (y ∷ ys) b r = ap (λ z. before y.0 b ++ z) (all_pending-shared y ys (from y.0 b) (from-sorted y.0 b r)) ∙ divided y.0 b r
-
-  all_pending-shared-all : (xs : Siblings V M) (b : Messages M) → IsLed xs → IsSorted b → all_pending (shared xs b) ≡ b
-  all_pending-shared-all [] b l r = absurd l
-  all_pending-shared-all (x ∷ xs) b l r = all_pending-shared x xs b r
+  pub all_pending-shared : (xs : Siblings V M) (b : Messages M) → 1 ≤ length xs → IsSorted b → all_pending (shared xs b) ≡ b
+  all_pending-shared [] b some r = absurd (omega (arith, some))
+  all_pending-shared (x ∷ []) b some r = append-nil b
+  all_pending-shared (x ∷ y ∷ ys) b some r = ap (λ z. before y.0 b ++ z) (all_pending-shared (y ∷ ys) (from y.0 b) (omega arith) (from-sorted y.0 b r)) ∙ divided y.0 b r
 
   pub stripped-shared : (xs : Siblings V M) (b : Messages M) → stripped (shared xs b) ≡ xs
   stripped-shared [] b = refl
@@ -63,7 +61,7 @@ module _ {V M : Type 0} where
   gathered-shared xs b l r =
       ap (λ ys. inner (nodes (pivot_first [] ys)) (all_pending (shared xs b))) (stripped-shared xs b)
       ∙ ap (λ ys. inner (nodes ys) (all_pending (shared xs b))) (led-first xs l)
-      ∙ ap (inner (nodes xs)) (all_pending-shared-all xs b l r)
+      ∙ ap (inner (nodes xs)) (all_pending-shared xs b (some_length xs (led-full xs l)) r)
 
   -- children within the fanout are one group
   grouped-one : (s : Shape) (cs : List (Child V M)) → 1 ≤ s.fanout → length cs ≤ s.fanout → grouped s cs ≡ ([], (gathered cs).1) ∷ []
@@ -78,7 +76,7 @@ module _ {V M : Type 0} where
       grouped s (flushed_over flush s.buffer (shared (children ns) b)) ≡ ([], inner ns b) ∷ []
   still-here s ns b l r some few fits flush =
       let cs = shared (children ns) b in
-      let pending : total (counts cs) ≤ s.buffer = omega (arith, total-counts cs, ap length (all_pending-shared-all (children ns) b l r), fits) in
+      let pending : total (counts cs) ≤ s.buffer = omega (arith, total-counts cs, ap length (all_pending-shared (children ns) b (some_length (children ns) (led-full (children ns) l)) r), fits) in
       ap (grouped s) (settled-still (λ c. length c.pending) (flushed flush) (flushed-light flush) s.buffer (total (counts cs)) cs pending)
       ∙ grouped-shared s (children ns) b l r some few ∙ ap (λ ms. ([], inner ms b) ∷ []) (nodes-children ns)
 

@@ -85,6 +85,11 @@ module _ {V M : Type 0} where
   all_pending-sorted levels low high (c ∷ d ∷ cs) p =
       sorted-append low d.pivot high c.pending _ p.2.2 (all_pending-sorted levels (Some d.pivot) high (d ∷ cs) p.3) p.2.1 (all_pending-within levels (Some d.pivot) high (d ∷ cs) p.3)
 
+  pub stripped-lie : (levels : ℕ) (low high : Option Key) (cs : List (Child V M)) → ChildrenLie levels low high cs → SiblingsLie levels low high (stripped cs)
+  stripped-lie levels low high cs p =
+      side-map (λ c. (c.pivot, c.tree)) (λ x. x.0) (λ l h x. Lies levels l h x.1) low high cs
+      (side-weaken (λ c. c.pivot) (ChildLies levels) (λ l h c. Lies levels l h c.tree) (λ l h c lies. lies.0) low high cs p)
+
   stripped-led : (cs : List (Child V M)) → NonEmpty cs → IsLed (pivot_first [] (stripped cs))
   stripped-led [] n = absurd n
   stripped-led (c ∷ cs) n = refl
@@ -94,9 +99,7 @@ module _ {V M : Type 0} where
     all_pending-within levels low high g p,
     all_pending-sorted levels low high g p,
     subst (SiblingsLie levels low high) (sym (children-nodes (pivot_first [] (stripped g))))
-        (led-side (λ l h t. Lies levels l h t) [] low high (stripped g)
-        (side-map (λ c. (c.pivot, c.tree)) (λ x. x.0) (λ l h x. Lies levels l h x.1) low high g
-        (side-weaken (λ c. c.pivot) (ChildLies levels) (λ l h c. Lies levels l h c.tree) (λ l h c lies. lies.0) low high g p))),
+        (led-side (λ l h t. Lies levels l h t) [] low high (stripped g) (stripped-lie levels low high g p)),
     subst IsLed (sym (children-nodes (pivot_first [] (stripped g)))) (stripped-led g n),
   )
 

@@ -6,17 +6,18 @@ use Rattle.bt_keycode.specs.Keys.{Key, AllWithin}
 use Rattle.bt_node.specs.Messages.{Rows, Messages, rows_after, with_messages, from}
 use Rattle.bt_node.specs.Deals.{deal}
 use Rattle.bt_node.specs.Plans.{total}
-use Rattle.bt_node.specs.Marks.{passed}
+use Rattle.bt_node.specs.inside.Passes.{passed}
 use Rattle.bt_node.specs.Trees.{Shape, Tree, leaf, inner, Nodes, none, node, Siblings, children, nodes}
 use Rattle.bt_node.specs.Flushes.{Child, Flush, pivot_first, counts, shared, flushed, flushed_over, gathered, grouped, leaves, absorbed, none_pending}
 use Rattle.bt_node.specs.Fits.{Lies, IsSized, AreSized}
-use Rattle.bt_node.proofs.lemmas.deals.Parts.{NonEmpty, joined, joined-deal}
+use Rattle.bt_node.proofs.lemmas.deals.Parts.{joined, joined-deal}
 use Rattle.bt_node.proofs.lemmas.deals.PartSizes.{Each, sizes-at_most, sizes-two, lengths-deal}
 use Rattle.bt_node.proofs.lemmas.plans.Capacity.{settled-fits}
 use Rattle.bt_node.proofs.lemmas.plans.OnePass.{names}
 use Rattle.bt_node.proofs.lemmas.flushes.Children.{ChildLies, ChildrenLie, all_pending}
-use Rattle.bt_node.proofs.lemmas.flushes.Groups.{led-full, stripped, children-nodes, as_leaf}
-use Rattle.bt_node.proofs.lemmas.flushes.Passes.{Keeps, flushed-light, slots, flushed-planned, names-slots}
+use Rattle.bt_node.proofs.lemmas.flushes.Groups.{stripped, children-nodes, as_leaf}
+use Rattle.bt_node.proofs.lemmas.flushes.Passes.{Keeps, flushed-light, slots, flushed-planned, names-slots, passed-long}
+use Rattle.bt_node.proofs.lemmas.flushes.Shares.{length-shared}
 use Rattle.bt_node.proofs.lemmas.flushes.ValuesKept.{start-lies, absorbed-keeps}
 
 pub sized-pivot_first : {V M : Type 0} (s : Shape) (k : Key) (xs : Siblings V M) → AreSized s (nodes xs) → AreSized s (nodes (pivot_first k xs))
@@ -38,8 +39,7 @@ leaves-sized M s rs some =
 
 module _ {V M : Type 0} (s : Shape) where
   abbrev pub ChildrenSized : List (Child V M) → Type 0
-  ChildrenSized [] = Unit {0}
-  ChildrenSized (c ∷ cs) = IsSized s c.tree × ChildrenSized cs
+  ChildrenSized cs = AreSized s (nodes (stripped cs))
 
   first-sized : (cs ds : List (Child V M)) → ChildrenSized (cs ++ ds) → ChildrenSized cs
   first-sized [] ds z = tt
@@ -56,10 +56,6 @@ module _ {V M : Type 0} (s : Shape) where
   pub none_pending-sized : (xs : Siblings V M) → AreSized s (nodes xs) → ChildrenSized (none_pending xs)
   none_pending-sized [] z = tt
   none_pending-sized (x ∷ xs) z = (z.0, none_pending-sized xs z.1)
-
-  stripped-sized : (cs : List (Child V M)) → ChildrenSized cs → AreSized s (nodes (stripped cs))
-  stripped-sized [] z = tt
-  stripped-sized (c ∷ cs) z = (z.0, stripped-sized cs z.1)
 
   length-stripped : (cs : List (Child V M)) → length (children (nodes (pivot_first [] (stripped cs)))) ≡ length cs
   length-stripped [] = refl
@@ -83,7 +79,7 @@ module _ {V M : Type 0} (s : Shape) where
           subst (λ n. 2 ≤ n) (sym n) two.0,
           subst (λ n. n ≤ s.fanout) (sym n) most.0,
           omega arith,
-          sized-pivot_first s [] (stripped g) (stripped-sized g (first-sized g (joined gs) z)),
+          sized-pivot_first s [] (stripped g) (first-sized g (joined gs) z),
         ),
         groups-sized gs two.1 most.1 (omega arith) (rest-sized g (joined gs) z),
       )
@@ -107,11 +103,6 @@ module _ {V M : Type 0} (s : Shape) where
   shared-sized none b z = tt
   shared-sized (node k t none) b z = (z.0, tt)
   shared-sized (node k t (node j u ns)) b z = (z.0, shared-sized (node j u ns) (from j b) z.1)
-
-pub length-shared : {V M : Type 0} (xs : Siblings V M) (b : Messages M) → length (shared xs b) ≡ length xs
-length-shared [] b = refl
-length-shared (x ∷ []) b = refl
-length-shared (x ∷ y ∷ ys) b = ap suc (length-shared (y ∷ ys) (from y.0 b))
 
 pub total-counts : {V M : Type 0} (cs : List (Child V M)) → total (counts cs) ≡ length (all_pending cs)
 total-counts [] = refl
@@ -140,20 +131,6 @@ module _ {V M : Type 0} (effect : Option V → M → Option V) (s : Shape) (leve
   pass-sized low high (c ∷ []) p z = both-sized s (block c) [] (block-sized low high c p z.0) tt
   pass-sized low high (c ∷ d ∷ ss) p z = both-sized s (block c) (pass (d ∷ ss)) (block-sized low (Some d.0.pivot) c p.2 z.0) (pass-sized (Some d.0.pivot) high (d ∷ ss) p.3 z.1)
 
-  -- no child becomes none
-  some-none_pending : (k : Key) (xs : Siblings V M) → NonEmpty xs → 1 ≤ length (none_pending (pivot_first k xs))
-  some-none_pending k [] n = absurd n
-  some-none_pending k (x ∷ xs) n = omega arith
-
-  block-some : (low high : Option Key) (c : Child V M × Bool) → ChildLies levels low high c.0 → 1 ≤ length (block c)
-  block-some low high (c, true) l = let k = keeps low high c.tree c.pending l.0 l.1 in some-none_pending c.pivot (f c.tree c.pending) (led-full _ k.led)
-  block-some low high (c, false) l = omega arith
-
-  pass-longer : (low high : Option Key) (ss : List (Child V M × Bool)) → ChildrenLie levels low high (names ss) → length (names ss) ≤ length (pass ss)
-  pass-longer low high [] p = omega arith
-  pass-longer low high (c ∷ []) p = omega (arith, block-some low high c p, length-append (block c) [])
-  pass-longer low high (c ∷ d ∷ ss) p = omega (arith, block-some low (Some d.0.pivot) c p.2, pass-longer (Some d.0.pivot) high (d ∷ ss) p.3, length-append (block c) (pass (d ∷ ss)))
-
 module _ {V M : Type 0} (effect : Option V → M → Option V) (s : Shape) (leaf_some : 0 < s.leaf) (three : 3 ≤ s.fanout) where
   -- an inner node's children, of which so many are flushed that the messages for the others fit in a buffer
   pub node-sized : (levels : ℕ) (f : Flush V M) → Keeps effect levels f → KeepsSized s levels f → (low high : Option Key) (ns : Nodes V M) (b p : Messages M) →
@@ -169,7 +146,7 @@ module _ {V M : Type 0} (effect : Option V → M → Option V) (s : Shape) (leaf
       placed = subst (ChildrenLie levels low high) (sym same) (start-lies effect s leaf_some (omega arith) levels low high ns b p lies within)
 
       two : 2 ≤ length (passed (λ c. length c.pending) (flushed f) ss)
-      two = omega (arith, pass-longer effect s levels f keeps sizes low high ss placed, ap length same, length-shared (children ns) all, z.0)
+      two = omega (arith, passed-long effect levels f keeps low high ss placed, ap length same, length-shared (children ns) all, z.0)
 
       sized : ChildrenSized s (passed (λ c. length c.pending) (flushed f) ss)
       sized = pass-sized effect s levels f keeps sizes low high ss placed (subst (ChildrenSized s) (sym same) (shared-sized s ns all z.3))

@@ -2,7 +2,7 @@
 use Rattle.std.proofs.Common.{◌≡◌, ℕ, zero, suc, ◌≤◌, Bool, true, false, cond, List, [], ◌∷◌, ◌++◌, length, refl, sym, ap, subst, ◌∙◌, arith, le_refl}
 use Rattle.std.specs.declared.option.Option.{Option}
 use Rattle.bt_node.specs.Messages.{Messages, from, with_messages}
-use Rattle.bt_node.specs.Marks.{passed}
+use Rattle.bt_node.specs.inside.Passes.{passed}
 use Rattle.bt_node.specs.Trees.{Shape, Tree, leaf, inner, Nodes, none, node, children, height, height_below}
 use Rattle.bt_node.specs.Flushes.{Child, Flush, pivot_first, shared, flushed, flushed_over, grouped, absorbed, absorb, none_pending}
 use Rattle.bt_node.proofs.lemmas.plans.OnePass.{names}

@@ -1,5 +1,5 @@
 -- A buffer shared among children.
-use Rattle.std.proofs.Common.{◌≡◌, ℕ, Bool, true, false, cond, not, [], ◌∷◌, ◌++◌, refl, sym, ap, ◌∙◌, append-nil}
+use Rattle.std.proofs.Common.{◌≡◌, ℕ, suc, Bool, true, false, cond, not, [], ◌∷◌, ◌++◌, length, refl, sym, ap, ◌∙◌, append-nil}
 use Rattle.std.specs.Ordering.{eq_by_cmp}
 use Rattle.std.specs.FinMap.Entries.{where_key}
 use Rattle.std.specs.declared.option.Option.{Option}
@@ -13,6 +13,11 @@ use Rattle.bt_keycode.proofs.offered.Order.{same_key}
 use Rattle.bt_node.proofs.lemmas.keys.SortedLists.{sorted-where}
 use Rattle.bt_node.proofs.lemmas.rows.Values.{value-append}
 use Rattle.bt_node.proofs.lemmas.flushes.Children.{ChildrenLie, all_pending, below}
+
+pub length-shared : {V M : Type 0} (xs : Siblings V M) (b : Messages M) → length (shared xs b) ≡ length xs
+length-shared [] b = refl
+length-shared (x ∷ []) b = refl
+length-shared (x ∷ y ∷ ys) b = ap suc (length-shared (y ∷ ys) (from y.0 b))
 
 module _ {V M : Type 0} (effect : Option V → M → Option V) where
   value-where : (q : Key) (test : Key → Bool) (ms : Messages M) (o : Option V) → value_after effect q (where_key key_cmp test ms) o ≡ cond (test q) (value_after effect q ms o) o

@@ -1,11 +1,11 @@
 -- What absorb keeps: siblings lie where the node lay, at its height, and one finds what one found after the packet.
-use Rattle.std.proofs.Common.{◌≡◌, ℕ, zero, suc, ◌<◌, Bool, List, [], ◌∷◌, length, sym, ap, subst, ◌∙◌}
+use Rattle.std.proofs.Common.{◌≡◌, ℕ, zero, suc, ◌<◌, ◌≤◌, Bool, List, [], ◌∷◌, length, sym, ap, subst, ◌∙◌, arith}
 use Rattle.std.specs.FinMap.{find}
 use Rattle.std.specs.declared.option.Option.{Option}
 use Rattle.bt_keycode.specs.Keys.{Key, key_cmp, AllWithin}
 use Rattle.bt_node.specs.Messages.{Rows, Messages, rows_after, value_after, with_messages}
 use Rattle.bt_node.specs.Deals.{deal}
-use Rattle.bt_node.specs.Marks.{passed}
+use Rattle.bt_node.specs.inside.Passes.{passed}
 use Rattle.bt_node.specs.Trees.{Shape, leaf, inner, Nodes, Siblings, children}
 use Rattle.bt_node.specs.Flushes.{Child, Flush, shared, flushed, gathered, grouped, leaves, absorbed, holds, nodes_hold, all_hold}
 use Rattle.bt_node.specs.Fits.{IsLed, Lies, SiblingsLie}
@@ -16,23 +16,19 @@ use Rattle.bt_node.proofs.lemmas.rows.Buffers.{within-with_messages, sorted-with
 use Rattle.bt_node.proofs.lemmas.plans.OnePass.{names}
 use Rattle.bt_node.proofs.lemmas.lookups.Outside.{nodes_hold-children}
 use Rattle.bt_node.proofs.lemmas.flushes.Children.{ChildrenLie, all_pending, seen_in, value-below-seen}
-use Rattle.bt_node.proofs.lemmas.flushes.Shares.{value-shared, below-shared, shared-lie}
-use Rattle.bt_node.proofs.lemmas.flushes.Groups.{some-of, led-map, led-full, leaves-lie, leaves-led, leaves-hold, grouped-lie, find-grouped}
-use Rattle.bt_node.proofs.lemmas.flushes.Passes.{Kept, Keeps, slots, flushed-planned, names-slots, passed-full, passed-lie, seen-passed}
-
-shared-full : {V M : Type 0} (xs : Siblings V M) (b : Messages M) → NonEmpty xs → NonEmpty (shared xs b)
-shared-full [] b n = absurd n
-shared-full (x ∷ []) b n = tt
-shared-full (x ∷ y ∷ ys) b n = tt
+use Rattle.bt_node.proofs.lemmas.flushes.Shares.{length-shared, value-shared, below-shared, shared-lie}
+use Rattle.bt_node.proofs.lemmas.flushes.Groups.{some-of, some_length, led-map, led-full, leaves-lie, leaves-led, leaves-hold, grouped-lie, find-grouped}
+use Rattle.bt_node.proofs.lemmas.flushes.Passes.{Kept, Keeps, slots, flushed-planned, names-slots, passed-lie, passed-long, seen-passed}
 
 -- what a list of children becomes
-record Grouped {V M : Type 0} (effect : Option V → M → Option V) (levels : ℕ) (s : Shape) (low high : Option Key) (cs : List (Child V M)) : Type 0 where
-  lie : SiblingsLie (suc levels) low high (grouped s cs)
-  led : IsLed (grouped s cs)
-  finds : (q : Key) → find key_cmp q (all_hold effect (grouped s cs)) ≡ seen_in effect q cs
+pub record Grouped {V M : Type 0} (effect : Option V → M → Option V) (levels : ℕ) (s : Shape) (low high : Option Key) (cs : List (Child V M)) : Type 0 where
+  pub lie : SiblingsLie (suc levels) low high (grouped s cs)
+  pub led : IsLed (grouped s cs)
+  pub finds : (q : Key) → find key_cmp q (all_hold effect (grouped s cs)) ≡ seen_in effect q cs
 
-groups : {V M : Type 0} (effect : Option V → M → Option V) (levels : ℕ) (s : Shape) (low high : Option Key) (cs : List (Child V M)) → 0 < s.fanout → NonEmpty cs → ChildrenLie levels low high cs → Grouped effect levels s low high cs
-groups effect levels s low high [] l n p = absurd n
+pub groups : {V M : Type 0} (effect : Option V → M → Option V) (levels : ℕ) (s : Shape) (low high : Option Key) (cs : List (Child V M)) → 0 < s.fanout → 1 ≤ length cs → ChildrenLie levels low high cs →
+    Grouped effect levels s low high cs
+groups effect levels s low high [] l n p = absurd (omega (arith, n))
 groups effect levels s low high (c ∷ cs) l n p = record {
   lie = grouped-lie levels s low high c cs l p;
   led = led-map gathered (deal s.fanout (c ∷ cs)) (some-of _ c cs (joined-deal s.fanout (c ∷ cs)));
@@ -72,11 +68,11 @@ module _ {V M : Type 0} (effect : Option V → M → Option V) (s : Shape) (leaf
       placed : ChildrenLie levels low high (names ss)
       placed = subst (ChildrenLie levels low high) (sym same) (start-lies levels low high ns b p lies within)
 
-      full : NonEmpty (names ss)
-      full = subst NonEmpty (sym same) (shared-full (children ns) all (led-full _ lies.3))
+      some : 1 ≤ length (passed (λ c. length c.pending) (flushed f) ss)
+      some = omega (arith, passed-long effect levels f keeps low high ss placed, ap length same, length-shared (children ns) all, some_length (children ns) (led-full _ lies.3))
 
       g : Grouped effect levels s low high (passed (λ c. length c.pending) (flushed f) ss)
-      g = groups effect levels s low high _ fanout_some (passed-full effect levels f keeps low high ss placed full) (passed-lie effect levels f keeps low high ss placed)
+      g = groups effect levels s low high _ fanout_some some (passed-lie effect levels f keeps low high ss placed)
 
       found : (q : Key) → seen_in effect q (passed (λ c. length c.pending) (flushed f) ss) ≡ value_after effect q p (find key_cmp q (holds effect (inner ns b)))
       found q =

@@ -1,5 +1,6 @@
--- Items side by side, cut and joined.
-use Rattle.std.proofs.Common.{List, [], ◌∷◌, ◌++◌, map, subst, append-nil}
+-- Items side by side: cut, joined, and replaced by others.
+use Rattle.std.proofs.Common.{◌≡◌, ◌≤◌, List, [], ◌∷◌, ◌++◌, length, map, subst, sym, append-nil, arith, length-append}
+use Rattle.std.specs.List.{flat_map}
 use Rattle.std.specs.declared.option.Option.{Option}
 use Rattle.std.specs.declared.option.Option.TheVariants.{Some}
 use Rattle.bt_keycode.specs.Keys.{Key, IsPast, IsBelow, SideBySide}
@@ -44,9 +45,65 @@ side-map f key P low high [] b = tt
 side-map f key P low high (x ∷ []) b = b
 side-map f key P low high (x ∷ y ∷ ys) b = (b.0, b.1, b.2, side-map f key P (Some (key (f y))) high (y ∷ ys) b.3)
 
+-- and back
+pub side-mapped : {X Y : Type 0} (f : X → Y) (key : Y → Key) (P : Option Key → Option Key → Y → Type 0) (low high : Option Key) (xs : List X) →
+    SideBySide key P low high (map f xs) → SideBySide (λ x. key (f x)) (λ l h x. P l h (f x)) low high xs
+side-mapped f key P low high [] b = tt
+side-mapped f key P low high (x ∷ []) b = b
+side-mapped f key P low high (x ∷ y ∷ ys) b = (b.0, b.1, b.2, side-mapped f key P (Some (key (f y))) high (y ∷ ys) b.3)
+
 -- the first one's pivot says nothing
 pub led-side : {X : Type 0} (P : Option Key → Option Key → X → Type 0) (k : Key) (low high : Option Key) (xs : List (Key × X)) →
     SideBySide (λ x. x.0) (λ l h x. P l h x.1) low high xs → SideBySide (λ x. x.0) (λ l h x. P l h x.1) low high (pivot_first k xs)
 led-side P k low high [] b = b
 led-side P k low high (x ∷ []) b = b
 led-side P k low high (x ∷ y ∷ ys) b = b
+
+-- ---- items that others take the place of
+
+-- begins with an item of this key
+abbrev pub Begins : {X : Type 0} → (X → Key) → Key → List X → Type 0
+Begins key k [] = ⊥
+Begins key k (x ∷ xs) = key x ≡ k
+
+-- each item has a block of others in its place, which begins with the item's key
+module _ {X Y : Type 0} (key : X → Key) (P : Option Key → Option Key → X → Type 0) (name : Y → Key) (Q : Option Key → Option Key → Y → Type 0) (block : X → List Y)
+    (each : (low high : Option Key) (x : X) → P low high x → Begins name (key x) (block x) × SideBySide name Q low high (block x)) where
+  begins-append : (k : Key) (ys zs : List Y) → Begins name k ys → Begins name k (ys ++ zs)
+  begins-append k [] zs b = absurd b
+  begins-append k (y ∷ ys) zs b = b
+
+  begins-long : (k : Key) (ys : List Y) → Begins name k ys → 1 ≤ length ys
+  begins-long k [] b = absurd b
+  begins-long k (y ∷ ys) b = omega arith
+
+  meet : (low : Option Key) (j k : Key) (high : Option Key) (ys zs : List Y) → Begins name j ys → Begins name k zs → IsPast low k → IsBelow high k →
+      SideBySide name Q low (Some k) ys → SideBySide name Q (Some k) high zs → SideBySide name Q low high (ys ++ zs)
+  meet low j k high [] zs b c = absurd b
+  meet low j k high (y ∷ ys) [] b c = absurd c
+  meet low j k high (y ∷ ys) (z ∷ zs) b c =
+      subst (λ i. IsPast low i → IsBelow high i → SideBySide name Q low (Some i) (y ∷ ys) → SideBySide name Q (Some i) high (z ∷ zs) → SideBySide name Q low high ((y ∷ ys) ++ z ∷ zs)) c
+      (join name Q low high y ys z zs)
+
+  pub blocks-begin : (low high : Option Key) (x : X) (xs : List X) → SideBySide key P low high (x ∷ xs) → Begins name (key x) (flat_map block (x ∷ xs))
+  blocks-begin low high x [] s = begins-append (key x) (block x) [] (each low high x s).0
+  blocks-begin low high x (y ∷ ys) s = begins-append (key x) (block x) (flat_map block (y ∷ ys)) (each low (Some (key y)) x s.2).0
+
+  -- the blocks lie side by side where the items do
+  pub blocks-lie : (low high : Option Key) (xs : List X) → SideBySide key P low high xs → SideBySide name Q low high (flat_map block xs)
+  blocks-lie low high [] s = tt
+  blocks-lie low high (x ∷ []) s = subst (SideBySide name Q low high) (sym (append-nil (block x))) (each low high x s).1
+  blocks-lie low high (x ∷ y ∷ ys) s =
+      let here = each low (Some (key y)) x s.2 in
+      meet low (key x) (key y) high (block x) (flat_map block (y ∷ ys)) here.0 (blocks-begin (Some (key y)) high y ys s.3) s.0 s.1 here.1 (blocks-lie (Some (key y)) high (y ∷ ys) s.3)
+
+  -- and are no fewer
+  pub blocks-long : (low high : Option Key) (xs : List X) → SideBySide key P low high xs → length xs ≤ length (flat_map block xs)
+  blocks-long low high [] s = omega arith
+  blocks-long low high (x ∷ []) s = omega (arith, begins-long (key x) (block x) (each low high x s).0, length-append (block x) [])
+  blocks-long low high (x ∷ y ∷ ys) s = omega (
+    arith,
+    begins-long (key x) (block x) (each low (Some (key y)) x s.2).0,
+    blocks-long (Some (key y)) high (y ∷ ys) s.3,
+    length-append (block x) (flat_map block (y ∷ ys)),
+  )

@@ -5,7 +5,7 @@ use Rattle.bt_keycode.proofs.offered.Order.{apart_back}
 use Rattle.bt_messages.specs.Bins.{AllBefore, LieBetween, joined}
 use Rattle.bt_messages.proofs.offered.Parts.{lie_length}
 use Rattle.bt_messages.proofs.offered.Rows.{value_before}
-use Rattle.bt_node.specs.Lookups.{pivots_up_to}
+use Rattle.bt_node.specs.inside.Lookups.{pivots_up_to}
 use Rattle.bt_messages.specs.declared.message.Message.{Message}
 use Rattle.bt_node.specs.Messages.{Messages, between, value_after}
 use Rattle.bt_node.specs.declared.held.Held.{Held}

@@ -8,7 +8,7 @@ use Rattle.bt_node.specs.Messages.{value_after}
 use Rattle.bt_node.specs.Trees.{Tree, leaf, inner, Nodes, none, node, children}
 use Rattle.bt_node.specs.Flushes.{holds, nodes_hold, all_hold}
 use Rattle.bt_node.specs.Fits.{Lies, SiblingsLie}
-use Rattle.bt_node.specs.Lookups.{value_at, value_below}
+use Rattle.bt_node.specs.inside.Lookups.{value_at, value_below}
 use Rattle.bt_keycode.proofs.offered.Order.{sides}
 use Rattle.bt_node.proofs.lemmas.rows.Values.{find-append, find-rows, or_else, or_else-None}
 use Rattle.bt_node.proofs.lemmas.lookups.Outside.{Outside, nodes_hold-children, tree-outside, all-outside}

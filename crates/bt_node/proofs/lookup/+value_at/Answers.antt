@@ -1,8 +1,8 @@
 use Rattle.std.proofs.Common.{◌≡◌, None, Some, ◌∙◌, ap, arith, rules, subst, sym}
 use Rattle.bt_messages.specs.Bins.{LieBetween, joined}
 use Rattle.bt_messages.specs.Effects.{effect_of}
-use Rattle.bt_node.specs.Kinds.{IsDivided, tree_of}
-use Rattle.bt_node.specs.Lookups.{value_at}
+use Rattle.bt_node.specs.inside.Kinds.{IsDivided, tree_of}
+use Rattle.bt_node.specs.inside.Lookups.{value_at}
 use Rattle.bt_node.specs.inside.Held.{value_of}
 use Rattle.bt_node.proofs.lemmas.code.AbsorbStep.{if_ok}
 use Rattle.bt_node.proofs.lemmas.code.LookupPath.{along, along_reset, begins_at}

@@ -1,7 +1,7 @@
 use Rattle.std.proofs.Common.{◌∙◌, ◌+◌, ◌++◌, ap, arith, drop, length, length-drop, map, subst, sym, take}
 use Rattle.bt_messages.specs.Bins.{LieBetween, joined}
 use Rattle.bt_messages.specs.Effects.{effect_of}
-use Rattle.bt_node.specs.Kinds.{IsDivided, tree_of}
+use Rattle.bt_node.specs.inside.Kinds.{IsDivided, tree_of}
 use Rattle.bt_node.specs.inside.Held.{value_of}
 use Rattle.bt_node.specs.inside.Together.{values_at}
 use Rattle.bt_node.proofs.lemmas.code.AbsorbStep.{if_ok}

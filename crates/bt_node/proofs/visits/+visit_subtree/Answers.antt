@@ -7,9 +7,9 @@ use Rattle.bt_messages.specs.Bins.{LieBetween, joined}
 use Rattle.bt_messages.specs.Effects.{effect_of}
 use Rattle.bt_node.specs.Flushes.{holds}
 use Rattle.bt_messages.specs.Messages.{messages_outside}
-use Rattle.bt_node.specs.Lookups.{first_place}
+use Rattle.bt_node.specs.inside.Lookups.{first_place}
 use Rattle.bt_node.specs.Messages.{between, rows_after}
-use Rattle.bt_node.specs.Kinds.{IsDivided, tree_of}
+use Rattle.bt_node.specs.inside.Kinds.{IsDivided, tree_of}
 use Rattle.bt_node.specs.inside.Limits.{limited}
 use Rattle.bt_node.proofs.lemmas.code.ChildBounds.{belongs, next_begins, next_below, next_from, next_within, or_copied, present}
 use Rattle.bt_node.proofs.lemmas.code.PivotSearch.{pivots_rise}

@@ -3,7 +3,7 @@ use Rattle.std.specs.Option.{option_copied}
 use Rattle.bt_keycode.specs.Keys.{AllWithin, IsSorted}
 use Rattle.bt_messages.specs.Effects.{effect_of}
 use Rattle.bt_node.specs.Flushes.{holds}
-use Rattle.bt_node.specs.Lookups.{first_place}
+use Rattle.bt_node.specs.inside.Lookups.{first_place}
 use Rattle.bt_node.specs.Messages.{between, rows_after}
 use Rattle.bt_node.specs.Trees.{height}
 use Rattle.bt_node.specs.inside.Limits.{limited}

@@ -2,15 +2,15 @@ use Rattle.std.proofs.Common.{◌≡◌, ◌<◌, ◌≤◌, ◌+◌, ◌∙◌,
 use Rattle.std.proofs.Math.Seq.{take-length}
 use Rattle.std.proofs.lemmas.List.{length-map, length-take-le}
 use Rattle.std.specs.Vec.Iter.{into_iter_items}
-use Rattle.bt_messages.specs.Bins.{LieBetween, each_with, joined, parted, parts, total}
+use Rattle.bt_messages.specs.Bins.{LieBetween, each_with, joined, parts}
+use Rattle.bt_messages.specs.Parts.{parted, total}
 use Rattle.bt_messages.specs.Messages.{with_messages}
 use Rattle.bt_messages.proofs.offered.Fronts.{sorted_take}
 use Rattle.bt_messages.proofs.offered.Parts.{lie_length}
 use Rattle.bt_messages.proofs.offered.Placed.{alone}
 use Rattle.bt_messages.proofs.offered.Totals.{nothing_pending}
 use Rattle.bt_node.specs.Fits.{IsSized}
-use Rattle.bt_node.specs.Lookups.{pivots_of}
-use Rattle.bt_node.specs.Trees.{behind}
+use Rattle.bt_node.specs.Trees.{behind, pivots_of}
 use Rattle.bt_node.proofs.offered.FlushSteps.{if_ok}
 use Rattle.bt_plan.specs.Cuts.{flush_marks, hole_of}
 use Rattle.bt_plan.specs.Pieces.{holed_nodes, holes, opened, with_holes}

@@ -1,6 +1,6 @@
 use Rattle.std.proofs.Common.{refl, subst, sym}
 use Rattle.bt_messages.specs.Bins.{LieBetween}
-use Rattle.bt_node.specs.Lookups.{pivots_of}
+use Rattle.bt_node.specs.Trees.{pivots_of}
 use Rattle.bt_plan.proofs.cutting.keep_all.Goals as goal
 
 pub same-children : goal.same-children

@@ -1,6 +1,6 @@
 use Rattle.std.proofs.Common.{◌≡◌, ◌≤◌, ◌++◌, ◌∙◌, List, ℕ, ap, drop, length, replicate}
-use Rattle.bt_rowtype.specs.Limits.{most_short}
-use Rattle.bt_rowtype.specs.Shorts.{padded}
+use Rattle.bt_rowtype.specs.inside.Shorts.{most_short}
+use Rattle.bt_rowtype.specs.Paddings.{padded}
 use Rattle.bt_rowtype.proofs.Paddings.{written-over}
 use Rattle.bt_rowtype.proofs.bytes.padded.Goals as goal
 

@@ -1,6 +1,6 @@
 use Rattle.std.proofs.Common.{◌≡◌, ◌≤◌, ◌∙◌, List, ℕ, ap, length, sym, take}
-use Rattle.bt_rowtype.specs.Limits.{most_short}
-use Rattle.bt_rowtype.specs.Shorts.{padded}
+use Rattle.bt_rowtype.specs.inside.Shorts.{most_short}
+use Rattle.bt_rowtype.specs.Paddings.{padded}
 use Rattle.bt_rowtype.proofs.Paddings.{padded-front}
 use Rattle.bt_rowtype.proofs.bytes.short.Goals as goal
 

@@ -1,6 +1,6 @@
 use Rattle.std.proofs.Common.{◌≡◌, ◌≢◌, ◌==◌, ◌∙◌, ℕ, arith, ap, sym, refl, false, get_or, length}
 use Rattle.std.proofs.lemmas.Bool.Decides.{nat_tests}
-use Rattle.bt_rowtype.specs.Records.{is_special}
+use Rattle.bt_rowtype.specs.inside.RecordParts.{is_special}
 use Rattle.bt_rowtype.specs.declared.fields.Place.{Place}
 use Rattle.bt_rowtype.proofs.Pieces.{more_places}
 use Rattle.bt_rowtype.proofs.Plain.{cut_comma, cut_end, cut_other, plain_end, plain_more, plain_text}

@@ -1,7 +1,7 @@
 use Rattle.std.proofs.Common.{◌≡◌, ◌≤◌, drop, length}
 use Rattle.std.specs.List.{list_any}
-use Rattle.bt_rowtype.specs.Pieces.{LieWithin}
-use Rattle.bt_rowtype.specs.Records.{is_special}
+use Rattle.bt_rowtype.specs.inside.Pieces.{LieWithin}
+use Rattle.bt_rowtype.specs.inside.RecordParts.{is_special}
 use Rattle.bt_rowtype.proofs.Plain.{Cut}
 use Rattle.bt_rowtype.proofs.cut.cut_plain.Given as goal
 

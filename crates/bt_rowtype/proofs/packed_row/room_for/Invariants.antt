@@ -1,5 +1,5 @@
 use Rattle.std.proofs.Common.{◌+◌, ◌≤◌, drop, length}
-use Rattle.bt_rowtype.specs.Packing.{packed}
+use Rattle.bt_rowtype.specs.inside.Packing.{packed}
 use Rattle.bt_rowtype.proofs.packed_row.room_for.Given as goal
 
 abbrev pub invariant-loop-value : goal.invariant-loop-value

@@ -1,7 +1,7 @@
 use Rattle.std.proofs.Common.{◌≡◌, ◌≢◌, ◌∙◌, arith, sym, ap, refl, false}
 use Rattle.std.proofs.lemmas.Bool.{false≢true}
 use Rattle.csv.specs.Machine.{is_end}
-use Rattle.bt_rowtype.specs.Reader.{csv_action, csv_state}
+use Rattle.bt_rowtype.specs.inside.Reader.{csv_action, csv_state}
 use Rattle.bt_rowtype.specs.declared.reader.Action.{Action}
 use Rattle.bt_rowtype.specs.declared.reader.Action.TheVariants as action
 use Rattle.bt_rowtype.proofs.RecordEnds.{ends_here, ends_last, inside_more, inside_start}

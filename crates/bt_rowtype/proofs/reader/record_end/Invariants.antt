@@ -1,4 +1,4 @@
-use Rattle.bt_rowtype.specs.Reader.{csv_state}
+use Rattle.bt_rowtype.specs.inside.Reader.{csv_state}
 use Rattle.bt_rowtype.proofs.RecordEnds.{Inside}
 use Rattle.bt_rowtype.proofs.reader.record_end.Given as goal
 

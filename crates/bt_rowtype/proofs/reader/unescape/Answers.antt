@@ -3,8 +3,8 @@ use Rattle.std.proofs.lemmas.Bool.{false≢true}
 use Rattle.csv.specs.Machine.{Read, next_record}
 use Rattle.csv.specs.Reading.{default_config}
 use Rattle.csv.specs.declared.parser.Action.TheVariants as act
-use Rattle.bt_rowtype.specs.Pieces.{pieces}
-use Rattle.bt_rowtype.specs.Reader.{csv_action, csv_state}
+use Rattle.bt_rowtype.specs.inside.Pieces.{pieces}
+use Rattle.bt_rowtype.specs.inside.Reader.{csv_action, csv_state}
 use Rattle.bt_rowtype.specs.declared.reader.State.{State}
 use Rattle.bt_rowtype.specs.declared.reader.State.TheVariants as state
 use Rattle.bt_rowtype.proofs.Found.{many_fields}

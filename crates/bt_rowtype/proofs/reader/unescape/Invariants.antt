@@ -2,8 +2,8 @@ use Rattle.std.proofs.Common.{◌≡◌, ◌≤◌, drop, length, []}
 use Rattle.csv.specs.Machine.{next_record}
 use Rattle.csv.specs.Reading.{default_config}
 use Rattle.csv.specs.declared.parser.State.TheVariants as st
-use Rattle.bt_rowtype.specs.Pieces.{LieWithin, pieces}
-use Rattle.bt_rowtype.specs.Reader.{csv_state}
+use Rattle.bt_rowtype.specs.inside.Pieces.{LieWithin, pieces}
+use Rattle.bt_rowtype.specs.inside.Reader.{csv_state}
 use Rattle.bt_rowtype.proofs.reader.unescape.Given as goal
 
 -- from here on the reader reads what is left of the text; the bytes from the start on are those of the field at hand

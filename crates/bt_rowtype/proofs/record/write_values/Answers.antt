@@ -2,7 +2,8 @@ use Rattle.std.proofs.Common.{◌≡◌, ◌∙◌, ◌++◌, ◌==◌, ◌∷�
 use Rattle.std.proofs.lemmas.Bool.{eq-eqb, ne_eqb}
 use Rattle.std.proofs.lemmas.List.{append-nil}
 use Rattle.csv.specs.Writing.{default_writer, row_body}
-use Rattle.bt_rowtype.specs.Records.{Grows, record_text}
+use Rattle.bt_rowtype.specs.Records.{record_text}
+use Rattle.bt_rowtype.specs.inside.RecordParts.{Grows}
 use Rattle.bt_rowtype.specs.Values.{text_of}
 use Rattle.bt_rowtype.specs.Views.{shown}
 use Rattle.bt_rowtype.specs.declared.value.Value.{Value}

@@ -1,5 +1,5 @@
 use Rattle.std.proofs.Common.{List, Option, Some, None, ◌≡◌, ◌∙◌, sym, ap}
-use Rattle.bt_script.specs.Blocks.{with_last}
+use Rattle.bt_script.specs.inside.Blocks.{with_last}
 use Rattle.bt_script.specs.Commands.{item_from}
 use Rattle.bt_rowtype.specs.declared.item.Item.{Item}
 use Rattle.bt_script.proofs.Blanks.{and-blank, and-item}

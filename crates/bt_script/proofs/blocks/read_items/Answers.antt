@@ -1,5 +1,5 @@
 use Rattle.std.proofs.Common.{List, Option, Some, [], ◌∷◌, ◌++◌, ◌≡◌, ◌∙◌, refl, sym, ap, rules, codes, true, false}
-use Rattle.bt_script.specs.Blocks.{and_line}
+use Rattle.bt_script.specs.inside.Blocks.{and_line}
 use Rattle.bt_script.specs.Commands.{items_of}
 use Rattle.bt_script.specs.Lines.{without_return}
 use Rattle.bt_rowtype.specs.declared.item.Item.{Item}

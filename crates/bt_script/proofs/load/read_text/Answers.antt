@@ -1,11 +1,11 @@
 use Rattle.std.proofs.Common.{List, ℕ, [], ◌∷◌, ◌++◌, ◌≡◌, ◌∙◌, refl, sym, ap, rules, codes, drop, true, false}
-use Rattle.bt_script.specs.Lines.{text_of}
+use Rattle.bt_script.specs.Lines.{text_of_lines}
 use Rattle.bt_script.proofs.Machine.{leads-closed, leads-cut, leads-more, tested}
 use Rattle.bt_script.proofs.Texts.{text-between, text-more}
 use Rattle.bt_script.proofs.load.read_text.Goals as goal
 
-no_text : text_of [] ≡ []
-unfolding text_of
+no_text : text_of_lines [] ≡ []
+unfolding text_of_lines
 no_text = refl
 
 pub loop-at-init : goal.loop-at-init
@@ -23,7 +23,7 @@ loop-at-preserved c =
       past = search rules;
       so_far = (
         block.0 ++ line ∷ [],
-        λ more. block.1 c.loop-at-test.true ∙ ap (λ (l : List ℕ). text_of block.0 ++ l) (c.next_line-next.ensures.feed more) ∙ sym (text-more block.0 line (drop next script)),
+        λ more. block.1 c.loop-at-test.true ∙ ap (λ (l : List ℕ). text_of_lines block.0 ++ l) (c.next_line-next.ensures.feed more) ∙ sym (text-more block.0 line (drop next script)),
         leads-more script c.args.start c.loop-at.at next (codes ".") line block.0 block.2 c.next_line-next.ensures.line other,
       );
     }
@@ -37,7 +37,7 @@ returns-then-is_word-clause-block c =
     let line = c.next_line-next.result.0.now in
     let closes = tested line c.without_return.result.now (codes ".") c.is_word.result true c.without_return.ensures c.is_word.ensures c.if-is_word.true in (
       block.0,
-      λ _. text-between script (text_of block.0) start at c.loop-at.invariant.past c.loop-at.invariant.within (block.1 c.loop-at-test.true),
+      λ _. text-between script (text_of_lines block.0) start at c.loop-at.invariant.past c.loop-at.invariant.within (block.1 c.loop-at-test.true),
       leads-closed script start at c.next_line-next.result.1 (codes ".") line block.0 block.2 c.next_line-next.ensures.line closes,
     )
 

@@ -1,7 +1,7 @@
 use Rattle.std.proofs.Common.{ℕ, Bool, List, [], ◌≡◌, ◌∙◌, sym, ap, subst, rules, drop, true, false}
 use Rattle.std.proofs.lemmas.List.{drop_all}
 use Rattle.std.proofs.lemmas.Result.{IfOk-weaker}
-use Rattle.bt_script.specs.Blocks.{headed}
+use Rattle.bt_script.specs.inside.Blocks.{headed}
 use Rattle.bt_script.specs.Commands.{Finds, Outside, commands_from, is_blank_line}
 use Rattle.bt_script.specs.Lines.{is_blank, lines, without_return}
 use Rattle.bt_script.proofs.Machine.{outside-blank, outside-end, outside-head}

@@ -1,7 +1,7 @@
 use Rattle.std.proofs.Common.{◌∷◌, ◌≡◌, ◌∙◌, sym, ap, subst, drop}
-use Rattle.bt_script.specs.Blocks.{ended}
+use Rattle.bt_script.specs.inside.Blocks.{ended}
 use Rattle.bt_script.specs.Commands.{Answer, Finds, command_of, commands}
-use Rattle.bt_script.specs.Lines.{lines, text_of, words}
+use Rattle.bt_script.specs.Lines.{lines, text_of_lines, words}
 use Rattle.bt_script.proofs.Machine.{command-load, ended-load, headed-load}
 use Rattle.bt_script.proofs.parse.parse_load.Goals as goal
 
@@ -18,6 +18,6 @@ returns-clause-found c =
     let read = c.read_text-content.result in
     let block = c.read_text-content.ensures.block in
     let command : ended read.closed (command_of head block.0) ≡ ended read.closed c.load_command.result =
-    ap (ended read.closed) (command-load head block.0 no_batch no_scan no_sums load) ∙ ended-load read.closed ws read.content (text_of block.0) block.1 ∙ ap (ended read.closed) (sym made) in
+    ap (ended read.closed) (command-load head block.0 no_batch no_scan no_sums load) ∙ ended-load read.closed ws read.content (text_of_lines block.0) block.1 ∙ ap (ended read.closed) (sym made) in
     let all = headed-load head (lines (drop c.args.at script)) no_batch no_scan no_sums load ∙ block.2 head ∙ ap (λ (answer : Answer). answer ∷ commands (drop read.next script)) command in
     subst (Finds c.parsed.result script) (sym all) (c.parsed.ensures.found script)

@@ -1,6 +1,6 @@
 use Rattle.std.proofs.Common.{Option, ◌∷◌, ◌≡◌, ◌∙◌, sym, ap, subst, drop}
-use Rattle.bt_script.specs.Blocks.{ended}
-use Rattle.bt_script.specs.Commands.{Finds, scan_of, command_of, commands}
+use Rattle.bt_script.specs.inside.Blocks.{ended}
+use Rattle.bt_script.specs.Commands.{Finds, scan_command, command_of, commands}
 use Rattle.bt_script.specs.Lines.{lines, words}
 use Rattle.bt_script.specs.declared.command.Command.{Command}
 use Rattle.bt_script.proofs.Machine.{command-scan, headed-scan}
@@ -17,6 +17,6 @@ returns-clause-found c =
     let read = c.read_bounds-content.result in
     let block = c.read_bounds-content.ensures.block in
     let command : command_of head block.0 ≡ c.in_ok-command.command =
-    command-scan head block.0 no_batch scan ∙ ap (scan_of ws) (sym block.1) ∙ sym made in
+    command-scan head block.0 no_batch scan ∙ ap (scan_command ws) (sym block.1) ∙ sym made in
     let all = headed-scan head (lines (drop c.args.at script)) no_batch scan ∙ block.2 head ∙ ap (λ (o : Option Command). ended read.closed o ∷ commands (drop read.next script)) command in
     subst (Finds c.parsed.result script) (sym all) (c.parsed.ensures.found script)

@@ -3,7 +3,8 @@ use Rattle.clap.specs.Words.{HasKind, IsAmong, Text, first_of, found_of, kind_of
 use Rattle.clap.specs.declared.error.kind.ErrorKind.{ErrorKind}
 use Rattle.clap.specs.declared.error.kind.ErrorKind.TheVariants as kinds
 use Rattle.clap.proofs.WalkLemmas.{first_value-rows}
-use Rattle.bt_script.specs.Options.{ComesOf, HasFault, kinds_of_words, rows_of_words}
+use Rattle.bt_script.specs.inside.Errors.{ComesOf}
+use Rattle.bt_script.specs.Options.{HasFault, kinds_of_words, rows_of_words}
 use Rattle.bt_script.specs.declared.words.WordsError.{WordsError}
 use Rattle.bt_script.specs.declared.words.WordsError.TheVariants.{Faulty, Help, OutOfMemory}
 use Rattle.bt_script.proofs.words.read_words.Goals as goal

@@ -1,7 +1,7 @@
 use Rattle.std.proofs.Common.{arith, rules, drop, sym, subst}
 use Rattle.bt_script.specs.Commands.{commands}
 use Rattle.bt_script.proofs.offered.Streams.{Took-kept, Took-nil}
-use Rattle.bt_shell.specs.Runs.{IsTurn}
+use Rattle.bt_shell.specs.inside.Turns.{IsTurn}
 use Rattle.bt_shell.proofs.Turns.{on_err, run_begins, run_breaks, run_goes_on, run_prefix, run_replies}
 use Rattle.bt_shell.proofs.run.write_replies.Goals as goal
 

@@ -3,7 +3,8 @@ use Rattle.bt_rowtype.specs.declared.refusal.Refusal.TheVariants.{OutOfMemory}
 use Rattle.bt_script.specs.declared.command.Command.TheVariants.{Scan}
 use Rattle.bt_table.specs.Batches.{made}
 use Rattle.bt_view.specs.Ranges.{scan}
-use Rattle.bt_shell.specs.Replies.{row_line, scan_reply, with_line}
+use Rattle.bt_shell.specs.inside.Lines.{with_line}
+use Rattle.bt_shell.specs.Replies.{row_line, scan_reply}
 use Rattle.bt_shell.specs.Steps.{outcome, seen}
 use Rattle.bt_shell.proofs.Lines.{refused, replied}
 use Rattle.bt_shell.proofs.session.scan.Goals as goal

@@ -3,7 +3,8 @@ use Rattle.bt_rowtype.specs.declared.refusal.Refusal.TheVariants.{OutOfMemory}
 use Rattle.bt_script.specs.declared.command.Command.TheVariants.{Sums}
 use Rattle.bt_table.specs.Batches.{made}
 use Rattle.bt_view.specs.Groups.{sums}
-use Rattle.bt_shell.specs.Replies.{sum_line, sums_reply, with_line}
+use Rattle.bt_shell.specs.inside.Lines.{with_line}
+use Rattle.bt_shell.specs.Replies.{sum_line, sums_reply}
 use Rattle.bt_shell.specs.Steps.{outcome, seen}
 use Rattle.bt_shell.proofs.Lines.{refused, replied}
 use Rattle.bt_shell.proofs.session.sums.Goals as goal

@@ -1,7 +1,7 @@
 use Rattle.std.proofs.Common.{◌∙◌, ◌++◌, ◌∷◌, [], ap, arith, length, subst, sym}
 use Rattle.std.specs.List.{All}
 use Rattle.bt_fanout.specs.Entries.{IsWithin}
-use Rattle.bt_table.specs.Indexes.{entry_tree}
+use Rattle.bt_table.specs.inside.IndexTrees.{entry_tree}
 use Rattle.bt_table.proofs.Mapped.{mapped_next}
 use Rattle.bt_table.proofs.index.pack_entries.Goals as goal
 

@@ -1,5 +1,5 @@
 use Rattle.std.proofs.Common.{◌≡◌, ◌++◌, drop, map}
-use Rattle.bt_table.specs.Indexes.{entry_tree}
+use Rattle.bt_table.specs.inside.IndexTrees.{entry_tree}
 use Rattle.bt_table.proofs.index.pack_entries.Given as goal
 
 -- the trees so far stand before those of the indexes from here on

@@ -1,7 +1,8 @@
 use Rattle.std.proofs.Common.{◌∙◌, ◌++◌, ◌∷◌, [], ap, arith, length, subst, sym}
 use Rattle.std.specs.List.{All}
 use Rattle.bt_fanout.specs.Effects.{SuitsEffect}
-use Rattle.bt_table.specs.Indexes.{packet_for, sent_count}
+use Rattle.bt_table.specs.Indexes.{sent_count}
+use Rattle.bt_table.specs.inside.IndexTrees.{packet_for}
 use Rattle.bt_table.proofs.Mapped.{mapped_next}
 use Rattle.bt_table.proofs.index.packets_for.Goals as goal
 

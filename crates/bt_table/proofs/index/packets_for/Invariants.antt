@@ -1,5 +1,6 @@
 use Rattle.std.proofs.Common.{◌≡◌, ◌++◌, drop, map}
-use Rattle.bt_table.specs.Indexes.{packet_for, sent_count}
+use Rattle.bt_table.specs.Indexes.{sent_count}
+use Rattle.bt_table.specs.inside.IndexTrees.{packet_for}
 use Rattle.bt_table.proofs.index.packets_for.Given as goal
 
 -- the packets so far, and their numbers, stand before those of the indexes from here on

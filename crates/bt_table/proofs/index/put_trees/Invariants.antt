@@ -1,6 +1,6 @@
 use Rattle.std.proofs.Common.{◌≡◌, ◌+◌, length}
 use Rattle.std.specs.Vec.Iter.{into_iter_items}
-use Rattle.bt_table.specs.Indexes.{with_trees}
+use Rattle.bt_table.specs.inside.IndexTrees.{with_trees}
 use Rattle.bt_table.proofs.Indexes.{with_trees_from}
 use Rattle.bt_table.proofs.index.put_trees.Given as goal
 

@@ -1,6 +1,6 @@
 use Rattle.std.proofs.Common.{◌≡◌, ◌++◌, length}
 use Rattle.std.specs.Vec.Iter.{into_iter_items}
-use Rattle.bt_table.specs.Indexes.{sunk_indexes}
+use Rattle.bt_table.specs.inside.IndexTrees.{sunk_indexes}
 use Rattle.bt_table.proofs.index.sink_all.Given as goal
 
 -- there is a packet for each index that is left

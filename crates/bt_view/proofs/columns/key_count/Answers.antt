@@ -1,16 +1,15 @@
-use Rattle.std.proofs.Common.{ap, arith, length, rules}
-use Rattle.bt_view.proofs.IndexColumns.{columns_long}
+use Rattle.std.proofs.Common.{ap, arith, length}
+use Rattle.bt_view.proofs.IndexColumns.{columns_long, keys_long}
 use Rattle.bt_view.proofs.columns.key_count.Goals as goal
-
-pub overflow_sub-result : goal.overflow_sub-result
-overflow_sub-result c =
-    let long = columns_long c.args.schema.now c.args.def.now c.keys-keys.ensures.within in
-    let same = ap length c.requires in
-    search (rules, long, same)
 
 pub returns : goal.returns
 returns c =
-    let long = columns_long c.args.schema.now c.args.def.now c.keys-keys.ensures.within in
-    let same = ap length c.requires in
-    let included = ap length c.include.ensures in
-    record { count = omega (arith, long, same, included); within = omega (arith, long, same, included) }
+    let schema = c.args.schema.now in
+    let def = c.args.def.now in
+    let few = c.key_columns.ensures.within in
+    let on = ap length c.on.ensures in
+    let keys = ap length c.key_columns.ensures.value in
+    record {
+      count = omega (arith, on, keys, keys_long schema few);
+      within = omega (arith, on, keys, keys_long schema few, columns_long schema def few);
+    }

@@ -1,7 +1,7 @@
 use Rattle.std.proofs.Common.{◌≡◌, ◌-◌, ◌^◌, min, take}
 use Rattle.bt_node.specs.Trees as trees
 use Rattle.bt_node.specs.Walks.{children_of}
-use Rattle.bt_view.specs.Drawings.{highest}
+use Rattle.bt_view.specs.inside.Drawings.{highest}
 use Rattle.bt_view.proofs.tree_image.+height.Given as goal
 
 -- the highest of the children so far

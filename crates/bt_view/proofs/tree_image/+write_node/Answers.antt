@@ -1,6 +1,6 @@
 use Rattle.std.proofs.Common.{arith, ◌∙◌}
 use Rattle.bt_node.specs.Walks.{children_of}
-use Rattle.bt_view.specs.Drawings.{own_text}
+use Rattle.bt_view.specs.inside.Drawings.{own_text}
 use Rattle.bt_view.proofs.Drawings.{child_below, child_written, node_written}
 use Rattle.bt_view.proofs.tree_image.+write_node.Goals as goal
 

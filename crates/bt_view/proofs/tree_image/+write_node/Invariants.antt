@@ -1,7 +1,7 @@
 use Rattle.std.proofs.Common.{◌≡◌, ◌++◌, take}
 use Rattle.bt_node.specs.Trees as trees
 use Rattle.bt_node.specs.Walks.{children_of}
-use Rattle.bt_view.specs.Drawings.{own_text, siblings_text}
+use Rattle.bt_view.specs.inside.Drawings.{own_text, siblings_text}
 use Rattle.bt_view.proofs.tree_image.+write_node.Given as goal
 
 -- the node's own lines and those of the children so far were added

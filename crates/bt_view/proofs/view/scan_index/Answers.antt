@@ -7,8 +7,8 @@ use Rattle.bt_view.specs.Ranges.{scan_of, when_whole}
 use Rattle.bt_view.proofs.IndexViews.{range_by, scan_done, scan_refused}
 use Rattle.bt_view.proofs.view.scan_index.Goals as goal
 
-pub returns-in_err-range : goal.returns-in_err-range
-returns-in_err-range g c = λ table shows.
+pub returns-in_err-range-clause-answer : goal.returns-in_err-range-clause-answer
+returns-in_err-range-clause-answer g c = λ table shows.
     let index = c.args.index.now in
     let from = option_copied c.args.from in
     let to = option_copied c.args.to in
@@ -17,8 +17,8 @@ returns-in_err-range g c = λ table shows.
     let wanted : refusal ≢ OutOfMemory → made (fold g.S.Sink.added c.args.sink) (scan_of from to (Secondary table index)) ≡ Err refusal = λ certain. scan_refused table index from to c.args.schema.now shows g.S.Sink.added c.args.sink refusal (told certain) in
     search (rules, wanted)
 
-pub returns : goal.returns
-returns g c = λ table shows.
+pub returns-clause-answer : goal.returns-clause-answer
+returns-clause-answer g c = λ table shows.
     let index = c.args.index.now in
     let from = option_copied c.args.from in
     let to = option_copied c.args.to in

@@ -6,11 +6,11 @@ use Rattle.bt_table.specs.Batches.{and_then, made}
 use Rattle.bt_table.specs.Calls.{Secondary}
 use Rattle.bt_view.specs.Groups.{sums_of}
 use Rattle.bt_view.specs.Ranges.{index_schema, when_whole}
-use Rattle.bt_view.proofs.IndexViews.{kinds_by, no_place, place_by, range_by, sums_done, sums_refused}
+use Rattle.bt_view.proofs.IndexViews.{no_place, place_by, range_by, sums_done, sums_refused}
 use Rattle.bt_view.proofs.view.sum_index.Goals as goal
 
-pub returns-in_err-range : goal.returns-in_err-range
-returns-in_err-range g c = λ table shows.
+pub returns-in_err-range-clause-answer : goal.returns-in_err-range-clause-answer
+returns-in_err-range-clause-answer g c = λ table shows.
     let index = c.args.index.now in
     let from = option_copied c.args.from in
     let to = option_copied c.args.to in
@@ -19,8 +19,8 @@ returns-in_err-range g c = λ table shows.
     let wanted : refusal ≢ OutOfMemory → made (fold g.S.Sink.added c.args.sink) (sums_of c.args.grouping c.args.column.now from to (Secondary table index)) ≡ Err refusal = λ certain. sums_refused table index from to c.args.schema.now shows c.args.grouping c.args.column.now g.S.Sink.added c.args.sink refusal (told certain) in
     search (rules, wanted)
 
-pub returns-in-Err : goal.returns-in-Err
-returns-in-Err g c = λ table shows.
+pub returns-in-Err-clause-answer : goal.returns-in-Err-clause-answer
+returns-in-Err-clause-answer g c = λ table shows.
     let index = c.args.index.now in
     let from = option_copied c.args.from in
     let to = option_copied c.args.to in
@@ -31,16 +31,15 @@ returns-in-Err g c = λ table shows.
     let wanted = no_place table index from to c.args.schema.now shows c.args.grouping c.args.column.now g.S.Sink.added c.args.sink refusal own is none in
     search (rules, wanted)
 
-pub returns : goal.returns
-returns g c = λ table shows.
+pub returns-clause-answer : goal.returns-clause-answer
+returns-clause-answer g c = λ table shows.
     let index = c.args.index.now in
     let from = option_copied c.args.from in
     let to = option_copied c.args.to in
     let own = c.in_ok-range.range in
     let is : and_then (when_whole index.cover) (range_by table index from to c.args.schema.now) ≡ Ok own = search rules in
     let placed : place_by table index from to c.args.schema.now shows c.args.grouping c.args.column.now c.args.schema.now ≡ Ok c.in-Ok.place = search rules in
-    let kinds : c.as_slice-3.result.now ≡ kinds_by table index from to c.args.schema.now = search rules in
     let few : c.args.grouping ≤ (index_schema c.args.schema.now index.def).keys = search rules in
     subst (λ answer. Answers answer c.finish.result)
-    (sums_done table index from to c.args.schema.now shows c.args.grouping c.args.column.now g.S.Sink.added c.args.sink c.in-Ok.place own c.as_slice-3.result.now c.new-groups.result c.in_ok-shown.field-0 is placed kinds few c.new-groups.ensures c.in_ok-shown.ensures)
+    (sums_done table index from to c.args.schema.now shows c.args.grouping c.args.column.now g.S.Sink.added c.args.sink c.in-Ok.place own c.new-groups.result c.in_ok-shown.field-0 is placed few c.new-groups.ensures c.in_ok-shown.ensures)
     c.finish.ensures

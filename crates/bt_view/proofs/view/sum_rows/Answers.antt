@@ -1,10 +1,10 @@
 use Rattle.std.proofs.Common.{subst}
 use Rattle.bt_rowtype.specs.Answers.{Answers}
 use Rattle.bt_node.specs.Flushes.{holds}
-use Rattle.bt_table.specs.Tables.{row_effect}
 use Rattle.bt_view.specs.Ranges.{rows_within}
 use Rattle.bt_view.proofs.Summing.{of_rows}
 use Rattle.bt_view.proofs.view.sum_rows.Goals as goal
+use Rattle.bt_fanout.specs.Effects.{row_effect}
 
 pub returns : goal.returns
 returns g c =

@@ -1,7 +1,7 @@
 use Rattle.std.proofs.Common.{◌≤◌, rules, map, subst, sym, take}
 use Rattle.bt_table.specs.Calls.{Shows}
 use Rattle.bt_table.specs.declared.table.TreeRef.TheVariants as shown
-use Rattle.bt_view.specs.Neighbours.{Ascend}
+use Rattle.bt_view.specs.inside.Neighbours.{Ascend}
 use Rattle.bt_view.specs.Ranges.{rows_within}
 use Rattle.bt_view.proofs.RowOrder.{ascend}
 use Rattle.bt_view.proofs.view.sums.Goals as goal

@@ -1,5 +1,5 @@
 use Rattle.std.proofs.Common.{◌∙◌, ◌<◌, ◌^◌, ap, refl, rules, sym}
-use Rattle.bt_keycode.specs.Prefixes.{eight_bytes}
+use Rattle.bt_keycode.specs.Codes.{eight_bytes}
 use Rattle.bt_keycode.proofs.Prefixes.{numbers_decide}
 use Rattle.bt_keycode.proofs.key.Key.compare.Goals as goal
 

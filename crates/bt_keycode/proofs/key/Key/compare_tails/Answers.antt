@@ -1,5 +1,6 @@
 use Rattle.std.proofs.Common.{◌∙◌, ◌<◌, ◌^◌, ◌≡◌, ap, rules, sym, drop}
-use Rattle.bt_keycode.specs.Prefixes.{eight_bytes, first_eight}
+use Rattle.bt_keycode.specs.Codes.{eight_bytes}
+use Rattle.bt_keycode.specs.Prefixes.{first_eight}
 use Rattle.bt_keycode.proofs.Prefixes.{all_same, lengths_decide, numbers_decide, same_fourteen, same_sixteen}
 use Rattle.bt_keycode.proofs.key.Key.compare_tails.Goals as goal
 

@@ -1,6 +1,7 @@
 use Rattle.std.proofs.Common.{◌∙◌, ap, arith, length, map, subst, sym}
-use Rattle.bt_messages.specs.Bins.{each_with, parted, total}
-use Rattle.bt_messages.specs.Rooms.{HaveRoom}
+use Rattle.bt_messages.specs.Bins.{each_with}
+use Rattle.bt_messages.specs.Parts.{parted, total}
+use Rattle.bt_messages.specs.inside.Rooms.{HaveRoom}
 use Rattle.bt_messages.proofs.bins.Bins.add_shares.Goals as goal
 
 pub room_for_each-requires-clause-len : goal.room_for_each-requires-clause-len

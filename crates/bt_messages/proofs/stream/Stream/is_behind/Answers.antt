@@ -1,6 +1,6 @@
 use Rattle.std.proofs.Common.{◌≡◌, ◌∙◌, false, sym}
 use Rattle.std.proofs.lemmas.Bool.{not-true}
-use Rattle.bt_messages.specs.Runs.{begins_before}
+use Rattle.bt_messages.specs.inside.Runs.{begins_before}
 use Rattle.bt_messages.proofs.Merging.{none_old}
 use Rattle.bt_messages.proofs.RunLists.{behind_last}
 use Rattle.bt_messages.proofs.stream.Stream.is_behind.Goals as goal

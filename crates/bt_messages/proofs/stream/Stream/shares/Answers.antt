@@ -1,7 +1,7 @@
 use Rattle.std.proofs.Common.{◌-◌, ap, arith}
 use Rattle.std.proofs.lemmas.Grind.{common_steps}
 use Rattle.std.proofs.lemmas.List.{drop_all}
-use Rattle.bt_messages.specs.Bins.{total}
+use Rattle.bt_messages.specs.Parts.{total}
 use Rattle.bt_messages.proofs.Counts.{counted_all, counted_keys, total-push}
 use Rattle.bt_messages.proofs.stream.Stream.shares.Goals as goal
 

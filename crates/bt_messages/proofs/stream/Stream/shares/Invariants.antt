@@ -1,5 +1,5 @@
 use Rattle.std.proofs.Common.{◌≡◌, ◌≤◌, ◌++◌, drop, length, take}
-use Rattle.bt_messages.specs.Bins.{total}
+use Rattle.bt_messages.specs.Parts.{total}
 use Rattle.bt_messages.specs.Bins.{parts}
 use Rattle.bt_messages.proofs.Counts.{sliced}
 use Rattle.bt_messages.proofs.stream.Stream.shares.Given as goal

@@ -1,6 +1,6 @@
 use Rattle.std.proofs.Common.{◌≡◌, ◌≤◌, ◌++◌, drop, length, take}
 use Rattle.bt_messages.specs.Bins.{joined}
-use Rattle.bt_messages.specs.Runs.{AreSome}
+use Rattle.bt_messages.specs.inside.Runs.{AreSome}
 use Rattle.bt_messages.proofs.stream.Stream.take_front.Given as goal
 
 abbrev pub invariant-loop-left : goal.invariant-loop-left

@@ -1,7 +1,7 @@
 use Rattle.std.proofs.Common.{◌≡◌, length}
 use Rattle.bt_keycode.specs.Keys.{AllFrom, IsSorted}
 use Rattle.bt_messages.specs.Effects.{effect_of}
-use Rattle.bt_messages.specs.Merges.{messages_past}
+use Rattle.bt_messages.specs.inside.Merges.{messages_past}
 use Rattle.bt_node.specs.Messages.{value_after}
 use Rattle.bt_node.specs.inside.Held.{value_of}
 use Rattle.bt_node.proofs.lent.Lent.take_effect.Given as goal

@@ -1,6 +1,6 @@
 use Rattle.std.proofs.Common.{◌∙◌, ap}
 use Rattle.bt_messages.specs.Effects.{effect_of}
-use Rattle.bt_node.specs.Lookups.{value_at}
+use Rattle.bt_node.specs.inside.Lookups.{value_at}
 use Rattle.bt_node.proofs.lemmas.code.AbsorbStep.{if_ok}
 use Rattle.bt_node.proofs.lemmas.lookups.HeldValues.{value_at-held}
 use Rattle.bt_node.proofs.walk.Walk.get.Goals as goal

@@ -1,6 +1,6 @@
 use Rattle.std.proofs.Common.{ℕ, List, ◌≡◌, ◌<◌, ◌∙◌, arith, ap, subst, sym, length, take, Box, Vec, Global}
-use Rattle.bt_rowtype.specs.Limits.{most_short}
-use Rattle.bt_rowtype.specs.Shorts.{FitsInside, bytes_of, padded}
+use Rattle.bt_rowtype.specs.inside.Shorts.{FitsInside, bytes_of, most_short}
+use Rattle.bt_rowtype.specs.Paddings.{padded}
 use Rattle.bt_rowtype.specs.declared.bytes.Kept.{Kept}
 use Rattle.bt_rowtype.specs.declared.bytes.Kept.TheVariants.{Short, Long}
 use Rattle.bt_rowtype.proofs.Paddings.{length-padded, padded-all}

@@ -1,5 +1,5 @@
 use Rattle.std.proofs.Common.{sym, subst, rules}
-use Rattle.bt_rowtype.specs.Packing.{HasText}
+use Rattle.bt_rowtype.specs.Values.{HasText}
 use Rattle.bt_rowtype.specs.Views.{shown}
 use Rattle.bt_rowtype.specs.declared.value_ref.ValueRef.{ValueRef}
 use Rattle.bt_rowtype.proofs.LentValues.{has_text}

@@ -1,6 +1,6 @@
 use Rattle.std.proofs.Common.{◌≡◌, ◌++◌, length, map}
 use Rattle.std.specs.List.{All}
-use Rattle.bt_rowtype.specs.Packing.{HasText}
+use Rattle.bt_rowtype.specs.Values.{HasText}
 use Rattle.bt_rowtype.specs.Views.{shown}
 use Rattle.bt_rowtype.proofs.lent_row.LentRow.of.Given as goal
 

@@ -1,5 +1,5 @@
 use Rattle.std.proofs.Common.{[], ◌∷◌, ◌++◌, sym, ap, subst, ◌∙◌}
-use Rattle.bt_rowtype.specs.Packing.{IsPacked, unpacked}
+use Rattle.bt_rowtype.specs.inside.Packing.{IsPacked, unpacked}
 use Rattle.bt_rowtype.specs.Views.{shown}
 use Rattle.bt_rowtype.proofs.Walks.{pushed, pushed_packed}
 use Rattle.bt_rowtype.proofs.packed_row.Row.push.Goals as goal

@@ -1,5 +1,5 @@
 use Rattle.std.proofs.Common.{◌≡◌, ◌+◌, ◌<◌, ◌≤◌, ◌++◌, List, ℕ, arith, sym, ap, subst, ◌∙◌, length, length-drop, drop, take, set}
-use Rattle.bt_rowtype.specs.Packing.{IsPacked, packed_value, unpacked, width_of}
+use Rattle.bt_rowtype.specs.inside.Packing.{IsPacked, packed_value, unpacked, width_of}
 use Rattle.bt_rowtype.specs.Views.{shown}
 use Rattle.bt_rowtype.specs.declared.value.Value.{Value}
 use Rattle.bt_rowtype.proofs.Replacements.{Replaces, replaced, replaced_packed, set_past_end, width_fits}

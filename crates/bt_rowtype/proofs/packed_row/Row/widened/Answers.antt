@@ -1,5 +1,5 @@
 use Rattle.std.proofs.Common.{◌≡◌, ◌++◌, ◌∙◌, [], ℕ, List, ap, append-nil, subst, sym}
-use Rattle.bt_rowtype.specs.Packing.{IsPacked, unpacked}
+use Rattle.bt_rowtype.specs.inside.Packing.{IsPacked, unpacked}
 use Rattle.bt_rowtype.proofs.packed_row.Row.widened.Goals as goal
 
 -- bytes that were put behind none

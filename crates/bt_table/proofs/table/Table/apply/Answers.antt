@@ -4,7 +4,7 @@ use Rattle.bt_node.specs.Flushes.{sunk}
 use Rattle.bt_fanout.specs.Effects.{row_effect}
 use Rattle.bt_table.specs.Batches.{messages_of}
 use Rattle.bt_table.specs.Calls.{Apply, IsStep}
-use Rattle.bt_table.specs.Indexes.{sunk_indexes}
+use Rattle.bt_table.specs.inside.IndexTrees.{sunk_indexes}
 use Rattle.bt_table.specs.Standing.{IsSoundUnlessLost}
 use Rattle.bt_table.specs.Tables.{state_of}
 use Rattle.bt_table.specs.declared.reply.Reply.TheVariants.{Batch}

@@ -4,7 +4,7 @@ use Rattle.bt_node.specs.Drains.{packed}
 use Rattle.bt_load.specs.Loads.{loaded}
 use Rattle.bt_load.specs.Maps.{map_of}
 use Rattle.bt_table.specs.Calls.{IsStep, Load, load_refusals}
-use Rattle.bt_table.specs.Indexes.{entry_tree, with_trees}
+use Rattle.bt_table.specs.inside.IndexTrees.{entry_tree, with_trees}
 use Rattle.bt_table.specs.Standing.{IsSoundUnlessLost}
 use Rattle.bt_table.specs.Tables.{state_of}
 use Rattle.bt_table.specs.declared.reply.Reply.TheVariants.{Loaded}

@@ -1,0 +1,98 @@
+-- What a worker has before and after its loop.
+use Rattle.std.specs.Prelude.{◌≡◌, ℕ, suc, ◌+◌, ◌<◌, List, [], ◌∷◌, ◌++◌, length, map, drop, get_or, nat_eq, if◌then◌else◌, Option, Some, None, Result, ⊤}
+use mathlib.Core.Option.{some}
+use lib.ListN.{get_elem?}
+use Rattle.crossbeam_queue.specs.Passes.{view, IsPassOf}
+use Rattle.bt_gang.specs.declared.answers.Answers.{Answers}
+use Rattle.bt_gang.specs.declared.jobs.Jobs.{Jobs}
+use Rattle.bt_gang.specs.declared.workers.Worker.{Worker}
+use Rattle.bt_gang.specs.declared.workers.GivesBack.{GivesBack}
+use Rattle.bt_gang.specs.declared.rule.Known.{Known}
+use Rattle.bt_gang.specs.declared.rule.TakenList.{TakenList}
+use Rattle.bt_gang.specs.Numbers.{below}
+use Rattle.bt_gang.specs.Crews.{most_workers}
+use Rattle.bt_gang.specs.Queue.{known, taken_list}
+use Rattle.bt_gang.specs.Numbered.{numbered}
+use Rattle.bt_gang.specs.Answers.{AllMay}
+
+abbrev pub TakenLists : Type 0
+TakenLists = List TakenList
+
+-- the numbers in the list of this worker; none where there is no such list
+abbrev pub list_of : ℕ → TakenLists → List ℕ
+list_of worker [] = []
+list_of worker (l ∷ ls) = if nat_eq l.worker worker then l.numbers else list_of worker ls
+
+-- P of each item with its number, where this is the number of the first
+abbrev pub AllFrom : {X : Type 0} → (ℕ → X → Type 0) → ℕ → List X → Type 0
+AllFrom P first [] = ⊤
+AllFrom P first (x ∷ xs) = P first x × AllFrom P (suc first) xs
+
+-- the lists of the workers from this one on, of which none took a job
+abbrev pub lists_left : ℕ → ℕ → TakenLists
+lists_left workers first = map (λ worker. taken_list worker []) (drop first (below workers))
+
+module _ {D F : Type 0} where
+  -- the lists of the workers whose answers came back, where the first worker has this number
+  abbrev pub lists_back : ℕ → List (Option (Answers D F)) → TakenLists
+  lists_back first [] = []
+  lists_back first (None ∷ outs) = lists_back (suc first) outs
+  lists_back first (Some out ∷ outs) = taken_list first (numbered out.list.items) ∷ lists_back (suc first) outs
+
+module _ {J D F : Type 0} where
+  -- the worker with this number: its pass took nothing, and there is room for each job's answer; `others` are the further lists that the pass has
+  pub record IsReady (jobs : Jobs J) (all : List J) (others : TakenLists) (number : ℕ) (worker : Worker J D F) : Type 0 where
+    pub is : worker.number ≡ number
+    pub pass : IsPassOf jobs.queue worker.pass
+    pub knows : view worker.pass ≡ known all (taken_list number [] ∷ others)
+    pub list : worker.out.list.items ≡ []
+    pub spare : worker.out.spare ≡ length all
+
+  -- the worker with this number: the numbers that its pass took are those of its answers, in order, and each answer is one that its job may give
+  pub record HasServed (allows : J → Result D F → Type 0) (jobs : Jobs J) (all : List J) (others : TakenLists) (number : ℕ) (worker : Worker J D F) : Type 0 where
+    pub is : worker.number ≡ number
+    pub pass : IsPassOf jobs.queue worker.pass
+    pub knows : view worker.pass ≡ known all (taken_list number (numbered worker.out.list.items) ∷ others)
+    pub may : AllMay allows all worker.out.list.items
+
+  -- a worker that was not started has an empty list, where that of the caller stands before those of the workers
+  abbrev pub AreEmptyWhereAbsent : List (Option (Worker J D F)) → List (List ℕ) → Type 0
+  AreEmptyWhereAbsent workers lists = (place : ℕ) → get_elem? workers place ≡ some None → get_or lists (suc place) [] ≡ []
+
+  -- the answers of a worker; none where it was not started
+  abbrev pub out_of : Option (Worker J D F) → Option (Answers D F)
+  out_of None = None
+  out_of (Some worker) = Some worker.out
+
+-- the promise is of this work, these jobs and the worker with this number
+pub record IsPromise {W J D F : Type 0} (work : W) (jobs : Jobs J) (all : List J) (number : ℕ) (promise : GivesBack W J D F) : Type 0 where
+  pub work_is : promise.work.value ≡ work
+  pub jobs_is : promise.jobs.value ≡ jobs
+  pub all_is : promise.all.value.value.items ≡ all
+  pub number_is : promise.number ≡ number
+
+module _ {J : Type 0} where
+  -- what the caller's pass knows after this many passes were split off: its own list, and those of the workers that have no pass
+  pub record IsCaller (all : List J) (given_away : ℕ) (v : Known J) : Type 0 where
+    pub knows : v ≡ known all (taken_list 0 [] ∷ lists_left most_workers (suc given_away))
+    pub few : given_away < most_workers
+
+  -- the lists of the workers whose answers came back are in the pass, beside those that it had
+  abbrev pub TookIn : {D F : Type 0} → Known J → Known J → List (Option (Answers D F)) → Type 0
+  TookIn before after outs = after ≡ known before.jobs (before.lists ++ lists_back 1 outs)
+
+  -- at the place of each worker stands its list in the pass, and nothing where the pass has no such list
+  abbrev pub AreListsOf : Known J → List (List ℕ) → Type 0
+  AreListsOf v lists = (worker : ℕ) → get_or lists worker [] ≡ list_of worker v.lists
+
+module _ {J D F : Type 0} where
+  -- the caller before its loop, after this many passes were split off
+  pub record IsReadyCaller (jobs : Jobs J) (all : List J) (given_away : ℕ) (mine : Worker J D F) : Type 0 where
+    pub ready : IsReady jobs all (lists_left most_workers (suc given_away)) 0 mine
+    pub few : given_away < most_workers
+
+  -- the caller after its loop: there is room for the answers that it has not
+  pub record HasServedCaller (allows : J → Result D F → Type 0) (jobs : Jobs J) (all : List J) (given_away : ℕ) (mine : Worker J D F) : Type 0 where
+    pub served : HasServed allows jobs all (lists_left most_workers (suc given_away)) 0 mine
+    pub few : given_away < most_workers
+    pub spare : mine.out.spare + length mine.out.list.items ≡ length all

@@ -1,0 +1,3 @@
+-- Definitions that only private clauses cite: the steps of the code.
+pub mod Sorts
+pub mod Typed

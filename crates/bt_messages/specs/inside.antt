@@ -1,0 +1,5 @@
+-- Definitions that only private clauses cite: how the code's values are seen, and the steps of its loops.
+pub mod Merges
+pub mod Places
+pub mod Rooms
+pub mod Runs

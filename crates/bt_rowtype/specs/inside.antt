@@ -1,0 +1,11 @@
+-- Definitions that only private clauses cite: how the code's values are seen, and the steps of its loops.
+pub mod Additions
+pub mod Changes
+pub mod Fits
+pub mod Packing
+pub mod Pieces
+pub mod Reader
+pub mod RecordParts
+pub mod RowBytes
+pub mod Shorts
+pub mod Sources

@@ -1,0 +1,16 @@
+-- Values that are gone through, from a list of them or from the bytes of a row.
+use Rattle.std.specs.Prelude.{List}
+use Rattle.bt_rowtype.specs.inside.Packing.{IsPacked, unpacked}
+use Rattle.bt_rowtype.specs.declared.value.Value.{Value}
+use Rattle.bt_rowtype.specs.declared.values.Source.{Source}
+use Rattle.bt_rowtype.specs.declared.values.Source.TheVariants.{Listed, Packed}
+
+-- the values that are left
+abbrev pub left : Source → List Value
+left (Listed values) = values.now
+left (Packed bytes) = unpacked bytes.now
+
+-- bytes are those of values
+abbrev pub IsSource : Source → Type 0
+IsSource (Listed values) = Unit {0}
+IsSource (Packed bytes) = IsPacked bytes.now

@@ -1,0 +1,2 @@
+-- Definitions that only private clauses cite: the steps of the code's loops.
+pub mod IndexTrees

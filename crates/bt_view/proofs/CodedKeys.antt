@@ -1,0 +1,76 @@
+-- Which values a key is the code of, and that there are none where it is no code. Serves the rows that entries show.
+use Rattle.std.proofs.Common.{◌≡◌, ◌∙◌, ◌&&◌, Bool, true, false, true≢false, List, [], ◌∷◌, Option, Some, None, refl, sym, ap, arith, map, negsuc, pos, if◌then◌else◌}
+use Rattle.std.proofs.lemmas.Bool.Decides.{nat_tests}
+use Rattle.std.proofs.lemmas.Slice.Eq.{bytes_eq-Decides}
+use Rattle.std.specs.Cmp.Lexicographic.{pointwise}
+use Rattle.std.specs.Prelude.{option_and_then}
+use Rattle.std.specs.Str.{bytes_eq}
+use Rattle.bt_rowtype.specs.Values.{AreInRange, IsInRange}
+use Rattle.bt_rowtype.specs.declared.value.Kind.{Kind}
+use Rattle.bt_rowtype.specs.declared.value.Kind.TheVariants as kind
+use Rattle.bt_rowtype.specs.declared.value.Value.{Value}
+use Rattle.bt_rowtype.specs.declared.value.Value.TheVariants as value
+use Rattle.bt_keycode.specs.Codes.{IsCodeOf, IsNoCode, code_of, kind_of}
+use Rattle.bt_keycode.specs.inside.Decoding.{decoded}
+use Rattle.bt_keycode.specs.Keys.{Key}
+use Rattle.bt_keycode.proofs.offered.Decoded.{decoded_again}
+use Rattle.bt_view.specs.inside.Entries.{if_coded, is_of_kind, values_coded}
+
+pub both_true : (a b : Bool) → (a && b) ≡ true → (a ≡ true) × (b ≡ true)
+both_true true b is = (refl, is)
+both_true false b is = absurd (true≢false (sym is))
+
+of_kind : (k : Kind) (v : Value) → is_of_kind k v ≡ true → (kind_of v ≡ k) × IsInRange v
+of_kind kind.Int (value.Int (pos n)) is = (refl, record { sfits = grind (arith, nat_tests) })
+of_kind kind.Int (value.Int (negsuc n)) is = (refl, record { sfits = grind (arith, nat_tests) })
+of_kind kind.Int (value.Text bytes) is = absurd (true≢false (sym is))
+of_kind kind.Int (value.Flag flag) is = absurd (true≢false (sym is))
+of_kind kind.Text (value.Int n) is = absurd (true≢false (sym is))
+of_kind kind.Text (value.Text bytes) is = (refl, is)
+of_kind kind.Text (value.Flag flag) is = absurd (true≢false (sym is))
+of_kind kind.Flag (value.Int n) is = absurd (true≢false (sym is))
+of_kind kind.Flag (value.Text bytes) is = absurd (true≢false (sym is))
+of_kind kind.Flag (value.Flag flag) is = (refl, tt)
+
+own_kind : (v : Value) → IsInRange v → is_of_kind (kind_of v) v ≡ true
+own_kind (value.Int (pos n)) range = let low = range.sfits in grind (arith, nat_tests)
+own_kind (value.Int (negsuc n)) range = let low = range.sfits in grind (arith, nat_tests)
+own_kind (value.Text bytes) range = range
+own_kind (value.Flag flag) range = refl
+
+of_kinds : (kinds : List Kind) (values : List Value) → pointwise is_of_kind kinds values ≡ true → (map kind_of values ≡ kinds) × AreInRange values
+of_kinds [] [] is = (refl, tt)
+of_kinds [] (v ∷ vs) is = absurd (true≢false (sym is))
+of_kinds (k ∷ ks) [] is = absurd (true≢false (sym is))
+of_kinds (k ∷ ks) (v ∷ vs) is =
+    let both = both_true (is_of_kind k v) (pointwise is_of_kind ks vs) is in
+    let one = of_kind k v both.0 in
+    let others = of_kinds ks vs both.1 in
+    (λ i. one.0 i ∷ others.0 i, (one.1, others.1))
+
+own_kinds : (values : List Value) → AreInRange values → pointwise is_of_kind (map kind_of values) values ≡ true
+own_kinds [] range = refl
+own_kinds (v ∷ vs) range = ap (λ b. b && pointwise is_of_kind (map kind_of vs) vs) (own_kind v range.0) ∙ own_kinds vs range.1
+
+-- a code of values of these kinds is read as them
+pub values_of_code : (kinds : List Kind) (key : Key) (values : List Value) → IsCodeOf kinds key values → values_coded kinds key ≡ Some values
+values_of_code kinds key values is =
+    ap (λ k. values_coded k key) (sym is.of_kinds) ∙ ap (values_coded (map kind_of values)) (sym is.code)
+    ∙ ap (option_and_then (if_coded (map kind_of values) (code_of values))) (decoded_again values is.in_range)
+    ∙ ap (λ b. if b && bytes_eq (code_of values) (code_of values) then Some values else None) (own_kinds values is.in_range)
+    ∙ ap (λ b. if b then Some values else None) ((bytes_eq-Decides (code_of values) (code_of values)).1 refl)
+
+-- no values are read of what is no code of these kinds
+pub no_values : (kinds : List Kind) (key : Key) → IsNoCode kinds key → values_coded kinds key ≡ None
+no_values kinds key other = of_decoded (decoded kinds key)
+  where
+    of_values : (values : List Value) (b : Bool) → (pointwise is_of_kind kinds values && bytes_eq (code_of values) key) ≡ b → (if b then Some values else None) ≡ None
+    of_values values true is =
+        let both = both_true (pointwise is_of_kind kinds values) (bytes_eq (code_of values) key) is in
+        let fit = of_kinds kinds values both.0 in
+        absurd (other values (record { of_kinds = fit.0; in_range = fit.1; code = (bytes_eq-Decides (code_of values) key).0 both.1 }))
+    of_values values false is = refl
+
+    of_decoded : (found : Option (List Value)) → option_and_then (if_coded kinds key) found ≡ None
+    of_decoded None = refl
+    of_decoded (Some values) = of_values values (pointwise is_of_kind kinds values && bytes_eq (code_of values) key) refl

@@ -1,0 +1,52 @@
+-- Entries of an index as rows, as a walk of its tree meets them.
+use Rattle.std.specs.Cmp.Lexicographic.{pointwise}
+use Rattle.std.specs.List.{filter_map}
+use Rattle.std.specs.Prelude.{◌^◌, ◌&&◌, ◌++◌, Bool, true, false, List, map, nat_lt, take, Option, Some, None, option_and_then, option_map, if◌then◌else◌, pos, negsuc}
+use Rattle.std.specs.Str.{bytes_eq}
+use Rattle.bt_rowtype.specs.Schemas.{Schema}
+use Rattle.bt_rowtype.specs.Texts.{is_text}
+use Rattle.bt_rowtype.specs.declared.value.Kind.{Kind}
+use Rattle.bt_rowtype.specs.declared.value.Kind.TheVariants as kind
+use Rattle.bt_rowtype.specs.declared.value.Value.{Value}
+use Rattle.bt_rowtype.specs.declared.value.Value.TheVariants as value
+use Rattle.bt_keycode.specs.Codes.{code_of}
+use Rattle.bt_keycode.specs.inside.Decoding.{decoded}
+use Rattle.bt_keycode.specs.Keys.{Key}
+use Rattle.bt_fanout.specs.Entries.{Definition}
+use Rattle.bt_view.specs.Ranges.{index_schema}
+
+-- the kinds of the columns of the key of an index
+abbrev pub index_kinds : Schema → Definition → List Kind
+index_kinds schema def = map (λ c. c.kind) (take (index_schema schema def).keys (index_schema schema def).columns)
+
+-- whether a value is of a kind and within its range: an int has 64 bits, a text is UTF-8 of at most 255 bytes
+abbrev pub is_of_kind : Kind → Value → Bool
+is_of_kind kind.Int (value.Int (pos n)) = nat_lt n (2 ^ 63)
+is_of_kind kind.Int (value.Int (negsuc n)) = nat_lt n (2 ^ 63)
+is_of_kind kind.Text (value.Text bytes) = is_text bytes
+is_of_kind kind.Flag (value.Flag flag) = true
+is_of_kind kind value = false
+
+-- these values, where they are of these kinds and a key is their code
+abbrev pub if_coded : List Kind → Key → List Value → Option (List Value)
+if_coded kinds key values = if pointwise is_of_kind kinds values && bytes_eq (code_of values) key then Some values else None
+
+-- the values of these kinds whose code a key is, if it is one
+abbrev pub values_coded : List Kind → Key → Option (List Value)
+values_coded kinds key = option_and_then (if_coded kinds key) (decoded kinds key)
+
+-- the row of an entry whose key is the code of values of these kinds: these values, and then the included ones
+abbrev pub row_of_entry : List Kind → Key × List Value → Option (List Value)
+row_of_entry kinds entry = option_map (λ values. values ++ entry.1) (values_coded kinds entry.0)
+
+-- a sink with the row of an entry
+abbrev pub with_entry_row : {S : Type 0} → (S → List Value → S) → S → Option (List Value) → S
+with_entry_row added sink None = sink
+with_entry_row added sink (Some row) = added sink row
+
+abbrev pub and_entry : {S : Type 0} → (S → List Value → S) → List Kind → S → Key × List Value → S
+and_entry added kinds sink entry = with_entry_row added sink (row_of_entry kinds entry)
+
+-- the rows of entries
+abbrev pub rows_of_entries : List Kind → List (Key × List Value) → List (List Value)
+rows_of_entries kinds entries = filter_map (row_of_entry kinds) entries
