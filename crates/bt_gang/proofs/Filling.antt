@@ -17,7 +17,7 @@ use Rattle.bt_gang.specs.declared.workers.Worker.{Worker}
 use Rattle.bt_gang.specs.declared.run.GangFault.{GangFault}
 use Rattle.bt_gang.specs.declared.run.GangFault.TheVariants.{OutOfMemory, Job}
 use Rattle.bt_gang.specs.Board.{start}
-use Rattle.bt_gang.specs.Crews.{most_workers}
+use Rattle.bt_gang.specs.declared.crew.TheConstants.{MOST_WORKERS}
 use Rattle.bt_gang.specs.Run.{Answered, AreAllTaken, AreValues, EachOnce, HasAnswers, IsLeast, number_lists}
 use Rattle.bt_gang.proofs.Numbers.{total-append, times-below, at_below}
 use Rattle.bt_gang.proofs.Rules.{at_most_once, below_once, empty_list}
@@ -246,11 +246,11 @@ none_listed n workers vs none e x = ap (λ ls. times x (joined ls)) e ∙ (ap (t
 
 pub none_taken : (n workers : ℕ) (vs : List (Vec ℕ Global)) → n ≡ 0 → number_lists vs ≡ replicate workers [] → AreAllTaken n (number_lists vs)
 none_taken n workers vs none e = record {
-  board = start most_workers;
+  board = start MOST_WORKERS;
   reached = ([], refl);
   put = sym none;
   waiting = refl;
-  taken = λ w. empty_list most_workers w ∙ (sym (empty_list workers w) ∙ ap (λ ls. get_or ls w []) (sym e));
+  taken = λ w. empty_list MOST_WORKERS w ∙ (sym (empty_list workers w) ∙ ap (λ ls. get_or ls w []) (sym e));
 }
 
 pub one_empty : (counter : ℕ) (vs ws : List (Vec ℕ Global)) (x : Vec ℕ Global) → ws ≡ vs ++ x ∷ [] → x.items ≡ [] → number_lists vs ≡ replicate counter [] → number_lists ws ≡ replicate (counter + 1) []

@@ -11,7 +11,7 @@ use Rattle.bt_gang.specs.declared.run.GangFault.TheVariants.{OutOfMemory}
 use Rattle.bt_gang.specs.declared.workers.Worker.{Worker}
 use Rattle.bt_gang.specs.Numbers.{joined, times, below, once_below}
 use Rattle.bt_gang.specs.Numbered.{numbered}
-use Rattle.bt_gang.specs.Crews.{most_workers}
+use Rattle.bt_gang.specs.declared.crew.TheConstants.{MOST_WORKERS}
 use Rattle.bt_gang.specs.Queue.{NothingWaits, gained, known, numbers_of, taken_list}
 use Rattle.bt_gang.specs.Answers.{AllMay, FoundNothing, Gains}
 use Rattle.bt_gang.specs.Run.{AreAllTaken, EachOnce, number_lists}
@@ -25,15 +25,15 @@ use Rattle.bt_gang.proofs.Filling.{all_once, below-back, below-front, below_all,
 module _ {J D F : Type 0} (allows : J → Result D F → Type 0) where
   -- what the caller's pass knows, whose last pop found nothing, and what the answers are
   pub record HaveCome (all : List J) (given_away : ℕ) (v : Known J) (own : List (Answer D F)) (outs : List (Option (Answers D F))) : Type 0 where
-    pub knows : v ≡ known all (taken_list 0 (numbered own) ∷ (lists_left most_workers (suc given_away) ++ lists_back 1 outs))
-    pub few : given_away < most_workers
+    pub knows : v ≡ known all (taken_list 0 (numbered own) ∷ (lists_left MOST_WORKERS (suc given_away) ++ lists_back 1 outs))
+    pub few : given_away < MOST_WORKERS
     pub back : length outs ≡ given_away
     pub may : AllMay allows all (own ++ joined (map answers_in outs))
     pub settled : NothingWaits v
     pub last : FoundNothing v
 
   took_all : (jobs : Jobs J) (all : List J) (k : ℕ) (mine : Worker J D F) (outs : List (Option (Answers D F))) (w : Known J) → HasServedCaller allows jobs all k mine → TookIn (view mine.pass) w outs
-      → w ≡ known all (taken_list 0 (numbered mine.out.list.items) ∷ (lists_left most_workers (suc k) ++ lists_back 1 outs))
+      → w ≡ known all (taken_list 0 (numbered mine.out.list.items) ∷ (lists_left MOST_WORKERS (suc k) ++ lists_back 1 outs))
   took_all jobs all k mine outs w h t = t ∙ ap (λ (y : Known J). known y.jobs (y.lists ++ lists_back 1 outs)) h.served.knows
 
   pub jobs_last : (jobs : Jobs J) (all : List J) (k : ℕ) (mine : Worker J D F) (outs : List (Option (Answers D F))) (w : Known J) → HasServedCaller allows jobs all k mine → TookIn (view mine.pass) w outs → w.jobs ≡ all
@@ -44,7 +44,7 @@ module _ {J D F : Type 0} (allows : J → Result D F → Type 0) where
   room_last jobs all k mine outs w h t =
       let e = took_all jobs all k mine outs w h t in
       let own = numbered mine.out.list.items in
-      let others = lists_left most_workers (suc k) ++ lists_back 1 outs in
+      let others = lists_left MOST_WORKERS (suc k) ++ lists_back 1 outs in
       let j : length w.jobs ≡ length all = ap (λ (y : Known J). length y.jobs) e in
       let n : length (numbers_of w.lists) ≡ length (own ++ numbers_of others) = ap (λ (y : Known J). length (numbers_of y.lists)) e in
       let l = length-append own (numbers_of others) in
@@ -62,7 +62,7 @@ module _ {J D F : Type 0} (allows : J → Result D F → Type 0) where
       let back : AllMay allows all (joined (map answers_in outs)) = subst (λ os. AllMay allows all (joined (map answers_in os))) (sym is) (may_back allows jobs all 1 others served) in
       record {
         knows = g.pass ∙ (ap (λ y. gained y (numbered g.added)) (took_all jobs all k mine outs w h t)
-            ∙ ap (λ ns. known all (taken_list 0 ns ∷ (lists_left most_workers (suc k) ++ lists_back 1 outs))) (sym here));
+            ∙ ap (λ ns. known all (taken_list 0 ns ∷ (lists_left MOST_WORKERS (suc k) ++ lists_back 1 outs))) (sym here));
         few = h.few;
         back = ap length is ∙ (length-map others (λ (o : Option (Worker J D F)). out_of o) ∙ sym len);
         may = may-append allows all out.list.items (joined (map answers_in outs)) (subst (AllMay allows all) (sym g.list) (may-append allows all own g.added h.served.may added)) back;
@@ -74,9 +74,9 @@ module _ {J D F : Type 0} (allows : J → Result D F → Type 0) (all : List J) 
   -- the numbers of the answers are those in the lists of the pass
   numbers_come : numbered (own ++ joined (map answers_in outs)) ≡ numbers_of v.lists
   numbers_come =
-      let left = lists_left most_workers (suc k) in
+      let left = lists_left MOST_WORKERS (suc k) in
       let back = lists_back 1 outs in
-      let lists : numbers_of (left ++ back) ≡ joined (map numbers_in outs) = numbers-append left back ∙ ((λ i. numbers-left most_workers (suc k) i ++ numbers-back 1 outs i)) in
+      let lists : numbers_of (left ++ back) ≡ joined (map numbers_in outs) = numbers-append left back ∙ ((λ i. numbers-left MOST_WORKERS (suc k) i ++ numbers-back 1 outs i)) in
       numbered-append own (joined (map answers_in outs)) ∙ ((λ i. numbered own ++ (numbers_joined outs ∙ sym lists) i) ∙ sym (ap (λ (y : Known J). numbers_of y.lists) come.knows))
 
   jobs_come : length v.jobs ≡ length all
@@ -88,10 +88,10 @@ module _ {J D F : Type 0} (allows : J → Result D F → Type 0) (all : List J) 
   -- where each worker came back, so did each number
   each_come : (others : List (Option (Worker J D F))) → outs ≡ map out_of others → All IsSome others → (x : ℕ) → times x (numbered (own ++ joined (map answers_in outs))) ≡ once_below x (length all)
   each_come others is some x =
-      let full : length v.lists ≡ most_workers =
+      let full : length v.lists ≡ MOST_WORKERS =
       (let l = ap (λ (y : Known J). length y.lists) come.knows in
-      let a = length-append (lists_left most_workers (suc k)) (lists_back 1 outs) in
-      let b = length-left most_workers (suc k) come.few in
+      let a = length-append (lists_left MOST_WORKERS (suc k)) (lists_back 1 outs) in
+      let b = length-left MOST_WORKERS (suc k) come.few in
       let c : length (lists_back 1 outs) ≡ length others = ap (λ os. length (lists_back 1 os)) is ∙ all_back 1 others some in
       let d = ap length is in
       let e = length-map others (λ (o : Option (Worker J D F)). out_of o) in
@@ -129,7 +129,7 @@ module _ {J D F : Type 0} (allows : J → Result D F → Type 0) (all : List J) 
 
     -- the lists of numbers are those of the pass
     pub are_lists : AreListsOf v (number_lists vs)
-    are_lists = subst (AreListsOf v) (sym lists) (lists_stand most_workers k v (numbered own) outs come.back come.few (ap (λ (y : Known J). y.lists) come.knows))
+    are_lists = subst (AreListsOf v) (sym lists) (lists_stand MOST_WORKERS k v (numbered own) outs come.back come.few (ap (λ (y : Known J). y.lists) come.knows))
 
     module _ (slots : List (Option (Result D F))) (f : Filled allows all slots (numbered (own ++ joined (map answers_in outs)))) (full : IsFull slots) where
       came_once : (x : ℕ) → times x (numbered (own ++ joined (map answers_in outs))) ≡ once_below x (length all)
@@ -158,7 +158,7 @@ module _ {J D F : Type 0} (allows : J → Result D F → Type 0) (all : List J) 
             reached = come.settled.reached;
             put = come.settled.put ∙ jobs_come;
             waiting = come.settled.waiting;
-            taken = λ w. all_lists most_workers v come.settled numbers w ∙ sym (are_lists w);
+            taken = λ w. all_lists MOST_WORKERS v come.settled numbers w ∙ sym (are_lists w);
           }
 
 module _ {D F : Type 0} where

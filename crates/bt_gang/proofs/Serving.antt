@@ -9,7 +9,7 @@ use Rattle.bt_gang.specs.declared.rule.Known.{Known}
 use Rattle.bt_gang.specs.declared.rule.NumberedJob.{NumberedJob}
 use Rattle.bt_gang.specs.declared.rule.TakenList.{TakenList}
 use Rattle.bt_gang.specs.Numbers.{total, is_it, below}
-use Rattle.bt_gang.specs.Crews.{most_workers}
+use Rattle.bt_gang.specs.declared.crew.TheConstants.{MOST_WORKERS}
 use Rattle.bt_gang.specs.Queue.{taken_list, no_lists, grown, numbers_of, known, gained, HasList, IsBoardOf, Popped, queued}
 use Rattle.bt_gang.specs.Numbered.{numbered}
 use Rattle.bt_gang.specs.Answers.{AllMay, Gains, FoundNothing}
@@ -121,7 +121,7 @@ module _ {J : Type 0} where
       let z : total (λ w. total h (get_or b.board.taken w [])) r.0 ≡ 0 = ap (total (λ w. total h (get_or b.board.taken w []))) none in
       omega arith
 
-  pub found_nothing : (n : ℕ) (v : Known J) → IsBoardOf n v [] → n ≡ most_workers → FoundNothing v
+  pub found_nothing : (n : ℕ) (v : Known J) → IsBoardOf n v [] → n ≡ MOST_WORKERS → FoundNothing v
   found_nothing n v b most = λ job.
       let t = times-below job (length v.jobs) in (
         (let k = (weighed n v [] b).2 (is_it job) in omega arith),

@@ -7,7 +7,7 @@ use Rattle.bt_gang.specs.declared.rule.Known.{Known}
 use Rattle.bt_gang.specs.declared.rule.TakenList.{TakenList}
 use Rattle.bt_gang.specs.declared.workers.GivesBack.{GivesBack}
 use Rattle.bt_gang.specs.declared.workers.Worker.{Worker}
-use Rattle.bt_gang.specs.Crews.{most_workers}
+use Rattle.bt_gang.specs.declared.crew.TheConstants.{MOST_WORKERS}
 use Rattle.bt_gang.specs.Queue.{taken_list, no_lists, given, kept, numbers_of, known, gained, HasList}
 use Rattle.bt_gang.specs.Numbered.{numbered}
 use Rattle.bt_gang.specs.Answers.{AllMay, Gains}
@@ -32,18 +32,18 @@ module _ {X : Type 0} (P : ℕ → X → Type 0) where
   from_none first xs e = subst (AllFrom P first) (sym e) tt
 
 module _ {J : Type 0} where
-  pub caller_first : (all : List J) (v : Known J) → v ≡ known all (no_lists most_workers) → IsCaller all 0 v
-  caller_first all v e = record { knows = e ∙ ap (known all) (left_more most_workers 0 (omega arith)); few = omega arith }
+  pub caller_first : (all : List J) (v : Known J) → v ≡ known all (no_lists MOST_WORKERS) → IsCaller all 0 v
+  caller_first all v e = record { knows = e ∙ ap (known all) (left_more MOST_WORKERS 0 (omega arith)); few = omega arith }
 
   -- one more pass was split off: it has the list of the next worker
-  pub caller_next : (all : List J) (k m : ℕ) (v w u : Known J) → IsCaller all k v → suc k < most_workers → m ≡ k + 1
+  pub caller_next : (all : List J) (k m : ℕ) (v w u : Known J) → IsCaller all k v → suc k < MOST_WORKERS → m ≡ k + 1
       → w ≡ known v.jobs (kept v.lists) → u ≡ known v.jobs (given v.lists) → IsCaller all m w × (u ≡ known all (taken_list m [] ∷ []))
   caller_next all k m v w u c l n f g =
       let next : m ≡ suc k = omega arith in
-      let was : v ≡ known all (taken_list 0 [] ∷ taken_list (suc k) [] ∷ lists_left most_workers (suc (suc k))) =
-      c.knows ∙ ap (λ ls. known all (taken_list 0 [] ∷ ls)) (left_more most_workers (suc k) l) in (
+      let was : v ≡ known all (taken_list 0 [] ∷ taken_list (suc k) [] ∷ lists_left MOST_WORKERS (suc (suc k))) =
+      c.knows ∙ ap (λ ls. known all (taken_list 0 [] ∷ ls)) (left_more MOST_WORKERS (suc k) l) in (
         record {
-          knows = f ∙ (ap (λ (y : Known J). known y.jobs (kept y.lists)) was ∙ ap (λ i. known all (taken_list 0 [] ∷ lists_left most_workers (suc i))) (sym next));
+          knows = f ∙ (ap (λ (y : Known J). known y.jobs (kept y.lists)) was ∙ ap (λ i. known all (taken_list 0 [] ∷ lists_left MOST_WORKERS (suc i))) (sym next));
           few = omega arith;
         },
         g ∙ (ap (λ (y : Known J). known y.jobs (given y.lists)) was ∙ ap (λ i. known all (taken_list i [] ∷ [])) (sym next)),
@@ -92,7 +92,7 @@ module _ {J D F : Type 0} (allows : J → Result D F → Type 0) where
   pub served_caller : (jobs : Jobs J) (all : List J) (k : ℕ) (old new : Worker J D F) → IsReadyCaller jobs all k old → new.number ≡ old.number → IsPassOf jobs.queue new.pass
       → Gains allows (view old.pass) (view new.pass) old.out new.out → HasServedCaller allows jobs all k new
   served_caller jobs all k old new r same p g = record {
-    served = served jobs all (lists_left most_workers (suc k)) 0 old new r.ready same p g;
+    served = served jobs all (lists_left MOST_WORKERS (suc k)) 0 old new r.ready same p g;
     few = r.few;
     spare = let l = ap length g.list in let m = length-append old.out.list.items g.added in let n = ap length r.ready.list in let s = g.spare in let t = r.ready.spare in omega arith;
   }

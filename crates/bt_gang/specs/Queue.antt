@@ -7,7 +7,7 @@ use Rattle.bt_gang.specs.declared.rule.NumberedJob.{NumberedJob}
 use Rattle.bt_gang.specs.declared.rule.TakenList.{TakenList}
 use Rattle.bt_gang.specs.Numbers.{total, joined, times, below, once_below}
 use Rattle.bt_gang.specs.Board.{State, IsReached}
-use Rattle.bt_gang.specs.Crews.{most_workers}
+use Rattle.bt_gang.specs.declared.crew.TheConstants.{MOST_WORKERS}
 
 abbrev pub taken_list : ℕ → List ℕ → TakenList
 taken_list worker numbers = record { worker = worker; numbers = numbers }
@@ -60,7 +60,7 @@ module _ {J : Type 0} where
 
   -- it has the lists of all workers
   abbrev pub HasAll : Known J → Type 0
-  HasAll v = length v.lists ≡ most_workers
+  HasAll v = length v.lists ≡ MOST_WORKERS
 
   -- the numbers of the jobs in the queue
   abbrev pub queued : List (NumberedJob J) → List ℕ
@@ -88,7 +88,7 @@ module _ {J : Type 0} where
     pub know : EachPass (λ v. HasList v → v.jobs ≡ jobs) views
 
   abbrev pub IsQueue : List (NumberedJob J) → List (Known J) → Type 0
-  IsQueue items views = IsBoard most_workers items views
+  IsQueue items views = IsBoard MOST_WORKERS items views
 
   -- the job joined at the back
   abbrev pub Pushed : Known J → NumberedJob J → Known J → Type 0
@@ -109,4 +109,4 @@ module _ {J : Type 0} where
 
   -- the board of a pass, with no job waiting
   abbrev pub NothingWaits : Known J → Type 0
-  NothingWaits v = IsBoardOf most_workers v []
+  NothingWaits v = IsBoardOf MOST_WORKERS v []

@@ -7,7 +7,7 @@ use Rattle.bt_gang.specs.declared.run.GangFault.{GangFault}
 use Rattle.bt_gang.specs.declared.run.GangFault.TheVariants.{OutOfMemory, Job}
 use Rattle.bt_gang.specs.Numbers.{joined, times, once_below}
 use Rattle.bt_gang.specs.Board.{State, IsReached}
-use Rattle.bt_gang.specs.Crews.{most_workers}
+use Rattle.bt_gang.specs.declared.crew.TheConstants.{MOST_WORKERS}
 use Rattle.bt_gang.specs.Answers.{MayAnswer}
 
 -- the lists of these numbers
@@ -25,7 +25,7 @@ EachOnce n lists = (number : ℕ) → times number (listed lists) ≡ once_below
 -- a run of the board leads to a state in which so many jobs were put, none of them waits, and each worker took its list; one that has no list took nothing
 pub record AreAllTaken (n : ℕ) (lists : List (List ℕ)) : Type 0 where
   pub board : State
-  pub reached : IsReached most_workers board
+  pub reached : IsReached MOST_WORKERS board
   pub put : board.put ≡ n
   pub waiting : board.waiting ≡ []
   pub taken : (worker : ℕ) → get_or board.taken worker [] ≡ get_or lists worker []

@@ -1,5 +1,5 @@
 //! Who works, and what is called around each job.
-ghost use Rattle.std.specs.Prelude.{◌≡◌, ◌<◌, IfErr, IfOk};
+ghost use Rattle.std.specs.Prelude.{◌≡◌, ◌<◌, IfErr, IfOk, max, min};
 ghost use Rattle.bt_rowtype.specs.declared.refusal.Refusal.TheVariants.{BadCrew};
 ghost use Rattle.bt_gang.specs.Crews.{IsCrew};
 
@@ -27,6 +27,27 @@ impl Gate for NoGate {
     fn enter(&self, _job: usize) {}
 
     fn leave(&self, _job: usize) {}
+}
+
+impl<G: Gate> Gate for &G {
+    fn enter(&self, job: usize) {
+        (**self).enter(job);
+    }
+
+    fn leave(&self, job: usize) {
+        (**self).leave(job);
+    }
+}
+
+// Any gate that workers may share, where one type has to stand for all of them.
+impl Gate for &(dyn Gate + Sync) {
+    fn enter(&self, job: usize) {
+        (**self).enter(job);
+    }
+
+    fn leave(&self, job: usize) {
+        (**self).leave(job);
+    }
 }
 
 /// How many workers there are, of which the caller is one; at which depth trees are cut into jobs; and from how many messages
@@ -58,5 +79,21 @@ impl<G: Drop> Crew<G> {
             });
         }
         Err(Refusal::BadCrew)
+    }
+}
+
+impl<G> Crew<G> {
+    /// The same cut, grain and gate, and at most so many workers, but at least one.
+    pub fn with_at_most(&self, workers: usize) -> Crew<&G>
+        ensures workers { result.workers ≡ max 1 (min self.now.workers workers) }
+        ensures sizes { (result.cut ≡ self.now.cut) × (result.grain ≡ self.now.grain) }
+        ensures gate { result.gate.now ≡ self.now.gate }
+    {
+        Crew {
+            workers: self.workers.min(workers).max(1),
+            cut: self.cut,
+            grain: self.grain,
+            gate: &self.gate,
+        }
     }
 }

@@ -1,7 +1,7 @@
 //! The jobs of one call, in their queue.
 ghost use Rattle.std.specs.Prelude.{◌≡◌, ◌<◌, IfOk, vec_len};
 ghost use Rattle.crossbeam_queue.specs.Passes.{IsPassOf, view};
-ghost use Rattle.bt_gang.specs.Crews.{most_workers};
+ghost use Rattle.bt_gang.specs.declared.crew.TheConstants.{MOST_WORKERS};
 ghost use Rattle.bt_gang.specs.Queue.{known, no_lists};
 
 use crate::rule::{JobQueue, Known, NumberedJob, Push};
@@ -27,7 +27,7 @@ impl<J: Drop> Jobs<J> {
         jobs: Vec<J>,
     ) -> Result<(Jobs<J>, JobPass<J>), AllocError>
         requires { 0 < vec_len jobs }
-        ensures { IfOk result (λ q. IsPassOf q.0.queue q.1 × (view q.1 ≡ known jobs.items (no_lists most_workers))) }
+        ensures { IfOk result (λ q. IsPassOf q.0.queue q.1 × (view q.1 ≡ known jobs.items (no_lists MOST_WORKERS))) }
     {
         let (queue, mut pass) = JobQueue::<J>::ruled(alloc, jobs.len())?;
         let mut number = 0;

@@ -2,7 +2,7 @@
 //!
 //! A [`Board`] says by numbers which jobs wait, which are held by workers and which are handed in. The queue of a call
 //! ([`Jobs`]) follows it: whatever the threads do, what waits in the queue and what the passes took is a state that a run of
-//! the board reaches ([`JobRule`]). A worker runs [`serve`] with its pass: it adds an answer for each job that it took, and
+//! the board reaches ([`rule`]). A worker runs [`serve`] with its pass: it adds an answer for each job that it took, and
 //! ends only after a pop that found nothing.
 //!
 //! ```text
@@ -19,7 +19,7 @@ mod crew;
 mod jobs;
 mod places;
 mod room;
-mod rule;
+pub mod rule;
 mod run;
 mod slots;
 mod work;
@@ -30,8 +30,6 @@ pub use answers::{Answer, Answers};
 pub use board::Board;
 pub use crew::{Crew, DEEPEST_CUT, Gate, LARGEST_GRAIN, MOST_WORKERS, NoGate};
 pub use jobs::{JobPass, Jobs};
-pub use rule::{JobQueue, JobRule, Known, NumberedJob, Pop, Push, TakenList, WorkerPass};
 pub use run::{GangFault, Ran, run_jobs};
 pub use work::Work;
 pub use worker_loop::serve;
-pub use workers::{GivesBack, Worker};

@@ -5,9 +5,8 @@ use crate::answers::Answers;
 use crate::places::empty_places;
 use crate::slots::Slots;
 use crate::work::Work;
-use crate::workers::{GivesBack, Worker};
+use crate::workers::{Child, WorkerOf};
 use std::alloc::{AllocError, Global};
-use std::thread::PromisedHandle;
 
 /// All room of a run, made before the first push.
 #[derive(Drop)]
@@ -17,9 +16,9 @@ pub(crate) struct Room<W: Work> {
     pub taken: Vec<Vec<usize>>,
     pub out: Answers<W::Done, W::Fault>,
     pub outs: Vec<Answers<W::Done, W::Fault>>,
-    pub workers: Vec<Worker<W::Job, W::Done, W::Fault>>,
-    pub children: Vec<Option<PromisedHandle<Worker<W::Job, W::Done, W::Fault>, GivesBack<W>>>>,
-    pub back: Vec<Option<Worker<W::Job, W::Done, W::Fault>>>,
+    pub workers: Vec<WorkerOf<W>>,
+    pub children: Vec<Child<W>>,
+    pub back: Vec<Option<WorkerOf<W>>>,
     pub came: Vec<Option<Answers<W::Done, W::Fault>>>,
 }
 

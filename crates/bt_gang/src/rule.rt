@@ -1,4 +1,4 @@
-//! The rule of the queue of jobs, and what a pass knows.
+//! The rule of the queue of jobs, and what a pass knows. It is what the contracts of this crate speak of, and nothing that a caller makes or calls.
 use crossbeam_queue::RuledArrayQueue;
 use crossbeam_queue::protocol::{Join, Lesson, Outcome, Protocol, Split};
 use std::collections::LinkedList;
@@ -28,12 +28,12 @@ pub struct JobRule;
 
 impl<J> Protocol<NumberedJob<J>, Known<J>> for JobRule {
     ghost use Rattle.std.specs.Prelude.{[]};
-    ghost use Rattle.bt_gang.specs.Crews.{most_workers};
+    ghost use Rattle.bt_gang.specs.declared.crew.TheConstants.{MOST_WORKERS};
     ghost use Rattle.bt_gang.specs.Queue.{IsQueue, known, no_lists};
 
     ghost holds = { IsQueue };
 
-    ghost first = { known [] (no_lists most_workers) };
+    ghost first = { known [] (no_lists MOST_WORKERS) };
 }
 
 /// How a pass is split off for a worker, and taken in: it gets the list of that worker, and brings it back.
@@ -66,10 +66,10 @@ impl<J> Outcome<NumberedJob<J>, Known<J>> for Push {
 }
 
 impl<J> Lesson<NumberedJob<J>, Known<J>> for Push {
-    ghost use Rattle.bt_gang.specs.Crews.{most_workers};
+    ghost use Rattle.bt_gang.specs.declared.crew.TheConstants.{MOST_WORKERS};
     ghost use Rattle.bt_gang.specs.Queue.{IsBoardOf};
 
-    ghost fact = { IsBoardOf most_workers };
+    ghost fact = { IsBoardOf MOST_WORKERS };
 }
 
 /// A pop that takes the front, or one that finds nothing, by which the pass learns that no job waits.
@@ -82,10 +82,10 @@ impl<J> Outcome<NumberedJob<J>, Known<J>> for Pop {
 }
 
 impl<J> Lesson<NumberedJob<J>, Known<J>> for Pop {
-    ghost use Rattle.bt_gang.specs.Crews.{most_workers};
+    ghost use Rattle.bt_gang.specs.declared.crew.TheConstants.{MOST_WORKERS};
     ghost use Rattle.bt_gang.specs.Queue.{IsBoardOf};
 
-    ghost fact = { IsBoardOf most_workers };
+    ghost fact = { IsBoardOf MOST_WORKERS };
 }
 
 pub type JobQueue<J> = RuledArrayQueue<NumberedJob<J>, Known<J>, JobRule>;

@@ -15,12 +15,12 @@ use crate::room::Room;
 use crate::slots::{JobFault, Slots, is_full, place, values};
 use crate::work::Work;
 use crate::worker_loop::serve;
-use crate::workers::{GivesBack, Worker, join_all, split, start, take_in};
+use crate::workers::{Child, Worker, WorkerOf, join_all, split, start, take_in};
 use std::alloc::Global;
 use std::snapshot::Snapshot;
 use std::sync::Wait;
 use std::thread;
-use std::thread::{PromisedHandle, Scope, Threads};
+use std::thread::{Scope, Threads};
 
 /// What a run of all jobs gives: the value of each job, and for each worker, the caller first, the numbers that it took. The
 /// list of a worker that could not be started is empty.
@@ -53,10 +53,10 @@ fn serve_all<'s, E, W: Work + Sync, G: Gate + Sync, R: Threads + Wait + Sync>(
     jobs: &'s Jobs<W::Job>,
     all: &'s Snapshot<Vec<W::Job>>,
     crew: &'s Crew<G>,
-    mut mine: Worker<W::Job, W::Done, W::Fault>,
-    workers: Vec<Worker<W::Job, W::Done, W::Fault>>,
-    children: Vec<Option<PromisedHandle<Worker<W::Job, W::Done, W::Fault>, GivesBack<W>>>>,
-    back: Vec<Option<Worker<W::Job, W::Done, W::Fault>>>,
+    mut mine: WorkerOf<W>,
+    workers: Vec<WorkerOf<W>>,
+    children: Vec<Child<W>>,
+    back: Vec<Option<WorkerOf<W>>>,
 ) -> Served<W::Job, W::Done, W::Fault>
     requires mine { IsReadyCaller jobs.now all.now.value.items (vec_len workers) mine }
     requires workers { AllFrom (IsReady jobs.now all.now.value.items []) 1 workers.items }
@@ -81,10 +81,10 @@ fn serve_threads<W: Work + Sync, G: Gate + Sync, R: Threads + Wait + Sync>(
     jobs: &Jobs<W::Job>,
     all: &Snapshot<Vec<W::Job>>,
     crew: &Crew<G>,
-    mine: Worker<W::Job, W::Done, W::Fault>,
-    workers: Vec<Worker<W::Job, W::Done, W::Fault>>,
-    children: Vec<Option<PromisedHandle<Worker<W::Job, W::Done, W::Fault>, GivesBack<W>>>>,
-    back: Vec<Option<Worker<W::Job, W::Done, W::Fault>>>,
+    mine: WorkerOf<W>,
+    workers: Vec<WorkerOf<W>>,
+    children: Vec<Child<W>>,
+    back: Vec<Option<WorkerOf<W>>>,
 ) -> Served<W::Job, W::Done, W::Fault>
     requires mine { IsReadyCaller jobs.now all.now.value.items (vec_len workers) mine }
     requires workers { AllFrom (IsReady jobs.now all.now.value.items []) 1 workers.items }

@@ -1,7 +1,7 @@
 //! The workers of one call: passes are split off, threads are started and joined, and passes are taken in.
 ghost use Rattle.std.specs.Prelude.{◌≡◌, ◌+◌, ◌<◌, ◌≤◌, List, [], All, IfSome, length, map, vec_capacity, vec_len};
 ghost use Rattle.crossbeam_queue.specs.Passes.{IsPassOf, view};
-ghost use Rattle.bt_gang.specs.Crews.{most_workers};
+ghost use Rattle.bt_gang.specs.declared.crew.TheConstants.{MOST_WORKERS};
 ghost use Rattle.bt_gang.specs.Queue.{HasList, known, no_lists};
 ghost use Rattle.bt_gang.specs.inside.Workers.{AllFrom, HasServed, IsCaller, IsPromise, IsReady, TookIn, out_of};
 
@@ -18,24 +18,25 @@ use std::thread::{Promise, PromisedHandle, Scope, Threads};
 
 /// A worker's number, its pass and its answers. The caller is worker 0.
 #[derive(Drop)]
-pub struct Worker<J: Drop, D, F> {
+pub(crate) struct Worker<J: Drop, D, F> {
     pub number: usize,
     pub pass: JobPass<J>,
     pub out: Answers<D, F>,
 }
 
+/// A worker of this work.
 pub(crate) type WorkerOf<W> = Worker<<W as Work>::Job, <W as Work>::Done, <W as Work>::Fault>;
 
 /// That the thread of the worker with this number gives back its pass with an answer for each job that it took.
 #[derive(Drop)]
-pub struct GivesBack<W: Work> {
+pub(crate) struct GivesBack<W: Work> {
     number: usize,
     work: Snapshot<W>,
     jobs: Snapshot<Jobs<W::Job>>,
     all: Snapshot<Snapshot<Vec<W::Job>>>,
 }
 
-impl<W: Work> Promise<Worker<W::Job, W::Done, W::Fault>> for GivesBack<W> {
+impl<W: Work> Promise<WorkerOf<W>> for GivesBack<W> {
     ghost kept_by = { λ p r. HasServed (W.allows p.work.value) p.jobs.value p.all.value.value.items [] p.number r };
 }
 
@@ -50,9 +51,9 @@ pub(crate) fn split<J: Drop, D: Drop, F: Drop>(
     outs: Vec<Answers<D, F>>,
     mut workers: Vec<Worker<J, D, F>>,
 ) -> Vec<Worker<J, D, F>>
-    requires pass { IsPassOf jobs.now.queue pass.old × (view pass.old ≡ known all.now.value.items (no_lists most_workers)) }
+    requires pass { IsPassOf jobs.now.queue pass.old × (view pass.old ≡ known all.now.value.items (no_lists MOST_WORKERS)) }
     requires outs { All (λ a. (a.list.items ≡ []) × (a.spare ≡ length all.now.value.items)) outs.items }
-    requires room { (workers.items ≡ []) × (vec_len outs < most_workers) × (vec_len outs ≤ vec_capacity workers) }
+    requires room { (workers.items ≡ []) × (vec_len outs < MOST_WORKERS) × (vec_len outs ≤ vec_capacity workers) }
     ensures pass { IsPassOf jobs.now.queue pass.new × IsCaller all.now.value.items (vec_len outs) (view pass.new) }
     ensures each { AllFrom (IsReady jobs.now all.now.value.items []) 1 result.items }
     ensures len { vec_len result ≡ vec_len outs }
@@ -77,8 +78,8 @@ fn served<W: Work, G: Gate, R: Wait>(
     jobs: &Jobs<W::Job>,
     all: &Snapshot<Vec<W::Job>>,
     crew: &Crew<G>,
-    worker: Worker<W::Job, W::Done, W::Fault>,
-) -> Worker<W::Job, W::Done, W::Fault>
+    worker: WorkerOf<W>,
+) -> WorkerOf<W>
     requires worker { IsReady jobs.now all.now.value.items [] worker.number worker }
     requires accepts { All (λ job. W.accepts work.now job) all.now.value.items }
     ensures { HasServed (W.allows work.now) jobs.now all.now.value.items [] worker.number result }
@@ -101,9 +102,9 @@ pub(crate) fn start<'s, E, W: Work + Sync, G: Gate + Sync, R: Threads + Wait + S
     jobs: &'s Jobs<W::Job>,
     all: &'s Snapshot<Vec<W::Job>>,
     crew: &'s Crew<G>,
-    workers: Vec<Worker<W::Job, W::Done, W::Fault>>,
-    mut children: Vec<Option<PromisedHandle<Worker<W::Job, W::Done, W::Fault>, GivesBack<W>>>>,
-) -> Vec<Option<PromisedHandle<Worker<W::Job, W::Done, W::Fault>, GivesBack<W>>>>
+    workers: Vec<WorkerOf<W>>,
+    mut children: Vec<Child<W>>,
+) -> Vec<Child<W>>
     requires workers { AllFrom (IsReady jobs.now all.now.value.items []) 1 workers.items }
     requires room { (children.items ≡ []) × (vec_len workers ≤ vec_capacity children) }
     requires accepts { All (λ job. W.accepts work.now job) all.now.value.items }
@@ -112,7 +113,7 @@ pub(crate) fn start<'s, E, W: Work + Sync, G: Gate + Sync, R: Threads + Wait + S
 {
     for worker in workers {
         let number = worker.number;
-        let task = move || -> Worker<W::Job, W::Done, W::Fault>
+        let task = move || -> WorkerOf<W>
             requires { IsReady jobs.now all.now.value.items [] worker.number worker × All (λ job. W.accepts work.now job) all.now.value.items }
             ensures { HasServed (W.allows work.entry.now) jobs.entry.now all.entry.now.value.items [] worker.number result }
         { served(rt, alloc, work, jobs, all, crew, worker) };
@@ -136,9 +137,9 @@ pub(crate) fn join_all<W: Work, R: Threads>(
     work: &W,
     jobs: &Jobs<W::Job>,
     all: &Snapshot<Vec<W::Job>>,
-    children: Vec<Option<PromisedHandle<Worker<W::Job, W::Done, W::Fault>, GivesBack<W>>>>,
-    mut back: Vec<Option<Worker<W::Job, W::Done, W::Fault>>>,
-) -> Vec<Option<Worker<W::Job, W::Done, W::Fault>>>
+    children: Vec<Child<W>>,
+    mut back: Vec<Option<WorkerOf<W>>>,
+) -> Vec<Option<WorkerOf<W>>>
     requires children { AllFrom (λ number child. IfSome child (λ h. IsPromise work.now jobs.now all.now.value.items number h.promise)) 1 children.items }
     requires room { (back.items ≡ []) × (vec_len children ≤ vec_capacity back) }
     ensures each { AllFrom (λ number w. IfSome w (HasServed (W.allows work.now) jobs.now all.now.value.items [] number)) 1 result.items }
@@ -159,7 +160,7 @@ pub(crate) fn take_in<W: Work>(
     jobs: &Jobs<W::Job>,
     all: &Snapshot<Vec<W::Job>>,
     pass: &mut JobPass<W::Job>,
-    workers: Vec<Option<Worker<W::Job, W::Done, W::Fault>>>,
+    workers: Vec<Option<WorkerOf<W>>>,
     mut outs: Vec<Option<Answers<W::Done, W::Fault>>>,
 ) -> Vec<Option<Answers<W::Done, W::Fault>>>
     requires pass { IsPassOf jobs.now.queue pass.old × HasList (view pass.old) }

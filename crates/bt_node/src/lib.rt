@@ -57,7 +57,10 @@ mod walk;
 
 pub use node::{Node, Parts, Siblings};
 pub use planning::{fullest_place, sum_of};
-pub use shape::Shape;
+pub use shape::{
+    LARGEST_BUFFER, LARGEST_FANOUT, LARGEST_LEAF, SMALLEST_BUFFER, SMALLEST_FANOUT, SMALLEST_LEAF,
+    Shape,
+};
 pub use tree::{Tree, absorb_alone, crown, drain_alone, pack, regroup};
 pub use visitor::Visitor;
 pub use walk::Walk;

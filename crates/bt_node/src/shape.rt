@@ -5,6 +5,19 @@ ghost use Rattle.bt_node.specs.Shapes.{is_shape};
 use bt_rowtype::Refusal;
 use std::marker::Model;
 
+/// The smallest fanout: with it the parts into which children are dealt have two of them or more.
+pub const SMALLEST_FANOUT: usize = 4;
+/// The largest fanout.
+pub const LARGEST_FANOUT: usize = 64;
+/// The smallest buffer.
+pub const SMALLEST_BUFFER: usize = 1;
+/// The largest buffer.
+pub const LARGEST_BUFFER: usize = 4096;
+/// The smallest leaf.
+pub const SMALLEST_LEAF: usize = 2;
+/// The largest leaf.
+pub const LARGEST_LEAF: usize = 1024;
+
 /// The most children of an inner node, the most messages in its buffer, and the most rows of a leaf.
 #[derive(Clone, Copy, Debug, Drop)]
 pub struct Shape {
@@ -35,7 +48,14 @@ impl Shape {
         ensures allowed { IfOk result (λ _. is_shape fanout buffer leaf ≡ true) }
         ensures refused { IfErr result (λ e. (e ≡ Refusal.BadShape) × (is_shape fanout buffer leaf ≡ false)) }
     {
-        if fanout < 4 || 64 < fanout || buffer < 1 || 4096 < buffer || leaf < 2 || 1024 < leaf {
+        let (children, messages, rows) = (fanout as usize, buffer as usize, leaf as usize);
+        if children < SMALLEST_FANOUT
+            || LARGEST_FANOUT < children
+            || messages < SMALLEST_BUFFER
+            || LARGEST_BUFFER < messages
+            || rows < SMALLEST_LEAF
+            || LARGEST_LEAF < rows
+        {
             return Err(Refusal::BadShape);
         }
         Ok(Shape {
@@ -48,7 +68,7 @@ impl Shape {
     /// The most children of an inner node.
     pub fn fanout(self) -> usize
         ensures value { result ≡ self.fanout }
-        ensures range { (4 ≤ result) × (result ≤ 64) }
+        ensures range { (SMALLEST_FANOUT ≤ result) × (result ≤ LARGEST_FANOUT) }
     {
         self.fanout as usize
     }
@@ -56,7 +76,7 @@ impl Shape {
     /// The most messages in the buffer of an inner node.
     pub fn buffer(self) -> usize
         ensures value { result ≡ self.buffer }
-        ensures range { (1 ≤ result) × (result ≤ 4096) }
+        ensures range { (SMALLEST_BUFFER ≤ result) × (result ≤ LARGEST_BUFFER) }
     {
         self.buffer as usize
     }
@@ -64,7 +84,7 @@ impl Shape {
     /// The most rows of a leaf.
     pub fn leaf(self) -> usize
         ensures value { result ≡ self.leaf }
-        ensures range { (2 ≤ result) × (result ≤ 1024) }
+        ensures range { (SMALLEST_LEAF ≤ result) × (result ≤ LARGEST_LEAF) }
     {
         self.leaf as usize
     }

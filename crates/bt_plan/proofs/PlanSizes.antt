@@ -1,5 +1,6 @@
 -- No more children are planned than there are.
 use Rattle.std.proofs.Common.{◌≡◌, ◌≤◌, ◌<◌, ◌++◌, ℕ, suc, true, false, cond, nat_le, List, [], ◌∷◌, length, length-append, refl, ap, arith, ◌+◌}
+use Rattle.bt_node.specs.declared.shape.TheConstants.{LARGEST_FANOUT}
 use Rattle.bt_node.specs.Plans.{placed, planned, ranked, ranked_in, shortest, total, total_of}
 use Rattle.bt_node.proofs.offered.FlushSteps.{planned-over}
 
@@ -30,6 +31,6 @@ length-planned ns capacity =
     omega (arith, length-shortest capacity (ranked (placed 0 ns)), length-ranked (placed 0 ns), length-placed 0 ns)
 
 -- while more than the capacity is pending, there is room for one more place
-pub room-left : (places rest counts : List ℕ) (capacity : ℕ) → places ++ planned rest capacity ≡ planned counts capacity → capacity < total rest → length counts ≤ 64 → length places < 64
+pub room-left : (places rest counts : List ℕ) (capacity : ℕ) → places ++ planned rest capacity ≡ planned counts capacity → capacity < total rest → length counts ≤ LARGEST_FANOUT → length places < LARGEST_FANOUT
 room-left places rest counts capacity so_far over few =
     omega (arith, ap length so_far, length-append places (planned rest capacity), ap length (planned-over rest capacity over), length-planned counts capacity, few)

@@ -23,8 +23,9 @@ use crate::holed::{Holed, HoledNode};
 use crate::job::{Job, Mode, Place};
 use crate::planning::plan;
 use arrayvec::ArrayVec;
+use bt_gang::DEEPEST_CUT;
 use bt_messages::{Bins, Buffer, Merge, Packet, Stream};
-use bt_node::{Node, Parts, Shape, Siblings, Tree};
+use bt_node::{LARGEST_FANOUT, Node, Parts, Shape, Siblings, Tree};
 use std::alloc::{AllocError, Global};
 
 // A node that messages enter, with those that were pending for it.
@@ -37,8 +38,8 @@ struct Entered<V: Merge> {
 }
 
 // The same mark for so many children.
-fn same_marks(mark: bool, count: usize) -> ArrayVec<bool, 64>
-    requires { count ≤ 64 }
+fn same_marks(mark: bool, count: usize) -> ArrayVec<bool, LARGEST_FANOUT>
+    requires { count ≤ LARGEST_FANOUT }
     ensures { result.items ≡ replicate count mark }
 {
     let mut marks = ArrayVec::new();
@@ -49,8 +50,12 @@ fn same_marks(mark: bool, count: usize) -> ArrayVec<bool, 64>
 }
 
 // How many messages are pending for each child: those in its bin, and its share of those that come.
-fn loads<V: Merge>(bins: &Bins<V>, stream: &Stream<V>, shares: &[usize]) -> ArrayVec<u64, 64>
-    requires few { length bins.now ≤ 64 }
+fn loads<V: Merge>(
+    bins: &Bins<V>,
+    stream: &Stream<V>,
+    shares: &[usize],
+) -> ArrayVec<u64, LARGEST_FANOUT>
+    requires few { length bins.now ≤ LARGEST_FANOUT }
     requires len { length shares.now ≡ length bins.now }
     requires enough { total shares.now ≤ length stream.now }
     ensures { result.items ≡ map length (each_with (parted shares.now stream.now) bins.now) }
@@ -64,8 +69,8 @@ fn loads<V: Merge>(bins: &Bins<V>, stream: &Stream<V>, shares: &[usize]) -> Arra
 }
 
 // Whether each child is planned.
-fn planned_marks(counts: &[u64], capacity: u64) -> ArrayVec<bool, 64>
-    requires { length counts.now ≤ 64 }
+fn planned_marks(counts: &[u64], capacity: u64) -> ArrayVec<bool, LARGEST_FANOUT>
+    requires { length counts.now ≤ LARGEST_FANOUT }
     ensures { result.items ≡ marks_of (length counts.now) (planned counts.now capacity) }
 {
     let places = plan(counts, capacity);
@@ -77,8 +82,8 @@ fn planned_marks(counts: &[u64], capacity: u64) -> ArrayVec<bool, 64>
 }
 
 // Whether each child is flushed, where so many messages are pending for each.
-fn flush_marks(mode: Mode, shape: Shape, loads: &[u64]) -> ArrayVec<bool, 64>
-    requires { length loads.now ≤ 64 }
+fn flush_marks(mode: Mode, shape: Shape, loads: &[u64]) -> ArrayVec<bool, LARGEST_FANOUT>
+    requires { length loads.now ≤ LARGEST_FANOUT }
     ensures { result.items ≡ flush_marks mode shape.buffer loads.now }
 {
     match mode {
@@ -190,7 +195,7 @@ fn cut_child<V: Merge>(
     jobs: &mut Vec<Job<V>>,
 ) -> Result<(HoledNode<V>, Buffer<V>), AllocError>
     requires sized { IsSized shape child.node }
-    requires path { length child.place.path.items + depth ≤ 3 }
+    requires path { length child.place.path.items + depth ≤ DEEPEST_CUT }
     requires enough { share ≤ length stream.old }
     ensures child { IfOk result (λ cut. cut.0 ≡ with_holes hole_of (cond marked (cut_job depth shape (sent (take share stream.old) (entered_job child))) (pieces.whole child.node))) }
     ensures kept { IfOk result (λ cut. cut.1 ≡ cond marked [] (with_messages (take share stream.old) child.pending)) }
@@ -220,12 +225,12 @@ fn cut_children<V: Merge>(
     jobs: &mut Vec<Job<V>>,
 ) -> Result<(Vec<HoledNode<V>>, Bins<V>), AllocError>
     requires sized { AreSizedNodes shape nodes.items }
-    requires few { length nodes.items ≤ 64 }
+    requires few { length nodes.items ≤ LARGEST_FANOUT }
     requires bins { length bins ≡ length nodes.items }
     requires marks { length marks.now ≡ length nodes.items }
     requires shares { length shares.now ≡ length nodes.items }
     requires enough { total shares.now ≤ length stream.old }
-    requires path { length place.now.path.items + depth < 3 }
+    requires path { length place.now.path.items + depth < DEEPEST_CUT }
     ensures children { IfOk result (λ cut. cut.0.items ≡ map (with_holes hole_of) (cut_each depth mode shape (place_of place.now) 0 nodes.items (each_with (parted shares.now stream.old) bins) marks.now)) }
     ensures bins { IfOk result (λ cut. cut.1 ≡ kept_bins (each_with (parted shares.now stream.old) bins) marks.now) }
     ensures jobs { OnOk result (map job_of jobs.new.items ≡ map job_of jobs.old.items ++ flat_map holes (cut_each depth mode shape (place_of place.now) 0 nodes.items (each_with (parted shares.now stream.old) bins) marks.now)) }
@@ -308,7 +313,7 @@ fn open<V: Merge>(
 ) -> Result<HoledNode<V>, AllocError>
     requires lie { LieBetween (pivots_of children) bins }
     requires sized { IsSized shape (inner (nodes children) (joined bins)) }
-    requires path { length place.now.path.items + depth < 3 }
+    requires path { length place.now.path.items + depth < DEEPEST_CUT }
     requires enough { count ≤ length stream.old }
     ensures holed { IfOk result (λ holed. holed ≡ with_holes hole_of (cut_out (suc depth) mode shape (place_of place.now) (inner (nodes children) (joined bins)) (take count stream.old))) }
     ensures jobs { OnOk result (map job_of jobs.new.items ≡ map job_of jobs.old.items ++ holes (cut_out (suc depth) mode shape (place_of place.now) (inner (nodes children) (joined bins)) (take count stream.old))) }
@@ -350,7 +355,7 @@ fn cut_node<V: Merge>(
     jobs: &mut Vec<Job<V>>,
 ) -> Result<HoledNode<V>, AllocError>
     requires sized { IsSized shape entered.node }
-    requires path { length entered.place.path.items + depth ≤ 3 }
+    requires path { length entered.place.path.items + depth ≤ DEEPEST_CUT }
     requires enough { count ≤ length stream.old }
     ensures holed { IfOk result (λ holed. holed ≡ with_holes hole_of (cut_job depth shape (sent (take count stream.old) (entered_job entered)))) }
     ensures jobs { OnOk result (map job_of jobs.new.items ≡ map job_of jobs.old.items ++ holes (cut_job depth shape (sent (take count stream.old) (entered_job entered)))) }
@@ -403,7 +408,7 @@ pub fn cut<V: Merge>(
     depth: usize,
     mode: Mode,
 ) -> Result<(Holed<V>, Vec<Job<V>>), AllocError>
-    requires { (1 ≤ depth) × (depth ≤ 3) }
+    requires { (1 ≤ depth) × (depth ≤ DEEPEST_CUT) }
     ensures pieces { IfOk result (λ cut. IsCut cut.0 cut.1.items tree_number tree packet depth mode) }
     ensures stand { IfOk result (λ _. StandInHoles tree.0 (cut tree_number tree.0 tree.1 packet depth mode)) }
     ensures rise { IfOk result (λ _. PlacesRise (cut tree_number tree.0 tree.1 packet depth mode)) }

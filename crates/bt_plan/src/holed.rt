@@ -169,6 +169,13 @@ impl<V: Merge> Holed<V> {
         Holed { shape, root }
     }
 
+    /// How large its nodes may be.
+    pub fn shape(&self) -> Shape
+        ensures { result ≡ self.now.0 }
+    {
+        self.shape
+    }
+
     /// The root, to be looked at.
     pub fn root(&self) -> &HoledNode<V>
         ensures { result.now ≡ self.now.1 }

@@ -6,6 +6,7 @@ ghost use Rattle.bt_plan.specs.Views.{place_of};
 
 use crate::copies::copied;
 use arrayvec::ArrayVec;
+use bt_gang::DEEPEST_CUT;
 use bt_messages::{Merge, Packet};
 use bt_node::Node;
 use std::cmp::Ordering;
@@ -14,7 +15,7 @@ use std::cmp::Ordering;
 #[derive(Drop)]
 pub struct Place {
     pub tree: u16,
-    pub path: ArrayVec<u16, 3>,
+    pub path: ArrayVec<u16, DEEPEST_CUT>,
 }
 
 impl Place {
@@ -48,7 +49,7 @@ impl Place {
 
     // The child with this number.
     pub(crate) fn child(&self, number: u16) -> Self
-        requires { length self.now.path.items < 3 }
+        requires { length self.now.path.items < DEEPEST_CUT }
         ensures { place_of result ≡ child_place (place_of self.now) number }
     {
         let mut place = self.copy();

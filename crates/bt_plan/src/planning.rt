@@ -6,11 +6,11 @@ ghost use Rattle.bt_node.specs.Plans.{planned, renewed, total};
 
 use crate::copies::copied;
 use arrayvec::ArrayVec;
-use bt_node::{fullest_place, sum_of};
+use bt_node::{LARGEST_FANOUT, fullest_place, sum_of};
 
 // The places in turn: the fullest child is emptied, until no more are left than the capacity.
-fn choose(rest: &mut [u64], capacity: u64) -> ArrayVec<u16, 64>
-    requires { length rest.old ≤ 64 }
+fn choose(rest: &mut [u64], capacity: u64) -> ArrayVec<u16, LARGEST_FANOUT>
+    requires { length rest.old ≤ LARGEST_FANOUT }
     ensures { result.items ≡ planned rest.old capacity }
 {
     let mut places = ArrayVec::new();
@@ -26,11 +26,11 @@ fn choose(rest: &mut [u64], capacity: u64) -> ArrayVec<u16, 64>
 
 /// The places of the children to flush, where this many messages are pending for each: the fullest first, of equally full ones the
 /// leftmost, and no more of them than it takes until at most the capacity is pending for the others.
-pub fn plan(counts: &[u64], capacity: u64) -> ArrayVec<u16, 64>
-    requires { length counts.now ≤ 64 }
+pub fn plan(counts: &[u64], capacity: u64) -> ArrayVec<u16, LARGEST_FANOUT>
+    requires { length counts.now ≤ LARGEST_FANOUT }
     ensures places { result.items ≡ planned counts.now capacity }
     ensures renewed { result.items ≡ renewed capacity (total counts.now) counts.now }
 {
-    let mut rest: ArrayVec<u64, 64> = copied(counts);
+    let mut rest: ArrayVec<u64, LARGEST_FANOUT> = copied(counts);
     choose(rest.as_mut_slice(), capacity)
 }

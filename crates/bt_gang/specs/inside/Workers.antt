@@ -10,7 +10,7 @@ use Rattle.bt_gang.specs.declared.workers.GivesBack.{GivesBack}
 use Rattle.bt_gang.specs.declared.rule.Known.{Known}
 use Rattle.bt_gang.specs.declared.rule.TakenList.{TakenList}
 use Rattle.bt_gang.specs.Numbers.{below}
-use Rattle.bt_gang.specs.Crews.{most_workers}
+use Rattle.bt_gang.specs.declared.crew.TheConstants.{MOST_WORKERS}
 use Rattle.bt_gang.specs.Queue.{known, taken_list}
 use Rattle.bt_gang.specs.Numbered.{numbered}
 use Rattle.bt_gang.specs.Answers.{AllMay}
@@ -74,8 +74,8 @@ pub record IsPromise {W J D F : Type 0} (work : W) (jobs : Jobs J) (all : List J
 module _ {J : Type 0} where
   -- what the caller's pass knows after this many passes were split off: its own list, and those of the workers that have no pass
   pub record IsCaller (all : List J) (given_away : ℕ) (v : Known J) : Type 0 where
-    pub knows : v ≡ known all (taken_list 0 [] ∷ lists_left most_workers (suc given_away))
-    pub few : given_away < most_workers
+    pub knows : v ≡ known all (taken_list 0 [] ∷ lists_left MOST_WORKERS (suc given_away))
+    pub few : given_away < MOST_WORKERS
 
   -- the lists of the workers whose answers came back are in the pass, beside those that it had
   abbrev pub TookIn : {D F : Type 0} → Known J → Known J → List (Option (Answers D F)) → Type 0
@@ -88,11 +88,11 @@ module _ {J : Type 0} where
 module _ {J D F : Type 0} where
   -- the caller before its loop, after this many passes were split off
   pub record IsReadyCaller (jobs : Jobs J) (all : List J) (given_away : ℕ) (mine : Worker J D F) : Type 0 where
-    pub ready : IsReady jobs all (lists_left most_workers (suc given_away)) 0 mine
-    pub few : given_away < most_workers
+    pub ready : IsReady jobs all (lists_left MOST_WORKERS (suc given_away)) 0 mine
+    pub few : given_away < MOST_WORKERS
 
   -- the caller after its loop: there is room for the answers that it has not
   pub record HasServedCaller (allows : J → Result D F → Type 0) (jobs : Jobs J) (all : List J) (given_away : ℕ) (mine : Worker J D F) : Type 0 where
-    pub served : HasServed allows jobs all (lists_left most_workers (suc given_away)) 0 mine
-    pub few : given_away < most_workers
+    pub served : HasServed allows jobs all (lists_left MOST_WORKERS (suc given_away)) 0 mine
+    pub few : given_away < MOST_WORKERS
     pub spare : mine.out.spare + length mine.out.list.items ≡ length all

@@ -12,6 +12,8 @@ use Rattle.bt_node.proofs.lemmas.flushes.DrainLaws.{leaves-fit}
 use Rattle.bt_node.proofs.lemmas.flushes.Drains.{drain-fits, drain-holds}
 use Rattle.bt_node.proofs.lemmas.flushes.Groups.{leaves-hold}
 use Rattle.bt_node.proofs.offered.ShapedTrees.{holds-sorted}
+-- a crown over dry siblings is dry, and drained siblings are
+pub use Rattle.bt_node.proofs.lemmas.flushes.Drains.{crown-dry, drain-dry}
 
 module _ {V : Type 0} (M : Type 0) (shape : Shape) (roomy : IsRoomy shape) (rows : Rows V) (sorted : T (is_sorted key_cmp rows)) where
   -- a packed tree fits

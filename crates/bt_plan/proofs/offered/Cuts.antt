@@ -22,6 +22,8 @@ use Rattle.bt_plan.proofs.Holes.{Somewhere, each-asked, told-fits}
 use Rattle.bt_plan.proofs.Places.{cut-rises}
 -- children side by side, and what is pending for them
 pub use Rattle.bt_plan.proofs.Marks.{all_pending-none, lies-divided, stripped-none}
+-- what becomes of jobs at rising places stands at these
+pub use Rattle.bt_plan.proofs.Found.{all-stand}
 -- trees in pieces whose holes tell something else
 pub use Rattle.bt_plan.proofs.Found.{filled-as}
 pub use Rattle.bt_plan.proofs.Holes.{bins-long, told-fits}

@@ -3,7 +3,7 @@ use mathlib.Core.Option.{some}
 use lib.ListN.{get_elem?}
 use Rattle.crossbeam_queue.specs.Passes.{view}
 use Rattle.bt_gang.specs.Answers.{Gains}
-use Rattle.bt_gang.specs.Crews.{most_workers}
+use Rattle.bt_gang.specs.declared.crew.TheConstants.{MOST_WORKERS}
 use Rattle.bt_gang.proofs.Rules.{pops, learns}
 use Rattle.bt_gang.proofs.Serving.{gained_list, gains_none, gains_more, spare_left, found_nothing, nothing_waits, at_all}
 use Rattle.bt_gang.proofs.worker_loop.serve.Goals as goal
@@ -14,7 +14,7 @@ loop-init g c = record { pass = c.requires.pass.0; gains = gains_none (g.W.Work.
 pub pop_as-requires-clause-rule : goal.pop_as-requires-clause-rule
 pop_as-requires-clause-rule g c =
     let some_list = gained_list _ _ _ c.loop.invariant.gains.pass c.requires.pass.1 in
-    (pops most_workers _ _ _ refl some_list, learns most_workers _ _ some_list)
+    (pops MOST_WORKERS _ _ _ refl some_list, learns MOST_WORKERS _ _ some_list)
 
 pub run-value-requires : goal.run-value-requires
 run-value-requires g c =
@@ -33,10 +33,10 @@ loop-preserved g c = record {
 }
 
 pub returns-in-None-pop_as-clause-settled : goal.returns-in-None-pop_as-clause-settled
-returns-in-None-pop_as-clause-settled g c = nothing_waits most_workers _ _ c.in-None-pop_as.ensures.rule.0 c.in-None-pop_as.ensures.rule.1
+returns-in-None-pop_as-clause-settled g c = nothing_waits MOST_WORKERS _ _ c.in-None-pop_as.ensures.rule.0 c.in-None-pop_as.ensures.rule.1
 
 pub returns-in-None-pop_as-clause-last : goal.returns-in-None-pop_as-clause-last
-returns-in-None-pop_as-clause-last g c = found_nothing most_workers _ (returns-in-None-pop_as-clause-settled g c) refl
+returns-in-None-pop_as-clause-last g c = found_nothing MOST_WORKERS _ (returns-in-None-pop_as-clause-settled g c) refl
 
 pub returns-in-None-pop_as-clause-gains : goal.returns-in-None-pop_as-clause-gains
 returns-in-None-pop_as-clause-gains g c =

@@ -3,7 +3,7 @@ use Rattle.std.proofs.lemmas.List.Elements.{All-head, All-rest, All-same}
 use Rattle.crossbeam_queue.specs.Passes.{view}
 use Rattle.bt_gang.specs.declared.answers.Answers.{Answers}
 use Rattle.bt_gang.specs.declared.workers.Worker.{Worker}
-use Rattle.bt_gang.specs.Crews.{most_workers}
+use Rattle.bt_gang.specs.declared.crew.TheConstants.{MOST_WORKERS}
 use Rattle.bt_gang.specs.inside.Workers.{IsCaller, IsReady}
 use Rattle.bt_gang.proofs.Rules.{forks}
 use Rattle.bt_gang.proofs.Working.{caller_first, caller_next, from_more, from_none}
@@ -34,7 +34,7 @@ loop-out-init g c =
     }
 
 pub another-theirs-requires-clause-rule : goal.another-theirs-requires-clause-rule
-another-theirs-requires-clause-rule g c = forks most_workers _ _
+another-theirs-requires-clause-rule g c = forks MOST_WORKERS _ _
 
 pub loop-out-preserved : goal.loop-out-preserved
 loop-out-preserved g c =
@@ -43,7 +43,7 @@ loop-out-preserved g c =
     let all = c.args.all.now.value.items in
     let P : Answers g.row.D.Denot g.row.F.Denot → Type 0 = λ a. (a.list.items ≡ []) × (a.spare ≡ length all) in
     let Q : ℕ → Worker g.row.J.Denot g.row.D.Denot g.row.F.Denot → Type 0 = IsReady c.args.jobs.now all [] in
-    let few : suc (vec_len c.loop-out.workers) < most_workers = omega (arith, i.count, i.few, s.1) in
+    let few : suc (vec_len c.loop-out.workers) < MOST_WORKERS = omega (arith, i.count, i.few, s.1) in
     let n = caller_next all _ _ (view c.loop-out.pass) _ _ i.caller few c.push_reserved.ensures.len c.another-theirs.ensures.rule.0 c.another-theirs.ensures.rule.1 in
     let one : P c.in-Some.out = All-head P c.in-Some.out _ (All-same P _ _ (sym s.0) i.outs) in
     let ready : Q (vec_len c.push_reserved.new.self) (record { number = c.len-number.result + 1; pass = c.another-theirs.result; out = c.in-Some.out }) =

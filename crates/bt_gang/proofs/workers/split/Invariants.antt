@@ -1,7 +1,7 @@
 use Rattle.std.proofs.Common.{◌≡◌, ◌+◌, ◌<◌, ◌≤◌, [], All, length, vec_len, vec_capacity}
 use Rattle.std.specs.Vec.Iter.{into_iter_items, into_iter_len}
 use Rattle.crossbeam_queue.specs.Passes.{view, IsPassOf}
-use Rattle.bt_gang.specs.Crews.{most_workers}
+use Rattle.bt_gang.specs.declared.crew.TheConstants.{MOST_WORKERS}
 use Rattle.bt_gang.specs.inside.Workers.{AllFrom, IsCaller, IsReady}
 use Rattle.bt_gang.proofs.workers.split.Given as goal
 
@@ -11,7 +11,7 @@ invariant-loop-out g l = record {
   caller : IsCaller l.all.value.items (vec_len l.workers) (view l.pass);
   outs : All (λ a. (a.list.items ≡ []) × (a.spare ≡ length l.all.value.items)) (into_iter_items l.out-iterator);
   count : vec_len l.workers + into_iter_len l.out-iterator ≡ vec_len l.fn.outs;
-  few : vec_len l.fn.outs < most_workers;
+  few : vec_len l.fn.outs < MOST_WORKERS;
   room : vec_len l.fn.outs ≤ vec_capacity l.workers;
   each : AllFrom (IsReady l.jobs l.all.value.items []) 1 l.workers.items;
 }

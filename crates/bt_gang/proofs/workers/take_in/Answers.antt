@@ -3,7 +3,7 @@ use Rattle.std.proofs.lemmas.List.{nil_from_length}
 use Rattle.crossbeam_queue.specs.Passes.{view}
 use Rattle.bt_gang.specs.declared.answers.Answers.{Answers}
 use Rattle.bt_gang.specs.declared.workers.Worker.{Worker}
-use Rattle.bt_gang.specs.Crews.{most_workers}
+use Rattle.bt_gang.specs.declared.crew.TheConstants.{MOST_WORKERS}
 use Rattle.bt_gang.specs.inside.Workers.{HasServed, TookIn, out_of}
 use Rattle.bt_gang.proofs.Rules.{merges}
 use Rattle.bt_gang.proofs.Working.{from_next, from_same, took_list, took_more, took_none, took_nothing}
@@ -36,7 +36,7 @@ loop-worker-init g c =
     }
 
 pub absorb-requires-clause-rule : goal.absorb-requires-clause-rule
-absorb-requires-clause-rule g c = merges most_workers _ _ _ _ (took_list (view c.args.pass.now) _ c.loop-worker.outs.items c.loop-worker.invariant.took c.requires.pass.1)
+absorb-requires-clause-rule g c = merges MOST_WORKERS _ _ _ _ (took_list (view c.args.pass.now) _ c.loop-worker.outs.items c.loop-worker.invariant.took c.requires.pass.1)
 
 pub loop-worker-preserved-in-Some-worker : goal.loop-worker-preserved-in-Some-worker
 loop-worker-preserved-in-Some-worker g c =

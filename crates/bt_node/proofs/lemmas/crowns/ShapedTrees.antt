@@ -7,11 +7,15 @@ use Rattle.bt_node.specs.Trees.{Shape, Tree, Siblings}
 use Rattle.bt_node.specs.Flushes.{crown, holds, all_hold}
 use Rattle.bt_node.specs.Fits.{AreFit, HasShape, IsRoomy}
 use Rattle.bt_node.specs.Shapes.{is_shape}
+use Rattle.bt_node.specs.declared.shape.TheConstants.{SMALLEST_FANOUT, LARGEST_FANOUT, SMALLEST_BUFFER, LARGEST_BUFFER, SMALLEST_LEAF, LARGEST_LEAF}
 use Rattle.bt_node.proofs.lemmas.crowns.CrownedRows.{crown-fits, crown-holds}
 
 both : (a b : Bool) → a && b ≡ true → (a ≡ true) × (b ≡ true)
 both true b e = (refl, e)
 both false b e = absurd (true≢false (sym e))
+
+abbrev is_between : ℕ → ℕ → ℕ → Bool
+is_between a n b = nat_le a n && nat_le n b
 
 up_to : (a b : ℕ) → nat_le a b ≡ true → a ≤ b
 up_to a b e = grind (arith, nat_tests)
@@ -22,9 +26,12 @@ has_room shape e =
     let f = shape.fanout in
     let b = shape.buffer in
     let l = shape.leaf in
-    let parts = both ((nat_le 4 f && nat_le f 64) && (nat_le 1 b && nat_le b 4096)) (nat_le 2 l && nat_le l 1024) e in
-    let four = up_to 4 f (both (nat_le 4 f) (nat_le f 64) (both (nat_le 4 f && nat_le f 64) (nat_le 1 b && nat_le b 4096) parts.0).0).0 in
-    let two = up_to 2 l (both (nat_le 2 l) (nat_le l 1024) parts.1).0 in
+    let fanout = is_between SMALLEST_FANOUT f LARGEST_FANOUT in
+    let buffer = is_between SMALLEST_BUFFER b LARGEST_BUFFER in
+    let leaf = is_between SMALLEST_LEAF l LARGEST_LEAF in
+    let parts = both (fanout && buffer) leaf e in
+    let four = up_to SMALLEST_FANOUT f (both (nat_le SMALLEST_FANOUT f) (nat_le f LARGEST_FANOUT) (both fanout buffer parts.0).0).0 in
+    let two = up_to SMALLEST_LEAF l (both (nat_le SMALLEST_LEAF l) (nat_le l LARGEST_LEAF) parts.1).0 in
     record { fanout = omega (arith, four); leaf = omega (arith, two) }
 
 module _ {V D : Type 0} (shape : Shape) where

@@ -1,5 +1,5 @@
 -- Siblings and the messages that are pending for them, dealt under inner nodes: they fit one level higher, and hold what they held after the messages.
-use Rattle.std.proofs.Common.{◌≡◌, ℕ, suc, ◌≤◌, List, length, sym, ap, subst, ◌∙◌, arith}
+use Rattle.std.proofs.Common.{◌≡◌, ℕ, suc, ◌≤◌, length, sym, ap, subst, ◌∙◌, arith}
 use Rattle.std.specs.FinMap.{find, nat_cmp-IsAntisymmetric, slice_cmp-IsAntisymmetric}
 use Rattle.std.specs.FinMap.Entries.{same_entries}
 use Rattle.std.specs.declared.option.Option.{Option}
@@ -7,12 +7,12 @@ use Rattle.bt_keycode.specs.Keys.{Key, key_cmp, AllWithin, IsSorted}
 use Rattle.bt_keycode.proofs.offered.Order.{total_keys}
 use Rattle.bt_node.specs.Messages.{Messages, rows_after, value_after}
 use Rattle.bt_node.specs.Trees.{Shape, Siblings, nodes}
-use Rattle.bt_node.specs.Flushes.{Child, shared, grouped, all_hold}
+use Rattle.bt_node.specs.Flushes.{shared, grouped, all_hold}
 use Rattle.bt_node.specs.Fits.{AreSized, IsRoomy, SiblingsFit, SiblingsLie}
 use Rattle.bt_node.specs.Laws.{FitAbove, HoldAllAfter}
 use Rattle.bt_node.proofs.lemmas.rows.RowsAfter.{rows-sorted, rows_after-lie}
 use Rattle.bt_node.proofs.lemmas.rows.Values.{find-rows}
-use Rattle.bt_node.proofs.lemmas.flushes.Children.{ChildrenLie, all_pending, below, value-below-seen}
+use Rattle.bt_node.proofs.lemmas.flushes.Children.{ChildrenLie, below, value-below-seen}
 use Rattle.bt_node.proofs.lemmas.flushes.EmptyPackets.{all_pending-shared, stripped-shared}
 use Rattle.bt_node.proofs.lemmas.flushes.NodeSizes.{grouped-sized}
 use Rattle.bt_node.proofs.lemmas.flushes.RowsKept.{all_hold-lie}

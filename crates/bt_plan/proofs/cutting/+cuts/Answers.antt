@@ -10,6 +10,7 @@ use Rattle.bt_messages.proofs.offered.Parts.{lie_length}
 use Rattle.bt_messages.proofs.offered.Placed.{alone}
 use Rattle.bt_messages.proofs.offered.Totals.{nothing_pending}
 use Rattle.bt_node.specs.Fits.{IsSized}
+use Rattle.bt_node.specs.declared.shape.TheConstants.{LARGEST_FANOUT}
 use Rattle.bt_node.specs.Trees.{behind, pivots_of}
 use Rattle.bt_node.proofs.offered.FlushSteps.{if_ok}
 use Rattle.bt_plan.specs.Cuts.{flush_marks, hole_of}
@@ -32,7 +33,7 @@ open-loads-loads-requires-clause-few g t c =
     let ts = c.apart-nodes.result.0.items in
     let long = bins_long xs bins ks ts lie parts.parts parts.one_fewer in
     let sized = nodes_sized xs bins ks ts lie parts.parts parts.one_fewer c.args.shape c.requires.sized in
-    let most : c.args.shape.fanout ≤ 64 = search rules in
+    let most : c.args.shape.fanout ≤ LARGEST_FANOUT = search rules in
     omega (arith, long, parts.one_fewer, sized.0, most)
 
 pub open-loads-loads-requires-clause-len : goal.open-loads-loads-requires-clause-len
@@ -63,7 +64,7 @@ open-cut_children-requires g t c κs within =
     let long = bins_long xs bins ks ts lie parts.parts parts.one_fewer in
     let sized = nodes_sized xs bins ks ts lie parts.parts parts.one_fewer c.args.shape c.requires.sized in
     let marked = as_many_marks xs bins ks ts lie parts.parts parts.one_fewer c.pivots.result.now (c.pivots.ensures.pivots ∙ pivots_are xs bins ks ts lie parts.parts parts.one_fewer) (take c.args.count stream) (each_with (parted shares stream) bins) after_is c.args.depth c.args.mode c.args.shape (place_of c.args.place.now) c.as_slice-4.result.now marks_are in
-    let most : c.args.shape.fanout ≤ 64 = search rules in
+    let most : c.args.shape.fanout ≤ LARGEST_FANOUT = search rules in
     let as_many : length shares ≡ length ts = omega (arith, parts.one_fewer, ap length c.as_slice-5.ensures.value, c.in_ok-shares.ensures.len, ap length (c.pivots.ensures.pivots ∙ pivots_are xs bins ks ts lie parts.parts parts.one_fewer)) in
     let enough : total shares ≤ length stream = omega (arith, ap total c.as_slice-5.ensures.value, c.in_ok-shares.ensures.total, c.requires.enough) in (
       omega (arith, c.decreases),
