@@ -1,11 +1,16 @@
+pub mod CutJobs
+pub mod Eithers
 pub mod Filled
 pub mod HolePlaces
 pub mod Kept
+pub mod NoMisfit
 pub mod Opening
+pub mod PieceShares
 pub mod PlaceOrder
 pub mod Placing
 pub mod PlaceSearch
 pub mod Seats
 pub mod SeenPieces
+pub mod SunkTrees
 pub mod Told
 pub mod offered

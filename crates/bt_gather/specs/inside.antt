@@ -1,4 +1,7 @@
+pub mod Eithers
 pub mod Fillings
 pub mod Marks
+pub mod RoundJobs
+pub mod RoundTrees
 pub mod Slots
 pub mod Views

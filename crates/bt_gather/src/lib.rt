@@ -1,11 +1,36 @@
-//! Putting together what was divided: pieces fill the holes of a tree in pieces.
+//! Rounds over trees: the flushes of several trees are the jobs of one run, and what becomes of the jobs is put in where they came from.
 //!
-//! `specs` has the definitions. `Misfits` says what is wrong with pieces that do not fill a tree in pieces, and `Laws` what [`fill`] asks for and what it refuses.
+//! ```text
+//!   tree of rows   cut to jobs 0 and 1   \                 / pieces 0 and 1   filled and crowned
+//!   first index    sunk by the caller     }  one run of the {
+//!   second index   cut to jobs 2 to 4    /  jobs by a crew  \ pieces 2 to 4    filled and crowned
+//! ```
+//!
+//! A tree is cut by `bt_plan`; a worker runs each job by [`run_job`]; and [`fill`] puts the pieces, at most one at each hole, into the tree
+//! again. [`sink`] and [`drain`] do all of it. Here flushes meet threads, and nowhere else.
+//!
+//! Jobs are numbered tree by tree, rows first, and each tree takes as many pieces as it has jobs, so what a run gives by its numbers comes back to
+//! its trees. Nodes and messages are moved, never copied. Where memory is refused, every worker has ended before the answer comes.
+//!
+//! ```text
+//! let crew = Crew::new(4, 2, 64, NoGate)?;
+//! let (rows, entries) = sink(&rt, alloc, rows, entries, &crew)?;
+//! let rows = drain(&rt, alloc, tree, &crew)?;
+//! ```
+//!
+//! `specs` has the definitions. `Rounds` says what becomes of several trees, `Misfits` what is wrong with pieces that do not fill a tree in pieces, and `Laws`
+//! what [`fill`] asks for and what it refuses.
 #![tactic(auto)]
 
+mod either;
 mod filling;
+mod flush_work;
 mod misfit;
 mod places;
+mod round;
+mod round_tree;
 
 pub use filling::{FillError, fill};
+pub use flush_work::run_job;
 pub use misfit::Misfit;
+pub use round::{drain, sink};

@@ -1,11 +1,12 @@
 //! Replays the batches of scripts on trees that are taken apart. Each flush is cut into jobs, which are run one by one, in rising or in falling
-//! order, and what becomes of them is filled in; the tree is compared with that of the flush as a whole.
+//! order, and what becomes of them is filled in; and each is run by crews. The tree is compared with that of the flush as a whole.
 //!
 //! The file `scripts` names the scripts, one a line, of which `table` and `batch` alone are looked at. Where words are given, they name the
 //! scripts; with the word `time` before them flushes are timed in place of that.
 #![tactic(auto)]
 
 mod batches;
+mod crews;
 mod odd;
 mod pieces;
 mod replays;
@@ -15,17 +16,22 @@ mod tree_text;
 use anyhow::{Context, Result};
 use replays::replay;
 use std::rt::{Clock, Env, Files};
+use std::sync::Wait;
+use std::thread::Threads;
 use std::{env, fs};
 use timing::time;
 
 // Replays a script.
-fn replay_file<R: Files + Print + AllocGlobal>(rt: &R, name: &str) -> Result<()> {
+fn replay_file<R: Files + Print + AllocGlobal + Threads + Wait + Sync>(
+    rt: &R,
+    name: &str,
+) -> Result<()> {
     let script = fs::read(rt, name).context(format_args!("reading {name}"))?;
     replay(rt, name, script.as_slice()).context(format_args!("replaying {name}"))
 }
 
 // Replays the scripts that the file `scripts` names.
-fn replay_all<R: Files + Print + AllocGlobal>(rt: &R) -> Result<()> {
+fn replay_all<R: Files + Print + AllocGlobal + Threads + Wait + Sync>(rt: &R) -> Result<()> {
     let names = fs::read_to_string(rt, "scripts").context("reading the names of the scripts")?;
     for name in names.as_str().lines() {
         replay_file(rt, name)?;
@@ -40,7 +46,7 @@ fn time_file<R: Clock + Files + Print + AllocGlobal>(rt: &R, name: &str) -> Resu
     time(rt, script.as_slice()).context(format_args!("timing {name}"))
 }
 
-fn run<R: Clock + Env + Files + Print + AllocGlobal>(rt: &R) -> Result<()> {
+fn run<R: Clock + Env + Files + Print + AllocGlobal + Threads + Wait + Sync>(rt: &R) -> Result<()> {
     let mut words = env::args(rt).context("reading the words")?;
     let _program = words.next();
     let Some(first) = words.next() else {

@@ -2,14 +2,13 @@
 ghost use Rattle.std.specs.Prelude.{◌≡◌, ◌≤◌, IfOk, map, reverse};
 ghost use Rattle.bt_gather.specs.Views.{pieces_of};
 ghost use Rattle.bt_messages.specs.Effects.{effect_of};
-ghost use Rattle.bt_node.specs.Fits.{IsInOrder};
-ghost use Rattle.bt_plan.specs.Cuts.{all_done, done};
-ghost use Rattle.bt_plan.specs.Views.{job_of, place_of};
+ghost use Rattle.bt_plan.specs.Cuts.{all_done};
+ghost use Rattle.bt_plan.specs.Views.{job_of};
 ghost use Rattle.replay_cuts.specs.Turns.{AreInOrder, AreTurned};
 
-use bt_gather::{FillError, fill};
+use bt_gather::{FillError, fill, run_job};
 use bt_messages::{Merge, Packet};
-use bt_node::{Shape, Siblings, Tree, absorb_alone, crown, drain_alone};
+use bt_node::{Shape, Siblings, Tree, crown};
 use bt_plan::{Job, Mode, Place, cut};
 use std::alloc::{AllocError, Global};
 
@@ -18,29 +17,6 @@ use std::alloc::{AllocError, Global};
 pub(crate) enum Turn {
     Rising,
     Falling,
-}
-
-// What becomes of a job, at its place.
-fn run_job<V: Merge>(
-    alloc: Global,
-    shape: Shape,
-    job: Job<V>,
-) -> Result<(Place, Siblings<V>), AllocError>
-    requires { IsInOrder job.node }
-    ensures place { IfOk result (λ piece. place_of piece.0 ≡ place_of job.place) }
-    ensures siblings { IfOk result (λ piece. piece.1 ≡ done (effect_of V.merged) shape (job_of job)) }
-{
-    let Job {
-        place,
-        node,
-        packet,
-        mode,
-    } = job;
-    let siblings = match mode {
-        Mode::Absorb => absorb_alone(alloc, shape, node, packet)?,
-        Mode::Drain => drain_alone(alloc, shape, node, packet)?,
-    };
-    Ok((place, siblings))
 }
 
 /// What becomes of jobs, each at its place. They are run one by one.

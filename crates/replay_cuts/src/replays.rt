@@ -2,6 +2,7 @@
 ghost use Rattle.std.specs.Prelude.{◌≤◌};
 
 use crate::batches::Batches;
+use crate::crews::{by_crew, crew_of};
 use crate::odd::{Odd, misfit_of};
 use crate::pieces::{Turn, in_pieces};
 use crate::tree_text::{height, tree_text};
@@ -13,9 +14,23 @@ use bt_plan::{Job, Mode, Place, cut};
 use bt_rowtype::Row;
 use bt_script::Items;
 use std::alloc::Global;
+use std::sync::Wait;
+use std::thread::Threads;
 
 /// The most jobs that are named.
 const MOST_NAMED: usize = 4;
+
+/// The crews that take their turn have so many workers.
+const CREWS: [usize; 3] = [1, 2, 4];
+
+/// By whom the jobs of a flush are run.
+#[derive(Clone, Copy)]
+enum Way {
+    /// By the caller, one by one.
+    Alone(Turn),
+    /// By a crew of so many workers.
+    Crew(usize),
+}
 
 // What is said of a flush in pieces that gives no tree.
 fn fault_text(fault: FillError<Row>) -> &'static str {
@@ -41,6 +56,27 @@ pub(crate) fn divided(
     match in_pieces(alloc, tree, packet, depth, mode, turn) {
         Ok(tree) => Ok(tree),
         Err(fault) => bail!("{}", fault_text(fault)),
+    }
+}
+
+// A tree after a flush, or drained, in one of the ways.
+fn flushed<R: AllocGlobal + Threads + Wait + Sync>(
+    rt: &R,
+    tree: Tree<Row>,
+    packet: Packet<Row>,
+    depth: usize,
+    mode: Mode,
+    way: Way,
+) -> Result<Tree<Row>>
+    requires { (1 ≤ depth) × (depth ≤ 3) }
+{
+    let alloc = rt.alloc();
+    match way {
+        Way::Alone(turn) => divided(alloc, tree, packet, depth, mode, turn),
+        Way::Crew(workers) => {
+            let crew = crew_of(workers, depth)?;
+            Ok(by_crew(rt, alloc, tree, packet, &crew, mode)?)
+        }
     }
 }
 
@@ -98,29 +134,30 @@ fn two_packets(
 }
 
 // Compares the trees after a packet, or drained.
-fn after(
-    alloc: Global,
+fn after<R: AllocGlobal + Threads + Wait + Sync>(
+    rt: &R,
     trees: Compared,
     packets: (Packet<Row>, Packet<Row>),
     depth: usize,
     mode: Mode,
-    turn: Turn,
+    way: Way,
 ) -> Result<Compared>
     requires { (1 ≤ depth) × (depth ≤ 3) }
 {
+    let alloc = rt.alloc();
     let Compared {
         whole,
         pieces,
         highest,
     } = trees;
     let (packet, same) = packets;
-    let flushed = match mode {
+    let expected = match mode {
         Mode::Absorb => whole.sink(alloc, packet),
         Mode::Drain => whole.drain(alloc),
     };
-    let divided = divided(alloc, pieces, same, depth, mode, turn);
-    let whole = flushed?;
-    match divided {
+    let found = flushed(rt, pieces, same, depth, mode, way);
+    let whole = expected?;
+    match found {
         Ok(pieces) => alike(
             alloc,
             Compared {
@@ -137,18 +174,18 @@ fn after(
 }
 
 // Compares the trees after a batch. One that is refused changes neither.
-fn after_batch(
-    alloc: Global,
+fn after_batch<R: AllocGlobal + Threads + Wait + Sync>(
+    rt: &R,
     table: &Batches<'_>,
     items: &Items<'_>,
     trees: Compared,
     depth: usize,
-    turn: Turn,
+    way: Way,
 ) -> Result<Compared>
     requires { (1 ≤ depth) × (depth ≤ 3) }
 {
-    match two_packets(alloc, table, items) {
-        Ok(Some(packets)) => after(alloc, trees, packets, depth, Mode::Absorb, turn),
+    match two_packets(rt.alloc(), table, items) {
+        Ok(Some(packets)) => after(rt, trees, packets, depth, Mode::Absorb, way),
         Ok(None) => Ok(trees),
         Err(error) => {
             drop(trees);
@@ -158,32 +195,44 @@ fn after_batch(
 }
 
 // The greatest height of two trees that are drained.
-fn drained_height(alloc: Global, trees: Compared, depth: usize, turn: Turn) -> Result<u64>
+fn drained_height<R: AllocGlobal + Threads + Wait + Sync>(
+    rt: &R,
+    trees: Compared,
+    depth: usize,
+    way: Way,
+) -> Result<u64>
     requires { (1 ≤ depth) × (depth ≤ 3) }
 {
+    let alloc = rt.alloc();
     let none = (Packet::new(alloc), Packet::new(alloc));
     let Compared {
         whole,
         pieces,
         highest,
-    } = after(alloc, trees, none, depth, Mode::Drain, turn)?;
+    } = after(rt, trees, none, depth, Mode::Drain, way)?;
     drop((whole, pieces));
     Ok(highest)
 }
 
 // Compares the trees after each batch of a script, and at last those that are drained. Gives the greatest height.
-fn compare(alloc: Global, table: &Batches<'_>, depth: usize, turn: Turn) -> Result<u64>
+fn compare<R: AllocGlobal + Threads + Wait + Sync>(
+    rt: &R,
+    table: &Batches<'_>,
+    depth: usize,
+    way: Way,
+) -> Result<u64>
     requires { (1 ≤ depth) × (depth ≤ 3) }
 {
+    let alloc = rt.alloc();
     let mut trees = Compared {
         whole: Tree::empty(alloc, table.shape()),
         pieces: Tree::empty(alloc, table.shape()),
         highest: 1,
     };
     for items in table.items() {
-        trees = after_batch(alloc, table, items, trees, depth, turn)?;
+        trees = after_batch(rt, table, items, trees, depth, way)?;
     }
-    drained_height(alloc, trees, depth, turn)
+    drained_height(rt, trees, depth, way)
 }
 
 // The tree before the last batch of a script, and the packet of that.
@@ -266,13 +315,30 @@ fn print_misfit<R: Print + AllocGlobal>(
     Ok(())
 }
 
-// Replays the batches of a script, cut at each depth, with the jobs in both orders.
-fn replay_batches<R: Print + AllocGlobal>(rt: &R, name: &str, table: &Batches<'_>) -> Result<()> {
-    let alloc = rt.alloc();
+// Compares the trees after each batch of a script in all ways. Gives the greatest height.
+fn compare_all<R: AllocGlobal + Threads + Wait + Sync>(
+    rt: &R,
+    table: &Batches<'_>,
+    depth: usize,
+) -> Result<u64>
+    requires { (1 ≤ depth) × (depth ≤ 3) }
+{
+    compare(rt, table, depth, Way::Alone(Turn::Rising))?;
+    for workers in CREWS {
+        compare(rt, table, depth, Way::Crew(workers))?;
+    }
+    compare(rt, table, depth, Way::Alone(Turn::Falling))
+}
+
+// Replays the batches of a script, cut at each depth, with the jobs in both orders and by crews.
+fn replay_batches<R: Print + AllocGlobal + Threads + Wait + Sync>(
+    rt: &R,
+    name: &str,
+    table: &Batches<'_>,
+) -> Result<()> {
     let mut highest = 1;
     for depth in 1..4usize {
-        compare(alloc, table, depth, Turn::Rising)?;
-        highest = compare(alloc, table, depth, Turn::Falling)?;
+        highest = compare_all(rt, table, depth)?;
     }
     println!(rt; "{name}: height {highest}")?;
     for depth in 1..4usize {
@@ -283,8 +349,12 @@ fn replay_batches<R: Print + AllocGlobal>(rt: &R, name: &str, table: &Batches<'_
     print_misfit(rt, table, "no piece", Odd::Missing)
 }
 
-/// Replays a script, cut at each depth, with the jobs in both orders, and refuses it where a tree differs.
-pub(crate) fn replay<R: Print + AllocGlobal>(rt: &R, name: &str, script: &[u8]) -> Result<()> {
+/// Replays a script, cut at each depth, with the jobs in both orders and by crews, and refuses it where a tree differs.
+pub(crate) fn replay<R: Print + AllocGlobal + Threads + Wait + Sync>(
+    rt: &R,
+    name: &str,
+    script: &[u8],
+) -> Result<()> {
     let table = Batches::read(rt.alloc(), script)?;
     let replayed = replay_batches(rt, name, &table);
     drop(table);

@@ -20,7 +20,7 @@ map-both told (x ∷ xs) ys = ap (λ z. told x ∷ z) (map-both told xs ys)
 
 module _ {V M H G : Type 0} (told : H → G) where
   mutual
-    holes-told : (t : Holed V M H) → holes (with_holes told t) ≡ map told (holes t)
+    pub holes-told : (t : Holed V M H) → holes (with_holes told t) ≡ map told (holes t)
     holes-told (whole t) = refl
     holes-told (hole h) = refl
     holes-told (opened hs buffer) = below-told hs

@@ -1,0 +1,154 @@
+-- Trees of a round side by side: each takes its share of the pieces.
+use Rattle.std.proofs.Common.{◌≡◌, ◌≤◌, ◌+◌, ◌∙◌, ℕ, zero, suc, List, [], ◌∷◌, ◌++◌, Vec, ap, add-one, append_assoc, arith, drop, length, length-take, map, refl, subst, sym, take}
+use Rattle.std.proofs.Math.Seq.{take-length}
+use Rattle.std.proofs.lemmas.List.{drop-append-le, drop-map, length-map, take-append-le, take-map}
+use Rattle.std.proofs.lemmas.List.Elements.{All-append}
+use Rattle.std.specs.Global.{Global}
+use Rattle.std.specs.declared.option.Option.{Option}
+use Rattle.bt_messages.specs.declared.message.Message.{Message}
+use Rattle.bt_node.specs.Trees.{Shape, Siblings, Tree}
+use Rattle.bt_plan.specs.declared.job.Place as code_place
+use Rattle.bt_plan.specs.Pieces.{Holed, Pieces, Place}
+use Rattle.bt_plan.specs.Views.{place_of}
+use Rattle.bt_gather.specs.declared.flush_work.ShapedJob.{ShapedJob}
+use Rattle.bt_gather.specs.declared.round_tree.RoundTree.{RoundTree}
+use Rattle.bt_gather.specs.declared.round_tree.RoundTree.TheVariants.{Whole, Cut}
+use Rattle.bt_gather.specs.Views.{pieces_of}
+use Rattle.bt_gather.specs.inside.RoundJobs.{IsRunnable, all_pieces, piece_of}
+use Rattle.bt_gather.specs.inside.RoundTrees.{AreFilledBy, AreJobsOf, AreJobsOfAll, HasRoom, IsCutFilledBy, IsFilledBy, job_count, tree_with, trees_with}
+
+-- ---- lists
+
+drop-length : {X : Type 0} (xs : List X) → drop (length xs) xs ≡ []
+drop-length [] = refl
+drop-length (x ∷ xs) = drop-length xs
+
+-- one item more is taken
+taken-suc : {X : Type 0} (n : ℕ) (xs : List X) (x : X) (rest : List X) → drop n xs ≡ x ∷ rest → (take (suc n) xs ≡ take n xs ++ x ∷ []) × (drop (suc n) xs ≡ rest)
+taken-suc zero [] x rest e = cc e
+taken-suc zero (y ∷ ys) x rest e = (cc e, cc e)
+taken-suc (suc n) [] x rest e = cc e
+taken-suc (suc n) (y ∷ ys) x rest e = let more = taken-suc n ys x rest e in (ap (λ zs. y ∷ zs) more.0, more.1)
+
+pub one_more : {X : Type 0} (n : ℕ) (xs : List X) (x : X) (rest : List X) → drop n xs ≡ x ∷ rest → (take (n + 1) xs ≡ take n xs ++ x ∷ []) × (drop (n + 1) xs ≡ rest)
+one_more n xs x rest e = let more = taken-suc n xs x rest e in (ap (λ k. take k xs) (add-one n) ∙ more.0, ap (λ k. drop k xs) (add-one n) ∙ more.1)
+
+module _ {V D : Type 0} where
+  -- ---- the share of one tree
+
+  take-pieces : (n : ℕ) (items : List (code_place.Place × Siblings V (Message V D))) → pieces_of (take n items) ≡ take n (pieces_of items)
+  take-pieces n items = sym (take-map (λ p. (place_of p.0, p.1)) n items)
+
+  drop-pieces : (n : ℕ) (items : List (code_place.Place × Siblings V (Message V D))) → pieces_of (drop n items) ≡ drop n (pieces_of items)
+  drop-pieces n items = sym (drop-map (λ p. (place_of p.0, p.1)) n items)
+
+  count-is : (t : RoundTree V D) (ps : Pieces V (Message V D)) → IsFilledBy t ps → length ps ≡ job_count t
+  count-is (Whole tree) ps e = ap length e
+  count-is (Cut holed jobs room) ps e = e.count
+
+  few-enough : (t : RoundTree V D) (ps : Pieces V (Message V D)) → IsFilledBy t (take (job_count t) ps) → job_count t ≤ length ps
+  few-enough t ps e = omega (arith, count-is t _ e, length-take (job_count t) ps)
+
+  -- the pieces that a tree which was cut takes
+  module _ (t : RoundTree V D) (holed : Shape × Holed V (Message V D) Place) (jobs : ℕ) (room : Vec (code_place.Place × Siblings V (Message V D)) Global) (is : t ≡ Cut holed jobs room)
+      (items : List (code_place.Place × Siblings V (Message V D))) (fill : IsFilledBy t (take (job_count t) (pieces_of items))) where
+    as-cut : IsCutFilledBy holed jobs room (take jobs (pieces_of items))
+    as-cut = subst (λ t. IsFilledBy t (take (job_count t) (pieces_of items))) is fill
+
+    pub own-room : HasRoom room jobs
+    own-room = as-cut.roomy
+
+    pub own-enough : jobs ≤ length items
+    own-enough =
+        let told : code_place.Place × Siblings V (Message V D) → Place × Siblings V (Message V D) = λ p. (place_of p.0, p.1) in
+        omega (arith, as-cut.count, length-take jobs (pieces_of items), length-map items told)
+
+    module _ (own : List (code_place.Place × Siblings V (Message V D))) (next : own ≡ take jobs items) where
+      own-pieces : pieces_of own ≡ take jobs (pieces_of items)
+      own-pieces = ap pieces_of next ∙ take-pieces jobs items
+
+      pub own-fill : IsCutFilledBy holed jobs room (pieces_of own)
+      own-fill = subst (IsCutFilledBy holed jobs room) (sym own-pieces) as-cut
+
+      pub own-tree : tree_with (Cut holed jobs room) (pieces_of own) ≡ tree_with t (take (job_count t) (pieces_of items))
+      own-tree = ap (tree_with (Cut holed jobs room)) own-pieces ∙ sym (ap (λ t. tree_with t (take (job_count t) (pieces_of items))) is)
+
+  -- one tree is put together, and the others are left
+  module _ (t : RoundTree V D) (rest rest' : List (RoundTree V D)) (one : rest ≡ t ∷ rest') (items items' : List (code_place.Place × Siblings V (Message V D))) (left : items' ≡ drop (job_count t) items) where
+    left-pieces : pieces_of items' ≡ drop (job_count t) (pieces_of items)
+    left-pieces = ap pieces_of left ∙ drop-pieces (job_count t) items
+
+    pub next-fill : AreFilledBy rest (pieces_of items) → IsFilledBy t (take (job_count t) (pieces_of items)) × AreFilledBy rest' (pieces_of items')
+    next-fill e = let all = subst (λ ts. AreFilledBy ts (pieces_of items)) one e in (all.0, subst (AreFilledBy rest') (sym left-pieces) all.1)
+
+    pub next-trees : (trees trees' : List (Shape × Tree V (Message V D))) (u : Shape × Tree V (Message V D)) → trees' ≡ trees ++ u ∷ [] → u ≡ tree_with t (take (job_count t) (pieces_of items)) →
+        (all : List (Shape × Tree V (Message V D))) → trees ++ trees_with rest (pieces_of items) ≡ all → trees' ++ trees_with rest' (pieces_of items') ≡ all
+    next-trees trees trees' u pushed is all so_far =
+        ap (λ ts. ts ++ trees_with rest' (pieces_of items')) pushed
+        ∙ append_assoc trees (u ∷ []) (trees_with rest' (pieces_of items'))
+        ∙ ap (λ ps. trees ++ u ∷ trees_with rest' ps) left-pieces
+        ∙ ap (λ v. trees ++ v ∷ trees_with rest' (drop (job_count t) (pieces_of items))) is
+        ∙ ap (λ ts. trees ++ trees_with ts (pieces_of items)) (sym one)
+        ∙ so_far
+
+  -- ---- one tree more
+
+  own-all : (t : RoundTree V D) (ps : Pieces V (Message V D)) → IsFilledBy t ps → (take (job_count t) ps ≡ ps) × (drop (job_count t) ps ≡ [])
+  own-all t ps e =
+      let n = count-is t ps e in
+      (ap (λ k. take k ps) (sym n) ∙ take-length ps, ap (λ k. drop k ps) (sym n) ∙ drop-length ps)
+
+  module _ (t : RoundTree V D) (qs : Pieces V (Message V D)) (one : IsFilledBy t qs) where
+    fill-more : (ts : List (RoundTree V D)) (ps : Pieces V (Message V D)) → AreFilledBy ts ps → AreFilledBy (ts ++ t ∷ []) (ps ++ qs)
+    fill-more [] ps none =
+        let mine = own-all t qs one in
+        subst (λ ps. AreFilledBy (t ∷ []) (ps ++ qs)) (sym none) (subst (IsFilledBy t) (sym mine.0) one, mine.1)
+    fill-more (x ∷ ts) ps all =
+        let few = few-enough x ps all.0 in (
+          subst (IsFilledBy x) (sym (take-append-le (job_count x) ps qs few)) all.0,
+          subst (AreFilledBy (ts ++ t ∷ [])) (sym (drop-append-le (job_count x) ps qs few)) (fill-more ts (drop (job_count x) ps) all.1),
+        )
+
+    trees-more : (ts : List (RoundTree V D)) (ps : Pieces V (Message V D)) → AreFilledBy ts ps → trees_with (ts ++ t ∷ []) (ps ++ qs) ≡ trees_with ts ps ++ tree_with t qs ∷ []
+    trees-more [] ps none = ap (λ ps. trees_with (t ∷ []) (ps ++ qs)) none ∙ ap (λ ps. tree_with t ps ∷ []) (own-all t qs one).0
+    trees-more (x ∷ ts) ps all =
+        let few = few-enough x ps all.0 in
+        ap (λ y. tree_with x y ∷ trees_with (ts ++ t ∷ []) (drop (job_count x) (ps ++ qs))) (take-append-le (job_count x) ps qs few)
+        ∙ ap (λ y. tree_with x (take (job_count x) ps) ∷ trees_with (ts ++ t ∷ []) y) (drop-append-le (job_count x) ps qs few)
+        ∙ ap (λ ys. tree_with x (take (job_count x) ps) ∷ ys) (trees-more ts (drop (job_count x) ps) all.1)
+
+  module _ (effect : Option V → Message V D → Option V) where
+    pieces-append : (js more : List (ShapedJob V D)) → all_pieces effect (js ++ more) ≡ all_pieces effect js ++ all_pieces effect more
+    pieces-append [] more = refl
+    pieces-append (j ∷ js) more = ap (λ ps. (place_of j.job.place, (piece_of effect j).1) ∷ ps) (pieces-append js more)
+
+    -- the jobs of trees, and of one more
+    pub more-jobs : (ts : List (RoundTree V D)) (js : List (ShapedJob V D)) (us : List (Shape × Tree V (Message V D))) → AreJobsOfAll effect ts js us →
+        (t : RoundTree V D) (more : List (ShapedJob V D)) (u : Shape × Tree V (Message V D)) → AreJobsOf effect t more u →
+        (ts' : List (RoundTree V D)) → ts' ≡ ts ++ t ∷ [] → (js' : List (ShapedJob V D)) → js' ≡ js ++ more → AreJobsOfAll effect ts' js' (us ++ u ∷ [])
+    more-jobs ts js us all t more u one ts' pushed js' added =
+        subst (λ ts. AreJobsOfAll effect ts js' (us ++ u ∷ [])) (sym pushed) (subst (λ js. AreJobsOfAll effect (ts ++ t ∷ []) js (us ++ u ∷ [])) (sym added) (record {
+          runnable = All-append IsRunnable js more all.runnable one.runnable;
+          fill = subst (AreFilledBy (ts ++ t ∷ [])) (sym (pieces-append js more)) (fill-more t (all_pieces effect more) one.fill ts (all_pieces effect js) all.fill);
+          give = ap (trees_with (ts ++ t ∷ [])) (pieces-append js more)
+              ∙ trees-more t (all_pieces effect more) one.fill ts (all_pieces effect js) all.fill
+              ∙ ap (λ us. us ++ tree_with t (all_pieces effect more) ∷ []) all.give
+              ∙ ap (λ u. us ++ u ∷ []) one.give;
+        }))
+
+    -- the tree that it is when the pieces of all its jobs have come
+    pub tree-done : (t : RoundTree V D) (jobs : List (ShapedJob V D)) (u : Shape × Tree V (Message V D)) → AreJobsOf effect t jobs u →
+        (items : List (code_place.Place × Siblings V (Message V D))) → items ≡ map (piece_of effect) jobs →
+        IsFilledBy t (take (job_count t) (pieces_of items)) × (tree_with t (take (job_count t) (pieces_of items)) ≡ u)
+    tree-done t jobs u all items are =
+        let own = (own-all t (all_pieces effect jobs) all.fill).0 in (
+          subst (λ xs. IsFilledBy t (take (job_count t) (pieces_of xs))) (sym are) (subst (IsFilledBy t) (sym own) all.fill),
+          ap (λ xs. tree_with t (take (job_count t) (pieces_of xs))) are ∙ ap (tree_with t) own ∙ all.give,
+        )
+
+    -- and those that trees are
+    pub trees-done : (ts : List (RoundTree V D)) (jobs : List (ShapedJob V D)) (us : List (Shape × Tree V (Message V D))) → AreJobsOfAll effect ts jobs us →
+        (items : List (code_place.Place × Siblings V (Message V D))) → items ≡ map (piece_of effect) jobs →
+        AreFilledBy ts (pieces_of items) × (trees_with ts (pieces_of items) ≡ us)
+    trees-done ts jobs us all items are =
+        (subst (λ xs. AreFilledBy ts (pieces_of xs)) (sym are) all.fill, ap (λ xs. trees_with ts (pieces_of xs)) are ∙ all.give)

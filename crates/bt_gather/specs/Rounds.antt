@@ -1,0 +1,33 @@
+-- What becomes of several trees, each with a packet of its own.
+use Rattle.std.specs.Prelude.{◌≡◌, List, map}
+use Rattle.std.specs.List.{All}
+use Rattle.std.specs.declared.option.Option.{Option}
+use Rattle.bt_node.specs.Fits.{HasShape}
+use Rattle.bt_node.specs.Flushes.{holds, sunk}
+use Rattle.bt_node.specs.Messages.{Messages, Rows, rows_after}
+use Rattle.bt_node.specs.Trees.{Shape, Tree}
+
+-- each tree fits its shape
+abbrev pub AllHaveShape : {V M : Type 0} → List (Shape × Tree V M) → Type 0
+AllHaveShape = All (λ tree. HasShape tree.0 tree.1)
+
+module _ {V M : Type 0} (effect : Option V → M → Option V) where
+  -- a tree after its packet, with its shape
+  abbrev pub sunk_tree : (Shape × Tree V M) × Messages M → Shape × Tree V M
+  sunk_tree x = (x.0.0, sunk effect x.0.0 x.0.1 x.1)
+
+  -- trees, each after its packet
+  abbrev pub all_sunk : List ((Shape × Tree V M) × Messages M) → List (Shape × Tree V M)
+  all_sunk = map sunk_tree
+
+  -- what trees hold
+  abbrev pub rows_of_all : List (Shape × Tree V M) → List (Rows V)
+  rows_of_all = map (λ tree. holds effect tree.1)
+
+  -- what trees hold, each after its packet
+  abbrev pub rows_after_all : List ((Shape × Tree V M) × Messages M) → List (Rows V)
+  rows_after_all = map (λ x. rows_after effect x.1 (holds effect x.0.1))
+
+  -- the later trees hold what the trees held, each after its packet
+  abbrev pub AllHoldAfter : List ((Shape × Tree V M) × Messages M) → List (Shape × Tree V M) → Type 0
+  AllHoldAfter trees later = rows_of_all later ≡ rows_after_all trees

@@ -1,0 +1,35 @@
+-- The jobs of a round, and what becomes of them.
+use Rattle.std.specs.Prelude.{List, map}
+use Rattle.std.specs.List.{All}
+use Rattle.std.specs.declared.option.Option.{Option}
+use Rattle.bt_messages.specs.declared.message.Message.{Message}
+use Rattle.bt_node.specs.Fits.{IsInOrder}
+use Rattle.bt_node.specs.Trees.{Shape, Siblings}
+use Rattle.bt_plan.specs.declared.job.Job as code_job
+use Rattle.bt_plan.specs.declared.job.Place as code_place
+use Rattle.bt_plan.specs.Cuts.{done}
+use Rattle.bt_plan.specs.Pieces.{Pieces}
+use Rattle.bt_plan.specs.Views.{job_of}
+use Rattle.bt_gather.specs.declared.flush_work.ShapedJob.{ShapedJob}
+use Rattle.bt_gather.specs.Views.{pieces_of}
+
+module _ {V D : Type 0} where
+  -- a job, with the shape of its tree
+  abbrev pub shaped : Shape → code_job.Job V D → ShapedJob V D
+  shaped shape job = record { shape = shape; job = job }
+
+  -- the keys of its node are in order
+  abbrev pub IsRunnable : ShapedJob V D → Type 0
+  IsRunnable shaped = IsInOrder shaped.job.node
+
+  abbrev pub AreRunnable : List (ShapedJob V D) → Type 0
+  AreRunnable = All IsRunnable
+
+  module _ (effect : Option V → Message V D → Option V) where
+    -- what becomes of a job, at its place
+    abbrev pub piece_of : ShapedJob V D → code_place.Place × Siblings V (Message V D)
+    piece_of shaped = (shaped.job.place, done effect shaped.shape (job_of shaped.job))
+
+    -- what becomes of jobs, each at its place
+    abbrev pub all_pieces : List (ShapedJob V D) → Pieces V (Message V D)
+    all_pieces jobs = pieces_of (map piece_of jobs)

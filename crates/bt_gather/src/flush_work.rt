@@ -1,0 +1,98 @@
+//! The jobs of a round, and what a worker does with each.
+ghost use Rattle.std.specs.Prelude.{◌≡◌, IfOk};
+ghost use Rattle.bt_messages.specs.Effects.{effect_of};
+ghost use Rattle.bt_node.specs.Fits.{IsInOrder};
+ghost use Rattle.bt_plan.specs.Cuts.{done};
+ghost use Rattle.bt_plan.specs.Views.{job_of};
+
+use crate::either::Either;
+use bt_gang::Work;
+use bt_messages::Merge;
+use bt_node::{Shape, Siblings, absorb_alone, drain_alone};
+use bt_plan::{Job, Mode, Place};
+use std::alloc::{AllocError, Global};
+use std::marker::PhantomData;
+
+/// What becomes of a job's node and messages, at the place of the job. An `Err` keeps neither.
+pub fn run_job<V: Merge>(
+    alloc: Global,
+    shape: Shape,
+    job: Job<V>,
+) -> Result<(Place, Siblings<V>), AllocError>
+    requires { IsInOrder job.node }
+    ensures { IfOk result (λ piece. piece ≡ (job.place, done (effect_of V.merged) shape (job_of job))) }
+{
+    let Job {
+        place,
+        node,
+        packet,
+        mode,
+    } = job;
+    let siblings = match mode {
+        Mode::Absorb => absorb_alone(alloc, shape, node, packet)?,
+        Mode::Drain => drain_alone(alloc, shape, node, packet)?,
+    };
+    Ok((place, siblings))
+}
+
+/// A job, with the shape of its tree.
+#[derive(Drop)]
+pub(crate) struct ShapedJob<V: Merge> {
+    pub(crate) shape: Shape,
+    pub(crate) job: Job<V>,
+}
+
+/// Runs the jobs of a round, by [`run_job`].
+#[derive(Drop)]
+pub(crate) struct FlushWork<R, E> {
+    rows: PhantomData<R>,
+    entries: PhantomData<E>,
+}
+
+impl<R, E> FlushWork<R, E> {
+    pub(crate) fn new() -> Self {
+        FlushWork {
+            rows: PhantomData,
+            entries: PhantomData,
+        }
+    }
+}
+
+impl<R: Merge + Send, E: Merge + Send> Work for FlushWork<R, E>
+where
+    R::Delta: Send,
+    E::Delta: Send,
+{
+    type Job = Either<ShapedJob<R>, ShapedJob<E>>;
+
+    type Done = Either<(Place, Siblings<R>), (Place, Siblings<E>)>;
+
+    type Fault = AllocError;
+
+    ghost use Rattle.std.specs.Prelude.{◌≡◌, MatchResult, ⊤};
+    ghost use Rattle.std.proofs.Common.{sym, ◌∙◌};
+    ghost use Rattle.bt_messages.specs.Effects.{effect_of};
+    ghost use Rattle.bt_gather.specs.inside.Eithers.{HoldsOfEither, either_map};
+    ghost use Rattle.bt_gather.specs.inside.RoundJobs.{IsRunnable, piece_of};
+
+    ghost accepts = { λ _ job. HoldsOfEither IsRunnable IsRunnable job };
+
+    ghost allows = { λ _ job answer. MatchResult answer (λ piece. piece ≡ either_map (piece_of (effect_of R.merged)) (piece_of (effect_of E.merged)) job) (λ _. ⊤) };
+
+    fn run(
+        &self,
+        alloc: Global,
+        job: Either<ShapedJob<R>, ShapedJob<E>>,
+    ) -> Result<Either<(Place, Siblings<R>), (Place, Siblings<E>)>, AllocError> {
+        match job {
+            Either::Rows(ShapedJob { shape, job }) => {
+                Ok(Either::Rows(run_job(alloc, shape, job)?))
+            }
+            Either::Entries(ShapedJob { shape, job }) => {
+                Ok(Either::Entries(run_job(alloc, shape, job)?))
+            }
+        }
+    }
+
+    ghost one_value = { λ _ _ _ _ e f. e ∙ sym f };
+}

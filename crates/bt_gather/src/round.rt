@@ -1,0 +1,123 @@
+//! One round over trees: the flushes of all of them are jobs of one run.
+ghost use Rattle.std.specs.Prelude.{◌≡◌, ◌≤◌, ◌+◌, ◌*◌, ◌/◌, IfOk, length, map};
+ghost use Rattle.bt_messages.specs.Effects.{effect_of};
+ghost use Rattle.bt_node.specs.Drains.{IsDry, drained};
+ghost use Rattle.bt_node.specs.Fits.{HasShape};
+ghost use Rattle.bt_node.specs.Laws.{HoldsTheSame};
+ghost use Rattle.bt_gather.specs.Rounds.{AllHaveShape, AllHoldAfter, all_sunk};
+ghost use Rattle.bt_gather.specs.inside.RoundJobs.{AreRunnable, piece_of};
+
+use crate::either::{one_list, two_lists};
+use crate::flush_work::{FlushWork, ShapedJob};
+use crate::round_tree::{RoundTrees, cut_tree, round_trees, whole_tree, whole_trees};
+use bt_gang::{Crew, Gate, Ran, run_jobs};
+use bt_messages::{Merge, Packet};
+use bt_node::{Siblings, Tree};
+use bt_plan::{Mode, Place};
+use std::alloc::{AllocError, Global};
+use std::sync::Wait;
+use std::thread::Threads;
+
+/// For so many grains of messages there is one worker. It takes 24 µs to start a thread, which is what four grains of messages take to be
+/// flushed, at the grain of 64 that a crew has where none is asked for.
+const GRAINS_PER_WORKER: usize = 4;
+
+// How many workers so many messages are worth.
+fn most_workers<G>(crew: &Crew<G>, messages: usize) -> usize
+    ensures { result ≡ messages / (GRAINS_PER_WORKER * crew.now.grain) }
+{
+    messages / (GRAINS_PER_WORKER * crew.grain)
+}
+
+// What becomes of jobs, each run once by a crew that has no more workers than there are jobs.
+fn all_pieces<
+    R: Merge + Send + Sync,
+    E: Merge + Send + Sync,
+    G: Gate + Sync,
+    T: Threads + Wait + Sync,
+>(
+    rt: &T,
+    alloc: Global,
+    rows: Vec<ShapedJob<R>>,
+    entries: Vec<ShapedJob<E>>,
+    crew: &Crew<G>,
+) -> Result<(Vec<(Place, Siblings<R>)>, Vec<(Place, Siblings<E>)>), AllocError>
+where
+    R::Delta: Send + Sync,
+    E::Delta: Send + Sync,
+    requires rows { AreRunnable rows.items }
+    requires entries { AreRunnable entries.items }
+    ensures rows { IfOk result (λ pieces. pieces.0.items ≡ map (piece_of (effect_of R.merged)) rows.items) }
+    ensures entries { IfOk result (λ pieces. pieces.1.items ≡ map (piece_of (effect_of E.merged)) entries.items) }
+{
+    let row_room = Vec::with_capacity(alloc, rows.len())?;
+    let entry_room = Vec::with_capacity(alloc, entries.len())?;
+    let jobs = one_list(alloc, rows, entries)?;
+    let crew = crew.with_at_most(jobs.len());
+    match run_jobs(rt, alloc, &FlushWork::<R, E>::new(), jobs, &crew) {
+        Ok(Ran { done, taken }) => {
+            drop(taken);
+            Ok(two_lists(done, row_room, entry_room))
+        }
+        Err(_) => Err(AllocError),
+    }
+}
+
+/// Each tree after its packet, in one round. A tree whose packet has fewer messages than the crew's grain is sunk by the caller; the others are cut
+/// at the crew's depth, and their flushes are jobs of one run, tree by tree, rows first. There is no more than one worker for each job, and for
+/// each four grains of messages of the trees that are cut; where that is one, the caller works alone. After an `Err` every worker has ended, and nothing of
+/// the trees is left.
+pub fn sink<
+    R: Merge + Send + Sync,
+    E: Merge + Send + Sync,
+    G: Gate + Sync,
+    T: Threads + Wait + Sync,
+>(
+    rt: &T,
+    alloc: Global,
+    rows: Vec<(Tree<R>, Packet<R>)>,
+    entries: Vec<(Tree<E>, Packet<E>)>,
+    crew: &Crew<G>,
+) -> Result<(Vec<Tree<R>>, Vec<Tree<E>>), AllocError>
+where
+    R::Delta: Send + Sync,
+    E::Delta: Send + Sync,
+    requires few { length rows.items + length entries.items ≤ 65536 }
+    ensures rows { IfOk result (λ trees. trees.0.items ≡ all_sunk (effect_of R.merged) rows.items) }
+    ensures entries { IfOk result (λ trees. trees.1.items ≡ all_sunk (effect_of E.merged) entries.items) }
+    ensures fit { IfOk result (λ trees. AllHaveShape trees.0.items × AllHaveShape trees.1.items) }
+    ensures hold { IfOk result (λ trees. AllHoldAfter (effect_of R.merged) rows.items trees.0.items × AllHoldAfter (effect_of E.merged) entries.items trees.1.items) }
+{
+    let count = rows.len();
+    let rows = round_trees(alloc, 0, rows, crew.cut, crew.grain)?;
+    let entries = round_trees(alloc, count, entries, crew.cut, crew.grain)?;
+    let messages = rows.messages.saturating_add(entries.messages);
+    let crew = crew.with_at_most(most_workers(crew, messages));
+    let (row_pieces, entry_pieces) = all_pieces(rt, alloc, rows.jobs, entries.jobs, &crew)?;
+    let rows = whole_trees(alloc, rows.trees, row_pieces, rows.room)?;
+    let entries = whole_trees(alloc, entries.trees, entry_pieces, entries.room)?;
+    Ok((rows, entries))
+}
+
+/// The tree when all its messages have gone down to the leaves. It is cut at the crew's depth, and each planned child is a job, however few
+/// its messages are; there is no more than one worker for each job. After an `Err` every worker has ended, and nothing of the tree is left.
+pub fn drain<V: Merge + Send + Sync, G: Gate + Sync, T: Threads + Wait + Sync>(
+    rt: &T,
+    alloc: Global,
+    tree: Tree<V>,
+    crew: &Crew<G>,
+) -> Result<Tree<V>, AllocError>
+where
+    V::Delta: Send + Sync,
+    ensures tree { IfOk result (λ dry. dry ≡ (tree.0, drained (effect_of V.merged) tree.0 tree.1)) }
+    ensures fits { IfOk result (λ dry. HasShape dry.0 dry.1) }
+    ensures rows { IfOk result (λ dry. HoldsTheSame (effect_of V.merged) tree.1 dry.1) }
+    ensures dry { IfOk result (λ dry. IsDry dry.1) }
+{
+    let (tree, jobs) = cut_tree(alloc, 0, tree, Packet::new(alloc), crew.cut, Mode::Drain)?;
+    let none: Vec<ShapedJob<V>> = Vec::new(alloc);
+    let (pieces, others) = all_pieces(rt, alloc, jobs, none, crew)?;
+    drop(others);
+    let mut pieces = pieces.into_iter();
+    whole_tree(alloc, tree, &mut pieces)
+}

@@ -1,0 +1,241 @@
+//! The trees of a round. Each is sunk at once or cut into jobs, and a cut one is put together from what becomes of its jobs.
+ghost use Rattle.std.specs.Prelude.{◌≡◌, ◌≤◌, ◌<◌, ◌+◌, ◌++◌, [], IfOk, OnOk, drop, length, map, take, vec_capacity, vec_len};
+ghost use Rattle.std.specs.List.{All};
+ghost use Rattle.std.specs.Vec.Iter.{into_iter_items};
+ghost use Rattle.std.specs.declared.option.Option.TheVariants.{None};
+ghost use Rattle.bt_messages.specs.Effects.{effect_of};
+ghost use Rattle.bt_node.specs.Fits.{HasShape};
+ghost use Rattle.bt_node.specs.Flushes.{crown};
+ghost use Rattle.bt_plan.specs.Cuts.{flush_in};
+ghost use Rattle.bt_plan.specs.Pieces.{filled};
+ghost use Rattle.bt_gather.specs.Laws.{IsFillable};
+ghost use Rattle.bt_gather.specs.Misfits.{misfit};
+ghost use Rattle.bt_gather.specs.Rounds.{all_sunk, sunk_tree};
+ghost use Rattle.bt_gather.specs.Views.{pieces_of};
+ghost use Rattle.bt_gather.specs.inside.RoundJobs.{shaped};
+ghost use Rattle.bt_gather.specs.inside.RoundTrees.{AreFilledBy, AreJobsOf, AreJobsOfAll, HasRoom, IsFilledBy, job_count, tree_with, trees_with};
+
+use crate::filling::{FillError, fill};
+use crate::flush_work::ShapedJob;
+use bt_gang::DEEPEST_CUT;
+use bt_messages::{Merge, Packet};
+use bt_node::{Shape, Siblings, Tree, crown};
+use bt_plan::{Holed, Job, Mode, Place, cut};
+use std::alloc::{AllocError, Global};
+use std::vec::IntoIter;
+
+/// A tree of a round, before its jobs are run.
+#[derive(Drop)]
+pub(crate) enum RoundTree<V: Merge> {
+    /// It has no jobs, and is sunk already.
+    Whole(Tree<V>),
+    /// It is in pieces, and has so many jobs, and room for what becomes of them.
+    Cut {
+        holed: Holed<V>,
+        jobs: usize,
+        room: Vec<(Place, Siblings<V>)>,
+    },
+}
+
+/// The trees of a round, and their jobs, one tree after the other.
+#[derive(Drop)]
+pub(crate) struct RoundTrees<V: Merge> {
+    pub(crate) trees: Vec<RoundTree<V>>,
+    pub(crate) jobs: Vec<ShapedJob<V>>,
+    /// How many messages the packets of the trees that are cut have.
+    pub(crate) messages: usize,
+    /// Room for what becomes of the trees.
+    pub(crate) room: Vec<Tree<V>>,
+}
+
+// Says that a tree has its shape, which is known of each tree, but in a contract only where the tree is looked at.
+fn has_shape<V: Merge>(tree: &Tree<V>)
+    ensures { HasShape tree.now.0 tree.now.1 }
+{
+    let _root = tree.walk();
+}
+
+// The jobs, each with the shape of its tree.
+fn shaped_jobs<V: Merge>(
+    alloc: Global,
+    shape: Shape,
+    jobs: Vec<Job<V>>,
+) -> Result<Vec<ShapedJob<V>>, AllocError>
+    ensures { IfOk result (λ found. found.items ≡ map (shaped shape) jobs.items) }
+{
+    let mut found = Vec::with_capacity(alloc, jobs.len())?;
+    for job in jobs {
+        found.push_reserved(ShapedJob { shape, job });
+    }
+    Ok(found)
+}
+
+/// A tree that is cut, and its jobs.
+pub(crate) fn cut_tree<V: Merge>(
+    alloc: Global,
+    number: u16,
+    tree: Tree<V>,
+    packet: Packet<V>,
+    depth: usize,
+    mode: Mode,
+) -> Result<(RoundTree<V>, Vec<ShapedJob<V>>), AllocError>
+    requires { (1 ≤ depth) × (depth ≤ DEEPEST_CUT) }
+    ensures jobs { IfOk result (λ cut. AreJobsOf (effect_of V.merged) cut.0 cut.1.items (tree.0, crown tree.0 (flush_in (effect_of V.merged) mode tree.0 tree.1 packet))) }
+    ensures fits { HasShape tree.0 tree.1 }
+{
+    has_shape(&tree);
+    let (holed, jobs) = cut(alloc, number, tree, packet, depth, mode)?;
+    let shape = holed.shape();
+    let count = jobs.len();
+    let room = Vec::with_capacity(alloc, count)?;
+    let jobs = shaped_jobs(alloc, shape, jobs)?;
+    Ok((
+        RoundTree::Cut {
+            holed,
+            jobs: count,
+            room,
+        },
+        jobs,
+    ))
+}
+
+// A tree of a round, and its jobs. One whose packet is smaller than the grain has none, and is sunk at once.
+fn round_tree<V: Merge>(
+    alloc: Global,
+    number: u16,
+    tree: Tree<V>,
+    packet: Packet<V>,
+    depth: usize,
+    grain: usize,
+) -> Result<(RoundTree<V>, Vec<ShapedJob<V>>), AllocError>
+    requires { (1 ≤ depth) × (depth ≤ DEEPEST_CUT) }
+    ensures jobs { IfOk result (λ cut. AreJobsOf (effect_of V.merged) cut.0 cut.1.items (sunk_tree (effect_of V.merged) (tree, packet))) }
+    ensures fits { HasShape tree.0 tree.1 }
+{
+    if packet.len() < grain {
+        has_shape(&tree);
+        let tree = tree.sink(alloc, packet)?;
+        return Ok((RoundTree::Whole(tree), Vec::new(alloc)));
+    }
+    cut_tree(alloc, number, tree, packet, depth, Mode::Absorb)
+}
+
+// How many of the messages of its packet count for a tree of a round: all of them if it is cut.
+fn messages_to_cut<V: Merge>(tree: &RoundTree<V>, messages: usize) -> usize {
+    match tree {
+        RoundTree::Whole(_) => 0,
+        RoundTree::Cut { .. } => messages,
+    }
+}
+
+/// The trees of a round, each with its packet, numbered from the first number on.
+pub(crate) fn round_trees<V: Merge>(
+    alloc: Global,
+    first: usize,
+    trees: Vec<(Tree<V>, Packet<V>)>,
+    depth: usize,
+    grain: usize,
+) -> Result<RoundTrees<V>, AllocError>
+    requires depth { (1 ≤ depth) × (depth ≤ DEEPEST_CUT) }
+    requires few { first + length trees.items ≤ 65536 }
+    ensures jobs { IfOk result (λ round. AreJobsOfAll (effect_of V.merged) round.trees.items round.jobs.items (all_sunk (effect_of V.merged) trees.items)) }
+    ensures fit { IfOk result (λ _. All (λ x. HasShape x.0.0 x.0.1) trees.items) }
+    ensures room { IfOk result (λ round. HasRoom round.room (vec_len round.trees)) }
+{
+    let room = Vec::with_capacity(alloc, trees.len())?;
+    let mut list = Vec::with_capacity(alloc, trees.len())?;
+    let mut jobs = Vec::new(alloc);
+    let mut messages: usize = 0;
+    let mut number = first;
+    for (tree, packet) in trees {
+        let count = packet.len();
+        let (next, mut more) = round_tree(alloc, number as u16, tree, packet, depth, grain)?;
+        messages = messages.saturating_add(messages_to_cut(&next, count));
+        list.push_reserved(next);
+        jobs.append(&mut more)?;
+        number += 1;
+    }
+    Ok(RoundTrees {
+        trees: list,
+        jobs,
+        messages,
+        room,
+    })
+}
+
+// The next pieces, in a list that has room for them.
+fn next_pieces<V: Merge>(
+    pieces: &mut IntoIter<(Place, Siblings<V>)>,
+    count: usize,
+    room: Vec<(Place, Siblings<V>)>,
+) -> Vec<(Place, Siblings<V>)>
+    requires room { HasRoom room count }
+    requires enough { count ≤ length (into_iter_items pieces.old) }
+    ensures next { result.items ≡ take count (into_iter_items pieces.old) }
+    ensures left { into_iter_items pieces.new ≡ drop count (into_iter_items pieces.old) }
+{
+    let mut next = room;
+    for _ in 0..count {
+        let Some(piece) = pieces.next() else {
+            unreachable!()
+        };
+        next.push_reserved(piece);
+    }
+    next
+}
+
+// The tree that a tree in pieces becomes when each hole is filled.
+fn filled_tree<V: Merge>(
+    alloc: Global,
+    holed: Holed<V>,
+    pieces: Vec<(Place, Siblings<V>)>,
+) -> Result<Tree<V>, AllocError>
+    requires fillable { IsFillable holed.0 holed.1 (pieces_of pieces.items) }
+    requires fit { misfit holed.1 (pieces_of pieces.items) ≡ None }
+    ensures { IfOk result (λ tree. tree ≡ (holed.0, crown holed.0 (filled holed.0 holed.1 (pieces_of pieces.items)))) }
+{
+    let shape = holed.shape();
+    match fill(alloc, holed, pieces) {
+        Ok(siblings) => Ok(crown(alloc, shape, siblings)?),
+        Err(FillError::OutOfMemory) => Err(AllocError),
+        Err(FillError::Misfit { .. }) => unreachable!(),
+    }
+}
+
+/// What a tree of a round becomes with the next pieces.
+pub(crate) fn whole_tree<V: Merge>(
+    alloc: Global,
+    tree: RoundTree<V>,
+    pieces: &mut IntoIter<(Place, Siblings<V>)>,
+) -> Result<Tree<V>, AllocError>
+    requires { IsFilledBy tree (take (job_count tree) (pieces_of (into_iter_items pieces.old))) }
+    ensures tree { IfOk result (λ whole. whole ≡ tree_with tree (take (job_count tree) (pieces_of (into_iter_items pieces.old)))) }
+    ensures left { OnOk result (into_iter_items pieces.new ≡ drop (job_count tree) (into_iter_items pieces.old)) }
+{
+    match tree {
+        RoundTree::Whole(tree) => Ok(tree),
+        RoundTree::Cut { holed, jobs, room } => {
+            let own = next_pieces(pieces, jobs, room);
+            filled_tree(alloc, holed, own)
+        }
+    }
+}
+
+/// What the trees of a round become with these pieces, one tree after the other, in a list that has room for them.
+pub(crate) fn whole_trees<V: Merge>(
+    alloc: Global,
+    trees: Vec<RoundTree<V>>,
+    pieces: Vec<(Place, Siblings<V>)>,
+    room: Vec<Tree<V>>,
+) -> Result<Vec<Tree<V>>, AllocError>
+    requires pieces { AreFilledBy trees.items (pieces_of pieces.items) }
+    requires room { HasRoom room (vec_len trees) }
+    ensures { IfOk result (λ whole. whole.items ≡ trees_with trees.items (pieces_of pieces.items)) }
+{
+    let mut whole = room;
+    let mut pieces = pieces.into_iter();
+    for tree in trees {
+        whole.push_reserved(whole_tree(alloc, tree, &mut pieces)?);
+    }
+    Ok(whole)
+}
