@@ -19,7 +19,8 @@ use Rattle.bt_rowtype.specs.declared.value.Value.{Value}
 use Rattle.bt_keycode.specs.Keys.{Key, is_before, key_cmp}
 use Rattle.bt_keycode.proofs.offered.Order.{neither_before, same_key, total_keys}
 use Rattle.bt_load.specs.Maps.{RowMap, key_of, map_of}
-use Rattle.bt_load.specs.inside.Sorts.{IsFirstRepeat, IsKeyBelow, Repeats, at, lesser_of, pair_at, placed_cmp, placed_from}
+use Rattle.bt_load.specs.Steps.{placed_cmp}
+use Rattle.bt_load.specs.inside.Sorts.{IsFirstRepeat, IsKeyBelow, Repeats, at, lesser_of, pair_at, placed_from}
 use Rattle.bt_load.specs.declared.placed.Placed.{Placed}
 use Rattle.bt_load.proofs.Maps.{key_at, keyed, refused_is_first}
 use Rattle.bt_load.proofs.Orders.{placed_before, placed_ranks}

@@ -12,7 +12,8 @@ use Rattle.bt_rowtype.specs.declared.refusal.Refusal.TheVariants.{BadField, BadL
 use Rattle.bt_rowtype.specs.declared.schema.Column.{Column}
 use Rattle.bt_rowtype.specs.declared.value.Value.{Value}
 use Rattle.bt_load.specs.Loads.{typed_from}
-use Rattle.bt_load.specs.inside.Typed.{AreRowsOrNone, HaveValues, IsRowOrNone}
+use Rattle.bt_load.specs.Steps.{AreRowsOrNone, IsRowOrNone}
+use Rattle.bt_load.specs.inside.Typed.{HaveValues}
 
 abbrev Answer : Type 0
 Answer = Result (List Value) Refusal

@@ -1,4 +1,5 @@
 pub mod Loads
 pub mod Maps
 pub mod Standing
+pub mod Steps
 pub mod inside

@@ -1,23 +1,23 @@
 //! The keys of rows, with the places of the rows.
 ghost use Rattle.std.specs.List.{AllAdjacentBelow};
-ghost use Rattle.std.specs.List.Sorted.{IsPermutation, IsSorted};
+ghost use Rattle.std.specs.List.Sorted.{IsPermutation};
 ghost use Rattle.std.specs.Prelude.{◌≡◌, ◌≢◌, ◌<◌, ◌≤◌, ◌+◌, ℕ, Err, IfErr, IfOk, length, map, true};
 ghost use Rattle.bt_load.specs.Maps.{map_of};
-ghost use Rattle.bt_load.specs.inside.Sorts.{IsFirstRepeat, IsKeyBelow, lesser_of, pair_at, placed_cmp, placed_from, repeats_at, times};
+ghost use Rattle.bt_load.specs.Steps.{placed_cmp};
+ghost use Rattle.bt_load.specs.inside.Sorts.{IsFirstRepeat, IsKeyBelow, lesser_of, pair_at, placed_from, repeats_at, times};
 
+use crate::loading::Loading;
 use bt_keycode::{Key, encode_row};
 use bt_rowtype::{Refusal, Row};
-use rayon::prelude::*;
 use std::alloc::{AllocError, Global};
 use std::cmp::Ordering;
 use std::mem;
-use std::thread::Threads;
 
 /// The key of a row, and the row's place among all, counted from 0.
 #[derive(Drop)]
-pub(crate) struct Placed {
-    key: Key,
-    place: usize,
+pub struct Placed {
+    pub key: Key,
+    pub place: usize,
 }
 
 const _: () = prove!(size_of::<Placed>() == 32);
@@ -46,27 +46,13 @@ fn rise(placed: &[Placed]) -> bool
     true
 }
 
-// The order of keys, and of equal keys that of their places.
-fn compare(left: &Placed, right: &Placed) -> Ordering
+/// The order of keys, and of equal keys that of their places.
+pub(crate) fn compare(left: &Placed, right: &Placed) -> Ordering
     ensures { result ≡ placed_cmp left.now right.now }
 {
     left.key
         .compare(&right.key)
         .then(left.place.cmp(&right.place))
-}
-
-/// Sorts by key, and of equal keys by place, in threads.
-fn sort(rt: &(impl Threads + Sync), placed: &mut Vec<Placed>)
-    ensures permutation { IsPermutation placed.old.items placed.new.items }
-    ensures sorted { IsSorted placed_cmp placed.new.items }
-{
-    par_sort_unstable_by(
-        rt,
-        placed.as_mut_slice(),
-        |left: &Placed, right: &Placed| -> Ordering
-            ensures { result ≡ placed_cmp left.now right.now }
-        { compare(left, right) },
-    );
 }
 
 // Whether the key at a place in order is the one before it.
@@ -102,12 +88,13 @@ fn first_repeat(placed: &[Placed]) -> Option<usize>
 }
 
 /// The keys of rows in strictly rising order. `DuplicateKey` of the first row, counted from 1, whose key an earlier row has.
-pub(crate) fn ordered_keys(
-    rt: &(impl Threads + Sync),
+pub(crate) fn ordered_keys<L: Loading>(
+    loading: &L,
     alloc: Global,
     rows: &[Row],
     keys: usize,
 ) -> Result<Vec<Placed>, Refusal>
+    requires ready { L.accepts loading.now }
     ensures permutation { IfOk result (λ placed. IsPermutation (placed_from keys 0 rows.now) placed.items) }
     ensures rising { IfOk result (λ placed. AllAdjacentBelow IsKeyBelow placed.items (length placed.items)) }
     ensures refused { IfErr result (λ e. e ≢ Refusal.OutOfMemory → map_of keys rows.now ≡ Err e) }
@@ -116,7 +103,7 @@ pub(crate) fn ordered_keys(
     if rise(placed.as_slice()) {
         return Ok(placed);
     }
-    sort(rt, &mut placed);
+    loading.sort(&mut placed);
     match first_repeat(placed.as_slice()) {
         Some(place) => Err(Refusal::DuplicateKey(place as u64 + 1)),
         None => Ok(placed),

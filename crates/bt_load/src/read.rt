@@ -6,7 +6,8 @@ ghost use Rattle.bt_rowtype.specs.Ops.{all_read};
 ghost use Rattle.bt_load.specs.Loads.{loaded, typed_from};
 ghost use Rattle.bt_load.specs.Standing.{AreOf};
 
-use crate::typing::{all_have_values, type_in_threads, type_in_turn};
+use crate::loading::{InThreads, Loading};
+use crate::typing::{all_have_values, type_in_turn};
 use bt_rowtype::{RecordLine, RecordReader, Records, Refusal, Row, Schema};
 use std::alloc::{AllocError, Global};
 use std::thread::Threads;
@@ -31,15 +32,16 @@ fn all_left<'a>(
 }
 
 // The rows that lines spell, or the least refusal.
-fn read_lines(
-    rt: &(impl Threads + Sync),
+fn read_lines<L: Loading>(
+    loading: &L,
     alloc: Global,
     schema: &Schema,
     lines: &[RecordLine<'_>],
 ) -> Result<Vec<Row>, Refusal>
+    requires ready { L.accepts loading.now }
     ensures { Answers (all_read (typed_from schema.now.columns 1 lines.now)) (result_map_both (λ rows. rows.items) (λ e. e) result) }
 {
-    let rows = type_in_threads(rt, alloc, schema, lines)?;
+    let rows = loading.rows_or_none(alloc, schema, lines)?;
     if all_have_values(rows.as_slice()) {
         return Ok(rows);
     }
@@ -64,6 +66,20 @@ pub fn read_records(
     ensures answer { Answers (loaded schema.now.columns text.now) (result_map_both (λ rows. rows.items) (λ e. e) result) }
     ensures rows { IfOk result (λ rows. AreOf schema.now.columns rows.items) }
 {
+    read_records_by(&InThreads { rt }, alloc, text, schema)
+}
+
+/// The rows of a CSV text as [`read_records`] gives them, typed in threads or in turn.
+pub fn read_records_by<L: Loading>(
+    loading: &L,
+    alloc: Global,
+    text: &[u8],
+    schema: &Schema,
+) -> Result<Vec<Row>, Refusal>
+    requires ready { L.accepts loading.now }
+    ensures answer { Answers (loaded schema.now.columns text.now) (result_map_both (λ rows. rows.items) (λ e. e) result) }
+    ensures rows { IfOk result (λ rows. AreOf schema.now.columns rows.items) }
+{
     let Some(mut records) = Records::new(text) else {
         return Err(Refusal::BadSchema);
     };
@@ -74,5 +90,5 @@ pub fn read_records(
         return Err(Refusal::BadSchema);
     }
     let lines = all_left(alloc, records, text.len())?;
-    read_lines(rt, alloc, schema, lines.as_slice())
+    read_lines(loading, alloc, schema, lines.as_slice())
 }

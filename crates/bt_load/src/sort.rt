@@ -7,6 +7,7 @@ ghost use Rattle.bt_keycode.specs.Keys.{key_cmp};
 ghost use Rattle.bt_load.specs.Maps.{map_of};
 ghost use Rattle.bt_load.specs.Standing.{AllAreUnder, AllStand, AreOf};
 
+use crate::loading::{InThreads, Loading};
 use crate::placed::{ordered_keys, with_rows};
 use bt_keycode::Key;
 use bt_rowtype::{Refusal, Row, Schema};
@@ -27,6 +28,22 @@ pub fn load_rows(
     ensures keys { IfOk result (λ pairs. AllAreUnder schema.now.keys pairs.items) }
     ensures stand { AreOf schema.now.columns rows.items → IfOk result (λ pairs. AllStand schema.now pairs.items) }
 {
-    let placed = ordered_keys(rt, alloc, rows.as_slice(), schema.keys())?;
+    load_rows_by(&InThreads { rt }, alloc, rows, schema)
+}
+
+/// The rows by rising key as [`load_rows`] gives them, sorted in threads or in turn.
+pub fn load_rows_by<L: Loading>(
+    loading: &L,
+    alloc: Global,
+    rows: Vec<Row>,
+    schema: &Schema,
+) -> Result<Vec<(Key, Row)>, Refusal>
+    requires ready { L.accepts loading.now }
+    ensures answer { Answers (map_of schema.now.keys rows.items) (result_map_both (λ pairs. pairs.items) (λ e. e) result) }
+    ensures rising { IfOk result (λ pairs. IsTrue (is_sorted key_cmp pairs.items)) }
+    ensures keys { IfOk result (λ pairs. AllAreUnder schema.now.keys pairs.items) }
+    ensures stand { AreOf schema.now.columns rows.items → IfOk result (λ pairs. AllStand schema.now pairs.items) }
+{
+    let placed = ordered_keys(loading, alloc, rows.as_slice(), schema.keys())?;
     Ok(with_rows(alloc, placed, rows)?)
 }

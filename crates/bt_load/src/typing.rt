@@ -1,14 +1,10 @@
 //! The rows that records spell.
 ghost use Rattle.std.specs.Prelude.{◌≡◌, ◌≤◌, ◌+◌, IfOk, drop, length, take, true};
-ghost use Rattle.bt_load.specs.inside.Typed.{AreRowsOrNone, HaveValues, IsReadingOf, IsRowOrNone};
+ghost use Rattle.bt_load.specs.Steps.{AreRowsOrNone, IsRowOrNone};
+ghost use Rattle.bt_load.specs.inside.Typed.{HaveValues, IsReadingOf};
 
 use bt_rowtype::{Reading, RecordLine, RecordReader, Row, Schema};
-use rayon::prelude::*;
 use std::alloc::{AllocError, Global};
-use std::thread::Threads;
-
-// So many records are typed at a time: enough that they cost far more than the job that types them.
-const PIECE: usize = 1024;
 
 /// What records spell, the first of them as item 1, one after the other.
 pub(crate) fn type_in_turn(
@@ -42,8 +38,13 @@ fn row_or_none(
     }
 }
 
-// Puts the row that each record spells, or one of no value, in its place.
-fn type_piece(alloc: Global, schema: &Schema, records: &[RecordLine<'_>], rows: &mut [Row])
+/// Puts the row that each record spells, or one of no value, in its place.
+pub(crate) fn type_piece(
+    alloc: Global,
+    schema: &Schema,
+    records: &[RecordLine<'_>],
+    rows: &mut [Row],
+)
     requires { length rows.old ≡ length records.now }
     ensures long { length rows.new ≡ length rows.old }
     ensures typed { AreRowsOrNone schema.now.columns records.now rows.new }
@@ -54,8 +55,8 @@ fn type_piece(alloc: Global, schema: &Schema, records: &[RecordLine<'_>], rows: 
     }
 }
 
-// So many rows of no value.
-fn no_rows(alloc: Global, count: usize) -> Result<Vec<Row>, AllocError>
+/// So many rows of no value.
+pub(crate) fn no_rows(alloc: Global, count: usize) -> Result<Vec<Row>, AllocError>
     ensures { IfOk result (λ rows. length rows.items ≡ count) }
 {
     let mut rows = Vec::with_capacity(alloc, count)?;
@@ -65,8 +66,8 @@ fn no_rows(alloc: Global, count: usize) -> Result<Vec<Row>, AllocError>
     Ok(rows)
 }
 
-// The records from a place on, as many as there are rows.
-fn records_at<'r, 'a>(
+/// The records from a place on, as many as there are rows.
+pub(crate) fn records_at<'r, 'a>(
     records: &'r [RecordLine<'a>],
     start: usize,
     count: usize,
@@ -75,36 +76,6 @@ fn records_at<'r, 'a>(
     ensures { result.now ≡ take count (drop start records.now) }
 {
     &records[start..start + count]
-}
-
-/// The row that each record spells, or one of no value, where it spells none or memory is wanting. They are typed in threads.
-pub(crate) fn type_in_threads(
-    rt: &(impl Threads + Sync),
-    alloc: Global,
-    schema: &Schema,
-    records: &[RecordLine<'_>],
-) -> Result<Vec<Row>, AllocError>
-    ensures long { IfOk result (λ rows. length rows.items ≡ length records.now) }
-    ensures typed { IfOk result (λ rows. AreRowsOrNone schema.now.columns records.now rows.items) }
-{
-    let mut rows = no_rows(alloc, records.len())?;
-    par_chunks_mut_for_each(
-        rt,
-        rows.as_mut_slice(),
-        PIECE,
-        |start: usize, piece: &mut [Row]|
-            requires { start + length piece.now ≤ length records.now }
-            ensures { AreRowsOrNone schema.entry.now.columns (take (length piece.old) (drop start records.entry.now)) piece.new }
-        {
-            type_piece(
-                alloc,
-                schema,
-                records_at(records, start, piece.len()),
-                piece,
-            )
-        },
-    );
-    Ok(rows)
 }
 
 /// Whether each row has a value.

@@ -1,8 +1,7 @@
 -- The keys of rows with the places of the rows, and what of them stands next to each other in order.
 use Rattle.std.specs.Prelude.{ℕ, ◌≡◌, ◌==◌, ◌+◌, ◌-◌, ◌<◌, ◌≤◌, cond, Bool, true, List, [], ◌∷◌, get_or, length, min, Option, Some, None, MatchOption}
 use Rattle.std.specs.List.{sum_by}
-use Rattle.std.specs.Ordering.{eq_by_cmp, nat_cmp, ordering_then}
-use Rattle.std.specs.declared.cmp.Ordering.{Ordering}
+use Rattle.std.specs.Ordering.{eq_by_cmp}
 use Rattle.std.specs.declared.cmp.Ordering.TheVariants.{Less}
 use Rattle.bt_rowtype.specs.declared.value.Value.{Value}
 use Rattle.bt_keycode.specs.Keys.{Key, key_cmp}
@@ -13,10 +12,6 @@ use Rattle.bt_load.specs.declared.placed.Placed.{Placed}
 abbrev pub placed_from : ℕ → ℕ → List (List Value) → List Placed
 placed_from keys place [] = []
 placed_from keys place (row ∷ rows) = record { key = key_of keys row; place = place } ∷ placed_from keys (place + 1) rows
-
--- by key, and of equal keys by place
-abbrev pub placed_cmp : Placed → Placed → Ordering
-placed_cmp a b = ordering_then (key_cmp a.key b.key) (nat_cmp a.place b.place)
 
 -- the key of one is below that of another
 abbrev pub IsKeyBelow : Placed → Placed → Type 0

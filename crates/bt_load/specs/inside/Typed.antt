@@ -1,9 +1,8 @@
--- Records that are typed, all in turn, or each by itself.
-use Rattle.std.specs.Prelude.{ℕ, ◌≡◌, ◌≢◌, ◌<◌, List, [], length, slice_index_or, Ok}
+-- Records that are typed all in turn, and rows that all have values.
+use Rattle.std.specs.Prelude.{ℕ, ◌≡◌, ◌≢◌, ◌<◌, List, [], length, slice_index_or}
 use Rattle.std.specs.List.{filter_map}
 use Rattle.std.specs.Result.{result_err, result_ok}
 use Rattle.bt_rowtype.specs.Refusals.{least}
-use Rattle.bt_rowtype.specs.Values.{read_as}
 use Rattle.bt_rowtype.specs.declared.reading.Reading.{Reading}
 use Rattle.bt_rowtype.specs.declared.schema.Column.{Column}
 use Rattle.bt_rowtype.specs.declared.value.Value.{Value}
@@ -13,14 +12,6 @@ use Rattle.bt_load.specs.Loads.{typed_from}
 pub record IsReadingOf (columns : List Column) (item : ℕ) (records : List (List (List ℕ))) (read : Reading (List Value)) : Type 0 where
   pub values : read.values ≡ filter_map result_ok (typed_from columns item records)
   pub refusal : read.refusal ≡ least (filter_map result_err (typed_from columns item records))
-
--- a row that is that of a record, or has no value
-abbrev pub IsRowOrNone : List Column → List (List ℕ) → List Value → Type 0
-IsRowOrNone columns fields row = row ≢ [] → (item : ℕ) → read_as columns item fields ≡ Ok row
-
--- the rows at the places of records are theirs, or have no value
-abbrev pub AreRowsOrNone : List Column → List (List (List ℕ)) → List (List Value) → Type 0
-AreRowsOrNone columns records rows = (k : ℕ) → k < length records → IsRowOrNone columns (slice_index_or records k []) (slice_index_or rows k [])
 
 -- each row has a value
 abbrev pub HaveValues : List (List Value) → Type 0

@@ -1,5 +1,5 @@
 use Rattle.std.proofs.Common.{◌≡◌, ℕ, ◌<◌, [], length, slice_index_or}
-use Rattle.bt_load.specs.inside.Typed.{IsRowOrNone}
+use Rattle.bt_load.specs.Steps.{IsRowOrNone}
 use Rattle.bt_load.proofs.typing.type_piece.Given as goal
 
 -- the rows so far

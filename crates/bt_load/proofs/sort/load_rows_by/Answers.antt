@@ -6,7 +6,7 @@ use Rattle.bt_load.proofs.Maps.{is_true, sorted_is_map}
 use Rattle.bt_load.proofs.Places.{moved-once, moved-past}
 use Rattle.bt_load.proofs.Repeats.{pairs_are, pairs_rise}
 use Rattle.bt_load.proofs.Stands.{all_stand, all_under}
-use Rattle.bt_load.proofs.sort.load_rows.Goals as goal
+use Rattle.bt_load.proofs.sort.load_rows_by.Goals as goal
 
 pub with_rows-requires-clause-once : goal.with_rows-requires-clause-once
 with_rows-requires-clause-once g c =

@@ -1,6 +1,6 @@
 use Rattle.std.proofs.Common.{◌≡◌, ◌<◌, ◌∙◌, [], ap, arith, rules, length, slice_index_or, sym}
 use Rattle.bt_load.proofs.Typed.{in_piece, written_back}
-use Rattle.bt_load.proofs.typing.type_in_threads.Goals as goal
+use Rattle.bt_load.proofs.loading.InThreadsLoading.rows_or_none.Goals as goal
 
 pub returns-clause-typed : goal.returns-clause-typed
 returns-clause-typed g c k low =
