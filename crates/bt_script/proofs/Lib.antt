@@ -5,6 +5,7 @@ pub mod Feeds
 pub mod Joined
 pub mod Machine
 pub mod Names
+pub mod Numbers
 pub mod Texts
 pub mod WorkedRows
 pub mod offered

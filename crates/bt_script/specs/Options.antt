@@ -1,9 +1,13 @@
 -- The options of the program, and what the words of its command line give.
-use Rattle.std.specs.Prelude.{◌≡◌, ◌≢◌, [], List, None, Some, codes}
+use Rattle.std.specs.Prelude.{◌≡◌, ◌≢◌, ℕ, [], ◌∷◌, List, None, Some, codes, fold, option_map, unwrap_or}
+use Rattle.std.specs.Str.Parse.{digits_value, without_leading_plus}
 use Rattle.clap.specs.Words.{App, IsAmong, Kinds, Row, Rule, Text, fault_of, first_of, matches_of, new_app, new_rule, with_rule}
 use Rattle.clap.specs.declared.builder.ArgAction.TheVariants.{Set}
+use Rattle.clap.specs.declared.builder.value_parser.ValueParser.TheVariants.{Unsigned}
 use Rattle.clap.specs.declared.error.kind.ErrorKind.{ErrorKind}
 use Rattle.clap.specs.declared.error.kind.ErrorKind.TheVariants.{DisplayHelp}
+use Rattle.bt_gang.specs.Crews.{IsCrew}
+use Rattle.bt_gang.specs.declared.crew.TheConstants.{DEEPEST_CUT, LARGEST_GRAIN, MOST_WORKERS}
 use Rattle.bt_script.specs.declared.words.WordsError.{WordsError}
 use Rattle.bt_script.specs.declared.words.WordsError.TheVariants.{Faulty, Help, OutOfMemory}
 
@@ -11,13 +15,29 @@ use Rattle.bt_script.specs.declared.words.WordsError.TheVariants.{Faulty, Help, 
 abbrev pub option_rule : Text → Rule
 option_rule name = record (new_rule name) { long = Some name; action = Some Set; value_names = 1 }
 
+-- an option of a whole number from 1 to `most`
+abbrev pub number_rule : Text → ℕ → Rule
+number_rule name most = record (option_rule name) { parser = Some (Unsigned 1 most) }
+
+-- the options of the program, in the order of its help text
+abbrev pub options : List Rule
+options = option_rule (codes "script") ∷ number_rule (codes "workers") MOST_WORKERS ∷ number_rule (codes "cut") DEEPEST_CUT ∷ number_rule (codes "grain") LARGEST_GRAIN ∷ []
+
 -- the program's command line
 abbrev pub betable : App
-betable = with_rule (new_app (codes "betable")) (option_rule (codes "script"))
+betable = fold with_rule (new_app (codes "betable")) options
 
 -- what the words give, the program's name first
 unfoldable pub rows_of_words : List Text → List Row
 rows_of_words words = matches_of betable words
+
+-- the number that an option gives, and `default` where it is absent
+abbrev pub number_given : Text → ℕ → List Text → ℕ
+number_given name default words = unwrap_or (option_map (λ text. digits_value 10 (without_leading_plus text)) (first_of name (rows_of_words words))) default
+
+-- sizes that a crew may have: 1 to 64 workers, a cut of 1 to 3, a grain of 1 to 65,536
+abbrev pub AreWithinLimits : ℕ → ℕ → ℕ → Type 0
+AreWithinLimits workers cut grain = IsCrew workers cut grain
 
 -- the kinds of fault that the words have, and none where they are read
 unfoldable pub kinds_of_words : List Text → Kinds

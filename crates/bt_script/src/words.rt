@@ -1,25 +1,42 @@
 //! The words of the command line.
-ghost use Rattle.std.specs.Prelude.{◌≡◌, ◌⊎◌, [], IfOk, IfErr, IsErrOf, OnOk, codes, map, option_map, string_bytes};
-ghost use Rattle.clap.specs.Words.{FailsBy, app_of, first_of, first_value, found_of, kind_of, rows_of};
+ghost use Rattle.std.specs.Prelude.{◌≡◌, ◌⊎◌, [], false, IfOk, IfErr, IsErrOf, OnOk, codes, map, option_map, string_bytes};
+ghost use Rattle.clap.specs.Words.{FailsBy, IsParsedFrom, app_of, first_of, first_value, found_of, kind_of, rows_of, rule_of};
+ghost use Rattle.clap.specs.declared.builder.command.Command.{Command};
 ghost use Rattle.bt_script.specs.inside.Errors.{ComesOf};
-ghost use Rattle.bt_script.specs.Options.{HasFault, MustBeRefused, betable, kinds_of_words, rows_of_words};
+ghost use Rattle.bt_script.specs.Options.{AreWithinLimits, HasFault, MustBeRefused, betable, kinds_of_words, number_given, number_rule, option_rule, rows_of_words};
 
+use bt_gang::{DEEPEST_CUT, LARGEST_GRAIN, MOST_WORKERS};
 use bt_rowtype::Texts;
+use clap::builder::ValueParser;
 use clap::error::ErrorKind;
 use clap::{Arg, ArgAction, ArgMatches, Command, Error};
 use std::alloc::{AllocError, Global};
+
+/// The number of workers where the words name none.
+pub const DEFAULT_WORKERS: usize = 4;
+/// The depth at which trees are cut into jobs where the words name none.
+pub const DEFAULT_CUT: usize = 2;
+/// The grain where the words name none.
+pub const DEFAULT_GRAIN: usize = 64;
 
 /// What the words say.
 #[derive(Drop)]
 pub struct Words {
     /// The file of the script, where one is named. Otherwise the script is the standard input.
     pub script: Option<String>,
+    /// How many threads work, of which the caller is one.
+    pub workers: usize,
+    /// At which depth trees are cut into jobs.
+    pub cut: usize,
+    /// From how many messages on a packet is worked by jobs.
+    pub grain: usize,
 }
 
 /// Why the words say nothing to run.
 #[derive(Drop)]
 pub enum WordsError {
-    /// An unknown option, an option twice or without its value, or a word too many.
+    /// An unknown option, an option twice or without its value, a number that is none or outside its limits, or a word too
+    /// many.
     Faulty,
     /// The words ask for help, with the text to print.
     Help(String),
@@ -37,6 +54,18 @@ impl From<AllocError> for WordsError {
         WordsError::OutOfMemory
     }
 }
+
+// What the help text says of each option: what it does, and when to change it.
+const SCRIPT_HELP: &str = "Reads the script from FILE and not from standard input";
+
+const WORKERS_HELP: &str =
+    "Works in N threads, 1 to 64 (default 4); take 1 for scripts of small batches";
+
+const CUT_HELP: &str =
+    "Cuts trees into jobs at depth D, 1 to 3 (default 2); take 3 for more, smaller jobs; changes no reply";
+
+const GRAIN_HELP: &str =
+    "Works packets of fewer than G messages in one thread, 1 to 65536 (default 64); changes no reply";
 
 // What the help text says behind the options: the commands of a script.
 const COMMANDS: &str = "\
@@ -56,19 +85,43 @@ A script is a list of commands:
 A command that cannot be carried out is answered by 'refused', a number and a name.
 docs/SCRIPT.md has the whole language, and examples/ has scripts.";
 
+// An option of one value, by its long name.
+fn option<'a>(alloc: Global, name: &'a str, value: &'a str, help: &'a str) -> Arg<'a>
+    ensures rule { rule_of result ≡ option_rule name.entry.now }
+    ensures local { result.global ≡ false }
+{
+    Arg::new(alloc, name)
+        .long(name)
+        .action(ArgAction::Set)
+        .value_name(value)
+        .help(help)
+}
+
+// An option of a whole number from 1 to `most`.
+fn number_option<'a>(
+    alloc: Global,
+    name: &'a str,
+    value: &'a str,
+    most: usize,
+    help: &'a str,
+) -> Arg<'a>
+    ensures rule { rule_of result ≡ number_rule name.entry.now most }
+    ensures local { result.global ≡ false }
+{
+    option(alloc, name, value, help).value_parser(ValueParser::unsigned(1, most as u64))
+}
+
 // The program's command line.
 fn command<'a>(alloc: Global) -> Result<Command<'a>, AllocError>
     ensures { IfOk result (λ command. app_of command ≡ betable) }
 {
-    let script = Arg::new(alloc, "script")
-        .long("script")
-        .action(ArgAction::Set)
-        .value_name("FILE")
-        .help("Reads the script from FILE and not from standard input");
     Command::new(alloc, "betable")
         .about("Runs a script of table commands")
         .after_help(COMMANDS)
-        .arg(script)
+        .arg(option(alloc, "script", "FILE", SCRIPT_HELP))?
+        .arg(number_option(alloc, "workers", "N", MOST_WORKERS, WORKERS_HELP))?
+        .arg(number_option(alloc, "cut", "D", DEEPEST_CUT, CUT_HELP))?
+        .arg(number_option(alloc, "grain", "G", LARGEST_GRAIN, GRAIN_HELP))
 }
 
 // What clap finds in the words.
@@ -76,6 +129,7 @@ fn command<'a>(alloc: Global) -> Result<Command<'a>, AllocError>
 fn parse<'a>(alloc: Global, words: &'a [String]) -> Result<ArgMatches<'a>, Error>
     ensures rows { IfOk result (λ matches. rows_of (found_of matches) ≡ rows_of_words (map string_bytes words.entry.now)) }
     ensures kinds { FailsBy (kinds_of_words (map string_bytes words.entry.now)) result }
+    ensures parsed { IfOk result (λ matches. (command : Command) × (app_of command ≡ betable) × IsParsedFrom command matches) }
 {
     command(alloc)?.try_get_matches_from(words)
 }
@@ -111,6 +165,10 @@ fn fault_of(alloc: Global, error: &Error) -> WordsError
 /// What the words of the command line say, the program's name first.
 pub fn read_words(alloc: Global, words: &Texts) -> Result<Words, WordsError>
     ensures script { IfOk result (λ said. option_map string_bytes said.script ≡ first_of (codes "script") (rows_of_words words.now)) }
+    ensures workers { IfOk result (λ said. said.workers ≡ number_given (codes "workers") DEFAULT_WORKERS words.now) }
+    ensures cut { IfOk result (λ said. said.cut ≡ number_given (codes "cut") DEFAULT_CUT words.now) }
+    ensures grain { IfOk result (λ said. said.grain ≡ number_given (codes "grain") DEFAULT_GRAIN words.now) }
+    ensures within { IfOk result (λ said. AreWithinLimits said.workers said.cut said.grain) }
     ensures ok { OnOk result (kinds_of_words words.now ≡ []) }
     ensures err { IfErr result (HasFault words.now) }
     ensures faulty { MustBeRefused words.now → (IsErrOf result WordsError.Faulty) ⊎ (IsErrOf result WordsError.OutOfMemory) }
@@ -118,6 +176,9 @@ pub fn read_words(alloc: Global, words: &Texts) -> Result<Words, WordsError>
     match parse(alloc, words.as_slice()) {
         Ok(matches) => Ok(Words {
             script: text_of(alloc, &matches, "script")?,
+            workers: matches.get_one("workers").unwrap_or(DEFAULT_WORKERS),
+            cut: matches.get_one("cut").unwrap_or(DEFAULT_CUT),
+            grain: matches.get_one("grain").unwrap_or(DEFAULT_GRAIN),
         }),
         Err(error) => Err(fault_of(alloc, &error)),
     }

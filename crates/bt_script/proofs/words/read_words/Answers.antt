@@ -1,4 +1,4 @@
-use Rattle.std.proofs.Common.{List, ◌≡◌, ◌⊎◌, ◌∙◌, ap, codes, inl, inr, subst}
+use Rattle.std.proofs.Common.{List, ◌≡◌, ◌⊎◌, ◌∙◌, ap, arith, codes, inl, inr, rules, subst}
 use Rattle.clap.specs.Words.{HasKind, IsAmong, Text, first_of, found_of, kind_of}
 use Rattle.clap.specs.declared.error.kind.ErrorKind.{ErrorKind}
 use Rattle.clap.specs.declared.error.kind.ErrorKind.TheVariants as kinds
@@ -7,6 +7,9 @@ use Rattle.bt_script.specs.inside.Errors.{ComesOf}
 use Rattle.bt_script.specs.Options.{HasFault, kinds_of_words, rows_of_words}
 use Rattle.bt_script.specs.declared.words.WordsError.{WordsError}
 use Rattle.bt_script.specs.declared.words.WordsError.TheVariants.{Faulty, Help, OutOfMemory}
+use Rattle.bt_gang.specs.declared.crew.TheConstants.{DEEPEST_CUT, LARGEST_GRAIN, MOST_WORKERS}
+use Rattle.bt_script.specs.declared.words.TheConstants.{DEFAULT_CUT, DEFAULT_GRAIN, DEFAULT_WORKERS}
+use Rattle.bt_script.proofs.Numbers.{cut_option, grain_option, number_read, workers_option}
 use Rattle.bt_script.proofs.words.read_words.Goals as goal
 
 -- what comes of a kind that clap gives at the words is a fault that they have
@@ -22,7 +25,24 @@ returns-in-Err-clause-err c =
     let given = subst (λ (words : List Text). HasKind (kinds_of_words words) c.in-Err.error) c.as_slice.ensures c.in-Err.ensures.kinds in
     has_fault c.args.words.now (kind_of c.in-Err.error) c.fault_of.result given c.fault_of.ensures
 
-pub returns-in_ok-text_of-in-Ok-clause-script : goal.returns-in_ok-text_of-in-Ok-clause-script
-returns-in_ok-text_of-in-Ok-clause-script c =
+pub returns-in_ok-text_of-in-Ok : goal.returns-in_ok-text_of-in-Ok
+returns-in_ok-text_of-in-Ok c =
+    let m = c.in-Ok.matches in
     let rows = c.in-Ok.ensures.rows ∙ ap rows_of_words c.as_slice.ensures in
-    c.in_ok-text_of-in-Ok.ensures ∙ first_value-rows (found_of c.in-Ok.matches) (codes "script") ∙ ap (first_of (codes "script")) rows
+    let read = number_read c.args.words.now m rows c.in-Ok.ensures.parsed in
+    let workers = read (codes "workers") MOST_WORKERS workers_option DEFAULT_WORKERS (omega arith) (omega arith)
+    c.get_one.result c.get_one.ensures.none c.get_one.ensures.value c.unwrap_or.result c.unwrap_or.ensures in
+    let cut = read (codes "cut") DEEPEST_CUT cut_option DEFAULT_CUT (omega arith) (omega arith)
+    c.get_one-in-Ok.result c.get_one-in-Ok.ensures.none c.get_one-in-Ok.ensures.value c.unwrap_or-in-Ok.result c.unwrap_or-in-Ok.ensures in
+    let grain = read (codes "grain") LARGEST_GRAIN grain_option DEFAULT_GRAIN (omega arith) (omega arith)
+    c.get_one-in-Ok-2.result c.get_one-in-Ok-2.ensures.none c.get_one-in-Ok-2.ensures.value c.unwrap_or-in-Ok-2.result c.unwrap_or-in-Ok-2.ensures in
+    record {
+      script = c.in_ok-text_of-in-Ok.ensures ∙ first_value-rows (found_of m) (codes "script") ∙ ap (first_of (codes "script")) rows;
+      workers = workers.0;
+      cut = cut.0;
+      grain = grain.0;
+      within = (workers.1, cut.1, grain.1);
+      ok = search rules;
+      err = search rules;
+      faulty = search rules;
+    }
