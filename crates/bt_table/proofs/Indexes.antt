@@ -1,13 +1,14 @@
 -- What a batch, a step of building or a load makes of the indexes of a table, and that they are sound then. Serves the calls of a table.
-use Rattle.std.proofs.Common.{ℕ, zero, suc, ◌+◌, ◌<◌, ◌≡◌, ◌∙◌, ◌&&◌, Bool, T, List, [], ◌∷◌, ◌++◌, ap, arith, drop, false, if◌then◌else◌, length, length-set, map, refl, set, slice_get, subst, sym, take, true, IfSome, Option, Some}
-use Rattle.std.proofs.lemmas.List.{take-append-drop}
+use Rattle.std.proofs.Common.{ℕ, zero, suc, ◌+◌, ◌≡◌, ◌∙◌, ◌&&◌, Bool, T, List, [], ◌∷◌, ◌++◌, ap, arith, drop, false, if◌then◌else◌, length, map, refl, set, slice_get, subst, sym, true, IfSome, Some}
+use Rattle.std.proofs.lemmas.List.{set-get_or, set-set}
+use Rattle.std.proofs.lemmas.Option.{get_or_from_slice_get}
 use Rattle.std.specs.FinMap.{is_sorted}
 use Rattle.std.specs.List.{All, list_all, remove}
 use Rattle.bt_rowtype.specs.Schemas.{Schema}
 use Rattle.bt_rowtype.specs.declared.value.Value.{Value}
 use Rattle.bt_keycode.specs.Keys.{key_cmp}
 use Rattle.bt_messages.specs.Effects.{Rows, rows_after}
-use Rattle.bt_messages.specs.Messages.{sorted_batch}
+use Rattle.bt_messages.specs.Messages.{Messages, sorted_batch}
 use Rattle.bt_node.specs.Drains.{packed}
 use Rattle.bt_node.specs.Fits.{HasShape}
 use Rattle.bt_node.specs.Flushes.{holds, sunk}
@@ -26,14 +27,14 @@ use Rattle.bt_fanout.proofs.offered.Packets.{effects-sorted_batch}
 use Rattle.bt_fanout.proofs.offered.Standing.{stands_under}
 use Rattle.bt_fanout.proofs.offered.Suiting.{all_more, all_none, of_whole, suits_effects, suits_row}
 use Rattle.bt_fanout.proofs.offered.Turns.{packet_turns}
-use Rattle.bt_table.specs.Indexes.{EntryTree, building_packet, built_index, covers_nothing, index_named_from, indexes_after, is_complete, is_name_of, is_nothing, packed_index, packet_of, sent_count, sunk_index, with_tree}
-use Rattle.bt_table.specs.inside.IndexTrees.{entry_tree, packet_for, sunk_indexes, with_trees}
+use Rattle.bt_table.specs.Indexes.{EntryTree, Index, building_packet, built_index, index_named_from, index_with, indexes_after, indexes_of, is_complete, is_name_of, packed_index, packet_of, sent_count, sunk_index}
+use Rattle.bt_table.specs.inside.IndexTrees.{covers_all, covers_nothing, entry_tree, is_nothing, packet_for, sent_for, sunk_tree, sunk_trees}
 use Rattle.bt_table.specs.Standing.{AllStand, AreSoundIndexes, HoldsSelection, IsSoundIndex}
 use Rattle.bt_table.specs.Tables.{RowMessages}
 use Rattle.bt_fanout.specs.declared.cover.Cover.{Cover}
 use Rattle.bt_fanout.specs.declared.cover.Cover.TheVariants.{Nothing, UpTo, Whole}
 use Rattle.bt_fanout.specs.declared.effect.Effect.{Effect}
-use Rattle.bt_table.specs.declared.index.Index.{Index}
+use Rattle.bt_table.specs.declared.index.IndexHead.{IndexHead}
 
 -- rows of a schema stand as the laws of an index ask
 stand : (schema : Schema) (def : Definition) → def.keys ≡ schema.keys → (rows : Rows (List Value)) → AllStand schema rows → selection.AllStand (StandsUnder def (kinds_of schema.columns)) rows
@@ -47,27 +48,33 @@ module _ (schema : Schema) (shape : Shape) (rows : Rows (List Value)) (batch : R
 
   -- ---- what is sent
 
-  packet_is : (index : Index) → IsSoundIndex schema shape rows index → packet_for (effects_of (sorted_batch batch) rows) index ≡ packet_of rows batch index
-  packet_is index sound = ap (λ effects. packet_for effects index) (effects-sorted_batch batch rows sorted) ∙ (turns index sound).messages
+  packet_is : (head : IndexHead) (tree : Shape × EntryTree) → IsSoundIndex schema shape rows (index_with head tree)
+      → packet_for (effects_of (sorted_batch batch) rows) head ≡ packet_of rows batch (index_with head tree)
+  packet_is head tree sound = ap (λ effects. packet_for effects head) (effects-sorted_batch batch rows sorted) ∙ (turns (index_with head tree) sound).messages
 
-  pub sunk_is : (indexes : List Index) → AreSoundIndexes schema shape rows indexes →
-      sunk_indexes indexes (map (packet_for (effects_of (sorted_batch batch) rows)) indexes) ≡ indexes_after rows batch indexes
-  sunk_is [] sound = refl
-  sunk_is (index ∷ indexes) sound = λ i. sunk_index index (packet_is index sound.0 i) ∷ sunk_is indexes sound.1 i
+  pub sunk_is : (heads : List IndexHead) (trees : List (Shape × EntryTree)) → AreSoundIndexes schema shape rows (indexes_of heads trees) →
+      indexes_of heads (sunk_trees trees (map (packet_for (effects_of (sorted_batch batch) rows)) heads)) ≡ indexes_after rows batch (indexes_of heads trees)
+  sunk_is [] trees sound = refl
+  sunk_is (head ∷ heads) [] sound = refl
+  sunk_is (head ∷ heads) (tree ∷ trees) sound = λ i. index_with head (sunk_tree tree (packet_is head tree sound.0 i)) ∷ sunk_is heads trees sound.1 i
 
-  pub counts_are : (indexes : List Index) → AreSoundIndexes schema shape rows indexes →
-      map (λ index. sent_count index (packet_for (effects_of (sorted_batch batch) rows) index)) indexes ≡ map (λ index. sent_count index (packet_of rows batch index)) indexes
-  counts_are [] sound = refl
-  counts_are (index ∷ indexes) sound = λ i. sent_count index (packet_is index sound.0 i) ∷ counts_are indexes sound.1 i
+  pub counts_are : (heads : List IndexHead) (trees : List (Shape × EntryTree)) → length trees ≡ length heads → AreSoundIndexes schema shape rows (indexes_of heads trees) →
+      map (sent_for (effects_of (sorted_batch batch) rows)) heads ≡ map (λ index. sent_count index (packet_of rows batch index)) (indexes_of heads trees)
+  counts_are [] trees many sound = refl
+  counts_are (head ∷ heads) [] many sound = absurd (omega (arith, many))
+  counts_are (head ∷ heads) (tree ∷ trees) many sound =
+      λ i. sent_count (index_with head tree) (packet_is head tree sound.0 i) ∷ counts_are heads trees (omega (arith, many)) sound.1 i
 
   -- the definitions are those of rows as the effects have
-  pub indexes_suit : (indexes : List Index) → AreSoundIndexes schema shape rows indexes → All (λ index. All (SuitsEffect index.def) (effects_of (sorted_batch batch) rows)) indexes
-  indexes_suit [] sound = all_none (λ index. All (SuitsEffect index.def) (effects_of (sorted_batch batch) rows))
-  indexes_suit (index ∷ indexes) sound =
-      all_more (λ index. All (SuitsEffect index.def) (effects_of (sorted_batch batch) rows)) index indexes
-      (subst (All (SuitsEffect index.def)) (sym (effects-sorted_batch batch rows sorted))
-      (suits_effects index.def (kinds_of schema.columns) sound.0.suits batch rows (stand schema index.def sound.0.keys rows before) (stand schema index.def sound.0.keys (rows_after row_effect batch rows) after)))
-      (indexes_suit indexes sound.1)
+  pub indexes_suit : (heads : List IndexHead) (trees : List (Shape × EntryTree)) → length trees ≡ length heads → AreSoundIndexes schema shape rows (indexes_of heads trees)
+      → All (λ head. All (SuitsEffect head.def) (effects_of (sorted_batch batch) rows)) heads
+  indexes_suit [] trees many sound = all_none (λ head. All (SuitsEffect head.def) (effects_of (sorted_batch batch) rows))
+  indexes_suit (head ∷ heads) [] many sound = absurd (omega (arith, many))
+  indexes_suit (head ∷ heads) (tree ∷ trees) many sound =
+      all_more (λ head. All (SuitsEffect head.def) (effects_of (sorted_batch batch) rows)) head heads
+      (subst (All (SuitsEffect head.def)) (sym (effects-sorted_batch batch rows sorted))
+      (suits_effects head.def (kinds_of schema.columns) sound.0.suits batch rows (stand schema head.def sound.0.keys rows before) (stand schema head.def sound.0.keys (rows_after row_effect batch rows) after)))
+      (indexes_suit heads trees (omega (arith, many)) sound.1)
 
   -- ---- indexes after the batch
 
@@ -131,10 +138,12 @@ module _ (schema : Schema) (shape : Shape) (rows : Rows (List Value)) (sorted : 
   rows_within index suits keys = all_within index.def suits rows (stands index keys)
 
   module _ (old : Rows (List Value)) where
-    pub each_within : (indexes : List Index) → AreSoundIndexes schema shape old indexes → All (λ index. All (λ row. IsWithin index.def (length row.1)) rows) indexes
-    each_within [] sound = all_none (λ index. All (λ row. IsWithin index.def (length row.1)) rows)
-    each_within (index ∷ indexes) sound =
-        all_more (λ index. All (λ row. IsWithin index.def (length row.1)) rows) index indexes (rows_within index sound.0.suits sound.0.keys) (each_within indexes sound.1)
+    pub each_within : (heads : List IndexHead) (trees : List (Shape × EntryTree)) → length trees ≡ length heads → AreSoundIndexes schema shape old (indexes_of heads trees)
+        → All (λ head. All (λ row. IsWithin head.def (length row.1)) rows) heads
+    each_within [] trees many sound = all_none (λ head. All (λ row. IsWithin head.def (length row.1)) rows)
+    each_within (head ∷ heads) [] many sound = absurd (omega (arith, many))
+    each_within (head ∷ heads) (tree ∷ trees) many sound =
+        all_more (λ head. All (λ row. IsWithin head.def (length row.1)) rows) head heads (rows_within (index_with head tree) sound.0.suits sound.0.keys) (each_within heads trees (omega (arith, many)) sound.1)
 
     packed-sound : (index : Index) → IsSoundIndex schema shape old index → is_complete index ≡ true → IsSoundIndex schema shape rows (packed_index rows index)
     packed-sound index sound whole =
@@ -156,47 +165,102 @@ module _ (schema : Schema) (shape : Shape) (rows : Rows (List Value)) (sorted : 
         (packed-sound index sound.0 both.0, all_packed-sound indexes sound.1 both.1)
 
     -- the puts of the entries of all rows make the packed tree of an empty one
-    entry_tree-is : (index : Index) → IsSoundIndex schema shape old index → with_tree index (entry_tree rows index) ≡ packed_index rows index
-    entry_tree-is index sound =
-        ap (λ (entries : Rows (List Value)). with_tree index (index.tree.0, packed index.tree.0 entries)) (all_selected index.def (kinds_of schema.columns) rows sorted (stands index sound.keys))
+    entry_tree-is : (head : IndexHead) (tree : Shape × EntryTree) → IsSoundIndex schema shape old (index_with head tree)
+        → index_with head (entry_tree shape rows head.def) ≡ packed_index rows (index_with head tree)
+    entry_tree-is head tree sound =
+        λ i. index_with head (sym sound.shaped i, packed (sym sound.shaped i) (all_selected head.def (kinds_of schema.columns) rows sorted (stands (index_with head tree) sound.keys) i))
 
-    pub with_entry_trees : (indexes : List Index) → AreSoundIndexes schema shape old indexes → with_trees indexes (map (entry_tree rows) indexes) ≡ map (packed_index rows) indexes
-    with_entry_trees [] sound = refl
-    with_entry_trees (index ∷ indexes) sound = λ i. entry_tree-is index sound.0 i ∷ with_entry_trees indexes sound.1 i
+    pub with_entry_trees : (heads : List IndexHead) (trees : List (Shape × EntryTree)) → length trees ≡ length heads → AreSoundIndexes schema shape old (indexes_of heads trees)
+        → indexes_of heads (map (λ head. entry_tree shape rows head.def) heads) ≡ map (packed_index rows) (indexes_of heads trees)
+    with_entry_trees [] trees many sound = refl
+    with_entry_trees (head ∷ heads) [] many sound = absurd (omega (arith, many))
+    with_entry_trees (head ∷ heads) (tree ∷ trees) many sound = λ i. entry_tree-is head tree sound.0 i ∷ with_entry_trees heads trees (omega (arith, many)) sound.1 i
 
--- ---- trees put in their places one after the other
+-- ---- heads beside trees
 
--- the indexes before a place as they are, and those from there on with trees
-abbrev pub with_trees_from : ℕ → List Index → List (Shape × EntryTree) → List Index
-with_trees_from place indexes trees = take place indexes ++ with_trees (drop place indexes) trees
+pub length-sunk : (heads : List IndexHead) (trees : List (Shape × EntryTree)) (packet : IndexHead → Messages EntryMessage) → length trees ≡ length heads → length (sunk_trees trees (map packet heads)) ≡ length heads
+length-sunk [] [] packet many = refl
+length-sunk [] (tree ∷ trees) packet many = refl
+length-sunk (head ∷ heads) [] packet many = absurd (omega (arith, many))
+length-sunk (head ∷ heads) (tree ∷ trees) packet many = ap suc (length-sunk heads trees packet (omega (arith, many)))
 
-tree_put : (place : ℕ) (indexes : List Index) (index : Index) (tree : Shape × EntryTree) (trees : List (Shape × EntryTree)) → slice_get indexes place ≡ Some index
-    → with_trees_from (suc place) (set indexes place (with_tree index tree)) trees ≡ with_trees_from place indexes (tree ∷ trees)
-tree_put place [] index tree trees there = cc
-tree_put zero (own ∷ indexes) index tree trees there =
-    let same : own ≡ index = cc in
-    ap (λ (x : Index). with_tree x tree ∷ with_trees indexes trees) (sym same)
-tree_put (suc place) (own ∷ indexes) index tree trees there = ap (λ xs. own ∷ xs) (tree_put place indexes index tree trees there)
+pub length-indexes_of : (heads : List IndexHead) (trees : List (Shape × EntryTree)) → length trees ≡ length heads → length (indexes_of heads trees) ≡ length heads
+length-indexes_of [] trees many = refl
+length-indexes_of (head ∷ heads) [] many = absurd (omega (arith, many))
+length-indexes_of (head ∷ heads) (tree ∷ trees) many = ap suc (length-indexes_of heads trees (omega (arith, many)))
 
-there_is : (place : ℕ) (indexes : List Index) → place < length indexes → (index : Index) × (slice_get indexes place ≡ Some index)
-there_is place [] less = absurd (omega (arith, less))
-there_is zero (index ∷ indexes) less = (index, refl)
-there_is (suc place) (index ∷ indexes) less = there_is place indexes (omega (arith, less))
+pub complete_are : (heads : List IndexHead) (trees : List (Shape × EntryTree)) → length trees ≡ length heads → list_all covers_all heads ≡ list_all is_complete (indexes_of heads trees)
+complete_are [] trees many = refl
+complete_are (head ∷ heads) [] many = absurd (omega (arith, many))
+complete_are (head ∷ heads) (tree ∷ trees) many = ap (λ rest. covers_all head && rest) (complete_are heads trees (omega (arith, many)))
 
-pub one_put : (place : ℕ) (indexes new : List Index) (tree : Shape × EntryTree) (trees : List (Shape × EntryTree)) → place < length indexes
-    → IfSome (slice_get indexes place) (λ index. new ≡ set indexes place (with_tree index tree))
-    → (length new ≡ length indexes) × (with_trees_from (place + 1) new trees ≡ with_trees_from place indexes (tree ∷ trees))
-one_put place indexes new tree trees less is =
-    let found = there_is place indexes less in
-    let next : place + 1 ≡ suc place = omega arith in
-    let set_is : new ≡ set indexes place (with_tree found.0 tree) = subst (λ (o : Option Index). IfSome o (λ index. new ≡ set indexes place (with_tree index tree))) found.1 is in (
-      ap length set_is ∙ length-set indexes place (with_tree found.0 tree),
-      ap (λ xs. with_trees_from (place + 1) xs trees) set_is ∙ ap (λ n. with_trees_from n (set indexes place (with_tree found.0 tree)) trees) next
-          ∙ tree_put place indexes found.0 tree trees found.1,
-    )
+-- the indexes from a place on begin with that of the place
+pub index_at : (place : ℕ) (heads : List IndexHead) (trees : List (Shape × EntryTree)) (head : IndexHead) (tree : Shape × EntryTree) → slice_get heads place ≡ Some head → slice_get trees place ≡ Some tree
+    → indexes_of (drop place heads) (drop place trees) ≡ index_with head tree ∷ indexes_of (drop (suc place) heads) (drop (suc place) trees)
+index_at place [] trees head tree there beside = cc
+index_at place (h ∷ heads) [] head tree there beside = cc
+index_at zero (h ∷ heads) (t ∷ trees) head tree there beside =
+    let same : h ≡ head = cc in
+    let like : t ≡ tree = cc in
+    λ i. index_with (same i) (like i) ∷ indexes_of heads trees
+index_at (suc place) (h ∷ heads) (t ∷ trees) head tree there beside = index_at place heads trees head tree there beside
 
-pub all_put : (place : ℕ) (indexes : List Index) → with_trees_from place indexes [] ≡ indexes
-all_put place indexes = take-append-drop place indexes
+-- so the index of the place has a name, or it is looked for from the next one on
+module _ (name : List ℕ) (place : ℕ) (heads : List IndexHead) (trees : List (Shape × EntryTree)) (head : IndexHead) (tree : Shape × EntryTree) (there : slice_get heads place ≡ Some head) (beside : slice_get trees place ≡ Some tree) where
+  named_at : index_named_from place name (indexes_of (drop place heads) (drop place trees))
+      ≡ (if is_name_of name (index_with head tree) then Some (place, index_with head tree) else index_named_from (suc place) name (indexes_of (drop (suc place) heads) (drop (suc place) trees)))
+  named_at = ap (index_named_from place name) (index_at place heads trees head tree there beside)
+
+  pub is_named : is_name_of name (index_with head tree) ≡ true → index_named_from place name (indexes_of (drop place heads) (drop place trees)) ≡ Some (place, index_with head tree)
+  is_named test =
+      named_at ∙ ap (λ b. if b then Some (place, index_with head tree) else index_named_from (suc place) name (indexes_of (drop (suc place) heads) (drop (suc place) trees))) test
+
+  pub next_named : is_name_of name (index_with head tree) ≡ false
+      → index_named_from place name (indexes_of (drop place heads) (drop place trees)) ≡ index_named_from (place + 1) name (indexes_of (drop (place + 1) heads) (drop (place + 1) trees))
+  next_named test =
+      let next : suc place ≡ place + 1 = omega arith in
+      named_at ∙ ap (λ b. if b then Some (place, index_with head tree) else index_named_from (suc place) name (indexes_of (drop (suc place) heads) (drop (suc place) trees))) test
+      ∙ ap (λ n. index_named_from n name (indexes_of (drop n heads) (drop n trees))) next
+
+pub indexes_of-append : (heads : List IndexHead) (trees : List (Shape × EntryTree)) (head : IndexHead) (tree : Shape × EntryTree) → length trees ≡ length heads
+    → indexes_of (heads ++ head ∷ []) (trees ++ tree ∷ []) ≡ indexes_of heads trees ++ index_with head tree ∷ []
+indexes_of-append [] [] head tree many = refl
+indexes_of-append [] (t ∷ trees) head tree many = absurd (omega (arith, many))
+indexes_of-append (h ∷ heads) [] head tree many = absurd (omega (arith, many))
+indexes_of-append (h ∷ heads) (t ∷ trees) head tree many = ap (λ rest. index_with h t ∷ rest) (indexes_of-append heads trees head tree (omega (arith, many)))
+
+pub indexes_of-remove : (place : ℕ) (heads : List IndexHead) (trees : List (Shape × EntryTree)) → length trees ≡ length heads
+    → indexes_of (remove heads place) (remove trees place) ≡ remove (indexes_of heads trees) place
+indexes_of-remove zero [] [] many = refl
+indexes_of-remove (suc place) [] [] many = refl
+indexes_of-remove place [] (t ∷ trees) many = absurd (omega (arith, many))
+indexes_of-remove place (h ∷ heads) [] many = absurd (omega (arith, many))
+indexes_of-remove zero (h ∷ heads) (t ∷ trees) many = refl
+indexes_of-remove (suc place) (h ∷ heads) (t ∷ trees) many = ap (λ rest. index_with h t ∷ rest) (indexes_of-remove place heads trees (omega (arith, many)))
+
+pub indexes_of-set : (place : ℕ) (heads : List IndexHead) (trees : List (Shape × EntryTree)) (head : IndexHead) (tree : Shape × EntryTree)
+    → indexes_of (set heads place head) (set trees place tree) ≡ set (indexes_of heads trees) place (index_with head tree)
+indexes_of-set zero [] trees head tree = refl
+indexes_of-set (suc place) [] trees head tree = refl
+indexes_of-set zero (h ∷ heads) [] head tree = refl
+indexes_of-set (suc place) (h ∷ heads) [] head tree = refl
+indexes_of-set zero (h ∷ heads) (t ∷ trees) head tree = refl
+indexes_of-set (suc place) (h ∷ heads) (t ∷ trees) head tree = ap (λ rest. index_with h t ∷ rest) (indexes_of-set place heads trees head tree)
+
+pub length-remove_same : {A B : Type 0} (place : ℕ) (xs : List A) (ys : List B) → length xs ≡ length ys → length (remove xs place) ≡ length (remove ys place)
+length-remove_same zero [] [] many = refl
+length-remove_same (suc place) [] [] many = refl
+length-remove_same place [] (y ∷ ys) many = absurd (omega (arith, many))
+length-remove_same place (x ∷ xs) [] many = absurd (omega (arith, many))
+length-remove_same zero (x ∷ xs) (y ∷ ys) many = omega (arith, many)
+length-remove_same (suc place) (x ∷ xs) (y ∷ ys) many = ap suc (length-remove_same place xs ys (omega (arith, many)))
+
+-- what is put in a place where something else was put before
+pub put_again : {A : Type 0} (place : ℕ) (xs between new : List A) (x y : A) → between ≡ set xs place x → new ≡ set between place y → new ≡ set xs place y
+put_again place xs between new x y first last = last ∙ ap (λ zs. set zs place y) first ∙ set-set xs place x y
+
+pub set_same : {A : Type 0} (place : ℕ) (xs : List A) (x : A) → slice_get xs place ≡ Some x → set xs place x ≡ xs
+set_same place xs x there = ap (set xs place) (sym (get_or_from_slice_get xs place x x there)) ∙ set-get_or xs place x
 
 -- ---- other lists of indexes
 
@@ -238,19 +302,18 @@ is_nothing-cover Nothing test = refl
 is_nothing-cover (UpTo last) test = cc
 is_nothing-cover Whole test = cc
 
-no_message : (effects : List Effect) (index : Index) → covers_nothing index ≡ true → packet_for [] index ≡ packet_for effects index
-no_message effects index test =
-    ap sorted_batch (sym (ap (λ cover. sent_for_all index.def cover effects) (is_nothing-cover index.cover test) ∙ sent_nothing index.def effects))
+no_message : (effects : List Effect) (head : IndexHead) → covers_nothing head ≡ true → packet_for [] head ≡ packet_for effects head
+no_message effects head test =
+    ap sorted_batch (sym (ap (λ cover. sent_for_all head.def cover effects) (is_nothing-cover head.cover test) ∙ sent_nothing head.def effects))
 
-pub no_packets : (effects : List Effect) (indexes : List Index) → list_all covers_nothing indexes ≡ true → map (packet_for []) indexes ≡ map (packet_for effects) indexes
+pub no_packets : (effects : List Effect) (heads : List IndexHead) → list_all covers_nothing heads ≡ true → map (packet_for []) heads ≡ map (packet_for effects) heads
 no_packets effects [] test = refl
-no_packets effects (index ∷ indexes) test =
+no_packets effects (head ∷ heads) test =
     let both = both_hold _ _ test in
-    λ i. no_message effects index both.0 i ∷ no_packets effects indexes both.1 i
+    λ i. no_message effects head both.0 i ∷ no_packets effects heads both.1 i
 
-pub no_counts : (effects : List Effect) (indexes : List Index) → list_all covers_nothing indexes ≡ true
-    → map (λ index. sent_count index (packet_for [] index)) indexes ≡ map (λ index. sent_count index (packet_for effects index)) indexes
+pub no_counts : (effects : List Effect) (heads : List IndexHead) → list_all covers_nothing heads ≡ true → map (sent_for []) heads ≡ map (sent_for effects) heads
 no_counts effects [] test = refl
-no_counts effects (index ∷ indexes) test =
+no_counts effects (head ∷ heads) test =
     let both = both_hold _ _ test in
-    λ i. sent_count index (no_message effects index both.0 i) ∷ no_counts effects indexes both.1 i
+    λ i. record { name = head.name; count = length (no_message effects head both.0 i) } ∷ no_counts effects heads both.1 i

@@ -1,6 +1,7 @@
--- A tree after a batch fits its shape, and holds its rows after the batch. Serves a table that applies a batch.
-use Rattle.std.proofs.Common.{◌≡◌, ◌∙◌, List}
-use Rattle.bt_messages.specs.Messages.{sorted_batch}
+-- A tree after a batch fits its shape, and holds its rows after the batch; and trees beside their packets become what each becomes. Serves a table that applies a batch.
+use Rattle.std.proofs.Common.{◌≡◌, ◌∙◌, List, [], ◌∷◌, ap, refl}
+use Rattle.std.specs.List.{zip}
+use Rattle.bt_messages.specs.Messages.{Messages, sorted_batch}
 use Rattle.bt_messages.proofs.offered.Rows.{rows_after-sorted_batch}
 use Rattle.bt_node.specs.Fits.{HasShape}
 use Rattle.bt_node.specs.Flushes.{holds, sunk}
@@ -8,10 +9,11 @@ use Rattle.bt_node.specs.Messages.{rows_after}
 use Rattle.bt_node.specs.Trees.{Shape}
 use Rattle.bt_node.proofs.offered.ShapedTrees.{holds-sorted, sunk-has_shape, sunk-holds}
 use Rattle.bt_rowtype.specs.Schemas.{Schema}
-use Rattle.bt_table.specs.Indexes.{indexes_after}
+use Rattle.bt_table.specs.Indexes.{EntryTree, Index, indexes_after}
 use Rattle.bt_table.specs.Tables.{RowMessages, RowTree, after_batch, held_by}
-use Rattle.bt_table.specs.declared.index.Index.{Index}
-use Rattle.bt_fanout.specs.Effects.{row_effect}
+use Rattle.bt_fanout.specs.Effects.{EntryMessage, entry_effect, row_effect}
+use Rattle.bt_gather.specs.Rounds.{all_sunk}
+use Rattle.bt_table.specs.inside.IndexTrees.{sunk_tree, sunk_trees}
 
 -- the batch is sorted for the tree, which changes no row
 pub holds-after_batch : (shape : Shape) (t : RowTree) (batch : RowMessages) → HasShape shape t
@@ -28,3 +30,9 @@ pub stepped : (schema : Schema) (shape : Shape) (t : RowTree) (indexes after : L
     → held_by schema (shape, sunk row_effect shape t (sorted_batch batch)) after ≡ after_batch (held_by schema (shape, t) indexes) batch
 stepped schema shape t indexes after batch has are =
     λ i. record { schema = schema; shape = shape; rows = holds-after_batch shape t batch has i; tree = sunk row_effect shape t (sorted_batch batch); indexes = are i }
+
+-- each tree beside its packet becomes what it is after that packet
+pub sunk-zip : (trees : List (Shape × EntryTree)) (packets : List (Messages EntryMessage)) → all_sunk entry_effect (zip trees packets) ≡ sunk_trees trees packets
+sunk-zip [] packets = refl
+sunk-zip (tree ∷ trees) [] = refl
+sunk-zip (tree ∷ trees) (packet ∷ packets) = ap (λ sunk. sunk_tree tree packet ∷ sunk) (sunk-zip trees packets)

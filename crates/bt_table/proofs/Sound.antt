@@ -32,8 +32,7 @@ use Rattle.bt_table.specs.Tables.{Intact, KeyedMessage, PlainTable, RowMessages,
 use Rattle.bt_fanout.specs.Entries.{Definition}
 use Rattle.bt_fanout.proofs.offered.Suiting.{of_nothing}
 use Rattle.bt_table.specs.Calls.{Upkeep, Draining, Rebuilding, renewed, renewed_index, with_index, with_index_at, with_renewed_index, with_renewed_rows, with_rows, without_index}
-use Rattle.bt_table.specs.Indexes.{built_index, empty_index, index_named, is_complete}
-use Rattle.bt_table.specs.declared.index.Index.{Index}
+use Rattle.bt_table.specs.Indexes.{Index, built_index, empty_index, index_named, is_complete}
 use Rattle.bt_table.proofs.Indexes.{all_packed-sound, built-sound, indexes_stay_sound, sound-append, sound-found, sound-remove, sound-set}
 use Rattle.bt_table.proofs.Sinks.{has_shape-after_batch, holds-after_batch}
 use Rattle.bt_table.proofs.Standing.{rows_after-stand}

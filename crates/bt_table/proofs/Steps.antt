@@ -1,10 +1,14 @@
 -- A table with these trees takes a batch, gets, builds or loses an index, loads rows, gets another tree, or is shown. Serves the calls of a table.
-use Rattle.std.proofs.Common.{ℕ, ◌≡◌, ◌∙◌, ◌++◌, Bool, T, true, false, List, [], ◌∷◌, Option, IfSome, Some, None, Ok, Err, ap, sym, refl, subst, length, map, set, slice_get, if◌then◌else◌}
+use Rattle.std.proofs.Common.{ℕ, zero, suc, arith, ◌≤◌, ◌<◌, ◌≡◌, ◌∙◌, ◌++◌, Bool, T, true, false, List, [], ◌∷◌, Option, Some, None, Ok, Err, ap, sym, refl, subst, length, length-set, map, option_map, set, slice_get, if◌then◌else◌, ◌+◌, ◌||◌, is_some, nat_le}
+use Rattle.std.proofs.lemmas.Bool.{leb-false}
+use Rattle.std.proofs.lemmas.List.{length-map, length_push}
+use Rattle.std.specs.Prelude.{IsSome}
 use Rattle.std.specs.FinMap.{is_sorted}
 use Rattle.std.specs.List.{All, list_all, remove}
 use Rattle.bt_rowtype.specs.Refusals.{least}
 use Rattle.bt_rowtype.specs.Schemas.{Schema}
-use Rattle.bt_rowtype.specs.declared.refusal.Refusal.TheVariants.{AlreadyComplete}
+use Rattle.bt_rowtype.specs.Values.{or_refused}
+use Rattle.bt_rowtype.specs.declared.refusal.Refusal.TheVariants.{AlreadyComplete, NameTaken, NoSuchTree, TooMany}
 use Rattle.bt_rowtype.specs.declared.value.Value.{Value}
 use Rattle.bt_keycode.specs.Keys.{key_cmp}
 use Rattle.bt_load.specs.Loads.{loaded}
@@ -17,107 +21,226 @@ use Rattle.bt_messages.specs.declared.message.Message.{Message}
 use Rattle.bt_rowtype.specs.Ops.{Change, unless}
 use Rattle.bt_node.specs.Drains.{packed}
 use Rattle.bt_node.specs.Flushes.{sunk}
-use Rattle.bt_node.specs.Trees.{Shape}
+use Rattle.bt_node.specs.Trees.{Shape, leaf}
 use Rattle.bt_node.proofs.offered.PackedTrees.{packed-holds}
 use Rattle.bt_fanout.specs.Covers.{cover_after, next_rows}
 use Rattle.bt_fanout.specs.Effects.{EntryMessage, SuitsEffect, effects_of, row_effect}
 use Rattle.bt_rowtype.specs.declared.item.Item.{Item}
-use Rattle.bt_table.specs.Batches.{and_then, batch_refusals, made, messages_of}
+use Rattle.bt_table.specs.Batches.{and_then, batch_refusals, made, messages_of, one_if}
 use Rattle.bt_fanout.specs.Entries.{Definition, IsWithin}
 use Rattle.bt_fanout.specs.Promises.{own_puts}
 use Rattle.bt_fanout.specs.declared.cover.Cover.{Cover}
-use Rattle.bt_table.specs.Calls.{Apply, BuildStep, DropIndex, IsStep, Load, Primary, Secondary, ShowsIndex, ShowsRows, Upkeep, after_build, after_load, built, dropped, is_bare, is_primary, load_refusals, renewed, renewed_index, secondary, step, tree_named, unless_any, with_index_at, with_renewed_rows, with_rows}
-use Rattle.bt_table.specs.Indexes.{EntryTree, advanced, built_index, empty_index, index_named, indexes_after, is_complete, packed_index, packet_of, sent_count}
-use Rattle.bt_table.specs.inside.IndexTrees.{entry_tree, packet_for, sunk_indexes, with_trees}
-use Rattle.bt_table.specs.Standing.{AllStand, IsSoundIndex, IsSoundTable, IsSoundUnlessLost, Suits}
-use Rattle.bt_table.specs.Tables.{PlainTable, RowMessages, RowTree, TableState, Intact, after_batch, held_by, state_of}
-use Rattle.bt_table.specs.declared.index.Index.{Index}
-use Rattle.bt_table.specs.declared.reply.Reply.TheVariants.{Batch, Built, Dropped, Loaded}
+use Rattle.bt_table.specs.Calls.{Apply, BuildStep, Call, CreateIndex, Drain, Draining, DropIndex, IsStep, Load, Primary, Rebuild, Rebuilding, Secondary, ShowsIndex, ShowsRows, Upkeep, after_build, after_load, built, dropped, index_refusals, is_bare, is_primary, load_refusals, renewed, renewed_index, secondary, step, tree_named, unless_any, with_index, with_index_at, with_renewed, with_renewed_index, with_renewed_rows, with_rows, without_index}
+use Rattle.bt_table.specs.Indexes.{EntryTree, Index, advanced, built_index, index_named, index_of_ref, index_with, indexes_of, is_complete, packet_of, sent_count}
+use Rattle.bt_table.specs.inside.IndexTrees.{empty_head, entry_tree, packet_for, sent_for, sunk_tree, sunk_trees, with_cover}
+use Rattle.bt_table.specs.inside.Parts.{AreSoundParts}
+use Rattle.bt_table.specs.Standing.{AllStand, IsSoundIndex, IsSoundTable, Suits}
+use Rattle.bt_table.specs.Tables.{PlainTable, RowMessages, TableState, Intact, after_batch, held_by, state_of}
+use Rattle.bt_table.specs.declared.index.IndexHead.{IndexHead}
+use Rattle.bt_table.specs.declared.index.IndexRef.{IndexRef}
+use Rattle.bt_table.specs.declared.reply.Reply.{Reply}
+use Rattle.bt_table.specs.declared.reply.Reply.TheVariants.{Batch, Built, Created, Drained, Dropped, Loaded, Rebuilt}
 use Rattle.bt_table.specs.declared.reply.SentCount.{SentCount}
-use Rattle.bt_table.specs.declared.table.Trees.{Trees}
-use Rattle.bt_table.proofs.Indexes.{building_packet-is, counts_are, each_within, holds_selection, indexes_suit, rows_within, sunk_is, with_entry_trees}
+use Rattle.bt_table.specs.declared.table.TheConstants.{MOST_INDEXES}
+use Rattle.bt_table.specs.declared.trees.Trees.{Trees}
+use Rattle.bt_table.proofs.Indexes.{building_packet-is, counts_are, each_within, holds_selection, indexes_of-append, indexes_of-remove, indexes_of-set, indexes_suit, length-indexes_of, length-remove_same, length-sunk, rows_within, sunk_is, with_entry_trees}
 use Rattle.bt_table.proofs.offered.KeyOrder.{keys_rise}
 use Rattle.bt_table.proofs.Sinks.{stepped}
 use Rattle.bt_table.proofs.Sound.{batch_keeps_sound, batch_of_schema, found-sound, none_building, renewed-holds, rows_sorted, with_built_index-sound, with_renewed_index-sound, with_renewed_rows-sound, with_rows-sound, with_index-sound, without_index-sound}
 use Rattle.bt_table.proofs.Standing.{rows_after-stand}
 
-taken_or : Trees → Option Trees → Trees
-taken_or other (Some trees) = trees
-taken_or other None = other
+-- the call of an upkeep, and what it answers
+abbrev pub upkeep_call : Upkeep → List ℕ → Call
+upkeep_call Draining name = Drain name
+upkeep_call Rebuilding name = Rebuild name
+
+abbrev pub upkeep_reply : Upkeep → List ℕ → Reply
+upkeep_reply Draining name = Drained name
+upkeep_reply Rebuilding name = Rebuilt name
+
+upkeep_step : (upkeep : Upkeep) (table : PlainTable) (name : List ℕ) → step (Intact table) (upkeep_call upkeep name) ≡ made (λ after. (Intact after, upkeep_reply upkeep name)) (with_renewed upkeep table name)
+upkeep_step Draining table name = refl
+upkeep_step Rebuilding table name = refl
 
 -- what is taken is what stood there
-pub same_taken : (old found : Option Trees) (trees taken : Trees) → old ≡ Some trees → found ≡ old → found ≡ Some taken → taken ≡ trees
-unfolding taken_or
-same_taken old found trees taken is value some = ap (taken_or trees) (sym some ∙ value ∙ is)
+same : {A : Type 0} {found : Option A} {stood taken : A} → found ≡ Some stood → found ≡ Some taken → taken ≡ stood
+same is took = cc
 
-module _ (schema : Schema) (kept : Option Trees) (trees : Trees) (is : kept ≡ Some trees) (sound : IsSoundUnlessLost (state_of schema kept)) where
+-- where a name is not refused, there may be one index more
+below_most : (taken : Bool) (count : ℕ) → least (one_if taken NameTaken ++ one_if (nat_le MOST_INDEXES count) TooMany) ≡ None → count < MOST_INDEXES
+below_most taken count free = go taken (nat_le MOST_INDEXES count) refl free
+  where
+    go : (taken full : Bool) → nat_le MOST_INDEXES count ≡ full → least (one_if taken NameTaken ++ one_if full TooMany) ≡ None → count < MOST_INDEXES
+    go false false is free = leb-false MOST_INDEXES count is
+    go false true is free = absurd cc
+    go true false is free = absurd cc
+    go true true is free = absurd cc
+
+length-remove-le : {A : Type 0} (place : ℕ) (xs : List A) → length (remove xs place) ≤ length xs
+length-remove-le zero [] = omega arith
+length-remove-le (suc place) [] = omega arith
+length-remove-le zero (x ∷ xs) = omega arith
+length-remove-le (suc place) (x ∷ xs) = let h = length-remove-le place xs in omega arith
+
+-- a table is not lost where an index can be created
+pub has_trees : (schema : Schema) (heads : List IndexHead) (kept : Option Trees) (name : List ℕ) → least (index_refusals (state_of schema heads kept) name) ≡ None → IsSome kept
+has_trees schema heads None name free = absurd cc
+has_trees schema heads (Some trees) name free = refl
+
+-- trees that were put back beside what the indexes are then
+module _ (schema : Schema) (heads : List IndexHead) (after : Option Trees) (new : Trees) (put : after ≡ Some new) where
+  put_is_sound : IsSoundTable (held_by schema new.rows (indexes_of heads new.entries.items)) → length new.entries.items ≡ length heads → length heads ≤ MOST_INDEXES → AreSoundParts schema heads after
+  put_is_sound sound many few = subst (AreSoundParts schema heads) (sym put) (sound, (many, few))
+
+  state_is_put : (table : PlainTable) → held_by schema new.rows (indexes_of heads new.entries.items) ≡ table → state_of schema heads after ≡ Intact table
+  state_is_put table to = ap (state_of schema heads) put ∙ ap Intact to
+
+module _ (schema : Schema) (heads : List IndexHead) (kept : Option Trees) (trees : Trees) (is : kept ≡ Some trees) (sound : AreSoundParts schema heads kept) where
   abbrev indexes : List Index
-  indexes = trees.indexes.items
+  indexes = indexes_of heads trees.entries.items
 
   abbrev before : PlainTable
   before = held_by schema trees.rows indexes
 
   pub was_sound : IsSoundTable before
-  was_sound = subst (λ k. IsSoundUnlessLost (state_of schema k)) is sound
+  was_sound = (subst (AreSoundParts schema heads) is sound).0
+
+  -- each index has its tree
+  pub each_has_tree : length trees.entries.items ≡ length heads
+  each_has_tree = (subst (AreSoundParts schema heads) is sound).1.0
+
+  few_indexes : length heads ≤ MOST_INDEXES
+  few_indexes = (subst (AreSoundParts schema heads) is sound).1.1
+
+  -- so there are few trees in a round
+  pub few_trees : (taken : Trees) → kept ≡ Some taken → length taken.entries.items ≤ 65535
+  few_trees taken took =
+      let same_number : length taken.entries.items ≡ length heads = ap (λ (t : Trees). length t.entries.items) (same is took) ∙ each_has_tree in
+      let few = few_indexes in
+      omega arith
 
   module _ (items : List Item) where
     abbrev batch : RowMessages
     batch = messages_of schema items
 
+    abbrev sent_by : IndexHead → Messages EntryMessage
+    sent_by = packet_for (effects_of (sorted_batch batch) before.rows)
+
     rows_stand : AllStand schema (rows_after row_effect batch before.rows)
     rows_stand = rows_after-stand schema batch before.rows (batch_of_schema schema items) was_sound.rows
 
-    pub suit : All (λ index. All (SuitsEffect index.def) (effects_of (sorted_batch batch) before.rows)) indexes
-    suit = indexes_suit schema before.shape before.rows batch (rows_sorted before was_sound) was_sound.rows rows_stand indexes was_sound.indexes
+    pub suit : All (λ head. All (SuitsEffect head.def) (effects_of (sorted_batch batch) before.rows)) heads
+    suit = indexes_suit schema before.shape before.rows batch (rows_sorted before was_sound) was_sound.rows rows_stand heads trees.entries.items each_has_tree was_sound.indexes
 
-    module _ (packets : List (Messages EntryMessage)) (sent : List SentCount) (new : Trees)
-        (packets_are : packets ≡ map (packet_for (effects_of (sorted_batch batch) before.rows)) indexes)
-        (sent_are : sent ≡ map (λ index. sent_count index (packet_for (effects_of (sorted_batch batch) before.rows) index)) indexes)
-        (rows_are : new.rows ≡ (trees.rows.0, sunk row_effect trees.rows.0 trees.rows.1 (sorted_batch batch)))
-        (indexes_are : new.indexes.items ≡ sunk_indexes indexes packets) where
-      after_is : new.indexes.items ≡ indexes_after before.rows batch indexes
-      after_is =
-          indexes_are ∙ ap (sunk_indexes indexes) packets_are
-          ∙ sunk_is schema before.shape before.rows batch (rows_sorted before was_sound) was_sound.rows rows_stand indexes was_sound.indexes
+    module _ (packets : List (Messages EntryMessage)) (packets_are : packets ≡ map sent_by heads) (taken : Trees) (took : kept ≡ Some taken) where
+      pub each_has_packet : length packets ≡ length taken.entries.items
+      each_has_packet = ap length packets_are ∙ length-map heads sent_by ∙ sym (ap (λ (t : Trees). length t.entries.items) (same is took) ∙ each_has_tree)
 
-      stepped_to : held_by schema new.rows new.indexes.items ≡ after_batch before batch
-      stepped_to = ap (λ t. held_by schema t new.indexes.items) rows_are ∙ stepped schema trees.rows.0 trees.rows.1 indexes new.indexes.items batch was_sound.tree after_is
+      module _ (sent : List SentCount) (sent_are : sent ≡ map (sent_for (effects_of (sorted_batch batch) before.rows)) heads) (new : Trees) (after : Option Trees) (put : after ≡ Some new)
+          (rows_are : new.rows ≡ (taken.rows.0, sunk row_effect taken.rows.0 taken.rows.1 (sorted_batch batch))) (entries_are : new.entries.items ≡ sunk_trees taken.entries.items packets) where
+        trees_are : new.entries.items ≡ sunk_trees trees.entries.items (map sent_by heads)
+        trees_are = entries_are ∙ (λ i. sunk_trees (same is took i).entries.items (packets_are i))
 
-      pub stays_sound : IsSoundTable (held_by schema new.rows new.indexes.items)
-      stays_sound = subst IsSoundTable (sym stepped_to) (batch_keeps_sound before batch (batch_of_schema schema items) was_sound)
+        stepped_to : held_by schema new.rows (indexes_of heads new.entries.items) ≡ after_batch before batch
+        stepped_to =
+            ap (λ t. held_by schema t (indexes_of heads new.entries.items)) (rows_are ∙ ap (λ (t : Trees). (t.rows.0, sunk row_effect t.rows.0 t.rows.1 (sorted_batch batch))) (same is took))
+            ∙ stepped schema trees.rows.0 trees.rows.1 indexes (indexes_of heads new.entries.items) batch was_sound.tree
+            (ap (indexes_of heads) trees_are
+            ∙ sunk_is schema before.shape before.rows batch (rows_sorted before was_sound) was_sound.rows rows_stand heads trees.entries.items was_sound.indexes)
 
-      pub batch_is_step : (state : TableState) → state_of schema kept ≡ state → least (batch_refusals schema items) ≡ None
-          → IsStep state (Intact (held_by schema new.rows new.indexes.items)) (Apply items) (Batch (length items) sent)
-      batch_is_step state was allowed =
-          let counts = sent_are ∙ counts_are schema before.shape before.rows batch (rows_sorted before was_sound) was_sound.rows rows_stand indexes was_sound.indexes in
-          ap (λ s. step s (Apply items)) (sym was ∙ ap (state_of schema) is)
-          ∙ ap (λ o. unless o (Intact (after_batch before batch), Batch (length items) (map (λ index. sent_count index (packet_of before.rows batch index)) indexes))) allowed
-          ∙ (λ i. Ok (Intact (sym stepped_to i), Batch (length items) (sym counts i)))
+        pub batch_is_sound : AreSoundParts schema heads after
+        batch_is_sound =
+            put_is_sound schema heads after new put (subst IsSoundTable (sym stepped_to) (batch_keeps_sound before batch (batch_of_schema schema items) was_sound))
+            (ap length trees_are ∙ length-sunk heads trees.entries.items sent_by each_has_tree) few_indexes
 
-  module _ (state : TableState) (was : state_of schema kept ≡ state) where
+        pub batch_is_step : (state : TableState) → state_of schema heads kept ≡ state → least (batch_refusals schema items) ≡ None
+            → IsStep state (state_of schema heads after) (Apply items) (Batch (length items) sent)
+        batch_is_step state was allowed =
+            let counts = sent_are ∙ counts_are schema before.shape before.rows batch (rows_sorted before was_sound) was_sound.rows rows_stand heads trees.entries.items each_has_tree was_sound.indexes in
+            ap (λ s. step s (Apply items)) (sym was ∙ ap (state_of schema heads) is)
+            ∙ ap (λ o. unless o (Intact (after_batch before batch), Batch (length items) (map (λ index. sent_count index (packet_of before.rows batch index)) indexes))) allowed
+            ∙ (λ i. Ok (sym (state_is_put schema heads after new put (after_batch before batch) stepped_to) i, Batch (length items) (sym counts i)))
+
+  module _ (state : TableState) (was : state_of schema heads kept ≡ state) where
     state_is : state ≡ Intact before
-    state_is = sym was ∙ ap (state_of schema) is
+    state_is = sym was ∙ ap (state_of schema heads) is
 
     -- ---- indexes
 
-    -- behind the others, or not, where memory is wanting
-    pub pushed_is_sound : (name : List ℕ) (def : Definition) → Suits state def → (pushed : Bool) (items : List Index) →
-        items ≡ (if pushed then indexes ++ empty_index before.shape name def ∷ [] else indexes) → IsSoundTable (held_by schema trees.rows items)
-    pushed_is_sound name def suits pushed items are =
-        subst (λ (xs : List Index). IsSoundTable (held_by schema trees.rows xs)) (sym are)
-        (elim pushed as (λ b. IsSoundTable (held_by schema trees.rows (if b then indexes ++ empty_index before.shape name def ∷ [] else indexes))) [
-          | true ↦ with_index-sound before name def (subst (λ s. Suits s def) state_is suits) was_sound
-          | false ↦ was_sound
-        ])
+    -- a name that is free is refused by the number of indexes alone
+    pub refused_by_number : (name : List ℕ) → is_primary name ≡ false → is_some (index_named name indexes) ≡ false → least (index_refusals state name) ≡ least (one_if (nat_le MOST_INDEXES (length heads)) TooMany)
+    refused_by_number name other free =
+        ap (λ s. least (index_refusals s name)) state_is
+        ∙ (λ i. least (one_if (other i || free i) NameTaken ++ one_if (nat_le MOST_INDEXES (length-indexes_of heads trees.entries.items each_has_tree i)) TooMany))
 
-    pub removed_is_sound : (place : ℕ) (items : List Index) → items ≡ remove indexes place → IsSoundTable (held_by schema trees.rows items)
-    removed_is_sound place items are = subst (λ (xs : List Index). IsSoundTable (held_by schema trees.rows xs)) (sym are) (without_index-sound before place was_sound)
+    module _ (taken : Trees) (took : kept ≡ Some taken) (others : List IndexHead) (new : Trees) (after : Option Trees) (put : after ≡ Some new) (rows_are : new.rows ≡ taken.rows) where
+      others_to : (entries : List (Shape × EntryTree)) → new.entries.items ≡ entries → held_by schema new.rows (indexes_of others new.entries.items) ≡ held_by schema trees.rows (indexes_of others entries)
+      others_to entries are = (λ i. held_by schema (rows_are i) (indexes_of others (are i))) ∙ ap (λ (t : Trees). held_by schema t.rows (indexes_of others entries)) (same is took)
 
-    pub drop_is_step : (name own : List ℕ) (place : ℕ) (index : Index) (items : List Index) → index_named name indexes ≡ Some (place, index) → items ≡ remove indexes place → own ≡ name
-        → IsStep state (Intact (held_by schema trees.rows items)) (DropIndex name) (Dropped own)
-    drop_is_step name own place index items found are same =
-        ap (λ s. step s (DropIndex name)) state_is ∙ ap (dropped before name) found
-        ∙ (λ i. Ok (Intact (held_by schema trees.rows (sym are i)), Dropped (sym same i)))
+      -- behind the others, or not, where memory is wanting
+      module _ (name : List ℕ) (def : Definition) where
+        abbrev new_tree : Shape × EntryTree
+        new_tree = (trees.rows.0, leaf [])
+
+        added_to : others ≡ heads ++ empty_head name def ∷ [] → new.entries.items ≡ taken.entries.items ++ (taken.rows.0, leaf []) ∷ []
+            → held_by schema new.rows (indexes_of others new.entries.items) ≡ with_index before name def
+        added_to heads_are entries_are =
+            others_to (trees.entries.items ++ new_tree ∷ []) (entries_are ∙ ap (λ (t : Trees). t.entries.items ++ (t.rows.0, leaf []) ∷ []) (same is took))
+            ∙ ap (λ hs. held_by schema trees.rows (indexes_of hs (trees.entries.items ++ new_tree ∷ []))) heads_are
+            ∙ ap (held_by schema trees.rows) (indexes_of-append heads trees.entries.items (empty_head name def) new_tree each_has_tree)
+
+        not_added_to : others ≡ heads → new.entries.items ≡ taken.entries.items → held_by schema new.rows (indexes_of others new.entries.items) ≡ before
+        not_added_to heads_are entries_are =
+            others_to trees.entries.items (entries_are ∙ ap (λ (t : Trees). t.entries.items) (same is took)) ∙ ap (λ hs. held_by schema trees.rows (indexes_of hs trees.entries.items)) heads_are
+
+        one_more : least (index_refusals state name) ≡ None → others ≡ heads ++ empty_head name def ∷ [] → length others ≤ MOST_INDEXES
+        one_more free heads_are =
+            let number : length others ≡ length heads + 1 = ap length heads_are ∙ length_push heads _ in
+            let indexes_number = length-indexes_of heads trees.entries.items each_has_tree in
+            let fewer = below_most (is_primary name || is_some (index_named name indexes)) (length indexes) (sym (ap (λ s. least (index_refusals s name)) state_is) ∙ free) in
+            omega arith
+
+        pub added_is_sound : Suits state def → least (index_refusals state name) ≡ None → (added : Bool) → others ≡ (if added then heads ++ empty_head name def ∷ [] else heads)
+            → new.entries.items ≡ (if added then taken.entries.items ++ (taken.rows.0, leaf []) ∷ [] else taken.entries.items) → AreSoundParts schema others after
+        added_is_sound suits free true heads_are entries_are =
+            put_is_sound schema others after new put
+            (subst IsSoundTable (sym (added_to heads_are entries_are)) (with_index-sound before name def (subst (λ s. Suits s def) state_is suits) was_sound))
+            (ap length entries_are ∙ length_push taken.entries.items _ ∙ ap (λ (t : Trees). length t.entries.items + 1) (same is took) ∙ ap (λ n. n + 1) each_has_tree ∙ sym (ap length heads_are ∙ length_push heads _))
+            (one_more free heads_are)
+        added_is_sound suits free false heads_are entries_are =
+            put_is_sound schema others after new put (subst IsSoundTable (sym (not_added_to heads_are entries_are)) was_sound)
+            (ap length entries_are ∙ ap (λ (t : Trees). length t.entries.items) (same is took) ∙ each_has_tree ∙ sym (ap length heads_are))
+            (subst (λ n. n ≤ MOST_INDEXES) (sym (ap length heads_are)) few_indexes)
+
+        pub not_added_is : others ≡ heads → new.entries.items ≡ taken.entries.items → state_of schema others after ≡ state
+        not_added_is heads_are entries_are = state_is_put schema others after new put before (not_added_to heads_are entries_are) ∙ sym state_is
+
+        pub create_is_step : (own : List ℕ) → own ≡ name → others ≡ heads ++ empty_head name def ∷ [] → new.entries.items ≡ taken.entries.items ++ (taken.rows.0, leaf []) ∷ []
+            → least (index_refusals state name) ≡ None → IsStep state (state_of schema others after) (CreateIndex name def) (Created own)
+        create_is_step own named heads_are entries_are free =
+            ap (λ s. step s (CreateIndex name def)) state_is
+            ∙ ap (λ o. unless o (Intact (with_index before name def), Created name)) (sym (ap (λ s. least (index_refusals s name)) state_is) ∙ free)
+            ∙ (λ i. Ok (sym (state_is_put schema others after new put (with_index before name def) (added_to heads_are entries_are)) i, Created (sym named i)))
+
+      module _ (place : ℕ) (heads_are : others ≡ remove heads place) (entries_are : new.entries.items ≡ remove taken.entries.items place) where
+        removed : new.entries.items ≡ remove trees.entries.items place
+        removed = entries_are ∙ ap (λ (t : Trees). remove t.entries.items place) (same is took)
+
+        removed_to : held_by schema new.rows (indexes_of others new.entries.items) ≡ without_index before place
+        removed_to =
+            others_to (remove trees.entries.items place) removed ∙ ap (λ hs. held_by schema trees.rows (indexes_of hs (remove trees.entries.items place))) heads_are
+            ∙ ap (held_by schema trees.rows) (indexes_of-remove place heads trees.entries.items each_has_tree)
+
+        pub removed_is_sound : AreSoundParts schema others after
+        removed_is_sound =
+            put_is_sound schema others after new put (subst IsSoundTable (sym removed_to) (without_index-sound before place was_sound))
+            (ap length removed ∙ length-remove_same place trees.entries.items heads each_has_tree ∙ sym (ap length heads_are))
+            (let fewer = length-remove-le place heads in let few = few_indexes in let number = ap length heads_are in omega arith)
+
+        pub drop_is_step : (name own : List ℕ) (index : Index) → index_named name indexes ≡ Some (place, index) → own ≡ name → IsStep state (state_of schema others after) (DropIndex name) (Dropped own)
+        drop_is_step name own index found named =
+            ap (λ s. step s (DropIndex name)) state_is ∙ ap (dropped before name) found
+            ∙ (λ i. Ok (sym (state_is_put schema others after new put (without_index before place) removed_to) i, Dropped (sym named i)))
 
     -- ---- rows that are loaded
 
@@ -129,87 +252,131 @@ module _ (schema : Schema) (kept : Option Trees) (trees : Trees) (is : kept ≡ 
       stand = map_of-stand schema rows map_is (loaded-of schema.columns text rows read) mapped
 
       -- so the entries of the rows may be asked for
-      pub loaded_within : All (λ index. All (λ row. IsWithin index.def (length row.1)) map_is) indexes
-      loaded_within = each_within schema before.shape map_is sorted stand before.rows indexes was_sound.indexes
+      pub loaded_within : All (λ head. All (λ row. IsWithin head.def (length row.1)) map_is) heads
+      loaded_within = each_within schema before.shape map_is sorted stand before.rows heads trees.entries.items each_has_tree was_sound.indexes
 
-      module _ (allowed : least (load_refusals indexes trees.rows.1) ≡ None) (tree : Shape × RowTree) (packed_is : tree ≡ (trees.rows.0, packed trees.rows.0 map_is))
-          (entries : List (Shape × EntryTree)) (items : List Index) (entries_are : entries ≡ map (entry_tree map_is) indexes) (items_are : items ≡ with_trees indexes entries) where
-        indexes_to : items ≡ map (packed_index map_is) indexes
-        indexes_to = items_are ∙ ap (with_trees indexes) entries_are ∙ with_entry_trees schema before.shape map_is sorted stand before.rows indexes was_sound.indexes
+      abbrev new_entries : List (Shape × EntryTree)
+      new_entries = map (λ head. entry_tree trees.rows.0 map_is head.def) heads
 
-        loaded_to : held_by schema tree items ≡ with_rows before map_is
+      module _ (allowed : least (load_refusals indexes trees.rows.1) ≡ None) (new : Trees) (after : Option Trees) (put : after ≡ Some new) (rows_are : new.rows ≡ (trees.rows.0, packed trees.rows.0 map_is))
+          (entries_are : new.entries.items ≡ new_entries) where
+        loaded_to : held_by schema new.rows (indexes_of heads new.entries.items) ≡ with_rows before map_is
         loaded_to =
-            ap (λ (t : Shape × RowTree). held_by schema t items) packed_is
+            (λ i. held_by schema (rows_are i) (indexes_of heads (entries_are i)))
             ∙ (λ i. record {
               schema = schema;
               shape = trees.rows.0;
               rows = packed-holds (Message (List Value) Change) trees.rows.0 was_sound.tree.roomy map_is sorted row_effect i;
               tree = packed trees.rows.0 map_is;
-              indexes = indexes_to i;
+              indexes = with_entry_trees schema before.shape map_is sorted stand before.rows heads trees.entries.items each_has_tree was_sound.indexes i;
             })
 
-        pub loaded_is_sound : IsSoundTable (held_by schema tree items)
+        pub loaded_is_sound : AreSoundParts schema heads after
         loaded_is_sound =
-            subst IsSoundTable (sym loaded_to)
-            (with_rows-sound before map_is stand sorted (none_building (list_all is_complete indexes) (is_bare trees.rows.1) allowed) was_sound)
+            put_is_sound schema heads after new put
+            (subst IsSoundTable (sym loaded_to) (with_rows-sound before map_is stand sorted (none_building (list_all is_complete indexes) (is_bare trees.rows.1) allowed) was_sound))
+            (ap length entries_are ∙ length-map heads (λ head. entry_tree trees.rows.0 map_is head.def)) few_indexes
 
-        pub load_is_step : (count : ℕ) → count ≡ length map_is → IsStep state (Intact (held_by schema tree items)) (Load text) (Loaded count)
+        pub load_is_step : (count : ℕ) → count ≡ length map_is → IsStep state (state_of schema heads after) (Load text) (Loaded count)
         load_is_step count count_is =
             ap (λ s. step s (Load text)) state_is
             ∙ ap (λ r. made (after_load before) (and_then (map_of schema.keys) (and_then (unless_any (load_refusals indexes trees.rows.1)) r))) read
             ∙ ap (λ o. made (after_load before) (and_then (map_of schema.keys) (unless o rows))) allowed
             ∙ ap (made (after_load before)) mapped
-            ∙ (λ i. Ok (Intact (sym loaded_to i), Loaded (sym count_is i)))
+            ∙ (λ i. Ok (sym (state_is_put schema heads after new put (with_rows before map_is) loaded_to) i, Loaded (sym count_is i)))
 
     -- ---- trees that are renewed
 
-    module _ (upkeep : Upkeep) (tree : Shape × RowTree) (renewed_is : tree ≡ (trees.rows.0, renewed upkeep row_effect trees.rows.0 trees.rows.1)) where
-      rows_to : held_by schema tree indexes ≡ with_renewed_rows upkeep before
-      rows_to =
-          ap (λ (t : Shape × RowTree). held_by schema t indexes) renewed_is
-          ∙ (λ i. record { schema = schema; shape = trees.rows.0; rows = renewed-holds row_effect trees.rows.0 trees.rows.1 was_sound.tree upkeep i; tree = renewed upkeep row_effect trees.rows.0 trees.rows.1; indexes = indexes })
+    module _ (upkeep : Upkeep) (name : List ℕ) where
+      renewed_step : step state (upkeep_call upkeep name) ≡ made (λ table. (Intact table, upkeep_reply upkeep name)) (with_renewed upkeep before name)
+      renewed_step = ap (λ s. step s (upkeep_call upkeep name)) state_is ∙ upkeep_step upkeep before name
 
-      pub renewed_rows_is_sound : IsSoundTable (held_by schema tree indexes)
-      renewed_rows_is_sound = subst IsSoundTable (sym rows_to) (with_renewed_rows-sound upkeep before was_sound)
+      module _ (taken from new : Trees) (took : kept ≡ Some taken) (whole : kept ≡ Some from) (after : Option Trees) (put : after ≡ Some new)
+          (rows_are : new.rows ≡ (from.rows.0, renewed upkeep row_effect from.rows.0 from.rows.1)) (entries_are : new.entries.items ≡ taken.entries.items) where
+        rows_to : held_by schema new.rows (indexes_of heads new.entries.items) ≡ with_renewed_rows upkeep before
+        rows_to =
+            (λ i. held_by schema (rows_are i) (indexes_of heads (entries_are i)))
+            ∙ (λ i. held_by schema ((same is whole i).rows.0, renewed upkeep row_effect (same is whole i).rows.0 (same is whole i).rows.1) (indexes_of heads (same is took i).entries.items))
+            ∙ (λ i. record { schema = schema; shape = trees.rows.0; rows = renewed-holds row_effect trees.rows.0 trees.rows.1 was_sound.tree upkeep i; tree = renewed upkeep row_effect trees.rows.0 trees.rows.1; indexes = indexes })
 
-    -- an index was found by its name, and is changed in its place
-    module _ (name : List ℕ) (place : ℕ) (index : Index) (found : index_named name indexes ≡ Some (place, index)) (there : slice_get indexes place ≡ Some index) where
-      index_found : IsSoundIndex schema before.shape before.rows index
-      index_found = found-sound before name (place, index) found was_sound
+        pub renewed_rows_is_sound : AreSoundParts schema heads after
+        renewed_rows_is_sound =
+            put_is_sound schema heads after new put (subst IsSoundTable (sym rows_to) (with_renewed_rows-sound upkeep before was_sound))
+            (ap length entries_are ∙ ap (λ (t : Trees). length t.entries.items) (same is took) ∙ each_has_tree) few_indexes
+
+        pub renewed_rows_is_step : (own : List ℕ) → own ≡ name → is_primary name ≡ true → IsStep state (state_of schema heads after) (upkeep_call upkeep name) (upkeep_reply upkeep own)
+        renewed_rows_is_step own named primary =
+            renewed_step
+            ∙ ap (λ b. made (λ table. (Intact table, upkeep_reply upkeep name)) (if b then Ok (with_renewed_rows upkeep before) else or_refused NoSuchTree (option_map (with_renewed_index upkeep before) (index_named name indexes)))) primary
+            ∙ (λ i. Ok (sym (state_is_put schema heads after new put (with_renewed_rows upkeep before) rows_to) i, upkeep_reply upkeep (sym named i)))
+
+    -- an index was found by its name
+    module _ (name : List ℕ) (place : ℕ) (index : IndexRef) (found : index_named name indexes ≡ Some (place, index_of_ref index)) where
+      abbrev shown : Index
+      shown = index_of_ref index
+
+      index_found : IsSoundIndex schema before.shape before.rows shown
+      index_found = found-sound before name (place, shown) found was_sound
 
       -- so a step of its building may be asked for
-      pub found_within : All (λ row. IsWithin index.def (length row.1)) before.rows
-      found_within = rows_within schema before.shape before.rows (rows_sorted before was_sound) was_sound.rows index index_found.suits index_found.keys
+      pub found_within : All (λ row. IsWithin shown.def (length row.1)) before.rows
+      found_within = rows_within schema before.shape before.rows (rows_sorted before was_sound) was_sound.rows shown index_found.suits index_found.keys
 
-      pub step_change : (n : ℕ) (packet : Messages EntryMessage) (cover : Cover) → packet ≡ sorted_batch (own_puts index.def (next_rows n index.cover before.rows))
-          → cover ≡ cover_after n index.cover before.rows → advanced index packet cover ≡ built_index n before.rows index
+      pub step_change : (n : ℕ) (packet : Messages EntryMessage) (cover : Cover) → packet ≡ sorted_batch (own_puts shown.def (next_rows n shown.cover before.rows))
+          → cover ≡ cover_after n shown.cover before.rows → index_with (with_cover index.head.now cover) (sunk_tree index.tree.now packet) ≡ built_index n before.rows shown
       step_change n packet cover packet_is cover_is =
-          let sent = packet_is ∙ building_packet-is schema before.shape before.rows (rows_sorted before was_sound) was_sound.rows n index index_found in
-          λ i. advanced index (sent i) (cover_is i)
+          let sent = packet_is ∙ building_packet-is schema before.shape before.rows (rows_sorted before was_sound) was_sound.rows n shown index_found in
+          λ i. advanced shown (sent i) (cover_is i)
 
-      module _ (tree : Shape × RowTree) (taken items : List Index) (change : Index → Index) (tree_is : tree ≡ trees.rows) (taken_are : taken ≡ indexes)
-          (changed : IfSome (slice_get taken place) (λ i. items ≡ set taken place (change i))) where
-        index_to : held_by schema tree items ≡ with_index_at before place (change index)
+      -- the tree that is taken out of its place is its own
+      pub own_tree : (taken : Trees) → kept ≡ Some taken → slice_get trees.entries.items place ≡ Some index.tree.now → (tree : Shape × EntryTree) → slice_get taken.entries.items place ≡ Some tree → tree ≡ index.tree.now
+      own_tree taken took there tree out = same there (subst (λ (t : Trees). slice_get t.entries.items place ≡ Some tree) (same is took) out)
+
+      -- it is changed in its place
+      module _ (taken new : Trees) (took : kept ≡ Some taken) (after : Option Trees) (put : after ≡ Some new) (rows_are : new.rows ≡ taken.rows) (others : List IndexHead) (head : IndexHead) (tree : Shape × EntryTree)
+          (heads_are : others ≡ set heads place head) (entries_are : new.entries.items ≡ set taken.entries.items place tree) where
+        tree_put : new.entries.items ≡ set trees.entries.items place tree
+        tree_put = entries_are ∙ ap (λ (t : Trees). set t.entries.items place tree) (same is took)
+
+        index_to : held_by schema new.rows (indexes_of others new.entries.items) ≡ with_index_at before place (index_with head tree)
         index_to =
-            let here = subst (λ (v : List Index). IfSome (slice_get v place) (λ i. items ≡ set v place (change i))) taken_are changed in
-            let set_is : items ≡ set indexes place (change index) = subst (λ o. IfSome o (λ i. items ≡ set indexes place (change i))) there here in
-            ap (λ (t : Shape × RowTree). held_by schema t items) tree_is ∙ ap (held_by schema trees.rows) set_is
+            (λ i. held_by schema (rows_are i) (indexes_of (heads_are i) (tree_put i)))
+            ∙ ap (λ (t : Trees). held_by schema t.rows (indexes_of (set heads place head) (set trees.entries.items place tree))) (same is took)
+            ∙ ap (held_by schema trees.rows) (indexes_of-set place heads trees.entries.items head tree)
 
-        pub renewed_index_is_sound : (upkeep : Upkeep) → change index ≡ renewed_index upkeep index → IsSoundTable (held_by schema tree items)
-        renewed_index_is_sound upkeep change_is =
-            subst IsSoundTable (sym (index_to ∙ ap (with_index_at before place) change_is)) (with_renewed_index-sound before name (place, index) found was_sound upkeep)
+        one_each : length new.entries.items ≡ length others
+        one_each = ap length tree_put ∙ length-set trees.entries.items place tree ∙ each_has_tree ∙ sym (ap length heads_are ∙ length-set heads place head)
+
+        few_still : length others ≤ MOST_INDEXES
+        few_still = subst (λ n. n ≤ MOST_INDEXES) (sym (ap length heads_are ∙ length-set heads place head)) few_indexes
+
+        module _ (upkeep : Upkeep) (change_is : index_with head tree ≡ renewed_index upkeep shown) where
+          renewed_to : held_by schema new.rows (indexes_of others new.entries.items) ≡ with_renewed_index upkeep before (place, shown)
+          renewed_to = index_to ∙ ap (with_index_at before place) change_is
+
+          pub renewed_index_is_sound : AreSoundParts schema others after
+          renewed_index_is_sound = put_is_sound schema others after new put (subst IsSoundTable (sym renewed_to) (with_renewed_index-sound before name (place, shown) found was_sound upkeep)) one_each few_still
+
+          pub renewed_index_is_step : (own : List ℕ) → own ≡ name → is_primary name ≡ false → IsStep state (state_of schema others after) (upkeep_call upkeep name) (upkeep_reply upkeep own)
+          renewed_index_is_step own named other =
+              renewed_step upkeep name
+              ∙ ap (λ b. made (λ table. (Intact table, upkeep_reply upkeep name)) (if b then Ok (with_renewed_rows upkeep before) else or_refused NoSuchTree (option_map (with_renewed_index upkeep before) (index_named name indexes)))) other
+              ∙ ap (λ f. made (λ table. (Intact table, upkeep_reply upkeep name)) (or_refused NoSuchTree (option_map (with_renewed_index upkeep before) f))) found
+              ∙ (λ i. Ok (sym (state_is_put schema others after new put (with_renewed_index upkeep before (place, shown)) renewed_to) i, upkeep_reply upkeep (sym named i)))
 
         -- a step of its building
-        module _ (n : ℕ) (change_is : change index ≡ built_index n before.rows index) where
-          pub built_index_is_sound : IsSoundTable (held_by schema tree items)
-          built_index_is_sound =
-              subst IsSoundTable (sym (index_to ∙ ap (with_index_at before place) change_is)) (with_built_index-sound before name (place, index) found was_sound n)
+        module _ (n : ℕ) (change_is : index_with head tree ≡ built_index n before.rows shown) where
+          built_to : held_by schema new.rows (indexes_of others new.entries.items) ≡ with_index_at before place (built_index n before.rows shown)
+          built_to = index_to ∙ ap (with_index_at before place) change_is
 
-          pub build_is_step : (own : List ℕ) (read : ℕ) (complete : Bool) → own ≡ name → read ≡ length (next_rows n index.cover before.rows) → complete ≡ is_complete (built_index n before.rows index)
-              → is_complete index ≡ false → IsStep state (Intact (held_by schema tree items)) (BuildStep name n) (Built own read complete)
+          pub built_index_is_sound : AreSoundParts schema others after
+          built_index_is_sound = put_is_sound schema others after new put (subst IsSoundTable (sym built_to) (with_built_index-sound before name (place, shown) found was_sound n)) one_each few_still
+
+          pub build_is_step : (own : List ℕ) (read : ℕ) (complete : Bool) → own ≡ name → read ≡ length (next_rows n shown.cover before.rows) → complete ≡ is_complete (built_index n before.rows shown)
+              → is_complete shown ≡ false → IsStep state (state_of schema others after) (BuildStep name n) (Built own read complete)
           build_is_step own read complete named read_is complete_is building =
-              ap (λ s. step s (BuildStep name n)) state_is ∙ ap (built before name n) found ∙ ap (λ b. if b then Err AlreadyComplete else Ok (after_build before name n (place, index))) building
-              ∙ (λ i. Ok (Intact (sym (index_to ∙ ap (with_index_at before place) change_is) i), Built (sym named i) (sym read_is i) (sym complete_is i)))
+              ap (λ s. step s (BuildStep name n)) state_is ∙ ap (built before name n) found ∙ ap (λ b. if b then Err AlreadyComplete else Ok (after_build before name n (place, shown))) building
+              ∙ (λ i. Ok (sym (state_is_put schema others after new put (with_index_at before place (built_index n before.rows shown)) built_to) i, Built (sym named i) (sym read_is i) (sym complete_is i)))
 
     -- ---- what is shown
 

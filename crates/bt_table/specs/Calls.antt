@@ -26,10 +26,10 @@ use Rattle.bt_fanout.specs.Definitions.{kinds_of}
 use Rattle.bt_fanout.specs.Entries.{Definition, SuitsKinds}
 use Rattle.bt_fanout.specs.Promises.{index_of}
 use Rattle.bt_table.specs.Batches.{and_then, batch_refusals, made, messages_of, one_if, read_key}
-use Rattle.bt_table.specs.Indexes.{built_index, empty_index, index_named, is_complete, packed_index, packet_of, sent_count, with_tree}
+use Rattle.bt_table.specs.Indexes.{Index, built_index, empty_index, index_named, index_of_ref, is_complete, packed_index, packet_of, sent_count, with_tree}
 use Rattle.bt_table.specs.Standing.{AllStand, HoldsSelection, KeysRise}
 use Rattle.bt_table.specs.Tables.{PlainTable, RowMessages, RowTree, TableState, Intact, Lost, after_batch}
-use Rattle.bt_table.specs.declared.index.Index.{Index}
+use Rattle.bt_table.specs.declared.table.TheConstants.{MOST_INDEXES}
 use Rattle.bt_table.specs.declared.table.TreeRef.{TreeRef}
 use Rattle.bt_table.specs.declared.table.TreeRef.TheVariants as shown
 use Rattle.bt_table.specs.declared.reply.Reply.{Reply}
@@ -66,7 +66,7 @@ is_primary name = pointwise ◌==◌ name (codes "primary")
 -- the refusals that apply to a new index of this name: it is taken, or there are too many
 abbrev pub name_refusals : PlainTable → List ℕ → List Refusal
 name_refusals table name =
-    one_if (is_primary name || is_some (index_named name table.indexes)) NameTaken ++ one_if (nat_le 8 (length table.indexes)) TooMany
+    one_if (is_primary name || is_some (index_named name table.indexes)) NameTaken ++ one_if (nat_le MOST_INDEXES (length table.indexes)) TooMany
 
 -- those that apply to it in a state
 abbrev pub index_refusals : TableState → List ℕ → List Refusal
@@ -220,4 +220,4 @@ pub record ShowsIndex (table : PlainTable) (schema : Schema) (index : Index) : T
 -- what is shown is the tree of this name
 abbrev pub Shows : TableState → List ℕ → TreeRef → Type 0
 Shows state name (shown.Rows schema tree) = (table : PlainTable) × (tree_named state name ≡ Ok (Primary table)) × ShowsRows table schema.now tree.now
-Shows state name (shown.Index schema index) = (table : PlainTable) × (tree_named state name ≡ Ok (Secondary table index.now)) × ShowsIndex table schema.now index.now
+Shows state name (shown.Index schema index) = (table : PlainTable) × (tree_named state name ≡ Ok (Secondary table (index_of_ref index))) × ShowsIndex table schema.now (index_of_ref index)

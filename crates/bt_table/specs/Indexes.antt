@@ -1,5 +1,5 @@
 -- The indexes of a table: how they are found, what a batch or a step of building sends them, and what they are after it and after a load.
-use Rattle.std.specs.Prelude.{ℕ, suc, ◌==◌, Bool, true, false, List, [], ◌∷◌, length, map, Option, Some, None, if◌then◌else◌}
+use Rattle.std.specs.Prelude.{ℕ, suc, ◌==◌, Bool, List, [], ◌∷◌, length, map, Option, Some, None, if◌then◌else◌}
 use Rattle.std.specs.Cmp.Lexicographic.{pointwise}
 use Rattle.bt_rowtype.specs.declared.value.Value.{Value}
 use Rattle.bt_messages.specs.Effects.{Rows}
@@ -12,13 +12,35 @@ use Rattle.bt_fanout.specs.Effects.{EntryMessage, RowMessage, entry_effect, row_
 use Rattle.bt_fanout.specs.Entries.{Definition, entry_of, same_values}
 use Rattle.bt_fanout.specs.Selections.{index_messages, select}
 use Rattle.bt_fanout.specs.declared.cover.Cover.{Cover}
-use Rattle.bt_fanout.specs.declared.cover.Cover.TheVariants.{Nothing, UpTo, Whole}
-use Rattle.bt_table.specs.declared.index.Index.{Index}
+use Rattle.bt_fanout.specs.declared.cover.Cover.TheVariants.{Nothing}
+use Rattle.bt_table.specs.declared.index.IndexHead.{IndexHead}
+use Rattle.bt_table.specs.declared.index.IndexRef.{IndexRef}
 use Rattle.bt_table.specs.declared.reply.SentCount.{SentCount}
 
 -- a tree of the entries of an index
 abbrev pub EntryTree : Type 0
 EntryTree = Tree (List Value) EntryMessage
+
+-- an index: its name, its definition, which rows it covers, and the tree of its entries with its shape
+pub record Index : Type 0 where
+  pub name : List ℕ
+  pub def : Definition
+  pub cover : Cover
+  pub tree : Shape × EntryTree
+
+-- what an index is, with its tree
+abbrev pub index_with : IndexHead → Shape × EntryTree → Index
+index_with head tree = record { name = head.name; def = head.def; cover = head.cover; tree = tree }
+
+-- what indexes are, each with the tree that stands at its place
+abbrev pub indexes_of : List IndexHead → List (Shape × EntryTree) → List Index
+indexes_of [] trees = []
+indexes_of (head ∷ heads) [] = []
+indexes_of (head ∷ heads) (tree ∷ trees) = index_with head tree ∷ indexes_of heads trees
+
+-- an index that is looked at
+abbrev pub index_of_ref : IndexRef → Index
+index_of_ref index = index_with index.head.now index.tree.now
 
 -- ---- names
 
@@ -35,18 +57,9 @@ index_named = index_named_from 0
 
 -- ---- a new index
 
-abbrev pub is_nothing : Cover → Bool
-is_nothing Nothing = true
-is_nothing (UpTo last) = false
-is_nothing Whole = false
-
 -- it covers no row, and its tree is one leaf
 abbrev pub empty_index : Shape → List ℕ → Definition → Index
 empty_index shape name def = record { name = name; def = def; cover = Nothing; tree = (shape, leaf []) }
-
--- whether it covers no row
-abbrev pub covers_nothing : Index → Bool
-covers_nothing index = is_nothing index.cover
 
 -- whether it is complete: it covers each row
 abbrev pub is_complete : Index → Bool

@@ -14,8 +14,7 @@ use Rattle.bt_fanout.specs.Effects.{entry_effect, row_effect}
 use Rattle.bt_fanout.specs.Entries.{Definition, SuitsKinds, entry_of}
 use Rattle.bt_fanout.specs.Promises.{index_of}
 use Rattle.bt_fanout.specs.Selections.{select}
-use Rattle.bt_table.specs.Indexes.{is_complete}
-use Rattle.bt_table.specs.declared.index.Index.{Index}
+use Rattle.bt_table.specs.Indexes.{Index, is_complete}
 use Rattle.bt_table.specs.Tables.{PlainTable, KeyedMessage, RowMessages, TableState, Intact, Lost}
 -- each of the rows stands under the code of its key columns, and is of the schema: one value of each column's kind, within the range of its kind
 pub use Rattle.bt_load.specs.Standing.{AllStand, Stands}

@@ -9,9 +9,9 @@ use Rattle.bt_node.specs.Flushes.{holds, sunk}
 use Rattle.bt_keycode.specs.Keys.{Key}
 use Rattle.bt_node.specs.Messages.{Rows, rows_after}
 use Rattle.bt_node.specs.Trees.{Shape, Tree, leaf}
-use Rattle.bt_table.specs.Indexes.{indexes_after}
-use Rattle.bt_table.specs.declared.index.Index.{Index}
-use Rattle.bt_table.specs.declared.table.Trees.{Trees}
+use Rattle.bt_table.specs.Indexes.{Index, indexes_after, indexes_of}
+use Rattle.bt_table.specs.declared.index.IndexHead.{IndexHead}
+use Rattle.bt_table.specs.declared.trees.Trees.{Trees}
 use Rattle.bt_fanout.specs.Effects.{row_effect}
 
 -- a message to the key of a row, and messages
@@ -54,7 +54,7 @@ after_batch table batch = record table {
   indexes = indexes_after table.rows batch table.indexes;
 }
 
--- the table of a schema by its trees, where it still has them
-abbrev pub state_of : Schema → Option Trees → TableState
-state_of schema None = Lost
-state_of schema (Some trees) = Intact (held_by schema trees.rows trees.indexes.items)
+-- the table of a schema by what its indexes are and by its trees, where it still has them
+abbrev pub state_of : Schema → List IndexHead → Option Trees → TableState
+state_of schema heads None = Lost
+state_of schema heads (Some trees) = Intact (held_by schema trees.rows (indexes_of heads trees.entries.items))

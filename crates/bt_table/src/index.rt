@@ -1,13 +1,14 @@
-//! The indexes of a table.
-ghost use Rattle.std.specs.Prelude.{◌≡◌, ◌<◌, IfOk, IfSome, OnOk, Some, length, map, option_map, set, slice_get};
+//! The indexes of a table: what each is, and beside it the tree of its entries.
+ghost use Rattle.std.specs.Prelude.{◌≡◌, ◌<◌, ◌++◌, ◌∷◌, [], IfOk, IfSome, Some, if◌then◌else◌, is_ok, length, map, option_map, set, slice_get};
 ghost use Rattle.std.specs.List.{All, list_all};
 ghost use Rattle.bt_node.specs.Flushes.{holds};
-ghost use Rattle.bt_node.specs.Drains.{drained};
-ghost use Rattle.bt_fanout.specs.Effects.{SuitsEffect, effects_of, entry_effect, row_effect};
+ghost use Rattle.bt_node.specs.Trees.{leaf};
+ghost use Rattle.bt_fanout.specs.Effects.{SuitsEffect, effects_of, row_effect};
 ghost use Rattle.bt_fanout.specs.Covers.{is_whole};
 ghost use Rattle.bt_fanout.specs.Entries.{IsWithin};
 ghost use Rattle.bt_table.specs.Indexes as spec;
-ghost use Rattle.bt_table.specs.inside.IndexTrees.{entry_tree, packet_for, sunk_indexes, with_trees};
+ghost use Rattle.bt_table.specs.Indexes.{index_of_ref, indexes_of};
+ghost use Rattle.bt_table.specs.inside.IndexTrees.{covers_all, covers_nothing, empty_head, entry_tree, packet_for, sent_for, with_cover};
 
 use crate::reply::SentCount;
 use bt_fanout::{Cover, Effect, IndexDef, build_packet, effects, index_packet};
@@ -18,41 +19,43 @@ use bt_rowtype::{Row, Sequence, Text};
 use std::alloc::{AllocError, Global};
 use std::mem;
 
-/// A secondary index of a table.
+/// What an index of a table is, apart from the tree of its entries.
 #[derive(Drop)]
-pub struct Index {
+pub struct IndexHead {
     pub name: Text,
     pub def: IndexDef,
     /// The keys whose rows it has.
     pub cover: Cover,
-    /// Its entries.
-    pub tree: Tree<Entry>,
 }
 
-/// An index that has no row yet.
-pub fn empty_index(alloc: Global, shape: Shape, name: Text, def: IndexDef) -> Index
-    ensures { result ≡ spec.empty_index shape name def }
+/// An index of a table, to be looked at.
+#[derive(Clone, Copy)]
+pub struct IndexRef<'a> {
+    pub head: &'a IndexHead,
+    /// Its entries.
+    pub tree: &'a Tree<Entry>,
+}
+
+/// Adds an index that has no row yet behind the others. An `Err` changes none.
+pub fn add_index(
+    alloc: Global,
+    heads: &mut Vec<IndexHead>,
+    entries: &mut Vec<Tree<Entry>>,
+    shape: Shape,
+    name: Text,
+    def: IndexDef,
+) -> Result<(), AllocError>
+    ensures heads { heads.new.items ≡ (if is_ok result then heads.old.items ++ empty_head name def ∷ [] else heads.old.items) }
+    ensures entries { entries.new.items ≡ (if is_ok result then entries.old.items ++ (shape, leaf []) ∷ [] else entries.old.items) }
 {
-    Index {
+    heads.reserve(1)?;
+    entries.push(Tree::empty(alloc, shape))?;
+    heads.push_reserved(IndexHead {
         name,
         def,
         cover: Cover::Nothing,
-        tree: Tree::empty(alloc, shape),
-    }
-}
-
-/// The name of an index that is let go.
-pub fn into_name(index: Index) -> Text
-    ensures { result ≡ index.name }
-{
-    let Index {
-        name,
-        def,
-        cover,
-        tree,
-    } = index;
-    drop((def, cover, tree));
-    name
+    });
+    Ok(())
 }
 
 /// Whether an index with this cover is complete: it has each row.
@@ -63,11 +66,11 @@ pub fn is_whole(cover: &Cover) -> bool
 }
 
 /// Whether all indexes are.
-pub fn are_complete(indexes: &[Index]) -> bool
-    ensures { result ≡ list_all spec.is_complete indexes.now }
+pub fn are_complete(heads: &[IndexHead]) -> bool
+    ensures { result ≡ list_all covers_all heads.now }
 {
-    for index in indexes {
-        if !is_whole(&index.cover) {
+    for head in heads {
+        if !is_whole(&head.cover) {
             return false;
         }
     }
@@ -75,15 +78,22 @@ pub fn are_complete(indexes: &[Index]) -> bool
 }
 
 /// The index of this name, and its place, counted from 0.
-pub fn find_index<'a>(indexes: &'a [Index], name: &Text) -> Option<(usize, &'a Index)>
-    ensures found { option_map (λ f. (f.0, f.1.now)) result ≡ spec.index_named name.now indexes.now }
-    ensures within { IfSome result (λ f. f.0 < length indexes.now) }
-    ensures there { IfSome result (λ f. slice_get indexes.now f.0 ≡ Some f.1.now) }
-    ensures name { IfSome result (λ f. f.1.now.name ≡ name.now) }
+pub fn find_index<'a>(
+    heads: &'a [IndexHead],
+    entries: &'a [Tree<Entry>],
+    name: &Text,
+) -> Option<(usize, IndexRef<'a>)>
+    requires { length entries.now ≡ length heads.now }
+    ensures found { option_map (λ f. (f.0, index_of_ref f.1)) result ≡ spec.index_named name.now (indexes_of heads.now entries.now) }
+    ensures within { IfSome result (λ f. f.0 < length heads.now) }
+    ensures head { IfSome result (λ f. slice_get heads.now f.0 ≡ Some f.1.head.now) }
+    ensures tree { IfSome result (λ f. slice_get entries.now f.0 ≡ Some f.1.tree.now) }
+    ensures name { IfSome result (λ f. f.1.head.now.name ≡ name.now) }
 {
-    for (place, index) in indexes.iter().enumerate() {
-        if index.name.as_bytes() == name.as_bytes() {
-            return Some((place, index));
+    for (place, head) in heads.iter().enumerate() {
+        let tree = &entries[place];
+        if head.name.as_bytes() == name.as_bytes() {
+            return Some((place, IndexRef { head, tree }));
         }
     }
     None
@@ -96,30 +106,30 @@ pub struct FanOut {
 }
 
 // What effects on rows send to indexes.
-fn packets_for(alloc: Global, indexes: &[Index], effects: &[Effect]) -> Result<FanOut, AllocError>
-    requires { All (λ index. All (SuitsEffect index.def) effects.now) indexes.now }
-    ensures packets { IfOk result (λ out. out.packets.items ≡ map (packet_for effects.now) indexes.now) }
-    ensures sent { IfOk result (λ out. out.sent ≡ map (λ index. spec.sent_count index (packet_for effects.now index)) indexes.now) }
+fn packets_for(alloc: Global, heads: &[IndexHead], effects: &[Effect]) -> Result<FanOut, AllocError>
+    requires { All (λ head. All (SuitsEffect head.def) effects.now) heads.now }
+    ensures packets { IfOk result (λ out. out.packets.items ≡ map (packet_for effects.now) heads.now) }
+    ensures sent { IfOk result (λ out. out.sent ≡ map (sent_for effects.now) heads.now) }
 {
     let mut packets = Vec::new(alloc);
     let mut sent = Sequence::new(alloc);
-    for index in indexes {
+    for head in heads {
         packets.reserve(1)?;
-        let packet = index_packet(alloc, &index.def, &index.cover, effects)?;
+        let packet = index_packet(alloc, &head.def, &head.cover, effects)?;
         let count = packet.len();
         packets.push_reserved(packet);
-        let name = index.name.copy(alloc)?;
+        let name = head.name.copy(alloc)?;
         sent.push(SentCount { name, count })?;
     }
     Ok(FanOut { packets, sent })
 }
 
 // Whether no index covers a key yet.
-fn cover_nothing(indexes: &[Index]) -> bool
-    ensures { result ≡ list_all spec.covers_nothing indexes.now }
+fn cover_nothing(heads: &[IndexHead]) -> bool
+    ensures { result ≡ list_all covers_nothing heads.now }
 {
-    for index in indexes {
-        if !matches!(index.cover, Cover::Nothing) {
+    for head in heads {
+        if !matches!(head.cover, Cover::Nothing) {
             return false;
         }
     }
@@ -131,152 +141,73 @@ pub fn fan_out(
     alloc: Global,
     tree: &Tree<Row>,
     packet: &Packet<Row>,
-    indexes: &[Index],
+    heads: &[IndexHead],
 ) -> Result<FanOut, AllocError>
-    requires { All (λ index. All (SuitsEffect index.def) (effects_of packet.now (holds row_effect tree.now.1))) indexes.now }
-    ensures packets { IfOk result (λ out. out.packets.items ≡ map (packet_for (effects_of packet.now (holds row_effect tree.now.1))) indexes.now) }
-    ensures sent { IfOk result (λ out. out.sent ≡ map (λ index. spec.sent_count index (packet_for (effects_of packet.now (holds row_effect tree.now.1)) index)) indexes.now) }
+    requires { All (λ head. All (SuitsEffect head.def) (effects_of packet.now (holds row_effect tree.now.1))) heads.now }
+    ensures packets { IfOk result (λ out. out.packets.items ≡ map (packet_for (effects_of packet.now (holds row_effect tree.now.1))) heads.now) }
+    ensures sent { IfOk result (λ out. out.sent ≡ map (sent_for (effects_of packet.now (holds row_effect tree.now.1))) heads.now) }
 {
-    if cover_nothing(indexes) {
-        return packets_for(alloc, indexes, &[]);
+    if cover_nothing(heads) {
+        return packets_for(alloc, heads, &[]);
     }
     let effects = effects(alloc, tree, packet)?;
-    packets_for(alloc, indexes, effects.as_slice())
+    packets_for(alloc, heads, effects.as_slice())
 }
 
-// An index after a packet.
-fn sink(alloc: Global, index: Index, packet: Packet<Entry>) -> Result<Index, AllocError>
-    ensures { IfOk result (λ after. after ≡ spec.sunk_index index packet) }
+/// Takes out the tree at a place, and leaves an empty one there.
+pub fn take_tree(alloc: Global, entries: &mut Vec<Tree<Entry>>, place: usize) -> Tree<Entry>
+    requires { place < length entries.old.items }
+    ensures taken { slice_get entries.old.items place ≡ Some result }
+    ensures empty { entries.new.items ≡ set entries.old.items place (result.0, leaf []) }
 {
-    let Index {
-        name,
-        def,
-        cover,
-        tree,
-    } = index;
-    let tree = tree.sink(alloc, packet)?;
-    Ok(Index {
-        name,
-        def,
-        cover,
-        tree,
-    })
+    let empty = Tree::empty(alloc, entries[place].shape());
+    mem::replace(&mut entries[place], empty)
 }
 
-/// Indexes, each after its packet.
-pub fn sink_all(
-    alloc: Global,
-    indexes: Vec<Index>,
-    packets: Vec<Packet<Entry>>,
-) -> Result<Vec<Index>, AllocError>
-    requires { length packets.items ≡ length indexes.items }
-    ensures { IfOk result (λ after. after.items ≡ sunk_indexes indexes.items packets.items) }
+/// Puts a tree in the place of another one.
+pub fn put_tree(entries: &mut Vec<Tree<Entry>>, place: usize, tree: Tree<Entry>)
+    requires { place < length entries.old.items }
+    ensures { entries.new.items ≡ set entries.old.items place tree }
 {
-    let mut after = Vec::with_capacity(alloc, indexes.len())?;
-    let mut packets = packets.into_iter();
-    for index in indexes {
-        let Some(packet) = packets.next() else {
-            unreachable!()
-        };
-        after.push(sink(alloc, index, packet)?)?;
-    }
-    Ok(after)
+    drop(mem::replace(&mut entries[place], tree));
 }
 
-/// Puts another tree in the place of that of an index.
-pub fn put_tree(indexes: &mut Vec<Index>, place: usize, tree: Tree<Entry>)
-    requires { place < length indexes.old.items }
-    ensures { IfSome (slice_get indexes.old.items place) (λ index. indexes.new.items ≡ set indexes.old.items place (spec.with_tree index tree)) }
+/// Has the index at a place cover other keys.
+pub fn put_cover(heads: &mut Vec<IndexHead>, place: usize, cover: Cover)
+    requires { place < length heads.old.items }
+    ensures { IfSome (slice_get heads.old.items place) (λ head. heads.new.items ≡ set heads.old.items place (with_cover head cover)) }
 {
-    drop(mem::replace(&mut indexes[place].tree, tree));
-}
-
-// Flushes every buffer of the tree of an index. An `Err` leaves it with an empty tree.
-fn drain_index(alloc: Global, index: &mut Index) -> Result<(), AllocError>
-    ensures { OnOk result (index.new ≡ spec.with_tree index.old (index.old.tree.0, drained entry_effect index.old.tree.0 index.old.tree.1)) }
-{
-    let empty = Tree::empty(alloc, index.tree.shape());
-    let tree = mem::replace(&mut index.tree, empty);
-    index.tree = tree.drain(alloc)?;
-    Ok(())
-}
-
-/// Flushes every buffer of the tree of the index at a place. An `Err` leaves it with an empty tree.
-pub fn drain_tree(alloc: Global, indexes: &mut Vec<Index>, place: usize) -> Result<(), AllocError>
-    requires { place < length indexes.old.items }
-    ensures { OnOk result (IfSome (slice_get indexes.old.items place) (λ index. indexes.new.items ≡ set indexes.old.items place (spec.with_tree index (index.tree.0, drained entry_effect index.tree.0 index.tree.1)))) }
-{
-    drain_index(alloc, &mut indexes[place])
-}
-
-// Sends an index a packet of its building, after which it has more rows. An `Err` leaves it with an empty tree.
-fn advance(
-    alloc: Global,
-    index: &mut Index,
-    packet: Packet<Entry>,
-    cover: Cover,
-) -> Result<(), AllocError>
-    ensures { OnOk result (index.new ≡ spec.advanced index.old packet cover) }
-{
-    let empty = Tree::empty(alloc, index.tree.shape());
-    let tree = mem::replace(&mut index.tree, empty);
-    index.tree = tree.sink(alloc, packet)?;
-    index.cover = cover;
-    Ok(())
-}
-
-/// Sends the index at a place a packet of its building, after which it has more rows. An `Err` leaves it with an empty tree.
-pub fn advance_index(
-    alloc: Global,
-    indexes: &mut Vec<Index>,
-    place: usize,
-    packet: Packet<Entry>,
-    cover: Cover,
-) -> Result<(), AllocError>
-    requires { place < length indexes.old.items }
-    ensures { OnOk result (IfSome (slice_get indexes.old.items place) (λ index. indexes.new.items ≡ set indexes.old.items place (spec.advanced index packet cover))) }
-{
-    advance(alloc, &mut indexes[place], packet, cover)
+    drop(mem::replace(&mut heads[place].cover, cover));
 }
 
 // A tree of the entries of rows for an index.
 fn packed_entries(
     alloc: Global,
-    index: &Index,
+    shape: Shape,
+    def: &IndexDef,
     rows: &[(Key, Row)],
 ) -> Result<Tree<Entry>, AllocError>
-    requires { All (λ row. IsWithin index.now.def (length row.1)) rows.now }
-    ensures { IfOk result (λ tree. tree ≡ entry_tree rows.now index.now) }
+    requires { All (λ row. IsWithin def.now (length row.1)) rows.now }
+    ensures { IfOk result (λ tree. tree ≡ entry_tree shape rows.now def.now) }
 {
-    let packet = build_packet(alloc, &index.def, rows)?;
-    Tree::empty(alloc, index.tree.shape()).sink(alloc, packet)
+    let packet = build_packet(alloc, def, rows)?;
+    Tree::empty(alloc, shape).sink(alloc, packet)
 }
 
-/// For each index a tree of the entries of rows, beside its own.
+/// For each index a tree of the entries of rows.
 pub fn pack_entries(
     alloc: Global,
-    indexes: &[Index],
+    shape: Shape,
+    heads: &[IndexHead],
     rows: &[(Key, Row)],
 ) -> Result<Vec<Tree<Entry>>, AllocError>
-    requires { All (λ index. All (λ row. IsWithin index.def (length row.1)) rows.now) indexes.now }
-    ensures { IfOk result (λ trees. trees.items ≡ map (entry_tree rows.now) indexes.now) }
+    requires { All (λ head. All (λ row. IsWithin head.def (length row.1)) rows.now) heads.now }
+    ensures { IfOk result (λ entries. entries.items ≡ map (λ head. entry_tree shape rows.now head.def) heads.now) }
 {
-    let mut trees = Vec::new(alloc);
-    for index in indexes {
-        trees.reserve(1)?;
-        trees.push_reserved(packed_entries(alloc, index, rows)?);
+    let mut entries = Vec::new(alloc);
+    for head in heads {
+        entries.reserve(1)?;
+        entries.push_reserved(packed_entries(alloc, shape, &head.def, rows)?);
     }
-    Ok(trees)
-}
-
-/// Puts other trees in the places of those of indexes, one for each. Takes no memory.
-pub fn put_trees(indexes: &mut Vec<Index>, trees: Vec<Tree<Entry>>)
-    requires { length trees.items ≡ length indexes.old.items }
-    ensures { indexes.new.items ≡ with_trees indexes.old.items trees.items }
-{
-    let mut place = 0;
-    for tree in trees {
-        put_tree(indexes, place, tree);
-        place += 1;
-    }
+    Ok(entries)
 }

@@ -8,10 +8,13 @@
 //!
 //! ```text
 //! let mut table = Table::new(alloc, schema, shape);
-//! let reply = table.apply(alloc, items)?;                      // Reply::Batch { count: 3, .. }
-//! let reply = table.create_index(alloc, name, def)?;           // Reply::Created(name)
-//! let reply = table.build_step(alloc, &name, 1_000)?;          // Reply::Built { read: 3, complete: true, .. }
+//! let crew = Crew::new(4, 2, 64, NoGate)?;
+//! let reply = table.apply(&rt, alloc, items, &crew)?;                 // Reply::Batch { count: 3, .. }
+//! let reply = table.create_index(alloc, name, def)?;                  // Reply::Created(name)
+//! let reply = table.build_step(&rt, alloc, &name, 1_000, &crew)?;     // Reply::Built { read: 3, complete: true, .. }
 //! ```
+//!
+//! Who works is a [`Workforce`]: the caller [`Alone`], who starts no thread, or a crew. Each call has the same clauses for both.
 //!
 //! `specs` has the definitions: `Tables` what a table is and what a batch leaves of it, `Batches` which messages records spell and why they are
 //! refused, `Calls` the step of each call, `Standing` what is true of a table between any two calls.
@@ -21,8 +24,11 @@ mod batch;
 mod index;
 mod reply;
 mod table;
+mod trees;
+mod workforce;
 
 pub use batch::MOST_MESSAGES;
-pub use index::Index;
+pub use index::{IndexHead, IndexRef};
 pub use reply::{Reply, SentCount};
 pub use table::{MOST_INDEXES, Table, TreeRef};
+pub use workforce::{Alone, Workforce};

@@ -1,24 +1,26 @@
 //! Tables and their calls.
 #![tactic(auto, using(crate::proofs::offered::Steps::unless_lost_hold))]
 
-ghost use Rattle.std.specs.Prelude.{◌≡◌, ◌<◌, Err, IfErr, IfNone, IfOk, IfSome, IsErrOf, None, OnErr, OnOk, Some, false, length, slice_get, true};
+ghost use Rattle.std.specs.Prelude.{◌≡◌, ◌<◌, Err, IfErr, IfNone, IfOk, IfSome, IsErrOf, IsSome, None, OnErr, OnOk, Some, false, length, slice_get, true};
 ghost use Rattle.bt_rowtype.specs.Refusals.{least};
 ghost use Rattle.bt_table.specs.Calls as spec;
-ghost use Rattle.bt_table.specs.Indexes.{index_named};
+ghost use Rattle.bt_table.specs.Indexes.{index_named, index_of_ref, indexes_of};
 ghost use Rattle.bt_table.specs.Calls.{Apply, CreateIndex, Drain, DropIndex, Get, Load, Rebuild, IsCertain, IsRefused, IsStep, Shows, StaysOrIsLost, index_refusals, is_primary, step, tree_named};
 ghost use Rattle.bt_table.specs.Standing.{CompleteIndexesHold, HasSchema, IsSoundUnlessLost, Suits};
 ghost use Rattle.bt_table.specs.Tables.{Intact, Lost, empty_table};
 
 use crate::batch::read_messages;
 use crate::index::{
-    FanOut, Index, advance_index, are_complete, drain_tree, empty_index, fan_out, find_index,
-    into_name, is_whole, pack_entries, put_tree, put_trees, sink_all,
+    FanOut, IndexHead, IndexRef, add_index, are_complete, fan_out, find_index, is_whole,
+    pack_entries, put_cover, put_tree, take_tree,
 };
 use crate::reply::Reply;
+use crate::trees::{Room, Trees, put_trees, sunk_all, sunk_one, take_trees};
+use crate::workforce::Workforce;
 use bt_fanout::{BuildStep, IndexDef, build_step};
 use bt_keycode::encode_row;
-use bt_load::{load_rows, read_records};
-use bt_messages::Packet;
+use bt_load::{InThreads, Loading, load_rows_by, read_records_by};
+use bt_messages::{Entry, Packet};
 use bt_node::{Shape, Tree, pack};
 use bt_rowtype::{Item, RecordLine, RecordReader, Refusal, Row, Schema, Text};
 use std::alloc::Global;
@@ -28,25 +30,19 @@ use std::thread::Threads;
 /// The most indexes of a table.
 pub const MOST_INDEXES: usize = 8;
 
-// The trees of a table.
-#[derive(Drop)]
-struct Trees {
-    rows: Tree<Row>,
-    // in order of creation
-    indexes: Vec<Index>,
-}
-
 /// Rows of a schema in a tree, under the codes of their keys, and secondary indexes of them; or no trees, once they were lost when
 /// memory was wanting.
 #[derive(Drop)]
 pub struct Table {
     schema: Schema,
+    // what the indexes are, in order of creation
+    heads: Vec<IndexHead>,
     trees: Option<Trees>,
 }
 
 impl Model for Table {
-    ghost use Rattle.bt_table.specs.Standing.{IsSoundUnlessLost};
     ghost use Rattle.bt_table.specs.Tables.{TableState, state_of};
+    ghost use Rattle.bt_table.specs.inside.Parts.{AreSoundParts};
     ghost use Rattle.std.specs.Coded.{codes};
     ghost use Rattle.bt_node.specs.inside.Stored.{message_code, tree_code};
 
@@ -54,9 +50,9 @@ impl Model for Table {
 
     ghost coded = { Prim.hlevel (codes, tree_code, message_code) };
 
-    ghost view = { λ a. state_of a.schema a.trees };
+    ghost view = { λ a. state_of a.schema a.heads.items a.trees };
 
-    ghost invariant = { λ a. IsSoundUnlessLost (state_of a.schema a.trees) };
+    ghost invariant = { λ a. AreSoundParts a.schema a.heads.items a.trees };
 }
 
 /// A tree of a table, to be looked at.
@@ -70,7 +66,7 @@ pub enum TreeRef<'a> {
     /// An index.
     Index {
         schema: &'a Schema,
-        index: &'a Index,
+        index: IndexRef<'a>,
     },
 }
 
@@ -81,16 +77,22 @@ fn is_name_of_rows(name: &Text) -> bool
 }
 
 // Which tree has a name: that of the rows, or that of an index, with its place.
-fn find_tree<'a>(indexes: &'a [Index], name: &Text) -> Result<Option<(usize, &'a Index)>, Refusal>
+fn find_tree<'a>(
+    heads: &'a [IndexHead],
+    entries: &'a [Tree<Entry>],
+    name: &Text,
+) -> Result<Option<(usize, IndexRef<'a>)>, Refusal>
+    requires { length entries.now ≡ length heads.now }
     ensures rows { IfOk result (λ found. IfNone found (is_primary name.now ≡ true)) }
-    ensures index { IfOk result (λ found. IfSome found (λ f. (is_primary name.now ≡ false) × (index_named name.now indexes.now ≡ Some (f.0, f.1.now)))) }
-    ensures there { IfOk result (λ found. IfSome found (λ f. (f.0 < length indexes.now) × (slice_get indexes.now f.0 ≡ Some f.1.now))) }
-    ensures none { IfErr result (λ refusal. (refusal ≡ Refusal.NoSuchTree) × (is_primary name.now ≡ false) × (index_named name.now indexes.now ≡ None)) }
+    ensures index { IfOk result (λ found. IfSome found (λ f. (is_primary name.now ≡ false) × (index_named name.now (indexes_of heads.now entries.now) ≡ Some (f.0, index_of_ref f.1)))) }
+    ensures there { IfOk result (λ found. IfSome found (λ f. (slice_get heads.now f.0 ≡ Some f.1.head.now) × (slice_get entries.now f.0 ≡ Some f.1.tree.now))) }
+    ensures within { IfOk result (λ found. IfSome found (λ f. f.0 < length heads.now)) }
+    ensures none { IfErr result (λ refusal. (refusal ≡ Refusal.NoSuchTree) × (is_primary name.now ≡ false) × (index_named name.now (indexes_of heads.now entries.now) ≡ None)) }
 {
     if is_name_of_rows(name) {
         return Ok(None);
     }
-    match find_index(indexes, name) {
+    match find_index(heads, entries, name) {
         Some(found) => Ok(Some(found)),
         None => Err(Refusal::NoSuchTree),
     }
@@ -103,15 +105,16 @@ fn is_bare(tree: &Tree<Row>) -> bool
     root.is_leaf() && root.row_count() == 0
 }
 
-// Whether rows can be loaded into a table with these trees.
-fn check_load(indexes: &[Index], tree: &Tree<Row>) -> Result<(), Refusal>
-    ensures free { OnOk result (least (spec.load_refusals indexes.now tree.now.1) ≡ None) }
-    ensures refused { IfErr result (λ refusal. least (spec.load_refusals indexes.now tree.now.1) ≡ Some refusal) }
+// Whether rows can be loaded into a table with these indexes and trees.
+fn check_load(heads: &[IndexHead], trees: &Trees) -> Result<(), Refusal>
+    requires { length trees.now.entries.items ≡ length heads.now }
+    ensures free { OnOk result (least (spec.load_refusals (indexes_of heads.now trees.now.entries.items) trees.now.rows.1) ≡ None) }
+    ensures refused { IfErr result (λ refusal. least (spec.load_refusals (indexes_of heads.now trees.now.entries.items) trees.now.rows.1) ≡ Some refusal) }
 {
-    if !are_complete(indexes) {
+    if !are_complete(heads) {
         return Err(Refusal::Building);
     }
-    if !is_bare(tree) {
+    if !is_bare(&trees.rows) {
         return Err(Refusal::NotEmpty);
     }
     Ok(())
@@ -136,10 +139,11 @@ impl Table {
         // An empty tree fits its shape, which a walk says of every tree; and the key columns of a schema are columns of it.
         let _root = rows.walk();
         let _keys = schema.keys();
-        let indexes = Vec::new(alloc);
+        let entries = Vec::new(alloc);
         Table {
             schema,
-            trees: Some(Trees { rows, indexes }),
+            heads: Vec::new(alloc),
+            trees: Some(Trees { rows, entries }),
         }
     }
 
@@ -158,7 +162,14 @@ impl Table {
 
     /// Applies the messages of a batch in order, to the rows and to each index, and answers their numbers. A lost table answers `Failed`; else
     /// the least refusal that applies is answered, and the table is as it was. After `OutOfMemory` it is as it was, or lost.
-    pub fn apply(&mut self, alloc: Global, items: &[Item<'_>]) -> Result<Reply, Refusal>
+    pub fn apply<T, W: Workforce<T>>(
+        &mut self,
+        rt: &T,
+        alloc: Global,
+        items: &[Item<'_>],
+        crew: &W,
+    ) -> Result<Reply, Refusal>
+        requires ready { W.accepts crew.now }
         ensures done { IfOk result (IsStep self.old self.new (Apply items.now)) }
         ensures refused { IfErr result (IsRefused self.old self.new (Apply items.now)) }
         ensures memory { IsErrOf result Refusal.OutOfMemory → StaysOrIsLost self.old self.new }
@@ -172,18 +183,11 @@ impl Table {
         };
         let batch = read_messages(alloc, &self.schema, items)?;
         let packet = Packet::from_batch(alloc, batch)?;
-        let FanOut { packets, sent } = fan_out(
-            alloc,
-            &trees.rows,
-            &packet,
-            trees.indexes.as_slice(),
-        )?;
-        let Some(Trees { rows, indexes }) = self.trees.take() else {
-            return Err(Refusal::Failed);
-        };
-        let rows = rows.sink(alloc, packet)?;
-        let indexes = sink_all(alloc, indexes, packets)?;
-        drop(self.trees.replace(Trees { rows, indexes }));
+        let FanOut { packets, sent } = fan_out(alloc, &trees.rows, &packet, self.heads.as_slice())?;
+        let room = Room::new(alloc, 1, packets.len())?;
+        let trees = take_trees(&mut self.trees);
+        let after = sunk_all(rt, alloc, crew, room, trees, packet, packets)?;
+        put_trees(&mut self.trees, after);
         self.soundness();
         Ok(Reply::Batch {
             count: items.len(),
@@ -202,10 +206,11 @@ impl Table {
         let Some(trees) = &self.trees else {
             return Err(Refusal::Failed);
         };
-        if is_name_of_rows(name) || find_index(trees.indexes.as_slice(), name).is_some() {
+        let found = find_index(self.heads.as_slice(), trees.entries.as_slice(), name);
+        if is_name_of_rows(name) || found.is_some() {
             return Err(Refusal::NameTaken);
         }
-        if trees.indexes.len() >= MOST_INDEXES {
+        if self.heads.len() >= MOST_INDEXES {
             return Err(Refusal::TooMany);
         }
         Ok(())
@@ -235,22 +240,27 @@ impl Table {
             drop((name, def));
             return Err(Refusal::OutOfMemory);
         };
-        let Some(Trees { rows, mut indexes }) = self.trees.take() else {
-            drop((name, def));
-            return Err(Refusal::Failed);
-        };
-        let index = empty_index(alloc, rows.shape(), name, def);
-        let pushed = indexes.push(index);
-        drop(self.trees.replace(Trees { rows, indexes }));
+        let Trees { rows, mut entries } = take_trees(&mut self.trees);
+        let shape = rows.shape();
+        let added = add_index(alloc, &mut self.heads, &mut entries, shape, name, def);
+        put_trees(&mut self.trees, Trees { rows, entries });
         self.soundness();
-        pushed?;
+        added?;
         Ok(Reply::Created(created))
     }
 
     /// One step of building an index: it reads the first `count` rows that the index doesn't cover, or all where they are fewer, and sends it their
     /// entries; from then on the index covers these rows too, and batches on them. Where they were fewer it is complete. `NoSuchTree` where there is none
     /// of this name, `AlreadyComplete` where it is complete. After `OutOfMemory` the table is as it was, or lost.
-    pub fn build_step(&mut self, alloc: Global, name: &Text, count: usize) -> Result<Reply, Refusal>
+    pub fn build_step<T, W: Workforce<T>>(
+        &mut self,
+        rt: &T,
+        alloc: Global,
+        name: &Text,
+        count: usize,
+        crew: &W,
+    ) -> Result<Reply, Refusal>
+        requires ready { W.accepts crew.now }
         ensures done { IfOk result (IsStep self.old self.new (spec.BuildStep name.now count)) }
         ensures refused { IfErr result (IsRefused self.old self.new (spec.BuildStep name.now count)) }
         ensures certain { IsCertain self.old (spec.BuildStep name.now count) result }
@@ -262,10 +272,12 @@ impl Table {
         let Some(trees) = &self.trees else {
             return Err(Refusal::Failed);
         };
-        let Some((place, index)) = find_index(trees.indexes.as_slice(), name) else {
+        let Some((place, index)) = find_index(self.heads.as_slice(), trees.entries.as_slice(), name)
+        else {
             return Err(Refusal::NoSuchTree);
         };
-        if is_whole(&index.cover) {
+        let head = index.head;
+        if is_whole(&head.cover) {
             return Err(Refusal::AlreadyComplete);
         }
         let name = name.copy(alloc)?;
@@ -273,16 +285,15 @@ impl Table {
             packet,
             cover,
             read,
-        } = build_step(alloc, &index.def, &index.cover, &trees.rows, count)?;
+        } = build_step(alloc, &head.def, &head.cover, &trees.rows, count)?;
         let complete = is_whole(&cover);
-        let Some(Trees { rows, mut indexes }) = self.trees.take() else {
-            return Err(Refusal::Failed);
-        };
-        let Ok(()) = advance_index(alloc, &mut indexes, place, packet, cover) else {
-            drop(rows);
-            return Err(Refusal::OutOfMemory);
-        };
-        drop(self.trees.replace(Trees { rows, indexes }));
+        let room = Room::new(alloc, 0, 1)?;
+        let Trees { rows, mut entries } = take_trees(&mut self.trees);
+        let taken = take_tree(alloc, &mut entries, place);
+        let tree = sunk_one(rt, alloc, crew, room, taken, packet)?;
+        put_tree(&mut entries, place, tree);
+        put_cover(&mut self.heads, place, cover);
+        put_trees(&mut self.trees, Trees { rows, entries });
         self.soundness();
         Ok(Reply::Built {
             name,
@@ -301,16 +312,20 @@ impl Table {
         let Some(trees) = &self.trees else {
             return Err(Refusal::Failed);
         };
-        let Some((place, _index)) = find_index(trees.indexes.as_slice(), name) else {
+        let Some((place, _index)) = find_index(
+            self.heads.as_slice(),
+            trees.entries.as_slice(),
+            name,
+        ) else {
             return Err(Refusal::NoSuchTree);
         };
-        let Some(Trees { rows, mut indexes }) = self.trees.take() else {
-            return Err(Refusal::Failed);
-        };
-        let dropped = into_name(indexes.remove(place));
-        drop(self.trees.replace(Trees { rows, indexes }));
+        let Trees { rows, mut entries } = take_trees(&mut self.trees);
+        drop(entries.remove(place));
+        put_trees(&mut self.trees, Trees { rows, entries });
+        let IndexHead { name, def, cover } = self.heads.remove(place);
+        drop((def, cover));
         self.soundness();
-        Ok(Reply::Dropped(dropped))
+        Ok(Reply::Dropped(name))
     }
 
     /// Takes the rows of a CSV text, under a header with the names of the columns in order, as those of a table that has none, and for each index their
@@ -332,33 +347,54 @@ impl Table {
         ensures complete { CompleteIndexesHold self.new }
         ensures sound { IsSoundUnlessLost self.new }
     {
+        self.load_by(&InThreads { rt }, alloc, text)
+    }
+
+    /// As [`Table::load`], in threads or alone.
+    pub fn load_by<L: Loading>(
+        &mut self,
+        loading: &L,
+        alloc: Global,
+        text: &[u8],
+    ) -> Result<Reply, Refusal>
+        requires ready { L.accepts loading.now }
+        ensures done { IfOk result (IsStep self.old self.new (Load text.now)) }
+        ensures refused { IfErr result (IsRefused self.old self.new (Load text.now)) }
+        ensures unchanged { OnErr result (self.new ≡ self.old) }
+        ensures failed { self.old ≡ Lost → IsErrOf result Refusal.Failed }
+        ensures complete { CompleteIndexesHold self.new }
+        ensures sound { IsSoundUnlessLost self.new }
+    {
         let Some(trees) = &self.trees else {
             return Err(Refusal::Failed);
         };
-        let rows = read_records(rt, alloc, text, &self.schema)?;
-        check_load(trees.indexes.as_slice(), &trees.rows)?;
-        let pairs = load_rows(rt, alloc, rows, &self.schema)?;
+        let rows = read_records_by(loading, alloc, text, &self.schema)?;
+        check_load(self.heads.as_slice(), trees)?;
+        let pairs = load_rows_by(loading, alloc, rows, &self.schema)?;
         let count = pairs.len();
-        let entries = pack_entries(alloc, trees.indexes.as_slice(), pairs.as_slice())?;
-        let loaded = pack(alloc, trees.rows.shape(), pairs)?;
-        let Some(Trees { rows, mut indexes }) = self.trees.take() else {
-            drop(loaded);
-            return Err(Refusal::Failed);
-        };
-        drop(rows);
-        put_trees(&mut indexes, entries);
-        drop(
-            self.trees.replace(Trees {
+        let shape = trees.rows.shape();
+        let entries = pack_entries(alloc, shape, self.heads.as_slice(), pairs.as_slice())?;
+        let loaded = pack(alloc, shape, pairs)?;
+        put_trees(
+            &mut self.trees,
+            Trees {
                 rows: loaded,
-                indexes,
-            }),
+                entries,
+            },
         );
         self.soundness();
         Ok(Reply::Loaded(count))
     }
 
     /// Flushes every buffer of the tree of a name. `NoSuchTree` where there is none. After `OutOfMemory` the table is as it was, or lost.
-    pub fn drain(&mut self, alloc: Global, name: &Text) -> Result<Reply, Refusal>
+    pub fn drain<T, W: Workforce<T>>(
+        &mut self,
+        rt: &T,
+        alloc: Global,
+        name: &Text,
+        crew: &W,
+    ) -> Result<Reply, Refusal>
+        requires ready { W.accepts crew.now }
         ensures done { IfOk result (IsStep self.old self.new (Drain name.now)) }
         ensures refused { IfErr result (IsRefused self.old self.new (Drain name.now)) }
         ensures certain { IsCertain self.old (Drain name.now) result }
@@ -370,25 +406,20 @@ impl Table {
         let Some(trees) = &self.trees else {
             return Err(Refusal::Failed);
         };
-        let found = find_tree(trees.indexes.as_slice(), name)?;
+        let found = find_tree(self.heads.as_slice(), trees.entries.as_slice(), name)?;
         let drained = name.copy(alloc)?;
         match found {
             None => {
-                let Some(Trees { rows, indexes }) = self.trees.take() else {
-                    return Err(Refusal::Failed);
-                };
-                let rows = rows.drain(alloc)?;
-                drop(self.trees.replace(Trees { rows, indexes }));
+                let Trees { rows, entries } = take_trees(&mut self.trees);
+                let rows = crew.drain_rows(rt, alloc, rows)?;
+                put_trees(&mut self.trees, Trees { rows, entries });
             }
             Some((place, _index)) => {
-                let Some(Trees { rows, mut indexes }) = self.trees.take() else {
-                    return Err(Refusal::Failed);
-                };
-                let Ok(()) = drain_tree(alloc, &mut indexes, place) else {
-                    drop(rows);
-                    return Err(Refusal::OutOfMemory);
-                };
-                drop(self.trees.replace(Trees { rows, indexes }));
+                let Trees { rows, mut entries } = take_trees(&mut self.trees);
+                let taken = take_tree(alloc, &mut entries, place);
+                let tree = crew.drain_entries(rt, alloc, taken)?;
+                put_tree(&mut entries, place, tree);
+                put_trees(&mut self.trees, Trees { rows, entries });
             }
         }
         self.soundness();
@@ -396,7 +427,14 @@ impl Table {
     }
 
     /// Builds the tree of a name anew from what it holds, beside the old one. `NoSuchTree` where there is none. An `Err` changes nothing.
-    pub fn rebuild(&mut self, alloc: Global, name: &Text) -> Result<Reply, Refusal>
+    pub fn rebuild<T, W: Workforce<T>>(
+        &mut self,
+        rt: &T,
+        alloc: Global,
+        name: &Text,
+        crew: &W,
+    ) -> Result<Reply, Refusal>
+        requires ready { W.accepts crew.now }
         ensures done { IfOk result (IsStep self.old self.new (Rebuild name.now)) }
         ensures refused { IfErr result (IsRefused self.old self.new (Rebuild name.now)) }
         ensures certain { IsCertain self.old (Rebuild name.now) result }
@@ -408,31 +446,26 @@ impl Table {
         let Some(trees) = &self.trees else {
             return Err(Refusal::Failed);
         };
-        let found = find_tree(trees.indexes.as_slice(), name)?;
+        let found = find_tree(self.heads.as_slice(), trees.entries.as_slice(), name)?;
         let rebuilt = name.copy(alloc)?;
         match found {
             None => {
-                let tree = trees.rows.rebuild(alloc)?;
-                let Some(Trees { rows, indexes }) = self.trees.take() else {
-                    drop(tree);
-                    return Err(Refusal::Failed);
-                };
+                let tree = crew.rebuild_rows(rt, alloc, &trees.rows)?;
+                let Trees { rows, entries } = take_trees(&mut self.trees);
                 drop(rows);
-                drop(
-                    self.trees.replace(Trees {
+                put_trees(
+                    &mut self.trees,
+                    Trees {
                         rows: tree,
-                        indexes,
-                    }),
+                        entries,
+                    },
                 );
             }
             Some((place, index)) => {
-                let tree = index.tree.rebuild(alloc)?;
-                let Some(Trees { rows, mut indexes }) = self.trees.take() else {
-                    drop(tree);
-                    return Err(Refusal::Failed);
-                };
-                put_tree(&mut indexes, place, tree);
-                drop(self.trees.replace(Trees { rows, indexes }));
+                let tree = crew.rebuild_entries(rt, alloc, index.tree)?;
+                let Trees { rows, mut entries } = take_trees(&mut self.trees);
+                put_tree(&mut entries, place, tree);
+                put_trees(&mut self.trees, Trees { rows, entries });
             }
         }
         self.soundness();
@@ -472,7 +505,7 @@ impl Table {
                 tree: &trees.rows,
             });
         }
-        match find_index(trees.indexes.as_slice(), name) {
+        match find_index(self.heads.as_slice(), trees.entries.as_slice(), name) {
             Some((_place, index)) => Ok(TreeRef::Index {
                 schema: &self.schema,
                 index,

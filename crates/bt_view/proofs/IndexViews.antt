@@ -18,7 +18,7 @@ use Rattle.bt_fanout.specs.Selections.{select}
 use Rattle.bt_table.specs.Batches.{and_then, made}
 use Rattle.bt_table.specs.Calls.{Secondary, ShowsIndex}
 use Rattle.bt_table.specs.Tables.{PlainTable}
-use Rattle.bt_table.specs.declared.index.Index.{Index}
+use Rattle.bt_table.specs.Indexes.{Index}
 use Rattle.bt_table.proofs.offered.KeyOrder.{keys_rise}
 use Rattle.bt_view.specs.inside.Entries.{and_entry, index_kinds}
 use Rattle.bt_view.specs.Groups.{groups_of, summed_place, sums_of}

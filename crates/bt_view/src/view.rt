@@ -5,6 +5,7 @@ ghost use Rattle.bt_rowtype.specs.Answers.{Answers};
 ghost use Rattle.bt_node.specs.Flushes.{holds};
 ghost use Rattle.bt_table.specs.Batches.{and_then, made};
 ghost use Rattle.bt_table.specs.Calls.{Secondary, ShowsIndex, tree_named};
+ghost use Rattle.bt_table.specs.Indexes.{index_of_ref};
 ghost use Rattle.bt_table.specs.Tables.{PlainTable};
 ghost use Rattle.bt_rowtype.specs.declared.value.Kind.{Kind};
 ghost use Rattle.bt_fanout.specs.Effects.{entry_effect, row_effect};
@@ -26,7 +27,7 @@ use bt_keycode::{DecodeError, Key, decode};
 use bt_messages::Entry;
 use bt_node::{Tree, Visitor};
 use bt_rowtype::{Kind, RecordLine, Refusal, Row, Schema, Text, find_column};
-use bt_table::{Index, Table, TreeRef};
+use bt_table::{IndexRef, Table, TreeRef};
 use std::alloc::{AllocError, Global};
 use std::marker::Model;
 
@@ -133,13 +134,13 @@ impl<'a, S: Sink<Row>> Visitor<Entry> for EntryRows<'a, S> {
 fn show_entries<S: Sink<Row>>(
     alloc: Global,
     schema: &Schema,
-    index: &Index,
+    index: IndexRef<'_>,
     range: &KeyRange,
     sink: S,
 ) -> Result<S, AllocError>
-    ensures { IfOk result (λ after. after ≡ fold (and_entry S.added (index_kinds schema.now index.now.def)) sink (between range.now.from range.now.to (holds entry_effect index.now.tree.1))) }
+    ensures { IfOk result (λ after. after ≡ fold (and_entry S.added (index_kinds schema.now index.entry.head.now.def)) sink (between range.now.from range.now.to (holds entry_effect index.entry.tree.now.1))) }
 {
-    let kinds = index_kinds(alloc, schema, &index.def)?;
+    let kinds = index_kinds(alloc, schema, &index.head.def)?;
     let mut rows = EntryRows {
         kinds: kinds.as_slice(),
         sink,
@@ -182,15 +183,15 @@ fn read_index_range(
 fn index_range(
     alloc: Global,
     schema: &Schema,
-    index: &Index,
+    index: IndexRef<'_>,
     from: Option<&RecordLine<'_>>,
     to: Option<&RecordLine<'_>>,
 ) -> Result<KeyRange, Refusal>
-    ensures answer { Answers (and_then (spec.when_whole index.now.cover) (spec.range_as (take (spec.index_schema schema.now index.now.def).keys (spec.index_schema schema.now index.now.def).columns) (option_copied from.entry) (option_copied to.entry))) result }
-    ensures unbounded { from.entry ≡ None → to.entry ≡ None → result ≡ spec.when_whole index.now.cover spec.all_keys }
+    ensures answer { Answers (and_then (spec.when_whole index.entry.head.now.cover) (spec.range_as (take (spec.index_schema schema.now index.entry.head.now.def).keys (spec.index_schema schema.now index.entry.head.now.def).columns) (option_copied from.entry) (option_copied to.entry))) result }
+    ensures unbounded { from.entry ≡ None → to.entry ≡ None → result ≡ spec.when_whole index.entry.head.now.cover spec.all_keys }
 {
-    let range = read_index_range(alloc, schema, &index.def, from, to)?;
-    match index.cover {
+    let range = read_index_range(alloc, schema, &index.head.def, from, to)?;
+    match index.head.cover {
         Cover::Whole => Ok(range),
         Cover::Nothing | Cover::UpTo(_) => {
             drop(range);
@@ -203,13 +204,13 @@ fn index_range(
 fn scan_index<S: Sink<Row>>(
     alloc: Global,
     schema: &Schema,
-    index: &Index,
+    index: IndexRef<'_>,
     from: Option<&RecordLine<'_>>,
     to: Option<&RecordLine<'_>>,
     sink: S,
 ) -> Result<S, Refusal>
-    ensures answer { (table : PlainTable) → ShowsIndex table schema.now index.now → Answers (made (fold S.added sink) (spec.scan_of (option_copied from.entry) (option_copied to.entry) (Secondary table index.now))) result }
-    ensures unbounded { (table : PlainTable) → from.entry ≡ None → to.entry ≡ None → IfErr (spec.scan_of None None (Secondary table index.now)) (IsErrOf result) }
+    ensures answer { (table : PlainTable) → ShowsIndex table schema.now (index_of_ref index.entry) → Answers (made (fold S.added sink) (spec.scan_of (option_copied from.entry) (option_copied to.entry) (Secondary table (index_of_ref index.entry)))) result }
+    ensures unbounded { (table : PlainTable) → from.entry ≡ None → to.entry ≡ None → IfErr (spec.scan_of None None (Secondary table (index_of_ref index.entry))) (IsErrOf result) }
 {
     let range = index_range(alloc, schema, index, from, to)?;
     let shown = show_entries(alloc, schema, index, &range, sink);
@@ -263,18 +264,18 @@ fn index_place(
 fn sum_index<S: Sink<Sum>>(
     alloc: Global,
     schema: &Schema,
-    index: &Index,
+    index: IndexRef<'_>,
     grouping: u32,
     column: &Text,
     from: Option<&RecordLine<'_>>,
     to: Option<&RecordLine<'_>>,
     sink: S,
 ) -> Result<S, Refusal>
-    ensures answer { (table : PlainTable) → ShowsIndex table schema.now index.now → Answers (made (fold S.added sink) (groups.sums_of grouping column.now (option_copied from.entry) (option_copied to.entry) (Secondary table index.now))) result }
-    ensures unbounded { (table : PlainTable) → ShowsIndex table schema.now index.now → from.entry ≡ None → to.entry ≡ None → IfErr (groups.sums_of grouping column.now None None (Secondary table index.now)) (λ refusal. refusal ≢ Refusal.TooMany → IsErrOf result refusal) }
+    ensures answer { (table : PlainTable) → ShowsIndex table schema.now (index_of_ref index.entry) → Answers (made (fold S.added sink) (groups.sums_of grouping column.now (option_copied from.entry) (option_copied to.entry) (Secondary table (index_of_ref index.entry)))) result }
+    ensures unbounded { (table : PlainTable) → ShowsIndex table schema.now (index_of_ref index.entry) → from.entry ≡ None → to.entry ≡ None → IfErr (groups.sums_of grouping column.now None None (Secondary table (index_of_ref index.entry))) (λ refusal. refusal ≢ Refusal.TooMany → IsErrOf result refusal) }
 {
     let range = index_range(alloc, schema, index, from, to)?;
-    let place = match index_place(schema, &index.def, grouping, column) {
+    let place = match index_place(schema, &index.head.def, grouping, column) {
         Ok(place) => place,
         Err(refusal) => {
             drop(range);

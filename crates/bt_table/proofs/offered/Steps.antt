@@ -23,12 +23,11 @@ use Rattle.bt_load.specs.Standing.{AreOf}
 use Rattle.bt_table.proofs.Loads.{map_of-sorted, map_of-stand}
 use Rattle.bt_table.specs.Batches.{and_then, batch_refusals, made, messages_of, read_key}
 use Rattle.bt_table.specs.Calls.{after_build, after_load, built, Call, Apply, BuildStep, CreateIndex, Drain, DropIndex, Get, Load, Rebuild, Upkeep, Draining, Rebuilding, dropped, is_bare, is_primary, load_refusals, name_refusals, sent_counts, step, unless_any, with_index, with_renewed, with_renewed_index, with_renewed_rows}
-use Rattle.bt_table.specs.Indexes.{index_named, is_complete}
+use Rattle.bt_table.specs.Indexes.{Index, index_named, is_complete}
 use Rattle.bt_table.specs.Standing.{AreSoundIndexes, CompleteIndexesHold, HoldsSelection, IsSound, IsSoundTable, IsSoundUnlessLost, Suits}
 use Rattle.bt_table.specs.Tables.{PlainTable, TableState, Intact, Lost, after_batch, empty_table}
 use Rattle.bt_table.specs.declared.reply.Reply.{Reply}
 use Rattle.bt_table.specs.declared.reply.Reply.TheVariants.{Batch, Created, Drained, Rebuilt, Row}
-use Rattle.bt_table.specs.declared.index.Index.{Index}
 use Rattle.bt_fanout.proofs.offered.Suiting.{all_more, all_none}
 use Rattle.bt_table.proofs.Indexes.{holds_selection}
 use Rattle.bt_table.proofs.Sound.{batch_keeps_sound, batch_of_schema, none_building, with_built_index-sound, with_index-sound, with_renewed_index-sound, with_renewed_rows-sound, with_rows-sound, without_index-sound}

@@ -1,32 +1,63 @@
--- The trees of the indexes of a table as a batch and a load make them: by the packets that effects on rows mean, and of the entries of all rows.
-use Rattle.std.specs.Prelude.{List, [], ◌∷◌}
+-- What the code knows of the indexes of a table apart from their trees, and the trees of their entries as a batch and a load make them: by the packets that effects on rows mean, and of the entries of all rows.
+use Rattle.std.specs.Prelude.{ℕ, Bool, true, false, List, [], ◌∷◌, length}
 use Rattle.bt_rowtype.specs.declared.value.Value.{Value}
 use Rattle.bt_messages.specs.Effects.{Rows}
 use Rattle.bt_messages.specs.Messages.{Messages, sorted_batch}
 use Rattle.bt_node.specs.Flushes.{sunk}
 use Rattle.bt_node.specs.Trees.{Shape, leaf}
+use Rattle.bt_fanout.specs.Covers.{is_whole}
 use Rattle.bt_fanout.specs.Effects.{EntryMessage, entry_effect, sent_for_all}
+use Rattle.bt_fanout.specs.Entries.{Definition}
 use Rattle.bt_fanout.specs.Promises.{own_puts}
+use Rattle.bt_fanout.specs.declared.cover.Cover.{Cover}
+use Rattle.bt_fanout.specs.declared.cover.Cover.TheVariants.{Nothing, UpTo, Whole}
 use Rattle.bt_fanout.specs.declared.effect.Effect.{Effect}
-use Rattle.bt_table.specs.Indexes.{EntryTree, sunk_index, with_tree}
-use Rattle.bt_table.specs.declared.index.Index.{Index}
+use Rattle.bt_table.specs.Indexes.{EntryTree}
+use Rattle.bt_table.specs.declared.index.IndexHead.{IndexHead}
+use Rattle.bt_table.specs.declared.reply.SentCount.{SentCount}
 
--- the packet that effects on rows mean for an index
-abbrev pub packet_for : List Effect → Index → Messages EntryMessage
-packet_for effects index = sorted_batch (sent_for_all index.def index.cover effects)
+-- ---- covers
 
--- indexes, each after its packet
-abbrev pub sunk_indexes : List Index → List (Messages EntryMessage) → List Index
-sunk_indexes [] packets = []
-sunk_indexes (index ∷ indexes) [] = []
-sunk_indexes (index ∷ indexes) (packet ∷ packets) = sunk_index index packet ∷ sunk_indexes indexes packets
+-- an index that covers no row
+abbrev pub empty_head : List ℕ → Definition → IndexHead
+empty_head name def = record { name = name; def = def; cover = Nothing }
 
--- a tree of the entries of rows for an index: they go as puts to an empty one
-abbrev pub entry_tree : Rows (List Value) → Index → Shape × EntryTree
-entry_tree rows index = (index.tree.0, sunk entry_effect index.tree.0 (leaf []) (sorted_batch (own_puts index.def rows)))
+-- an index that covers other rows
+abbrev pub with_cover : IndexHead → Cover → IndexHead
+with_cover head cover = record head { cover = cover }
 
--- indexes, each with one of these trees; those for which there is none as they are
-abbrev pub with_trees : List Index → List (Shape × EntryTree) → List Index
-with_trees indexes [] = indexes
-with_trees [] (tree ∷ trees) = []
-with_trees (index ∷ indexes) (tree ∷ trees) = with_tree index tree ∷ with_trees indexes trees
+abbrev pub is_nothing : Cover → Bool
+is_nothing Nothing = true
+is_nothing (UpTo last) = false
+is_nothing Whole = false
+
+-- whether it covers no row
+abbrev pub covers_nothing : IndexHead → Bool
+covers_nothing head = is_nothing head.cover
+
+-- whether it covers each row
+abbrev pub covers_all : IndexHead → Bool
+covers_all head = is_whole head.cover
+
+-- ---- trees
+
+-- the packet that effects on rows mean for an index, and how many messages it is sent
+abbrev pub packet_for : List Effect → IndexHead → Messages EntryMessage
+packet_for effects head = sorted_batch (sent_for_all head.def head.cover effects)
+
+abbrev pub sent_for : List Effect → IndexHead → SentCount
+sent_for effects head = record { name = head.name; count = length (packet_for effects head) }
+
+-- a tree of entries after a packet
+abbrev pub sunk_tree : Shape × EntryTree → Messages EntryMessage → Shape × EntryTree
+sunk_tree tree packet = (tree.0, sunk entry_effect tree.0 tree.1 packet)
+
+-- trees, each after its packet
+abbrev pub sunk_trees : List (Shape × EntryTree) → List (Messages EntryMessage) → List (Shape × EntryTree)
+sunk_trees [] packets = []
+sunk_trees (tree ∷ trees) [] = []
+sunk_trees (tree ∷ trees) (packet ∷ packets) = sunk_tree tree packet ∷ sunk_trees trees packets
+
+-- a tree of the entries of rows for an index of a definition: they go as puts to an empty one
+abbrev pub entry_tree : Shape → Rows (List Value) → Definition → Shape × EntryTree
+entry_tree shape rows def = (shape, sunk entry_effect shape (leaf []) (sorted_batch (own_puts def rows)))

@@ -7,9 +7,9 @@ use Rattle.bt_table.proofs.index.pack_entries.Goals as goal
 
 pub packed_entries-requires : goal.packed_entries-requires
 packed_entries-requires c =
-    subst (λ index. All (λ row. IsWithin index.def (length row.1)) c.args.rows.now) (sym c.index-item.is) (c.requires c.loop-index.index-index c.index-item.result (omega arith))
+    subst (λ head. All (λ row. IsWithin head.def (length row.1)) c.args.rows.now) (sym c.head-item.is) (c.requires c.loop-head.head-index c.head-item.result (omega arith))
 
-pub loop-index-preserved : goal.loop-index-preserved
-loop-index-preserved c =
-    mapped_next (entry_tree c.args.rows.now) c.args.indexes.now c.loop-index.trees.items _ c.loop-index.index-index c.index-item.result c.in_ok-packed_entries.field-0 (omega arith) c.loop-index.invariant c.index-item.is
-    c.in_ok-packed_entries.ensures (c.push_reserved.ensures.items ∙ ap (λ l. l ++ c.in_ok-packed_entries.field-0 ∷ []) c.reserve.ensures.items)
+pub loop-head-preserved : goal.loop-head-preserved
+loop-head-preserved c =
+    mapped_next (λ head. entry_tree c.args.shape c.args.rows.now head.def) c.args.heads.now c.loop-head.entries.items _ c.loop-head.head-index c.head-item.result c.in_ok-packed_entries.field-0 (omega arith) c.loop-head.invariant
+    c.head-item.is c.in_ok-packed_entries.ensures (c.push_reserved.ensures.items ∙ ap (λ l. l ++ c.in_ok-packed_entries.field-0 ∷ []) c.reserve.ensures.items)

@@ -3,13 +3,14 @@ use Rattle.std.specs.Option.{option_copied}
 use Rattle.bt_rowtype.specs.declared.refusal.Refusal.TheVariants.{OutOfMemory}
 use Rattle.bt_table.specs.Batches.{and_then, made}
 use Rattle.bt_table.specs.Calls.{Secondary}
+use Rattle.bt_table.specs.Indexes.{index_of_ref}
 use Rattle.bt_view.specs.Ranges.{scan_of, when_whole}
 use Rattle.bt_view.proofs.IndexViews.{range_by, scan_done, scan_refused}
 use Rattle.bt_view.proofs.view.scan_index.Goals as goal
 
 pub returns-in_err-range-clause-answer : goal.returns-in_err-range-clause-answer
 returns-in_err-range-clause-answer g c = λ table shows.
-    let index = c.args.index.now in
+    let index = index_of_ref c.args.index in
     let from = option_copied c.args.from in
     let to = option_copied c.args.to in
     let refusal = c.in_err-range.field-0.0 in
@@ -19,7 +20,7 @@ returns-in_err-range-clause-answer g c = λ table shows.
 
 pub returns-clause-answer : goal.returns-clause-answer
 returns-clause-answer g c = λ table shows.
-    let index = c.args.index.now in
+    let index = index_of_ref c.args.index in
     let from = option_copied c.args.from in
     let to = option_copied c.args.to in
     let own = c.in_ok-range.range in

@@ -9,7 +9,7 @@ use Rattle.bt_view.proofs.view.show_entries.Goals as goal
 pub returns : goal.returns
 returns g c =
     let kinds = c.as_slice.result.now in
-    let entries = between c.args.range.now.from c.args.range.now.to (holds entry_effect c.args.index.now.tree.1) in
-    let own : kinds ≡ index_kinds c.args.schema.now c.args.index.now.def = search rules in
+    let entries = between c.args.range.now.from c.args.range.now.to (holds entry_effect c.args.index.tree.now.1) in
+    let own : kinds ≡ index_kinds c.args.schema.now c.args.index.head.now.def = search rules in
     subst (λ kinds. c.rows.inside.sink ≡ fold (and_entry g.S.Sink.added kinds) c.args.sink entries) own
     (gone-through kinds g.S.Sink.added c.args.sink entries (kinds, c.args.sink) (c.rows.inside.kinds.now, c.rows.inside.sink) refl (search rules))

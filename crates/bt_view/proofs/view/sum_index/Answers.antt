@@ -4,6 +4,7 @@ use Rattle.bt_rowtype.specs.Answers.{Answers}
 use Rattle.bt_rowtype.specs.declared.refusal.Refusal.TheVariants.{OutOfMemory}
 use Rattle.bt_table.specs.Batches.{and_then, made}
 use Rattle.bt_table.specs.Calls.{Secondary}
+use Rattle.bt_table.specs.Indexes.{index_of_ref}
 use Rattle.bt_view.specs.Groups.{sums_of}
 use Rattle.bt_view.specs.Ranges.{index_schema, when_whole}
 use Rattle.bt_view.proofs.IndexViews.{no_place, place_by, range_by, sums_done, sums_refused}
@@ -11,7 +12,7 @@ use Rattle.bt_view.proofs.view.sum_index.Goals as goal
 
 pub returns-in_err-range-clause-answer : goal.returns-in_err-range-clause-answer
 returns-in_err-range-clause-answer g c = λ table shows.
-    let index = c.args.index.now in
+    let index = index_of_ref c.args.index in
     let from = option_copied c.args.from in
     let to = option_copied c.args.to in
     let refusal = c.in_err-range.field-0.0 in
@@ -21,7 +22,7 @@ returns-in_err-range-clause-answer g c = λ table shows.
 
 pub returns-in-Err-clause-answer : goal.returns-in-Err-clause-answer
 returns-in-Err-clause-answer g c = λ table shows.
-    let index = c.args.index.now in
+    let index = index_of_ref c.args.index in
     let from = option_copied c.args.from in
     let to = option_copied c.args.to in
     let own = c.in_ok-range.range in
@@ -33,7 +34,7 @@ returns-in-Err-clause-answer g c = λ table shows.
 
 pub returns-clause-answer : goal.returns-clause-answer
 returns-clause-answer g c = λ table shows.
-    let index = c.args.index.now in
+    let index = index_of_ref c.args.index in
     let from = option_copied c.args.from in
     let to = option_copied c.args.to in
     let own = c.in_ok-range.range in

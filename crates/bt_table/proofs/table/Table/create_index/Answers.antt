@@ -1,14 +1,41 @@
-use Rattle.std.proofs.Common.{◌∙◌, subst, sym}
+use Rattle.std.proofs.Common.{rules, ◌≡◌, ◌++◌, ◌∷◌, [], None, ap, false, if◌then◌else◌, refl, subst, sym, true}
 use Rattle.std.specs.Prelude.{is_ok}
-use Rattle.bt_table.specs.Standing.{IsSoundUnlessLost}
-use Rattle.bt_table.specs.Tables.{state_of}
-use Rattle.bt_table.proofs.Steps.{pushed_is_sound}
+use Rattle.bt_node.specs.Trees.{leaf}
+use Rattle.bt_rowtype.specs.Refusals.{least}
+use Rattle.bt_table.specs.Calls.{index_refusals}
+use Rattle.bt_table.specs.inside.IndexTrees.{empty_head}
+use Rattle.bt_table.proofs.Steps.{added_is_sound, create_is_step, has_trees, not_added_is}
 use Rattle.bt_table.proofs.table.Table.create_index.Goals as goal
 
+-- the table is not lost where an index can be created
+pub take_trees-rows-requires : goal.take_trees-rows-requires
+take_trees-rows-requires c =
+    let free : least (index_refusals c.args.self.now c.args.name) ≡ None = search rules in
+    has_trees c.self.inside.schema c.self.inside.heads.items c.self.inside.trees c.args.name (subst (λ s. least (index_refusals s c.args.name) ≡ None) (sym c.self.view_is) free)
+
 -- the table is sound with the new index, and without it where memory is wanting
-pub invariant_of-self-2 : goal.invariant_of-self-2
-invariant_of-self-2 c =
-    let items = rw (c.empty_index-index.ensures, c.shape.ensures) at c.push-pushed.ensures.items in
-    subst (λ trees. IsSoundUnlessLost (state_of c.self.inside.schema trees)) (sym c.replace.ensures.after)
-    (pushed_is_sound c.self.inside.schema c.self.inside.trees c.in-Some.field-0 (sym c.take.ensures.value ∙ c.in-Some.is) c.self.invariant c.args.self.now c.self.view_is c.args.name c.args.def c.requires (is_ok c.push-pushed.result)
-    c.push-pushed.new.self.items items)
+pub invariant_of-self : goal.invariant_of-self
+invariant_of-self c =
+    let entries = rw (c.shape-shape.ensures) at c.add_index-added.ensures.entries in
+    let free : least (index_refusals c.args.self.now c.args.name) ≡ None = search rules in
+    added_is_sound c.self.inside.schema c.self.inside.heads.items c.self.inside.trees _ c.take_trees-rows.ensures.taken c.self.invariant c.args.self.now c.self.view_is _ c.take_trees-rows.ensures.taken _ _ _ c.put_trees.ensures refl
+    c.args.name c.args.def c.requires free (is_ok c.add_index-added.result) c.add_index-added.ensures.heads entries
+
+pub returns-in_err-added-clause-unchanged : goal.returns-in_err-added-clause-unchanged
+returns-in_err-added-clause-unchanged c =
+    let err : is_ok c.add_index-added.result ≡ false = ap is_ok c.in_err-added.was in
+    let heads = subst (λ b. c.add_index-added.new.heads.items ≡ (if b then c.self.inside.heads.items ++ empty_head c.args.name c.args.def ∷ [] else c.self.inside.heads.items)) err c.add_index-added.ensures.heads in
+    let entries = subst (λ b. c.add_index-added.new.entries.items ≡ (if b then c.take_trees-rows.result.entries.items ++ (c.shape-shape.result, leaf []) ∷ [] else c.take_trees-rows.result.entries.items)) err c.add_index-added.ensures.entries in
+    let wanted = not_added_is c.self.inside.schema c.self.inside.heads.items c.self.inside.trees _ c.take_trees-rows.ensures.taken c.self.invariant c.args.self.now c.self.view_is _ c.take_trees-rows.ensures.taken _ _ _ c.put_trees.ensures refl
+    c.args.name c.args.def heads entries in
+    search (rules, wanted)
+
+pub returns-clause-done : goal.returns-clause-done
+returns-clause-done c =
+    let ok : is_ok c.add_index-added.result ≡ true = ap is_ok c.in_ok-added.was in
+    let free : least (index_refusals c.args.self.now c.args.name) ≡ None = search rules in
+    let heads = subst (λ b. c.add_index-added.new.heads.items ≡ (if b then c.self.inside.heads.items ++ empty_head c.args.name c.args.def ∷ [] else c.self.inside.heads.items)) ok c.add_index-added.ensures.heads in
+    let all = rw (c.shape-shape.ensures) at c.add_index-added.ensures.entries in
+    let entries = subst (λ b. c.add_index-added.new.entries.items ≡ (if b then c.take_trees-rows.result.entries.items ++ (c.take_trees-rows.result.rows.0, leaf []) ∷ [] else c.take_trees-rows.result.entries.items)) ok all in
+    create_is_step c.self.inside.schema c.self.inside.heads.items c.self.inside.trees _ c.take_trees-rows.ensures.taken c.self.invariant c.args.self.now c.self.view_is _ c.take_trees-rows.ensures.taken _ _ _ c.put_trees.ensures refl
+    c.args.name c.args.def _ c.in-Ok.ensures heads entries free

@@ -1,0 +1,138 @@
+//! The trees of a table: how they leave it and come back, and what they are after packets.
+ghost use Rattle.std.specs.Prelude.{◌≡◌, ◌≤◌, [], IfOk, IsSome, None, Some, length, vec_capacity};
+ghost use Rattle.std.specs.List.{zip};
+ghost use Rattle.bt_node.specs.Flushes.{sunk};
+ghost use Rattle.bt_fanout.specs.Effects.{row_effect};
+ghost use Rattle.bt_table.specs.inside.IndexTrees.{sunk_tree, sunk_trees};
+
+use crate::workforce::Workforce;
+use bt_messages::{Entry, Packet};
+use bt_node::Tree;
+use bt_rowtype::Row;
+use std::alloc::{AllocError, Global};
+
+/// The trees of a table.
+#[derive(Drop)]
+pub(crate) struct Trees {
+    pub(crate) rows: Tree<Row>,
+    /// Those of the indexes, each at the place of its index.
+    pub(crate) entries: Vec<Tree<Entry>>,
+}
+
+/// Takes the trees out of a table, which is lost until they are put back: an error on the way loses it.
+pub(crate) fn take_trees(trees: &mut Option<Trees>) -> Trees
+    requires { IsSome trees.old }
+    ensures taken { trees.old ≡ Some result }
+    ensures none { trees.new ≡ None }
+{
+    let Some(taken) = trees.take() else {
+        unreachable!()
+    };
+    taken
+}
+
+/// Puts trees into a table, in place of those that it has.
+pub(crate) fn put_trees(trees: &mut Option<Trees>, put: Trees)
+    ensures { trees.new ≡ Some put }
+{
+    drop(trees.replace(put));
+}
+
+/// Room for trees with their packets. It is asked for before the trees leave the table.
+#[derive(Drop)]
+pub(crate) struct Room {
+    pub(crate) rows: Vec<(Tree<Row>, Packet<Row>)>,
+    pub(crate) entries: Vec<(Tree<Entry>, Packet<Entry>)>,
+}
+
+impl Room {
+    /// Room for so many trees of rows and of entries.
+    pub(crate) fn new(alloc: Global, rows: usize, entries: usize) -> Result<Self, AllocError>
+        ensures rows { IfOk result (λ room. (room.rows.items ≡ []) × (rows ≤ vec_capacity room.rows)) }
+        ensures entries { IfOk result (λ room. (room.entries.items ≡ []) × (entries ≤ vec_capacity room.entries)) }
+    {
+        let rows = Vec::with_capacity(alloc, rows)?;
+        let entries = Vec::with_capacity(alloc, entries)?;
+        Ok(Room { rows, entries })
+    }
+}
+
+// Each tree with its packet, in a list that has room for them.
+fn with_packets(
+    trees: Vec<Tree<Entry>>,
+    packets: Vec<Packet<Entry>>,
+    room: Vec<(Tree<Entry>, Packet<Entry>)>,
+) -> Vec<(Tree<Entry>, Packet<Entry>)>
+    requires same { length packets.items ≡ length trees.items }
+    requires room { (room.items ≡ []) × (length trees.items ≤ vec_capacity room) }
+    ensures { result.items ≡ zip trees.items packets.items }
+{
+    let mut pairs = room;
+    let mut packets = packets.into_iter();
+    for tree in trees {
+        let Some(packet) = packets.next() else {
+            unreachable!()
+        };
+        pairs.push_reserved((tree, packet));
+    }
+    pairs
+}
+
+/// The trees of a table after their packets, all of them in one round.
+pub(crate) fn sunk_all<T, W: Workforce<T>>(
+    rt: &T,
+    alloc: Global,
+    workforce: &W,
+    room: Room,
+    trees: Trees,
+    packet: Packet<Row>,
+    packets: Vec<Packet<Entry>>,
+) -> Result<Trees, AllocError>
+    requires ready { W.accepts workforce.now }
+    requires same { length packets.items ≡ length trees.entries.items }
+    requires few { length trees.entries.items ≤ 65535 }
+    requires rows_room { (room.rows.items ≡ []) × (1 ≤ vec_capacity room.rows) }
+    requires room { (room.entries.items ≡ []) × (length trees.entries.items ≤ vec_capacity room.entries) }
+    ensures rows { IfOk result (λ after. after.rows ≡ (trees.rows.0, sunk row_effect trees.rows.0 trees.rows.1 packet)) }
+    ensures entries { IfOk result (λ after. after.entries.items ≡ sunk_trees trees.entries.items packets.items) }
+{
+    let Room {
+        mut rows,
+        entries: entry_room,
+    } = room;
+    let Trees {
+        rows: tree,
+        entries,
+    } = trees;
+    rows.push_reserved((tree, packet));
+    let entries = with_packets(entries, packets, entry_room);
+    let (mut rows, entries) = workforce.sink(rt, alloc, rows, entries)?;
+    let Some(rows) = rows.pop() else {
+        unreachable!()
+    };
+    Ok(Trees { rows, entries })
+}
+
+/// A tree of entries after its packet.
+pub(crate) fn sunk_one<T, W: Workforce<T>>(
+    rt: &T,
+    alloc: Global,
+    workforce: &W,
+    room: Room,
+    tree: Tree<Entry>,
+    packet: Packet<Entry>,
+) -> Result<Tree<Entry>, AllocError>
+    requires ready { W.accepts workforce.now }
+    requires no_rows { room.rows.items ≡ [] }
+    requires room { (room.entries.items ≡ []) × (1 ≤ vec_capacity room.entries) }
+    ensures tree { IfOk result (λ after. after ≡ sunk_tree tree packet) }
+{
+    let Room { rows, mut entries } = room;
+    entries.push_reserved((tree, packet));
+    let (rows, mut entries) = workforce.sink(rt, alloc, rows, entries)?;
+    drop(rows);
+    let Some(tree) = entries.pop() else {
+        unreachable!()
+    };
+    Ok(tree)
+}

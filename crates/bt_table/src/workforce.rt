@@ -1,0 +1,233 @@
+//! Who works for a table: the caller alone, or a crew.
+ghost use Rattle.std.specs.Prelude.{◌≡◌, ◌≤◌, ◌+◌, ◌++◌, IfErr, IfOk, IsErrOf, OnErr, length};
+ghost use Rattle.bt_messages.specs.Effects.{effect_of};
+ghost use Rattle.bt_node.specs.Drains.{drained, rebuilt};
+ghost use Rattle.bt_fanout.specs.Effects.{entry_effect, row_effect};
+ghost use Rattle.bt_gather.specs.Rounds.{all_sunk};
+ghost use Rattle.bt_rowtype.specs.declared.refusal.Refusal.TheVariants as refusal;
+ghost use Rattle.bt_table.specs.Calls.{IsRefused, IsStep, Load};
+ghost use Rattle.bt_table.specs.Standing.{CompleteIndexesHold, IsSoundUnlessLost};
+ghost use Rattle.bt_table.specs.Tables.{Lost};
+
+use crate::reply::Reply;
+use crate::table::Table;
+use bt_gang::{Crew, Gate, NoGate};
+use bt_gather::{drain, sink};
+use bt_load::{InThreads, InTurn};
+use bt_messages::{Entry, Merge, Packet};
+use bt_node::Tree;
+use bt_rowtype::{Refusal, Row};
+use std::alloc::{AllocError, Global};
+use std::sync::Wait;
+use std::thread::Threads;
+
+/// Who works in the calls of a table. A library for C may start no thread, and a program has a crew: what is generic in a workforce has one body
+/// for both, and starts threads and waits only where its workforce does. Whoever it is, the calls have the same clauses.
+///
+/// Two work: [`Alone`], and a [`Crew`], where the runtime has threads. A crew has no gate, or one that is lent as `&(dyn Gate + Sync)`: inside an `impl` it
+/// is not known of a type parameter that all workers may call its methods, so the type of a gate has to be named.
+pub trait Workforce<T> {
+    /// What is asked of a workforce: of a crew, that the runtime may be shared by its workers.
+    ghost accepts: { Self → Type 0 };
+
+    /// Each tree after its packet. An `Err` keeps nothing of them.
+    fn sink(
+        &self,
+        rt: &T,
+        alloc: Global,
+        rows: Vec<(Tree<Row>, Packet<Row>)>,
+        entries: Vec<(Tree<Entry>, Packet<Entry>)>,
+    ) -> Result<(Vec<Tree<Row>>, Vec<Tree<Entry>>), AllocError>
+        requires ready { accepts self.now }
+        requires few { length rows.items + length entries.items ≤ 65536 }
+        ensures rows { IfOk result (λ trees. trees.0.items ≡ all_sunk row_effect rows.items) }
+        ensures entries { IfOk result (λ trees. trees.1.items ≡ all_sunk entry_effect entries.items) };
+
+    /// A tree of rows when all its messages have gone down to the leaves. An `Err` keeps nothing of it.
+    fn drain_rows(&self, rt: &T, alloc: Global, tree: Tree<Row>) -> Result<Tree<Row>, AllocError>
+        requires ready { accepts self.now }
+        ensures tree { IfOk result (λ dry. dry ≡ (tree.0, drained row_effect tree.0 tree.1)) };
+
+    /// An index's tree when all its messages have gone down to the leaves. An `Err` keeps nothing of it.
+    fn drain_entries(
+        &self,
+        rt: &T,
+        alloc: Global,
+        tree: Tree<Entry>,
+    ) -> Result<Tree<Entry>, AllocError>
+        requires ready { accepts self.now }
+        ensures tree { IfOk result (λ dry. dry ≡ (tree.0, drained entry_effect tree.0 tree.1)) };
+
+    /// A tree of what a tree of rows holds, packed.
+    fn rebuild_rows(
+        &self,
+        _rt: &T,
+        alloc: Global,
+        tree: &Tree<Row>,
+    ) -> Result<Tree<Row>, AllocError>
+        requires ready { accepts self.now }
+        ensures tree { IfOk result (λ anew. anew ≡ (tree.now.0, rebuilt row_effect tree.now.0 tree.now.1)) }
+    {
+        tree.rebuild(alloc)
+    }
+
+    /// A tree of what an index's tree holds, packed.
+    fn rebuild_entries(
+        &self,
+        _rt: &T,
+        alloc: Global,
+        tree: &Tree<Entry>,
+    ) -> Result<Tree<Entry>, AllocError>
+        requires ready { accepts self.now }
+        ensures tree { IfOk result (λ anew. anew ≡ (tree.now.0, rebuilt entry_effect tree.now.0 tree.now.1)) }
+    {
+        tree.rebuild(alloc)
+    }
+
+    /// Takes the rows of a CSV text into a table, as [`Table::load`] says.
+    fn load(&self, rt: &T, alloc: Global, table: &mut Table, text: &[u8]) -> Result<Reply, Refusal>
+        requires ready { accepts self.now }
+        ensures done { IfOk result (IsStep table.old table.new (Load text.now)) }
+        ensures refused { IfErr result (IsRefused table.old table.new (Load text.now)) }
+        ensures unchanged { OnErr result (table.new ≡ table.old) }
+        ensures failed { table.old ≡ Lost → IsErrOf result refusal.Failed }
+        ensures complete { CompleteIndexesHold table.new }
+        ensures sound { IsSoundUnlessLost table.new };
+}
+
+/// The caller alone: no thread is started, and nothing waits.
+#[derive(Drop)]
+pub struct Alone;
+
+// Each tree after its packet.
+fn sink_each<V: Merge>(
+    alloc: Global,
+    trees: Vec<(Tree<V>, Packet<V>)>,
+) -> Result<Vec<Tree<V>>, AllocError>
+    ensures { IfOk result (λ sunk. sunk.items ≡ all_sunk (effect_of V.merged) trees.items) }
+{
+    let mut sunk = Vec::with_capacity(alloc, trees.len())?;
+    for (tree, packet) in trees {
+        sunk.push_reserved(tree.sink(alloc, packet)?);
+    }
+    Ok(sunk)
+}
+
+impl<T> Workforce<T> for Alone {
+    ghost use Rattle.std.specs.Prelude.{⊤};
+
+    ghost accepts = { λ _. ⊤ };
+
+    fn sink(
+        &self,
+        _rt: &T,
+        alloc: Global,
+        rows: Vec<(Tree<Row>, Packet<Row>)>,
+        entries: Vec<(Tree<Entry>, Packet<Entry>)>,
+    ) -> Result<(Vec<Tree<Row>>, Vec<Tree<Entry>>), AllocError> {
+        let rows = sink_each(alloc, rows)?;
+        let entries = sink_each(alloc, entries)?;
+        Ok((rows, entries))
+    }
+
+    fn drain_rows(&self, _rt: &T, alloc: Global, tree: Tree<Row>) -> Result<Tree<Row>, AllocError> {
+        tree.drain(alloc)
+    }
+
+    fn drain_entries(
+        &self,
+        _rt: &T,
+        alloc: Global,
+        tree: Tree<Entry>,
+    ) -> Result<Tree<Entry>, AllocError> {
+        tree.drain(alloc)
+    }
+
+    fn load(
+        &self,
+        _rt: &T,
+        alloc: Global,
+        table: &mut Table,
+        text: &[u8],
+    ) -> Result<Reply, Refusal> {
+        table.load_by(&InTurn, alloc, text)
+    }
+}
+
+impl<T: Threads + Wait + Sync> Workforce<T> for Crew<NoGate> {
+    ghost use denote.Param.Send.{IsSync};
+
+    ghost accepts = { λ _. IsSync T.row };
+
+    fn sink(
+        &self,
+        rt: &T,
+        alloc: Global,
+        rows: Vec<(Tree<Row>, Packet<Row>)>,
+        entries: Vec<(Tree<Entry>, Packet<Entry>)>,
+    ) -> Result<(Vec<Tree<Row>>, Vec<Tree<Entry>>), AllocError> {
+        sink(rt, alloc, rows, entries, self)
+    }
+
+    fn drain_rows(&self, rt: &T, alloc: Global, tree: Tree<Row>) -> Result<Tree<Row>, AllocError> {
+        drain(rt, alloc, tree, self)
+    }
+
+    fn drain_entries(
+        &self,
+        rt: &T,
+        alloc: Global,
+        tree: Tree<Entry>,
+    ) -> Result<Tree<Entry>, AllocError> {
+        drain(rt, alloc, tree, self)
+    }
+
+    fn load(
+        &self,
+        rt: &T,
+        alloc: Global,
+        table: &mut Table,
+        text: &[u8],
+    ) -> Result<Reply, Refusal> {
+        table.load(rt, alloc, text)
+    }
+}
+
+impl<T: Threads + Wait + Sync> Workforce<T> for Crew<&(dyn Gate + Sync)> {
+    ghost use denote.Param.Send.{IsSync};
+
+    ghost accepts = { λ _. IsSync T.row };
+
+    fn sink(
+        &self,
+        rt: &T,
+        alloc: Global,
+        rows: Vec<(Tree<Row>, Packet<Row>)>,
+        entries: Vec<(Tree<Entry>, Packet<Entry>)>,
+    ) -> Result<(Vec<Tree<Row>>, Vec<Tree<Entry>>), AllocError> {
+        sink(rt, alloc, rows, entries, self)
+    }
+
+    fn drain_rows(&self, rt: &T, alloc: Global, tree: Tree<Row>) -> Result<Tree<Row>, AllocError> {
+        drain(rt, alloc, tree, self)
+    }
+
+    fn drain_entries(
+        &self,
+        rt: &T,
+        alloc: Global,
+        tree: Tree<Entry>,
+    ) -> Result<Tree<Entry>, AllocError> {
+        drain(rt, alloc, tree, self)
+    }
+
+    fn load(
+        &self,
+        rt: &T,
+        alloc: Global,
+        table: &mut Table,
+        text: &[u8],
+    ) -> Result<Reply, Refusal> {
+        table.load(rt, alloc, text)
+    }
+}
