@@ -7,6 +7,7 @@ use std::alloc::Global;
 use std::io::{BufWriter, ErrorKind, IsTerminal, Read, Write};
 use std::process::ExitCode;
 use std::rt::{Env, Files};
+use std::sync::Wait;
 use std::thread::Threads;
 use std::{env, io};
 
@@ -38,7 +39,7 @@ fn names_no_file(alloc: Global, words: &Texts) -> bool {
 // it waits for; an error of that stream is let go.
 fn run<R, I, E>(rt: &R, input: I, errors: &mut Counted<E>) -> Result<u8, ProgramFault>
 where
-    R: Env + Files + AllocGlobal + Print + Threads + Sync,
+    R: Env + Files + AllocGlobal + Print + Threads + Wait + Sync,
     I: Read + IsTerminal + Drop,
     E: Write,
 {

@@ -1,6 +1,6 @@
 //! The program over any runtime and streams.
 ghost use Rattle.std.specs.Prelude.{◌≡◌, ◌≤◌, ◌+◌, ◌≢◌, ◌⊎◌, [], false, true, IfSome, OnOk, OnErr, IsErrOf, ℕ, List};
-ghost use Rattle.bt_script.specs.Options.{AsksHelp, IsFaulty, IsToReadInput, MustBeRefused};
+ghost use Rattle.bt_script.specs.Options.{AreWithinLimits, AsksHelp, IsFaulty, IsToReadInput, MustBeRefused};
 ghost use Rattle.bt_script.specs.Streams.{FailsToGive, GaveAtMost, GivesWithin, Took, count_of, has_failed, has_unflushed, source_of};
 ghost use Rattle.bt_shell.specs.Programs.{AnswersPrefix, AnswersReplies, AnswersScript, AreHealthy, HasCause, IsToRun, LeavesInput};
 ghost use Rattle.bt_shell.specs.Runs.{WritesPrefix, WritesReplies, WritesRun, state_after_commands};
@@ -9,12 +9,15 @@ ghost use Rattle.bt_shell.specs.declared.entry.ProgramFault.{ProgramFault};
 ghost use Rattle.bt_table.specs.Standing.{CompleteIndexesHold, IsSound};
 ghost use Rattle.std.specs.declared.option.Option.TheVariants.{None};
 
+use crate::context::Context;
 use crate::run::{Session, flush};
+use bt_gang::{Crew, NoGate};
 use bt_rowtype::Texts;
-use bt_script::{Counted, RunFault, SCRIPT_LIMIT, WordsError, read_words, write_text};
+use bt_script::{Counted, RunFault, SCRIPT_LIMIT, Words, WordsError, read_words, write_text};
 use std::alloc::AllocError;
 use std::io::{Read, Write};
 use std::rt::Files;
+use std::sync::Wait;
 use std::thread::Threads;
 use std::{fs, mem};
 
@@ -78,9 +81,10 @@ impl ProgramFault {
 }
 
 // Runs the script of a file. One that does not open is a read that fails.
-fn run_file<R: Files + AllocGlobal + Threads + Sync, W: Write>(
+fn run_file<R: Files + AllocGlobal + Threads + Wait + Sync, W: Write>(
     rt: &R,
     path: &str,
+    crew: &Crew<NoGate>,
     session: &mut Session,
     output: &mut Counted<W>,
 ) -> Result<(), RunFault>
@@ -97,11 +101,23 @@ fn run_file<R: Files + AllocGlobal + Threads + Sync, W: Write>(
     let Ok(file) = fs::open(rt, path) else {
         return Err(RunFault::Read);
     };
-    session.run(rt, rt.alloc(), &mut Counted::new(file), output)
+    let alloc = rt.alloc();
+    let context = Context { rt, alloc, crew };
+    session.run(&context, &mut Counted::new(file), output)
+}
+
+// The crew that words ask for.
+fn crew_of(words: &Words) -> Crew<NoGate>
+    requires { AreWithinLimits words.now.workers words.now.cut words.now.grain }
+{
+    match Crew::new(words.workers, words.cut, words.grain, NoGate) {
+        Ok(crew) => crew,
+        Err(_) => unreachable!(),
+    }
 }
 
 // Does what the words ask for. After a fault what was written is not flushed.
-fn run_words<R: Files + AllocGlobal + Threads + Sync, I: Read, W: Write>(
+fn run_words<R: Files + AllocGlobal + Threads + Wait + Sync, I: Read, W: Write>(
     rt: &R,
     words: &Texts,
     session: &mut Session,
@@ -139,15 +155,23 @@ fn run_words<R: Files + AllocGlobal + Threads + Sync, I: Read, W: Write>(
         Err(WordsError::Help(text)) => return Ok(write_text(output, text.as_bytes())?),
         Err(WordsError::OutOfMemory) => return Err(ProgramFault::Run(RunFault::OutOfMemory)),
     };
+    let crew = crew_of(&said);
     match &said.script {
-        None => session.run(rt, rt.alloc(), input, output)?,
-        Some(path) => run_file(rt, path.as_str(), session, output)?,
+        None => {
+            let alloc = rt.alloc();
+            let context = Context {
+                rt,
+                alloc,
+                crew: &crew,
+            };
+            Ok(session.run(&context, input, output)?)
+        }
+        Some(path) => Ok(run_file(rt, path.as_str(), &crew, session, output)?),
     }
-    Ok(())
 }
 
 // Does what the words ask for, and flushes what was written, also after a fault.
-fn answer<R: Files + AllocGlobal + Threads + Sync, I: Read, W: Write>(
+fn answer<R: Files + AllocGlobal + Threads + Wait + Sync, I: Read, W: Write>(
     rt: &R,
     words: &Texts,
     session: &mut Session,
@@ -191,7 +215,7 @@ fn answer<R: Files + AllocGlobal + Threads + Sync, I: Read, W: Write>(
 ///
 /// Where the words name no file, the input is the script: with status 0 the output has gained its replies, and with any
 /// other status a prefix of them.
-pub fn program<R: Files + AllocGlobal + Threads + Sync, I: Read, W: Write, E: Write>(
+pub fn program<R: Files + AllocGlobal + Threads + Wait + Sync, I: Read, W: Write, E: Write>(
     rt: &R,
     words: &Texts,
     input: &mut Counted<I>,

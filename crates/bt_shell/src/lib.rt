@@ -8,18 +8,22 @@
 //! ```text
 //! let mut reader = Counted::new(b"table 4 3 2 1 id:int qty:int\nbatch\nput 1,10\nend\n".as_slice());
 //! let mut writer = Counted::new(Vec::new(alloc));
-//! run_script(&rt, alloc, &mut reader, &mut writer)?;        // table 2, batch 1
+//! let crew = Crew::new(4, 2, 64, NoGate)?;
+//! run_script(&rt, alloc, &mut reader, &mut writer, &crew)?;        // table 2, batch 1
 //! ```
 #![tactic(auto)]
 
+mod context;
 mod entry;
 mod reply;
 mod run;
 mod session;
 
+pub use bt_gang::{Crew, Gate, NoGate};
 pub use bt_script::{
     BlockText, Bounds, Command, Counted, IndexForm, Items, Parsed, RunFault, SCRIPT_LIMIT,
     SumsForm, TableForm, Words, WordsError, parse_command, read_words,
 };
+pub use bt_table::{Alone, Workforce};
 pub use entry::{ProgramFault, program};
 pub use run::run_script;

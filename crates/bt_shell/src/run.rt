@@ -5,12 +5,12 @@ ghost use Rattle.bt_script.specs.Streams.{FailsToGive, GaveAtMost, GivesWithin, 
 ghost use Rattle.bt_shell.specs.Runs.{Runs, TookReplies, WritesPrefix, WritesReplies, run, state_after_commands};
 ghost use Rattle.bt_table.specs.Standing.{CompleteIndexesHold, IsSound};
 
+use crate::context::Context;
 use crate::session::next_reply;
 use bt_script::{Counted, RunFault, SCRIPT_LIMIT, read_script, write_text};
-use bt_table::Table;
+use bt_table::{Table, Workforce};
 use std::alloc::Global;
 use std::io::{Read, Write};
-use std::thread::Threads;
 
 // Flushes what was written. A flush that fails is a failed write.
 pub(crate) fn flush<W: Write>(writer: &mut Counted<W>) -> Result<(), RunFault>
@@ -27,13 +27,13 @@ pub(crate) fn flush<W: Write>(writer: &mut Counted<W>) -> Result<(), RunFault>
 }
 
 // Writes the replies to the commands of a script, and flushes them. The commands begin with no table.
-fn write_replies<W: Write>(
-    rt: &(impl Threads + Sync),
-    alloc: Global,
+fn write_replies<W: Write, T, C: Workforce<T>>(
+    context: &Context<'_, T, C>,
     script: &[u8],
     table: &mut Option<Table>,
     writer: &mut Counted<W>,
 ) -> Result<(), RunFault>
+    requires ready { C.accepts context.now.crew.now }
     ensures ok { OnOk result (Took W.contents writer.old writer.new (run script.now)) }
     ensures healthy { OnOk result (has_failed writer.new ≡ has_failed writer.old) }
     ensures flushed { OnOk result (has_unflushed writer.new ≡ false) }
@@ -44,8 +44,8 @@ fn write_replies<W: Write>(
 {
     *table = None;
     let mut at = 0;
-    let mut room = Vec::new(alloc);
-    'commands: while let Some(step) = next_reply(rt, alloc, script, table, at, room)? {
+    let mut room = Vec::new(context.alloc);
+    'commands: while let Some(step) = next_reply(context, script, table, at, room)? {
         write_text(writer, step.text.as_slice())?;
         at = step.next;
         room = step.text;
@@ -71,13 +71,13 @@ impl Session {
     }
 
     // Runs a script, as `run_script` says, whatever the session had before.
-    pub(crate) fn run<R: Read, W: Write>(
+    pub(crate) fn run<R: Read, W: Write, T, C: Workforce<T>>(
         &mut self,
-        rt: &(impl Threads + Sync),
-        alloc: Global,
+        context: &Context<'_, T, C>,
         reader: &mut Counted<R>,
         writer: &mut Counted<W>,
     ) -> Result<(), RunFault>
+        requires ready { C.accepts context.now.crew.now }
         requires reads { has_failed reader.old ≡ false }
         requires writes { has_failed writer.old ≡ false }
         ensures ok { OnOk result (Runs R.remaining W.contents reader.old reader.new writer.old writer.new) }
@@ -94,8 +94,8 @@ impl Session {
         ensures replies { IsErrOf result RunFault.OutOfMemory → WritesReplies W.contents (R.remaining (source_of reader.old)) writer.old writer.new }
         ensures at_most { GaveAtMost R.remaining reader.old reader.new (SCRIPT_LIMIT + 1) }
     {
-        self.script = read_script(alloc, reader)?;
-        write_replies(rt, alloc, self.script.as_slice(), &mut self.table, writer)
+        self.script = read_script(context.alloc, reader)?;
+        write_replies(context, self.script.as_slice(), &mut self.table, writer)
     }
 }
 
@@ -104,13 +104,16 @@ impl Session {
 /// What is written are the replies that the script has by the definition `run` for the bytes that the reader had, and after
 /// a fault a prefix of them. `Read`: the reader failed, or gave a byte over [`SCRIPT_LIMIT`], and nothing is written.
 /// `Write`: the writer failed. `OutOfMemory`: a request for memory was refused; the command at hand has written nothing.
-/// The records of a load are read and sorted in threads of the runtime.
-pub fn run_script<R: Read, W: Write>(
-    rt: &(impl Threads + Sync),
+///
+/// Whoever works, a crew of any number of workers or the caller alone, in whatever order they take their jobs, the replies are the same.
+pub fn run_script<R: Read, W: Write, T, C: Workforce<T>>(
+    rt: &T,
     alloc: Global,
     reader: &mut Counted<R>,
     writer: &mut Counted<W>,
+    crew: &C,
 ) -> Result<(), RunFault>
+    requires ready { C.accepts crew.now }
     requires reads { has_failed reader.old ≡ false }
     requires writes { has_failed writer.old ≡ false }
     ensures ok { OnOk result (Runs R.remaining W.contents reader.old reader.new writer.old writer.new) }
@@ -137,5 +140,5 @@ pub fn run_script<R: Read, W: Write>(
     // No more than one byte over the limit is read.
     ensures at_most { GaveAtMost R.remaining reader.old reader.new (SCRIPT_LIMIT + 1) }
 {
-    Session::new(alloc).run(rt, alloc, reader, writer)
+    Session::new(alloc).run(&Context { rt, alloc, crew }, reader, writer)
 }

@@ -7,6 +7,7 @@ ghost use Rattle.bt_shell.specs.Steps as step;
 ghost use Rattle.bt_rowtype.specs.Answers.{Answers};
 ghost use Rattle.bt_table.specs.Standing.{Suits};
 
+use crate::context::Context;
 use crate::reply::{Lines, count_reply, refusal_reply, reply_text};
 use bt_fanout::IndexDef;
 use bt_node::Shape;
@@ -14,9 +15,8 @@ use bt_rowtype::{RecordLine, Refusal, Schema, Text, least_with};
 use bt_script::{
     BlockText, Bounds, Command, IndexForm, Items, Parsed, SumsForm, TableForm, parse_command,
 };
-use bt_table::Table;
+use bt_table::{Table, Workforce};
 use std::alloc::{AllocError, Global};
-use std::thread::Threads;
 
 // Makes the table.
 fn create_table(
@@ -40,14 +40,20 @@ fn create_table(
 }
 
 // Applies the messages of a batch.
-fn batch(alloc: Global, table: &mut Option<Table>, items: &Items<'_>) -> Result<Vec<u8>, Refusal>
+fn batch<T, C: Workforce<T>>(
+    context: &Context<'_, T, C>,
+    table: &mut Option<Table>,
+    items: &Items<'_>,
+) -> Result<Vec<u8>, Refusal>
+    requires ready { C.accepts context.now.crew.now }
     ensures done { IfOk result (λ text. IsDone table.old table.new (command.Batch items.now) text.items) }
     ensures refused { IfErr result (IsRefused table.old table.new (command.Batch items.now)) }
 {
     let Some(table) = table else {
         return Err(Refusal::NoTable);
     };
-    let reply = table.apply(alloc, items.as_slice())?;
+    let Context { rt, alloc, crew } = *context;
+    let reply = table.apply(rt, alloc, items.as_slice(), crew)?;
     Ok(reply_text(alloc, reply)?)
 }
 
@@ -111,19 +117,21 @@ fn create_index(
 }
 
 // Takes a step of building an index, which is to read so many rows.
-fn build(
-    alloc: Global,
+fn build<T, C: Workforce<T>>(
+    context: &Context<'_, T, C>,
     table: &mut Option<Table>,
     name: &Text,
     count: u32,
 ) -> Result<Vec<u8>, Refusal>
+    requires ready { C.accepts context.now.crew.now }
     ensures done { IfOk result (λ text. IsDone table.old table.new (command.Build name.now count) text.items) }
     ensures refused { IfErr result (IsRefused table.old table.new (command.Build name.now count)) }
 {
     let Some(table) = table else {
         return Err(Refusal::NoTable);
     };
-    let reply = table.build_step(alloc, name, count as usize)?;
+    let Context { rt, alloc, crew } = *context;
+    let reply = table.build_step(rt, alloc, name, count as usize, crew)?;
     Ok(reply_text(alloc, reply)?)
 }
 
@@ -199,60 +207,74 @@ fn image(alloc: Global, table: &Option<Table>, name: &Text) -> Result<Vec<u8>, R
 }
 
 // Loads the records of a text.
-fn load(
-    rt: &(impl Threads + Sync),
-    alloc: Global,
+fn load<T, C: Workforce<T>>(
+    context: &Context<'_, T, C>,
     table: &mut Option<Table>,
     text: &BlockText<'_>,
 ) -> Result<Vec<u8>, Refusal>
+    requires ready { C.accepts context.now.crew.now }
     ensures done { IfOk result (λ reply. IsDone table.old table.new (command.Load text.now) reply.items) }
     ensures refused { IfErr result (IsRefused table.old table.new (command.Load text.now)) }
 {
     let Some(table) = table else {
         return Err(Refusal::NoTable);
     };
-    let reply = table.load(rt, alloc, text.as_bytes())?;
+    let Context { rt, alloc, crew } = *context;
+    let reply = crew.load(rt, alloc, table, text.as_bytes())?;
     Ok(reply_text(alloc, reply)?)
 }
 
 // Flushes every buffer of a tree.
-fn drain(alloc: Global, table: &mut Option<Table>, name: &Text) -> Result<Vec<u8>, Refusal>
+fn drain<T, C: Workforce<T>>(
+    context: &Context<'_, T, C>,
+    table: &mut Option<Table>,
+    name: &Text,
+) -> Result<Vec<u8>, Refusal>
+    requires ready { C.accepts context.now.crew.now }
     ensures done { IfOk result (λ text. IsDone table.old table.new (command.Drain name.now) text.items) }
     ensures refused { IfErr result (IsRefused table.old table.new (command.Drain name.now)) }
 {
     let Some(table) = table else {
         return Err(Refusal::NoTable);
     };
-    let reply = table.drain(alloc, name)?;
+    let Context { rt, alloc, crew } = *context;
+    let reply = table.drain(rt, alloc, name, crew)?;
     Ok(reply_text(alloc, reply)?)
 }
 
 // Builds a tree anew.
-fn rebuild(alloc: Global, table: &mut Option<Table>, name: &Text) -> Result<Vec<u8>, Refusal>
+fn rebuild<T, C: Workforce<T>>(
+    context: &Context<'_, T, C>,
+    table: &mut Option<Table>,
+    name: &Text,
+) -> Result<Vec<u8>, Refusal>
+    requires ready { C.accepts context.now.crew.now }
     ensures done { IfOk result (λ text. IsDone table.old table.new (command.Rebuild name.now) text.items) }
     ensures refused { IfErr result (IsRefused table.old table.new (command.Rebuild name.now)) }
 {
     let Some(table) = table else {
         return Err(Refusal::NoTable);
     };
-    let reply = table.rebuild(alloc, name)?;
+    let Context { rt, alloc, crew } = *context;
+    let reply = table.rebuild(rt, alloc, name, crew)?;
     Ok(reply_text(alloc, reply)?)
 }
 
 // The reply to a command that is not refused, or its refusal. Where a reply has many lines, they are written into the room of a list.
-fn answer(
-    rt: &(impl Threads + Sync),
-    alloc: Global,
+fn answer<T, C: Workforce<T>>(
+    context: &Context<'_, T, C>,
     table: &mut Option<Table>,
     command: Command<'_>,
     room: Vec<u8>,
 ) -> Result<Vec<u8>, Refusal>
+    requires ready { C.accepts context.now.crew.now }
     ensures done { IfOk result (λ text. IsDone table.old table.new command.entry text.items) }
     ensures refused { IfErr result (IsRefused table.old table.new command.entry) }
 {
+    let alloc = context.alloc;
     match command {
         Command::Table(form) => create_table(alloc, table, form),
-        Command::Batch(items) => batch(alloc, table, &items),
+        Command::Batch(items) => batch(context, table, &items),
         Command::Get(fields) => get(alloc, table, &fields),
         Command::Scan(tree, bounds) => {
             let reply = scan(alloc, table, &tree, &bounds, room);
@@ -271,7 +293,7 @@ fn answer(
         }
         Command::Index(form) => create_index(alloc, table, form),
         Command::Build(name, count) => {
-            let reply = build(alloc, table, &name, count);
+            let reply = build(context, table, &name, count);
             drop(name);
             reply
         }
@@ -280,14 +302,14 @@ fn answer(
             drop(name);
             reply
         }
-        Command::Load(text) => load(rt, alloc, table, &text),
+        Command::Load(text) => load(context, table, &text),
         Command::Drain(tree) => {
-            let reply = drain(alloc, table, &tree);
+            let reply = drain(context, table, &tree);
             drop(tree);
             reply
         }
         Command::Rebuild(tree) => {
-            let reply = rebuild(alloc, table, &tree);
+            let reply = rebuild(context, table, &tree);
             drop(tree);
             reply
         }
@@ -295,20 +317,20 @@ fn answer(
 }
 
 // The reply to a command, and what the command does. An `Err` is for want of memory.
-fn take_turn(
-    rt: &(impl Threads + Sync),
-    alloc: Global,
+fn take_turn<T, C: Workforce<T>>(
+    context: &Context<'_, T, C>,
     table: &mut Option<Table>,
     command: Command<'_>,
     room: Vec<u8>,
 ) -> Result<Vec<u8>, AllocError>
+    requires ready { C.accepts context.now.crew.now }
     ensures text { IfOk result (λ text. text.items ≡ (step.turn table.old (Ok command.entry)).1) }
     ensures state { OnOk result (table.new ≡ (step.turn table.old (Ok command.entry)).0) }
 {
-    match answer(rt, alloc, table, command, room) {
+    match answer(context, table, command, room) {
         Ok(text) => Ok(text),
         Err(Refusal::OutOfMemory) => Err(AllocError),
-        Err(refusal) => refusal_reply(alloc, refusal),
+        Err(refusal) => refusal_reply(context.alloc, refusal),
     }
 }
 
@@ -322,26 +344,26 @@ pub struct Step {
 /// The reply to the command that stands at a place, or `None` where no further one does. An `Err` is for want of memory.
 ///
 /// A reply of many lines takes the room of a list, such as the reply before it, so that scans one after the other ask for it once.
-pub fn next_reply(
-    rt: &(impl Threads + Sync),
-    alloc: Global,
+pub(crate) fn next_reply<T, C: Workforce<T>>(
+    context: &Context<'_, T, C>,
     script: &[u8],
     table: &mut Option<Table>,
     at: usize,
     room: Vec<u8>,
 ) -> Result<Option<Step>, AllocError>
+    requires ready { C.accepts context.now.crew.now }
     ensures step { IfOk result (λ found. IfSome found (λ step. IsTurn table.old table.new (commands (drop at script.now)) (commands (drop step.next script.now)) step.text.items)) }
     ensures end { IfOk result (λ found. IfNone found (commands (drop at script.now) ≡ [])) }
     ensures past { IfOk result (λ found. IfSome found (λ step. (at < step.next) × (step.next ≤ length script.now))) }
 {
-    match parse_command(alloc, script, at)? {
+    match parse_command(context.alloc, script, at)? {
         Parsed::End => Ok(None),
         Parsed::Bad { refusal, next } => {
-            let text = refusal_reply(alloc, refusal)?;
+            let text = refusal_reply(context.alloc, refusal)?;
             Ok(Some(Step { text, next }))
         }
         Parsed::Good { command, next } => {
-            let text = take_turn(rt, alloc, table, command, room)?;
+            let text = take_turn(context, table, command, room)?;
             Ok(Some(Step { text, next }))
         }
     }

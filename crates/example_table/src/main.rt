@@ -2,8 +2,7 @@
 #![tactic(auto)]
 
 use anyhow::Result;
-use bt_shell::{Counted, RunFault, run_script};
-use std::thread::Threads;
+use bt_shell::{Alone, Counted, RunFault, run_script};
 
 const SCRIPT: &str = "\
 table 16 1024 256 1 id:int city:text qty:int
@@ -16,12 +15,13 @@ scan primary
 go
 ";
 
-// The replies to a script.
-fn replies<R: AllocGlobal + Threads + Sync>(rt: &R, script: &[u8]) -> Result<Vec<u8>, RunFault> {
+// The replies to a script, which is run on the caller's thread. `Crew::new(4, 2, 64, NoGate)` in place of `Alone` is a crew of four workers.
+fn replies<R: AllocGlobal>(rt: &R, script: &[u8]) -> Result<Vec<u8>, RunFault> {
     let alloc = rt.alloc();
     let mut reader = Counted::new(script);
     let mut text = Vec::new(alloc);
-    run_script(rt, alloc, &mut reader, &mut Counted::new(&mut text))?;
+    let mut writer = Counted::new(&mut text);
+    run_script(rt, alloc, &mut reader, &mut writer, &Alone)?;
     Ok(text)
 }
 

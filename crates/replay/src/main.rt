@@ -1,41 +1,63 @@
-//! Replays worked scripts, each over streams in memory, and compares every byte of their replies.
+//! Replays worked scripts, each by several crews over streams in memory, and compares every byte of their replies.
 //!
 //! The file `scripts` names them, one a line. The file NAME is a script, and NAME.stdout has its replies.
 #![tactic(auto)]
 
 use anyhow::{Context, Result, bail};
-use bt_shell::{Counted, run_script};
+use bt_shell::{Alone, Counted, Crew, NoGate, Workforce, run_script};
 use std::fs;
 use std::rt::Files;
+use std::sync::Wait;
 use std::thread::Threads;
 
+// The workers, the cut and the grain of each crew. The first works packets of a batch without jobs, the others each packet in jobs.
+const CREWS: [[usize; 3]; 4] = [[1, 1, 65_536], [1, 3, 1], [2, 2, 1], [7, 1, 1]];
+
+fn crew_of([workers, cut, grain]: [usize; 3]) -> Result<Crew<NoGate>> {
+    match Crew::new(workers, cut, grain, NoGate) {
+        Ok(crew) => Ok(crew),
+        Err(_) => bail!("no crew of {workers} workers, a cut of {cut} and a grain of {grain}"),
+    }
+}
+
 // What a run of the script writes.
-fn replies_to<R: AllocGlobal + Threads + Sync>(rt: &R, script: &[u8]) -> Result<Vec<u8>> {
+fn replies_to<R: AllocGlobal, C: Workforce<R>>(rt: &R, script: &[u8], crew: &C) -> Result<Vec<u8>>
+    requires ready { C.accepts crew.now }
+{
     let alloc = rt.alloc();
     let mut reader = Counted::new(script);
     let mut text = Vec::new(alloc);
     {
         let mut writer = Counted::new(&mut text);
-        run_script(rt, alloc, &mut reader, &mut writer)?;
+        run_script(rt, alloc, &mut reader, &mut writer, crew)?;
     }
     Ok(text)
 }
 
-// Replays one script, and gives the number of bytes of its replies.
-fn replay<R: Files + AllocGlobal + Threads + Sync>(rt: &R, name: &str) -> Result<usize> {
+// Replays one script by the caller alone and by each crew, and gives the number of bytes of its replies.
+fn replay<R: Files + AllocGlobal + Threads + Wait + Sync>(rt: &R, name: &str) -> Result<usize> {
     let alloc = rt.alloc();
     let script = fs::read(rt, name).context(format_args!("reading {name}"))?;
     let expected = fs::read(rt, format!(in alloc; "{name}.stdout")?.as_str()).context(format_args!(
         "reading {name}.stdout"
     ))?;
-    let text = replies_to(rt, script.as_slice()).context(format_args!("running {name}"))?;
+    let text = replies_to(rt, script.as_slice(), &Alone).context(format_args!("running {name}"))?;
     if text.as_slice() != expected.as_slice() {
         bail!("{name}: its replies differ");
     }
-    Ok(text.len())
+    for sizes in CREWS {
+        let crew = crew_of(sizes)?;
+        let text = replies_to(rt, script.as_slice(), &crew).context(format_args!(
+            "running {name}"
+        ))?;
+        if text.as_slice() != expected.as_slice() {
+            bail!("{name}: its replies differ with {sizes:?}");
+        }
+    }
+    Ok(expected.len())
 }
 
-fn replay_all<R: Files + Print + AllocGlobal + Threads + Sync>(rt: &R) -> Result<()> {
+fn replay_all<R: Files + Print + AllocGlobal + Threads + Wait + Sync>(rt: &R) -> Result<()> {
     let names = fs::read_to_string(rt, "scripts").context("reading the names of the scripts")?;
     for name in names.as_str().lines() {
         let count = replay(rt, name)?;

@@ -1,10 +1,11 @@
 //! Commands, command lines, and the statuses of the program.
 use crate::streams::{Failing, Full};
 use bt_rowtype::{Item, RecordLine, Texts};
-use bt_shell::{Command, Counted, Parsed, WordsError, parse_command, program, read_words};
+use bt_shell::{Command, Counted, Parsed, Words, WordsError, parse_command, program, read_words};
 use std::alloc::{AllocError, Global};
 use std::fs;
 use std::rt::Files;
+use std::sync::Wait;
 use std::test::Fail;
 use std::thread::Threads;
 
@@ -18,12 +19,19 @@ fn words_of(alloc: Global, line: &str) -> Result<Texts, AllocError> {
     Ok(words)
 }
 
-// What a command line says: its file behind a colon, `faulty`, or `help` where the text names the option.
+// What a command line says: its script, workers, cut and grain, `faulty`, or `help` where the text names the options.
 fn said(alloc: Global, line: &str) -> Result<String, AllocError> {
     match read_words(alloc, &words_of(alloc, line)?) {
-        Ok(said) => match said.script {
-            Some(file) => format!(in alloc; "file:{file}"),
-            None => String::from_str(alloc, "input"),
+        Ok(
+            Words {
+                script,
+                workers,
+                cut,
+                grain,
+            },
+        ) => match script {
+            Some(file) => format!(in alloc; "{file} {workers} {cut} {grain}"),
+            None => format!(in alloc; "input {workers} {cut} {grain}"),
         },
         Err(WordsError::Faulty) => String::from_str(alloc, "faulty"),
         Err(WordsError::Help(text)) => help_text(alloc, &text),
@@ -32,9 +40,12 @@ fn said(alloc: Global, line: &str) -> Result<String, AllocError> {
 }
 
 // What a help text is to name: the options, the commands of a script, and where its language stands.
-const NAMED: [&str; 13] = [
+const NAMED: [&str; 16] = [
     "--script <FILE>",
     "Reads the script from FILE",
+    "--workers <N>",
+    "--cut <D>",
+    "--grain <G>",
     "--help",
     "\n  table F C L K name:kind ..  ",
     "\n  batch  ",
@@ -62,11 +73,22 @@ fn help_text(alloc: Global, text: &String) -> Result<String, AllocError> {
 fn command_lines(rt: HostRuntime) -> Result<(), Fail> {
     let alloc = rt.alloc();
     for (line, expected) in [
-        ("", "input"),
-        ("--script x", "file:x"),
-        ("--script=x", "file:x"),
+        ("", "input 4 2 64"),
+        ("--script x", "x 4 2 64"),
+        ("--script=x --workers=1", "x 1 2 64"),
+        ("--cut 3", "input 4 3 64"),
+        ("--workers 64 --cut 1 --grain 65536", "input 64 1 65536"),
         ("--help", "help"),
         ("--workers 0", "faulty"),
+        ("--workers 65", "faulty"),
+        ("--cut 0", "faulty"),
+        ("--cut 4", "faulty"),
+        ("--grain 0", "faulty"),
+        ("--grain 65537", "faulty"),
+        ("--workers two", "faulty"),
+        ("--cut -1", "faulty"),
+        ("--grain", "faulty"),
+        ("--workers 2 --workers 2", "faulty"),
         ("--script", "faulty"),
         ("--script x --script x", "faulty"),
         ("x", "faulty"),
@@ -79,7 +101,7 @@ fn command_lines(rt: HostRuntime) -> Result<(), Fail> {
 
 // The status of the program, then what it writes to its errors and the first of what it writes to its output. The input
 // gives `run`.
-fn answer<R: Files + AllocGlobal + Threads + Sync>(
+fn answer<R: Files + AllocGlobal + Threads + Wait + Sync>(
     rt: &R,
     words: &Texts,
     calls: u32,

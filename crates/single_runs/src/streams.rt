@@ -1,12 +1,11 @@
 //! Streams that fail, that keep count of flushes, and a long script.
 ghost use Rattle.std.specs.Prelude.{Some};
 
-use bt_shell::{Counted, RunFault, run_script};
+use bt_shell::{Alone, Counted, RunFault, run_script};
 use std::alloc::{AllocError, Global};
 use std::io;
 use std::io::{ErrorKind, Read, Write};
 use std::test::Fail;
-use std::thread::Threads;
 
 /// Gives one byte a call, and fails once so many calls were made.
 #[derive(Drop)]
@@ -75,13 +74,10 @@ impl Write for Flushes {
 }
 
 // The fault of a short run over a stream of flushes, and whether replies were left that no flush followed.
-fn run_over_flushes<R: AllocGlobal + Threads + Sync>(
-    rt: &R,
-    stream: &mut Flushes,
-) -> (Result<(), RunFault>, bool) {
+fn run_over_flushes<R: AllocGlobal>(rt: &R, stream: &mut Flushes) -> (Result<(), RunFault>, bool) {
     let mut reader = Counted::new(b"scan primary\ngo\n".as_slice());
     let mut writer = Counted::new(stream);
-    let result = run_script(rt, rt.alloc(), &mut reader, &mut writer);
+    let result = run_script(rt, rt.alloc(), &mut reader, &mut writer, &Alone);
     (result, writer.unflushed())
 }
 
@@ -103,7 +99,7 @@ fn a_flush_reaches_the_stream(rt: HostRuntime) {
 }
 
 // The fault of a run over such streams, what it writes, and the counts of bytes that it read and wrote.
-fn run_over<R: AllocGlobal + Threads + Sync>(
+fn run_over<R: AllocGlobal>(
     rt: &R,
     calls: u32,
     room: usize,
@@ -118,7 +114,7 @@ fn run_over<R: AllocGlobal + Threads + Sync>(
         taken: &mut taken,
         room,
     });
-    let result = run_script(rt, alloc, &mut reader, &mut writer);
+    let result = run_script(rt, alloc, &mut reader, &mut writer, &Alone);
     let counts = (reader.count(), writer.count());
     (result, taken, counts)
 }
@@ -150,7 +146,7 @@ fn long_script(alloc: Global, line: &[u8], count: u32) -> Result<Vec<u8>, AllocE
 }
 
 // What a run over streams in memory writes.
-fn replies_to<R: AllocGlobal + Threads + Sync>(rt: &R, script: &[u8]) -> Result<Vec<u8>, RunFault> {
+fn replies_to<R: AllocGlobal>(rt: &R, script: &[u8]) -> Result<Vec<u8>, RunFault> {
     let alloc = rt.alloc();
     let mut text = Vec::new(alloc);
     run_script(
@@ -158,6 +154,7 @@ fn replies_to<R: AllocGlobal + Threads + Sync>(rt: &R, script: &[u8]) -> Result<
         alloc,
         &mut Counted::new(script),
         &mut Counted::new(&mut text),
+        &Alone,
     )?;
     Ok(text)
 }

@@ -1,0 +1,63 @@
+//! Tables of ints by batches, and their images.
+use bt_fanout::IndexDef;
+use bt_node::Shape;
+use bt_rowtype::{Column, Kind, Refusal, Schema, Sequence, Text, Texts};
+use bt_script::{Command, Parsed, parse_command};
+use bt_table::{Alone, Reply, Table, Workforce};
+use bt_view::image;
+use std::alloc::Global;
+
+/// A table of the columns `id` and `qty`, of which the first is the key: at most four children, three messages and two rows a node.
+pub(crate) fn empty_table(alloc: Global) -> Result<Table, Refusal> {
+    let mut columns = Sequence::new(alloc);
+    for name in ["id", "qty"] {
+        columns.push(Column {
+            name: Text::new(alloc, name)?,
+            kind: Kind::Int,
+        })?;
+    }
+    let Ok(schema) = Schema::new(columns, 1) else {
+        return Err(Refusal::BadSchema);
+    };
+    Ok(Table::new(alloc, schema, Shape::new(4, 3, 2)?))
+}
+
+/// Applies the batch at the start of a script.
+pub(crate) fn apply<T, C: Workforce<T>>(
+    rt: &T,
+    alloc: Global,
+    table: &mut Table,
+    script: &str,
+    crew: &C,
+) -> Result<Reply, Refusal>
+    requires ready { C.accepts crew.now }
+{
+    match parse_command(alloc, script.as_bytes(), 0)? {
+        Parsed::Good {
+            command: Command::Batch(items),
+            ..
+        } => table.apply(rt, alloc, items.as_slice(), crew),
+        _ => Err(Refusal::Syntax),
+    }
+}
+
+/// A table after these batches, by the caller alone.
+pub(crate) fn table_after(alloc: Global, batches: &[&str]) -> Result<Table, Refusal> {
+    let mut table = empty_table(alloc)?;
+    for batch in batches {
+        drop(apply(&(), alloc, &mut table, batch, &Alone)?);
+    }
+    Ok(table)
+}
+
+/// Creates the index `q` on `qty`.
+pub(crate) fn create_index(alloc: Global, table: &mut Table) -> Result<Reply, Refusal> {
+    let mut on = Texts::new(alloc);
+    on.push("qty")?;
+    let def = IndexDef::new(alloc, table.schema()?, &on, &Texts::new(alloc), None)?;
+    table.create_index(alloc, Text::new(alloc, "q")?, def)
+}
+
+pub(crate) fn image_of(alloc: Global, table: &Table, tree: &str) -> Result<Vec<u8>, Refusal> {
+    image(alloc, table, &Text::new(alloc, tree)?)
+}
