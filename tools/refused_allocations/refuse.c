@@ -1,0 +1,152 @@
+/*
+ * A library to be preloaded into a program (LD_PRELOAD), which refuses requests for memory or starts of threads, as a system
+ * does that has no more. For Linux with the GNU C library.
+ *
+ * Requests are the calls of malloc, calloc, realloc, reallocarray, posix_memalign and aligned_alloc from the start of the
+ * program on, counted from 1. A realloc counts whether it grows or shrinks its block. Starts are the calls of
+ * pthread_create, counted alike. Environment variables:
+ *
+ *   REFUSE_AT          a request that is refused
+ *   REFUSE_FROM        the first of the requests that are refused, with all that follow it
+ *   REFUSE_START_AT    a start that is refused
+ *   REFUSE_START_FROM  the first of the starts that are refused, with all that follow it
+ *   COUNT_FILE         the file that gets the number of requests and that of starts, each as an unsigned long in the order of
+ *                      bytes of the machine; they are kept in memory that the file shares, so that they are there however the
+ *                      program ends
+ */
+#define _GNU_SOURCE
+#include <dlfcn.h>
+#include <errno.h>
+#include <fcntl.h>
+#include <limits.h>
+#include <pthread.h>
+#include <stdatomic.h>
+#include <stdbool.h>
+#include <stddef.h>
+#include <stdint.h>
+#include <stdlib.h>
+#include <sys/mman.h>
+#include <unistd.h>
+
+/* The C library's own functions, by names that this file does not define. */
+void *__libc_malloc(size_t size);
+void *__libc_calloc(size_t count, size_t size);
+void *__libc_realloc(void *block, size_t size);
+void *__libc_memalign(size_t alignment, size_t size);
+
+/* What is counted, and which of it is refused. */
+struct refusal {
+    unsigned long at;
+    unsigned long from;
+};
+
+struct counts {
+    atomic_ulong requests;
+    atomic_ulong starts;
+};
+
+static struct counts own_counts;
+static struct counts *counts = &own_counts;
+static struct refusal of_requests = {ULONG_MAX, ULONG_MAX};
+static struct refusal of_starts = {ULONG_MAX, ULONG_MAX};
+static bool has_started;
+
+/* The number in an environment variable, or one that no request has. */
+static unsigned long number_in(const char *name)
+{
+    const char *text = getenv(name);
+    return text == NULL ? ULONG_MAX : strtoul(text, NULL, 10);
+}
+
+/* The memory of a file, for counts, or NULL. */
+static struct counts *shared_counts(const char *path)
+{
+    int file = open(path, O_RDWR | O_CREAT | O_TRUNC, 0600);
+    if (file < 0)
+        return NULL;
+    void *memory = MAP_FAILED;
+    if (ftruncate(file, sizeof own_counts) == 0)
+        memory = mmap(NULL, sizeof own_counts, PROT_READ | PROT_WRITE, MAP_SHARED, file, 0);
+    close(file);
+    return memory == MAP_FAILED ? NULL : memory;
+}
+
+__attribute__((constructor)) static void start(void)
+{
+    const char *path = getenv("COUNT_FILE");
+    if (path != NULL) {
+        counts = shared_counts(path);
+        if (counts == NULL)
+            _exit(70);
+    }
+    of_requests.at = number_in("REFUSE_AT");
+    of_requests.from = number_in("REFUSE_FROM");
+    of_starts.at = number_in("REFUSE_START_AT");
+    of_starts.from = number_in("REFUSE_START_FROM");
+    has_started = true;
+}
+
+/* Counts one more, and answers whether it is refused. What the loader asks for before the program is not counted. */
+static bool is_among(const struct refusal *refused, atomic_ulong *count)
+{
+    if (!has_started)
+        return false;
+    unsigned long number = atomic_fetch_add(count, 1) + 1;
+    return number == refused->at || number >= refused->from;
+}
+
+static bool is_refused(void)
+{
+    return is_among(&of_requests, &counts->requests);
+}
+
+static void *no_memory(void)
+{
+    errno = ENOMEM;
+    return NULL;
+}
+
+void *malloc(size_t size)
+{
+    return is_refused() ? no_memory() : __libc_malloc(size);
+}
+
+void *calloc(size_t count, size_t size)
+{
+    return is_refused() ? no_memory() : __libc_calloc(count, size);
+}
+
+void *realloc(void *block, size_t size)
+{
+    return is_refused() ? no_memory() : __libc_realloc(block, size);
+}
+
+void *reallocarray(void *block, size_t count, size_t size)
+{
+    if (is_refused() || (size != 0 && count > SIZE_MAX / size))
+        return no_memory();
+    return __libc_realloc(block, count * size);
+}
+
+int posix_memalign(void **block, size_t alignment, size_t size)
+{
+    void *found = is_refused() ? NULL : __libc_memalign(alignment, size);
+    if (found == NULL)
+        return ENOMEM;
+    *block = found;
+    return 0;
+}
+
+void *aligned_alloc(size_t alignment, size_t size)
+{
+    return is_refused() ? no_memory() : __libc_memalign(alignment, size);
+}
+
+typedef int (*create)(pthread_t *thread, const pthread_attr_t *attributes, void *(*task)(void *), void *argument);
+
+int pthread_create(pthread_t *thread, const pthread_attr_t *attributes, void *(*task)(void *), void *argument)
+{
+    if (is_among(&of_starts, &counts->starts))
+        return EAGAIN;
+    return ((create)dlsym(RTLD_NEXT, "pthread_create"))(thread, attributes, task, argument);
+}
