@@ -1,6 +1,6 @@
 //! Batches, steps of building and drains by crews: two jobs are run at the same time, and small packets have none.
 use crate::gates::{Counting, Meeting};
-use crate::tables::{apply, create_index, image_of, table_after};
+use crate::tables::{apply, create_index, image_of_rows, table_after};
 use bt_gang::{Crew, Gate};
 use bt_rowtype::Text;
 use bt_table::{Alone, Reply};
@@ -57,7 +57,7 @@ fn two_jobs_of_a_batch(rt: HostRuntime) -> Result<(), Fail> {
     let reply = apply(&rt, alloc, &mut table, EIGHT_MESSAGES, &crew)?;
     assert!(&rt; matches!(reply, Reply::Batch { count: 8, .. }));
     assert_eq!(&rt;
-        image_of(alloc, &table, "primary")?.as_slice(),
+        image_of_rows(alloc, &table)?.as_slice(),
         AFTER_EIGHT.as_bytes()
     );
     assert_eq!(&rt; gate.entered(), Some(2));
@@ -74,7 +74,7 @@ fn no_jobs_below_the_grain(rt: HostRuntime) -> Result<(), Fail> {
     let crew = Crew::new(2, 1, 9, &gate as &(dyn Gate + Sync))?;
     drop(apply(&rt, alloc, &mut table, EIGHT_MESSAGES, &crew)?);
     assert_eq!(&rt;
-        image_of(alloc, &table, "primary")?.as_slice(),
+        image_of_rows(alloc, &table)?.as_slice(),
         AFTER_EIGHT.as_bytes()
     );
     assert_eq!(&rt; gate.entered.load(Ordering::SeqCst), 0);

@@ -58,6 +58,7 @@ pub(crate) fn create_index(alloc: Global, table: &mut Table) -> Result<Reply, Re
     table.create_index(alloc, Text::new(alloc, "q")?, def)
 }
 
-pub(crate) fn image_of(alloc: Global, table: &Table, tree: &str) -> Result<Vec<u8>, Refusal> {
-    image(alloc, table, &Text::new(alloc, tree)?)
+/// The image of the tree of the rows.
+pub(crate) fn image_of_rows(alloc: Global, table: &Table) -> Result<Vec<u8>, Refusal> {
+    image(alloc, table, &Text::new(alloc, "primary")?)
 }
