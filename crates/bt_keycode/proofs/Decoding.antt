@@ -1,5 +1,5 @@
 -- One code stands for one list of values of given kinds: what `decode` stands on.
-use Rattle.std.proofs.Common.{◌≡◌, ℕ, List, [], ◌∷◌, ◌++◌, map, take, drop, length, ◌-◌, ◌<◌, ◌≤◌, append_assoc, append-nil, get_or, ◌+◌, refl, sym, ap, subst, ◌∙◌, Bool, true, false, Some, Result, Err, ℤ, SFits, w64, to_z, of_z, arith}
+use Rattle.std.proofs.Common.{◌≡◌, ℕ, List, [], ◌∷◌, ◌++◌, map, take, drop, length, ◌-◌, ◌<◌, ◌≤◌, append_assoc, append-nil, get_or, ◌+◌, refl, sym, ap, subst, ◌∙◌, Bool, true, false, Some, ℤ, SFits, w64, to_z, of_z, arith}
 use Rattle.bt_rowtype.specs.declared.value.Kind.{Kind}
 use Rattle.bt_rowtype.specs.declared.value.Kind.TheVariants as kind
 use Rattle.bt_rowtype.specs.declared.value.Value.{Value}
@@ -11,7 +11,7 @@ use Rattle.bt_rowtype.specs.Texts.{is_text}
 use Rattle.bt_rowtype.proofs.offered.Texts.{long_text}
 use Rattle.std.proofs.lemmas.Int.{to_z-of_z}
 use Rattle.std.proofs.Math.Seq.{take-length}
-use Rattle.std.proofs.lemmas.List.{length-take, map-append, take-append-drop, take_more}
+use Rattle.std.proofs.lemmas.List.{map-append, take-append-drop, take_more}
 use Rattle.bt_keycode.specs.inside.Decoding.{BeginsWith, BeginsWithAll, BeginsWithNo, BeginsWithNone, unescaped}
 use Rattle.bt_keycode.proofs.DecodingInts.{eight_and_others, eight_long, same_int}
 use Rattle.bt_keycode.proofs.DecodingTexts.{both_read, read_again, spelled, split_end}
@@ -75,10 +75,6 @@ same_values (v ∷ values) (w ∷ others) rest more f g k e =
     let tail = same_values values others rest more f.1 g.1 both.1 same.1 in
     (cc, tail.1)
 
--- an error that is passed on
-pub passed_on : {T U E : Type 0} (d e : E) → ◌≡◌ {A = Result T E} (Err d) (Err e) → ◌≡◌ {A = Result U E} (Err d) (Err e)
-passed_on d e same = let f : d ≡ e = cc in ap Err f
-
 -- ---- ints
 
 -- fewer than eight bytes begin with no int
@@ -104,10 +100,6 @@ pub int_found : (z : ℤ) (number : ℕ) (bytes : List ℕ) → SFits w64 z → 
 int_found z number bytes fits up same long = rw (to_z-of_z w64 z fits) (int_begins z number bytes fits up same long)
 
 -- ---- texts
-
--- a first part is as long as it says, at most
-pub part_bound : (n most : ℕ) (xs : List ℕ) → n ≤ most → length (take n xs) ≤ most
-part_bound n most xs h = omega (arith, length-take n xs)
 
 -- what is read as a text within range is one
 pub text_found : (bytes text rest : List ℕ) → unescaped bytes ≡ Some (text, rest) → is_text text ≡ true → BeginsWith kind.Text bytes (value.Text text) rest
@@ -197,9 +189,9 @@ one_list kinds bytes values rest a other h =
     let same = same_values values other rest [] a.in_range b.in_range (a.of_kinds ∙ sym b.of_kinds) (a.code ∙ sym b.code) in
     (sym same.0, same.1)
 
--- values that bytes begin with, where the bytes are some code, have it
-pub all_there : (kinds : List Kind) (bytes : List ℕ) (values : List Value) (rest : List ℕ) → BeginsWithAll kinds bytes values rest → IsCode kinds bytes → IsCodeOf kinds bytes values
-all_there kinds bytes values rest a code = subst (IsCodeOf kinds bytes) (one_list kinds bytes values rest a code.0 code.1).0 code.1
+-- bytes are the code of one list of values
+pub one_code : (kinds : List Kind) (bytes : List ℕ) (values : List Value) → IsCodeOf kinds bytes values → (other : List Value) → IsCodeOf kinds bytes other → other ≡ values
+one_code kinds bytes values h other g = (one_list kinds bytes values [] (whole kinds bytes values h) other g).0
 
 -- bytes that begin with values and go on are no code
 pub goes_past : (kinds : List Kind) (bytes : List ℕ) (values : List Value) (rest : List ℕ) → BeginsWithAll kinds bytes values rest → (rest ≡ [] → ⊥) → IsNoCode kinds bytes

@@ -1,4 +1,4 @@
--- The codes of two ints with bytes after them, for `read_int` and for one code of one list.
+-- The codes of two ints with bytes after them, for `first_int` and for one code of one list.
 use Rattle.std.proofs.Common.{◌≡◌, ℕ, zero, suc, refl, [], ◌∷◌, ◌^◌, ◌-◌, ◌<◌, ◌≤◌, List, ◌++◌, length, take, drop, ℤ, pos, negsuc, SFits, w64, sym, ap, ◌∙◌, arith}
 use Rattle.std.proofs.lemmas.Nat.{from_be_bytes-to_be_bytes_8}
 use Rattle.std.specs.Int.{from_be_bytes}

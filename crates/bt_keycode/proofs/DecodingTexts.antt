@@ -1,8 +1,10 @@
 -- The code of a text is read as the text, and nothing else is, for `unescape` and for one code of one list.
-use Rattle.std.proofs.Common.{◌≡◌, ℕ, zero, suc, ◌==◌, List, [], ◌∷◌, ◌++◌, Option, Some, None, false, if◌then◌else◌, append_assoc, refl, sym, ap, ◌∙◌, inl, inr, arith, length, length-append, ◌<◌}
+use Rattle.std.proofs.Common.{◌≡◌, ℕ, zero, suc, ◌==◌, List, [], ◌∷◌, ◌++◌, Option, Some, None, false, if◌then◌else◌, append_assoc, refl, sym, ap, ◌∙◌, inl, inr, arith, length, length-append, nat_eq, ◌<◌}
 use Rattle.std.proofs.lemmas.Bool.{cases_Bool, eqb-true}
+use Rattle.std.specs.List.{list_any}
 use Rattle.bt_keycode.specs.Codes.{escaped}
 use Rattle.bt_keycode.specs.inside.Decoding.{after_bytes, unescaped}
+use Rattle.bt_keycode.proofs.Escapes.{escaped_no_zero}
 
 not_zero : (n : ℕ) → (suc n == 0) ≡ false
 not_zero n = elim (cases_Bool (suc n == 0)) [ inl same ↦ let e = eqb-true (suc n) 0 same in cc | inr other ↦ other ]
@@ -77,3 +79,8 @@ too_long bytes first code more byte e f text rest read =
     let next = read_after (byte ∷ []) (unescaped more) behind.0 rest (sym f ∙ behind.1) in
     let whole : text ≡ first ++ (byte ∷ next.0) = behind.2 ∙ ap (λ zs. first ++ zs) next.2 in
     omega (arith, ap length whole, length-append first (byte ∷ next.0))
+
+-- a text without a zero byte stands in its code as it is
+pub read_plain : (bytes text behind rest : List ℕ) → bytes ≡ text ++ 0 ∷ behind → list_any (λ b. nat_eq b 0) text ≡ false → behind ≡ 1 ∷ rest → unescaped bytes ≡ Some (text, rest)
+read_plain bytes text behind rest whole none end =
+    ap unescaped (whole ∙ ap (λ bs. text ++ 0 ∷ bs) end ∙ sym (ap (λ t. t ++ 0 ∷ 1 ∷ rest) (escaped_no_zero text none))) ∙ read_again text rest

@@ -1,5 +1,5 @@
 -- Texts with their zero bytes escaped: their order, and that one stands for one text, for the order of codes.
-use Rattle.std.proofs.Common.{◌≡◌, ℕ, zero, suc, ◌<◌, List, [], ◌∷◌, ◌++◌, refl, sym, ap, ◌∙◌, arith, ◌==◌, false, nat_eq}
+use Rattle.std.proofs.Common.{◌≡◌, ℕ, zero, suc, ◌<◌, List, [], ◌∷◌, ◌++◌, append_assoc, refl, sym, ap, ◌∙◌, arith, ◌==◌, false, nat_eq}
 use Rattle.std.proofs.lemmas.Bool.Decides.{nat_tests}
 use Rattle.std.specs.Cmp.{nat_cmp_is}
 use Rattle.std.specs.Cmp.Lexicographic.{slice_cmp}
@@ -93,3 +93,15 @@ pub escaped_no_zero : (text : List ℕ) → list_any (λ b. nat_eq b 0) text ≡
 escaped_no_zero [] none = refl
 escaped_no_zero (zero ∷ bs) none = cc
 escaped_no_zero (suc b ∷ bs) none = escaped-kept b bs ∙ ap (λ cs. suc b ∷ cs) (escaped_no_zero bs (rw (not_zero b) at none))
+
+-- the bytes of two texts, one behind the other
+escaped_append : (text more : List ℕ) → escaped (text ++ more) ≡ escaped text ++ escaped more
+escaped_append [] more = refl
+escaped_append (b ∷ bs) more =
+    escaped-first b (bs ++ more) ∙ ap (λ cs. escaped (b ∷ []) ++ cs) (escaped_append bs more)
+    ∙ sym (append_assoc (escaped (b ∷ [])) (escaped bs) (escaped more)) ∙ ap (λ cs. cs ++ escaped more) (sym (escaped-first b bs))
+
+-- a text up to its first zero byte, and what is behind it
+pub escaped_parts : (text part behind : List ℕ) → text ≡ part ++ 0 ∷ behind → list_any (λ b. nat_eq b 0) part ≡ false → escaped text ≡ part ++ (0 ∷ 255 ∷ escaped behind)
+escaped_parts text part behind whole none =
+    ap escaped whole ∙ escaped_append part (0 ∷ behind) ∙ ap (λ cs. cs ++ (0 ∷ 255 ∷ escaped behind)) (escaped_no_zero part none)

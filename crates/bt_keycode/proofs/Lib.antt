@@ -1,9 +1,10 @@
 pub mod Codes
+pub mod CodesOfOne
 pub mod Decoding
 pub mod DecodingInts
 pub mod DecodingTexts
 pub mod Escapes
-pub mod Lengths
+pub mod FirstZeros
 pub mod Numbers
 pub mod Paddings
 pub mod Prefixes

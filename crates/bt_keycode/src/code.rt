@@ -1,177 +1,37 @@
 //! The key code of values.
-ghost use Rattle.std.specs.List.{list_any};
-ghost use Rattle.std.specs.Prelude.{◌≡◌, ◌≤◌, ◌+◌, ◌++◌, ◌∷◌, [], IfOk, IfSome, OnOk, false, length, nat_eq, take, true};
+ghost use Rattle.std.specs.Prelude.{◌≡◌, ◌≤◌, ◌++◌, ◌∷◌, [], IfOk, length, take};
 ghost use Rattle.std.specs.Ordering.{int_cmp};
 ghost use Rattle.bt_rowtype.specs.Values.{value_cmp, values_cmp};
-ghost use Rattle.bt_rowtype.specs.Views.{shown};
 ghost use Rattle.bt_keycode.specs.Codes.{HaveSameKinds, IsNoProperPrefix, code_of, code_of_value, eight_bytes, escaped, kind_of, raised};
 ghost use Rattle.bt_keycode.specs.Keys.{key_cmp};
 
+use crate::code_builder::{CodeBuilder, bytes_of_int};
 use crate::key::Key;
-use arrayvec::ArrayVec;
 use bt_rowtype::{Row, Value, ValueRef, Values};
 use std::alloc::{AllocError, Global};
 use std::cmp::Ordering;
 
-// A code of so many bytes takes no memory of its own.
-const SHORT_CODE: usize = 22;
-
-// The int with its sign bit inverted.
-fn raise(number: i64) -> u64
-    ensures { result ≡ raised number }
-{
-    number.abs_diff(i64::MIN)
-}
-
-// Adds a byte of a text, with 255 behind a zero byte.
-fn add_byte(bytes: &mut Vec<u8>, byte: u8) -> Result<(), AllocError>
-    ensures { OnOk result (bytes.new.items ≡ bytes.old.items ++ escaped (byte ∷ [])) }
-{
-    if byte == 0 {
-        bytes.extend_from_slice(&[0, 255])
-    } else {
-        bytes.extend_from_slice(&[byte])
-    }
-}
-
-// Adds the bytes of a text one by one.
-fn add_each(bytes: &mut Vec<u8>, text: &[u8]) -> Result<(), AllocError>
-    ensures { OnOk result (bytes.new.items ≡ bytes.old.items ++ escaped text.now) }
-{
-    for byte in text {
-        add_byte(bytes, *byte)?;
-    }
-    Ok(())
-}
-
-// Adds the bytes of a text, at once where none of them is zero.
-#[tactic(auto, using(crate::proofs::Escapes::escaped_no_zero))]
-fn add_escaped(bytes: &mut Vec<u8>, text: &[u8]) -> Result<(), AllocError>
-    ensures { OnOk result (bytes.new.items ≡ bytes.old.items ++ escaped text.now) }
-{
-    if text.contains(&0) {
-        add_each(bytes, text)
-    } else {
-        bytes.extend_from_slice(text)
-    }
-}
-
-// Adds the code of a text.
-fn add_text(bytes: &mut Vec<u8>, text: &[u8]) -> Result<(), AllocError>
-    ensures { OnOk result (bytes.new.items ≡ bytes.old.items ++ (escaped text.now ++ (0 ∷ 1 ∷ []))) }
-{
-    add_escaped(bytes, text)?;
-    bytes.extend_from_slice(&[0, 1])
-}
-
-// Adds the code of an int.
-#[tactic(auto, unfolding(crate::specs::Codes::eight_bytes))]
-fn add_int(bytes: &mut Vec<u8>, number: i64) -> Result<(), AllocError>
-    ensures { OnOk result (bytes.new.items ≡ bytes.old.items ++ eight_bytes (raised number)) }
-{
-    bytes.extend_from_slice(&raise(number).to_be_bytes())
-}
-
-// Adds the code of a value.
-fn add_code(bytes: &mut Vec<u8>, value: ValueRef<'_>) -> Result<(), AllocError>
-    ensures { OnOk result (bytes.new.items ≡ bytes.old.items ++ code_of_value (shown value.entry)) }
-{
-    match value {
-        ValueRef::Int(number) => add_int(bytes, number),
-        ValueRef::Text(text) => add_text(bytes, text),
-        ValueRef::Flag(true) => bytes.extend_from_slice(&[1]),
-        ValueRef::Flag(false) => bytes.extend_from_slice(&[0]),
-    }
-}
-
-// The length of the code of a value, but for the bytes behind zero bytes.
-#[tactic(auto, using(crate::proofs::Lengths::length_text), unfolding(crate::specs::Codes::eight_bytes))]
-fn room_of(value: ValueRef<'_>) -> usize
-    ensures { result ≤ length (code_of_value (shown value.entry)) }
-{
-    match value {
-        ValueRef::Int(_) => 8,
-        ValueRef::Text(text) => text.len().saturating_add(2),
-        ValueRef::Flag(_) => 1,
-    }
-}
-
-// The length of the code of the values, but for the bytes behind zero bytes.
-#[tactic(auto, using(crate::proofs::Lengths::length_code_of))]
-fn room_for(values: Values<'_>) -> usize
-    ensures { result ≤ length (code_of values.entry) }
-{
-    let mut rest = values;
-    let mut room: usize = 0;
-    while let Some(value) = rest.next() {
-        room = room.saturating_add(room_of(value));
-    }
-    room
-}
-
 // The key that is the code of an int.
-#[tactic(auto, unfolding(crate::specs::Codes::eight_bytes))]
 fn encode_int(alloc: Global, number: i64) -> Result<Key, AllocError>
     ensures { IfOk result (λ key. key ≡ eight_bytes (raised number)) }
 {
-    Ok(Key::from_bytes(alloc, &raise(number).to_be_bytes())?)
+    Key::from_bytes(alloc, &bytes_of_int(number))
 }
 
-// Adds bytes where there is room for all of them.
-fn add_where_room(code: &mut ArrayVec<u8, SHORT_CODE>, bytes: &[u8]) -> bool
-    ensures { result ≡ true → code.new.items ≡ code.old.items ++ bytes.now }
-{
-    code.try_extend_from_slice(bytes).is_ok()
-}
-
-// Adds a text and the end of its code where there is room for both.
-fn add_short_text(code: &mut ArrayVec<u8, SHORT_CODE>, text: &[u8]) -> bool
-    ensures { result ≡ true → code.new.items ≡ code.old.items ++ (text.now ++ (0 ∷ 1 ∷ [])) }
-{
-    add_where_room(code, text) && add_where_room(code, &[0, 1])
-}
-
-// Adds the code of a value where there is room for it and no text has a zero byte.
-#[tactic(auto, using(crate::proofs::Escapes::escaped_no_zero), unfolding(crate::specs::Codes::eight_bytes))]
-fn add_short(code: &mut ArrayVec<u8, SHORT_CODE>, value: ValueRef<'_>) -> bool
-    ensures { result ≡ true → code.new.items ≡ code.old.items ++ code_of_value (shown value.entry) }
-{
-    match value {
-        ValueRef::Int(number) => add_where_room(code, &raise(number).to_be_bytes()),
-        ValueRef::Text(text) => !text.contains(&0) && add_short_text(code, text),
-        ValueRef::Flag(true) => add_where_room(code, &[1]),
-        ValueRef::Flag(false) => add_where_room(code, &[0]),
-    }
-}
-
-// The code of values where it is short and no text has a zero byte.
-fn short_code(values: Values<'_>) -> Option<ArrayVec<u8, SHORT_CODE>>
-    ensures { IfSome result (λ code. code.items ≡ code_of values.entry) }
-{
-    let mut rest = values;
-    let mut code = ArrayVec::new();
-    while let Some(value) = rest.next() {
-        if !add_short(&mut code, value) {
-            return None;
-        }
-    }
-    Some(code)
-}
-
-// The key that is the code of values, of whatever length.
-fn encode_long(alloc: Global, values: Values<'_>) -> Result<Key, AllocError>
+// The key that is the code of values, added one after the other.
+fn encode_each(alloc: Global, values: Values<'_>) -> Result<Key, AllocError>
     ensures { IfOk result (λ key. key ≡ code_of values.entry) }
 {
     let mut rest = values;
-    let mut bytes = Vec::with_capacity(alloc, room_for(rest.copy()))?;
+    let mut code = CodeBuilder::new(alloc);
     while let Some(value) = rest.next() {
-        add_code(&mut bytes, value)?;
+        code.add(value)?;
     }
-    Key::from_vec(alloc, bytes)
+    code.finish()
 }
 
 // The key that is the code of values, wherever they lie.
-#[tactic(auto, using(crate::proofs::Lengths::code_of_one))]
+#[tactic(auto, using(crate::proofs::CodesOfOne::code_of_one))]
 fn encode_values(alloc: Global, values: Values<'_>) -> Result<Key, AllocError>
     ensures { IfOk result (λ key. key ≡ code_of values.entry) }
 {
@@ -181,13 +41,10 @@ fn encode_values(alloc: Global, values: Values<'_>) -> Result<Key, AllocError>
     {
         return encode_int(alloc, number);
     }
-    match short_code(values.copy()) {
-        Some(code) => Key::from_bytes(alloc, code.as_slice()),
-        None => encode_long(alloc, values),
-    }
+    encode_each(alloc, values)
 }
 
-/// The key that is the code of the values. One of at most 22 bytes takes no memory, unless a text has a zero byte.
+/// The key that is the code of the values. One of at most 22 bytes takes no memory.
 pub fn encode(alloc: Global, values: &[Value]) -> Result<Key, AllocError>
     ensures { IfOk result (λ key. key ≡ code_of values.now) }
 {

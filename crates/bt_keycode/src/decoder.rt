@@ -1,12 +1,14 @@
 //! Values from their key code.
-ghost use Rattle.std.specs.Prelude.{◌≡◌, ◌<◌, ◌≤◌, ◌++◌, ◌∷◌, [], IfErr, IfOk, IfSome, IfNone, IsErrOf, List, None, Some, false, true, length, take, ℕ};
+ghost use Rattle.std.specs.Prelude.{◌≡◌, ◌<◌, ◌≤◌, ◌++◌, ◌∷◌, [], IfOk, IfSome, IfNone, IsErrOf, List, None, OnOk, Some, false, true, length, take, ℕ};
 ghost use Rattle.bt_keycode.specs.Codes.{IsCode, IsCodeOf, IsNoCode, raised};
-ghost use Rattle.bt_keycode.specs.inside.Decoding.{BeginsWith, BeginsWithAll, BeginsWithNo, BeginsWithNone, after_bytes, ended, unescaped};
+ghost use Rattle.bt_keycode.specs.inside.Decoding.{BeginsWith, BeginsWithNo, after_bytes, ended, unescaped};
 ghost use Rattle.bt_rowtype.specs.Texts.{is_text};
+ghost use Rattle.bt_rowtype.specs.Views.{shown};
 ghost use Rattle.bt_rowtype.specs.declared.value.Value.{Value as value};
 
 use crate::key::prefix_of;
-use bt_rowtype::{Kind, LONGEST_TEXT, Row, Text, Value};
+use crate::zeros::split_at_zero;
+use bt_rowtype::{Kind, LONGEST_TEXT, Row, ValueRef};
 use std::alloc::{AllocError, Global};
 use std::str;
 
@@ -38,27 +40,25 @@ fn lower(number: u64) -> i64
 }
 
 // The int whose code the bytes begin with, and what comes after it.
-fn read_int(bytes: &[u8]) -> Result<(Value, &[u8]), DecodeError>
-    ensures found { IfOk result (λ read. BeginsWith Kind.Int bytes.now read.0 read.1.now) }
-    ensures none { IsErrOf result DecodeError.NotACode → BeginsWithNo Kind.Int bytes.now }
-    ensures memory { IfErr result (λ e. e ≡ DecodeError.NotACode) }
+fn first_int(bytes: &[u8]) -> Option<(ValueRef<'_>, &[u8])>
+    ensures found { IfSome result (λ read. BeginsWith Kind.Int bytes.now (shown read.0) read.1.now) }
+    ensures none { IfNone result (BeginsWithNo Kind.Int bytes.now) }
 {
     if bytes.len() < 8 {
-        return Err(DecodeError::NotACode);
+        return None;
     }
-    Ok((Value::Int(lower(prefix_of(bytes))), &bytes[8..]))
+    Some((ValueRef::Int(lower(prefix_of(bytes))), &bytes[8..]))
 }
 
 // The flag whose code the bytes begin with, and what comes after it.
-fn read_flag(bytes: &[u8]) -> Result<(Value, &[u8]), DecodeError>
-    ensures found { IfOk result (λ read. BeginsWith Kind.Flag bytes.now read.0 read.1.now) }
-    ensures none { IsErrOf result DecodeError.NotACode → BeginsWithNo Kind.Flag bytes.now }
-    ensures memory { IfErr result (λ e. e ≡ DecodeError.NotACode) }
+fn first_flag(bytes: &[u8]) -> Option<(ValueRef<'_>, &[u8])>
+    ensures found { IfSome result (λ read. BeginsWith Kind.Flag bytes.now (shown read.0) read.1.now) }
+    ensures none { IfNone result (BeginsWithNo Kind.Flag bytes.now) }
 {
     match bytes {
-        [0, rest @ ..] => Ok((Value::Flag(false), rest)),
-        [1, rest @ ..] => Ok((Value::Flag(true), rest)),
-        _ => Err(DecodeError::NotACode),
+        [0, rest @ ..] => Some((ValueRef::Flag(false), rest)),
+        [1, rest @ ..] => Some((ValueRef::Flag(true), rest)),
+        _ => None,
     }
 }
 
@@ -99,63 +99,73 @@ fn unescape<'a>(bytes: &'a [u8], text: &mut [u8; LONGEST_TEXT]) -> Option<(usize
     }
 }
 
-// What comes after the code of the text with which the bytes begin.
-fn skip_text(bytes: &[u8]) -> Option<&[u8]>
-    ensures found { IfSome result (λ rest. (text : value) × BeginsWith Kind.Text bytes.now text rest.now) }
+// The text without a zero byte whose code the bytes begin with, and what comes after it.
+fn plain_text(bytes: &[u8]) -> Option<(&[u8], &[u8])>
+    ensures { IfSome result (λ read. unescaped bytes.now ≡ Some (read.0.now, read.1.now)) }
+{
+    let (text, behind) = split_at_zero(bytes)?;
+    match behind {
+        [1, rest @ ..] => Some((text, rest)),
+        _ => None,
+    }
+}
+
+// The bytes of the text whose code the bytes begin with, and what comes after the code. They are lent from the code, or from
+// `room` where the text has a zero byte. There are none where the code breaks off, or where the text is too long.
+fn first_bytes<'a: 'b, 'b>(
+    bytes: &'a [u8],
+    room: &'b mut [u8; LONGEST_TEXT],
+) -> Option<(&'b [u8], &'a [u8])>
+    ensures found { IfSome result (λ read. unescaped bytes.now ≡ Some (read.0.now, read.1.now)) }
+    ensures none { IfNone result ((other rest : List ℕ) → unescaped bytes.now ≡ Some (other, rest) → LONGEST_TEXT < length other) }
+{
+    if let Some(read) = plain_text(bytes) {
+        return Some(read);
+    }
+    let (len, rest) = unescape(bytes, room)?;
+    Some((&room[..len], rest))
+}
+
+// Whether bytes are a text of a column.
+fn is_text(bytes: &[u8]) -> bool
+    ensures { result ≡ is_text bytes.now }
+{
+    match str::from_utf8(bytes) {
+        Ok(_) => bytes.len() <= LONGEST_TEXT,
+        Err(_) => false,
+    }
+}
+
+// The text whose code the bytes begin with, and what comes after it.
+fn first_text<'a: 'b, 'b>(
+    bytes: &'a [u8],
+    room: &'b mut [u8; LONGEST_TEXT],
+) -> Option<(ValueRef<'b>, &'a [u8])>
+    ensures found { IfSome result (λ read. BeginsWith Kind.Text bytes.now (shown read.0) read.1.now) }
     ensures none { IfNone result (BeginsWithNo Kind.Text bytes.now) }
 {
-    let mut text = [0; LONGEST_TEXT];
-    let Some((len, rest)) = unescape(bytes, &mut text) else {
-        return None;
-    };
-    match str::from_utf8(&text[..len]) {
-        Ok(_) => Some(rest),
-        Err(_) => None,
+    let (text, rest) = first_bytes(bytes, room)?;
+    if is_text(text) {
+        Some((ValueRef::Text(text), rest))
+    } else {
+        None
     }
 }
 
-// The text with whose code the bytes begin, and what comes after it.
-fn read_text(alloc: Global, bytes: &[u8]) -> Result<(Value, &[u8]), DecodeError>
-    ensures found { IfOk result (λ read. BeginsWith Kind.Text bytes.now read.0 read.1.now) }
-    ensures none { IsErrOf result DecodeError.NotACode → BeginsWithNo Kind.Text bytes.now }
-{
-    let mut text = [0; LONGEST_TEXT];
-    let Some((len, rest)) = unescape(bytes, &mut text) else {
-        return Err(DecodeError::NotACode);
-    };
-    match str::from_utf8(&text[..len]) {
-        Ok(text) => Ok((Value::Text(Text::new(alloc, text)?), rest)),
-        Err(_) => Err(DecodeError::NotACode),
-    }
-}
-
-// What comes after the code of the value of this kind with which the bytes begin.
-fn skip_value(kind: Kind, bytes: &[u8]) -> Option<&[u8]>
-    ensures found { IfSome result (λ rest. (skipped : value) × BeginsWith kind bytes.now skipped rest.now) }
+// The value of this kind whose code the bytes begin with, and what comes after it. A text is lent from the code, or from `room`
+// where it has a zero byte.
+fn first_value<'a: 'b, 'b>(
+    kind: Kind,
+    bytes: &'a [u8],
+    room: &'b mut [u8; LONGEST_TEXT],
+) -> Option<(ValueRef<'b>, &'a [u8])>
+    ensures found { IfSome result (λ read. BeginsWith kind bytes.now (shown read.0) read.1.now) }
     ensures none { IfNone result (BeginsWithNo kind bytes.now) }
 {
     match kind {
-        Kind::Int => {
-            let (_, rest) = read_int(bytes).ok()?;
-            Some(rest)
-        }
-        Kind::Text => skip_text(bytes),
-        Kind::Flag => {
-            let (_, rest) = read_flag(bytes).ok()?;
-            Some(rest)
-        }
-    }
-}
-
-// The value of this kind with whose code the bytes begin, and what comes after it.
-fn read_value(alloc: Global, kind: Kind, bytes: &[u8]) -> Result<(Value, &[u8]), DecodeError>
-    ensures found { IfOk result (λ read. BeginsWith kind bytes.now read.0 read.1.now) }
-    ensures none { IsErrOf result DecodeError.NotACode → BeginsWithNo kind bytes.now }
-{
-    match kind {
-        Kind::Int => read_int(bytes),
-        Kind::Text => read_text(alloc, bytes),
-        Kind::Flag => read_flag(bytes),
+        Kind::Int => first_int(bytes),
+        Kind::Text => first_text(bytes, room),
+        Kind::Flag => first_flag(bytes),
     }
 }
 
@@ -164,9 +174,10 @@ fn is_code(kinds: &[Kind], bytes: &[u8]) -> bool
     ensures yes { result ≡ true → IsCode kinds.now bytes.now }
     ensures no { result ≡ false → IsNoCode kinds.now bytes.now }
 {
+    let mut room = [0; LONGEST_TEXT];
     let mut code = bytes;
     for kind in kinds {
-        let Some(rest) = skip_value(*kind, code) else {
+        let Some((_, rest)) = first_value(*kind, code, &mut room) else {
             return false;
         };
         code = rest;
@@ -174,36 +185,31 @@ fn is_code(kinds: &[Kind], bytes: &[u8]) -> bool
     code.is_empty()
 }
 
-// Adds the value of this kind with whose code the bytes begin to a row, and answers what comes after it.
-fn read_onto<'a>(
-    row: &mut Row,
-    alloc: Global,
-    kind: Kind,
-    bytes: &'a [u8],
-) -> Result<&'a [u8], DecodeError>
-    ensures found { IfOk result (λ rest. (read : value) × ((row.new ≡ row.old ++ read ∷ []) × BeginsWith kind bytes.now read rest.now)) }
-    ensures none { IsErrOf result DecodeError.NotACode → BeginsWithNo kind bytes.now }
-{
-    let (value, rest) = read_value(alloc, kind, bytes)?;
-    row.push(alloc, value.as_ref())?;
-    Ok(rest)
-}
-
-// The row of the values of these kinds with whose code the bytes begin, and what comes after it.
-fn read_values<'a>(
+/// Adds the values of these kinds whose code the bytes are to a row, in one pass over the bytes. What the row holds after an
+/// `Err` is not said.
+pub fn decode_onto(
     alloc: Global,
     kinds: &[Kind],
-    bytes: &'a [u8],
-) -> Result<(Row, &'a [u8]), DecodeError>
-    ensures found { IfOk result (λ read. BeginsWithAll kinds.now bytes.now read.0 read.1.now) }
-    ensures none { IsErrOf result DecodeError.NotACode → BeginsWithNone kinds.now bytes.now }
+    bytes: &[u8],
+    row: &mut Row,
+) -> Result<(), DecodeError>
+    ensures code { OnOk result ((values : List value) × ((row.new ≡ row.old ++ values) × IsCodeOf kinds.now bytes.now values)) }
+    ensures none { IsErrOf result DecodeError.NotACode → IsNoCode kinds.now bytes.now }
 {
-    let mut row = Row::new();
+    let mut room = [0; LONGEST_TEXT];
     let mut code = bytes;
     for kind in kinds {
-        code = read_onto(&mut row, alloc, *kind, code)?;
+        let Some((value, rest)) = first_value(*kind, code, &mut room) else {
+            return Err(DecodeError::NotACode);
+        };
+        row.push(alloc, value)?;
+        code = rest;
     }
-    Ok((row, code))
+    if code.is_empty() {
+        Ok(())
+    } else {
+        Err(DecodeError::NotACode)
+    }
 }
 
 /// The values of these kinds whose code the bytes are. No other list of values of these kinds has it. Bytes that are no code
@@ -217,6 +223,7 @@ pub fn decode(alloc: Global, kinds: &[Kind], bytes: &[u8]) -> Result<Row, Decode
     if !is_code(kinds, bytes) {
         return Err(DecodeError::NotACode);
     }
-    let (row, _rest) = read_values(alloc, kinds, bytes)?;
+    let mut row = Row::new();
+    decode_onto(alloc, kinds, bytes, &mut row)?;
     Ok(row)
 }

@@ -10,14 +10,21 @@
 //! key.write_hex(&mut out)?;               // 8000000000000003
 //! let other = encode(alloc, &[Value::Int(-1)])?;
 //! other.compare(&key)                     // Less
+//! let mut code = CodeBuilder::new(alloc);
+//! code.add(ValueRef::Int(3))?;
+//! code.finish()?.compare(&key)            // Equal
+//! decode_onto(alloc, &[Kind::Int], key.as_slice(), &mut row)?;    // adds 3
 //! ```
 #![tactic(auto)]
 
 mod code;
+mod code_builder;
 mod decoder;
 mod hex;
 mod key;
+mod zeros;
 
 pub use code::{cmp_rows, encode, encode_prefix, encode_row};
-pub use decoder::{DecodeError, decode};
+pub use code_builder::CodeBuilder;
+pub use decoder::{DecodeError, decode, decode_onto};
 pub use key::Key;

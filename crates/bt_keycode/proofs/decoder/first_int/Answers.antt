@@ -1,9 +1,9 @@
 use Rattle.std.proofs.Common.{SFits, w64, rules}
 use Rattle.bt_keycode.proofs.Decoding.{int_found, no_int}
-use Rattle.bt_keycode.proofs.decoder.read_int.Goals as goal
+use Rattle.bt_keycode.proofs.decoder.first_int.Goals as goal
 
 pub returns-then-bytes-lt8-clause-none : goal.returns-then-bytes-lt8-clause-none
-returns-then-bytes-lt8-clause-none c = λ _ other rest b. no_int c.args.bytes.now other rest c.if-bytes-lt8.true b
+returns-then-bytes-lt8-clause-none c = λ other rest b. no_int c.args.bytes.now other rest c.if-bytes-lt8.true b
 
 pub returns-clause-found : goal.returns-clause-found
 returns-clause-found c =

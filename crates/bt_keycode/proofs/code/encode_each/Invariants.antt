@@ -1,9 +1,10 @@
 use Rattle.std.proofs.Common.{◌≡◌, ◌++◌, length}
 use Rattle.bt_keycode.specs.Codes.{code_of}
-use Rattle.bt_keycode.proofs.code.encode_long.Given as goal
+use Rattle.bt_keycode.proofs.code.encode_each.Given as goal
 
+-- the codes that were added, and those of the values that are left
 abbrev pub invariant-loop-value : goal.invariant-loop-value
-invariant-loop-value l = code_of l.fn.values ≡ l.bytes.items ++ code_of l.rest
+invariant-loop-value l = code_of l.fn.values ≡ l.code ++ code_of l.rest
 
 abbrev pub decreases-loop-value : goal.decreases-loop-value
 decreases-loop-value l = length l.rest
