@@ -3,12 +3,14 @@ pub mod Deals
 pub mod Drains
 pub mod Fits
 pub mod Flushes
+pub mod Folds
 pub mod Laws
 pub mod Loops
 pub mod Marks
 pub mod Messages
 pub mod Parts
 pub mod Plans
+pub mod Portions
 pub mod Shapes
 pub mod Trees
 pub mod Walks

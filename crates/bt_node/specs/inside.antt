@@ -5,6 +5,7 @@ pub mod Held
 pub mod Kinds
 pub mod Limits
 pub mod Lookups
+pub mod Openings
 pub mod Passes
 pub mod Shares
 pub mod Stored

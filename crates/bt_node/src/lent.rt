@@ -1,5 +1,5 @@
 //! Messages that are lent from the buffers where they are pending.
-ghost use Rattle.std.specs.Prelude.{◌≡◌, ◌++◌, ◌∷◌, [], false, true, IfOk, MatchOption, None, OnOk, map};
+ghost use Rattle.std.specs.Prelude.{◌≡◌, ◌++◌, ◌∷◌, [], false, true, IfOk, MatchOption, None, OnOk, map, not};
 ghost use Rattle.std.specs.Option.{option_copied};
 ghost use Rattle.bt_keycode.specs.Keys.{AllFrom, IsSorted, is_before, is_before_upper};
 ghost use Rattle.bt_messages.specs.Effects.{effect_of};
@@ -24,9 +24,16 @@ struct Entry<'a, V: Merge> {
 }
 
 /// Messages in order, lent from where they are pending, and taken off one by one. A contract sees the list of them.
-#[derive(Drop)]
 pub(crate) struct Lent<'a, V: Merge> {
     messages: VecDeque<Entry<'a, V>>,
+}
+
+impl<'a, V: Merge> Drop for Lent<'a, V> {
+    fn drop(self) {
+        let Lent {
+            messages: _messages,
+        } = self;
+    }
 }
 
 impl<'a, V: Merge> Model for Lent<'a, V> {
@@ -46,6 +53,34 @@ impl<'a, V: Merge> Lent<'a, V> {
         Lent {
             messages: VecDeque::new(alloc),
         }
+    }
+
+    /// The same messages once more.
+    pub(crate) fn again(&self, alloc: Global) -> Result<Self, AllocError>
+        ensures { IfOk result (λ copy. copy ≡ self.now) }
+    {
+        let mut copy = Lent::new(alloc);
+        for entry in self.messages.iter() {
+            copy.push(entry.key, entry.message)?;
+        }
+        Ok(copy)
+    }
+
+    /// What the messages to a key make of what it has. The first of them is found by halving.
+    pub(crate) fn effect_at(
+        &self,
+        alloc: Global,
+        key: &Key,
+        old: Held<'a, V>,
+    ) -> Result<Held<'a, V>, AllocError>
+        requires { IsSorted self.now }
+        ensures { IfOk result (λ value. value_of value ≡ value_after (effect_of V.merged) key.now self.now (value_of old.entry)) }
+    {
+        let (first, second) = self.messages.as_slices();
+        let earlier = entries_from(first, key);
+        let value = after_entries(alloc, earlier, key, old)?;
+        let later = entries_from(second, key);
+        after_entries(alloc, later, key, value)
     }
 
     // Adds a message behind the others.
@@ -134,6 +169,29 @@ impl<'a, V: Merge> Lent<'a, V> {
         Ok(value)
     }
 
+    // Takes off the messages with a key before this one.
+    fn drop_before(&mut self, key: &Key)
+        requires { IsSorted self.old }
+        ensures { self.new ≡ from key.now self.old }
+    {
+        while let Some(_) = self.next_before(Some(key)) {}
+    }
+
+    /// Takes off the messages up to a key, and gives what those to it make of what it has. Those of keys before it have no effect.
+    pub(crate) fn take_up_to(
+        &mut self,
+        alloc: Global,
+        key: &Key,
+        old: Held<'a, V>,
+    ) -> Result<Held<'a, V>, AllocError>
+        requires { IsSorted self.old }
+        ensures value { IfOk result (λ value. value_of value ≡ value_after (effect_of V.merged) key.now self.old (value_of old.entry)) }
+        ensures left { OnOk result (self.new ≡ messages_past key.now self.old) }
+    {
+        self.drop_before(key);
+        self.take_effect(alloc, key, old)
+    }
+
     // Moves the messages with a key before this one from other messages behind these.
     fn move_before(&mut self, others: &mut Lent<'a, V>, key: &Key) -> Result<(), AllocError>
         requires { IsSorted others.old }
@@ -147,6 +205,36 @@ impl<'a, V: Merge> Lent<'a, V> {
     }
 }
 
+// The messages with a key at or past this one, found by halving.
+fn entries_from<'e, 'a, V: Merge>(entries: &'e [Entry<'a, V>], key: &Key) -> &'e [Entry<'a, V>]
+    requires { IsSorted (map (λ m. (m.key.now, m.message.now)) entries.now) }
+    ensures { map (λ m. (m.key.now, m.message.now)) result.now ≡ from key.now (map (λ m. (m.key.now, m.message.now)) entries.now) }
+{
+    let place = entries.partition_point(|entry| entry.key.compare(key) == Ordering::Less);
+    &entries[place..]
+}
+
+// What the messages to the key at which they begin make of what it has.
+fn after_entries<'a, V: Merge>(
+    alloc: Global,
+    entries: &[Entry<'a, V>],
+    key: &Key,
+    old: Held<'a, V>,
+) -> Result<Held<'a, V>, AllocError>
+    requires sorted { IsSorted (map (λ m. (m.key.now, m.message.now)) entries.now) }
+    requires from { AllFrom key.now (map (λ m. (m.key.now, m.message.now)) entries.now) }
+    ensures { IfOk result (λ value. value_of value ≡ value_after (effect_of V.merged) key.now (map (λ m. (m.key.now, m.message.now)) entries.now) (value_of old.entry)) }
+{
+    let mut value = old;
+    for entry in entries {
+        if entry.key.compare(key) != Ordering::Equal {
+            return Ok(value);
+        }
+        value = value.after(alloc, entry.message)?;
+    }
+    Ok(value)
+}
+
 // Whether a key lies before a bound. A bound that is absent doesn't limit.
 pub(crate) fn lies_before(key: &Key, high: Option<&Key>) -> bool
     ensures { result ≡ is_before_upper (option_copied high.entry) key.now }
@@ -154,6 +242,16 @@ pub(crate) fn lies_before(key: &Key, high: Option<&Key>) -> bool
     match high {
         Some(high) => key.compare(high) == Ordering::Less,
         None => true,
+    }
+}
+
+/// Whether a range ends at or before the bound at which it begins. A bound that is absent doesn't limit.
+pub(crate) fn is_empty_range(from: Option<&Key>, to: Option<&Key>) -> bool
+    ensures { MatchOption from.entry (result ≡ false) (λ low. result ≡ not (is_before_upper (option_copied to.entry) low.now)) }
+{
+    match from {
+        Some(low) => !lies_before(low, to),
+        None => false,
     }
 }
 

@@ -47,6 +47,7 @@ mod lookup;
 mod lookups;
 mod node;
 mod planning;
+mod portions;
 mod rows;
 mod shape;
 mod share;
@@ -57,10 +58,11 @@ mod walk;
 
 pub use node::{Node, Parts, Siblings};
 pub use planning::{fullest_place, sum_of};
+pub use portions::Portion;
 pub use shape::{
     LARGEST_BUFFER, LARGEST_FANOUT, LARGEST_LEAF, SMALLEST_BUFFER, SMALLEST_FANOUT, SMALLEST_LEAF,
     Shape,
 };
 pub use tree::{Tree, absorb_alone, crown, drain_alone, pack, regroup};
-pub use visitor::Visitor;
+pub use visitor::{Copies, ForkVisitor, Visitor};
 pub use walk::Walk;

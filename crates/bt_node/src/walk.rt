@@ -1,18 +1,21 @@
 //! What can be seen of a tree, node by node.
-ghost use Rattle.std.specs.Prelude.{◌≡◌, ◌<◌, None, Some, fold, length, map, option_map, slice_get, take, IfOk, IsTrue, OnOk};
+ghost use Rattle.std.specs.Prelude.{◌≡◌, ◌<◌, cond, None, Some, fold, length, map, option_map, slice_get, take, true, IfOk, IsTrue, OnOk};
 ghost use Rattle.std.specs.FinMap.{find, is_sorted};
 ghost use Rattle.std.specs.Option.{option_copied};
-ghost use Rattle.bt_keycode.specs.Keys.{key_cmp};
+ghost use Rattle.bt_keycode.specs.Keys.{Key, is_between, key_cmp};
 ghost use Rattle.bt_messages.specs.Effects.{effect_of};
 ghost use Rattle.bt_node.specs.Fits.{IsInOrder};
 ghost use Rattle.bt_node.specs.Flushes.{holds};
 ghost use Rattle.bt_node.specs.Messages.{between};
+ghost use Rattle.bt_node.specs.Portions.{Chained, HaveThere, all_rows, owners};
 ghost use Rattle.bt_node.specs.Walks as walk;
 
+use crate::lent::is_empty_range;
 use crate::limit::Limit;
 use crate::lookup::value_at;
 use crate::lookups::{into_values, values_at};
 use crate::node::{Kind, Node};
+use crate::portions::{Portion, divided};
 use crate::visitor::{Copies, Visitor};
 use crate::visits::visit_between;
 use bt_keycode::Key;
@@ -197,5 +200,26 @@ impl<'a, V: Merge> Walk<'a, V> {
         let mut copies = Copies::new(alloc);
         self.visit(alloc, from, to, &mut copies)?;
         Ok(copies.into_rows())
+    }
+
+    /// The tree in portions, which can be read side by side: the subtrees at a depth, and leaves at less depth, that meet the bounds, each with the
+    /// messages above it that are for it. A bound that is absent doesn't limit. Nothing is copied. There is none where `to` is at or before `from`.
+    pub fn portions(
+        &self,
+        alloc: Global,
+        depth: usize,
+        from: Option<&'a Key>,
+        to: Option<&'a Key>,
+    ) -> Result<Vec<Portion<'a, V>>, AllocError>
+        requires { IsInOrder self.now }
+        ensures rows { IfOk result (λ parts. all_rows (effect_of V.merged) parts.items ≡ between (option_copied from.entry) (option_copied to.entry) (holds (effect_of V.merged) self.now)) }
+        ensures owners { IfOk result (λ parts. (key : Key) → owners key parts.items ≡ cond (is_between (option_copied from.entry) (option_copied to.entry) key) 1 0) }
+        ensures chained { IfOk result (λ parts. (key : Key) → is_between (option_copied from.entry) (option_copied to.entry) key ≡ true → Chained (option_copied from.entry) parts.items (option_copied to.entry)) }
+        ensures values { IfOk result (λ parts. (key : Key) → HaveThere (effect_of V.merged) key (find key_cmp key (holds (effect_of V.merged) self.now)) parts.items) }
+    {
+        if is_empty_range(from, to) {
+            return Ok(Vec::new(alloc));
+        }
+        divided(alloc, self.node, depth, from, to)
     }
 }

@@ -5,6 +5,7 @@ pub mod ChoiceLoop
 pub mod CrownLoop
 pub mod DealLoop
 pub mod DrainStep
+pub mod FirstChild
 pub mod FlushLoop
 pub mod GroupLoops
 pub mod LoadLoop
@@ -13,6 +14,7 @@ pub mod LentMessages
 pub mod LookupPath
 pub mod Marks
 pub mod PivotSearch
+pub mod PortionSteps
 pub mod RowPass
 pub mod RowSearch
 pub mod RowsLimited

@@ -8,6 +8,7 @@ use Rattle.bt_messages.specs.declared.message.Message.{Message}
 use Rattle.bt_messages.specs.declared.message.Message.TheVariants.{Put, Del, Ups}
 use Rattle.bt_keycode.specs.Keys.{Key}
 use Rattle.bt_node.specs.Messages.{Rows, Messages}
+use Rattle.bt_node.specs.Portions.{Portion}
 use Rattle.bt_node.specs.Trees.{Shape, Tree, leaf, inner, Nodes, none, node}
 
 -- a node behind its pivot, told by its rows or its buffer, or nothing: the end of nodes side by side
@@ -95,3 +96,10 @@ shape_code =
 -- a tree with the shape of its nodes
 abbrev pub shaped_tree_code : {V M : Type 0} → Coded V → Coded M → Coded (Shape × Tree V M)
 shaped_tree_code value message = coded× shape_code (tree_code value message)
+
+-- a portion is stored as its bounds, its subtree and its messages
+abbrev pub portion_code : {V M : Type 0} → Coded V → Coded M → Coded (Portion V M)
+portion_code {V} {M} value message =
+    code_by (Option Key × (Option Key × (Tree V M × Messages M)))
+    (coded× (coded_option (coded_list coded_ℕ)) (coded× (coded_option (coded_list coded_ℕ)) (coded× (tree_code value message) (coded_list (coded× (coded_list coded_ℕ) message)))))
+    (λ p. (p.low, (p.high, (p.tree, p.newer)))) (λ c. record { low = c.0; high = c.1.0; tree = c.1.1.0; newer = c.1.1.1 }) (λ _. refl)

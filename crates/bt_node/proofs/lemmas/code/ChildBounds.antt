@@ -41,7 +41,8 @@ next_past k p (q ∷ qs) is = elim (is_before k q) as (λ b. is_before k q ≡ b
   | false ↦ λ e at. next_past k p qs at
 ] refl is
 
-rest_rises : (p : Key) (ps : List Key) → AreRising (p ∷ ps) → AreRising ps
+-- keys behind the first of rising ones rise
+pub rest_rises : (p : Key) (ps : List Key) → AreRising (p ∷ ps) → AreRising ps
 rest_rises p [] rising = tt
 rest_rises p (q ∷ qs) rising = rising.1
 

@@ -1,5 +1,7 @@
 -- Lent messages, taken off one by one and merged with others.
-use Rattle.std.proofs.Common.{◌≡◌, Bool, true, false, not, cond, List, [], ◌∷◌, ◌++◌, append_assoc, append-nil, get_or, map, refl, sym, ap, subst, ◌∙◌, true≢false}
+use Rattle.std.proofs.Common.{◌≡◌, ◌<◌, ◌≤◌, ◌+◌, ◌-◌, ℕ, zero, suc, Bool, true, false, not, cond, List, [], ◌∷◌, ◌++◌, append_assoc, append-nil, arith, drop, get_or, length, map, refl, sym, ap, subst, take, ◌∙◌, true≢false}
+use Rattle.std.proofs.lemmas.List.{at_drop_more, map-append, take_rest}
+use Rattle.std.specs.List.Sorted.{IsPartitionedBy, IsPartitionPoint}
 use Rattle.std.specs.Cmp.{tied_itself}
 use Rattle.std.specs.Ordering.{eq_by_cmp, is_eq}
 use Rattle.std.specs.declared.option.Option.{Option}
@@ -8,7 +10,7 @@ use Rattle.bt_keycode.specs.Keys.{AllFrom, IsSorted, Key, is_before, is_before_u
 use Rattle.bt_messages.specs.inside.Merges.{messages_past, messages_up_to}
 use Rattle.bt_messages.specs.Messages.{messages_outside as outside}
 use Rattle.bt_node.specs.Messages.{Messages, before, between, from, value_after, with_messages}
-use Rattle.bt_keycode.proofs.offered.Order.{all_within-from, from_earlier, neither_before, not_before_itself, total_keys}
+use Rattle.bt_keycode.proofs.offered.Order.{all_within-from, from_earlier, later_chain, neither_before, not_after, not_before_itself, same_key, total_keys}
 use Rattle.bt_messages.proofs.offered.Placed.{alone, first_stays, newer_first}
 use Rattle.bt_messages.proofs.offered.Rows.{value_before}
 use Rattle.bt_node.proofs.lemmas.keys.SortedLists.{sorted-where}
@@ -95,6 +97,14 @@ module _ {M : Type 0} where
         ap (λ b. cond (not b) (m ∷ from k ms) (from k ms)) all.0 ∙ ap (λ zs. m ∷ zs) others.1,
       )
 
+  -- the messages past a key are among those from it on
+  pub past_from : (k : Key) (ms : Messages M) → IsSorted ms → messages_past k (from k ms) ≡ messages_past k ms
+  past_from k [] sorted = refl
+  past_from k (m ∷ ms) sorted = elim (is_before m.0 k) as (λ b. is_before m.0 k ≡ b → messages_past k (cond (not b) (m ∷ from k ms) (from k ms)) ≡ cond (is_before k m.0) (m ∷ ms) (messages_past k ms)) [
+    | true ↦ λ e. past_from k ms sorted.1 ∙ sym (ap (λ b. cond b (m ∷ ms) (messages_past k ms)) (not_after m.0 k e))
+    | false ↦ λ e. ap (λ zs. messages_past k (m ∷ zs)) (none_before_all k ms (from_earlier k m.0 ms e sorted.0)).1
+  ] refl
+
   -- the newer messages before the first older one, that one, and then the others
   merged_at : (o : Key × M) (os newer : Messages M) → IsSorted newer → with_messages newer (o ∷ os) ≡ before o.0 newer ++ o ∷ with_messages (from o.0 newer) os
   merged_at o os [] sorted = refl
@@ -129,6 +139,19 @@ module _ {V M : Type 0} (effect : Option V → M → Option V) where
       ∙ ap (λ b. value_after effect k rest (cond b (effect value m.1) value)) (ties k m.0 (neither_before k m.0 up low))
       ∙ ap (value_after effect k rest) (sym is)
 
+  -- at a later key those up to this one have none
+  pub value_past : (k j : Key) (ms : Messages M) (value : Option V) → is_before k j ≡ true → value_after effect j (messages_past k ms) value ≡ value_after effect j ms value
+  value_past k j [] value later = refl
+  value_past k j (m ∷ ms) value later = elim (is_before k m.0) as (λ b. is_before k m.0 ≡ b →
+      value_after effect j (cond b (m ∷ ms) (messages_past k ms)) value ≡ value_after effect j ms (cond (eq_by_cmp key_cmp j m.0) (effect value m.1) value)) [
+        | true ↦ λ e. refl
+        | false ↦ λ e. value_past k j ms value later ∙ ap (λ b. value_after effect j ms (cond b (effect value m.1) value)) (sym (elsewhere e (eq_by_cmp key_cmp j m.0) refl))
+      ] refl
+    where
+      elsewhere : is_before k m.0 ≡ false → (b : Bool) → eq_by_cmp key_cmp j m.0 ≡ b → eq_by_cmp key_cmp j m.0 ≡ false
+      elsewhere up true is = absurd (true≢false (sym later ∙ ap (is_before k) (same_key j m.0 is) ∙ up))
+      elsewhere up false is = is
+
   -- those past the key have none
   pub none_applied : (k : Key) (ms : Messages M) (value wanted : Option V) → messages_up_to k ms ≡ [] → IsSorted ms → wanted ≡ value_after effect k ms value → value ≡ wanted
   none_applied k [] value wanted none sorted so_far = sym so_far
@@ -141,3 +164,49 @@ module _ {V M : Type 0} (effect : Option V → M → Option V) where
 -- what is left from a key on is sorted
 pub rest_sorted_from : {M : Type 0} (k : Key) (ms rest : Messages M) → IsSorted ms → rest ≡ from k ms → IsSorted rest
 rest_sorted_from {M} k ms rest sorted is = subst (IsSorted {X = M}) (sym is) (sorted-where (λ x. not (is_before x k)) ms sorted)
+
+-- ---- found by halving
+
+module _ {R M : Type 0} (seen : R → Key × M) where
+  -- the messages of a list in two parts
+  pub in_parts : (first second items : List R) (ms : Messages M) → first ++ second ≡ items → map seen items ≡ ms → map seen first ++ map seen second ≡ ms
+  in_parts first second items ms parts are = sym (map-append seen first second) ∙ ap (map seen) parts ∙ are
+
+  -- the first of the messages that are left, and the others
+  pub first_left : (items : List R) (i : ℕ) (r : R) → i < length items → r ≡ get_or items i r → map seen (drop i items) ≡ seen r ∷ map seen (drop (i + 1) items)
+  first_left items i r within is = at_drop_more (map seen) items i r within ∙ ap (λ x. seen x ∷ map seen (drop (i + 1) items)) (sym is)
+
+  none_earlier : (a : Key) (rs : List R) (j : ℕ) (d : R) → AllFrom a (map seen rs) → j < length rs → is_before (seen (get_or rs j d)).0 a ≡ false
+  none_earlier a [] j d all within = absurd (omega (arith, within))
+  none_earlier a (r ∷ rs) zero d all within = all.0
+  none_earlier a (r ∷ rs) (suc j) d all within = none_earlier a rs j d all.1 (omega (arith, within))
+
+  module _ (k : Key) where
+    earlier_too : (a b : Key) (t : Bool) → is_before a k ≡ t → is_before b a ≡ false → is_before b k ≡ true → is_before a k ≡ true
+    earlier_too a b true e later before = e
+    earlier_too a b false e later before = absurd (true≢false (sym before ∙ later_chain k a b e later))
+
+    -- what is before a key stands first
+    pub halves : (rs : List R) → IsSorted (map seen rs) → IsPartitionedBy (λ r. is_before (seen r).0 k) rs
+    halves [] sorted i j d up within e = absurd (omega (arith, within))
+    halves (r ∷ rs) sorted zero zero d up within e = e
+    halves (r ∷ rs) sorted zero (suc j) d up within e = earlier_too (seen r).0 (seen (get_or rs j d)).0 (is_before (seen r).0 k) refl (none_earlier (seen r).0 rs j d sorted.0 (omega (arith, within))) e
+    halves (r ∷ rs) sorted (suc i) zero d up within e = absurd (omega (arith, up))
+    halves (r ∷ rs) sorted (suc i) (suc j) d up within e = halves rs sorted.1 i j d (omega (arith, up)) (omega (arith, within)) e
+
+    all_kept : (rs : List R) → ((j : ℕ) (d : R) → 0 ≤ j → j < length rs → is_before (seen (get_or rs j d)).0 k ≡ false) → map seen rs ≡ from k (map seen rs)
+    all_kept [] later = refl
+    all_kept (r ∷ rs) later =
+        ap (λ zs. seen r ∷ zs) (all_kept rs (λ j d up within. later (suc j) d (omega arith) (omega (arith, within))))
+        ∙ sym (ap (λ b. cond (not b) (seen r ∷ from k (map seen rs)) (from k (map seen rs))) (later 0 r (omega arith) (omega arith)))
+
+    -- what stands from there on
+    from_point : (rs : List R) (n : ℕ) → IsPartitionPoint (λ r. is_before (seen r).0 k ≡ true) (λ r. is_before (seen r).0 k ≡ false) rs n → map seen (drop n rs) ≡ from k (map seen rs)
+    from_point rs zero point = all_kept rs point.1
+    from_point [] (suc n) point = refl
+    from_point (r ∷ rs) (suc n) point =
+        from_point rs n ((λ j d up within. point.0 (suc j) d (omega arith) (omega (arith, within))), (λ j d up within. point.1 (suc j) d (omega (arith, up)) (omega (arith, within))))
+        ∙ sym (ap (λ b. cond (not b) (seen r ∷ from k (map seen rs)) (from k (map seen rs))) (point.0 0 r (omega arith) (omega arith)))
+
+    pub slice_from : (rs : List R) (n : ℕ) → IsPartitionPoint (λ r. is_before (seen r).0 k ≡ true) (λ r. is_before (seen r).0 k ≡ false) rs n → map seen (take (length rs - n) (drop n rs)) ≡ from k (map seen rs)
+    slice_from rs n point = ap (map seen) (take_rest rs n) ∙ from_point rs n point

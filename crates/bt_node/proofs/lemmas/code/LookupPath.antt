@@ -1,5 +1,5 @@
 -- The path to a key, and what the messages on it make of the value there.
-use Rattle.std.proofs.Common.{◌≡◌, ◌≤◌, map, ℕ, suc, true, false, cond, not, List, [], ◌∷◌, get_or, length, drop, refl, sym, ap, subst, ◌∙◌, true≢false, arith}
+use Rattle.std.proofs.Common.{◌≡◌, ◌≤◌, map, ℕ, suc, true, false, cond, not, List, [], ◌∷◌, ◌++◌, get_or, length, drop, refl, sym, ap, subst, ◌∙◌, true≢false, arith}
 use Rattle.std.specs.Bool.{◌==◌}
 use Rattle.std.specs.Ordering.{eq_by_cmp, is_eq, is_lt, ordering_index, ordering_reverse}
 use Rattle.std.specs.declared.cmp.Ordering.{Ordering}
@@ -14,7 +14,7 @@ use Rattle.bt_node.specs.inside.Lookups.{pivots_up_to, value_at, value_below}
 use Rattle.bt_node.specs.inside.Held.{BeginsWith, Resets, begun, value_of}
 use Rattle.bt_node.specs.declared.held.Held.{Held}
 use Rattle.bt_keycode.proofs.offered.Order.{all_within-from, apart_back, not_before_itself, total_keys}
-use Rattle.bt_node.proofs.lemmas.rows.Values.{value-above}
+use Rattle.bt_node.proofs.lemmas.rows.Values.{value-above, value-append}
 
 -- what a comparison says of the keys the other way round
 tied : (k at : Key) (o : Ordering) → o ≡ key_cmp at k → false ≡ not (ordering_index o == 1) → eq_by_cmp key_cmp k at ≡ true
@@ -127,6 +127,15 @@ module _ {V D : Type 0} (effect : Option V → Message V D → Option V) where
   -- what the messages from the key on make of a value, in order and from the key on
   pub all_left : (k : Key) (buffer ms : Messages (Message V D)) (old : Option V) → ms ≡ from k buffer → value_after effect k buffer old ≡ value_after effect k ms old
   all_left k buffer ms old is = sym (ap (λ xs. value_after effect k xs old) is ∙ value_after-from k buffer old)
+
+  -- in two parts, of each of which those before the key are left out
+  pub two_parts : (k : Key) (first second ms these those : Messages (Message V D)) (old value wanted : Option V) → first ++ second ≡ ms → these ≡ from k first → those ≡ from k second →
+      value ≡ value_after effect k these old → wanted ≡ value_after effect k those value → wanted ≡ value_after effect k ms old
+  two_parts k first second ms these those old value wanted parts these_are those_are value_is wanted_is =
+      wanted_is ∙ sym (all_left k second those value those_are)
+      ∙ ap (value_after effect k second) (value_is ∙ sym (all_left k first these old these_are))
+      ∙ sym (value-append effect k first second old)
+      ∙ ap (λ zs. value_after effect k zs old) parts
 
   -- before any is looked at
   pub leads_from : (k : Key) (buffer ms : Messages (Message V D)) → ms ≡ from k buffer → LeadsTo k buffer ms

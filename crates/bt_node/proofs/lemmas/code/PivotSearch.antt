@@ -10,6 +10,7 @@ use Rattle.bt_node.specs.Messages.{Messages}
 use Rattle.bt_node.specs.Parts.{AreRising}
 use Rattle.bt_node.specs.Trees.{Siblings, Tree, inner, nodes}
 use Rattle.bt_keycode.proofs.offered.Order.{later_chain, not_after, not_before_itself}
+use Rattle.bt_node.proofs.lemmas.code.ChildBounds.{rest_rises}
 use Rattle.bt_node.proofs.lemmas.code.RowsOfChildren.{siblings_lie}
 
 not_before_first : (p : Key) (ps : List Key) (j : ℕ) (d : Key) → AreRising (p ∷ ps) → j < length ps → is_before (get_or ps j d) p ≡ false
@@ -17,16 +18,12 @@ not_before_first p [] j d rising within = absurd (omega (arith, within))
 not_before_first p (q ∷ qs) zero d rising within = not_after p q rising.0
 not_before_first p (q ∷ qs) (suc j) d rising within = later_chain p q (get_or qs j d) (not_after p q rising.0) (not_before_first q qs j d rising.1 (omega (arith, within)))
 
-others_rise : (p : Key) (ps : List Key) → AreRising (p ∷ ps) → AreRising ps
-others_rise p [] rising = tt
-others_rise p (q ∷ qs) rising = rising.1
-
 in_order : (ps : List Key) (i j : ℕ) (d : Key) → AreRising ps → i ≤ j → j < length ps → is_before (get_or ps j d) (get_or ps i d) ≡ false
 in_order [] i j d rising up within = absurd (omega (arith, within))
 in_order (p ∷ ps) zero zero d rising up within = not_before_itself p
 in_order (p ∷ ps) zero (suc j) d rising up within = not_before_first p ps j d rising (omega (arith, within))
 in_order (p ∷ ps) (suc i) zero d rising up within = absurd (omega (arith, up))
-in_order (p ∷ ps) (suc i) (suc j) d rising up within = in_order ps i j d (others_rise p ps rising) (omega (arith, up)) (omega (arith, within))
+in_order (p ∷ ps) (suc i) (suc j) d rising up within = in_order ps i j d (rest_rises p ps rising) (omega (arith, up)) (omega (arith, within))
 
 -- whether a pivot is at most a key
 abbrev pub is_up_to : Key → Key → Bool

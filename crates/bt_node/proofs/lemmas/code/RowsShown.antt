@@ -1,6 +1,5 @@
 -- The rows of an inner node, shown child by child, each with the messages above it.
 use Rattle.std.proofs.Common.{◌≡◌, ◌≤◌, ◌<◌, ℕ, true, false, T, List, [], ◌∷◌, ◌++◌, append_assoc, append-nil, fold, get_or, length, map, sym, ap, subst, ◌∙◌}
-use Rattle.std.proofs.lemmas.List.Sums.{fold-append}
 use Rattle.std.specs.FinMap.{find, is_sorted}
 use Rattle.std.specs.declared.option.Option.{Option}
 use Rattle.std.specs.declared.option.Option.TheVariants.{None, Some}
@@ -61,11 +60,9 @@ module _ {V D : Type 0} (effect : Option V → Message V D → Option V) where
 
       module _ (low high : Option Key) (newer above own merged : Messages (Message V D)) (belongs : (q : Key) → is_between low high q ≡ true → place ≡ pivots_up_to q ps)
           (own_does : (q : Key) → is_between low high q ≡ true → (old : Option V) → value_after effect q own old ≡ value_after effect q buffer old) (own_sorted : IsSorted own) (above_is : above ≡ between None high newer) (merged_is : merged ≡ with_messages above own) where
-        -- the rows of a child after the messages that are for it, between its bounds
-        pub child_part : between low high (rows_after effect merged (holds effect child)) ≡ between low high (rows_after effect newer (holds effect t))
-        child_part =
-            same-between low high _ _ (after-sorted merged child child-order) (after-sorted newer t order)
-            (λ q inside.
+        -- at a key between its bounds a child has, after the messages that are for it, what the node has after the newer ones
+        pub child_found : (q : Key) → is_between low high q ≡ true → find key_cmp q (rows_after effect merged (holds effect child)) ≡ find key_cmp q (rows_after effect newer (holds effect t))
+        child_found q inside =
             let old = find key_cmp q (holds effect child) in
             find-rows effect q merged (holds effect child)
             ∙ ap (λ ms. value_after effect q ms old) merged_is
@@ -75,34 +72,38 @@ module _ {V D : Type 0} (effect : Option V → Message V D → Option V) where
             ∙ value-inside effect None high q newer (value_after effect q buffer old) (between_below low high q inside)
             ∙ ap (λ o. value_after effect q newer (value_after effect q buffer o)) (child_has q (belongs q inside))
             ∙ ap (value_after effect q newer) (sym (find-rows effect q buffer (all_hold effect xs)) ∙ ap (find key_cmp q) (sym held_above))
-            ∙ sym (find-rows effect q newer (holds effect t)))
+            ∙ sym (find-rows effect q newer (holds effect t))
 
-        module _ {S : Type 0} (visited : S → Key × V → S) (start shown wanted : S) (to : Option Key) (so_far : wanted ≡ fold visited start (between low to (rows_after effect newer (holds effect t))))
-            (show : shown ≡ fold visited start (between low high (rows_after effect merged (holds effect child)))) where
-          -- the last child
-          pub last_part : high ≡ to → shown ≡ wanted
-          last_part is = show ∙ ap (fold visited start) (child_part ∙ ap (λ h. between low h (rows_after effect newer (holds effect t))) is) ∙ sym so_far
+        -- the rows of a child after the messages that are for it, between its bounds
+        pub child_part : between low high (rows_after effect merged (holds effect child)) ≡ between low high (rows_after effect newer (holds effect t))
+        child_part = same-between low high _ _ (after-sorted merged child child-order) (after-sorted newer t order) child_found
 
-          -- a child before others, which come after it with the messages that are left
-          pub next_part : (p : Key) (rest : Messages (Message V D)) → high ≡ Some p → rest ≡ outside None high newer → is_before_lower low p ≡ false → is_before_upper to p ≡ true →
-              wanted ≡ fold visited shown (between (Some p) to (rows_after effect rest (holds effect t)))
-          next_part p rest is rest_is from_low below_to =
-              let all = rows_after effect newer (holds effect t) in
-              let sorted = after-sorted newer t order in
-              let left : between (Some p) to (rows_after effect rest (holds effect t)) ≡ between (Some p) to all =
-              same-between (Some p) to (rows_after effect rest (holds effect t)) all (after-sorted rest t order) sorted
-              (λ q inside.
+        -- the last child has all that the node has from its lower bound on
+        pub last_rows : (to : Option Key) → high ≡ to → between low high (rows_after effect merged (holds effect child)) ≡ between low to (rows_after effect newer (holds effect t))
+        last_rows to is = child_part ∙ ap (λ h. between low h (rows_after effect newer (holds effect t))) is
+
+        -- a child before others, which come after it with the messages that are left
+        module _ (to : Option Key) (p : Key) (rest : Messages (Message V D)) (is : high ≡ Some p) (rest_is : rest ≡ outside None high newer) where
+          pub rest_found : (q : Key) → is_between (Some p) to q ≡ true → find key_cmp q (rows_after effect rest (holds effect t)) ≡ find key_cmp q (rows_after effect newer (holds effect t))
+          rest_found q inside =
               find-rows effect q rest (holds effect t)
               ∙ ap (λ ms. value_after effect q ms (find key_cmp q (holds effect t))) (rest_is ∙ ap (λ h. outside None h newer) is)
               ∙ value_after-later effect p q newer (find key_cmp q (holds effect t)) (between_from (Some p) to q inside)
-              ∙ sym (find-rows effect q newer (holds effect t))) in
-              so_far ∙ ap (fold visited start) (split-between low to p from_low below_to all (in_order all sorted))
-              ∙ fold-append visited start (between low (Some p) all) (between (Some p) to all)
-              ∙ ap (λ s. fold visited s (between (Some p) to all)) (sym (show ∙ ap (fold visited start) (child_part ∙ ap (λ h. between low h all) is)))
-              ∙ ap (fold visited shown) (sym left)
+              ∙ sym (find-rows effect q newer (holds effect t))
+
+          pub next_rows : is_before_lower low p ≡ false → is_before_upper to p ≡ true →
+              between low high (rows_after effect merged (holds effect child)) ++ between (Some p) to (rows_after effect rest (holds effect t)) ≡ between low to (rows_after effect newer (holds effect t))
+          next_rows from_low below_to =
+              let all = rows_after effect newer (holds effect t) in
+              let sorted = after-sorted newer t order in
+              let left : between (Some p) to (rows_after effect rest (holds effect t)) ≡ between (Some p) to all =
+              same-between (Some p) to (rows_after effect rest (holds effect t)) all (after-sorted rest t order) sorted rest_found in
+              ap (λ l. l ++ between (Some p) to (rows_after effect rest (holds effect t))) (child_part ∙ ap (λ h. between low h all) is)
+              ∙ ap (λ l. between low (Some p) all ++ l) left
+              ∙ sym (split-between low to p from_low below_to all (in_order all sorted))
 
 -- rows that are copied one by one
-copied_after : {R : Type 0} (start rows : List R) → fold (λ done row. done ++ row ∷ []) start rows ≡ start ++ rows
+pub copied_after : {R : Type 0} (start rows : List R) → fold (λ done row. done ++ row ∷ []) start rows ≡ start ++ rows
 copied_after start [] = sym (append-nil start)
 copied_after start (r ∷ rs) = copied_after (start ++ r ∷ []) rs ∙ append_assoc start (r ∷ []) rs
 

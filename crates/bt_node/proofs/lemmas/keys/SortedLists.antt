@@ -29,6 +29,15 @@ module _ {X : Type 0} where
   from-back k [] ys h = h
   from-back k (x ∷ xs) ys h = from-back k xs ys h.1
 
+  -- the parts of a sorted list are sorted
+  pub sorted-prefix : (xs ys : List (Key × X)) → IsSorted (xs ++ ys) → IsSorted xs
+  sorted-prefix [] ys r = tt
+  sorted-prefix (x ∷ xs) ys r = (from-prefix x.0 xs ys r.0, sorted-prefix xs ys r.1)
+
+  pub sorted-back : (xs ys : List (Key × X)) → IsSorted (xs ++ ys) → IsSorted ys
+  sorted-back [] ys r = r
+  sorted-back (x ∷ xs) ys r = sorted-back xs ys r.1
+
   pub from-joined : (k : Key) (xs ys : List (Key × X)) → AllFrom k xs → AllFrom k ys → AllFrom k (xs ++ ys)
   from-joined k [] ys h i = i
   from-joined k (x ∷ xs) ys h i = (h.0, from-joined k xs ys h.1 i)

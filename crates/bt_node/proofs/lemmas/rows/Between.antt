@@ -1,6 +1,8 @@
 -- Rows between two bounds: those after messages come of the messages and the rows between the bounds.
-use Rattle.std.proofs.Common.{◌≡◌, Bool, true, false, cond, not, ◌&&◌, T, [], ◌∷◌, ◌++◌, refl, sym, ap, subst, ◌∙◌, true≢false}
+use Rattle.std.proofs.Common.{◌≡◌, Bool, Bor, true, false, cond, not, ◌&&◌, T, [], ◌∷◌, ◌++◌, refl, sym, ap, subst, ◌∙◌, true≢false}
 use Rattle.std.specs.Ordering.{eq_by_cmp}
+use Rattle.std.specs.Option.{option_copied}
+use Rattle.std.specs.Prelude.{MatchOption}
 use Rattle.std.specs.FinMap.{find, is_sorted, nat_cmp-IsAntisymmetric, slice_cmp-IsAntisymmetric}
 use Rattle.std.specs.FinMap.Entries.{below_all, find-where_key, is_sorted-where_key, same_entries}
 use Rattle.std.specs.declared.option.Option.{Option}
@@ -11,7 +13,7 @@ use Rattle.bt_keycode.proofs.offered.Order.{before_chain, from_earlier, later_ch
 use Rattle.bt_node.proofs.lemmas.rows.RowsAfter.{rows_after-sorted, t_first, t_second, true_t}
 use Rattle.bt_node.proofs.lemmas.rows.Values.{find-rows}
 
-outside_upper : (b : Bool) → b && false ≡ false
+pub outside_upper : (b : Bool) → b && false ≡ false
 outside_upper true = refl
 outside_upper false = refl
 
@@ -148,15 +150,15 @@ module _ {X : Type 0} where
     | false ↦ λ e. (record { from = e; below = within.0.below }, rest-within low to p xs within.1)
   ] refl
 
-later_from : (l : Option Key) (p q : Key) → is_before_lower l p ≡ false → is_before q p ≡ false → is_before_lower l q ≡ false
+pub later_from : (l : Option Key) (p q : Key) → is_before_lower l p ≡ false → is_before q p ≡ false → is_before_lower l q ≡ false
 later_from None p q e f = refl
 later_from (Some l) p q e f = later_chain l p q e f
 
-earlier_below : (t : Option Key) (p q : Key) → is_before_upper t p ≡ true → is_before q p ≡ true → is_before_upper t q ≡ true
+pub earlier_below : (t : Option Key) (p q : Key) → is_before_upper t p ≡ true → is_before q p ≡ true → is_before_upper t q ≡ true
 earlier_below None p q e f = refl
 earlier_below (Some t) p q e f = before_chain q p t f e
 
-same_upper : (a s t : Bool) → s ≡ true → t ≡ true → a && s ≡ a && t
+pub same_upper : (a s t : Bool) → s ≡ true → t ≡ true → a && s ≡ a && t
 same_upper a s t e f = ap (λ b. a && b) (e ∙ sym f)
 
 module _ {V : Type 0} (low to : Option Key) (p : Key) (from_low : is_before_lower low p ≡ false) (below_to : is_before_upper to p ≡ true) where
@@ -194,6 +196,27 @@ module _ {V : Type 0} (low to : Option Key) (p : Key) (from_low : is_before_lowe
           cond b (r ∷ between low to rs) (between low to rs) ≡ cond b (r ∷ between low (Some p) rs) (between low (Some p) rs) ++ between (Some p) to rs
       either true r rs others = ap (λ zs. r ∷ zs) others
       either false r rs others = others
+
+-- nothing lies between a bound and one that is not past it
+none_past : (low : Key) (to : Option Key) (q : Key) → is_before_upper to low ≡ false → is_between (Some low) to q ≡ false
+none_past low None q ends = absurd (true≢false ends)
+none_past low (Some t) q ends = elim (is_before q low) as (λ b. is_before q low ≡ b → not b && is_before q t ≡ false) [
+  | true ↦ λ e. refl
+  | false ↦ λ e. later_chain t low q ends e
+] refl
+
+not_true : (b c : Bool) → b ≡ not c → b ≡ true → c ≡ false
+not_true b true is e = absurd (true≢false (sym e ∙ is))
+not_true b false is e = refl
+
+pub empty_range : (from : Option (Bor Key)) (to : Option Key) (is_empty : Bool) → MatchOption from (is_empty ≡ false) (λ low. is_empty ≡ not (is_before_upper to low.now)) → is_empty ≡ true →
+    (q : Key) → is_between (option_copied from) to q ≡ false
+empty_range None to is_empty is e q = absurd (true≢false (sym e ∙ is))
+empty_range (Some low) to is_empty is e q = none_past low.now to q (not_true is_empty (is_before_upper to low.now) is e)
+
+pub none_between : {V : Type 0} (from to : Option Key) (rs : Rows V) → ((q : Key) → is_between from to q ≡ false) → between from to rs ≡ []
+none_between from to [] none = refl
+none_between from to (r ∷ rs) none = dropped from to r rs (none r.0) ∙ none_between from to rs none
 
 -- rows that agree at all keys between two bounds
 pub same-between : {V : Type 0} (from to : Option Key) (rs ss : Rows V) → T (is_sorted key_cmp rs) → T (is_sorted key_cmp ss) →

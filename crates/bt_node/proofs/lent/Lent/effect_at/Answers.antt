@@ -1,0 +1,43 @@
+use Rattle.std.proofs.Common.{subst, sym}
+use Rattle.bt_keycode.specs.Keys.{IsSorted}
+use Rattle.bt_messages.specs.Effects.{effect_of}
+use Rattle.bt_node.specs.inside.Held.{value_of}
+use Rattle.bt_node.proofs.lemmas.code.AbsorbStep.{if_ok}
+use Rattle.bt_node.proofs.lemmas.code.LentMessages.{in_parts, rest_sorted_from}
+use Rattle.bt_node.proofs.lemmas.code.LookupPath.{left_from, two_parts}
+use Rattle.bt_node.proofs.lemmas.keys.SortedLists.{sorted-back, sorted-prefix}
+use Rattle.bt_node.proofs.lent.Lent.effect_at.Goals as goal
+
+pub entries_from-earlier-requires : goal.entries_from-earlier-requires
+entries_from-earlier-requires g c =
+    let parts = in_parts (λ m. (m.key.now, m.message.now)) c.as_slices.result.0.now c.as_slices.result.1.now c.self.inside.messages.items c.args.self.now c.as_slices.ensures.items c.self.view_is in
+    sorted-prefix _ _ (subst IsSorted (sym parts) c.requires)
+
+pub entries_from-later-requires : goal.entries_from-later-requires
+entries_from-later-requires g c =
+    let parts = in_parts (λ m. (m.key.now, m.message.now)) c.as_slices.result.0.now c.as_slices.result.1.now c.self.inside.messages.items c.args.self.now c.as_slices.ensures.items c.self.view_is in
+    sorted-back _ _ (subst IsSorted (sym parts) c.requires)
+
+pub after_entries-requires-clause-sorted : goal.after_entries-requires-clause-sorted
+after_entries-requires-clause-sorted g c =
+    let parts = in_parts (λ m. (m.key.now, m.message.now)) c.as_slices.result.0.now c.as_slices.result.1.now c.self.inside.messages.items c.args.self.now c.as_slices.ensures.items c.self.view_is in
+    rest_sorted_from c.args.key.now _ _ (sorted-prefix _ _ (subst IsSorted (sym parts) c.requires)) c.entries_from-earlier.ensures
+
+pub after_entries-requires-clause-from : goal.after_entries-requires-clause-from
+after_entries-requires-clause-from g c = left_from (effect_of g.V.Merge.merged) c.args.key.now _ _ c.entries_from-earlier.ensures
+
+pub after_entries-requires-2-clause-sorted : goal.after_entries-requires-2-clause-sorted
+after_entries-requires-2-clause-sorted g c =
+    let parts = in_parts (λ m. (m.key.now, m.message.now)) c.as_slices.result.0.now c.as_slices.result.1.now c.self.inside.messages.items c.args.self.now c.as_slices.ensures.items c.self.view_is in
+    rest_sorted_from c.args.key.now _ _ (sorted-back _ _ (subst IsSorted (sym parts) c.requires)) c.entries_from-later.ensures
+
+pub after_entries-requires-2-clause-from : goal.after_entries-requires-2-clause-from
+after_entries-requires-2-clause-from g c = left_from (effect_of g.V.Merge.merged) c.args.key.now _ _ c.entries_from-later.ensures
+
+pub returns : goal.returns
+returns g c =
+    let parts = in_parts (λ m. (m.key.now, m.message.now)) c.as_slices.result.0.now c.as_slices.result.1.now c.self.inside.messages.items c.args.self.now c.as_slices.ensures.items c.self.view_is in
+    if_ok _ _ c.after_entries-2.result
+    (λ value e. two_parts (effect_of g.V.Merge.merged) c.args.key.now _ _ c.args.self.now _ _ (value_of c.args.old) (value_of c.in_ok-value.value) (value_of value) parts c.entries_from-earlier.ensures c.entries_from-later.ensures
+    c.in_ok-value.ensures e)
+    c.after_entries-2.ensures
