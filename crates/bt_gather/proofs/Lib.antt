@@ -1,8 +1,10 @@
 pub mod CutJobs
 pub mod Eithers
 pub mod Filled
+pub mod ForkedParts
 pub mod HolePlaces
 pub mod Kept
+pub mod KeyShares
 pub mod NoMisfit
 pub mod Opening
 pub mod PieceShares

@@ -1,5 +1,6 @@
 pub mod Eithers
 pub mod Fillings
+pub mod KeyShares
 pub mod Marks
 pub mod RoundJobs
 pub mod RoundTrees

@@ -7,7 +7,10 @@
 //! ```
 //!
 //! A tree is cut by `bt_plan`; a worker runs each job by [`run_job`]; and [`fill`] puts the pieces, at most one at each hole, into the tree
-//! again. [`sink`] and [`drain`] do all of it. Here flushes meet threads, and nowhere else.
+//! again. [`sink`] and [`drain`] do all of it.
+//!
+//! A tree is also read by a crew. The portions that it has at the crew's depth are jobs that borrow it: [`read`] shows each to a fork of a visitor, [`rebuild`]
+//! copies the rows and packs them anew, and [`values`] looks up keys. Here flushes and reads of trees meet threads, and nowhere else.
 //!
 //! Jobs are numbered tree by tree, rows first, and each tree takes as many pieces as it has jobs, so what a run gives by its numbers comes back to
 //! its trees. Nodes and messages are moved, never copied. Where memory is refused, every worker has ended before the answer comes.
@@ -16,21 +19,28 @@
 //! let crew = Crew::new(4, 2, 64, NoGate)?;
 //! let (rows, entries) = sink(&rt, alloc, rows, entries, &crew)?;
 //! let rows = drain(&rt, alloc, tree, &crew)?;
+//! let copies = read(&rt, alloc, &rows, Some(&from), None, Copies::new(alloc), &crew)?;
 //! ```
 //!
 //! `specs` has the definitions. `Rounds` says what becomes of several trees, `Misfits` what is wrong with pieces that do not fill a tree in pieces, and `Laws`
 //! what [`fill`] asks for and what it refuses.
 #![tactic(auto)]
 
+mod crews;
 mod either;
 mod filling;
 mod flush_work;
+mod lookups;
 mod misfit;
 mod places;
+mod reads;
 mod round;
 mod round_tree;
 
+pub use bt_node::Portion;
 pub use filling::{FillError, fill};
 pub use flush_work::run_job;
+pub use lookups::values;
 pub use misfit::Misfit;
+pub use reads::{read, rebuild};
 pub use round::{drain, sink};

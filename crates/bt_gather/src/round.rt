@@ -1,5 +1,5 @@
 //! One round over trees: the flushes of all of them are jobs of one run.
-ghost use Rattle.std.specs.Prelude.{◌≡◌, ◌≤◌, ◌+◌, ◌*◌, ◌/◌, IfOk, length, map};
+ghost use Rattle.std.specs.Prelude.{◌≡◌, ◌≤◌, ◌+◌, IfOk, length, map};
 ghost use Rattle.bt_messages.specs.Effects.{effect_of};
 ghost use Rattle.bt_node.specs.Drains.{IsDry, drained};
 ghost use Rattle.bt_node.specs.Fits.{HasShape};
@@ -7,27 +7,17 @@ ghost use Rattle.bt_node.specs.Laws.{HoldsTheSame};
 ghost use Rattle.bt_gather.specs.Rounds.{AllHaveShape, AllHoldAfter, all_sunk};
 ghost use Rattle.bt_gather.specs.inside.RoundJobs.{AreRunnable, piece_of};
 
+use crate::crews::{job_values, most_workers};
 use crate::either::{one_list, two_lists};
 use crate::flush_work::{FlushWork, ShapedJob};
 use crate::round_tree::{RoundTrees, cut_tree, round_trees, whole_tree, whole_trees};
-use bt_gang::{Crew, Gate, Ran, run_jobs};
+use bt_gang::{Crew, Gate};
 use bt_messages::{Merge, Packet};
 use bt_node::{Siblings, Tree};
 use bt_plan::{Mode, Place};
 use std::alloc::{AllocError, Global};
 use std::sync::Wait;
 use std::thread::Threads;
-
-/// For so many grains of messages there is one worker. It takes 24 µs to start a thread, which is what four grains of messages take to be
-/// flushed, at the grain of 64 that a crew has where none is asked for.
-const GRAINS_PER_WORKER: usize = 4;
-
-// How many workers so many messages are worth.
-fn most_workers<G>(crew: &Crew<G>, messages: usize) -> usize
-    ensures { result ≡ messages / (GRAINS_PER_WORKER * crew.now.grain) }
-{
-    messages / (GRAINS_PER_WORKER * crew.grain)
-}
 
 // What becomes of jobs, each run once by a crew that has no more workers than there are jobs.
 fn all_pieces<
@@ -53,14 +43,8 @@ where
     let row_room = Vec::with_capacity(alloc, rows.len())?;
     let entry_room = Vec::with_capacity(alloc, entries.len())?;
     let jobs = one_list(alloc, rows, entries)?;
-    let crew = crew.with_at_most(jobs.len());
-    match run_jobs(rt, alloc, &FlushWork::<R, E>::new(), jobs, &crew) {
-        Ok(Ran { done, taken }) => {
-            drop(taken);
-            Ok(two_lists(done, row_room, entry_room))
-        }
-        Err(_) => Err(AllocError),
-    }
+    let pieces = job_values(rt, alloc, &FlushWork::<R, E>::new(), jobs, crew)?;
+    Ok(two_lists(pieces, row_room, entry_room))
 }
 
 /// Each tree after its packet, in one round. A tree whose packet has fewer messages than the crew's grain is sunk by the caller; the others are cut

@@ -48,8 +48,8 @@ pub(crate) struct RoundTrees<V: Merge> {
     pub(crate) room: Vec<Tree<V>>,
 }
 
-// Says that a tree has its shape, which is known of each tree, but in a contract only where the tree is looked at.
-fn has_shape<V: Merge>(tree: &Tree<V>)
+/// Says that a tree has its shape, which is known of each tree, but in a contract only where the tree is looked at.
+pub(crate) fn has_shape<V: Merge>(tree: &Tree<V>)
     ensures { HasShape tree.now.0 tree.now.1 }
 {
     let _root = tree.walk();

@@ -6,35 +6,35 @@ use Rattle.bt_gather.specs.inside.RoundJobs.{IsRunnable, piece_of}
 use Rattle.bt_gather.proofs.Eithers.{all-hold, own-entries, own-rows}
 use Rattle.bt_gather.proofs.round.all_pieces.Goals as goal
 
-pub run_jobs-requires-clause-accepts : goal.run_jobs-requires-clause-accepts
-run_jobs-requires-clause-accepts g c κs within = all-hold IsRunnable IsRunnable c.args.rows.items c.args.entries.items c.requires.rows c.requires.entries c.in_ok-jobs.jobs.items c.in_ok-jobs.ensures
+pub job_values-requires-clause-accepts : goal.job_values-requires-clause-accepts
+job_values-requires-clause-accepts g c κs within = all-hold IsRunnable IsRunnable c.args.rows.items c.args.entries.items c.requires.rows c.requires.entries c.in_ok-jobs.jobs.items c.in_ok-jobs.ensures
 
 pub two_lists-requires-clause-rows : goal.two_lists-requires-clause-rows
 two_lists-requires-clause-rows g c =
     let row = piece_of (effect_of g.R.Merge.merged) in
     let entry = piece_of (effect_of g.E.Merge.merged) in
-    let done = c.in-Ok.ensures.values (either_map row entry) (λ job d e. e) in
-    let own = own-rows row entry c.args.rows.items c.args.entries.items c.in_ok-jobs.jobs.items c.in_ok-jobs.ensures c.in-Ok.field-0.done.items done in
+    let done = c.in_ok-pieces.ensures (either_map row entry) (λ job d e. e) in
+    let own = own-rows row entry c.args.rows.items c.args.entries.items c.in_ok-jobs.jobs.items c.in_ok-jobs.ensures c.in_ok-pieces.pieces.items done in
     (c.in_ok-row_room.ensures.items, omega (arith, ap length own, length-map c.args.rows.items row, c.len.ensures, c.args.rows.ok.0, c.in_ok-row_room.ensures.capacity))
 
 pub two_lists-requires-clause-entries : goal.two_lists-requires-clause-entries
 two_lists-requires-clause-entries g c =
     let row = piece_of (effect_of g.R.Merge.merged) in
     let entry = piece_of (effect_of g.E.Merge.merged) in
-    let done = c.in-Ok.ensures.values (either_map row entry) (λ job d e. e) in
-    let own = own-entries row entry c.args.rows.items c.args.entries.items c.in_ok-jobs.jobs.items c.in_ok-jobs.ensures c.in-Ok.field-0.done.items done in
+    let done = c.in_ok-pieces.ensures (either_map row entry) (λ job d e. e) in
+    let own = own-entries row entry c.args.rows.items c.args.entries.items c.in_ok-jobs.jobs.items c.in_ok-jobs.ensures c.in_ok-pieces.pieces.items done in
     (c.in_ok-entry_room.ensures.items, omega (arith, ap length own, length-map c.args.entries.items entry, c.len-2.ensures, c.args.entries.ok.0, c.in_ok-entry_room.ensures.capacity))
 
-pub returns-in-Ok-clause-rows : goal.returns-in-Ok-clause-rows
-returns-in-Ok-clause-rows g c =
+pub returns-clause-rows : goal.returns-clause-rows
+returns-clause-rows g c =
     let row = piece_of (effect_of g.R.Merge.merged) in
     let entry = piece_of (effect_of g.E.Merge.merged) in
-    let done = c.in-Ok.ensures.values (either_map row entry) (λ job d e. e) in
-    c.two_lists.ensures.rows ∙ own-rows row entry c.args.rows.items c.args.entries.items c.in_ok-jobs.jobs.items c.in_ok-jobs.ensures c.in-Ok.field-0.done.items done
+    let done = c.in_ok-pieces.ensures (either_map row entry) (λ job d e. e) in
+    c.two_lists.ensures.rows ∙ own-rows row entry c.args.rows.items c.args.entries.items c.in_ok-jobs.jobs.items c.in_ok-jobs.ensures c.in_ok-pieces.pieces.items done
 
-pub returns-in-Ok-clause-entries : goal.returns-in-Ok-clause-entries
-returns-in-Ok-clause-entries g c =
+pub returns-clause-entries : goal.returns-clause-entries
+returns-clause-entries g c =
     let row = piece_of (effect_of g.R.Merge.merged) in
     let entry = piece_of (effect_of g.E.Merge.merged) in
-    let done = c.in-Ok.ensures.values (either_map row entry) (λ job d e. e) in
-    c.two_lists.ensures.entries ∙ own-entries row entry c.args.rows.items c.args.entries.items c.in_ok-jobs.jobs.items c.in_ok-jobs.ensures c.in-Ok.field-0.done.items done
+    let done = c.in_ok-pieces.ensures (either_map row entry) (λ job d e. e) in
+    c.two_lists.ensures.entries ∙ own-entries row entry c.args.rows.items c.args.entries.items c.in_ok-jobs.jobs.items c.in_ok-jobs.ensures c.in_ok-pieces.pieces.items done

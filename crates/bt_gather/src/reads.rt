@@ -1,0 +1,179 @@
+//! Reads of a tree by a crew. Each portion of the tree is shown to a visitor of its own, and these are joined in the order of the portions.
+ghost use Rattle.std.specs.Prelude.{◌≡◌, IfOk, fold, map};
+ghost use Rattle.std.specs.Option.{option_copied};
+ghost use Rattle.bt_messages.specs.Effects.{effect_of};
+ghost use Rattle.bt_node.specs.Drains.{IsDry, rebuilt};
+ghost use Rattle.bt_node.specs.Fits.{HasShape};
+ghost use Rattle.bt_node.specs.Flushes.{holds};
+ghost use Rattle.bt_node.specs.Laws.{HoldsTheSame};
+ghost use Rattle.bt_node.specs.Messages.{between};
+ghost use Rattle.bt_node.specs.Portions.{all_rows};
+
+use crate::crews::job_values;
+use crate::round_tree::has_shape;
+use bt_gang::{Crew, Gate, Work};
+use bt_keycode::Key;
+use bt_messages::Merge;
+use bt_node::{Copies, ForkVisitor, Portion, Tree, Visitor, pack};
+use std::alloc::{AllocError, Global};
+use std::marker::PhantomData;
+use std::sync::{Mutex, Wait};
+use std::thread::Threads;
+
+/// Shows the rows of portions to visitors. A job is a portion, and the visitor for it.
+#[derive(Drop)]
+struct PortionVisits<'a, V: Merge, S> {
+    portions: PhantomData<&'a V>,
+    // The workers share the work and each of them has visitors of its own, so a visitor has to be `Send` alone, as behind a lock.
+    visitors: PhantomData<Mutex<S>>,
+}
+
+impl<'a, V: Merge + Send + Sync, S: Visitor<V> + Send> Work for PortionVisits<'a, V, S>
+where
+    V::Delta: Send + Sync,
+{
+    type Job = (Portion<'a, V>, S);
+
+    type Done = S;
+
+    type Fault = AllocError;
+
+    ghost use Rattle.std.specs.Prelude.{◌≡◌, MatchResult, ⊤, fold};
+    ghost use Rattle.std.proofs.Common.{sym, ◌∙◌};
+    ghost use Rattle.bt_messages.specs.Effects.{effect_of};
+    ghost use Rattle.bt_node.specs.Portions.{rows_of};
+
+    ghost accepts = { λ _ _. ⊤ };
+
+    ghost allows = { λ _ job answer. MatchResult answer (λ visitor. visitor ≡ fold S.visited job.1 (rows_of (effect_of V.merged) job.0)) (λ _. ⊤) };
+
+    fn run(&self, alloc: Global, job: (Portion<'a, V>, S)) -> Result<S, AllocError> {
+        let (portion, mut visitor) = job;
+        portion.visit(alloc, &mut visitor)?;
+        Ok(visitor)
+    }
+
+    ghost one_value = { λ _ _ _ _ e f. e ∙ sym f };
+}
+
+// The portions, each with a fork of the visitor.
+fn with_forks<'a, V: Merge, S: ForkVisitor<V>>(
+    alloc: Global,
+    portions: Vec<Portion<'a, V>>,
+    visitor: &S,
+) -> Result<Vec<(Portion<'a, V>, S)>, AllocError>
+    ensures { IfOk result (λ jobs. jobs.items ≡ map (λ p. (p, S.forked visitor.now)) portions.entry.items) }
+{
+    let mut jobs = Vec::with_capacity(alloc, portions.len())?;
+    for portion in portions {
+        jobs.push_reserved((portion, visitor.fork(alloc)));
+    }
+    Ok(jobs)
+}
+
+// The visitor when each fork, from the first to the last, is joined to it.
+fn with_all<V: Merge, S: ForkVisitor<V>>(
+    alloc: Global,
+    visitor: S,
+    forks: Vec<S>,
+) -> Result<S, AllocError>
+    ensures { IfOk result (λ after. after ≡ fold S.joined visitor forks.items) }
+{
+    let mut all = visitor;
+    for fork in forks {
+        all.join(alloc, fork)?;
+    }
+    Ok(all)
+}
+
+// The visitor after the rows, shown by the caller.
+fn read_alone<V: Merge, S: Visitor<V>>(
+    alloc: Global,
+    tree: &Tree<V>,
+    from: Option<&Key>,
+    to: Option<&Key>,
+    visitor: S,
+) -> Result<S, AllocError>
+    ensures { IfOk result (λ after. after ≡ fold S.visited visitor (between (option_copied from.entry) (option_copied to.entry) (holds (effect_of V.merged) tree.now.1))) }
+{
+    let mut visitor = visitor;
+    tree.walk().visit(alloc, from, to, &mut visitor)?;
+    Ok(visitor)
+}
+
+// The visitor after the rows of portions, shown by the caller, one portion after the other.
+fn read_in_turn<V: Merge, S: Visitor<V>>(
+    alloc: Global,
+    portions: Vec<Portion<'_, V>>,
+    visitor: S,
+) -> Result<S, AllocError>
+    ensures { IfOk result (λ after. after ≡ fold S.visited visitor (all_rows (effect_of V.merged) portions.entry.items)) }
+{
+    let mut visitor = visitor;
+    for portion in portions {
+        portion.visit(alloc, &mut visitor)?;
+    }
+    Ok(visitor)
+}
+
+/// The visitor after the rows with a key at or past `from` and before `to`, by rising key, when all messages have had their effect. A bound that is
+/// absent doesn't limit.
+///
+/// The portions of the tree at the crew's depth are jobs, however few rows they have, and each is shown to a fork of the visitor. The caller makes the
+/// forks before the first job and joins them after the last. There is no more than one worker for each portion. Where the crew has one worker, or the
+/// range one portion or none, no thread starts and no fork is made: the caller shows the rows to the visitor. An `Err` is a visitor's, or for want of
+/// memory; every worker has ended then, and the visitor is gone. The tree is only read.
+pub fn read<
+    V: Merge + Send + Sync,
+    S: ForkVisitor<V> + Send,
+    G: Gate + Sync,
+    T: Threads + Wait + Sync,
+>(
+    rt: &T,
+    alloc: Global,
+    tree: &Tree<V>,
+    from: Option<&Key>,
+    to: Option<&Key>,
+    visitor: S,
+    crew: &Crew<G>,
+) -> Result<S, AllocError>
+where
+    V::Delta: Send + Sync,
+    ensures { IfOk result (λ after. after ≡ fold S.visited visitor (between (option_copied from.entry) (option_copied to.entry) (holds (effect_of V.merged) tree.now.1))) }
+{
+    if crew.workers == 1 {
+        return read_alone(alloc, tree, from, to, visitor);
+    }
+    let portions = tree.walk().portions(alloc, crew.cut, from, to)?;
+    if portions.len() <= 1 {
+        return read_in_turn(alloc, portions, visitor);
+    }
+    let jobs = with_forks(alloc, portions, &visitor)?;
+    let work = PortionVisits {
+        portions: PhantomData,
+        visitors: PhantomData,
+    };
+    let forks = job_values(rt, alloc, &work, jobs, crew)?;
+    with_all(alloc, visitor, forks)
+}
+
+/// The rows that the tree holds, copied by a crew as [`read`] says, and packed anew by the caller. The tree stays as it is, also at an `Err`.
+pub fn rebuild<V: Merge + Send + Sync, G: Gate + Sync, T: Threads + Wait + Sync>(
+    rt: &T,
+    alloc: Global,
+    tree: &Tree<V>,
+    crew: &Crew<G>,
+) -> Result<Tree<V>, AllocError>
+where
+    V::Delta: Send + Sync,
+    ensures tree { IfOk result (λ new. new ≡ (tree.now.0, rebuilt (effect_of V.merged) tree.now.0 tree.now.1)) }
+    ensures fits { IfOk result (λ new. HasShape new.0 new.1) }
+    ensures rows { IfOk result (λ new. HoldsTheSame (effect_of V.merged) tree.now.1 new.1) }
+    ensures dry { IfOk result (λ new. IsDry new.1) }
+{
+    has_shape(tree);
+    let none = Copies::new(alloc);
+    let copies = read(rt, alloc, tree, None, None, none, crew)?;
+    let rows = copies.into_rows();
+    Ok(pack(alloc, tree.shape(), rows)?)
+}
