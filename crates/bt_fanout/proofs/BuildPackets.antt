@@ -1,15 +1,13 @@
 -- The packet of a step of building.
-use Rattle.std.proofs.Common.{◌≡◌, ℕ, zero, suc, ◌+◌, ◌<◌, ◌≤◌, not, List, [], ◌∷◌, ◌++◌, Some, append-nil, append_assoc, drop, get_or, length, take, refl, sym, ap, ◌∙◌}
-use Rattle.std.proofs.Math.ListN.{drop_of_length-le}
-use Rattle.std.proofs.lemmas.List.{drop_more}
+use Rattle.std.proofs.Common.{◌≡◌, ℕ, zero, suc, not, List, [], ◌∷◌, ◌++◌, take, refl, ap, ◌∙◌}
 use Rattle.bt_rowtype.specs.declared.value.Kind.{Kind}
 use Rattle.bt_rowtype.specs.declared.value.Value.{Value}
 use Rattle.bt_rowtype.proofs.offered.SameValues.{same_values-sound}
 use Rattle.bt_messages.specs.Effects.{Rows, merged_entry, rows_after}
-use Rattle.bt_messages.specs.Messages.{Messages, sorted_batch}
+use Rattle.bt_messages.specs.Messages.{sorted_batch}
 use Rattle.bt_fanout.specs.Covers.{is_covered, next_rows, put_of_entry, puts_of}
-use Rattle.bt_fanout.specs.Effects.{EntryMessage, entry_effect}
-use Rattle.bt_fanout.specs.Entries.{Definition, StandsUnder, entry_of, own_entry, same_values}
+use Rattle.bt_fanout.specs.Effects.{entry_effect}
+use Rattle.bt_fanout.specs.Entries.{Definition, StandsUnder, entry_of, same_values}
 use Rattle.bt_fanout.specs.Promises.{BuildsFrom, index_of, own_puts}
 use Rattle.bt_fanout.specs.Selections.{AllStand, covered}
 use Rattle.bt_fanout.proofs.Batches.{stand-covered}
@@ -25,18 +23,6 @@ pub own_puts-are : (def : Definition) (kinds : List Kind) (rows : Rows (List Val
 own_puts-are def kinds [] h = refl
 own_puts-are def kinds (r ∷ rows) h =
     ap (λ k. put_of_entry (entry_of def k r.1) ++ own_puts def rows) h.0.under ∙ ap (λ ms. put_of_entry (entry_of def r.0 r.1) ++ ms) (own_puts-are def kinds rows h.1)
-
--- the puts of one row more
-pub one_more : (def : Definition) (rows : Rows (List Value)) (i : ℕ) (row : List ℕ × List Value) (whole old new : Messages EntryMessage) → i < length rows → row ≡ get_or rows i row →
-    whole ≡ old ++ own_puts def (drop i rows) → new ≡ old ++ put_of_entry (own_entry def (Some row.1)) → whole ≡ new ++ own_puts def (drop (i + 1) rows)
-one_more def rows i row whole old new within is so more =
-    so ∙ ap (λ rs. old ++ own_puts def rs) (drop_more rows i row within ∙ ap (λ r. r ∷ drop (i + 1) rows) (sym is))
-    ∙ sym (append_assoc old (put_of_entry (own_entry def (Some row.1))) (own_puts def (drop (i + 1) rows)))
-    ∙ ap (λ ms. ms ++ own_puts def (drop (i + 1) rows)) (sym more)
-
--- none are left
-pub all_put : (def : Definition) (rows : Rows (List Value)) (i : ℕ) (whole sent : Messages EntryMessage) → length rows ≤ i → whole ≡ sent ++ own_puts def (drop i rows) → sent ≡ whole
-all_put def rows i whole sent past e = sym (e ∙ ap (λ rs. sent ++ own_puts def rs) (drop_of_length-le rows past) ∙ append-nil sent)
 
 pub builds_from : (def : Definition) (read : Rows (List Value)) → BuildsFrom def read (sorted_batch (own_puts def read))
 builds_from def read kinds n cover rows e sorted stand =

@@ -23,7 +23,7 @@ t_both : (a b : Bool) → T a → T b → T (a && b)
 t_both true b p q = q
 t_both false b p q = p
 
-true_t : (b : Bool) → T b → b ≡ true
+pub true_t : (b : Bool) → T b → b ≡ true
 true_t true h = refl
 true_t false h = absurd h
 

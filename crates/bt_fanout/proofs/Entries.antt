@@ -1,13 +1,12 @@
 -- Entries of rows of the same kinds: those of two keys have two keys.
-use Rattle.std.proofs.Common.{◌≡◌, ℕ, Bool, true, false, List, [], ◌∷◌, ◌++◌, append_assoc, arith, get_or, length, map, take, refl, sym, ap, ◌∙◌, ◌⊎◌, inl, inr, Some, None, if◌then◌else◌}
+use Rattle.std.proofs.Common.{◌≡◌, ℕ, Bool, true, false, List, [], ◌∷◌, ◌++◌, get_or, map, refl, sym, ap, ◌∙◌, ◌⊎◌, inl, inr, Some, None, if◌then◌else◌}
 use Rattle.std.proofs.Math.ListN.{get_or-map}
-use Rattle.std.proofs.lemmas.List.{take_all}
 use Rattle.bt_rowtype.specs.declared.value.Kind.{Kind}
 use Rattle.bt_rowtype.specs.declared.value.Value.{Value}
 use Rattle.bt_rowtype.specs.declared.value.Value.TheVariants as value
-use Rattle.bt_keycode.specs.Codes.{HaveSameKinds, code_of, code_of_value, kind_of}
+use Rattle.bt_keycode.specs.Codes.{HaveSameKinds, code_of, kind_of}
 use Rattle.bt_keycode.proofs.offered.Codes.{no_proper_prefix}
-use Rattle.bt_fanout.specs.Entries.{Definition, StandsUnder, entry_of, key_of, passes, picked, value_in}
+use Rattle.bt_fanout.specs.Entries.{Definition, StandsUnder, entry_of, passes, picked, value_in}
 use Rattle.bt_fanout.specs.Selections.{AreApart}
 
 -- of two lists that are the same with something behind them, one begins the other
@@ -31,14 +30,6 @@ behind_all vs ws kinds xs ys e = elim (one_begins (code_of vs) xs (code_of ws) y
   | inl f ↦ f.1.1 ∙ ap (λ more. more ++ ys) (no_proper_prefix vs ws kinds f.0 f.1.0)
   | inr f ↦ sym (f.1.1 ∙ ap (λ more. more ++ xs) (no_proper_prefix ws vs (sym kinds) f.0 f.1.0))
 ]
-
-pub code_of_append : (vs ws : List Value) → code_of (vs ++ ws) ≡ code_of vs ++ code_of ws
-code_of_append [] ws = refl
-code_of_append (v ∷ vs) ws = ap (λ bs. code_of_value v ++ bs) (code_of_append vs ws) ∙ sym (append_assoc (code_of_value v) (code_of vs) (code_of ws))
-
--- the code of the values of an entry's key
-pub key_code : (def : Definition) (row values : List Value) (n : ℕ) → n ≡ length values → values ≡ picked def.on row ++ take def.keys row → code_of (take n values) ≡ code_of (picked def.on row) ++ key_of def row
-key_code def row values n long are = ap code_of (take_all n values (omega (arith, long))) ∙ ap code_of are ∙ code_of_append (picked def.on row) (take def.keys row)
 
 kind_in : (x y : List Value) → HaveSameKinds x y → (place : ℕ) → kind_of (value_in x place) ≡ kind_of (value_in y place)
 kind_in x y e place =

@@ -1,7 +1,8 @@
--- The effects of sorted messages, one key at a time.
-use Rattle.std.proofs.Common.{◌≡◌, ℕ, ◌<◌, ◌≤◌, Bool, true, false, cond, T, List, [], ◌∷◌, ◌++◌, append_assoc, length, map, refl, sym, ap, subst, ◌∙◌, Option, Some, None, if◌then◌else◌, true≢false, arith}
+-- The keys of sorted messages and their effects, one key at a time.
+use Rattle.std.proofs.Common.{◌≡◌, ℕ, suc, ◌<◌, ◌≤◌, Bool, true, false, cond, not, T, List, [], ◌∷◌, ◌++◌, append-nil, append_assoc, drop, length, map, refl, sym, ap, subst, ◌∙◌, Option, if◌then◌else◌, true≢false, arith}
 use Rattle.std.proofs.lemmas.List.{map-append}
-use Rattle.std.specs.Option.{MatchOption}
+use Rattle.std.proofs.lemmas.Simd.{map-map}
+use Rattle.std.specs.List.{filter}
 use Rattle.std.specs.Ordering.{eq_by_cmp, is_lt}
 use Rattle.std.specs.Cmp.{tied_itself}
 use Rattle.std.specs.FinMap.{find, put}
@@ -12,11 +13,14 @@ use Rattle.bt_rowtype.specs.declared.value.Value.{Value}
 use Rattle.bt_messages.specs.Effects.{Rows, rows_after, value_after}
 use Rattle.bt_keycode.specs.Keys.{AllFrom, IsSorted, is_before, key_cmp}
 use Rattle.bt_messages.specs.Messages.{Messages}
-use Rattle.bt_keycode.proofs.offered.Order.{apart as apart_keys, neither_before, not_before_itself, same_key, total_keys}
+use Rattle.bt_keycode.proofs.offered.Order.{apart as apart_keys, before_later, neither_before, not_before_itself, same_key, total_keys}
 use Rattle.bt_messages.proofs.offered.Rows.{find-rows_after, value_before}
+use Rattle.bt_fanout.specs.Covers.{is_covered}
 use Rattle.bt_fanout.specs.Effects.{RowMessage, effects_at, effects_of, row_effect}
-use Rattle.bt_fanout.specs.inside.Groups.{behind_group, value_of_group}
+use Rattle.bt_fanout.specs.inside.Groups.{behind_group, group_count, groups, groups_within, value_after_first, with_first}
 use Rattle.bt_fanout.specs.Selections.{named}
+use Rattle.bt_fanout.specs.declared.cover.Cover.{Cover}
+use Rattle.bt_fanout.specs.declared.cover.Cover.TheVariants.{Nothing, UpTo, Whole}
 use Rattle.bt_fanout.specs.declared.effect.Effect.{Effect}
 use Rattle.bt_fanout.proofs.Lookups.{equal_itself, t_first, t_second}
 use Rattle.bt_fanout.proofs.offered.Packets.{sorted-named}
@@ -27,7 +31,7 @@ is_less Less e = refl
 is_less Equal e = absurd (true≢false (sym e))
 is_less Greater e = absurd (true≢false (sym e))
 
-true_t : (b : Bool) → T b → b ≡ true
+pub true_t : (b : Bool) → T b → b ≡ true
 true_t true h = refl
 true_t false h = absurd h
 
@@ -37,6 +41,11 @@ goes_before j k e h = elim (is_before j k) as (λ b. is_before j k ≡ b → b �
   | true ↦ λ b. refl
   | false ↦ λ b. absurd (true≢false (sym (equal_itself j) ∙ ap (eq_by_cmp key_cmp j) (neither_before j k b h) ∙ e))
 ] refl
+
+-- what the first messages, as far as these are to one key, make of a value
+abbrev pub value_of_group : {V M : Type 0} → (Option V → M → Option V) → List ℕ → Messages M → Option V → Option V
+value_of_group effect k [] old = old
+value_of_group effect k (m ∷ ms) old = if eq_by_cmp key_cmp k m.0 then value_of_group effect k ms (effect old m.1) else old
 
 module _ {M : Type 0} where
   pub sorted-behind : (k : List ℕ) (ms : Messages M) → IsSorted ms → IsSorted (behind_group k ms)
@@ -97,6 +106,10 @@ effects_at-alike f g h j (k ∷ ks) b same =
     let first : Option (List Value) → Effect = λ a. record { key = k.0; before = f k.0; after = a } in
     ap (λ a. first a ∷ effects_at f g ks) here ∙ ap (λ es. first (h k.0) ∷ es) (effects_at-alike f g h j ks (t_second _ _ b) same)
 
+-- the first group's key is before those of the others
+pub past-named : {M : Type 0} (m : List ℕ × M) (ms : Messages M) → IsSorted (m ∷ ms) → T (below_all key_cmp m.0 (named (behind_group m.0 ms)))
+past-named m ms h = t_first _ _ (subst (λ ks. T (is_sorted key_cmp ks)) (named-group m.0 ms h.0 h.1) (sorted-named (m ∷ ms)))
+
 -- the effects of sorted messages: that of the first group, and those of the others
 pub effects-group : (m : List ℕ × RowMessage) (ms : Messages RowMessage) (rows : Rows (List Value)) → IsSorted (m ∷ ms) →
     effects_of (m ∷ ms) rows
@@ -107,85 +120,131 @@ effects-group m ms rows h =
     let g : List ℕ → Option (List Value) = λ k. find key_cmp k (rows_after row_effect (m ∷ ms) rows) in
     let g2 : List ℕ → Option (List Value) = λ k. find key_cmp k (rows_after row_effect past rows) in
     let names : named (m ∷ ms) ≡ (m.0, tt) ∷ named past = named-group m.0 ms h.0 h.1 in
-    let sorted : T (is_sorted key_cmp ((m.0, tt) ∷ named past)) = subst (λ ks. T (is_sorted key_cmp ks)) names (sorted-named (m ∷ ms)) in
     let value : g m.0 ≡ value_of_group row_effect m.0 ms (row_effect (f m.0) m.1) =
     find-rows_after row_effect m.0 (m ∷ ms) rows ∙ ap (λ t. value_after row_effect m.0 ms (cond t (row_effect (f m.0) m.1) (f m.0))) (equal_itself m.0)
     ∙ group-value row_effect m.0 ms (row_effect (f m.0) m.1) h.0 h.1 in
     let first : Option (List Value) → Effect = λ a. record { key = m.0; before = f m.0; after = a } in
     ap (effects_at f g) names ∙ ap (λ a. first a ∷ effects_at f g (named past)) value
     ∙ ap (λ es. first (value_of_group row_effect m.0 ms (row_effect (f m.0) m.1)) ∷ es)
-    (effects_at-alike f g g2 m.0 (named past) (t_first _ _ sorted)
+    (effects_at-alike f g g2 m.0 (named past) (past-named m ms h)
     (λ k before.
     let other = turned m.0 k (apart_keys m.0 k k before (not_before_itself k)) in
     find-rows_after row_effect k (m ∷ ms) rows ∙ ap (λ t. value_after row_effect k ms (cond t (row_effect (f k) m.1) (f k))) other
     ∙ behind-value row_effect m.0 k ms (f k) other ∙ sym (find-rows_after row_effect k past rows)))
 
 -- one group fewer is left
-pub fewer_left : (m : List ℕ × RowMessage) (ms left later : Messages RowMessage) → left ≡ m ∷ ms → later ≡ behind_group m.0 ms → length later < length left
+pub fewer_left : {M : Type 0} (m : List ℕ × M) (ms left later : Messages M) → left ≡ m ∷ ms → later ≡ behind_group m.0 ms → length later < length left
 fewer_left m ms left later is behind =
     let shorter = length-behind m.0 ms in
     omega (arith, ap length is, ap length behind, shorter)
 
--- the effect of one group more
-pub one_group : (m : List ℕ × RowMessage) (ms left later : Messages RowMessage) (effect : Effect) (rows : Rows (List Value)) (whole old new : List Effect) →
-    left ≡ m ∷ ms → IsSorted left → effect.key ≡ m.0 → effect.before ≡ find key_cmp m.0 rows →
-    effect.after ≡ value_of_group row_effect m.0 ms (row_effect (find key_cmp m.0 rows) m.1) → later ≡ behind_group m.0 ms →
-    whole ≡ old ++ effects_of left rows → new ≡ old ++ effect ∷ [] → IsSorted later × (whole ≡ new ++ effects_of later rows)
-one_group m ms left later effect rows whole old new is sorted key before after behind so more =
-    let group : Effect = record { key = m.0; before = find key_cmp m.0 rows; after = value_of_group row_effect m.0 ms (row_effect (find key_cmp m.0 rows) m.1) } in
-    let e : effect ≡ group = λ i. record { key = key i; before = before i; after = after i } in
-    let order : IsSorted (m ∷ ms) = subst IsSorted is sorted in (
-      subst IsSorted (sym behind) (sorted-behind m.0 ms order.1),
-      so ∙ ap (λ zs. old ++ effects_of zs rows) is ∙ ap (λ es. old ++ es) (effects-group m ms rows order) ∙ ap (λ z. old ++ z ∷ effects_of (behind_group m.0 ms) rows) (sym e)
-          ∙ ap (λ zs. old ++ effect ∷ effects_of zs rows) (sym behind) ∙ sym (append_assoc old (effect ∷ []) (effects_of later rows)) ∙ ap (λ es. es ++ effects_of later rows) (sym more),
-    )
+-- ---- covers
 
--- ---- the keys of groups
+-- behind a key that isn't covered no key is
+pub uncovered_from : (cover : Cover) (k j : List ℕ) → is_before j k ≡ false → is_covered cover k ≡ false → is_covered cover j ≡ false
+uncovered_from Nothing k j from none = refl
+uncovered_from (UpTo last) k j from none = elim (is_before last k) as (λ b. is_before last k ≡ b → not b ≡ false → not (is_before last j) ≡ false) [
+  | true ↦ λ b n. ap not (before_later last k j b from)
+  | false ↦ λ b n. absurd (true≢false n)
+] refl none
+uncovered_from Whole k j from none = absurd (true≢false none)
+
+others_none : {A : Type 0} (b : Bool) (x : A) (xs : List A) → cond b (x ∷ xs) xs ≡ [] → xs ≡ []
+others_none true x xs e = cc
+others_none false x xs e = e
+
+module _ (cover : Cover) where
+  abbrev within : List (List ℕ × ℕ) → List (List ℕ × ℕ)
+  within gs = filter (λ g. is_covered cover g.0) gs
+
+  none_first : (k : List ℕ) (gs : List (List ℕ × ℕ)) → is_covered cover k ≡ false → within gs ≡ [] → within (with_first k gs) ≡ []
+  none_first k [] none e = ap (λ b. cond b ((k, 0) ∷ []) []) none
+  none_first k (g ∷ gs) none e = elim (eq_by_cmp key_cmp k g.0) as (λ b. within (if b then (k, suc g.1) ∷ gs else (k, 0) ∷ g ∷ gs) ≡ []) [
+    | true ↦ ap (λ b. cond b ((k, suc g.1) ∷ within gs) (within gs)) none ∙ others_none (is_covered cover g.0) g (within gs) e
+    | false ↦ ap (λ b. cond b ((k, 0) ∷ within (g ∷ gs)) (within (g ∷ gs))) none ∙ e
+  ]
+
+  -- messages from such a key on have no key that is covered
+  pub none_within : {M : Type 0} (k : List ℕ) (ms : Messages M) → AllFrom k ms → is_covered cover k ≡ false → groups_within cover ms ≡ []
+  none_within k [] from none = refl
+  none_within k (m ∷ ms) from none = none_first m.0 (groups ms) (uncovered_from cover k m.0 from.0 none) (none_within k ms from.1 none)
+
+  pub none_covered : {M : Type 0} (m : List ℕ × M) (ms left : Messages M) → left ≡ m ∷ ms → IsSorted left → is_covered cover m.0 ≡ false → groups_within cover left ≡ []
+  none_covered m ms left is sorted none =
+      ap (groups_within cover) is ∙ none_within m.0 (m ∷ ms) (not_before_itself m.0, (subst IsSorted is sorted).0) none
+
+-- ---- groups
 
 module _ {M : Type 0} where
-  -- the keys that sorted messages name: that of the first group, and those of the others
-  pub names-group : (m : List ℕ × M) (ms : Messages M) → IsSorted (m ∷ ms) → named (m ∷ ms) ≡ (m.0, tt) ∷ named (behind_group m.0 ms)
-  names-group m ms h = named-group m.0 ms h.0 h.1
+  -- the first group, and the others
+  groups-group : (m : List ℕ × M) (ms : Messages M) → groups (m ∷ ms) ≡ (m.0, group_count m.0 ms) ∷ groups (behind_group m.0 ms)
+  groups-group m [] = refl
+  groups-group m (n ∷ ms) =
+      ap (with_first m.0) (groups-group n ms) ∙ elim (eq_by_cmp key_cmp m.0 n.0) as (λ b. eq_by_cmp key_cmp m.0 n.0 ≡ b →
+      (if b then (m.0, suc (group_count n.0 ms)) ∷ groups (behind_group n.0 ms) else (m.0, 0) ∷ (n.0, group_count n.0 ms) ∷ groups (behind_group n.0 ms))
+      ≡ (m.0, if b then suc (group_count m.0 ms) else 0) ∷ groups (if b then behind_group m.0 ms else n ∷ ms)) [
+        | true ↦ λ b. ap (λ k. (m.0, suc (group_count k ms)) ∷ groups (behind_group k ms)) (sym (same_key m.0 n.0 b))
+        | false ↦ λ b. ap (λ gs. (m.0, 0) ∷ gs) (sym (groups-group n ms))
+      ] refl
 
-  -- one key more
-  pub one_key : {K : Type 0} (seen : K → List ℕ) (m : List ℕ × M) (ms left later : Messages M) (key : K) (old new : List K) (whole : List (List ℕ)) → left ≡ m ∷ ms → IsSorted left → seen key ≡ m.0 →
-      later ≡ behind_group m.0 ms → whole ≡ map seen old ++ map (λ (k : List ℕ × Unit {0}). k.0) (named left) → new ≡ old ++ key ∷ [] →
-      IsSorted later × (whole ≡ map seen new ++ map (λ (k : List ℕ × Unit {0}). k.0) (named later))
-  one_key seen m ms left later key old new whole is sorted is_key behind so more =
-      let first : List (List ℕ × Unit {0}) → List (List ℕ) = map (λ k. k.0) in
-      let order : IsSorted (m ∷ ms) = subst IsSorted is sorted in (
-        subst IsSorted (sym behind) (sorted-behind m.0 ms order.1),
-        so ∙ ap (λ zs. map seen old ++ first (named zs)) is ∙ ap (λ ks. map seen old ++ first ks) (names-group m ms order)
-            ∙ ap (λ k. map seen old ++ k ∷ first (named (behind_group m.0 ms))) (sym is_key) ∙ ap (λ zs. map seen old ++ seen key ∷ first (named zs)) (sym behind)
-            ∙ sym (append_assoc (map seen old) (seen key ∷ []) (first (named later))) ∙ ap (λ ks. ks ++ first (named later)) (sym (map-append seen old (key ∷ [])) ∙ ap (map seen) (sym more)),
-      )
+  pub within-group : (cover : Cover) (m : List ℕ × M) (ms : Messages M) → is_covered cover m.0 ≡ true →
+      groups_within cover (m ∷ ms) ≡ (m.0, group_count m.0 ms) ∷ groups_within cover (behind_group m.0 ms)
+  within-group cover m ms is =
+      ap (filter (λ g. is_covered cover g.0)) (groups-group m ms)
+      ∙ ap (λ b. cond b ((m.0, group_count m.0 ms) ∷ groups_within cover (behind_group m.0 ms)) (groups_within cover (behind_group m.0 ms))) is
 
-  -- what keys have: that of the first group's key, and those of the others
-  pub one_found : {V : Type 0} (f : List ℕ → V) (m : List ℕ × M) (ms left later : Messages M) (values others : List V) (value : V) → left ≡ m ∷ ms → IsSorted left →
-      later ≡ behind_group m.0 ms → values ≡ map (λ (k : List ℕ × Unit {0}). f k.0) (named left) → values ≡ value ∷ others →
-      (value ≡ f m.0) × (others ≡ map (λ (k : List ℕ × Unit {0}). f k.0) (named later))
-  one_found f m ms left later values others value is sorted behind all first =
-      let both : value ∷ others ≡ f m.0 ∷ map (λ (k : List ℕ × Unit {0}). f k.0) (named (behind_group m.0 ms)) =
-      sym first ∙ all ∙ ap (λ zs. map (λ (k : List ℕ × Unit {0}). f k.0) (named zs)) is ∙ ap (map (λ (k : List ℕ × Unit {0}). f k.0)) (names-group m ms (subst IsSorted is sorted)) in
-      (cc, let tail : others ≡ map (λ (k : List ℕ × Unit {0}). f k.0) (named (behind_group m.0 ms)) = cc in tail ∙ ap (λ zs. map (λ (k : List ℕ × Unit {0}). f k.0) (named zs)) (sym behind))
+  pub drop-count : (k : List ℕ) (ms : Messages M) → drop (group_count k ms) ms ≡ behind_group k ms
+  drop-count k [] = refl
+  drop-count k (m ∷ ms) = elim (eq_by_cmp key_cmp k m.0) as (λ b. drop (if b then suc (group_count k ms) else 0) (m ∷ ms) ≡ (if b then behind_group k ms else m ∷ ms)) [
+    | true ↦ drop-count k ms
+    | false ↦ refl
+  ]
 
-  -- a message that is left has a value
-  pub some_found : {V : Type 0} (f : List ℕ → V) (m : List ℕ × M) (ms left : Messages M) (values : List V) → left ≡ m ∷ ms → IsSorted left →
-      values ≡ map (λ (k : List ℕ × Unit {0}). f k.0) (named left) → values ≡ [] → ⊥
-  some_found f m ms left values is sorted all none =
-      let both : [] ≡ f m.0 ∷ map (λ (k : List ℕ × Unit {0}). f k.0) (named (behind_group m.0 ms)) =
-      sym none ∙ all ∙ ap (λ zs. map (λ (k : List ℕ × Unit {0}). f k.0) (named zs)) is ∙ ap (map (λ (k : List ℕ × Unit {0}). f k.0)) (names-group m ms (subst IsSorted is sorted)) in
-      cc
+  pub after-count : {V : Type 0} (effect : Option V → M → Option V) (k : List ℕ) (ms : Messages M) (old : Option V) →
+      value_after_first effect (group_count k ms) ms old ≡ value_of_group effect k ms old
+  after-count effect k [] old = refl
+  after-count effect k (m ∷ ms) old = elim (eq_by_cmp key_cmp k m.0) as (λ b.
+      value_after_first effect (if b then suc (group_count k ms) else 0) (m ∷ ms) old ≡ (if b then value_of_group effect k ms (effect old m.1) else old)) [
+        | true ↦ after-count effect k ms (effect old m.1)
+        | false ↦ refl
+      ]
 
--- what no step gives
-pub at_end : {A : Type 0} (r : Option A) (P : Type 0) (Q : A → Type 0) → MatchOption r P Q → ((x : A) → r ≡ Some x → ⊥) → P
-at_end None P Q steps none = steps
-at_end (Some x) P Q steps none = absurd (none x refl)
+  -- one message fewer is left
+  pub next_value : {V : Type 0} (effect : Option V → M → Option V) (n k : ℕ) (m : List ℕ × M) (ms left : Messages M) (old after : Option V) → left ≡ m ∷ ms → n ≡ suc k → after ≡ effect old m.1 →
+      value_after_first effect n left old ≡ value_after_first effect k ms after
+  next_value effect n k m ms left old after is count value =
+      ap (λ zs. value_after_first effect n zs old) is ∙ ap (λ i. value_after_first effect i (m ∷ ms) old) count ∙ ap (value_after_first effect k ms) (sym value)
 
-through : {K A B : Type 0} (f : A → B) (g : K → A) (ks : List K) → map f (map g ks) ≡ map (λ k. f (g k)) ks
-through f g [] = refl
-through f g (k ∷ ks) = ap (λ zs. f (g k) ∷ zs) (through f g ks)
+  pub fewer_behind : (n k : ℕ) (m : List ℕ × M) (ms left : Messages M) → left ≡ m ∷ ms → n ≡ suc k → drop n left ≡ drop k ms
+  fewer_behind n k m ms left is count = ap (drop n) is ∙ ap (λ i. drop i (m ∷ ms)) count
+
+-- ---- the keys, one after the other
+
+moved : {A : Type 0} (whole old new rest : List A) (x : A) → whole ≡ old ++ x ∷ rest → new ≡ old ++ x ∷ [] → whole ≡ new ++ rest
+moved whole old new rest x is more = is ∙ sym (append_assoc old (x ∷ []) rest) ∙ ap (λ xs. xs ++ rest) (sym more)
+
+-- none are left
+pub none_left : {A B : Type 0} (f : A → B) (whole old : List B) (left : List A) → left ≡ [] → whole ≡ old ++ map f left → old ≡ whole
+none_left f whole old left none is = sym (is ∙ ap (λ xs. old ++ map f xs) none ∙ append-nil old)
+
+-- one key more, and how many messages it has behind its first one
+pub one_key : {M K : Type 0} (seen : K → List ℕ) (cover : Cover) (m : List ℕ × M) (ms left later : Messages M) (key : K) (count : ℕ) (keys new_keys : List K) (others new_others : List ℕ)
+    (whole : List (List ℕ × ℕ)) → left ≡ m ∷ ms → IsSorted left → seen key ≡ m.0 → is_covered cover m.0 ≡ true → count ≡ group_count m.0 ms → later ≡ behind_group m.0 ms →
+    map (λ g. g.0) whole ≡ map seen keys ++ map (λ g. g.0) (groups_within cover left) → map (λ g. g.1) whole ≡ others ++ map (λ g. g.1) (groups_within cover left) →
+    new_keys ≡ keys ++ key ∷ [] → new_others ≡ others ++ count ∷ [] →
+    IsSorted later × ((map (λ g. g.0) whole ≡ map seen new_keys ++ map (λ g. g.0) (groups_within cover later)) × (map (λ g. g.1) whole ≡ new_others ++ map (λ g. g.1) (groups_within cover later)))
+one_key seen cover m ms left later key count keys new_keys others new_others whole is sorted is_key covered many behind so also more_keys more_others =
+    let order : IsSorted (m ∷ ms) = subst IsSorted is sorted in
+    let first : groups_within cover left ≡ (seen key, count) ∷ groups_within cover later =
+    ap (groups_within cover) is ∙ within-group cover m ms covered ∙ ap (λ k. (k, group_count m.0 ms) ∷ groups_within cover (behind_group m.0 ms)) (sym is_key)
+    ∙ ap (λ n. (seen key, n) ∷ groups_within cover (behind_group m.0 ms)) (sym many) ∙ ap (λ zs. (seen key, count) ∷ groups_within cover zs) (sym behind) in (
+      subst IsSorted (sym behind) (sorted-behind m.0 ms order.1),
+      (
+        moved _ _ _ _ (seen key) (so ∙ ap (λ gs. map seen keys ++ map (λ g. g.0) gs) first) (ap (map seen) more_keys ∙ map-append seen keys (key ∷ [])),
+        moved _ _ _ _ count (also ∙ ap (λ gs. others ++ map (λ g. g.1) gs) first) more_others,
+      ),
+    )
 
 -- what the same keys have
 pub same_found : {K L V : Type 0} (f : List ℕ → V) (seen : K → List ℕ) (named_as : L → List ℕ) (keys : List K) (ks : List L) → map seen keys ≡ map named_as ks → map (λ k. f (seen k)) keys ≡ map (λ k. f (named_as k)) ks
-same_found f seen named_as keys ks is = sym (through f seen keys) ∙ ap (map f) is ∙ through f named_as ks
+same_found f seen named_as keys ks is = sym (map-map f seen keys) ∙ ap (map f) is ∙ map-map f named_as ks

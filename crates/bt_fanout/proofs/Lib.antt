@@ -2,6 +2,7 @@ pub mod Batches
 pub mod BuildPackets
 pub mod Builds
 pub mod Entries
+pub mod GroupEffects
 pub mod Groups
 pub mod Lookups
 pub mod Naming
@@ -11,5 +12,6 @@ pub mod Owners
 pub mod Picking
 pub mod RowsRead
 pub mod Sendings
+pub mod SortedEntries
 pub mod Turning
 pub mod WorkedRows

@@ -15,7 +15,7 @@ module _ {X E : Type 0} (entry : List ℕ → X → Option (List ℕ × E)) (Sta
       go (Some a) None e f g h = absurd (true≢false (sym h))
       go (Some a) (Some b) e f g h = apart j k x y a b s t e f (sym (same_key q a.0 g) ∙ same_key q b.0 h)
 
-  owns : (q k : List ℕ) (x : X) → Stands k x → is_at q (entry k x) ≡ true → (rows : Rows X) → AllStand Stands rows → IsOwner entry q k rows
+  pub owns : (q k : List ℕ) (x : X) → Stands k x → is_at q (entry k x) ≡ true → (rows : Rows X) → AllStand Stands rows → IsOwner entry q k rows
   owns q k x s h [] all = tt
   owns q k x s h (r ∷ rows) all = ((λ t. one_owner q r.0 k r.1 x all.0 s t h), owns q k x s h rows all.1)
 

@@ -5,6 +5,7 @@ use Rattle.std.proofs.lemmas.Option.{get_or_from_slice_get}
 use Rattle.bt_rowtype.specs.Values.{HasText, IsInRange}
 use Rattle.bt_rowtype.specs.declared.value.Value.{Value}
 use Rattle.bt_rowtype.specs.declared.value.Value.TheVariants as value
+use Rattle.bt_keycode.specs.Codes.{code_of, code_of_value}
 use Rattle.bt_fanout.specs.Entries.{picked, value_in}
 
 -- a value in the range of its kind has a text, if it is one
@@ -23,3 +24,11 @@ pub one_more : (places : List ℕ) (i d : ℕ) (row : List Value) (v : Value) (w
 one_more places i d row v whole old new within is so more =
     so ∙ ap (λ ps. old ++ picked ps row) (drop_more places i d within) ∙ ap (λ x. old ++ x ∷ picked (drop (i + 1) places) row) (value_seen row (get_or places i d) v is)
     ∙ sym (append_assoc old (v ∷ []) (picked (drop (i + 1) places) row)) ∙ ap (λ vs. vs ++ picked (drop (i + 1) places) row) (sym more)
+
+-- and its code
+pub one_code_more : (places : List ℕ) (i d : ℕ) (row : List Value) (v : Value) (whole old new : List ℕ) → i < length places → slice_get row (get_or places i d) ≡ Some v →
+    whole ≡ old ++ code_of (picked (drop i places) row) → new ≡ old ++ code_of_value v → whole ≡ new ++ code_of (picked (drop (i + 1) places) row)
+one_code_more places i d row v whole old new within is so more =
+    so ∙ ap (λ ps. old ++ code_of (picked ps row)) (drop_more places i d within)
+    ∙ ap (λ x. old ++ (code_of_value x ++ code_of (picked (drop (i + 1) places) row))) (value_seen row (get_or places i d) v is)
+    ∙ sym (append_assoc old (code_of_value v) (code_of (picked (drop (i + 1) places) row))) ∙ ap (λ code. code ++ code_of (picked (drop (i + 1) places) row)) (sym more)

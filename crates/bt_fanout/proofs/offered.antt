@@ -1,5 +1,6 @@
 -- What the crates above cite of the proofs of this one.
 pub mod Builds
+pub mod Covers
 pub mod Definitions
 pub mod Packets
 pub mod Standing

@@ -21,6 +21,14 @@ is_whole Nothing = false
 is_whole (UpTo last) = false
 is_whole Whole = true
 
+-- the wider of two covers
+abbrev pub wider : Cover → Cover → Cover
+wider Nothing other = other
+wider (UpTo last) Nothing = UpTo last
+wider (UpTo last) (UpTo later) = if is_before last later then UpTo later else UpTo last
+wider (UpTo last) Whole = Whole
+wider Whole other = Whole
+
 -- the rows that a step of building reads: the first n that aren't covered
 abbrev pub next_rows : {X : Type 0} → ℕ → Cover → Rows X → Rows X
 next_rows n cover rows = take n (covered (λ k. not (is_covered cover k)) rows)

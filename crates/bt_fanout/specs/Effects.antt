@@ -1,6 +1,7 @@
 -- What a batch does to rows, and the messages of an index for that.
 use Rattle.std.specs.Prelude.{List, [], ◌∷◌, ◌++◌, length, Option, Some, None, if◌then◌else◌}
 use Rattle.std.specs.FinMap.{find}
+use Rattle.std.specs.List.{filter}
 use Rattle.bt_rowtype.specs.declared.value.Value.{Value}
 use Rattle.bt_keycode.specs.Keys.{Key, key_cmp}
 use Rattle.bt_messages.specs.Effects.{Rows, effect_of, merged_entry, rows_after}
@@ -35,6 +36,10 @@ effects_at before after (k ∷ ks) = record { key = k.0; before = before k.0; af
 -- for each key that a batch names, in key order, the row before and the row after the batch
 abbrev pub effects_of : Messages RowMessage → Rows (List Value) → List Effect
 effects_of batch rows = effects_at (λ k. find key_cmp k rows) (λ k. find key_cmp k (rows_after row_effect batch rows)) (named batch)
+
+-- those whose keys a cover covers
+abbrev pub effects_within : Cover → Messages RowMessage → Rows (List Value) → List Effect
+effects_within cover batch rows = filter (λ effect. is_covered cover effect.key) (effects_of batch rows)
 
 -- the places of a definition are places of the row, if there is one
 abbrev pub SuitsIn : Definition → Option (List Value) → Type 0

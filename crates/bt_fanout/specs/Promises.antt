@@ -1,6 +1,7 @@
 -- What is promised of the messages of an index.
-use Rattle.std.specs.Prelude.{◌≡◌, ◌++◌, ℕ, List, [], ◌∷◌, Some, T}
+use Rattle.std.specs.Prelude.{◌≡◌, ◌++◌, ℕ, List, [], ◌∷◌, Some, T, length}
 use Rattle.std.specs.FinMap.{is_sorted}
+use Rattle.std.specs.List.{All}
 use Rattle.bt_rowtype.specs.declared.value.Kind.{Kind}
 use Rattle.bt_rowtype.specs.declared.value.Value.{Value}
 use Rattle.bt_keycode.specs.Keys.{key_cmp}
@@ -8,7 +9,7 @@ use Rattle.bt_messages.specs.Effects.{Rows, rows_after}
 use Rattle.bt_messages.specs.Messages.{Messages, sorted_batch}
 use Rattle.bt_fanout.specs.Covers.{cover_after, is_covered, next_rows, put_of_entry}
 use Rattle.bt_fanout.specs.Effects.{EntryMessage, RowMessage, effects_of, entry_effect, row_effect}
-use Rattle.bt_fanout.specs.Entries.{Definition, StandsUnder, entry_of, own_entry, same_values}
+use Rattle.bt_fanout.specs.Entries.{Definition, IsWithin, StandsUnder, entry_of, own_entry, same_values}
 use Rattle.bt_fanout.specs.Selections.{AllStand, covered, index_messages, select}
 use Rattle.bt_fanout.specs.declared.cover.Cover.{Cover}
 use Rattle.bt_fanout.specs.declared.effect.Effect.{Effect}
@@ -42,3 +43,12 @@ abbrev pub BuildsFrom : Definition → Rows (List Value) → Messages EntryMessa
 BuildsFrom def read packet =
     (kinds : List Kind) (n : ℕ) (cover : Cover) (rows : Rows (List Value)) → read ≡ next_rows n cover rows → T (is_sorted key_cmp rows) →
     AllStand (StandsUnder def kinds) rows → rows_after entry_effect packet (index_of def cover rows) ≡ index_of def (cover_after n cover rows) rows
+
+-- ---- loads
+
+-- rows that an index is made of: by rising key, each under the code of its key columns and with the columns that the definition names
+pub record SuitsRows (def : Definition) (rows : Rows (List Value)) : Type 0 where
+  pub within : All (λ row. IsWithin def (length row.1)) rows
+  pub sorted : T (is_sorted key_cmp rows)
+  pub kinds : List Kind
+  pub stand : AllStand (StandsUnder def kinds) rows

@@ -1,15 +1,19 @@
 //! What rows mean for an index that does not cover them yet.
-ghost use Rattle.std.specs.Prelude.{◌≡◌, ◌++◌, IfOk, OnOk, length};
+ghost use Rattle.std.specs.FinMap.{is_sorted};
+ghost use Rattle.std.specs.Prelude.{◌≡◌, ◌++◌, IfOk, IsTrue, OnOk, length};
 ghost use Rattle.std.specs.List.{All};
-ghost use Rattle.bt_messages.specs.Messages.{sorted_batch};
+ghost use Rattle.std.specs.Option.{option_to_list};
+ghost use Rattle.bt_keycode.specs.Keys.{key_cmp};
 ghost use Rattle.bt_fanout.specs.Covers.{put_of_entry};
-ghost use Rattle.bt_fanout.specs.Entries.{IsWithin};
-ghost use Rattle.bt_fanout.specs.Promises.{BuildsFrom, own_puts};
+ghost use Rattle.bt_fanout.specs.Entries.{IsWithin, entry_of};
+ghost use Rattle.bt_fanout.specs.Promises.{SuitsRows};
+ghost use Rattle.bt_fanout.specs.Selections.{select};
+ghost use Rattle.bt_fanout.specs.inside.RowEntries.{own_entries};
 
 use crate::definition::IndexDef;
 use crate::selecting::entry;
 use bt_keycode::Key;
-use bt_messages::{Entry, Message, Packet};
+use bt_messages::{Entry, Message};
 use bt_rowtype::Row;
 use std::alloc::{AllocError, Global};
 
@@ -29,19 +33,47 @@ pub(crate) fn add_put(
     }
 }
 
-/// The packet of a step of building that reads these rows: the first that the index doesn't cover yet.
-pub fn build_packet(
+// Adds an entry, if there is one.
+fn add_entry(entries: &mut Vec<(Key, Entry)>, entry: Option<(Key, Entry)>) -> Result<(), AllocError>
+    ensures { OnOk result (entries.new.items ≡ entries.old.items ++ option_to_list entry) }
+{
+    match entry {
+        Some(entry) => {
+            entries.push(entry)?;
+            Ok(())
+        }
+        None => Ok(()),
+    }
+}
+
+// The entries of rows, in the order of the rows.
+fn entries_in_order(
     alloc: Global,
     def: &IndexDef,
     rows: &[(Key, Row)],
-) -> Result<Packet<Entry>, AllocError>
+) -> Result<Vec<(Key, Entry)>, AllocError>
     requires { All (λ row. IsWithin def.now (length row.1)) rows.now }
-    ensures packet { IfOk result (λ packet. packet ≡ sorted_batch (own_puts def.now rows.now)) }
-    ensures builds { IfOk result (λ packet. BuildsFrom def.now rows.now packet) }
+    ensures { IfOk result (λ entries. entries.items ≡ own_entries def.now rows.now) }
 {
-    let mut messages = Vec::new(alloc);
+    let mut entries = Vec::new(alloc);
     for row in rows {
-        add_put(&mut messages, entry(alloc, def, &row.1)?)?;
+        add_entry(&mut entries, entry(alloc, def, &row.1)?)?;
     }
-    Packet::from_batch(alloc, messages)
+    Ok(entries)
+}
+
+/// The entries of all rows, by rising key: what an index that is made of these rows has. No two rows have entries of one key, since the key of the row is
+/// behind it.
+pub fn sorted_entries(
+    alloc: Global,
+    def: &IndexDef,
+    rows: &[(Key, Row)],
+) -> Result<Vec<(Key, Entry)>, AllocError>
+    requires { SuitsRows def.now rows.now }
+    ensures entries { IfOk result (λ entries. entries.items ≡ select (entry_of def.now) rows.now) }
+    ensures rising { IfOk result (λ entries. IsTrue (is_sorted key_cmp entries.items)) }
+{
+    let mut entries = entries_in_order(alloc, def, rows)?;
+    entries.sort_unstable_by(|left, right| left.0.compare(&right.0));
+    Ok(entries)
 }

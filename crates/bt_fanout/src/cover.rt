@@ -1,5 +1,6 @@
 //! How far an index covers the rows.
 ghost use Rattle.std.specs.Prelude.{◌≡◌, ◌++◌, ◌∷◌, [], IfOk};
+ghost use Rattle.bt_fanout.specs.Covers as spec;
 ghost use Rattle.bt_fanout.specs.Covers.{is_covered};
 
 use bt_keycode::Key;
@@ -25,6 +26,27 @@ pub fn covers(cover: &Cover, key: &Key) -> bool
         Cover::Nothing => false,
         Cover::UpTo(last) => last.compare(key) != Ordering::Less,
         Cover::Whole => true,
+    }
+}
+
+/// The wider of two covers: it covers the keys that one of them does. Takes no memory.
+pub fn wider<'a>(cover: &'a Cover, other: &'a Cover) -> &'a Cover
+    ensures { result.now ≡ spec.wider cover.now other.now }
+{
+    match cover {
+        Cover::Nothing => other,
+        Cover::UpTo(last) => match other {
+            Cover::Nothing => cover,
+            Cover::UpTo(later) => {
+                if last.compare(later) == Ordering::Less {
+                    other
+                } else {
+                    cover
+                }
+            }
+            Cover::Whole => other,
+        },
+        Cover::Whole => cover,
     }
 }
 

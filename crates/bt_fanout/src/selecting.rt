@@ -7,7 +7,7 @@ ghost use Rattle.bt_keycode.specs.Codes.{code_of};
 ghost use Rattle.bt_fanout.specs.Entries.{HasPlace, IsWithin, entry_of, key_of, meets, passes, picked};
 
 use crate::definition::{Condition, IndexDef};
-use bt_keycode::{Key, encode_row};
+use bt_keycode::{CodeBuilder, Key};
 use bt_messages::Entry;
 use bt_rowtype::{Row, Test, ValueRef};
 use std::alloc::{AllocError, Global};
@@ -78,15 +78,38 @@ fn meets_condition(condition: &Option<Condition>, row: &Row) -> bool
     }
 }
 
+// Adds the codes of the values of a row at places.
+#[tactic(auto, using(crate::proofs::Picking::has_text, crate::proofs::Picking::value_seen))]
+fn add_picked_codes(code: &mut CodeBuilder, row: &Row, places: &[usize]) -> Result<(), AllocError>
+    requires { All (λ place. place < length row.now) places.now }
+    ensures { OnOk result (code.new ≡ code.old ++ code_of (picked places.now row.now)) }
+{
+    for place in places {
+        code.add(row.get(*place))?;
+    }
+    Ok(())
+}
+
+// Adds the codes of the first values of a row, or of all where there are fewer.
+fn add_first_codes(code: &mut CodeBuilder, row: &Row, count: usize) -> Result<(), AllocError>
+    ensures { OnOk result (code.new ≡ code.old ++ code_of (take count row.now)) }
+{
+    let mut rest = row.first_values(count);
+    while let Some(value) = rest.next() {
+        code.add(value)?;
+    }
+    Ok(())
+}
+
 // The key of the entry of a row: the code of the columns that the index is ordered by, and of the key.
 fn entry_key(alloc: Global, def: &IndexDef, row: &Row) -> Result<Key, AllocError>
     requires { IsWithin def.now (length row.now) }
     ensures { IfOk result (λ key. key ≡ code_of (picked def.now.on row.now) ++ key_of def.now row.now) }
 {
-    let mut values = Row::new();
-    add_picked(alloc, &mut values, row, def.on())?;
-    add_first(alloc, &mut values, row, def.keys())?;
-    encode_row(alloc, &values, values.len())
+    let mut code = CodeBuilder::new(alloc);
+    add_picked_codes(&mut code, row, def.on())?;
+    add_first_codes(&mut code, row, def.keys())?;
+    code.finish()
 }
 
 // The included columns of a row.

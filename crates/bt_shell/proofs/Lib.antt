@@ -1,5 +1,6 @@
 pub mod Definitions
-pub mod Lines
+pub mod Replied
 pub mod Sound
 pub mod Turns
 pub mod WorkedRows
+pub mod Written

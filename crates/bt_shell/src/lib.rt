@@ -15,9 +15,11 @@
 
 mod context;
 mod entry;
+mod pieces;
 mod reply;
 mod run;
 mod session;
+mod workforce;
 
 pub use bt_gang::{Crew, Gate, NoGate};
 pub use bt_script::{
@@ -26,4 +28,6 @@ pub use bt_script::{
 };
 pub use bt_table::{Alone, Workforce};
 pub use entry::{ProgramFault, program};
+pub use reply::Lines;
 pub use run::run_script;
+pub use workforce::ScriptWorkforce;

@@ -1,15 +1,19 @@
 //! The texts of replies.
-ghost use Rattle.std.specs.Prelude.{◌≡◌, ◌++◌, ◌+◌, [], IfOk, None, OnOk, Some, flat_map};
+ghost use Rattle.std.specs.Prelude.{◌≡◌, ◌++◌, ◌+◌, [], IfOk, OnOk, flat_map};
 ghost use Rattle.bt_shell.specs.Replies.{count_line, item_text, refused_text, row_line, sum_line};
 ghost use Rattle.bt_shell.specs.Replies as spec;
-ghost use Rattle.bt_shell.specs.inside.Lines.{with_line};
+ghost use Rattle.bt_shell.specs.inside.Lines.{lines_as_one, with_line, with_lines};
 
+use crate::pieces::ReplyText;
+use bt_keycode::Key;
+use bt_node::{ForkVisitor, Visitor};
 use bt_rowtype::{Refusal, Row, Text, write_row};
 use bt_table::{Reply, SentCount};
-use bt_view::{Sink, Sum, write_number};
+use bt_view::{Sum, write_number};
 use itoa::Buffer;
 use std::alloc::{AllocError, Global};
 use std::marker::Model;
+use std::mem;
 
 /// Adds a word, a number and a line end.
 pub fn write_count(out: &mut Vec<u8>, word: &[u8], count: usize) -> Result<(), AllocError>
@@ -22,12 +26,12 @@ pub fn write_count(out: &mut Vec<u8>, word: &[u8], count: usize) -> Result<(), A
 }
 
 /// The reply that is a word, a number and a line end.
-pub fn count_reply(alloc: Global, word: &[u8], count: usize) -> Result<Vec<u8>, AllocError>
-    ensures { IfOk result (λ text. text.items ≡ count_line word.now count) }
+pub fn count_reply(alloc: Global, word: &[u8], count: usize) -> Result<ReplyText, AllocError>
+    ensures { IfOk result (λ text. text ≡ count_line word.now count) }
 {
     let mut text = Vec::new(alloc);
     write_count(&mut text, word, count)?;
-    Ok(text)
+    Ok(ReplyText::new(alloc, text))
 }
 
 fn write_row_line(out: &mut Vec<u8>, row: &Row) -> Result<(), AllocError>
@@ -40,15 +44,15 @@ fn write_row_line(out: &mut Vec<u8>, row: &Row) -> Result<(), AllocError>
 }
 
 // The reply that is the row of a key, where it has one.
-fn row_reply(alloc: Global, row: Option<Row>) -> Result<Vec<u8>, AllocError>
-    ensures { IfOk result (λ text. text.items ≡ spec.row_reply row) }
+fn row_reply(alloc: Global, row: Option<Row>) -> Result<ReplyText, AllocError>
+    ensures { IfOk result (λ text. text ≡ spec.row_reply row) }
 {
     let Some(row) = row else {
-        return Vec::from_slice(alloc, b"none\n");
+        return Ok(ReplyText::new(alloc, Vec::from_slice(alloc, b"none\n")?));
     };
     let mut text = Vec::new(alloc);
     write_row_line(&mut text, &row)?;
-    Ok(text)
+    Ok(ReplyText::new(alloc, text))
 }
 
 // Adds the name of an index and how many messages it was sent, behind a space.
@@ -72,24 +76,24 @@ fn write_each_sent(out: &mut Vec<u8>, sent: &[SentCount]) -> Result<(), AllocErr
 }
 
 // The reply that is the number of messages of a batch, and that of each index.
-fn batch_reply(alloc: Global, count: usize, sent: &[SentCount]) -> Result<Vec<u8>, AllocError>
-    ensures { IfOk result (λ text. text.items ≡ spec.batch_reply count sent.now) }
+fn batch_reply(alloc: Global, count: usize, sent: &[SentCount]) -> Result<ReplyText, AllocError>
+    ensures { IfOk result (λ text. text ≡ spec.batch_reply count sent.now) }
 {
     let mut text = Vec::from_slice(alloc, b"batch ")?;
     write_number(&mut text, count as u64)?;
     write_each_sent(&mut text, sent)?;
     text.push(b'\n')?;
-    Ok(text)
+    Ok(ReplyText::new(alloc, text))
 }
 
 // The reply that is a word, a name and a line end.
-fn name_reply(alloc: Global, word: &[u8], name: &Text) -> Result<Vec<u8>, AllocError>
-    ensures { IfOk result (λ text. text.items ≡ spec.name_line word.now name.now) }
+fn name_reply(alloc: Global, word: &[u8], name: &Text) -> Result<ReplyText, AllocError>
+    ensures { IfOk result (λ text. text ≡ spec.name_line word.now name.now) }
 {
     let mut text = Vec::from_slice(alloc, word)?;
     text.extend_from_slice(name.as_bytes())?;
     text.push(b'\n')?;
-    Ok(text)
+    Ok(ReplyText::new(alloc, text))
 }
 
 // The reply that is the name of an index, how many rows a step of its building read, and whether it is complete.
@@ -98,8 +102,8 @@ fn build_reply(
     name: &Text,
     read: usize,
     complete: bool,
-) -> Result<Vec<u8>, AllocError>
-    ensures { IfOk result (λ text. text.items ≡ spec.build_line name.now read complete) }
+) -> Result<ReplyText, AllocError>
+    ensures { IfOk result (λ text. text ≡ spec.build_line name.now read complete) }
 {
     let mut text = Vec::from_slice(alloc, b"build ")?;
     text.extend_from_slice(name.as_bytes())?;
@@ -111,12 +115,12 @@ fn build_reply(
         b" building\n"
     };
     text.extend_from_slice(progress)?;
-    Ok(text)
+    Ok(ReplyText::new(alloc, text))
 }
 
 /// The text of what a call on a table answers.
-pub fn reply_text(alloc: Global, reply: Reply) -> Result<Vec<u8>, AllocError>
-    ensures { IfOk result (λ text. text.items ≡ spec.reply_text reply) }
+pub fn reply_text(alloc: Global, reply: Reply) -> Result<ReplyText, AllocError>
+    ensures { IfOk result (λ text. text ≡ spec.reply_text reply) }
 {
     match reply {
         Reply::Batch { count, sent } => batch_reply(alloc, count, sent.as_slice()),
@@ -148,69 +152,113 @@ fn write_sum_line(out: &mut Vec<u8>, sum: &Sum) -> Result<(), AllocError>
     Ok(())
 }
 
-/// Lines, written as what they show comes. A contract sees them and their number.
+// Adds the lines of groups.
+fn write_sum_lines(out: &mut Vec<u8>, sums: &[Sum]) -> Result<(), AllocError>
+    ensures { OnOk result (out.new.items ≡ out.old.items ++ flat_map sum_line sums.now) }
+{
+    for sum in sums {
+        write_sum_line(out, sum)?;
+    }
+    Ok(())
+}
+
+/// The reply that is the lines of groups, and then their number. It is written into the room that a list has, whose bytes are gone.
+pub fn sums_reply(alloc: Global, sums: &[Sum], room: Vec<u8>) -> Result<ReplyText, AllocError>
+    ensures { IfOk result (λ text. text ≡ spec.sums_reply sums.now) }
+{
+    let mut text = room;
+    text.clear();
+    write_sum_lines(&mut text, sums)?;
+    write_count(&mut text, b"sums ", sums.len())?;
+    Ok(ReplyText::new(alloc, text))
+}
+
+/// Lines, written as the rows that they show come: one text, or where rows are gone through in parts, the text of each part, which no join copies. A contract
+/// sees all bytes and the number of lines.
 #[derive(Drop)]
 pub struct Lines {
+    // The texts before the one at hand, in order.
+    pieces: Vec<Vec<u8>>,
     text: Vec<u8>,
     count: usize,
 }
 
 impl Model for Lines {
-    ghost use Rattle.std.specs.Prelude.{◌≤◌, List, length, ℕ};
+    ghost use Rattle.std.specs.Prelude.{List, ◌++◌, ℕ};
+    ghost use Rattle.bt_shell.specs.inside.Pieces.{bytes_of};
 
     ghost Value = { List ℕ × ℕ };
 
-    ghost view = { λ l. (l.text.items, l.count) };
+    ghost view = { λ l. (bytes_of l.pieces.items ++ l.text.items, l.count) };
+}
 
-    // Each line has a byte at least, so the number doesn't wrap.
-    ghost invariant = { λ l. l.count ≤ length l.text.items };
+// The number of lines with more of them. Each has a byte at least, and no memory holds more bytes than are counted.
+fn add_count(count: usize, more: usize) -> Result<usize, AllocError>
+    ensures { IfOk result (λ sum. sum ≡ count + more) }
+{
+    count.checked_add(more).ok_or(AllocError)
 }
 
 impl Lines {
-    /// No line, with the room that a list has, whose bytes are gone.
-    pub fn in_room(room: Vec<u8>) -> Self
+    /// No line, with the room that a list has, whose bytes are gone. Takes no memory.
+    pub fn in_room(alloc: Global, room: Vec<u8>) -> Self
         ensures { result ≡ ([], 0) }
     {
         let mut text = room;
         text.clear();
-        Lines { text, count: 0 }
+        Lines {
+            pieces: Vec::new(alloc),
+            text,
+            count: 0,
+        }
     }
 
     /// The lines, and then a word and their number.
-    pub fn into_reply(self, word: &[u8]) -> Result<Vec<u8>, AllocError>
-        ensures { IfOk result (λ text. text.items ≡ self.0 ++ count_line word.now self.1) }
+    pub fn into_reply(self, word: &[u8]) -> Result<ReplyText, AllocError>
+        ensures { IfOk result (λ text. text ≡ self.0 ++ count_line word.now self.1) }
     {
-        let Lines { mut text, count } = self;
+        let Lines {
+            pieces,
+            mut text,
+            count,
+        } = self;
         write_count(&mut text, word, count)?;
-        Ok(text)
+        Ok(ReplyText::from_pieces(pieces, text))
     }
 }
 
-impl Sink<Row> for Lines {
-    ghost added = { with_line spec.row_line };
+impl Visitor<Row> for Lines {
+    ghost visited = { with_line (λ row. spec.row_line row.1) };
 
-    fn add(&mut self, _alloc: Global, row: &Row) -> Result<(), AllocError> {
-        if let Err(error) = write_row_line(&mut self.text, row) {
-            // What stands in the text after an error is not known, so that no line counts.
-            self.count = 0;
-            return Err(error);
-        }
-        self.count += 1;
+    fn visit(&mut self, _alloc: Global, _key: &Key, row: &Row) -> Result<(), AllocError> {
+        write_row_line(&mut self.text, row)?;
+        self.count = add_count(self.count, 1)?;
         Ok(())
     }
 }
 
-impl Sink<Sum> for Lines {
-    ghost added = { with_line spec.sum_line };
+impl ForkVisitor<Row> for Lines {
+    ghost forked = { λ _. ([], 0) };
 
-    fn add(&mut self, _alloc: Global, sum: &Sum) -> Result<(), AllocError> {
-        if let Err(error) = write_sum_line(&mut self.text, sum) {
-            self.count = 0;
-            return Err(error);
-        }
-        self.count += 1;
+    ghost joined = { with_lines };
+
+    fn fork(&self, alloc: Global) -> Self {
+        Lines::in_room(alloc, Vec::new(alloc))
+    }
+
+    fn join(&mut self, _alloc: Global, behind: Self) -> Result<(), AllocError> {
+        let Lines {
+            mut pieces,
+            text,
+            count,
+        } = behind;
+        self.pieces.push(mem::replace(&mut self.text, text))?;
+        self.pieces.append(&mut pieces)?;
+        self.count = add_count(self.count, count)?;
         Ok(())
     }
+
+    ghost as_one = { λ lines rows behind. lines_as_one (λ row. spec.row_line row.1) lines rows behind };
 }
 
 // Adds the item of a refusal behind a space, where it has one.
@@ -225,8 +273,8 @@ fn write_item(out: &mut Vec<u8>, item: Option<u64>) -> Result<(), AllocError>
 }
 
 /// The reply to what is refused.
-pub fn refusal_reply(alloc: Global, refusal: Refusal) -> Result<Vec<u8>, AllocError>
-    ensures { IfOk result (λ text. text.items ≡ refused_text refusal) }
+pub fn refusal_reply(alloc: Global, refusal: Refusal) -> Result<ReplyText, AllocError>
+    ensures { IfOk result (λ text. text ≡ refused_text refusal) }
 {
     let mut text = Vec::from_slice(alloc, b"refused ")?;
     write_number(&mut text, u64::from(refusal.number()))?;
@@ -234,5 +282,5 @@ pub fn refusal_reply(alloc: Global, refusal: Refusal) -> Result<Vec<u8>, AllocEr
     text.extend_from_slice(refusal.name().as_bytes())?;
     write_item(&mut text, refusal.item())?;
     text.push(b'\n')?;
-    Ok(text)
+    Ok(ReplyText::new(alloc, text))
 }

@@ -7,8 +7,9 @@ ghost use Rattle.bt_table.specs.Standing.{CompleteIndexesHold, IsSound};
 
 use crate::context::Context;
 use crate::session::next_reply;
-use bt_script::{Counted, RunFault, SCRIPT_LIMIT, read_script, write_text};
-use bt_table::{Table, Workforce};
+use crate::workforce::ScriptWorkforce;
+use bt_script::{Counted, RunFault, SCRIPT_LIMIT, read_script};
+use bt_table::Table;
 use std::alloc::Global;
 use std::io::{Read, Write};
 
@@ -27,7 +28,7 @@ pub(crate) fn flush<W: Write>(writer: &mut Counted<W>) -> Result<(), RunFault>
 }
 
 // Writes the replies to the commands of a script, and flushes them. The commands begin with no table.
-fn write_replies<W: Write, T, C: Workforce<T>>(
+fn write_replies<W: Write, T, C: ScriptWorkforce<T>>(
     context: &Context<'_, T, C>,
     script: &[u8],
     table: &mut Option<Table>,
@@ -46,9 +47,9 @@ fn write_replies<W: Write, T, C: Workforce<T>>(
     let mut at = 0;
     let mut room = Vec::new(context.alloc);
     'commands: while let Some(step) = next_reply(context, script, table, at, room)? {
-        write_text(writer, step.text.as_slice())?;
+        step.text.write_to(writer)?;
         at = step.next;
-        room = step.text;
+        room = step.text.into_room();
     }
     flush(writer)?;
     Ok(())
@@ -71,7 +72,7 @@ impl Session {
     }
 
     // Runs a script, as `run_script` says, whatever the session had before.
-    pub(crate) fn run<R: Read, W: Write, T, C: Workforce<T>>(
+    pub(crate) fn run<R: Read, W: Write, T, C: ScriptWorkforce<T>>(
         &mut self,
         context: &Context<'_, T, C>,
         reader: &mut Counted<R>,
@@ -106,7 +107,7 @@ impl Session {
 /// `Write`: the writer failed. `OutOfMemory`: a request for memory was refused; the command at hand has written nothing.
 ///
 /// Whoever works, a crew of any number of workers or the caller alone, in whatever order they take their jobs, the replies are the same.
-pub fn run_script<R: Read, W: Write, T, C: Workforce<T>>(
+pub fn run_script<R: Read, W: Write, T, C: ScriptWorkforce<T>>(
     rt: &T,
     alloc: Global,
     reader: &mut Counted<R>,

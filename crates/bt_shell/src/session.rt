@@ -8,14 +8,16 @@ ghost use Rattle.bt_rowtype.specs.Answers.{Answers};
 ghost use Rattle.bt_table.specs.Standing.{Suits};
 
 use crate::context::Context;
-use crate::reply::{Lines, count_reply, refusal_reply, reply_text};
+use crate::pieces::ReplyText;
+use crate::reply::{Lines, count_reply, refusal_reply, reply_text, sums_reply};
+use crate::workforce::ScriptWorkforce;
 use bt_fanout::IndexDef;
 use bt_node::Shape;
 use bt_rowtype::{RecordLine, Refusal, Schema, Text, least_with};
 use bt_script::{
     BlockText, Bounds, Command, IndexForm, Items, Parsed, SumsForm, TableForm, parse_command,
 };
-use bt_table::{Table, Workforce};
+use bt_table::Table;
 use std::alloc::{AllocError, Global};
 
 // Makes the table.
@@ -23,8 +25,8 @@ fn create_table(
     alloc: Global,
     table: &mut Option<Table>,
     form: TableForm,
-) -> Result<Vec<u8>, Refusal>
-    ensures done { IfOk result (λ text. IsDone table.old table.new (command.Table form) text.items) }
+) -> Result<ReplyText, Refusal>
+    ensures done { IfOk result (λ text. IsDone table.old table.new (command.Table form) text) }
     ensures refused { IfErr result (IsRefused table.old table.new (command.Table form)) }
 {
     if table.is_some() {
@@ -40,13 +42,13 @@ fn create_table(
 }
 
 // Applies the messages of a batch.
-fn batch<T, C: Workforce<T>>(
+fn batch<T, C: ScriptWorkforce<T>>(
     context: &Context<'_, T, C>,
     table: &mut Option<Table>,
     items: &Items<'_>,
-) -> Result<Vec<u8>, Refusal>
+) -> Result<ReplyText, Refusal>
     requires ready { C.accepts context.now.crew.now }
-    ensures done { IfOk result (λ text. IsDone table.old table.new (command.Batch items.now) text.items) }
+    ensures done { IfOk result (λ text. IsDone table.old table.new (command.Batch items.now) text) }
     ensures refused { IfErr result (IsRefused table.old table.new (command.Batch items.now)) }
 {
     let Some(table) = table else {
@@ -57,8 +59,8 @@ fn batch<T, C: Workforce<T>>(
     Ok(reply_text(alloc, reply)?)
 }
 
-fn get(alloc: Global, table: &Option<Table>, fields: &RecordLine<'_>) -> Result<Vec<u8>, Refusal>
-    ensures done { IfOk result (λ text. IsDone table.now table.now (command.Get fields.now) text.items) }
+fn get(alloc: Global, table: &Option<Table>, fields: &RecordLine<'_>) -> Result<ReplyText, Refusal>
+    ensures done { IfOk result (λ text. IsDone table.now table.now (command.Get fields.now) text) }
     ensures refused { IfErr result (IsRefused table.now table.now (command.Get fields.now)) }
 {
     let Some(table) = table else {
@@ -96,8 +98,8 @@ fn create_index(
     alloc: Global,
     table: &mut Option<Table>,
     form: IndexForm,
-) -> Result<Vec<u8>, Refusal>
-    ensures done { IfOk result (λ text. IsDone table.old table.new (command.Index form) text.items) }
+) -> Result<ReplyText, Refusal>
+    ensures done { IfOk result (λ text. IsDone table.old table.new (command.Index form) text) }
     ensures refused { IfErr result (IsRefused table.old table.new (command.Index form)) }
 {
     let Some(table) = table else {
@@ -117,14 +119,14 @@ fn create_index(
 }
 
 // Takes a step of building an index, which is to read so many rows.
-fn build<T, C: Workforce<T>>(
+fn build<T, C: ScriptWorkforce<T>>(
     context: &Context<'_, T, C>,
     table: &mut Option<Table>,
     name: &Text,
     count: u32,
-) -> Result<Vec<u8>, Refusal>
+) -> Result<ReplyText, Refusal>
     requires ready { C.accepts context.now.crew.now }
-    ensures done { IfOk result (λ text. IsDone table.old table.new (command.Build name.now count) text.items) }
+    ensures done { IfOk result (λ text. IsDone table.old table.new (command.Build name.now count) text) }
     ensures refused { IfErr result (IsRefused table.old table.new (command.Build name.now count)) }
 {
     let Some(table) = table else {
@@ -136,8 +138,8 @@ fn build<T, C: Workforce<T>>(
 }
 
 // Takes an index out of the table.
-fn drop_index(alloc: Global, table: &mut Option<Table>, name: &Text) -> Result<Vec<u8>, Refusal>
-    ensures done { IfOk result (λ text. IsDone table.old table.new (command.Drop name.now) text.items) }
+fn drop_index(alloc: Global, table: &mut Option<Table>, name: &Text) -> Result<ReplyText, Refusal>
+    ensures done { IfOk result (λ text. IsDone table.old table.new (command.Drop name.now) text) }
     ensures refused { IfErr result (IsRefused table.old table.new (command.Drop name.now)) }
 {
     let Some(table) = table else {
@@ -147,73 +149,63 @@ fn drop_index(alloc: Global, table: &mut Option<Table>, name: &Text) -> Result<V
     Ok(reply_text(alloc, reply)?)
 }
 
-fn scan(
-    alloc: Global,
+// Writes the rows of a range as lines, into the room of a list.
+fn scan<T, C: ScriptWorkforce<T>>(
+    context: &Context<'_, T, C>,
     table: &Option<Table>,
     name: &Text,
     bounds: &Bounds<'_>,
     room: Vec<u8>,
-) -> Result<Vec<u8>, Refusal>
-    ensures done { IfOk result (λ text. IsDone table.now table.now (command.Scan name.now bounds.now) text.items) }
+) -> Result<ReplyText, Refusal>
+    requires ready { C.accepts context.now.crew.now }
+    ensures done { IfOk result (λ text. IsDone table.now table.now (command.Scan name.now bounds.now) text) }
     ensures refused { IfErr result (IsRefused table.now table.now (command.Scan name.now bounds.now)) }
 {
     let Some(table) = table else {
         return Err(Refusal::NoTable);
     };
-    let lines = bt_view::scan(
-        alloc,
-        table,
-        name,
-        bounds.from.as_ref(),
-        bounds.to.as_ref(),
-        Lines::in_room(room),
-    )?;
+    let Context { rt, alloc, crew } = *context;
+    let lines = crew.scan(rt, alloc, table, name, bounds, Lines::in_room(alloc, room))?;
     Ok(lines.into_reply(b"rows ")?)
 }
 
-fn sums(
-    alloc: Global,
+// Writes the groups of a range as lines, into the room of a list.
+fn sums<T, C: ScriptWorkforce<T>>(
+    context: &Context<'_, T, C>,
     table: &Option<Table>,
     form: &SumsForm<'_>,
     room: Vec<u8>,
-) -> Result<Vec<u8>, Refusal>
-    ensures done { IfOk result (λ text. IsDone table.now table.now (command.Sums form.now) text.items) }
+) -> Result<ReplyText, Refusal>
+    requires ready { C.accepts context.now.crew.now }
+    ensures done { IfOk result (λ text. IsDone table.now table.now (command.Sums form.now) text) }
     ensures refused { IfErr result (IsRefused table.now table.now (command.Sums form.now)) }
 {
     let Some(table) = table else {
         return Err(Refusal::NoTable);
     };
-    let lines = bt_view::sums(
-        alloc,
-        table,
-        &form.tree,
-        form.columns,
-        &form.column,
-        form.bounds.from.as_ref(),
-        form.bounds.to.as_ref(),
-        Lines::in_room(room),
-    )?;
-    Ok(lines.into_reply(b"sums ")?)
+    let Context { rt, alloc, crew } = *context;
+    let sums = crew.sums(rt, alloc, table, form)?;
+    Ok(sums_reply(alloc, sums.as_slice(), room)?)
 }
 
-fn image(alloc: Global, table: &Option<Table>, name: &Text) -> Result<Vec<u8>, Refusal>
-    ensures done { IfOk result (λ text. IsDone table.now table.now (command.Image name.now) text.items) }
+fn image(alloc: Global, table: &Option<Table>, name: &Text) -> Result<ReplyText, Refusal>
+    ensures done { IfOk result (λ text. IsDone table.now table.now (command.Image name.now) text) }
     ensures refused { IfErr result (IsRefused table.now table.now (command.Image name.now)) }
 {
     let Some(table) = table else {
         return Err(Refusal::NoTable);
     };
-    bt_view::image(alloc, table, name)
+    Ok(ReplyText::new(alloc, bt_view::image(alloc, table, name)?))
 }
 
 // Loads the records of a text.
-fn load<T, C: Workforce<T>>(
+fn load<T, C: ScriptWorkforce<T>>(
     context: &Context<'_, T, C>,
     table: &mut Option<Table>,
     text: &BlockText<'_>,
-) -> Result<Vec<u8>, Refusal>
+) -> Result<ReplyText, Refusal>
     requires ready { C.accepts context.now.crew.now }
-    ensures done { IfOk result (λ reply. IsDone table.old table.new (command.Load text.now) reply.items) }
+    ensures done { IfOk result (λ reply. IsDone table.old table.new (command.Load text.now) reply) }
     ensures refused { IfErr result (IsRefused table.old table.new (command.Load text.now)) }
 {
     let Some(table) = table else {
@@ -225,13 +217,13 @@ fn load<T, C: Workforce<T>>(
 }
 
 // Flushes every buffer of a tree.
-fn drain<T, C: Workforce<T>>(
+fn drain<T, C: ScriptWorkforce<T>>(
     context: &Context<'_, T, C>,
     table: &mut Option<Table>,
     name: &Text,
-) -> Result<Vec<u8>, Refusal>
+) -> Result<ReplyText, Refusal>
     requires ready { C.accepts context.now.crew.now }
-    ensures done { IfOk result (λ text. IsDone table.old table.new (command.Drain name.now) text.items) }
+    ensures done { IfOk result (λ text. IsDone table.old table.new (command.Drain name.now) text) }
     ensures refused { IfErr result (IsRefused table.old table.new (command.Drain name.now)) }
 {
     let Some(table) = table else {
@@ -243,13 +235,13 @@ fn drain<T, C: Workforce<T>>(
 }
 
 // Builds a tree anew.
-fn rebuild<T, C: Workforce<T>>(
+fn rebuild<T, C: ScriptWorkforce<T>>(
     context: &Context<'_, T, C>,
     table: &mut Option<Table>,
     name: &Text,
-) -> Result<Vec<u8>, Refusal>
+) -> Result<ReplyText, Refusal>
     requires ready { C.accepts context.now.crew.now }
-    ensures done { IfOk result (λ text. IsDone table.old table.new (command.Rebuild name.now) text.items) }
+    ensures done { IfOk result (λ text. IsDone table.old table.new (command.Rebuild name.now) text) }
     ensures refused { IfErr result (IsRefused table.old table.new (command.Rebuild name.now)) }
 {
     let Some(table) = table else {
@@ -261,14 +253,14 @@ fn rebuild<T, C: Workforce<T>>(
 }
 
 // The reply to a command that is not refused, or its refusal. Where a reply has many lines, they are written into the room of a list.
-fn answer<T, C: Workforce<T>>(
+fn answer<T, C: ScriptWorkforce<T>>(
     context: &Context<'_, T, C>,
     table: &mut Option<Table>,
     command: Command<'_>,
     room: Vec<u8>,
-) -> Result<Vec<u8>, Refusal>
+) -> Result<ReplyText, Refusal>
     requires ready { C.accepts context.now.crew.now }
-    ensures done { IfOk result (λ text. IsDone table.old table.new command.entry text.items) }
+    ensures done { IfOk result (λ text. IsDone table.old table.new command.entry text) }
     ensures refused { IfErr result (IsRefused table.old table.new command.entry) }
 {
     let alloc = context.alloc;
@@ -277,12 +269,12 @@ fn answer<T, C: Workforce<T>>(
         Command::Batch(items) => batch(context, table, &items),
         Command::Get(fields) => get(alloc, table, &fields),
         Command::Scan(tree, bounds) => {
-            let reply = scan(alloc, table, &tree, &bounds, room);
+            let reply = scan(context, table, &tree, &bounds, room);
             drop((tree, bounds));
             reply
         }
         Command::Sums(form) => {
-            let reply = sums(alloc, table, &form, room);
+            let reply = sums(context, table, &form, room);
             drop(form);
             reply
         }
@@ -317,14 +309,14 @@ fn answer<T, C: Workforce<T>>(
 }
 
 // The reply to a command, and what the command does. An `Err` is for want of memory.
-fn take_turn<T, C: Workforce<T>>(
+fn take_turn<T, C: ScriptWorkforce<T>>(
     context: &Context<'_, T, C>,
     table: &mut Option<Table>,
     command: Command<'_>,
     room: Vec<u8>,
-) -> Result<Vec<u8>, AllocError>
+) -> Result<ReplyText, AllocError>
     requires ready { C.accepts context.now.crew.now }
-    ensures text { IfOk result (λ text. text.items ≡ (step.turn table.old (Ok command.entry)).1) }
+    ensures text { IfOk result (λ text. text ≡ (step.turn table.old (Ok command.entry)).1) }
     ensures state { OnOk result (table.new ≡ (step.turn table.old (Ok command.entry)).0) }
 {
     match answer(context, table, command, room) {
@@ -337,14 +329,14 @@ fn take_turn<T, C: Workforce<T>>(
 /// A reply, and the place behind its command.
 #[derive(Drop)]
 pub struct Step {
-    pub text: Vec<u8>,
+    pub text: ReplyText,
     pub next: usize,
 }
 
 /// The reply to the command that stands at a place, or `None` where no further one does. An `Err` is for want of memory.
 ///
 /// A reply of many lines takes the room of a list, such as the reply before it, so that scans one after the other ask for it once.
-pub(crate) fn next_reply<T, C: Workforce<T>>(
+pub(crate) fn next_reply<T, C: ScriptWorkforce<T>>(
     context: &Context<'_, T, C>,
     script: &[u8],
     table: &mut Option<Table>,
@@ -352,7 +344,7 @@ pub(crate) fn next_reply<T, C: Workforce<T>>(
     room: Vec<u8>,
 ) -> Result<Option<Step>, AllocError>
     requires ready { C.accepts context.now.crew.now }
-    ensures step { IfOk result (λ found. IfSome found (λ step. IsTurn table.old table.new (commands (drop at script.now)) (commands (drop step.next script.now)) step.text.items)) }
+    ensures step { IfOk result (λ found. IfSome found (λ step. IsTurn table.old table.new (commands (drop at script.now)) (commands (drop step.next script.now)) step.text)) }
     ensures end { IfOk result (λ found. IfNone found (commands (drop at script.now) ≡ [])) }
     ensures past { IfOk result (λ found. IfSome found (λ step. (at < step.next) × (step.next ≤ length script.now))) }
 {

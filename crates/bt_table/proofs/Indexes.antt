@@ -1,12 +1,13 @@
 -- What a batch, a step of building or a load makes of the indexes of a table, and that they are sound then. Serves the calls of a table.
-use Rattle.std.proofs.Common.{ℕ, zero, suc, ◌+◌, ◌≡◌, ◌∙◌, ◌&&◌, Bool, T, List, [], ◌∷◌, ◌++◌, ap, arith, drop, false, if◌then◌else◌, length, map, refl, set, slice_get, subst, sym, true, IfSome, Some}
+use Rattle.std.proofs.Common.{ℕ, zero, suc, ◌+◌, ◌≡◌, ◌∙◌, ◌&&◌, Bool, T, List, [], ◌∷◌, ◌++◌, ap, arith, drop, false, get_or, if◌then◌else◌, length, map, refl, set, slice_get, subst, sym, true, IfSome, Some}
 use Rattle.std.proofs.lemmas.List.{set-get_or, set-set}
+use Rattle.std.proofs.lemmas.List.Elements.{All-filter}
 use Rattle.std.proofs.lemmas.Option.{get_or_from_slice_get}
 use Rattle.std.specs.FinMap.{is_sorted}
 use Rattle.std.specs.List.{All, list_all, remove}
 use Rattle.bt_rowtype.specs.Schemas.{Schema}
 use Rattle.bt_rowtype.specs.declared.value.Value.{Value}
-use Rattle.bt_keycode.specs.Keys.{key_cmp}
+use Rattle.bt_keycode.specs.Keys.{Key, key_cmp}
 use Rattle.bt_messages.specs.Effects.{Rows, rows_after}
 use Rattle.bt_messages.specs.Messages.{Messages, sorted_batch}
 use Rattle.bt_node.specs.Drains.{packed}
@@ -15,25 +16,25 @@ use Rattle.bt_node.specs.Flushes.{holds, sunk}
 use Rattle.bt_node.specs.Trees.{Shape}
 use Rattle.bt_node.proofs.offered.PackedTrees.{packed-has_shape, packed-holds}
 use Rattle.bt_node.proofs.offered.ShapedTrees.{sunk-has_shape, sunk-holds}
-use Rattle.bt_fanout.specs.Covers.{next_rows}
+use Rattle.bt_fanout.specs.Covers.{is_covered, next_rows, wider}
 use Rattle.bt_fanout.specs.Definitions.{kinds_of}
-use Rattle.bt_fanout.specs.Effects.{EntryMessage, SuitsEffect, effects_of, entry_effect, row_effect, sent_for_all}
+use Rattle.bt_fanout.specs.Effects.{EntryMessage, SuitsEffect, effects_of, effects_within, entry_effect, row_effect, sent_for_all}
 use Rattle.bt_fanout.specs.Entries.{Definition, IsWithin, StandsUnder, SuitsKinds, entry_of}
-use Rattle.bt_fanout.specs.Promises.{Turns, index_of, own_puts}
+use Rattle.bt_fanout.specs.Promises.{SuitsRows, Turns, index_of, own_puts}
 use Rattle.bt_fanout.specs.Selections as selection
 use Rattle.bt_fanout.specs.Selections.{select}
-use Rattle.bt_fanout.proofs.offered.Builds.{all_selected, sorted-select, step_builds, step_puts}
+use Rattle.bt_fanout.proofs.offered.Builds.{sorted-select, step_builds, step_puts}
+use Rattle.bt_fanout.proofs.offered.Covers.{IsAmong, effects-nothing, first_among_wider, second_among_wider, sent-within}
 use Rattle.bt_fanout.proofs.offered.Packets.{effects-sorted_batch}
 use Rattle.bt_fanout.proofs.offered.Standing.{stands_under}
 use Rattle.bt_fanout.proofs.offered.Suiting.{all_more, all_none, of_whole, suits_effects, suits_row}
 use Rattle.bt_fanout.proofs.offered.Turns.{packet_turns}
 use Rattle.bt_table.specs.Indexes.{EntryTree, Index, building_packet, built_index, index_named_from, index_with, indexes_after, indexes_of, is_complete, is_name_of, packed_index, packet_of, sent_count, sunk_index}
-use Rattle.bt_table.specs.inside.IndexTrees.{covers_all, covers_nothing, entry_tree, is_nothing, packet_for, sent_for, sunk_tree, sunk_trees}
+use Rattle.bt_table.specs.inside.IndexTrees.{covers_all, entry_tree, packet_for, sent_for, sunk_tree, sunk_trees, widest}
 use Rattle.bt_table.specs.Standing.{AllStand, AreSoundIndexes, HoldsSelection, IsSoundIndex}
 use Rattle.bt_table.specs.Tables.{RowMessages}
 use Rattle.bt_fanout.specs.declared.cover.Cover.{Cover}
-use Rattle.bt_fanout.specs.declared.cover.Cover.TheVariants.{Nothing, UpTo, Whole}
-use Rattle.bt_fanout.specs.declared.effect.Effect.{Effect}
+use Rattle.bt_fanout.specs.declared.cover.Cover.TheVariants.{Nothing}
 use Rattle.bt_table.specs.declared.index.IndexHead.{IndexHead}
 
 -- rows of a schema stand as the laws of an index ask
@@ -137,13 +138,16 @@ module _ (schema : Schema) (shape : Shape) (rows : Rows (List Value)) (sorted : 
   pub rows_within : (index : Index) → SuitsKinds index.def (kinds_of schema.columns) → index.def.keys ≡ schema.keys → All (λ row. IsWithin index.def (length row.1)) rows
   rows_within index suits keys = all_within index.def suits rows (stands index keys)
 
+  suits_rows : (index : Index) → SuitsKinds index.def (kinds_of schema.columns) → index.def.keys ≡ schema.keys → SuitsRows index.def rows
+  suits_rows index suits keys = record { within = rows_within index suits keys; sorted = sorted; kinds = kinds_of schema.columns; stand = stands index keys }
+
   module _ (old : Rows (List Value)) where
-    pub each_within : (heads : List IndexHead) (trees : List (Shape × EntryTree)) → length trees ≡ length heads → AreSoundIndexes schema shape old (indexes_of heads trees)
-        → All (λ head. All (λ row. IsWithin head.def (length row.1)) rows) heads
-    each_within [] trees many sound = all_none (λ head. All (λ row. IsWithin head.def (length row.1)) rows)
-    each_within (head ∷ heads) [] many sound = absurd (omega (arith, many))
-    each_within (head ∷ heads) (tree ∷ trees) many sound =
-        all_more (λ head. All (λ row. IsWithin head.def (length row.1)) rows) head heads (rows_within (index_with head tree) sound.0.suits sound.0.keys) (each_within heads trees (omega (arith, many)) sound.1)
+    pub each_suits : (heads : List IndexHead) (trees : List (Shape × EntryTree)) → length trees ≡ length heads → AreSoundIndexes schema shape old (indexes_of heads trees)
+        → All (λ head. SuitsRows head.def rows) heads
+    each_suits [] trees many sound = all_none (λ head. SuitsRows head.def rows)
+    each_suits (head ∷ heads) [] many sound = absurd (omega (arith, many))
+    each_suits (head ∷ heads) (tree ∷ trees) many sound =
+        all_more (λ head. SuitsRows head.def rows) head heads (suits_rows (index_with head tree) sound.0.suits sound.0.keys) (each_suits heads trees (omega (arith, many)) sound.1)
 
     packed-sound : (index : Index) → IsSoundIndex schema shape old index → is_complete index ≡ true → IsSoundIndex schema shape rows (packed_index rows index)
     packed-sound index sound whole =
@@ -164,11 +168,11 @@ module _ (schema : Schema) (shape : Shape) (rows : Rows (List Value)) (sorted : 
         let both = both_hold (is_complete index) (list_all is_complete indexes) whole in
         (packed-sound index sound.0 both.0, all_packed-sound indexes sound.1 both.1)
 
-    -- the puts of the entries of all rows make the packed tree of an empty one
+    -- the tree that a load packs of the entries is that of the packed index
     entry_tree-is : (head : IndexHead) (tree : Shape × EntryTree) → IsSoundIndex schema shape old (index_with head tree)
         → index_with head (entry_tree shape rows head.def) ≡ packed_index rows (index_with head tree)
     entry_tree-is head tree sound =
-        λ i. index_with head (sym sound.shaped i, packed (sym sound.shaped i) (all_selected head.def (kinds_of schema.columns) rows sorted (stands (index_with head tree) sound.keys) i))
+        ap (λ (s : Shape). index_with head (entry_tree s rows head.def)) (sym sound.shaped)
 
     pub with_entry_trees : (heads : List IndexHead) (trees : List (Shape × EntryTree)) → length trees ≡ length heads → AreSoundIndexes schema shape old (indexes_of heads trees)
         → indexes_of heads (map (λ head. entry_tree shape rows head.def) heads) ≡ map (packed_index rows) (indexes_of heads trees)
@@ -291,29 +295,32 @@ module _ (schema : Schema) (shape : Shape) (rows : Rows (List Value)) where
         | false ↦ sound-found (suc place) name indexes sound.1
       ]
 
--- ---- indexes that have no row yet
+-- ---- what indexes are sent of the effects on the keys that one of them covers
 
-sent_nothing : (def : Definition) (effects : List Effect) → sent_for_all def Nothing effects ≡ []
-sent_nothing def [] = refl
-sent_nothing def (effect ∷ effects) = sent_nothing def effects
+stays_among : (cover : Cover) (heads : List IndexHead) (k : Key) → is_covered cover k ≡ true → is_covered (widest cover heads) k ≡ true
+stays_among cover [] k is = is
+stays_among cover (head ∷ heads) k is = stays_among (wider cover head.cover) heads k (first_among_wider cover head.cover k is)
 
-is_nothing-cover : (cover : Cover) → is_nothing cover ≡ true → cover ≡ Nothing
-is_nothing-cover Nothing test = refl
-is_nothing-cover (UpTo last) test = cc
-is_nothing-cover Whole test = cc
+module _ (batch : RowMessages) (rows : Rows (List Value)) where
+  packet-within : (head : IndexHead) (wide : Cover) → IsAmong head.cover wide → packet_for (effects_within wide batch rows) head ≡ packet_for (effects_of batch rows) head
+  packet-within head wide among = ap sorted_batch (sent-within head.def head.cover wide among (effects_of batch rows))
 
-no_message : (effects : List Effect) (head : IndexHead) → covers_nothing head ≡ true → packet_for [] head ≡ packet_for effects head
-no_message effects head test =
-    ap sorted_batch (sym (ap (λ cover. sent_for_all head.def cover effects) (is_nothing-cover head.cover test) ∙ sent_nothing head.def effects))
+  pub packets-within : (cover : Cover) (heads : List IndexHead) → map (packet_for (effects_within (widest cover heads) batch rows)) heads ≡ map (packet_for (effects_of batch rows)) heads
+  packets-within cover [] = refl
+  packets-within cover (head ∷ heads) =
+      let wide = wider cover head.cover in
+      λ i. packet-within head (widest wide heads) (λ k is. stays_among wide heads k (second_among_wider cover head.cover k is)) i ∷ packets-within wide heads i
 
-pub no_packets : (effects : List Effect) (heads : List IndexHead) → list_all covers_nothing heads ≡ true → map (packet_for []) heads ≡ map (packet_for effects) heads
-no_packets effects [] test = refl
-no_packets effects (head ∷ heads) test =
-    let both = both_hold _ _ test in
-    λ i. no_message effects head both.0 i ∷ no_packets effects heads both.1 i
+  pub counts-within : (cover : Cover) (heads : List IndexHead) → map (sent_for (effects_within (widest cover heads) batch rows)) heads ≡ map (sent_for (effects_of batch rows)) heads
+  counts-within cover [] = refl
+  counts-within cover (head ∷ heads) =
+      let wide = wider cover head.cover in
+      λ i. record { name = head.name; count = length (packet-within head (widest wide heads) (λ k is. stays_among wide heads k (second_among_wider cover head.cover k is)) i) } ∷ counts-within wide heads i
 
-pub no_counts : (effects : List Effect) (heads : List IndexHead) → list_all covers_nothing heads ≡ true → map (sent_for []) heads ≡ map (sent_for effects) heads
-no_counts effects [] test = refl
-no_counts effects (head ∷ heads) test =
-    let both = both_hold _ _ test in
-    λ i. record { name = head.name; count = length (no_message effects head both.0 i) } ∷ no_counts effects heads both.1 i
+  -- where no key is covered, there are no effects on those that are
+  pub none_within : (cover : Cover) → cover ≡ Nothing → [] ≡ effects_within cover batch rows
+  none_within cover is = sym (ap (λ c. effects_within c batch rows) is ∙ effects-nothing batch rows)
+
+  -- the definitions are those of rows as the effects on them have
+  pub suit-within : (wide : Cover) (heads : List IndexHead) → All (λ head. All (SuitsEffect head.def) (effects_of batch rows)) heads → All (λ head. All (SuitsEffect head.def) (effects_within wide batch rows)) heads
+  suit-within wide heads suit i d l = All-filter (λ effect. is_covered wide effect.key) (SuitsEffect (get_or heads i d).def) (effects_of batch rows) (suit i d l)

@@ -28,7 +28,7 @@ use Rattle.bt_fanout.specs.Effects.{EntryMessage, SuitsEffect, effects_of, row_e
 use Rattle.bt_rowtype.specs.declared.item.Item.{Item}
 use Rattle.bt_table.specs.Batches.{and_then, batch_refusals, made, messages_of, one_if}
 use Rattle.bt_fanout.specs.Entries.{Definition, IsWithin}
-use Rattle.bt_fanout.specs.Promises.{own_puts}
+use Rattle.bt_fanout.specs.Promises.{SuitsRows, own_puts}
 use Rattle.bt_fanout.specs.declared.cover.Cover.{Cover}
 use Rattle.bt_table.specs.Calls.{Apply, BuildStep, Call, CreateIndex, Drain, Draining, DropIndex, IsStep, Load, Primary, Rebuild, Rebuilding, Secondary, ShowsIndex, ShowsRows, Upkeep, after_build, after_load, built, dropped, index_refusals, is_bare, is_primary, load_refusals, renewed, renewed_index, secondary, step, tree_named, unless_any, with_index, with_index_at, with_renewed, with_renewed_index, with_renewed_rows, with_rows, without_index}
 use Rattle.bt_table.specs.Indexes.{EntryTree, Index, advanced, built_index, index_named, index_of_ref, index_with, indexes_of, is_complete, packet_of, sent_count}
@@ -43,7 +43,7 @@ use Rattle.bt_table.specs.declared.reply.Reply.TheVariants.{Batch, Built, Create
 use Rattle.bt_table.specs.declared.reply.SentCount.{SentCount}
 use Rattle.bt_table.specs.declared.table.TheConstants.{MOST_INDEXES}
 use Rattle.bt_table.specs.declared.trees.Trees.{Trees}
-use Rattle.bt_table.proofs.Indexes.{building_packet-is, counts_are, each_within, holds_selection, indexes_of-append, indexes_of-remove, indexes_of-set, indexes_suit, length-indexes_of, length-remove_same, length-sunk, rows_within, sunk_is, with_entry_trees}
+use Rattle.bt_table.proofs.Indexes.{building_packet-is, counts_are, each_suits, holds_selection, indexes_of-append, indexes_of-remove, indexes_of-set, indexes_suit, length-indexes_of, length-remove_same, length-sunk, rows_within, sunk_is, with_entry_trees}
 use Rattle.bt_table.proofs.offered.KeyOrder.{keys_rise}
 use Rattle.bt_table.proofs.Sinks.{stepped}
 use Rattle.bt_table.proofs.Sound.{batch_keeps_sound, batch_of_schema, found-sound, none_building, renewed-holds, rows_sorted, with_built_index-sound, with_renewed_index-sound, with_renewed_rows-sound, with_rows-sound, with_index-sound, without_index-sound}
@@ -252,8 +252,8 @@ module _ (schema : Schema) (heads : List IndexHead) (kept : Option Trees) (trees
       stand = map_of-stand schema rows map_is (loaded-of schema.columns text rows read) mapped
 
       -- so the entries of the rows may be asked for
-      pub loaded_within : All (λ head. All (λ row. IsWithin head.def (length row.1)) map_is) heads
-      loaded_within = each_within schema before.shape map_is sorted stand before.rows heads trees.entries.items each_has_tree was_sound.indexes
+      pub loaded_suits : All (λ head. SuitsRows head.def map_is) heads
+      loaded_suits = each_suits schema before.shape map_is sorted stand before.rows heads trees.entries.items each_has_tree was_sound.indexes
 
       abbrev new_entries : List (Shape × EntryTree)
       new_entries = map (λ head. entry_tree trees.rows.0 map_is head.def) heads

@@ -5,16 +5,17 @@ ghost use Rattle.bt_node.specs.Flushes.{holds};
 ghost use Rattle.bt_node.specs.Trees.{leaf};
 ghost use Rattle.bt_fanout.specs.Effects.{SuitsEffect, effects_of, row_effect};
 ghost use Rattle.bt_fanout.specs.Covers.{is_whole};
-ghost use Rattle.bt_fanout.specs.Entries.{IsWithin};
+ghost use Rattle.bt_fanout.specs.Promises.{SuitsRows};
 ghost use Rattle.bt_table.specs.Indexes as spec;
 ghost use Rattle.bt_table.specs.Indexes.{index_of_ref, indexes_of};
-ghost use Rattle.bt_table.specs.inside.IndexTrees.{covers_all, covers_nothing, empty_head, entry_tree, packet_for, sent_for, with_cover};
+ghost use Rattle.bt_table.specs.inside.IndexTrees.{covers_all, empty_head, entry_tree, packet_for, sent_for, widest, with_cover};
 
 use crate::reply::SentCount;
-use bt_fanout::{Cover, Effect, IndexDef, build_packet, effects, index_packet};
+use crate::workforce::Workforce;
+use bt_fanout::{Cover, Effect, IndexDef, index_packet, sorted_entries, wider};
 use bt_keycode::Key;
 use bt_messages::{Entry, Packet};
-use bt_node::{Shape, Tree};
+use bt_node::{Shape, Tree, pack};
 use bt_rowtype::{Row, Sequence, Text};
 use std::alloc::{AllocError, Global};
 use std::mem;
@@ -124,33 +125,38 @@ fn packets_for(alloc: Global, heads: &[IndexHead], effects: &[Effect]) -> Result
     Ok(FanOut { packets, sent })
 }
 
-// Whether no index covers a key yet.
-fn cover_nothing(heads: &[IndexHead]) -> bool
-    ensures { result ≡ list_all covers_nothing heads.now }
+// The widest of a cover and those of indexes: it covers each key that one of them does.
+fn widest_cover<'a>(cover: &'a Cover, heads: &'a [IndexHead]) -> &'a Cover
+    ensures { result.now ≡ widest cover.now heads.now }
 {
+    let mut widest = cover;
     for head in heads {
-        if !matches!(head.cover, Cover::Nothing) {
-            return false;
-        }
+        widest = wider(widest, &head.cover);
     }
-    true
+    widest
 }
 
-/// What a packet of rows sends to the indexes of a table with this tree of rows. Nothing is read where no index covers a key.
-pub fn fan_out(
+/// What a packet of rows sends to the indexes of a table with this tree of rows. No key that none of them covers is looked up, and nothing is read
+/// where they cover none.
+pub fn fan_out<T, W: Workforce<T>>(
+    rt: &T,
     alloc: Global,
     tree: &Tree<Row>,
     packet: &Packet<Row>,
     heads: &[IndexHead],
+    workforce: &W,
 ) -> Result<FanOut, AllocError>
-    requires { All (λ head. All (SuitsEffect head.def) (effects_of packet.now (holds row_effect tree.now.1))) heads.now }
+    requires ready { W.accepts workforce.now }
+    requires suits { All (λ head. All (SuitsEffect head.def) (effects_of packet.now (holds row_effect tree.now.1))) heads.now }
     ensures packets { IfOk result (λ out. out.packets.items ≡ map (packet_for (effects_of packet.now (holds row_effect tree.now.1))) heads.now) }
     ensures sent { IfOk result (λ out. out.sent ≡ map (sent_for (effects_of packet.now (holds row_effect tree.now.1))) heads.now) }
 {
-    if cover_nothing(heads) {
+    let nothing = Cover::Nothing;
+    let cover = widest_cover(&nothing, heads);
+    if matches!(cover, Cover::Nothing) {
         return packets_for(alloc, heads, &[]);
     }
-    let effects = effects(alloc, tree, packet)?;
+    let effects = workforce.effects(rt, alloc, tree, packet, cover)?;
     packets_for(alloc, heads, effects.as_slice())
 }
 
@@ -180,28 +186,28 @@ pub fn put_cover(heads: &mut Vec<IndexHead>, place: usize, cover: Cover)
     drop(mem::replace(&mut heads[place].cover, cover));
 }
 
-// A tree of the entries of rows for an index.
+// The packed tree of the entries of rows for an index.
 fn packed_entries(
     alloc: Global,
     shape: Shape,
     def: &IndexDef,
     rows: &[(Key, Row)],
 ) -> Result<Tree<Entry>, AllocError>
-    requires { All (λ row. IsWithin def.now (length row.1)) rows.now }
+    requires { SuitsRows def.now rows.now }
     ensures { IfOk result (λ tree. tree ≡ entry_tree shape rows.now def.now) }
 {
-    let packet = build_packet(alloc, def, rows)?;
-    Tree::empty(alloc, shape).sink(alloc, packet)
+    let entries = sorted_entries(alloc, def, rows)?;
+    pack(alloc, shape, entries)
 }
 
-/// For each index a tree of the entries of rows.
+/// For each index the packed tree of the entries of rows.
 pub fn pack_entries(
     alloc: Global,
     shape: Shape,
     heads: &[IndexHead],
     rows: &[(Key, Row)],
 ) -> Result<Vec<Tree<Entry>>, AllocError>
-    requires { All (λ head. All (λ row. IsWithin head.def (length row.1)) rows.now) heads.now }
+    requires { All (λ head. SuitsRows head.def rows.now) heads.now }
     ensures { IfOk result (λ entries. entries.items ≡ map (λ head. entry_tree shape rows.now head.def) heads.now) }
 {
     let mut entries = Vec::new(alloc);

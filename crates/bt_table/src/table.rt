@@ -183,7 +183,14 @@ impl Table {
         };
         let batch = read_messages(alloc, &self.schema, items)?;
         let packet = Packet::from_batch(alloc, batch)?;
-        let FanOut { packets, sent } = fan_out(alloc, &trees.rows, &packet, self.heads.as_slice())?;
+        let FanOut { packets, sent } = fan_out(
+            rt,
+            alloc,
+            &trees.rows,
+            &packet,
+            self.heads.as_slice(),
+            crew,
+        )?;
         let room = Room::new(alloc, 1, packets.len())?;
         let trees = take_trees(&mut self.trees);
         let after = sunk_all(rt, alloc, crew, room, trees, packet, packets)?;

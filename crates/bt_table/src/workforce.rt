@@ -2,7 +2,8 @@
 ghost use Rattle.std.specs.Prelude.{◌≡◌, ◌≤◌, ◌+◌, ◌++◌, IfErr, IfOk, IsErrOf, OnErr, length};
 ghost use Rattle.bt_messages.specs.Effects.{effect_of};
 ghost use Rattle.bt_node.specs.Drains.{drained, rebuilt};
-ghost use Rattle.bt_fanout.specs.Effects.{entry_effect, row_effect};
+ghost use Rattle.bt_node.specs.Flushes.{holds};
+ghost use Rattle.bt_fanout.specs.Effects.{effects_within, entry_effect, row_effect};
 ghost use Rattle.bt_gather.specs.Rounds.{all_sunk};
 ghost use Rattle.bt_rowtype.specs.declared.refusal.Refusal.TheVariants as refusal;
 ghost use Rattle.bt_table.specs.Calls.{IsRefused, IsStep, Load};
@@ -11,8 +12,9 @@ ghost use Rattle.bt_table.specs.Tables.{Lost};
 
 use crate::reply::Reply;
 use crate::table::Table;
+use bt_fanout::{Cover, Effect, effects, effects_alone};
 use bt_gang::{Crew, Gate, NoGate};
-use bt_gather::{drain, sink};
+use bt_gather::{drain, rebuild, sink};
 use bt_load::{InThreads, InTurn};
 use bt_messages::{Entry, Merge, Packet};
 use bt_node::Tree;
@@ -29,6 +31,18 @@ use std::thread::Threads;
 pub trait Workforce<T> {
     /// What is asked of a workforce: of a crew, that the runtime may be shared by its workers.
     ghost accepts: { Self → Type 0 };
+
+    /// What the messages of a packet do to the rows of a tree, which doesn't have them yet, at the keys that a cover covers.
+    fn effects(
+        &self,
+        rt: &T,
+        alloc: Global,
+        tree: &Tree<Row>,
+        packet: &Packet<Row>,
+        cover: &Cover,
+    ) -> Result<Vec<Effect>, AllocError>
+        requires ready { accepts self.now }
+        ensures effects { IfOk result (λ effects. effects.items ≡ effects_within cover.now packet.now (holds row_effect tree.now.1)) };
 
     /// Each tree after its packet. An `Err` keeps nothing of them.
     fn sink(
@@ -59,30 +73,19 @@ pub trait Workforce<T> {
         ensures tree { IfOk result (λ dry. dry ≡ (tree.0, drained entry_effect tree.0 tree.1)) };
 
     /// A tree of what a tree of rows holds, packed.
-    fn rebuild_rows(
-        &self,
-        _rt: &T,
-        alloc: Global,
-        tree: &Tree<Row>,
-    ) -> Result<Tree<Row>, AllocError>
+    fn rebuild_rows(&self, rt: &T, alloc: Global, tree: &Tree<Row>) -> Result<Tree<Row>, AllocError>
         requires ready { accepts self.now }
-        ensures tree { IfOk result (λ anew. anew ≡ (tree.now.0, rebuilt row_effect tree.now.0 tree.now.1)) }
-    {
-        tree.rebuild(alloc)
-    }
+        ensures tree { IfOk result (λ anew. anew ≡ (tree.now.0, rebuilt row_effect tree.now.0 tree.now.1)) };
 
     /// A tree of what an index's tree holds, packed.
     fn rebuild_entries(
         &self,
-        _rt: &T,
+        rt: &T,
         alloc: Global,
         tree: &Tree<Entry>,
     ) -> Result<Tree<Entry>, AllocError>
         requires ready { accepts self.now }
-        ensures tree { IfOk result (λ anew. anew ≡ (tree.now.0, rebuilt entry_effect tree.now.0 tree.now.1)) }
-    {
-        tree.rebuild(alloc)
-    }
+        ensures tree { IfOk result (λ anew. anew ≡ (tree.now.0, rebuilt entry_effect tree.now.0 tree.now.1)) };
 
     /// Takes the rows of a CSV text into a table, as [`Table::load`] says.
     fn load(&self, rt: &T, alloc: Global, table: &mut Table, text: &[u8]) -> Result<Reply, Refusal>
@@ -118,6 +121,17 @@ impl<T> Workforce<T> for Alone {
 
     ghost accepts = { λ _. ⊤ };
 
+    fn effects(
+        &self,
+        _rt: &T,
+        alloc: Global,
+        tree: &Tree<Row>,
+        packet: &Packet<Row>,
+        cover: &Cover,
+    ) -> Result<Vec<Effect>, AllocError> {
+        effects_alone(alloc, tree, packet, cover)
+    }
+
     fn sink(
         &self,
         _rt: &T,
@@ -143,6 +157,24 @@ impl<T> Workforce<T> for Alone {
         tree.drain(alloc)
     }
 
+    fn rebuild_rows(
+        &self,
+        _rt: &T,
+        alloc: Global,
+        tree: &Tree<Row>,
+    ) -> Result<Tree<Row>, AllocError> {
+        tree.rebuild(alloc)
+    }
+
+    fn rebuild_entries(
+        &self,
+        _rt: &T,
+        alloc: Global,
+        tree: &Tree<Entry>,
+    ) -> Result<Tree<Entry>, AllocError> {
+        tree.rebuild(alloc)
+    }
+
     fn load(
         &self,
         _rt: &T,
@@ -158,6 +190,17 @@ impl<T: Threads + Wait + Sync> Workforce<T> for Crew<NoGate> {
     ghost use denote.Param.Send.{IsSync};
 
     ghost accepts = { λ _. IsSync T.row };
+
+    fn effects(
+        &self,
+        rt: &T,
+        alloc: Global,
+        tree: &Tree<Row>,
+        packet: &Packet<Row>,
+        cover: &Cover,
+    ) -> Result<Vec<Effect>, AllocError> {
+        effects(rt, alloc, tree, packet, cover, self)
+    }
 
     fn sink(
         &self,
@@ -180,6 +223,24 @@ impl<T: Threads + Wait + Sync> Workforce<T> for Crew<NoGate> {
         tree: Tree<Entry>,
     ) -> Result<Tree<Entry>, AllocError> {
         drain(rt, alloc, tree, self)
+    }
+
+    fn rebuild_rows(
+        &self,
+        rt: &T,
+        alloc: Global,
+        tree: &Tree<Row>,
+    ) -> Result<Tree<Row>, AllocError> {
+        rebuild(rt, alloc, tree, self)
+    }
+
+    fn rebuild_entries(
+        &self,
+        rt: &T,
+        alloc: Global,
+        tree: &Tree<Entry>,
+    ) -> Result<Tree<Entry>, AllocError> {
+        rebuild(rt, alloc, tree, self)
     }
 
     fn load(
@@ -198,6 +259,17 @@ impl<T: Threads + Wait + Sync> Workforce<T> for Crew<&(dyn Gate + Sync)> {
 
     ghost accepts = { λ _. IsSync T.row };
 
+    fn effects(
+        &self,
+        rt: &T,
+        alloc: Global,
+        tree: &Tree<Row>,
+        packet: &Packet<Row>,
+        cover: &Cover,
+    ) -> Result<Vec<Effect>, AllocError> {
+        effects(rt, alloc, tree, packet, cover, self)
+    }
+
     fn sink(
         &self,
         rt: &T,
@@ -219,6 +291,24 @@ impl<T: Threads + Wait + Sync> Workforce<T> for Crew<&(dyn Gate + Sync)> {
         tree: Tree<Entry>,
     ) -> Result<Tree<Entry>, AllocError> {
         drain(rt, alloc, tree, self)
+    }
+
+    fn rebuild_rows(
+        &self,
+        rt: &T,
+        alloc: Global,
+        tree: &Tree<Row>,
+    ) -> Result<Tree<Row>, AllocError> {
+        rebuild(rt, alloc, tree, self)
+    }
+
+    fn rebuild_entries(
+        &self,
+        rt: &T,
+        alloc: Global,
+        tree: &Tree<Entry>,
+    ) -> Result<Tree<Entry>, AllocError> {
+        rebuild(rt, alloc, tree, self)
     }
 
     fn load(

@@ -1,9 +1,10 @@
 -- Entries of an index as the rows that it selects, key by key. Serves scans and sums of an index.
-use Rattle.std.proofs.Common.{◌≡◌, ◌∙◌, Bool, true, false, List, [], ◌∷◌, Option, Some, None, refl, sym, ap, subst, cond, fold, map}
+use Rattle.std.proofs.Common.{◌≡◌, ◌∙◌, Bool, true, false, List, [], ◌∷◌, Option, Some, None, refl, sym, ap, subst, cond, fold}
 use Rattle.std.specs.FinMap.{put}
 use Rattle.std.specs.FinMap.Entries.{by_order}
 use Rattle.std.specs.List.{cons_option}
 use Rattle.std.specs.Ordering.{is_eq}
+use Rattle.std.specs.Prelude.{option_map}
 use Rattle.std.specs.declared.cmp.Ordering.{Ordering}
 use Rattle.std.specs.declared.cmp.Ordering.TheVariants.{Less, Equal, Greater}
 use Rattle.bt_rowtype.specs.declared.value.Kind.{Kind}
@@ -12,7 +13,8 @@ use Rattle.bt_keycode.specs.Keys.{Key, is_between, key_cmp}
 use Rattle.bt_keycode.proofs.offered.Order.{same_key}
 use Rattle.bt_node.specs.Messages.{Rows, between}
 use Rattle.bt_fanout.specs.Selections.{with_entry}
-use Rattle.bt_view.specs.inside.Entries.{and_entry, row_of_entry, rows_of_entries, with_entry_row}
+use Rattle.bt_view.specs.inside.Entries.{after_entry, row_of_entry, rows_of_entries}
+use Rattle.bt_view.specs.inside.EntryParts.{shown}
 use Rattle.bt_view.specs.declared.range.KeyRange.{KeyRange}
 
 module _ (kinds : List Kind) where
@@ -66,36 +68,16 @@ module _ (kinds : List Kind) where
       by_test true more = (all.0, all.1, more)
       by_test false more = more
 
-  pub shown-fold : {S : Type 0} (added : S → List Value → S) (sink : S) (es rs : Rows (List Value)) → AreShown es rs → fold (and_entry added kinds) sink es ≡ fold added sink (map (λ r. r.1) rs)
-  shown-fold added sink [] [] all = refl
-  shown-fold added sink [] (r ∷ rs) all = absurd all
-  shown-fold added sink (e ∷ es) [] all = absurd all
-  shown-fold added sink (e ∷ es) (r ∷ rs) all =
-      ap (λ row. fold (and_entry added kinds) (with_entry_row added sink row) es) all.1 ∙ shown-fold added (added sink r.1) es rs all.2
-
-  pub shown-rows : (es rs : Rows (List Value)) → AreShown es rs → rows_of_entries kinds es ≡ map (λ r. r.1) rs
+  pub shown-rows : (es rs : Rows (List Value)) → AreShown es rs → rows_of_entries kinds es ≡ rs
   shown-rows [] [] all = refl
   shown-rows [] (r ∷ rs) all = absurd all
   shown-rows (e ∷ es) [] all = absurd all
-  shown-rows (e ∷ es) (r ∷ rs) all = ap (λ row. cons_option row (rows_of_entries kinds es)) all.1 ∙ ap (λ rows. r.1 ∷ rows) (shown-rows es rs all.2)
+  shown-rows (e ∷ es) (r ∷ rs) all =
+      ap (λ row. cons_option (option_map (λ row. (e.0, row)) row) (rows_of_entries kinds es)) all.1
+      ∙ ap (λ k. (k, r.1) ∷ rows_of_entries kinds es) all.0 ∙ ap (λ rows. r ∷ rows) (shown-rows es rs all.2)
 
-  -- a fold over entries is one over the rows that they show
-  pub fold-rows : {S : Type 0} (added : S → List Value → S) (sink : S) (es : Rows (List Value)) → fold (and_entry added kinds) sink es ≡ fold added sink (rows_of_entries kinds es)
-  fold-rows added sink [] = refl
-  fold-rows added sink (e ∷ es) = by_row (row_of_entry kinds e) (λ s. fold-rows added s es)
-    where
-      by_row : (row : Option (List Value)) → ((s : _) → fold (and_entry added kinds) s es ≡ fold added s (rows_of_entries kinds es))
-          → fold (and_entry added kinds) (with_entry_row added sink row) es ≡ fold added sink (cons_option row (rows_of_entries kinds es))
-      by_row None more = more sink
-      by_row (Some row) more = more (added sink row)
-
-  -- entries that go to a sink with the kinds beside it
-  pub pairs : {S : Type 0} (added : S → List Value → S) (sink : S) (es : Rows (List Value))
-      → ◌≡◌ {A = List Kind × S} (fold (λ (r : List Kind × S) e. (r.0, and_entry added r.0 r.1 e)) (kinds, sink) es) (kinds, fold (and_entry added kinds) sink es)
-  pairs added sink [] = refl
-  pairs added sink (e ∷ es) = pairs added (and_entry added kinds sink e) es
-
-  pub gone-through : {S : Type 0} (added : S → List Value → S) (sink : S) (es : Rows (List Value)) (old new : List Kind × S) → ◌≡◌ {A = List Kind × S} old (kinds, sink)
-      → ◌≡◌ {A = List Kind × S} new (fold (λ (r : List Kind × S) e. (r.0, and_entry added r.0 r.1 e)) old es) → new.1 ≡ fold (and_entry added kinds) sink es
-  gone-through {S} added sink es old new begins is =
-      ap (λ (r : List Kind × S). r.1) (is ∙ ap (λ (s : List Kind × S). fold (λ (r : List Kind × S) e. (r.0, and_entry added r.0 r.1 e)) s es) begins ∙ pairs added sink es)
+-- what a visitor of rows is after entries
+pub gone-through : {S : Type 0} (visited : S → Key × List Value → S) (kinds : List Kind) (visitor : S) (entries : Rows (List Value)) (old new : List Kind × S) → ◌≡◌ {A = List Kind × S} old (kinds, visitor)
+    → ◌≡◌ {A = List Kind × S} new (fold (after_entry visited) old entries) → new.1 ≡ fold visited visitor (rows_of_entries kinds entries)
+gone-through {S} visited kinds visitor entries old new begins is =
+    ap (λ (r : List Kind × S). r.1) (is ∙ ap (λ (r : List Kind × S). fold (after_entry visited) r entries) begins ∙ shown visited (kinds, visitor) entries)

@@ -1,6 +1,6 @@
 -- Groups of rows that come one after the other are the groups by the codes of their first columns. Serves grouped sums.
-use Rattle.std.proofs.Common.{◌≡◌, ◌∙◌, ◌++◌, ◌==◌, ℕ, Bool, true, false, true≢false, List, [], ◌∷◌, Option, Some, None, inl, inr, refl, sym, ap, fold, map, take, cond, if◌then◌else◌}
-use Rattle.std.specs.Prelude.{option_map}
+use Rattle.std.proofs.Common.{◌≡◌, ◌∙◌, ◌++◌, ℕ, Bool, true, false, true≢false, List, [], ◌∷◌, Some, None, append_assoc, inl, inr, refl, sym, ap, fold, map, take, cond, if◌then◌else◌}
+use Rattle.std.specs.Prelude.{◌+◌, ◌+ℤ◌, nat_le, option_map}
 use Rattle.std.specs.Cmp.{tied_itself}
 use Rattle.std.specs.FinMap.{find, put}
 use Rattle.std.specs.FinMap.Entries.{by_order}
@@ -16,9 +16,14 @@ use Rattle.bt_keycode.specs.Keys.{Key, is_before, key_cmp}
 use Rattle.bt_keycode.proofs.offered.Codes.{same_code}
 use Rattle.bt_keycode.proofs.offered.Order.{before_chain, is_less, neither_before, sides, total_keys}
 use Rattle.bt_node.specs.Messages.{Rows}
-use Rattle.bt_view.specs.Groups.{added_to, and_row, group_of, groups_of, most_rows, with_row}
-use Rattle.bt_view.specs.inside.Neighbours.{Ascend, Groups, NoneBefore, ended, grouped, joined, listed, summed}
+use Rattle.bt_view.specs.Groups.{added_to, and_row, group_of, groups_of, most_rows, number_in}
+use Rattle.bt_view.specs.inside.Neighbours.{Ascend, Groups, NoneBefore, grouped, groups_then}
 use Rattle.bt_view.specs.declared.groups.Sum.{Sum}
+use Rattle.bt_view.proofs.LastGroup.{last_then}
+
+-- a group at the end of a list
+abbrev listed : List Sum → Sum → List Sum
+listed sums sum = sums ++ sum ∷ []
 
 -- ---- groups in a list, by the codes of their columns
 
@@ -72,18 +77,12 @@ put_last s new (t ∷ sums) before same =
 
 -- ---- groups that come one after the other
 
--- those that ended and the one at hand, by their codes
-abbrev over : Groups (List Sum) → Option (Rows Sum)
-over None = None
-over (Some (sums, None)) = Some (entries sums)
-over (Some (sums, Some sum)) = Some (entries (listed sums sum))
-
 module _ (columns place : ℕ) (kinds : List Kind) where
   none_stays : (rows : List (List Value)) → fold (and_row columns place) None rows ≡ None
   none_stays [] = refl
   none_stays (row ∷ rows) = none_stays rows
 
-  none_stays_none : (rows : List (List Value)) → fold (grouped listed columns place) None rows ≡ None
+  none_stays_none : (rows : List (List Value)) → fold (grouped columns place) None rows ≡ None
   none_stays_none [] = refl
   none_stays_none (row ∷ rows) = none_stays_none rows
 
@@ -93,12 +92,13 @@ module _ (columns place : ℕ) (kinds : List Kind) where
 
   -- what is left to be shown of rows
   abbrev IsAll : List (List Value) → List Sum → Sum → Type 0
-  IsAll rows sums sum = fold (and_row columns place) (Some (entries (listed sums sum))) rows ≡ over (fold (grouped listed columns place) (Some (sums, Some sum)) rows)
+  IsAll rows sums sum = fold (and_row columns place) (Some (entries (listed sums sum))) rows ≡ option_map entries (fold (grouped columns place) (Some (listed sums sum)) rows)
 
   all : (rows : List (List Value)) (sums : List Sum) (sum : Sum) → IsGroup sum.group → AreBefore (code_of sum.group) sums → NoneBefore columns (code_of sum.group) rows → Ascend columns kinds rows → IsAll rows sums sum
   all [] sums sum of before none ascend = refl
   all (row ∷ rows) sums sum of before none ascend =
       by_same (same_values sum.group (take columns row)) refl (λ ss s is_group are_before none_before. all rows ss s is_group are_before none_before ascend.2)
+      ∙ sym (ap (λ groups. option_map entries (fold (grouped columns place) groups rows)) (last_then sums sum (group_of columns place row ∷ [])))
     where
       key : Key
       key = code_of (take columns row)
@@ -109,14 +109,17 @@ module _ (columns place : ℕ) (kinds : List Kind) where
       same_key : same_values sum.group (take columns row) ≡ true → code_of sum.group ≡ key
       same_key same = ap code_of (same_values-sound sum.group (take columns row) same)
 
-      by_full : (full : Bool) → same_values sum.group (take columns row) ≡ true → Others
-          → fold (and_row columns place) (if full then None else Some (put key_cmp key (with_row place sum row) (entries (listed sums sum)))) rows
-          ≡ over (fold (grouped listed columns place) (if full then None else Some (sums, Some (with_row place sum row))) rows)
-      by_full true same others = none_stays rows ∙ sym (ap over (none_stays_none rows))
-      by_full false same others =
+      more : Sum
+      more = record sum { count = sum.count + 1; total = sum.total +ℤ number_in row place }
+
+      by_fits : (fits : Bool) → same_values sum.group (take columns row) ≡ true → Others
+          → fold (and_row columns place) (option_map (λ new. put key_cmp key new (entries (listed sums sum))) (if fits then Some more else None)) rows
+          ≡ option_map entries (fold (grouped columns place) (option_map (λ groups. sums ++ groups) (option_map (λ both. both ∷ []) (if fits then Some more else None))) rows)
+      by_fits false same others = none_stays rows ∙ sym (ap (option_map entries) (none_stays_none rows))
+      by_fits true same others =
           ap (λ es. fold (and_row columns place) (Some es) rows)
-          (ap (λ k. put key_cmp k (with_row place sum row) (entries (listed sums sum))) (sym (same_key same)) ∙ put_last sum (with_row place sum row) sums before refl)
-          ∙ others sums (with_row place sum row) of before none.1
+          (ap (λ k. put key_cmp k more (entries (listed sums sum))) (sym (same_key same)) ∙ put_last sum more sums before refl)
+          ∙ others sums more of before none.1
 
       apart : same_values sum.group (take columns row) ≡ false → is_before (code_of sum.group) key ≡ true
       apart other = elim (sides (code_of sum.group) key) [
@@ -127,20 +130,28 @@ module _ (columns place : ℕ) (kinds : List Kind) where
             absurd (true≢false (sym (same_values-complete sum.group (take columns row) same) ∙ other))
       ]
 
+      -- what becomes of the groups at hand, by whether the row is of the last
+      last_with : Bool → Groups
+      last_with same = if same then option_map (λ both. both ∷ []) (if nat_le (sum.count + 1) most_rows then Some more else None) else Some (sum ∷ group_of columns place row ∷ [])
+
       by_same : (same : Bool) → same_values sum.group (take columns row) ≡ same → Others
-          → fold (and_row columns place) (and_row columns place (Some (entries (listed sums sum))) row) rows ≡ over (fold (grouped listed columns place) (joined listed columns place sums sum row same) rows)
+          → fold (and_row columns place) (and_row columns place (Some (entries (listed sums sum))) row) rows
+          ≡ option_map entries (fold (grouped columns place) (option_map (λ groups. sums ++ groups) (groups_then (sum ∷ []) (group_of columns place row ∷ []))) rows)
       by_same true is others =
           ap (λ o. fold (and_row columns place) (added_to columns place (entries (listed sums sum)) row o) rows)
           (ap (λ k. find key_cmp k (entries (listed sums sum))) (sym (same_key is)) ∙ find_last sum sums before)
-          ∙ by_full (sum.count == most_rows) is others
+          ∙ by_fits (nat_le (sum.count + 1) most_rows) is others
+          ∙ sym (ap (λ same. option_map entries (fold (grouped columns place) (option_map (λ groups. sums ++ groups) (last_with same)) rows)) is)
       by_same false is others =
           let after = before-more key sums sum (before-later (code_of sum.group) key sums (apart is) before) (apart is) in
           ap (λ o. fold (and_row columns place) (added_to columns place (entries (listed sums sum)) row o) rows) (find_none key (listed sums sum) after)
           ∙ ap (λ es. fold (and_row columns place) (Some es) rows)
           (put_behind key (group_of columns place row) (listed sums sum) after ∙ sym (entries-append (listed sums sum) (group_of columns place row ∷ [])))
           ∙ others (listed sums sum) (group_of columns place row) (ascend.0.of_kinds, ascend.0.in_range) after ascend.1
+          ∙ ap (λ sums. option_map entries (fold (grouped columns place) (Some sums) rows)) (append_assoc sums (sum ∷ []) (group_of columns place row ∷ []))
+          ∙ sym (ap (λ same. option_map entries (fold (grouped columns place) (option_map (λ groups. sums ++ groups) (last_with same)) rows)) is)
 
-  from_first : (rows : List (List Value)) → Ascend columns kinds rows → fold (and_row columns place) (Some []) rows ≡ over (fold (grouped listed columns place) (Some ([], None)) rows)
+  from_first : (rows : List (List Value)) → Ascend columns kinds rows → fold (and_row columns place) (Some []) rows ≡ option_map entries (fold (grouped columns place) (Some []) rows)
   from_first [] ascend = refl
   from_first (row ∷ rows) ascend = all rows [] (group_of columns place row) (ascend.0.of_kinds, ascend.0.in_range) tt ascend.1 ascend.2
 
@@ -148,12 +159,10 @@ module _ (columns place : ℕ) (kinds : List Kind) where
   values [] = refl
   values (s ∷ sums) = ap (λ ss. s ∷ ss) (values sums)
 
-  at_end : (groups : Groups (List Sum)) → ended listed groups ≡ option_map (map (λ group. group.1)) (over groups)
-  at_end None = refl
-  at_end (Some (sums, None)) = ap Some (sym (values sums))
-  at_end (Some (sums, Some sum)) = ap Some (sym (values (listed sums sum)))
+  all_values : (groups : Groups) → groups ≡ option_map (map (λ group. group.1)) (option_map entries groups)
+  all_values None = refl
+  all_values (Some sums) = ap Some (sym (values sums))
 
-  pub by_neighbours : (rows : List (List Value)) → Ascend columns kinds rows → summed listed columns place [] rows ≡ groups_of columns place rows
+  pub by_neighbours : (rows : List (List Value)) → Ascend columns kinds rows → or_refused TooMany (fold (grouped columns place) (Some []) rows) ≡ groups_of columns place rows
   by_neighbours rows ascend =
-      ap (or_refused TooMany)
-      (at_end (fold (grouped listed columns place) (Some ([], None)) rows) ∙ ap (option_map (map (λ group. group.1))) (sym (from_first rows ascend)))
+      ap (or_refused TooMany) (all_values (fold (grouped columns place) (Some []) rows) ∙ ap (option_map (map (λ group. group.1))) (sym (from_first rows ascend)))

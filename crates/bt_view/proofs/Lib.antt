@@ -5,6 +5,8 @@ pub mod GroupOrder
 pub mod IndexColumns
 pub mod IndexRows
 pub mod IndexViews
+pub mod LastGroup
+pub mod offered
 pub mod RowOrder
 pub mod Summing
 pub mod WorkedRows

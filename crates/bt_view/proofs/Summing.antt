@@ -1,64 +1,63 @@
--- What is made of groups as they end is what is made of the list of them. Serves the calls that show groups to a sink.
-use Rattle.std.proofs.Common.{◌≡◌, ◌∙◌, ◌==◌, ℕ, Bool, true, false, List, [], ◌∷◌, Option, Some, None, refl, sym, ap, fold, if◌then◌else◌}
-use Rattle.std.specs.Prelude.{option_map}
-use Rattle.std.proofs.lemmas.List.Sums.{fold-append}
+-- The groups that a visitor of rows has at the end are those by the codes of their columns. Serves grouped sums.
+use Rattle.std.proofs.Common.{◌≡◌, ◌≢◌, ◌∙◌, ◌≤◌, ℕ, List, [], IfErr, None, Option, Some, Result, Ok, refl, sym, ap, fold, map, subst, take}
+use Rattle.std.proofs.lemmas.List.Folds.{fold-map}
 use Rattle.bt_rowtype.specs.Values.{or_refused}
+use Rattle.bt_rowtype.specs.Schemas.{Schema}
+use Rattle.bt_rowtype.specs.declared.refusal.Refusal.{Refusal}
 use Rattle.bt_rowtype.specs.declared.refusal.Refusal.TheVariants.{TooMany}
 use Rattle.bt_rowtype.specs.declared.value.Kind.{Kind}
 use Rattle.bt_rowtype.specs.declared.value.Value.{Value}
-use Rattle.bt_table.specs.Batches.{made}
-use Rattle.bt_view.specs.Groups.{group_of, groups_of, most_rows, with_row}
-use Rattle.bt_view.specs.inside.Neighbours.{Ascend, Groups, ended, grouped, is_of, listed, summed}
-use Rattle.bt_view.proofs.GroupOrder.{by_neighbours}
+use Rattle.bt_node.specs.Flushes.{holds}
+use Rattle.bt_node.specs.Messages.{Rows, between}
+use Rattle.bt_node.specs.Trees.{Shape}
+use Rattle.bt_fanout.specs.Effects.{row_effect}
+use Rattle.bt_table.specs.Batches.{and_then}
+use Rattle.bt_table.specs.Calls.{Primary, ShowsRows, tree_named}
+use Rattle.bt_table.specs.Tables.{PlainTable, RowTree, TableState}
+use Rattle.bt_view.specs.Groups.{groups_of, summed_place, sums, sums_of}
+use Rattle.bt_view.specs.inside.GroupParts.{beside}
+use Rattle.bt_view.specs.inside.Neighbours.{Ascend, Groups, grouped, with_row}
+use Rattle.bt_view.specs.Ranges.{range_as, rows_within}
 use Rattle.bt_view.specs.declared.groups.Sum.{Sum}
+use Rattle.bt_view.specs.declared.range.KeyRange.{KeyRange}
+use Rattle.bt_view.proofs.GroupOrder.{by_neighbours}
+use Rattle.bt_view.proofs.RowOrder.{ascend}
 
-module _ {S : Type 0} (added : S → Sum → S) (begin : S) where
-  -- the groups that ended, listed, as what is made of them
-  abbrev over : Groups (List Sum) → Groups S
-  over None = None
-  over (Some groups) = Some (fold added begin groups.0, groups.1)
+pub of_rows : (columns place : ℕ) (kinds : List Kind) (rows : Rows (List Value)) → Ascend columns kinds (map (λ row. row.1) rows)
+    → groups_of columns place (map (λ row. row.1) rows) ≡ or_refused TooMany (fold with_row (columns, place, Some []) rows).2
+of_rows columns place kinds rows ascend =
+    sym (by_neighbours columns place kinds (map (λ row. row.1) rows) ascend)
+    ∙ ap (or_refused TooMany) (fold-map (grouped columns place) (λ row. row.1) (Some []) rows)
+    ∙ sym (ap (λ (g : ℕ × ℕ × Groups). or_refused TooMany g.2) (beside columns place (Some []) rows))
 
-  module _ (columns place : ℕ) where
-    next : (sums : List Sum) (sum : Sum) (row : List Value) (same full : Bool)
-        → (if same then (if full then None else Some (fold added begin sums, Some (with_row place sum row))) else Some (added (fold added begin sums) sum, Some (group_of columns place row)))
-        ≡ over (if same then (if full then None else Some (sums, Some (with_row place sum row))) else Some (listed sums sum, Some (group_of columns place row)))
-    next sums sum row true true = refl
-    next sums sum row true false = refl
-    next sums sum row false full = ap (λ (made : S). Some (made, Some (group_of columns place row))) (sym (fold-append added begin sums (sum ∷ [])))
+-- what is shown is these rows, and is grouped so
+pub of_shown : (answer : Result (List Sum) Refusal) (begin groups : ℕ × ℕ × Groups) (rows shown : Rows (List Value)) → answer ≡ or_refused TooMany (fold with_row begin rows).2
+    → ◌≡◌ {A = ℕ × ℕ × Groups} groups begin → shown ≡ rows → answer ≡ or_refused TooMany (fold with_row groups shown).2
+of_shown answer begin groups rows shown is begins shows =
+    is ∙ sym (ap (λ (g : ℕ × ℕ × Groups). or_refused TooMany (fold with_row g rows).2) begins) ∙ sym (ap (λ rows. or_refused TooMany (fold with_row groups rows).2) shows)
 
-    one : (groups : Groups (List Sum)) (row : List Value) → grouped added columns place (over groups) row ≡ over (grouped listed columns place groups row)
-    one None row = refl
-    one (Some (sums, None)) row = refl
-    one (Some (sums, Some sum)) row = next sums sum row (is_of columns sum row) (sum.count == most_rows)
+-- of what is refused for too many rows alone, no other refusal comes
+pub only_too_many : (P : Refusal → Type 0) (answer : Result (List Sum) Refusal) (groups : Groups) → answer ≡ or_refused TooMany groups → IfErr answer (λ refusal. refusal ≢ TooMany → P refusal)
+only_too_many P answer groups is = subst (λ answer. IfErr answer (λ refusal. refusal ≢ TooMany → P refusal)) (sym is) (of_groups groups)
+  where
+    of_groups : (groups : Groups) → IfErr (or_refused TooMany groups) (λ refusal. refusal ≢ TooMany → P refusal)
+    of_groups None = λ other. absurd (other refl)
+    of_groups (Some all) = tt
 
-    all : (groups : Groups (List Sum)) (rows : List (List Value)) → fold (grouped added columns place) (over groups) rows ≡ over (fold (grouped listed columns place) groups rows)
-    all groups [] = refl
-    all groups (row ∷ rows) = ap (λ (g : Groups S). fold (grouped added columns place) g rows) (one groups row) ∙ all (grouped listed columns place groups row) rows
+-- sums of the rows of a table
+module _ (table : PlainTable) (schema : Schema) (tree : Shape × RowTree) (shows : ShowsRows table schema tree) (from to : Option (List (List ℕ))) (grouping : ℕ) (column : List ℕ) where
+  abbrev range_by : Schema → Result KeyRange Refusal
+  range_by schema = range_as (take schema.keys schema.columns) from to
 
-    at_end : (groups : Groups (List Sum)) → ended added (over groups) ≡ option_map (fold added begin) (ended listed groups)
-    at_end None = refl
-    at_end (Some (sums, None)) = refl
-    at_end (Some (sums, Some sum)) = ap Some (sym (fold-append added begin sums (sum ∷ [])))
+  abbrev place_by : Schema → Result ℕ Refusal
+  place_by schema = summed_place schema.columns schema.keys grouping column
 
-    refused : (o : Option (List Sum)) → or_refused TooMany (option_map (fold added begin) o) ≡ made (fold added begin) (or_refused TooMany o)
-    refused None = refl
-    refused (Some sums) = refl
-
-    of_list : (rows : List (List Value)) → summed added columns place begin rows ≡ made (fold added begin) (summed listed columns place [] rows)
-    of_list rows =
-        ap (or_refused TooMany) (ap (ended added) (all (Some ([], None)) rows) ∙ at_end (fold (grouped listed columns place) (Some ([], None)) rows))
-        ∙ refused (ended listed (fold (grouped listed columns place) (Some ([], None)) rows))
-
-    -- rows that go to what groups them
-    abbrev taken : ℕ × ℕ × Groups S → List Value → ℕ × ℕ × Groups S
-    taken g row = (g.0, g.1, grouped added g.0 g.1 g.2 row)
-
-    pairs : (rows : List (List Value)) (groups : Groups S) → ◌≡◌ {A = ℕ × ℕ × Groups S} (fold taken (columns, place, groups) rows) (columns, place, fold (grouped added columns place) groups rows)
-    pairs [] groups = refl
-    pairs (row ∷ rows) groups = pairs rows (grouped added columns place groups row)
-
-    pub of_rows : (kinds : List Kind) (rows : List (List Value)) (start groups : ℕ × ℕ × Groups S) → Ascend columns kinds rows → ◌≡◌ {A = ℕ × ℕ × Groups S} start (columns, place, Some (begin, None))
-        → groups ≡ fold taken start rows → or_refused TooMany (ended added groups.2) ≡ made (fold added begin) (groups_of columns place rows)
-    of_rows kinds rows start groups ascend begins is =
-        ap (λ (g : ℕ × ℕ × Groups S). or_refused TooMany (ended added g.2)) (is ∙ ap (λ (s : ℕ × ℕ × Groups S). fold taken s rows) begins ∙ pairs rows (Some (begin, None)))
-        ∙ of_list rows ∙ ap (made (fold added begin)) (by_neighbours columns place kinds rows ascend)
+  pub sums_of_rows : (state : TableState) (name : List ℕ) (own : KeyRange) (place : ℕ) → tree_named state name ≡ Ok (Primary table) → range_by schema ≡ Ok own → place_by schema ≡ Ok place → grouping ≤ schema.keys
+      → sums state name grouping column from to ≡ or_refused TooMany (fold with_row (grouping, place, Some []) (between own.from own.to (holds row_effect tree.1))).2
+  sums_of_rows state name own place named is placed few =
+      ap (and_then (sums_of grouping column from to)) named
+      ∙ ap (and_then (λ range. and_then (λ place. groups_of grouping place (rows_within range table.rows)) (place_by table.schema))) (subst (λ s. range_by s ≡ Ok own) shows.schema_is is)
+      ∙ ap (and_then (λ place. groups_of grouping place (rows_within own table.rows))) (subst (λ s. place_by s ≡ Ok place) shows.schema_is placed)
+      ∙ of_rows grouping place (map (λ c. c.kind) (take grouping table.schema.columns)) (between own.from own.to table.rows)
+      (ascend table.schema grouping (subst (λ s. grouping ≤ s.keys) shows.schema_is few) own table.rows shows.stand shows.order)
+      ∙ ap (λ rows. or_refused TooMany (fold with_row (grouping, place, Some []) (between own.from own.to rows)).2) (sym shows.held)

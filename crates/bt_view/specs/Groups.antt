@@ -1,5 +1,5 @@
 -- Groups of rows: how many rows each has, and the sum of a column.
-use Rattle.std.specs.Prelude.{ℕ, ◌+◌, ◌==◌, ◌&&◌, false, List, [], fold, get_or, map, nat_le, take, Option, Some, None, option_map, Result, Ok, Err, if◌then◌else◌, ℤ, pos, ◌+ℤ◌}
+use Rattle.std.specs.Prelude.{ℕ, ◌+◌, ◌&&◌, false, List, [], fold, get_or, map, nat_le, take, Option, Some, None, option_map, Result, Ok, Err, if◌then◌else◌, ℤ, pos, ◌+ℤ◌}
 use Rattle.std.specs.FinMap.{find, put}
 use Rattle.bt_rowtype.specs.Ops.{at_column, named_from}
 use Rattle.bt_rowtype.specs.Values.{or_refused}
@@ -32,20 +32,20 @@ number_in row place = number_of_value (get_or row place (value.Flag false))
 abbrev pub group_of : ℕ → ℕ → List Value → Sum
 group_of columns place row = record { group = take columns row; count = 1; total = number_in row place }
 
--- a group with one more row
-abbrev pub with_row : ℕ → Sum → List Value → Sum
-with_row place sum row = record sum { count = sum.count + 1; total = sum.total +ℤ number_in row place }
-
 -- the most rows of a group
 abbrev pub most_rows : ℕ
 most_rows = 18446744073709551615
+
+-- a group with so many more rows that have this total, where they are not too many
+abbrev pub with_more : Sum → ℕ → ℤ → Option Sum
+with_more sum count total = if nat_le (sum.count + count) most_rows then Some (record sum { count = sum.count + count; total = sum.total +ℤ total }) else None
 
 -- Groups are those of rows with the same first columns, and stand under the code of these, in the order of codes. A row is added to its group, or is the first
 -- of it; there are none, once a group has more rows than are counted.
 abbrev pub added_to : ℕ → ℕ → Rows Sum → List Value → Option Sum → Option (Rows Sum)
 added_to columns place groups row None = Some (put key_cmp (code_of (take columns row)) (group_of columns place row) groups)
 added_to columns place groups row (Some sum) =
-    if sum.count == most_rows then None else Some (put key_cmp (code_of (take columns row)) (with_row place sum row) groups)
+    option_map (λ sum. put key_cmp (code_of (take columns row)) sum groups) (with_more sum 1 (number_in row place))
 
 abbrev pub and_row : ℕ → ℕ → Option (Rows Sum) → List Value → Option (Rows Sum)
 and_row columns place None row = None

@@ -73,10 +73,14 @@ abbrev pub rows_of_tree : NamedTree → Result (Rows (List Value)) Refusal
 rows_of_tree (Primary table) = Ok table.rows
 rows_of_tree (Secondary table index) = when_whole index.cover (select (index_row table.schema.keys index.def) table.rows)
 
--- the rows of a range of a tree, or the first of these refusals: of the bounds, and of an index that is building
-abbrev pub scan_of : Option (List (List ℕ)) → Option (List (List ℕ)) → NamedTree → Result (List (List Value)) Refusal
-scan_of from to tree = and_then (λ range. made (rows_within range) (rows_of_tree tree)) (range_of tree from to)
+-- the rows of a range of a tree by their keys, or the first of these refusals: of the bounds, and of an index that is building
+abbrev pub scan_with_keys_of : Option (List (List ℕ)) → Option (List (List ℕ)) → NamedTree → Result (Rows (List Value)) Refusal
+scan_with_keys_of from to tree = and_then (λ range. made (between range.from range.to) (rows_of_tree tree)) (range_of tree from to)
 
--- the rows of a range of the tree of a name
+-- the rows of a range of the tree of a name by their keys
+abbrev pub scan_with_keys : TableState → List ℕ → Option (List (List ℕ)) → Option (List (List ℕ)) → Result (Rows (List Value)) Refusal
+scan_with_keys state name from to = and_then (scan_with_keys_of from to) (tree_named state name)
+
+-- the rows alone
 abbrev pub scan : TableState → List ℕ → Option (List (List ℕ)) → Option (List (List ℕ)) → Result (List (List Value)) Refusal
-scan state name from to = and_then (scan_of from to) (tree_named state name)
+scan state name from to = made (map (λ row. row.1)) (scan_with_keys state name from to)

@@ -1,17 +1,19 @@
 //! Groups of rows: how many rows each has, and the sum of a column.
-ghost use Rattle.std.specs.Prelude.{◌≡◌, ◌≢◌, ◌≤◌, IfOk, IfSome, None, OnOk, Some, Err, false, take, true};
-ghost use Rattle.std.specs.Result.{result_map_both};
+ghost use Rattle.std.specs.Prelude.{◌≡◌, ◌≤◌, ◌∷◌, [], IfOk, None, Some, false, if◌then◌else◌, take, true};
 ghost use Rattle.bt_rowtype.specs.Answers.{Answers};
 ghost use Rattle.bt_rowtype.specs.Values.{or_refused};
 ghost use Rattle.bt_rowtype.specs.Views.{shown};
 ghost use Rattle.bt_view.specs.Groups as spec;
-ghost use Rattle.bt_view.specs.inside.Neighbours.{IsBounded, ended, grouped};
+ghost use Rattle.bt_view.specs.inside.GroupParts.{groups_as_one};
+ghost use Rattle.bt_view.specs.inside.Neighbours.{AreBounded, IsBounded, groups_then, joined_with, with_row};
 
-use crate::sink::Sink;
 use bt_fanout::add_first;
-use bt_rowtype::{Kind, Refusal, Row, ValueRef, same_values};
+use bt_keycode::Key;
+use bt_node::{ForkVisitor, Visitor};
+use bt_rowtype::{Kind, Refusal, Row, Sequence, ValueRef, same_values};
 use std::alloc::{AllocError, Global};
 use std::marker::Model;
+use std::mem::replace;
 
 /// The rows of one group.
 #[derive(Drop)]
@@ -56,7 +58,7 @@ fn first_of(alloc: Global, row: &Row, count: usize) -> Result<Row, AllocError>
 // The group of one row.
 fn group_of(alloc: Global, columns: usize, place: usize, row: &Row) -> Result<Sum, AllocError>
     ensures sum { IfOk result (λ sum. sum ≡ spec.group_of columns place row.now) }
-    ensures bounded { IfOk result (λ sum. IsBounded sum) }
+    ensures bounded { IfOk result (λ sum. IsBounded sum.count sum.total) }
 {
     Ok(Sum {
         group: first_of(alloc, row, columns)?,
@@ -65,102 +67,168 @@ fn group_of(alloc: Global, columns: usize, place: usize, row: &Row) -> Result<Su
     })
 }
 
-// Counts one more row to a group, and answers whether it could: not where the group has as many as are counted.
-fn count_row(sum: &mut Sum, place: usize, row: &Row) -> bool
-    requires { IsBounded sum.old }
-    ensures full { result ≡ false → sum.old.count ≡ spec.most_rows }
-    ensures counted { result ≡ true → sum.new ≡ spec.with_row place sum.old row.now }
-    ensures less { result ≡ true → sum.old.count ≢ spec.most_rows }
-    ensures bounded { IsBounded sum.new }
+// Counts more rows to a group, with their total, and answers whether it could: not where it has then more than are counted.
+fn count_rows(sum: &mut Sum, count: u64, total: i128) -> bool
+    requires own { IsBounded sum.old.count sum.old.total }
+    requires more { IsBounded count total }
+    ensures over { result ≡ false → spec.with_more sum.old count total ≡ None }
+    ensures counted { result ≡ true → spec.with_more sum.old count total ≡ Some sum.new }
+    ensures bounded { IsBounded sum.new.count sum.new.total }
 {
-    let Some(count) = sum.count.checked_add(1) else {
+    let Some(count) = sum.count.checked_add(count) else {
         return false;
     };
     sum.count = count;
-    sum.total += i128::from(number_in(row, place));
+    sum.total += total;
     true
 }
 
-/// Rows that are grouped as they come, by the first columns, with the sum of the column at a place. A group that ended goes to a sink, so that only one is
-/// kept. A contract sees the columns, the place, and the sink with the group at hand, or nothing once a group has more rows than are counted.
-#[derive(Drop)]
-pub(crate) struct Grouping<S: Sink<Sum>> {
+// Adds a row behind groups, to the last of them where it is of that, and answers whether it could.
+fn add_row(
+    alloc: Global,
+    groups: &mut Vec<Sum>,
     columns: usize,
     place: usize,
-    made: S,
-    sum: Option<Sum>,
+    row: &Row,
+) -> Result<bool, AllocError>
+    requires { AreBounded groups.old.items }
+    ensures groups { IfOk result (λ fits. groups_then groups.old.items (spec.group_of columns place row.now ∷ []) ≡ (if fits then Some groups.new.items else None)) }
+    ensures bounded { AreBounded groups.new.items }
+{
+    let Some(mut last) = groups.pop() else {
+        groups.push(group_of(alloc, columns, place, row)?)?;
+        return Ok(true);
+    };
+    if same_values(last.group.values(), row.first_values(columns)) {
+        if !count_rows(&mut last, 1, i128::from(number_in(row, place))) {
+            return Ok(false);
+        }
+        groups.push(last)?;
+        return Ok(true);
+    }
+    groups.push(last)?;
+    groups.push(group_of(alloc, columns, place, row)?)?;
+    Ok(true)
+}
+
+// Adds groups behind others, the first of them to the last of the others where they are the same, and answers whether it could.
+fn add_groups(groups: &mut Vec<Sum>, behind: Vec<Sum>) -> Result<bool, AllocError>
+    requires groups { AreBounded groups.old.items }
+    requires behind { AreBounded behind.items }
+    ensures groups { IfOk result (λ fits. groups_then groups.old.items behind.items ≡ (if fits then Some groups.new.items else None)) }
+    ensures bounded { AreBounded groups.new.items }
+{
+    let mut behind = behind;
+    if behind.is_empty() {
+        return Ok(true);
+    }
+    let Some(mut last) = groups.pop() else {
+        groups.append(&mut behind)?;
+        return Ok(true);
+    };
+    let first = &behind[0];
+    if same_values(last.group.values(), first.group.values()) {
+        if !count_rows(&mut last, first.count, first.total) {
+            return Ok(false);
+        }
+        drop(replace(&mut behind[0], last));
+        groups.append(&mut behind)?;
+        return Ok(true);
+    }
+    groups.push(last)?;
+    groups.append(&mut behind)?;
+    Ok(true)
+}
+
+/// Rows that are grouped as they come, by the first columns, with the sum of the column at a place. A contract sees the columns, the place, and the groups, that
+/// of the last row at the end, or nothing once a group has more rows than are counted.
+#[derive(Drop)]
+pub(crate) struct Grouping {
+    columns: usize,
+    place: usize,
+    groups: Vec<Sum>,
     is_over: bool,
 }
 
-impl<S: Sink<Sum>> Model for Grouping<S> {
-    ghost use Rattle.std.specs.Prelude.{ℕ, IfSome, None, Some, if◌then◌else◌};
-    ghost use Rattle.bt_view.specs.inside.Neighbours.{Groups, IsBounded};
+impl Model for Grouping {
+    ghost use Rattle.std.specs.Prelude.{ℕ, None, Some, if◌then◌else◌};
+    ghost use Rattle.bt_view.specs.inside.Neighbours.{AreBounded, Groups};
 
-    ghost Value = { ℕ × ℕ × Groups S };
+    ghost Value = { ℕ × ℕ × Groups };
 
-    ghost view = { λ g. (g.columns, g.place, if g.is_over then None else Some (g.made, g.sum)) };
+    ghost view = { λ g. (g.columns, g.place, if g.is_over then None else Some g.groups.items) };
 
-    ghost invariant = { λ g. IfSome g.sum IsBounded };
+    ghost invariant = { λ g. AreBounded g.groups.items };
 }
 
-impl<S: Sink<Sum>> Grouping<S> {
+impl Grouping {
     /// No row.
-    pub(crate) fn new(columns: usize, place: usize, made: S) -> Self
-        ensures { result ≡ (columns, place, Some (made, None)) }
+    pub(crate) fn new(alloc: Global, columns: usize, place: usize) -> Self
+        ensures { result ≡ (columns, place, Some []) }
     {
         Grouping {
             columns,
             place,
-            made,
-            sum: None,
+            groups: Vec::new(alloc),
             is_over: false,
         }
     }
 
-    /// What was made of all groups, the one at hand too, or `TooMany` where one has too many rows.
-    pub(crate) fn finish(self, alloc: Global) -> Result<S, Refusal>
-        ensures { Answers (or_refused Refusal.TooMany (ended S.added self.2)) result }
+    /// The groups, or `TooMany` where one has too many rows.
+    pub(crate) fn finish(self) -> Result<Sequence<Sum>, Refusal>
+        ensures { Answers (or_refused Refusal.TooMany self.2) result }
     {
         let Grouping {
-            mut made,
-            sum,
+            groups,
             is_over,
             ..
         } = self;
         if is_over {
             return Err(Refusal::TooMany);
         }
-        if let Some(sum) = sum {
-            made.add(alloc, &sum)?;
-        }
-        Ok(made)
+        Ok(Sequence::from_vec(groups))
     }
 }
 
-impl<S: Sink<Sum>> Sink<Row> for Grouping<S> {
-    ghost added = { λ g row. (g.0, g.1, grouped S.added g.0 g.1 g.2 row) };
+impl Visitor<Row> for Grouping {
+    ghost visited = { with_row };
 
-    fn add(&mut self, alloc: Global, row: &Row) -> Result<(), AllocError> {
+    fn visit(&mut self, alloc: Global, _key: &Key, row: &Row) -> Result<(), AllocError> {
         if self.is_over {
             return Ok(());
         }
-        let Some(mut sum) = self.sum.take() else {
-            let first = group_of(alloc, self.columns, self.place, row)?;
-            drop(self.sum.replace(first));
-            return Ok(());
-        };
-        if same_values(sum.group.values(), row.first_values(self.columns)) {
-            self.is_over = !count_row(&mut sum, self.place, row);
-            drop(self.sum.replace(sum));
-            return Ok(());
-        }
-        let added = self.made.add(alloc, &sum);
-        drop(sum);
-        added?;
-        let next = group_of(alloc, self.columns, self.place, row)?;
-        drop(self.sum.replace(next));
+        self.is_over = !add_row(alloc, &mut self.groups, self.columns, self.place, row)?;
         Ok(())
     }
+}
+
+impl ForkVisitor<Row> for Grouping {
+    ghost forked = { λ g. (g.0, g.1, Some []) };
+
+    ghost joined = { joined_with };
+
+    fn fork(&self, alloc: Global) -> Self {
+        Grouping::new(alloc, self.columns, self.place)
+    }
+
+    fn join(&mut self, _alloc: Global, behind: Self) -> Result<(), AllocError> {
+        let Grouping {
+            groups,
+            is_over,
+            ..
+        } = behind;
+        if self.is_over {
+            return Ok(());
+        }
+        if is_over {
+            self.is_over = true;
+            return Ok(());
+        }
+        self.is_over = !add_groups(&mut self.groups, groups)?;
+        Ok(())
+    }
+
+    ghost as_one = { λ g rows behind. groups_as_one g rows behind };
 }
 
 /// The place of a column that is summed, where one of its name was found. `NoSuchColumn` where a group is not that of at least one and at most all key

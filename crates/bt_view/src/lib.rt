@@ -3,15 +3,15 @@
 
 mod columns;
 mod drawing;
+mod entry_rows;
 mod groups;
 mod number;
 mod range;
-mod sink;
+mod shown;
 mod tree_image;
 mod view;
 
 pub use groups::Sum;
 pub use number::write_number;
 pub use range::KeyRange;
-pub use sink::Sink;
-pub use view::{image, scan, sums};
+pub use view::{image, scan, scan_alone, sums, sums_alone};

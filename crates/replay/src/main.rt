@@ -4,7 +4,7 @@
 #![tactic(auto)]
 
 use anyhow::{Context, Result, bail};
-use bt_shell::{Alone, Counted, Crew, NoGate, Workforce, run_script};
+use bt_shell::{Alone, Counted, Crew, NoGate, ScriptWorkforce, run_script};
 use std::fs;
 use std::rt::Files;
 use std::sync::Wait;
@@ -21,7 +21,11 @@ fn crew_of([workers, cut, grain]: [usize; 3]) -> Result<Crew<NoGate>> {
 }
 
 // What a run of the script writes.
-fn replies_to<R: AllocGlobal, C: Workforce<R>>(rt: &R, script: &[u8], crew: &C) -> Result<Vec<u8>>
+fn replies_to<R: AllocGlobal, C: ScriptWorkforce<R>>(
+    rt: &R,
+    script: &[u8],
+    crew: &C,
+) -> Result<Vec<u8>>
     requires ready { C.accepts crew.now }
 {
     let alloc = rt.alloc();

@@ -11,7 +11,7 @@ ghost use Rattle.bt_fanout.specs.Entries.{Definition, SuitsKinds};
 ghost use Rattle.single_calls.specs.Quantities as spec;
 
 use crate::samples::{is_text, short_text};
-use bt_fanout::{Cover, Effect, IndexDef, covers, effects, entry, index_packet};
+use bt_fanout::{Cover, Effect, IndexDef, covers, effects_alone, entry, index_packet};
 use bt_keycode::{Key, encode};
 use bt_messages::{Entry, Message, Packet};
 use bt_node::{Shape, Tree};
@@ -151,7 +151,7 @@ fn batch_effects(alloc: Global) -> Result<Vec<Effect>, Refusal>
     let batch = batch(alloc)?;
     let packet = Packet::from_batch(alloc, batch)?;
     let tree = three_rows(alloc)?;
-    let found = effects(alloc, &tree, &packet);
+    let found = effects_alone(alloc, &tree, &packet, &Cover::Whole);
     drop(tree);
     Ok(found?)
 }

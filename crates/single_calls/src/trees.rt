@@ -2,7 +2,9 @@
 use crate::samples::{Sample, Sent, add_message, add_value, is_text, key, packet};
 use bt_keycode::Key;
 use bt_messages::{Bins, Entry, Joined, Packet};
-use bt_node::{Node, Parts, Shape, Siblings, Tree, Walk, absorb_alone, crown, pack, regroup};
+use bt_node::{
+    Node, Parts, Portion, Shape, Siblings, Tree, Walk, absorb_alone, crown, pack, regroup,
+};
 use bt_plan::plan;
 use bt_rowtype::{Refusal, Row};
 use std::alloc::{AllocError, Global};
@@ -235,6 +237,80 @@ fn rows_are_packed(rt: HostRuntime) {
             "|a10 b20 c|c30 d40 : a10 b20 c30 d40 "
         )
     );
+}
+
+// A tree of three levels, with messages pending in its root and below: two children, the second from the fifth put on.
+fn two_children<V: Sample>(alloc: Global) -> Result<Tree<V>, Refusal> {
+    let four = [
+        ("c", Sent::Put(10)),
+        ("d", Sent::Put(20)),
+        ("e", Sent::Put(30)),
+        ("f", Sent::Put(40)),
+    ];
+    let pending = [
+        ("g", Sent::Put(50)),
+        ("h", Sent::Put(60)),
+        ("c", Sent::Put(11)),
+    ];
+    let split = [
+        ("j", Sent::Put(80)),
+        ("b", Sent::Put(0)),
+        ("a", Sent::Put(1)),
+        ("f", Sent::Put(44)),
+    ];
+    let tree = after(alloc, Tree::empty(alloc, Shape::new(4, 3, 2)?), &four)?;
+    let tree = after(alloc, tree, &pending)?;
+    let tree = after(alloc, tree, &[("i", Sent::Put(70))])?;
+    Ok(after(alloc, tree, &split)?)
+}
+
+// What a portion holds between its bounds, and once more the value at a key that it owns.
+fn add_portion<V: Sample>(
+    alloc: Global,
+    out: &mut Vec<u8>,
+    portion: &Portion<'_, V>,
+    key: &Key,
+) -> Result<(), AllocError> {
+    let rows = portion.rows(alloc)?;
+    let text = values_text(alloc, rows.as_slice())?;
+    out.extend_from_slice(text.as_slice())?;
+    if portion.owns(key)
+        && let Some(value) = portion.get(alloc, key)?
+    {
+        out.extend_from_slice(b"here ")?;
+        add_value(alloc, out, key, &value)?;
+    }
+    out.extend_from_slice(b"| ")
+}
+
+// The portions of the tree at a depth, between two bounds.
+fn portions_text(alloc: Global, depth: usize, bounds: [&str; 2]) -> Result<Vec<u8>, Refusal> {
+    let tree = two_children::<Row>(alloc)?;
+    let [from, to] = bounds;
+    let (from, to) = (key(alloc, from)?, key(alloc, to)?);
+    let last = key(alloc, "j")?;
+    let mut out = Vec::new(alloc);
+    for portion in &tree.walk().portions(alloc, depth, Some(&from), Some(&to))? {
+        add_portion(alloc, &mut out, portion, &last)?;
+    }
+    Ok(out)
+}
+
+#[test]
+fn portions_of_a_tree(rt: HostRuntime) {
+    let table = [
+        (
+            1,
+            ["a", "z"],
+            "a1 b0 c11 d20 e30 f44 | g50 h60 i70 j80 here j80 | ",
+        ),
+        (1, ["c", "f"], "c11 d20 e30 | "),
+        (0, ["b", "h"], "b0 c11 d20 e30 f44 g50 | "),
+        (1, ["h", "c"], ""),
+    ];
+    for (depth, bounds, text) in table {
+        assert!(rt; is_text(portions_text(rt.alloc(), depth, bounds), text));
+    }
 }
 
 #[test]

@@ -4,6 +4,8 @@
 #[cfg(test)]
 mod gates;
 #[cfg(test)]
+mod reads;
+#[cfg(test)]
 mod rounds;
 #[cfg(test)]
 mod tables;

@@ -1,18 +1,13 @@
 //! Batches, steps of building and drains by crews: two jobs are run at the same time, and small packets have none.
 use crate::gates::{Counting, Meeting};
-use crate::tables::{apply, create_index, image_of_rows, table_after};
+use crate::tables::{
+    EIGHT_MESSAGES, SIX_ROWS, apply, create_index, image_of_rows, primary, table_after,
+};
 use bt_gang::{Crew, Gate};
 use bt_rowtype::Text;
 use bt_table::{Alone, Reply};
 use std::sync::atomic::{AtomicUsize, Ordering};
 use std::test::Fail;
-
-// Three leaves of two rows each.
-const SIX_ROWS: &str = "batch\nput 1,10\nput 2,20\nput 3,30\nput 4,40\nput 5,50\nput 6,60\nend\n";
-
-// Four, two and two messages for these leaves, of which the first two are flushed.
-const EIGHT_MESSAGES: &str =
-    "batch\nput 1,11\nput 2,21\nput 0,0\nput -1,-10\nput 3,31\nput 4,41\nput 5,51\nput 6,61\nend\n";
 
 const AFTER_EIGHT: &str = "\
 image primary height 2
@@ -90,7 +85,7 @@ fn jobs_of_a_drain(rt: HostRuntime) -> Result<(), Fail> {
             entered: AtomicUsize::new(0),
         };
         let crew = Crew::new(2, cut, 1, &gate as &(dyn Gate + Sync))?;
-        drop(table.drain(&rt, alloc, &Text::new(alloc, "primary")?, &crew)?);
+        drop(table.drain(&rt, alloc, &primary(alloc)?, &crew)?);
         assert_eq!(&rt; gate.entered.load(Ordering::SeqCst), jobs);
     }
     Ok(())
@@ -102,7 +97,7 @@ fn two_jobs_of_a_drain(rt: HostRuntime) -> Result<(), Fail> {
     let mut table = table_after(alloc, &[SIX_ROWS, EIGHT_MESSAGES])?;
     let gate = Meeting::new();
     let crew = Crew::new(2, 1, 1, &gate as &(dyn Gate + Sync))?;
-    drop(table.drain(&rt, alloc, &Text::new(alloc, "primary")?, &crew)?);
+    drop(table.drain(&rt, alloc, &primary(alloc)?, &crew)?);
     assert_eq!(&rt; gate.entered(), Some(4));
     Ok(())
 }

@@ -5,7 +5,15 @@ use bt_rowtype::{Column, Kind, Refusal, Schema, Sequence, Text, Texts};
 use bt_script::{Command, Parsed, parse_command};
 use bt_table::{Alone, Reply, Table, Workforce};
 use bt_view::image;
-use std::alloc::Global;
+use std::alloc::{AllocError, Global};
+
+/// Three leaves of two rows each.
+pub(crate) const SIX_ROWS: &str =
+    "batch\nput 1,10\nput 2,20\nput 3,30\nput 4,40\nput 5,50\nput 6,60\nend\n";
+
+/// Four, two and two messages for these leaves, of which the first two are flushed.
+pub(crate) const EIGHT_MESSAGES: &str =
+    "batch\nput 1,11\nput 2,21\nput 0,0\nput -1,-10\nput 3,31\nput 4,41\nput 5,51\nput 6,61\nend\n";
 
 /// A table of the columns `id` and `qty`, of which the first is the key: at most four children, three messages and two rows a node.
 pub(crate) fn empty_table(alloc: Global) -> Result<Table, Refusal> {
@@ -58,7 +66,12 @@ pub(crate) fn create_index(alloc: Global, table: &mut Table) -> Result<Reply, Re
     table.create_index(alloc, Text::new(alloc, "q")?, def)
 }
 
+/// The name of the tree of the rows.
+pub(crate) fn primary(alloc: Global) -> Result<Text, AllocError> {
+    Text::new(alloc, "primary")
+}
+
 /// The image of the tree of the rows.
 pub(crate) fn image_of_rows(alloc: Global, table: &Table) -> Result<Vec<u8>, Refusal> {
-    image(alloc, table, &Text::new(alloc, "primary")?)
+    image(alloc, table, &primary(alloc)?)
 }

@@ -1,23 +1,19 @@
--- What a step of building sends and leaves, and what the entries of all rows make of an empty index.
-use Rattle.std.proofs.Common.{◌≡◌, ◌∙◌, ℕ, suc, true, not, T, List, [], ap, arith, length, refl, sym, take, nat_lt, if◌then◌else◌}
-use Rattle.std.proofs.lemmas.Bool.Decides.{nat_tests}
-use Rattle.std.proofs.lemmas.List.{take_all}
+-- What a step of building sends and leaves.
+use Rattle.std.proofs.Common.{◌≡◌, ◌∙◌, ℕ, not, T, List, ap, refl, sym}
 use Rattle.std.specs.FinMap.{is_sorted}
 use Rattle.bt_rowtype.specs.declared.value.Kind.{Kind}
 use Rattle.bt_rowtype.specs.declared.value.Value.{Value}
 use Rattle.bt_keycode.specs.Keys.{key_cmp}
 use Rattle.bt_messages.specs.Effects.{Rows, rows_after}
 use Rattle.bt_messages.specs.Messages.{sorted_batch}
-use Rattle.bt_fanout.specs.Covers.{cover_after, is_covered, moved_to, next_rows, puts_of}
+use Rattle.bt_fanout.specs.Covers.{cover_after, is_covered, next_rows, puts_of}
 use Rattle.bt_fanout.specs.Effects.{entry_effect}
 use Rattle.bt_fanout.specs.Entries.{Definition, StandsUnder, entry_of}
 use Rattle.bt_fanout.specs.Promises.{index_of, own_puts}
-use Rattle.bt_fanout.specs.Selections.{AllStand, covered, select}
+use Rattle.bt_fanout.specs.Selections.{AllStand, covered}
 use Rattle.bt_fanout.specs.declared.cover.Cover.{Cover}
-use Rattle.bt_fanout.specs.declared.cover.Cover.TheVariants.{Nothing, Whole}
 use Rattle.bt_fanout.proofs.Batches.{stand-covered}
 use Rattle.bt_fanout.proofs.BuildPackets.{builds_from, own_puts-are, stand-take}
-use Rattle.bt_fanout.proofs.offered.Suiting.{all_covered, of_nothing, of_whole}
 pub use Rattle.bt_fanout.proofs.Lookups.{sorted-select}
 
 module _ (def : Definition) (kinds : List Kind) (rows : Rows (List Value)) (sorted : T (is_sorted key_cmp rows)) (stand : AllStand (StandsUnder def kinds) rows) where
@@ -31,24 +27,3 @@ module _ (def : Definition) (kinds : List Kind) (rows : Rows (List Value)) (sort
   pub step_builds : (n : ℕ) (cover : Cover) → rows_after entry_effect (sorted_batch (puts_of (entry_of def) (next_rows n cover rows))) (index_of def cover rows) ≡ index_of def (cover_after n cover rows) rows
   step_builds n cover =
       ap (λ ms. rows_after entry_effect (sorted_batch ms) (index_of def cover rows)) (sym (step_puts n cover)) ∙ builds_from def (next_rows n cover rows) kinds n cover rows refl sorted stand
-
-  -- a step that is to read more rows than there are reads all
-  abbrev more : ℕ
-  more = suc (length rows)
-
-  reads_all : next_rows more Nothing rows ≡ rows
-  reads_all = ap (take more) (all_covered rows) ∙ take_all more rows (omega arith)
-
-  is_short : nat_lt (length (next_rows more Nothing rows)) more ≡ true
-  is_short = ap (λ rs. nat_lt (length rs) more) reads_all ∙ grind (arith, nat_tests)
-
-  completes : cover_after more Nothing rows ≡ Whole
-  completes = ap (λ short. if short then Whole else moved_to Nothing (next_rows more Nothing rows)) is_short
-
-  -- the entries of all rows make the index that the definition selects of them
-  pub all_selected : rows_after entry_effect (sorted_batch (own_puts def rows)) [] ≡ select (entry_of def) rows
-  all_selected =
-      ap (λ index. rows_after entry_effect (sorted_batch (own_puts def rows)) index) (sym (of_nothing def rows))
-      ∙ builds_from def rows kinds more Nothing rows (sym reads_all) sorted stand
-      ∙ ap (λ cover. index_of def cover rows) completes
-      ∙ of_whole def Whole rows refl

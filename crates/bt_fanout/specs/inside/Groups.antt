@@ -1,20 +1,56 @@
 -- Sorted messages, one key at a time.
-use Rattle.std.specs.Prelude.{[], ◌∷◌, Option, Some, None, if◌then◌else◌}
+use Rattle.std.specs.Prelude.{ℕ, suc, [], ◌∷◌, List, drop, fold, take, Option, Some, None, if◌then◌else◌}
+use Rattle.std.specs.List.{filter}
 use Rattle.std.specs.Ordering.{eq_by_cmp}
+use Rattle.bt_rowtype.specs.declared.value.Value.{Value}
 use Rattle.bt_keycode.specs.Keys.{Key, key_cmp}
 use Rattle.bt_messages.specs.Messages.{Messages}
+use Rattle.bt_fanout.specs.Covers.{is_covered}
+use Rattle.bt_fanout.specs.Effects.{RowMessage, row_effect}
+use Rattle.bt_fanout.specs.declared.cover.Cover.{Cover}
+use Rattle.bt_fanout.specs.declared.effect.Effect.{Effect}
 
 -- the messages behind the first ones, as far as these are to one key
 abbrev pub behind_group : {M : Type 0} → Key → Messages M → Messages M
 behind_group k [] = []
 behind_group k (m ∷ ms) = if eq_by_cmp key_cmp k m.0 then behind_group k ms else m ∷ ms
 
--- what those first ones make of a value
-abbrev pub value_of_group : {V M : Type 0} → (Option V → M → Option V) → Key → Messages M → Option V → Option V
-value_of_group effect k [] old = old
-value_of_group effect k (m ∷ ms) old = if eq_by_cmp key_cmp k m.0 then value_of_group effect k ms (effect old m.1) else old
+-- how many those first ones are
+abbrev pub group_count : {M : Type 0} → Key → Messages M → ℕ
+group_count k [] = 0
+group_count k (m ∷ ms) = if eq_by_cmp key_cmp k m.0 then suc (group_count k ms) else 0
 
 -- a message that was taken off before those that are left; where none could be taken off, none are left
 abbrev pub with_next : {M : Type 0} → Option (Key × M) → Messages M → Messages M
 with_next None ms = []
 with_next (Some m) ms = m ∷ ms
+
+-- ---- keys, each once, and beside each how many messages it has behind its first one
+
+-- with a message to a key before the others
+abbrev pub with_first : Key → List (Key × ℕ) → List (Key × ℕ)
+with_first k [] = (k, 0) ∷ []
+with_first k (g ∷ gs) = if eq_by_cmp key_cmp k g.0 then (k, suc g.1) ∷ gs else (k, 0) ∷ g ∷ gs
+
+-- those of sorted messages
+abbrev pub groups : {M : Type 0} → Messages M → List (Key × ℕ)
+groups [] = []
+groups (m ∷ ms) = with_first m.0 (groups ms)
+
+-- and those that a cover covers
+abbrev pub groups_within : {M : Type 0} → Cover → Messages M → List (Key × ℕ)
+groups_within cover ms = filter (λ g. is_covered cover g.0) (groups ms)
+
+-- ---- what they do
+
+-- what the first messages make of a value, so many
+abbrev pub value_after_first : {V M : Type 0} → (Option V → M → Option V) → ℕ → Messages M → Option V → Option V
+value_after_first effect n ms old = fold (λ value m. effect value m.1) old (take n ms)
+
+-- for each of these keys the row before and the row after its messages, so many behind the first one
+abbrev pub effects_in : List Key → List ℕ → List (Option (List Value)) → Messages RowMessage → List Effect
+effects_in [] others rows ms = []
+effects_in (k ∷ keys) [] rows ms = []
+effects_in (k ∷ keys) (n ∷ others) [] ms = []
+effects_in (k ∷ keys) (n ∷ others) (row ∷ rows) ms =
+    record { key = k; before = row; after = value_after_first row_effect (suc n) ms row } ∷ effects_in keys others rows (drop (suc n) ms)

@@ -1,16 +1,17 @@
--- What the code knows of the indexes of a table apart from their trees, and the trees of their entries as a batch and a load make them: by the packets that effects on rows mean, and of the entries of all rows.
-use Rattle.std.specs.Prelude.{ℕ, Bool, true, false, List, [], ◌∷◌, length}
+-- What the code knows of the indexes of a table apart from their trees, and the trees of their entries as a batch and a load make them: by the packets that effects on rows mean, and packed of the entries of all rows.
+use Rattle.std.specs.Prelude.{ℕ, Bool, List, [], ◌∷◌, length}
 use Rattle.bt_rowtype.specs.declared.value.Value.{Value}
 use Rattle.bt_messages.specs.Effects.{Rows}
 use Rattle.bt_messages.specs.Messages.{Messages, sorted_batch}
+use Rattle.bt_node.specs.Drains.{packed}
 use Rattle.bt_node.specs.Flushes.{sunk}
-use Rattle.bt_node.specs.Trees.{Shape, leaf}
-use Rattle.bt_fanout.specs.Covers.{is_whole}
+use Rattle.bt_node.specs.Trees.{Shape}
+use Rattle.bt_fanout.specs.Covers.{is_whole, wider}
 use Rattle.bt_fanout.specs.Effects.{EntryMessage, entry_effect, sent_for_all}
-use Rattle.bt_fanout.specs.Entries.{Definition}
-use Rattle.bt_fanout.specs.Promises.{own_puts}
+use Rattle.bt_fanout.specs.Entries.{Definition, entry_of}
+use Rattle.bt_fanout.specs.Selections.{select}
 use Rattle.bt_fanout.specs.declared.cover.Cover.{Cover}
-use Rattle.bt_fanout.specs.declared.cover.Cover.TheVariants.{Nothing, UpTo, Whole}
+use Rattle.bt_fanout.specs.declared.cover.Cover.TheVariants.{Nothing}
 use Rattle.bt_fanout.specs.declared.effect.Effect.{Effect}
 use Rattle.bt_table.specs.Indexes.{EntryTree}
 use Rattle.bt_table.specs.declared.index.IndexHead.{IndexHead}
@@ -26,14 +27,10 @@ empty_head name def = record { name = name; def = def; cover = Nothing }
 abbrev pub with_cover : IndexHead → Cover → IndexHead
 with_cover head cover = record head { cover = cover }
 
-abbrev pub is_nothing : Cover → Bool
-is_nothing Nothing = true
-is_nothing (UpTo last) = false
-is_nothing Whole = false
-
--- whether it covers no row
-abbrev pub covers_nothing : IndexHead → Bool
-covers_nothing head = is_nothing head.cover
+-- the widest of a cover and those of indexes
+abbrev pub widest : Cover → List IndexHead → Cover
+widest cover [] = cover
+widest cover (head ∷ heads) = widest (wider cover head.cover) heads
 
 -- whether it covers each row
 abbrev pub covers_all : IndexHead → Bool
@@ -58,6 +55,6 @@ sunk_trees [] packets = []
 sunk_trees (tree ∷ trees) [] = []
 sunk_trees (tree ∷ trees) (packet ∷ packets) = sunk_tree tree packet ∷ sunk_trees trees packets
 
--- a tree of the entries of rows for an index of a definition: they go as puts to an empty one
+-- the packed tree of the entries of rows for an index of a definition
 abbrev pub entry_tree : Shape → Rows (List Value) → Definition → Shape × EntryTree
-entry_tree shape rows def = (shape, sunk entry_effect shape (leaf []) (sorted_batch (own_puts def rows)))
+entry_tree shape rows def = (shape, packed shape (select (entry_of def) rows))

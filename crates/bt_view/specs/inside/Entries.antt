@@ -39,14 +39,23 @@ values_coded kinds key = option_and_then (if_coded kinds key) (decoded kinds key
 abbrev pub row_of_entry : List Kind → Key × List Value → Option (List Value)
 row_of_entry kinds entry = option_map (λ values. values ++ entry.1) (values_coded kinds entry.0)
 
--- a sink with the row of an entry
-abbrev pub with_entry_row : {S : Type 0} → (S → List Value → S) → S → Option (List Value) → S
-with_entry_row added sink None = sink
-with_entry_row added sink (Some row) = added sink row
+-- the row of an entry by its key
+abbrev pub pair_of_entry : List Kind → Key × List Value → Option (Key × List Value)
+pair_of_entry kinds entry = option_map (λ row. (entry.0, row)) (row_of_entry kinds entry)
 
-abbrev pub and_entry : {S : Type 0} → (S → List Value → S) → List Kind → S → Key × List Value → S
-and_entry added kinds sink entry = with_entry_row added sink (row_of_entry kinds entry)
+-- what is made of a row, if there is one
+abbrev pub with_pair : {S : Type 0} → (S → Key × List Value → S) → S → Option (Key × List Value) → S
+with_pair visited visitor None = visitor
+with_pair visited visitor (Some row) = visited visitor row
 
--- the rows of entries
-abbrev pub rows_of_entries : List Kind → List (Key × List Value) → List (List Value)
-rows_of_entries kinds entries = filter_map (row_of_entry kinds) entries
+-- what a visitor of rows makes of an entry
+abbrev pub and_entry : {S : Type 0} → (S → Key × List Value → S) → List Kind → S → Key × List Value → S
+and_entry visited kinds visitor entry = with_pair visited visitor (pair_of_entry kinds entry)
+
+-- the same with the kinds beside it
+abbrev pub after_entry : {S : Type 0} → (S → Key × List Value → S) → List Kind × S → Key × List Value → List Kind × S
+after_entry visited r entry = (r.0, and_entry visited r.0 r.1 entry)
+
+-- the rows of entries by their keys
+abbrev pub rows_of_entries : List Kind → List (Key × List Value) → List (Key × List Value)
+rows_of_entries kinds entries = filter_map (pair_of_entry kinds) entries

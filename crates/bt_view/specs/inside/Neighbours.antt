@@ -1,54 +1,51 @@
--- Groups of rows that come one after the other, as a sink of rows keeps them.
-use Rattle.std.specs.Prelude.{ℕ, ◌≡◌, ◌*◌, ◌==◌, ◌++◌, Bool, false, List, [], ◌∷◌, fold, map, take, Option, Some, None, Result, if◌then◌else◌, pos, neg_ℤ, ◌≤ℤ◌}
-use Rattle.bt_rowtype.specs.Values.{AreInRange, or_refused, same_values}
-use Rattle.bt_rowtype.specs.declared.refusal.Refusal.{Refusal}
-use Rattle.bt_rowtype.specs.declared.refusal.Refusal.TheVariants.{TooMany}
+-- Groups of rows that come one after the other.
+use Rattle.std.specs.Prelude.{ℕ, ◌≡◌, ◌*◌, false, List, [], ◌∷◌, map, take, Option, Some, None, option_map, if◌then◌else◌, ℤ, pos, neg_ℤ, ◌≤ℤ◌}
+use Rattle.bt_rowtype.specs.Values.{AreInRange, same_values}
 use Rattle.bt_rowtype.specs.declared.value.Kind.{Kind}
 use Rattle.bt_rowtype.specs.declared.value.Value.{Value}
 use Rattle.bt_keycode.specs.Codes.{code_of, kind_of}
 use Rattle.bt_keycode.specs.Keys.{Key, is_before}
-use Rattle.bt_view.specs.Groups.{group_of, most_rows, with_row}
+use Rattle.bt_view.specs.Groups.{group_of, with_more}
 use Rattle.bt_view.specs.declared.groups.Sum.{Sum}
 
 -- the total of so many numbers of 64 bits
-pub record IsBounded (sum : Sum) : Type 0 where
-  pub least : neg_ℤ (pos (9223372036854775808 * sum.count)) ≤ℤ sum.total
-  pub most : sum.total ≤ℤ pos (9223372036854775808 * sum.count)
+pub record IsBounded (count : ℕ) (total : ℤ) : Type 0 where
+  pub least : neg_ℤ (pos (9223372036854775808 * count)) ≤ℤ total
+  pub most : total ≤ℤ pos (9223372036854775808 * count)
 
--- whether a row is of a group
-abbrev pub is_of : ℕ → Sum → List Value → Bool
-is_of columns sum row = same_values sum.group (take columns row)
+-- the totals of groups are those of their rows
+abbrev pub AreBounded : List Sum → Type 0
+AreBounded [] = Unit {0}
+AreBounded (sum ∷ sums) = IsBounded sum.count sum.total × AreBounded sums
 
--- what was made of the groups that ended, and the group at hand, if there is one; nothing, once a group has more rows than are counted
-abbrev pub Groups : Type 0 → Type 0
-Groups S = Option (S × Option Sum)
+-- groups, or nothing, once one has more rows than are counted
+abbrev pub Groups : Type 0
+Groups = Option (List Sum)
 
--- Rows are gone through by rising key, so that those of a group come one after the other; a group that ended is added to what was made of those before it.
-module _ {S : Type 0} (added : S → Sum → S) where
-  -- a row of the group at hand, or of the next one
-  abbrev pub joined : ℕ → ℕ → S → Sum → List Value → Bool → Groups S
-  joined columns place made sum row same =
-      if same then (if sum.count == most_rows then None else Some (made, Some (with_row place sum row)))
-      else Some (added made sum, Some (group_of columns place row))
+-- Rows are gone through by rising key, so that those of a group come one after the other. The last of groups and the first of those behind become one where
+-- they are the same.
+abbrev pub groups_then : List Sum → List Sum → Groups
+groups_then [] behind = Some behind
+groups_then (last ∷ []) [] = Some (last ∷ [])
+groups_then (last ∷ []) (first ∷ others) =
+    if same_values last.group first.group then option_map (λ both. both ∷ others) (with_more last first.count first.total) else Some (last ∷ first ∷ others)
+groups_then (sum ∷ next ∷ sums) behind = option_map (λ groups. sum ∷ groups) (groups_then (next ∷ sums) behind)
 
-  abbrev pub grouped : ℕ → ℕ → Groups S → List Value → Groups S
-  grouped columns place None row = None
-  grouped columns place (Some (made, None)) row = Some (made, Some (group_of columns place row))
-  grouped columns place (Some (made, Some sum)) row = joined columns place made sum row (is_of columns sum row)
+abbrev pub joined_groups : Groups → Groups → Groups
+joined_groups None behind = None
+joined_groups (Some groups) None = None
+joined_groups (Some groups) (Some behind) = groups_then groups behind
 
-  -- what is made of all groups, the one at hand too
-  abbrev pub ended : Groups S → Option S
-  ended None = None
-  ended (Some (made, None)) = Some made
-  ended (Some (made, Some sum)) = Some (added made sum)
+-- groups with one more row
+abbrev pub grouped : ℕ → ℕ → Groups → List Value → Groups
+grouped columns place groups row = joined_groups groups (Some (group_of columns place row ∷ []))
 
-  -- what is made of the groups of rows, or that one has too many
-  abbrev pub summed : ℕ → ℕ → S → List (List Value) → Result S Refusal
-  summed columns place made rows = or_refused TooMany (ended (fold (grouped columns place) (Some (made, None)) rows))
+-- the same with the columns and the place by which they are grouped, of rows by their keys
+abbrev pub with_row : ℕ × ℕ × Groups → Key × List Value → ℕ × ℕ × Groups
+with_row g row = (g.0, g.1, grouped g.0 g.1 g.2 row.1)
 
--- a group at the end of a list
-abbrev pub listed : List Sum → Sum → List Sum
-listed sums sum = sums ++ sum ∷ []
+abbrev pub joined_with : ℕ × ℕ × Groups → ℕ × ℕ × Groups → ℕ × ℕ × Groups
+joined_with g behind = (g.0, g.1, joined_groups g.2 behind.2)
 
 -- ---- rows whose groups come one after the other
 

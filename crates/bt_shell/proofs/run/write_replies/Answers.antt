@@ -1,7 +1,6 @@
-use Rattle.std.proofs.Common.{arith, rules, drop, sym, subst}
+use Rattle.std.proofs.Common.{arith, rules, drop}
 use Rattle.bt_script.specs.Commands.{commands}
 use Rattle.bt_script.proofs.offered.Streams.{Took-kept, Took-nil}
-use Rattle.bt_shell.specs.inside.Turns.{IsTurn}
 use Rattle.bt_shell.proofs.Turns.{on_err, run_begins, run_breaks, run_goes_on, run_prefix, run_replies}
 use Rattle.bt_shell.proofs.run.write_replies.Goals as goal
 
@@ -26,28 +25,22 @@ returns-in_err-step-clause-memory g c =
     )
 
 -- the reply is not written whole
-pub returns-in_err-write_text-clause-err : goal.returns-in_err-write_text-clause-err
-returns-in_err-write_text-clause-err g c =
+pub returns-in_err-write_to-clause-err : goal.returns-in_err-write_to-clause-err
+returns-in_err-write_to-clause-err g c =
     let script = c.args.script.now in
     let next = rw c.in-Some.is at c.in_ok-step.ensures.step in
-    let text = c.as_slice.result.now in
-    let turn : IsTurn c.commands.table c.next_reply.new.table (commands (drop c.commands.at script)) (commands (drop c.in-Some.step.next script)) text =
-    subst (IsTurn c.commands.table c.next_reply.new.table (commands (drop c.commands.at script)) (commands (drop c.in-Some.step.next script))) (sym c.as_slice.ensures.value) next in
-    on_err c.from_residual-in_err-write_text.result _
-    (run_breaks g.W.Write.contents c.args.writer.now c.commands.writer c.write_text.new.writer c.commands.table c.next_reply.new.table (commands script)
-    (commands (drop c.commands.at script)) (commands (drop c.in-Some.step.next script)) text c.commands.invariant.so_far turn c.in_err-write_text.ensures.err)
+    on_err c.from_residual-in_err-write_to.result _
+    (run_breaks g.W.Write.contents c.args.writer.now c.commands.writer c.write_to.new.writer c.commands.table c.next_reply.new.table (commands script)
+    (commands (drop c.commands.at script)) (commands (drop c.in-Some.step.next script)) c.in-Some.step.text c.commands.invariant.so_far next c.in_err-write_to.ensures.err)
 
 pub commands-preserved : goal.commands-preserved
 commands-preserved g c =
     let script = c.args.script.now in
     let next = rw c.in-Some.is at c.in_ok-step.ensures.step in
-    let text = c.as_slice.result.now in
-    let turn : IsTurn c.commands.table c.next_reply.new.table (commands (drop c.commands.at script)) (commands (drop c.in-Some.step.next script)) text =
-    subst (IsTurn c.commands.table c.next_reply.new.table (commands (drop c.commands.at script)) (commands (drop c.in-Some.step.next script))) (sym c.as_slice.ensures.value) next in
     record {
       healthy = search rules;
-      so_far = run_goes_on g.W.Write.contents c.args.writer.now c.commands.writer c.write_text.new.writer c.commands.table c.next_reply.new.table (commands script)
-          (commands (drop c.commands.at script)) (commands (drop c.in-Some.step.next script)) text c.commands.invariant.so_far turn c.in_ok-write_text.ensures.ok;
+      so_far = run_goes_on g.W.Write.contents c.args.writer.now c.commands.writer c.write_to.new.writer c.commands.table c.next_reply.new.table (commands script)
+          (commands (drop c.commands.at script)) (commands (drop c.in-Some.step.next script)) c.in-Some.step.text c.commands.invariant.so_far next c.in_ok-write_to.ensures.ok;
     }
 
 -- all is written, and the flush fails

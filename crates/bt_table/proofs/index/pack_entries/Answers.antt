@@ -1,13 +1,12 @@
-use Rattle.std.proofs.Common.{◌∙◌, ◌++◌, ◌∷◌, [], ap, arith, length, subst, sym}
-use Rattle.std.specs.List.{All}
-use Rattle.bt_fanout.specs.Entries.{IsWithin}
+use Rattle.std.proofs.Common.{◌∙◌, ◌++◌, ◌∷◌, [], ap, arith, subst, sym}
+use Rattle.bt_fanout.specs.Promises.{SuitsRows}
 use Rattle.bt_table.specs.inside.IndexTrees.{entry_tree}
 use Rattle.bt_table.proofs.Mapped.{mapped_next}
 use Rattle.bt_table.proofs.index.pack_entries.Goals as goal
 
 pub packed_entries-requires : goal.packed_entries-requires
 packed_entries-requires c =
-    subst (λ head. All (λ row. IsWithin head.def (length row.1)) c.args.rows.now) (sym c.head-item.is) (c.requires c.loop-head.head-index c.head-item.result (omega arith))
+    subst (λ head. SuitsRows head.def c.args.rows.now) (sym c.head-item.is) (c.requires c.loop-head.head-index c.head-item.result (omega arith))
 
 pub loop-head-preserved : goal.loop-head-preserved
 loop-head-preserved c =

@@ -3,8 +3,8 @@ use Rattle.bt_table.proofs.Steps.{batch_is_sound, batch_is_step, each_has_packet
 use Rattle.bt_table.specs.inside.Parts.{AreSoundParts}
 use Rattle.bt_table.proofs.table.Table.apply.Goals as goal
 
-pub fan_out-requires : goal.fan_out-requires
-fan_out-requires g c =
+pub fan_out-requires-clause-suits : goal.fan_out-requires-clause-suits
+fan_out-requires-clause-suits g c =
     rw (c.as_slice.ensures.value, c.in_ok-packet.ensures.messages, c.in_ok-batch.ensures.messages)
     (suit c.self.inside.schema c.self.inside.heads.items c.self.inside.trees c.in-Some.trees c.in-Some.is c.self.invariant c.args.items.now)
 

@@ -6,19 +6,19 @@ use Rattle.bt_load.specs.Maps.{map_of}
 use Rattle.bt_table.specs.Calls.{load_refusals}
 use Rattle.bt_table.specs.Indexes.{indexes_of}
 use Rattle.bt_table.specs.inside.IndexTrees.{entry_tree}
-use Rattle.bt_table.proofs.Steps.{each_has_tree, load_is_step, loaded_is_sound, loaded_within}
+use Rattle.bt_table.proofs.Steps.{each_has_tree, load_is_step, loaded_is_sound, loaded_suits}
 use Rattle.bt_table.proofs.table.Table.load_by.Goals as goal
 
 pub check_load-requires : goal.check_load-requires
 check_load-requires g c = rw (c.as_slice.ensures.value) (each_has_tree c.self.inside.schema c.self.inside.heads.items c.self.inside.trees c.in-Some.trees c.in-Some.is c.self.invariant)
 
--- the rows that were read have the columns that the definitions name
+-- the definitions are of the rows that were read
 pub pack_entries-requires : goal.pack_entries-requires
 pack_entries-requires g c =
     let schema = c.self.inside.schema in
     let read : loaded schema.columns c.args.text.now ≡ Ok c.in_ok-rows.rows.items = c.in_ok-rows.ensures.answer in
     let mapped : map_of schema.keys c.in_ok-rows.rows.items ≡ Ok c.in_ok-pairs.pairs.items = c.in_ok-pairs.ensures.answer in
-    rw (c.as_slice-2.ensures.value, c.as_slice-3.ensures.value) (loaded_within c.self.inside.schema c.self.inside.heads.items c.self.inside.trees c.in-Some.trees c.in-Some.is c.self.invariant c.args.self.now c.self.view_is c.args.text.now c.in_ok-rows.rows.items read c.in_ok-pairs.pairs.items mapped)
+    rw (c.as_slice-2.ensures.value, c.as_slice-3.ensures.value) (loaded_suits c.self.inside.schema c.self.inside.heads.items c.self.inside.trees c.in-Some.trees c.in-Some.is c.self.invariant c.args.self.now c.self.view_is c.args.text.now c.in_ok-rows.rows.items read c.in_ok-pairs.pairs.items mapped)
 
 -- the table is sound with the rows of the text
 pub invariant_of-self : goal.invariant_of-self

@@ -1,0 +1,170 @@
+//! Who works for a script: the caller alone, or a crew.
+ghost use Rattle.std.specs.Prelude.{fold};
+ghost use Rattle.bt_rowtype.specs.Answers.{Answers};
+ghost use Rattle.bt_table.specs.Batches.{made};
+ghost use Rattle.bt_view.specs.Groups as groups;
+ghost use Rattle.bt_view.specs.Ranges as ranges;
+ghost use Rattle.bt_shell.specs.Replies.{row_line};
+ghost use Rattle.bt_shell.specs.inside.Lines.{with_line};
+
+use crate::reply::Lines;
+use bt_gang::{Crew, Gate, NoGate};
+use bt_rowtype::{Refusal, Sequence, Text};
+use bt_script::{Bounds, SumsForm};
+use bt_table::{Alone, Table, Workforce};
+use bt_view::{Sum, scan, scan_alone, sums, sums_alone};
+use std::alloc::Global;
+use std::sync::Wait;
+use std::thread::Threads;
+
+/// Who works for a script: a [`Workforce`], which also reads. The type of what is shown the rows is named here, since a crew hands it to threads, and inside an
+/// `impl` it is not known of a type parameter that a thread may have it. Whoever works, the calls have the same clauses.
+pub trait ScriptWorkforce<T>: Workforce<T> {
+    /// Writes the rows of a tree between two bounds as lines, behind those that there are.
+    fn scan(
+        &self,
+        rt: &T,
+        alloc: Global,
+        table: &Table,
+        name: &Text,
+        bounds: &Bounds<'_>,
+        lines: Lines,
+    ) -> Result<Lines, Refusal>
+        requires ready { Self.accepts self.now }
+        ensures answer { Answers (made (fold (with_line (λ row. row_line row.1)) lines) (ranges.scan_with_keys table.now name.now bounds.now.from bounds.now.to)) result };
+
+    /// The groups of the rows of a tree between two bounds, with the sum of a column.
+    fn sums(
+        &self,
+        rt: &T,
+        alloc: Global,
+        table: &Table,
+        form: &SumsForm<'_>,
+    ) -> Result<Sequence<Sum>, Refusal>
+        requires ready { Self.accepts self.now }
+        ensures answer { Answers (groups.sums table.now form.now.tree form.now.columns form.now.column form.now.bounds.from form.now.bounds.to) result };
+}
+
+impl<T> ScriptWorkforce<T> for Alone {
+    fn scan(
+        &self,
+        _rt: &T,
+        alloc: Global,
+        table: &Table,
+        name: &Text,
+        bounds: &Bounds<'_>,
+        lines: Lines,
+    ) -> Result<Lines, Refusal> {
+        let Bounds { from, to } = bounds;
+        scan_alone(alloc, table, name, from.as_ref(), to.as_ref(), lines)
+    }
+
+    fn sums(
+        &self,
+        _rt: &T,
+        alloc: Global,
+        table: &Table,
+        form: &SumsForm<'_>,
+    ) -> Result<Sequence<Sum>, Refusal> {
+        let Bounds { from, to } = &form.bounds;
+        sums_alone(
+            alloc,
+            table,
+            &form.tree,
+            form.columns,
+            &form.column,
+            from.as_ref(),
+            to.as_ref(),
+        )
+    }
+}
+
+impl<T: Threads + Wait + Sync> ScriptWorkforce<T> for Crew<NoGate> {
+    fn scan(
+        &self,
+        rt: &T,
+        alloc: Global,
+        table: &Table,
+        name: &Text,
+        bounds: &Bounds<'_>,
+        lines: Lines,
+    ) -> Result<Lines, Refusal> {
+        let Bounds { from, to } = bounds;
+        scan(
+            rt,
+            alloc,
+            table,
+            name,
+            from.as_ref(),
+            to.as_ref(),
+            lines,
+            self,
+        )
+    }
+
+    fn sums(
+        &self,
+        rt: &T,
+        alloc: Global,
+        table: &Table,
+        form: &SumsForm<'_>,
+    ) -> Result<Sequence<Sum>, Refusal> {
+        let Bounds { from, to } = &form.bounds;
+        sums(
+            rt,
+            alloc,
+            table,
+            &form.tree,
+            form.columns,
+            &form.column,
+            from.as_ref(),
+            to.as_ref(),
+            self,
+        )
+    }
+}
+
+impl<T: Threads + Wait + Sync> ScriptWorkforce<T> for Crew<&(dyn Gate + Sync)> {
+    fn scan(
+        &self,
+        rt: &T,
+        alloc: Global,
+        table: &Table,
+        name: &Text,
+        bounds: &Bounds<'_>,
+        lines: Lines,
+    ) -> Result<Lines, Refusal> {
+        let Bounds { from, to } = bounds;
+        scan(
+            rt,
+            alloc,
+            table,
+            name,
+            from.as_ref(),
+            to.as_ref(),
+            lines,
+            self,
+        )
+    }
+
+    fn sums(
+        &self,
+        rt: &T,
+        alloc: Global,
+        table: &Table,
+        form: &SumsForm<'_>,
+    ) -> Result<Sequence<Sum>, Refusal> {
+        let Bounds { from, to } = &form.bounds;
+        sums(
+            rt,
+            alloc,
+            table,
+            &form.tree,
+            form.columns,
+            &form.column,
+            from.as_ref(),
+            to.as_ref(),
+            self,
+        )
+    }
+}

@@ -1,0 +1,27 @@
+use Rattle.std.proofs.Common.{rules, ◌≡◌, ◌∙◌, ◌++◌, List, Some, ap, length, sym, take}
+use Rattle.std.proofs.Math.Seq.{take-length}
+use Rattle.std.specs.Prelude.{option_map}
+use Rattle.bt_rowtype.specs.declared.value.Value.{Value}
+use Rattle.bt_keycode.specs.Codes.{IsCodeOf, IsNoCode}
+use Rattle.bt_view.proofs.CodedKeys.{no_values, values_of_code}
+use Rattle.bt_view.proofs.entry_rows.row_of_entry.Goals as goal
+
+pub returns-in-Err-NotACode : goal.returns-in-Err-NotACode
+returns-in-Err-NotACode c =
+    let no : IsNoCode c.args.kinds.now c.args.key.now = search rules in
+    ap (option_map (λ values. values ++ c.args.entry.now)) (sym (no_values c.args.kinds.now c.args.key.now no))
+
+pub returns : goal.returns
+returns c =
+    let kinds = c.args.kinds.now in
+    let key = c.args.key.now in
+    let included = c.args.entry.now in
+    let read : (values : List Value) × ((c.decode_onto.new.row ≡ c.new-row.result ++ values) × IsCodeOf kinds c.as_slice.result.now values) = c.in-Ok.ensures.code in
+    let is_code : IsCodeOf kinds key read.0 = rw c.as_slice.ensures at read.1.1 in
+    let added : c.add_first.new.values ≡ c.decode_onto.new.row ++ take (length included) included = search rules in
+    sym (
+    ap (option_map (λ values. values ++ included)) (values_of_code kinds key read.0 is_code)
+    ∙ ap (λ more. Some (read.0 ++ more)) (sym (take-length included))
+    ∙ ap (λ row. Some (row ++ take (length included) included)) (sym (read.1.0 ∙ ap (λ row. row ++ read.0) c.new-row.ensures))
+    ∙ ap Some (sym added)
+    )

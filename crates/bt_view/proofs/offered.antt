@@ -1,0 +1,2 @@
+-- What the crates above may cite: statements over the definitions of this crate alone.
+pub mod Scans

@@ -1,0 +1,30 @@
+-- What comes before rows are shown.
+use Rattle.std.specs.Prelude.{◌≡◌, ◌≢◌, List, fold, Result, Ok, Err}
+use Rattle.bt_rowtype.specs.Values.{or_refused}
+use Rattle.bt_rowtype.specs.declared.refusal.Refusal.{Refusal}
+use Rattle.bt_rowtype.specs.declared.refusal.Refusal.TheVariants.{OutOfMemory, TooMany}
+use Rattle.bt_rowtype.specs.declared.value.Value.{Value}
+use Rattle.bt_node.specs.Flushes.{holds}
+use Rattle.bt_node.specs.Messages.{Rows, between}
+use Rattle.bt_fanout.specs.Effects.{entry_effect, row_effect}
+use Rattle.bt_view.specs.declared.groups.Sum.{Sum}
+use Rattle.bt_view.specs.declared.shown.Shown.{Shown}
+use Rattle.bt_view.specs.declared.shown.Shown.TheVariants as shown
+use Rattle.bt_view.specs.declared.shown.Summed.{Summed}
+use Rattle.bt_view.specs.inside.Entries.{rows_of_entries}
+use Rattle.bt_view.specs.inside.Neighbours.{with_row}
+
+-- the rows that are shown, by their keys
+abbrev pub rows_shown : Shown → Rows (List Value)
+rows_shown (shown.Rows tree range) = between range.from range.to (holds row_effect tree.now.1)
+rows_shown (shown.Entries tree kinds range) = rows_of_entries kinds.items (between range.from range.to (holds entry_effect tree.now.1))
+
+-- what is shown is this answer, or memory was wanting
+abbrev pub AnswersRows : Result (Rows (List Value)) Refusal → Result Shown Refusal → Type 0
+AnswersRows answer (Ok shown) = answer ≡ Ok (rows_shown shown)
+AnswersRows answer (Err refusal) = refusal ≢ OutOfMemory → answer ≡ Err refusal
+
+-- the groups of what is shown are this answer, or memory was wanting
+abbrev pub AnswersSums : Result (List Sum) Refusal → Result Summed Refusal → Type 0
+AnswersSums answer (Ok summed) = answer ≡ or_refused TooMany (fold with_row summed.groups (rows_shown summed.shown)).2
+AnswersSums answer (Err refusal) = refusal ≢ OutOfMemory → answer ≡ Err refusal

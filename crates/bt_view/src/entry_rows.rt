@@ -1,0 +1,80 @@
+//! Entries of an index, shown as rows.
+ghost use Rattle.std.specs.Prelude.{◌≡◌, IfOk};
+ghost use Rattle.bt_view.specs.inside.Entries.{row_of_entry, after_entry};
+ghost use Rattle.bt_view.specs.inside.EntryParts.{entries_as_one};
+
+use bt_fanout::add_first;
+use bt_keycode::{DecodeError, Key, decode_onto};
+use bt_messages::Entry;
+use bt_node::{ForkVisitor, Visitor};
+use bt_rowtype::{Kind, Row};
+use std::alloc::{AllocError, Global};
+use std::marker::Model;
+
+/// Entries of an index that are shown as rows, by the kinds of the columns of the index's key.
+#[derive(Drop)]
+pub(crate) struct EntryRows<'a, S: Visitor<Row>> {
+    pub(crate) kinds: &'a [Kind],
+    pub(crate) visitor: S,
+}
+
+impl<'a, S: Visitor<Row>> Model for EntryRows<'a, S> {
+    ghost use Rattle.std.specs.Prelude.{List};
+    ghost use Rattle.bt_rowtype.specs.declared.value.Kind.{Kind as kind};
+
+    ghost Value = { List kind × S };
+
+    ghost view = { λ r. (r.kinds.now, r.visitor) };
+}
+
+// The row of an entry, where its key is a code of values of these kinds.
+fn row_of_entry(
+    alloc: Global,
+    kinds: &[Kind],
+    key: &Key,
+    entry: &Entry,
+) -> Result<Option<Row>, AllocError>
+    ensures { IfOk result (λ row. row ≡ row_of_entry kinds.now (key.now, entry.now)) }
+{
+    let mut row = Row::new();
+    match decode_onto(alloc, kinds, key.as_slice(), &mut row) {
+        Ok(()) => {}
+        Err(DecodeError::NotACode) => return Ok(None),
+        Err(DecodeError::OutOfMemory) => return Err(AllocError),
+    }
+    let included = entry.as_row();
+    add_first(alloc, &mut row, included, included.len())?;
+    Ok(Some(row))
+}
+
+impl<'a, S: Visitor<Row>> Visitor<Entry> for EntryRows<'a, S> {
+    ghost visited = { after_entry S.visited };
+
+    // A visitor takes any key. That each key of an index is such a code, so that no entry is passed over, is proved of the whole walk.
+    fn visit(&mut self, alloc: Global, key: &Key, entry: &Entry) -> Result<(), AllocError> {
+        match row_of_entry(alloc, self.kinds, key, entry)? {
+            Some(row) => self.visitor.visit(alloc, key, &row),
+            None => Ok(()),
+        }
+    }
+}
+
+impl<'a, S: ForkVisitor<Row>> ForkVisitor<Entry> for EntryRows<'a, S> {
+    ghost forked = { λ r. (r.0, S.forked r.1) };
+
+    ghost joined = { λ r behind. (r.0, S.joined r.1 behind.1) };
+
+    fn fork(&self, alloc: Global) -> Self {
+        EntryRows {
+            kinds: self.kinds,
+            visitor: self.visitor.fork(alloc),
+        }
+    }
+
+    fn join(&mut self, alloc: Global, behind: Self) -> Result<(), AllocError> {
+        let EntryRows { visitor, .. } = behind;
+        self.visitor.join(alloc, visitor)
+    }
+
+    ghost as_one = { λ r entries behind. entries_as_one S.visited S.forked S.joined S.as_one r entries behind };
+}

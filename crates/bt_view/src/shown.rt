@@ -1,0 +1,307 @@
+//! What is shown of a table: which rows, by a crew or alone.
+ghost use Rattle.std.specs.Prelude.{◌≡◌, ◌≢◌, ◌≤◌, IfErr, IfOk, IsErrOf, None, Ok, fold, take};
+ghost use Rattle.std.specs.Option.{option_copied};
+ghost use Rattle.bt_rowtype.specs.Answers.{Answers};
+ghost use Rattle.bt_fanout.specs.Effects.{entry_effect};
+ghost use Rattle.bt_node.specs.Flushes.{holds};
+ghost use Rattle.bt_node.specs.Messages.{between};
+ghost use Rattle.bt_table.specs.Batches.{and_then};
+ghost use Rattle.bt_table.specs.Calls.{Secondary, ShowsIndex, tree_named};
+ghost use Rattle.bt_table.specs.Indexes.{index_of_ref};
+ghost use Rattle.bt_table.specs.Tables.{PlainTable};
+ghost use Rattle.bt_view.specs.Groups as groups;
+ghost use Rattle.bt_view.specs.Ranges as spec;
+ghost use Rattle.bt_view.specs.inside.Entries.{index_kinds, rows_of_entries};
+ghost use Rattle.bt_view.specs.inside.Shown.{AnswersRows, AnswersSums, rows_shown};
+
+use crate::columns::{find_index_column, index_columns, index_kinds, key_columns, key_count};
+use crate::entry_rows::EntryRows;
+use crate::groups::{Grouping, summed_place};
+use crate::range::{KeyRange, read_range};
+use bt_fanout::{Cover, IndexDef};
+use bt_gang::{Crew, Gate};
+use bt_gather::read;
+use bt_messages::Entry;
+use bt_node::{ForkVisitor, Tree, Visitor};
+use bt_rowtype::{Kind, RecordLine, Refusal, Row, Schema, Text, find_column};
+use bt_table::{IndexRef, Table, TreeRef};
+use std::alloc::{AllocError, Global};
+use std::sync::Wait;
+use std::thread::Threads;
+
+/// The rows of a range that are to be shown.
+#[derive(Drop)]
+pub(crate) enum Shown<'a> {
+    /// Those of the table.
+    Rows {
+        tree: &'a Tree<Row>,
+        range: KeyRange,
+    },
+    /// Those of an index, by the kinds of the columns of its key.
+    Entries {
+        tree: &'a Tree<Entry>,
+        kinds: Vec<Kind>,
+        range: KeyRange,
+    },
+}
+
+/// The rows of a range that are to be summed, and what groups them.
+#[derive(Drop)]
+pub(crate) struct Summed<'a> {
+    pub(crate) shown: Shown<'a>,
+    pub(crate) groups: Grouping,
+}
+
+/// Shows the rows, by the caller.
+pub(crate) fn show_alone<S: Visitor<Row>>(
+    alloc: Global,
+    shown: Shown<'_>,
+    visitor: S,
+) -> Result<S, AllocError>
+    ensures { IfOk result (λ after. after ≡ fold S.visited visitor (rows_shown shown.entry)) }
+{
+    match shown {
+        Shown::Rows { tree, range } => {
+            let mut visitor = visitor;
+            tree.walk().visit(alloc, range.from.as_ref(), range.to.as_ref(), &mut visitor)?;
+            Ok(visitor)
+        }
+        Shown::Entries { tree, kinds, range } => {
+            let mut rows = EntryRows {
+                kinds: kinds.as_slice(),
+                visitor,
+            };
+            tree.walk()
+                .visit(alloc, range.from.as_ref(), range.to.as_ref(), &mut rows)?;
+            let EntryRows { visitor, .. } = rows;
+            Ok(visitor)
+        }
+    }
+}
+
+/// Shows the rows, by a crew.
+pub(crate) fn show<S: ForkVisitor<Row> + Send, G: Gate + Sync, T: Threads + Wait + Sync>(
+    rt: &T,
+    alloc: Global,
+    shown: Shown<'_>,
+    visitor: S,
+    crew: &Crew<G>,
+) -> Result<S, AllocError>
+    ensures { IfOk result (λ after. after ≡ fold S.visited visitor (rows_shown shown.entry)) }
+{
+    match shown {
+        Shown::Rows { tree, range } => read(
+            rt,
+            alloc,
+            tree,
+            range.from.as_ref(),
+            range.to.as_ref(),
+            visitor,
+            crew,
+        ),
+        Shown::Entries { tree, kinds, range } => {
+            let rows = EntryRows {
+                kinds: kinds.as_slice(),
+                visitor,
+            };
+            let EntryRows { visitor, .. } = read(
+                rt,
+                alloc,
+                tree,
+                range.from.as_ref(),
+                range.to.as_ref(),
+                rows,
+                crew,
+            )?;
+            Ok(visitor)
+        }
+    }
+}
+
+// The range between two bounds of an index. Where there is none no memory is asked for.
+fn read_index_range(
+    alloc: Global,
+    schema: &Schema,
+    def: &IndexDef,
+    from: Option<&RecordLine<'_>>,
+    to: Option<&RecordLine<'_>>,
+) -> Result<KeyRange, Refusal>
+    ensures answer { Answers (spec.range_as (take (spec.index_schema schema.now def.now).keys (spec.index_schema schema.now def.now).columns) (option_copied from.entry) (option_copied to.entry)) result }
+    ensures unbounded { from.entry ≡ None → to.entry ≡ None → result ≡ Ok spec.all_keys }
+{
+    if from.is_none() && to.is_none() {
+        return Ok(KeyRange {
+            from: None,
+            to: None,
+        });
+    }
+    let columns = index_columns(alloc, schema, def)?;
+    read_range(
+        alloc,
+        key_columns(schema, def, columns.as_slice()),
+        from,
+        to,
+    )
+}
+
+// The range between two bounds of an index, which has rows to show where it covers all.
+fn index_range(
+    alloc: Global,
+    schema: &Schema,
+    index: IndexRef<'_>,
+    from: Option<&RecordLine<'_>>,
+    to: Option<&RecordLine<'_>>,
+) -> Result<KeyRange, Refusal>
+    ensures answer { Answers (and_then (spec.when_whole index.entry.head.now.cover) (spec.range_as (take (spec.index_schema schema.now index.entry.head.now.def).keys (spec.index_schema schema.now index.entry.head.now.def).columns) (option_copied from.entry) (option_copied to.entry))) result }
+    ensures unbounded { from.entry ≡ None → to.entry ≡ None → result ≡ spec.when_whole index.entry.head.now.cover spec.all_keys }
+{
+    let range = read_index_range(alloc, schema, &index.head.def, from, to)?;
+    match index.head.cover {
+        Cover::Whole => Ok(range),
+        Cover::Nothing | Cover::UpTo(_) => {
+            drop(range);
+            Err(Refusal::Building)
+        }
+    }
+}
+
+// The entries of an index in a range.
+fn entries_in<'a>(
+    alloc: Global,
+    schema: &Schema,
+    index: IndexRef<'a>,
+    range: KeyRange,
+) -> Result<Shown<'a>, AllocError>
+    ensures { IfOk result (λ shown. rows_shown shown ≡ rows_of_entries (index_kinds schema.now index.entry.head.now.def) (between range.from range.to (holds entry_effect index.entry.tree.now.1))) }
+{
+    match index_kinds(alloc, schema, &index.head.def) {
+        Ok(kinds) => Ok(Shown::Entries {
+            tree: index.tree,
+            kinds,
+            range,
+        }),
+        Err(error) => {
+            drop(range);
+            Err(error)
+        }
+    }
+}
+
+// What a scan of an index shows.
+fn scan_index<'a>(
+    alloc: Global,
+    schema: &Schema,
+    index: IndexRef<'a>,
+    from: Option<&RecordLine<'_>>,
+    to: Option<&RecordLine<'_>>,
+) -> Result<Shown<'a>, Refusal>
+    ensures answer { (table : PlainTable) → ShowsIndex table schema.now (index_of_ref index.entry) → AnswersRows (spec.scan_with_keys_of (option_copied from.entry) (option_copied to.entry) (Secondary table (index_of_ref index.entry))) result }
+    ensures unbounded { (table : PlainTable) → from.entry ≡ None → to.entry ≡ None → IfErr (spec.scan_with_keys_of None None (Secondary table (index_of_ref index.entry))) (IsErrOf result) }
+{
+    let range = index_range(alloc, schema, index, from, to)?;
+    Ok(entries_in(alloc, schema, index, range)?)
+}
+
+/// What a scan of the tree of a name shows: the rows at or past the key that `from` spells and before the one that `to` spells. A bound is a record of at least
+/// one of the first columns of the tree's key; one that is absent does not limit.
+///
+/// Refused with the first that applies: `Failed`, `NoSuchTree`, the least of `BadField` and `BadLength` with item 1 for `from` and 2 for `to`, `Building`.
+/// `Failed` and `NoSuchTree`, and where there is no bound `Building`, come before memory is asked for.
+pub(crate) fn rows_to_show<'a>(
+    alloc: Global,
+    table: &'a Table,
+    name: &Text,
+    from: Option<&RecordLine<'_>>,
+    to: Option<&RecordLine<'_>>,
+) -> Result<Shown<'a>, Refusal>
+    ensures answer { AnswersRows (spec.scan_with_keys table.now name.now (option_copied from.entry) (option_copied to.entry)) result }
+    ensures certain { IfErr (tree_named table.now name.now) (IsErrOf result) }
+    ensures unbounded { from.entry ≡ None → to.entry ≡ None → IfErr (spec.scan_with_keys table.now name.now None None) (IsErrOf result) }
+{
+    match table.tree(name)? {
+        TreeRef::Rows { schema, tree } => {
+            let range = read_range(alloc, schema.key_columns(), from, to)?;
+            Ok(Shown::Rows { tree, range })
+        }
+        TreeRef::Index { schema, index } => scan_index(alloc, schema, index, from, to),
+    }
+}
+
+// The place of the column of a name that is summed among those of the rows of an index, grouped by so many of the first. Takes no memory.
+fn index_place(
+    schema: &Schema,
+    def: &IndexDef,
+    grouping: u32,
+    column: &Text,
+) -> Result<usize, Refusal>
+    ensures place { result ≡ groups.summed_place (spec.index_schema schema.now def.now).columns (spec.index_schema schema.now def.now).keys grouping column.now }
+    ensures few { IfOk result (λ _. grouping ≤ (spec.index_schema schema.now def.now).keys) }
+{
+    let found = find_index_column(schema, def, column.as_bytes());
+    summed_place(found, key_count(schema, def), grouping)
+}
+
+// What sums of the rows of an index show.
+fn sum_index<'a>(
+    alloc: Global,
+    schema: &Schema,
+    index: IndexRef<'a>,
+    grouping: u32,
+    column: &Text,
+    from: Option<&RecordLine<'_>>,
+    to: Option<&RecordLine<'_>>,
+) -> Result<Summed<'a>, Refusal>
+    ensures answer { (table : PlainTable) → ShowsIndex table schema.now (index_of_ref index.entry) → AnswersSums (groups.sums_of grouping column.now (option_copied from.entry) (option_copied to.entry) (Secondary table (index_of_ref index.entry))) result }
+    ensures unbounded { (table : PlainTable) → ShowsIndex table schema.now (index_of_ref index.entry) → from.entry ≡ None → to.entry ≡ None → IfErr (groups.sums_of grouping column.now None None (Secondary table (index_of_ref index.entry))) (λ refusal. refusal ≢ Refusal.TooMany → IsErrOf result refusal) }
+{
+    let range = index_range(alloc, schema, index, from, to)?;
+    let place = match index_place(schema, &index.head.def, grouping, column) {
+        Ok(place) => place,
+        Err(refusal) => {
+            drop(range);
+            return Err(refusal);
+        }
+    };
+    Ok(Summed {
+        shown: entries_in(alloc, schema, index, range)?,
+        groups: Grouping::new(alloc, grouping as usize, place),
+    })
+}
+
+/// What sums of the tree of a name show: the rows that `rows_to_show` has, to be grouped by so many of the first columns, with the sum of the column of a name.
+///
+/// Refused as `rows_to_show` is, and after that with `NoSuchColumn` where the columns of a group are none or more than those of the key, or the column of the name is
+/// not there, and `NotInt` where it is not int. Where there is no bound all of these come before memory is asked for.
+pub(crate) fn rows_to_sum<'a>(
+    alloc: Global,
+    table: &'a Table,
+    name: &Text,
+    grouping: u32,
+    column: &Text,
+    from: Option<&RecordLine<'_>>,
+    to: Option<&RecordLine<'_>>,
+) -> Result<Summed<'a>, Refusal>
+    ensures answer { AnswersSums (groups.sums table.now name.now grouping column.now (option_copied from.entry) (option_copied to.entry)) result }
+    ensures certain { IfErr (tree_named table.now name.now) (IsErrOf result) }
+    ensures unbounded { from.entry ≡ None → to.entry ≡ None → IfErr (groups.sums table.now name.now grouping column.now None None) (λ refusal. refusal ≢ Refusal.TooMany → IsErrOf result refusal) }
+{
+    match table.tree(name)? {
+        TreeRef::Rows { schema, tree } => {
+            let range = read_range(alloc, schema.key_columns(), from, to)?;
+            let found = find_column(schema.columns(), 0, column.as_bytes());
+            match summed_place(found, schema.keys(), grouping) {
+                Ok(place) => Ok(Summed {
+                    shown: Shown::Rows { tree, range },
+                    groups: Grouping::new(alloc, grouping as usize, place),
+                }),
+                Err(refusal) => {
+                    drop(range);
+                    Err(refusal)
+                }
+            }
+        }
+        TreeRef::Index { schema, index } => {
+            sum_index(alloc, schema, index, grouping, column, from, to)
+        }
+    }
+}
