@@ -13,17 +13,29 @@
  *   COUNT_FILE         the file that gets the number of requests and that of starts, each as an unsigned long in the order of
  *                      bytes of the machine; they are kept in memory that the file shares, so that they are there however the
  *                      program ends
+ *   NOTE_FILE          the file that gets a line wherever the program sets a mark for it: the bytes in use, and the numbers of
+ *                      requests and starts so far; with this variable those are counted and refused only where the program
+ *                      says so
+ *
+ * A mark is a request for 2^62 bytes and the number of the mark, which is refused in any case:
+ *
+ *   0   from here on requests and starts are counted, on from those of earlier such stretches, and refused as said above
+ *   1   from here on none is counted or refused; once one was refused, no later stretch has one refused
+ *   2   from here on each request is refused, and counted apart: COUNT_FILE gets their number behind that of the starts
+ *   3   a line is noted
  */
 #define _GNU_SOURCE
 #include <dlfcn.h>
 #include <errno.h>
 #include <fcntl.h>
 #include <limits.h>
+#include <malloc.h>
 #include <pthread.h>
 #include <stdatomic.h>
 #include <stdbool.h>
 #include <stddef.h>
 #include <stdint.h>
+#include <stdio.h>
 #include <stdlib.h>
 #include <sys/mman.h>
 #include <unistd.h>
@@ -33,6 +45,7 @@ void *__libc_malloc(size_t size);
 void *__libc_calloc(size_t count, size_t size);
 void *__libc_realloc(void *block, size_t size);
 void *__libc_memalign(size_t alignment, size_t size);
+void __libc_free(void *block);
 
 /* What is counted, and which of it is refused. */
 struct refusal {
@@ -43,13 +56,21 @@ struct refusal {
 struct counts {
     atomic_ulong requests;
     atomic_ulong starts;
+    atomic_ulong apart;
 };
+
+/* What becomes of requests and starts. */
+enum stretch { COUNTED, LET_GO, REFUSED };
 
 static struct counts own_counts;
 static struct counts *counts = &own_counts;
 static struct refusal of_requests = {ULONG_MAX, ULONG_MAX};
 static struct refusal of_starts = {ULONG_MAX, ULONG_MAX};
 static bool has_started;
+static int notes = -1;
+static atomic_int stretch = COUNTED;
+static atomic_bool has_refused;
+static atomic_long in_use;
 
 /* The number in an environment variable, or one that no request has. */
 static unsigned long number_in(const char *name)
@@ -79,6 +100,13 @@ __attribute__((constructor)) static void start(void)
         if (counts == NULL)
             _exit(70);
     }
+    path = getenv("NOTE_FILE");
+    if (path != NULL) {
+        notes = open(path, O_WRONLY | O_CREAT | O_APPEND, 0600);
+        if (notes < 0)
+            _exit(70);
+        stretch = LET_GO;
+    }
     of_requests.at = number_in("REFUSE_AT");
     of_requests.from = number_in("REFUSE_FROM");
     of_starts.at = number_in("REFUSE_START_AT");
@@ -89,14 +117,51 @@ __attribute__((constructor)) static void start(void)
 /* Counts one more, and answers whether it is refused. What the loader asks for before the program is not counted. */
 static bool is_among(const struct refusal *refused, atomic_ulong *count)
 {
-    if (!has_started)
+    if (!has_started || stretch == LET_GO)
         return false;
+    if (stretch == REFUSED) {
+        atomic_fetch_add(&counts->apart, 1);
+        return true;
+    }
     unsigned long number = atomic_fetch_add(count, 1) + 1;
-    return number == refused->at || number >= refused->from;
+    if (number != refused->at && number < refused->from)
+        return false;
+    has_refused = true;
+    return true;
 }
 
-static bool is_refused(void)
+static void note(void)
 {
+    char line[80];
+    long bytes = in_use;
+    unsigned long requests = counts->requests, starts = counts->starts;
+    int length = snprintf(line, sizeof line, "%ld %lu %lu\n", bytes, requests, starts);
+    if (write(notes, line, (size_t)length) != length)
+        _exit(70);
+}
+
+/* Does what a mark says. Once a stretch has ended in which something was refused, nothing more is. */
+static void obey(size_t mark)
+{
+    if (mark == 0) {
+        stretch = COUNTED;
+    } else if (mark == 1) {
+        stretch = LET_GO;
+        if (has_refused)
+            of_requests = of_starts = (struct refusal){ULONG_MAX, ULONG_MAX};
+    } else if (mark == 2) {
+        stretch = REFUSED;
+    } else if (mark == 3) {
+        note();
+    }
+}
+
+static bool is_refused(size_t size)
+{
+    if (notes >= 0 && size >> 62 == 1) {
+        obey(size & 3);
+        return true;
+    }
     return is_among(&of_requests, &counts->requests);
 }
 
@@ -106,31 +171,48 @@ static void *no_memory(void)
     return NULL;
 }
 
+/* The block, counted among the bytes in use. */
+static void *granted(void *block)
+{
+    in_use += (long)malloc_usable_size(block);
+    return block;
+}
+
+/* A block in place of another one. What was refused leaves that as it was. */
+static void *resized(void *block, size_t size)
+{
+    long before = (long)malloc_usable_size(block);
+    void *found = __libc_realloc(block, size);
+    if (found != NULL || size == 0)
+        in_use -= before;
+    return granted(found);
+}
+
 void *malloc(size_t size)
 {
-    return is_refused() ? no_memory() : __libc_malloc(size);
+    return is_refused(size) ? no_memory() : granted(__libc_malloc(size));
 }
 
 void *calloc(size_t count, size_t size)
 {
-    return is_refused() ? no_memory() : __libc_calloc(count, size);
+    return is_refused(size) ? no_memory() : granted(__libc_calloc(count, size));
 }
 
 void *realloc(void *block, size_t size)
 {
-    return is_refused() ? no_memory() : __libc_realloc(block, size);
+    return is_refused(size) ? no_memory() : resized(block, size);
 }
 
 void *reallocarray(void *block, size_t count, size_t size)
 {
-    if (is_refused() || (size != 0 && count > SIZE_MAX / size))
+    if (is_refused(size) || (size != 0 && count > SIZE_MAX / size))
         return no_memory();
-    return __libc_realloc(block, count * size);
+    return resized(block, count * size);
 }
 
 int posix_memalign(void **block, size_t alignment, size_t size)
 {
-    void *found = is_refused() ? NULL : __libc_memalign(alignment, size);
+    void *found = is_refused(size) ? NULL : granted(__libc_memalign(alignment, size));
     if (found == NULL)
         return ENOMEM;
     *block = found;
@@ -139,7 +221,13 @@ int posix_memalign(void **block, size_t alignment, size_t size)
 
 void *aligned_alloc(size_t alignment, size_t size)
 {
-    return is_refused() ? no_memory() : __libc_memalign(alignment, size);
+    return is_refused(size) ? no_memory() : granted(__libc_memalign(alignment, size));
+}
+
+void free(void *block)
+{
+    in_use -= (long)malloc_usable_size(block);
+    __libc_free(block);
 }
 
 typedef int (*create)(pthread_t *thread, const pthread_attr_t *attributes, void *(*task)(void *), void *argument);

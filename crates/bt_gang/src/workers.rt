@@ -11,10 +11,15 @@ use crate::jobs::{JobPass, Jobs};
 use crate::rule::WorkerPass;
 use crate::work::Work;
 use crate::worker_loop::serve;
+use core::thread::Stack;
 use std::alloc::Global;
 use std::snapshot::Snapshot;
 use std::sync::Wait;
 use std::thread::{Promise, PromisedHandle, Scope, Threads};
+
+/// The stack of a worker's thread in bytes, whatever the limit is that the system sets for the caller's. It is more than a
+/// job takes on a tree of the greatest height.
+const WORKER_STACK: usize = 1 << 20;
 
 /// A worker's number, its pass and its answers. The caller is worker 0.
 #[derive(Drop)]
@@ -123,7 +128,8 @@ pub(crate) fn start<'s, E, W: Work + Sync, G: Gate + Sync, R: Threads + Wait + S
             jobs: Snapshot::of(jobs),
             all: Snapshot::of(all),
         };
-        match scope.spawn_with(promise, task) {
+        let stack = Stack::new().stack_size(WORKER_STACK);
+        match stack.spawn_scoped_with(scope, promise, task) {
             Ok(child) => children.push_reserved(Some(child)),
             Err(_refused) => children.push_reserved(None),
         }

@@ -10,8 +10,8 @@ use thiserror::Error;
 /// The most bytes that a script may have, 64 MiB.
 pub const SCRIPT_LIMIT: usize = 67_108_864;
 
-// How many bytes one read asks for.
-const PIECE_SIZE: usize = 65_536;
+// How many bytes one read asks for. They lie on the stack of the caller.
+const PIECE_SIZE: usize = 8_192;
 
 /// Why a run ends early.
 #[derive(Debug, Drop, Error)]

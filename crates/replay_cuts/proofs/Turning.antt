@@ -1,5 +1,5 @@
 -- What becomes of the jobs of a cut stands at their places, in whatever order they are run.
-use Rattle.std.proofs.Common.{◌≡◌, ◌⊎◌, ℕ, append-nil, T, Bool, true, false, true≢false, List, [], ◌∷◌, ◌++◌, map, reverse, inl, inr, refl, ap, subst, sym, ◌∙◌}
+use Rattle.std.proofs.Common.{◌≡◌, ℕ, append-nil, T, Bool, true, false, List, [], ◌∷◌, ◌++◌, map, reverse, inl, inr, refl, ap, subst, sym, ◌∙◌}
 use Rattle.std.proofs.lemmas.Bool.{and_parts, cond-false, cond-true}
 use Rattle.std.proofs.lemmas.List.{reverse-append}
 use Rattle.std.proofs.lemmas.List.Elements.{All-from_recursion}
@@ -12,22 +12,22 @@ use Rattle.std.specs.Ordering.{eq_by_cmp, is_eq, ordering_reverse}
 use Rattle.std.specs.declared.cmp.Ordering.{Ordering}
 use Rattle.std.specs.declared.cmp.Ordering.TheVariants.{Less, Equal, Greater}
 use Rattle.std.specs.declared.option.Option.{Option}
-use Rattle.std.specs.declared.option.Option.TheVariants.{Some}
+use Rattle.std.specs.declared.option.Option.TheVariants.{None, Some}
 use Rattle.bt_keycode.proofs.offered.Order.{is_less, total_keys}
 use Rattle.bt_messages.specs.declared.message.Message.{Message}
 use Rattle.bt_node.specs.Fits.{IsInOrder, IsRoomy}
 use Rattle.bt_node.specs.Messages.{Messages}
-use Rattle.bt_node.specs.Trees.{Shape, Tree}
+use Rattle.bt_node.specs.Trees.{Shape, Siblings, Tree}
 use Rattle.bt_plan.proofs.offered.Cuts.{Answers, jobs-in_order}
 use Rattle.bt_plan.specs.Cuts.{Job, Pieced, all_done, cut, done}
 use Rattle.bt_plan.specs.declared.job.Mode.{Mode}
 use Rattle.bt_plan.specs.Laws.{PlacesRise, StandInHoles}
 use Rattle.bt_plan.specs.Pieces.{Holed, Pieces, Place, place_cmp}
-use Rattle.bt_plan.specs.Views.{IsCut, job_of}
+use Rattle.bt_plan.specs.Views.{IsCut, job_of, place_of}
 use Rattle.bt_plan.specs.declared.job.Job as code
 use Rattle.bt_gather.proofs.offered.Fillable.{cut-fillable}
 use Rattle.bt_gather.specs.Laws.{IsFillable}
-use Rattle.replay_cuts.specs.Turns.{AreInOrder, AreOdd, AreTurned}
+use Rattle.replay_cuts.specs.Turns.{Among, AreInOrder, AreOdd, AreRun, AreRunBefore, AreTurned}
 
 -- ---- lists
 
@@ -55,14 +55,31 @@ each-turned P xs ys (inr e) u = subst (Each P) (sym e) (each-reverse P xs u)
 pub turned-in_order : {V D : Type 0} (jobs js : List (code.Job V D)) → AreTurned jobs js → AreInOrder jobs → AreInOrder js
 turned-in_order = each-turned (λ job. IsInOrder job.node)
 
--- an item is one of these
-abbrev Among : {X : Type 0} → X → List X → Type 0
-Among x [] = ⊥
-Among x (y ∷ ys) = (x ≡ y) ⊎ Among x ys
-
 among-themselves : {X : Type 0} (xs : List X) → Each (λ x. Among x xs) xs
 among-themselves [] = tt
 among-themselves (x ∷ xs) = (inl refl, each-weaken (λ y. Among y xs) (λ y. Among y (x ∷ xs)) (λ y m. inr m) xs (among-themselves xs))
+
+pub map-last : {X Y : Type 0} (f : X → Y) (xs : List X) (x : X) → map f (xs ++ x ∷ []) ≡ map f xs ++ f x ∷ []
+map-last f [] x = refl
+map-last f (z ∷ xs) x = ap (λ ys. f z ∷ ys) (map-last f xs x)
+
+one-behind : {X : Type 0} (xs ys : List X) (x : X) → xs ++ x ∷ ys ≡ (xs ++ x ∷ []) ++ ys
+one-behind [] ys x = refl
+one-behind (z ∷ xs) ys x = ap (λ zs. z ∷ zs) (one-behind xs ys x)
+
+among-append : {X : Type 0} (x : X) (xs ys : List X) → Among x xs → Among x (xs ++ ys)
+among-append x [] ys m = absurd m
+among-append x (z ∷ xs) ys (inl e) = inl e
+among-append x (z ∷ xs) ys (inr m) = inr (among-append x xs ys m)
+
+among-last : {X : Type 0} (x : X) (xs : List X) → Among x (xs ++ x ∷ [])
+among-last x [] = inl refl
+among-last x (z ∷ xs) = inr (among-last x xs)
+
+among-each : {X : Type 0} (P : X → Type 0) (x : X) (xs : List X) → Among x xs → Each P xs → P x
+among-each P x [] m u = absurd m
+among-each P x (y ∷ xs) (inl e) u = subst P (sym e) u.0
+among-each P x (y ∷ xs) (inr m) u = among-each P x xs m u.1
 
 -- ---- places
 
@@ -111,31 +128,85 @@ module _ {V M : Type 0} where
   one-job (j ∷ js) r a b (inr m) (inr n) tie = one-job js (of_true _ (and_parts _ _ (is_true _ r)).1) a b m n tie
 
   module _ (effect : Option V → M → Option V) (shape : Shape) (jobs : List (Job V M)) (rise : Rise jobs) where
-    -- what stands at the place of a job that is among those that were run, or before no more pieces, is what becomes of it
-    stands : (js : List (Job V M)) → Each (λ j. Among j jobs) js → (more : Pieces V M) → (job : Job V M) → Among job jobs → Among job js ⊎ (more ≡ []) →
-        Answers effect shape (all_done effect shape js ++ more) job
-    stands [] are more job m (inl n) xs e = absurd n
-    stands [] are more job m (inr none) xs e = absurd (none-some xs (sym (ap (find place_cmp job.place) none) ∙ e))
-    stands (j ∷ js) are more job m n xs e = go (λ n e. stands js are.1 more job m n xs e) (eq_by_cmp place_cmp job.place j.place) refl n
+    -- what stands at the place of a job is what becomes of it
+    stands : (js : List (Job V M)) → Each (λ j. Among j jobs) js → (job : Job V M) → Among job jobs → Answers effect shape (all_done effect shape js) job
+    stands [] are job m xs e = absurd (none-some xs e)
+    stands (j ∷ js) are job m xs e = go (stands js are.1 job m xs) (eq_by_cmp place_cmp job.place j.place) refl
       where
         rest : Pieces V M
-        rest = all_done effect shape js ++ more
+        rest = all_done effect shape js
 
-        go : (Among job js ⊎ (more ≡ []) → find place_cmp job.place rest ≡ Some xs → xs ≡ done effect shape job) →
-            (b : Bool) → eq_by_cmp place_cmp job.place j.place ≡ b → Among job (j ∷ js) ⊎ (more ≡ []) → xs ≡ done effect shape job
-        go later true t n =
+        go : (find place_cmp job.place rest ≡ Some xs → xs ≡ done effect shape job) → (b : Bool) → eq_by_cmp place_cmp job.place j.place ≡ b → xs ≡ done effect shape job
+        go later true t =
             let same : job ≡ j = one-job jobs rise job j m are.0 (is_equal _ t) in
             let there : Some (done effect shape j) ≡ Some xs = sym (cond-true _ (Some (done effect shape j)) (find place_cmp job.place rest) t) ∙ e in
             sym (same_Some (done effect shape j) xs there) ∙ ap (done effect shape) (sym same)
-        go later false t (inl (inl same)) = absurd (true≢false (sym (ties_itself job.place) ∙ ap (λ x. is_eq (place_cmp job.place x.place)) same ∙ t))
-        go later false t (inl (inr n)) = later (inl n) (sym (cond-false _ (Some (done effect shape j)) (find place_cmp job.place rest) t) ∙ e)
-        go later false t (inr none) = later (inr none) (sym (cond-false _ (Some (done effect shape j)) (find place_cmp job.place rest) t) ∙ e)
+        go later false t = later (sym (cond-false _ (Some (done effect shape j)) (find place_cmp job.place rest) t) ∙ e)
 
-    all-stand : (js : List (Job V M)) → Each (λ j. Among j jobs) js → (more : Pieces V M) → ((job : Job V M) → Among job jobs → Among job js ⊎ (more ≡ [])) →
-        All (Answers effect shape (all_done effect shape js ++ more)) jobs
-    all-stand js are more covered =
+    all-stand : (js : List (Job V M)) → Each (λ j. Among j jobs) js → All (Answers effect shape (all_done effect shape js)) jobs
+    all-stand js are =
         All-from_recursion _ jobs
-        (each-weaken (λ j. Among j jobs) (Answers effect shape (all_done effect shape js ++ more)) (λ job m. stands js are more job m (covered job m)) jobs (among-themselves jobs))
+        (each-weaken (λ j. Among j jobs) (Answers effect shape (all_done effect shape js)) (stands js are) jobs (among-themselves jobs))
+
+  -- a piece that stands first at a place stays first there
+  find-more : (p : Place) (ps more : Pieces V M) (xs : Siblings V M) → find place_cmp p ps ≡ Some xs → find place_cmp p (ps ++ more) ≡ Some xs
+  find-more p [] more xs e = absurd (none-some xs e)
+  find-more p (q ∷ ps) more xs e = go (find-more p ps more xs) (eq_by_cmp place_cmp p q.0) refl
+    where
+      go : (find place_cmp p ps ≡ Some xs → find place_cmp p (ps ++ more) ≡ Some xs) → (b : Bool) → eq_by_cmp place_cmp p q.0 ≡ b → find place_cmp p ((q ∷ ps) ++ more) ≡ Some xs
+      go later true t = cond-true _ (Some q.1) (find place_cmp p (ps ++ more)) t ∙ (sym (cond-true _ (Some q.1) (find place_cmp p ps) t) ∙ e)
+      go later false t = cond-false _ (Some q.1) (find place_cmp p (ps ++ more)) t ∙ later (sym (cond-false _ (Some q.1) (find place_cmp p ps) t) ∙ e)
+
+  -- the first piece at a place
+  find-new : (p : Place) (ps : Pieces V M) (xs : Siblings V M) → find place_cmp p ps ≡ None → find place_cmp p (ps ++ (p, xs) ∷ []) ≡ Some xs
+  find-new p [] xs e = cond-true _ (Some xs) None (ties_itself p)
+  find-new p (q ∷ ps) xs e = go (find-new p ps xs) (eq_by_cmp place_cmp p q.0) refl
+    where
+      go : (find place_cmp p ps ≡ None → find place_cmp p (ps ++ (p, xs) ∷ []) ≡ Some xs) → (b : Bool) → eq_by_cmp place_cmp p q.0 ≡ b → find place_cmp p ((q ∷ ps) ++ (p, xs) ∷ []) ≡ Some xs
+      go later true t = absurd (none-some q.1 (sym e ∙ cond-true _ (Some q.1) (find place_cmp p ps) t))
+      go later false t = cond-false _ (Some q.1) (find place_cmp p (ps ++ (p, xs) ∷ [])) t ∙ later (sym (cond-false _ (Some q.1) (find place_cmp p ps) t) ∙ e)
+
+-- ---- the jobs at a place
+
+module _ {V D : Type 0} (effect : Option V → Message V D → Option V) (shape : Shape) where
+  pub run-more : (jobs : List (code.Job V D)) (pieces more : Pieces V (Message V D)) (left : List Place) → AreRun effect shape jobs pieces left → AreRun effect shape jobs (pieces ++ more) left
+  run-more [] pieces more left u = tt
+  run-more (job ∷ jobs) pieces more left (inl e, u) = (inl (find-more (place_of job.place) pieces more (done effect shape (job_of job)) e), run-more jobs pieces more left u)
+  run-more (job ∷ jobs) pieces more left (inr m, u) = (inr m, run-more jobs pieces more left u)
+
+  left-more : (jobs : List (code.Job V D)) (pieces : Pieces V (Message V D)) (left more : List Place) → AreRun effect shape jobs pieces left → AreRun effect shape jobs pieces (left ++ more)
+  left-more [] pieces left more u = tt
+  left-more (job ∷ jobs) pieces left more (inl e, u) = (inl e, left-more jobs pieces left more u)
+  left-more (job ∷ jobs) pieces left more (inr m, u) = (inr (among-append (place_of job.place) left more m), left-more jobs pieces left more u)
+
+  -- one job more was run, or was not
+  pub run-next : (jobs : List (code.Job V D)) (job : code.Job V D) (pieces : Pieces V (Message V D)) (left : List Place) → AreRun effect shape jobs pieces left →
+      find place_cmp (place_of job.place) pieces ≡ None → AreRun effect shape (jobs ++ job ∷ []) (pieces ++ (place_of job.place, done effect shape (job_of job)) ∷ []) left
+  run-next jobs job pieces left u free =
+      each-append _ jobs (job ∷ []) (run-more jobs pieces _ left u) (inl (find-new (place_of job.place) pieces (done effect shape (job_of job)) free), tt)
+
+  pub left-next : (jobs : List (code.Job V D)) (job : code.Job V D) (pieces : Pieces V (Message V D)) (left : List Place) → AreRun effect shape jobs pieces left →
+      AreRun effect shape (jobs ++ job ∷ []) pieces (left ++ place_of job.place ∷ [])
+  left-next jobs job pieces left u =
+      each-append _ jobs (job ∷ []) (left-more jobs pieces left _ u) (inr (among-last (place_of job.place) left), tt)
+
+  pub run-step : (jobs coming : List (code.Job V D)) (job : code.Job V D) (pieces : Pieces V (Message V D)) (left : List Place) → AreRunBefore effect shape jobs (job ∷ coming) pieces left →
+      find place_cmp (place_of job.place) pieces ≡ None → AreRunBefore effect shape jobs coming (pieces ++ (place_of job.place, done effect shape (job_of job)) ∷ []) left
+  run-step jobs coming job pieces left u free = (u.0 ++ job ∷ [], u.1 ∙ one-behind u.0 coming job, run-next u.0 job pieces left u.2 free)
+
+  pub left-step : (jobs coming : List (code.Job V D)) (job : code.Job V D) (pieces : Pieces V (Message V D)) (left : List Place) → AreRunBefore effect shape jobs (job ∷ coming) pieces left →
+      AreRunBefore effect shape jobs coming pieces (left ++ place_of job.place ∷ [])
+  left-step jobs coming job pieces left u = (u.0 ++ job ∷ [], u.1 ∙ one-behind u.0 coming job, left-next u.0 job pieces left u.2)
+
+  pub run-all : (jobs : List (code.Job V D)) (pieces : Pieces V (Message V D)) (left : List Place) → AreRunBefore effect shape jobs [] pieces left → AreRun effect shape jobs pieces left
+  run-all jobs pieces left u = subst (λ js. AreRun effect shape js pieces left) (sym (u.1 ∙ append-nil u.0)) u.2
+
+  -- where no piece stands at the places that are left
+  pub run-odd : (jobs : List (code.Job V D)) (pieces : Pieces V (Message V D)) (left : List Place) → AreRun effect shape jobs pieces left → Each (λ p. find place_cmp p pieces ≡ None) left → AreOdd effect shape jobs pieces
+  run-odd [] pieces left u free = tt
+  run-odd (job ∷ jobs) pieces left (inl e, u) free = ((λ xs found. sym (same_Some (done effect shape (job_of job)) xs (sym e ∙ found))), run-odd jobs pieces left u free)
+  run-odd (job ∷ jobs) pieces left (inr m, u) free =
+      ((λ xs found. absurd (none-some xs (sym (among-each (λ p. find place_cmp p pieces ≡ None) (place_of job.place) left m free) ∙ found))), run-odd jobs pieces left u free)
 
 -- ---- the jobs of a cut
 
@@ -156,15 +227,13 @@ module _ {V D : Type 0} (effect : Option V → Message V D → Option V) (shape 
   pub turned-fillable : (js : List (code.Job V D)) → AreTurned jobs js → (pieces : Pieces V (Message V D)) → pieces ≡ all_done effect shape (map job_of js) → IsFillable shape c.holed pieces
   turned-fillable js turned pieces is =
       let here = each-map job_of (λ j. Among j c.jobs) jobs (subst (Each (λ j. Among j c.jobs)) (sym are) (among-themselves c.jobs)) in
-      fillable pieces (all_done effect shape (map job_of js) ++ []) (is ∙ sym (append-nil _))
-      (all-stand effect shape c.jobs rise (map job_of js) (map-each job_of (λ j. Among j c.jobs) js (each-turned (λ j. Among (job_of j) c.jobs) jobs js turned here)) [] (λ job m. inr refl))
+      fillable pieces (all_done effect shape (map job_of js)) is
+      (all-stand effect shape c.jobs rise (map job_of js) (map-each job_of (λ j. Among j c.jobs) js (each-turned (λ j. Among (job_of j) c.jobs) jobs js turned here)))
 
   -- and so can odd pieces, before they are looked at
   pub odd-fillable : (pieces : Pieces V (Message V D)) → AreOdd effect shape jobs pieces → IsFillable shape c.holed pieces
-  odd-fillable pieces (inl none) = fillable pieces [] none (all-stand effect shape c.jobs rise [] tt [] (λ job m. inr refl))
-  odd-fillable pieces (inr (more, is)) =
-      fillable pieces (all_done effect shape c.jobs ++ more) (is ∙ ap (λ js. all_done effect shape js ++ more) are)
-      (all-stand effect shape c.jobs rise c.jobs (among-themselves c.jobs) more (λ job m. inl m))
+  odd-fillable pieces odd =
+      fillable pieces pieces refl (subst (All (Answers effect shape pieces)) are (All-from_recursion _ (map job_of jobs) (map-each job_of (Answers effect shape pieces) jobs odd)))
 
 module _ {V D : Type 0} (effect : Option V → Message V D → Option V) (shape : Shape) (roomy : IsRoomy shape) (holed : Shape × Holed V (Message V D) Place) (jobs : List (code.Job V D))
     (tree : Shape × Tree V (Message V D)) (same : shape ≡ tree.0) (number : ℕ) (packet : Messages (Message V D)) (depth : ℕ) (mode : Mode) (is : IsCut holed jobs number tree packet depth mode)

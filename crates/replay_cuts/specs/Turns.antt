@@ -1,13 +1,14 @@
 -- Jobs that are run one after the other.
-use Rattle.std.specs.Prelude.{◌≡◌, ◌⊎◌, List, [], ◌++◌, map, reverse}
+use Rattle.std.specs.Prelude.{◌≡◌, ◌⊎◌, List, [], ◌∷◌, ◌++◌, Some, reverse}
+use Rattle.std.specs.FinMap.{find}
 use Rattle.std.specs.List.{AllByRecursion as Each}
 use Rattle.std.specs.declared.option.Option.{Option}
 use Rattle.bt_messages.specs.declared.message.Message.{Message}
 use Rattle.bt_node.specs.Fits.{IsInOrder}
-use Rattle.bt_node.specs.Trees.{Shape}
-use Rattle.bt_plan.specs.Cuts.{all_done}
-use Rattle.bt_plan.specs.Pieces.{Pieces}
-use Rattle.bt_plan.specs.Views.{job_of}
+use Rattle.bt_node.specs.Trees.{Shape, Siblings}
+use Rattle.bt_plan.specs.Cuts.{done}
+use Rattle.bt_plan.specs.Pieces.{Pieces, Place, place_cmp}
+use Rattle.bt_plan.specs.Views.{job_of, place_of}
 use Rattle.bt_plan.specs.declared.job.Job as code
 
 -- the node of each job is in order
@@ -18,7 +19,21 @@ AreInOrder = Each (λ job. IsInOrder job.node)
 abbrev pub AreTurned : {X : Type 0} → List X → List X → Type 0
 AreTurned jobs turned = (turned ≡ jobs) ⊎ (turned ≡ reverse jobs)
 
--- what becomes of jobs, each at its place, and then more pieces; or none at all
+-- an item is one of these
+abbrev pub Among : {X : Type 0} → X → List X → Type 0
+Among x [] = ⊥
+Among x (y ∷ ys) = (x ≡ y) ⊎ Among x ys
+
+-- the first piece at the place of each job is what becomes of the job, or the place is one of those that are left
+abbrev pub AreRun : {V D : Type 0} → (Option V → Message V D → Option V) → Shape → List (code.Job V D) → Pieces V (Message V D) → List Place → Type 0
+AreRun effect shape jobs pieces left =
+    Each (λ job. (find place_cmp (place_of job.place) pieces ≡ Some (done effect shape (job_of job))) ⊎ Among (place_of job.place) left) jobs
+
+-- so it is for the jobs before those that come
+abbrev pub AreRunBefore : {V D : Type 0} → (Option V → Message V D → Option V) → Shape → List (code.Job V D) → List (code.Job V D) → Pieces V (Message V D) → List Place → Type 0
+AreRunBefore {V} {D} effect shape jobs coming pieces left = (seen : List (code.Job V D)) × (jobs ≡ seen ++ coming) × AreRun effect shape seen pieces left
+
+-- the first piece at the place of each job, if there is one, is what becomes of the job
 abbrev pub AreOdd : {V D : Type 0} → (Option V → Message V D → Option V) → Shape → List (code.Job V D) → Pieces V (Message V D) → Type 0
 AreOdd {V} {D} effect shape jobs pieces =
-    (pieces ≡ []) ⊎ ((more : Pieces V (Message V D)) × (pieces ≡ all_done effect shape (map job_of jobs) ++ more))
+    Each (λ job. (xs : Siblings V (Message V D)) → find place_cmp (place_of job.place) pieces ≡ Some xs → xs ≡ done effect shape (job_of job)) jobs

@@ -9,7 +9,7 @@ use crate::tree_text::{height, tree_text};
 use anyhow::{Result, bail};
 use bt_gather::{FillError, Misfit};
 use bt_messages::Packet;
-use bt_node::Tree;
+use bt_node::{Siblings, Tree};
 use bt_plan::{Job, Mode, Place, cut};
 use bt_rowtype::Row;
 use bt_script::Items;
@@ -22,6 +22,26 @@ const MOST_NAMED: usize = 4;
 
 /// The crews that take their turn have so many workers.
 const CREWS: [usize; 3] = [1, 2, 4];
+
+/// Pieces of the last batch, each of which is at fault.
+const ODD: [Odd; 4] = [
+    Odd {
+        tree: 0,
+        children: &[0, 2, 0],
+    },
+    Odd {
+        tree: 0,
+        children: &[1, 1, 3],
+    },
+    Odd {
+        tree: 0,
+        children: &[1],
+    },
+    Odd {
+        tree: 1,
+        children: &[0],
+    },
+];
 
 /// By whom the jobs of a flush are run.
 #[derive(Clone, Copy)]
@@ -290,28 +310,40 @@ fn print_jobs<R: Print + AllocGlobal>(rt: &R, table: &Batches<'_>, depth: usize)
     Ok(())
 }
 
-fn misfit_text(alloc: Global, misfit: Option<Misfit>) -> Result<String> {
-    let (name, place) = match misfit {
-        Some(Misfit::Stranger(place)) => ("Stranger", place),
-        Some(Misfit::Double(place)) => ("Double", place),
-        Some(Misfit::Missing(place)) => ("Missing", place),
-        None => return Ok(String::from_str(alloc, "none")?),
-    };
-    let path = path_text(alloc, &place)?;
-    Ok(format!(in alloc; "{name} {path}")?)
+// The number of a place's tree, and the path to it.
+fn place_text(alloc: Global, place: &Place) -> Result<String> {
+    let path = path_text(alloc, place)?;
+    Ok(format!(in alloc; " {}{path}", place.tree)?)
 }
 
-// Prints what is said of odd pieces in the last batch, cut at depth 1.
-fn print_misfit<R: Print + AllocGlobal>(
-    rt: &R,
-    table: &Batches<'_>,
-    said: &str,
-    odd: Odd,
-) -> Result<()> {
+fn misfit_text(alloc: Global, misfit: &Misfit) -> Result<String> {
+    let (name, place) = match misfit {
+        Misfit::Stranger(place) => ("Stranger", place),
+        Misfit::Double(place) => ("Double", place),
+        Misfit::Missing(place) => ("Missing", place),
+    };
+    Ok(format!(in alloc; "{name}{}", place_text(alloc, place)?)?)
+}
+
+fn pieces_text(alloc: Global, pieces: &[(Place, Siblings<Row>)]) -> Result<String> {
+    let mut text = String::new(alloc);
+    for piece in pieces {
+        text.push_str(place_text(alloc, &piece.0)?.as_str())?;
+    }
+    Ok(text)
+}
+
+// Prints the places of odd pieces in the last batch, cut at depth 1, and what is said of them, if there are such pieces.
+fn print_misfit<R: Print + AllocGlobal>(rt: &R, table: &Batches<'_>, odd: Odd) -> Result<()> {
     let alloc = rt.alloc();
     let (tree, packet) = before_last(alloc, table)?;
-    let misfit = misfit_text(alloc, misfit_of(alloc, tree, packet, 1, odd)?)?;
-    println!(rt; "  {said}: {misfit}")?;
+    let Some((misfit, pieces)) = misfit_of(alloc, tree, packet, 1, odd)? else {
+        return Ok(());
+    };
+    let places = pieces_text(alloc, pieces.as_slice());
+    drop(pieces);
+    let said = misfit_text(alloc, &misfit)?;
+    println!(rt; "  pieces at{}: {said}", places?)?;
     Ok(())
 }
 
@@ -344,9 +376,10 @@ fn replay_batches<R: Print + AllocGlobal + Threads + Wait + Sync>(
     for depth in 1..4usize {
         print_jobs(rt, table, depth)?;
     }
-    print_misfit(rt, table, "its first piece twice", Odd::Twice)?;
-    print_misfit(rt, table, "a piece at /1", Odd::At(1))?;
-    print_misfit(rt, table, "no piece", Odd::Missing)
+    for odd in ODD {
+        print_misfit(rt, table, odd)?;
+    }
+    Ok(())
 }
 
 /// Replays a script, cut at each depth, with the jobs in both orders and by crews, and refuses it where a tree differs.

@@ -30,8 +30,8 @@ loop-worker-init g c =
       room = c.requires.room.1;
     }
 
-pub spawn_with-requires-clause-runs : goal.spawn_with-requires-clause-runs
-spawn_with-requires-clause-runs g c κs within =
+pub spawn_scoped_with-requires-clause-runs : goal.spawn_scoped_with-requires-clause-runs
+spawn_scoped_with-requires-clause-runs g c κs within =
     let P : ℕ → Worker g.row.W-Job.Denot g.row.W-Done.Denot g.row.W-Fault.Denot → Type 0 = IsReady c.args.jobs.now c.args.all.now.value.items [] in
     let one = (from_next P _ _ _ _ _ c.in-Some.ensures.steps.0 refl c.loop-worker.invariant.workers).0 in
     let ready = subst (λ n. P n c.in-Some.worker) (sym one.is) one in

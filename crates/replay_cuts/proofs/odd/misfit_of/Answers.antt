@@ -1,5 +1,6 @@
 use Rattle.std.proofs.Common.{rules}
 use Rattle.bt_messages.specs.Effects.{effect_of}
+use Rattle.bt_gather.specs.Views.{pieces_of}
 use Rattle.bt_node.specs.Fits.{IsRoomy}
 use Rattle.bt_plan.specs.declared.job.Mode.TheVariants.{Absorb}
 use Rattle.replay_cuts.proofs.Turning.{cut-in_order, cut-odd}
@@ -16,4 +17,4 @@ fill-requires g c =
     let roomy : IsRoomy c.shape-shape.result = record { fanout = search rules; leaf = search rules } in
     let cut = c.in_ok-holed.ensures in
     cut-odd (effect_of g.V.Merge.merged) c.shape-shape.result roomy c.in_ok-holed.holed c.in_ok-holed.jobs.items c.args.tree c.shape-shape.ensures 0 c.args.packet c.args.depth Absorb cut.pieces cut.stand cut.rise
-    _ c.in_ok-pieces.ensures
+    (pieces_of c.in-Some.pieces.items) (search rules)

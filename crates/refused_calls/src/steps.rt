@@ -1,0 +1,183 @@
+//! The steps of a script on a table, each of them with requests refused and then again with all memory.
+use crate::answers::{Answer, answer_text};
+use crate::attempt::{Attempt, call_at};
+use crate::lost::fail_all;
+use crate::marks::{Mark, set_mark};
+use anyhow::{Result, bail};
+use bt_node::Shape;
+use bt_rowtype::{Refusal, Schema, Text};
+use bt_script::{Command, Parsed, TableForm, parse_command};
+use bt_shell::ScriptWorkforce;
+use bt_table::Table;
+use bt_view::image;
+use std::alloc::Global;
+use std::io;
+use std::io::Write;
+
+/// A script, and by whom its steps are taken. Nothing is printed or marked in a rehearsal.
+#[derive(Clone, Copy)]
+pub(crate) struct Stage<'a, R, C> {
+    pub(crate) rt: &'a R,
+    pub(crate) crew: &'a C,
+    pub(crate) script: &'a [u8],
+    pub(crate) is_rehearsal: bool,
+}
+
+// The table that a form describes.
+fn table_of(alloc: Global, form: TableForm) -> Result<Table> {
+    let Ok(schema) = Schema::new(form.columns, form.keys as usize) else {
+        bail!("the columns make no schema")
+    };
+    let Ok(shape) = Shape::new(form.fanout, form.buffer, form.leaf) else {
+        bail!("the sizes make no shape")
+    };
+    Ok(Table::new(alloc, schema, shape))
+}
+
+// Whether the call of this name may change the table.
+fn is_change(name: &str) -> bool {
+    !matches!(name, "get" | "scan" | "sums" | "image")
+}
+
+fn print<R: Print + AllocGlobal, C>(stage: &Stage<'_, R, C>, text: &[u8]) -> Result<()> {
+    if !stage.is_rehearsal {
+        io::writer(stage.rt).write_all(text)?;
+    }
+    Ok(())
+}
+
+// Prints the image of each tree that the script makes.
+fn print_images<R: Print + AllocGlobal, C>(stage: &Stage<'_, R, C>, table: &Table) -> Result<()> {
+    let alloc = stage.rt.alloc();
+    for name in ["primary", "by_qty", "by_city"] {
+        let answer = image(alloc, table, &Text::new(alloc, name)?).map(Answer::Image);
+        print(stage, answer_text(alloc, answer)?.as_slice())?;
+    }
+    Ok(())
+}
+
+// Notes the bytes in use.
+fn note<R: Print + AllocGlobal, C>(stage: &Stage<'_, R, C>) -> Result<()> {
+    if !stage.is_rehearsal {
+        set_mark(stage.rt, Mark::Note)?;
+    }
+    Ok(())
+}
+
+// Makes a call again that was out of memory.
+fn again<R: Print + AllocGlobal, C: ScriptWorkforce<R>>(
+    stage: &Stage<'_, R, C>,
+    table: &mut Table,
+    at: usize,
+    name: &str,
+) -> Result<Option<Attempt>>
+    requires ready { C.accepts stage.now.crew.now }
+{
+    let rt = stage.rt;
+    note(stage)?;
+    print(
+        stage,
+        format!(in rt.alloc(); "{name}: out of memory\n")?.as_bytes(),
+    )?;
+    call_at(rt, stage.crew, table, stage.script, at, false)
+}
+
+// Makes the call at a place, and again where it is out of memory.
+fn answered<R: Print + AllocGlobal, C: ScriptWorkforce<R>>(
+    stage: &Stage<'_, R, C>,
+    table: &mut Table,
+    at: usize,
+) -> Result<Option<Attempt>>
+    requires ready { C.accepts stage.now.crew.now }
+{
+    note(stage)?;
+    let rt = stage.rt;
+    let is_marked = !stage.is_rehearsal;
+    let Some(first) = call_at(rt, stage.crew, table, stage.script, at, is_marked)? else {
+        return Ok(None);
+    };
+    print(
+        stage,
+        format!(in rt.alloc(); "{}\n", first.name)?.as_bytes(),
+    )?;
+    if matches!(first.answer, Err(Refusal::OutOfMemory)) {
+        return again(stage, table, at, first.name);
+    }
+    Ok(Some(first))
+}
+
+// Takes the step at a place. Gives the place behind it, unless there is none or the table is lost.
+fn step<R: Print + AllocGlobal, C: ScriptWorkforce<R>>(
+    stage: &Stage<'_, R, C>,
+    table: &mut Table,
+    at: usize,
+) -> Result<Option<usize>>
+    requires ready { C.accepts stage.now.crew.now }
+{
+    let Some(Attempt { name, answer, next }) = answered(stage, table, at)? else {
+        return Ok(None);
+    };
+    let is_lost = matches!(answer, Err(Refusal::Failed));
+    print(stage, answer_text(stage.rt.alloc(), answer)?.as_slice())?;
+    if is_lost {
+        fail_all(stage.rt, stage.crew, table, stage.script)?;
+        return Ok(None);
+    }
+    if is_change(name) {
+        print_images(stage, table)?;
+    }
+    Ok(Some(next))
+}
+
+// Takes the steps behind a place.
+fn take_steps<R: Print + AllocGlobal, C: ScriptWorkforce<R>>(
+    stage: &Stage<'_, R, C>,
+    table: &mut Table,
+    start: usize,
+) -> Result<()>
+    requires ready { C.accepts stage.now.crew.now }
+{
+    let mut at = start;
+    for _ in 0..stage.script.len() {
+        match step(stage, table, at)? {
+            Some(next) => at = next,
+            None => return Ok(()),
+        }
+    }
+    Ok(())
+}
+
+// What the table is that a script begins with, and the place behind its command.
+fn first_form(alloc: Global, script: &[u8]) -> Result<(TableForm, usize)> {
+    match parse_command(alloc, script, 0)? {
+        Parsed::Good { command, next } => match command {
+            Command::Table(form) => Ok((form, next)),
+            _ => bail!("the script begins with no table"),
+        },
+        _ => bail!("the script begins with no table"),
+    }
+}
+
+/// The table of a script when all steps are taken.
+pub(crate) fn table_after<R: Print + AllocGlobal, C: ScriptWorkforce<R>>(
+    stage: &Stage<'_, R, C>,
+) -> Result<Table>
+    requires ready { C.accepts stage.now.crew.now }
+{
+    let alloc = stage.rt.alloc();
+    let (form, next) = first_form(alloc, stage.script)?;
+    let mut table = table_of(alloc, form)?;
+    take_steps(stage, &mut table, next)?;
+    Ok(table)
+}
+
+/// Takes all steps of a script, and notes the bytes in use before and behind them.
+pub(crate) fn go_through<R: Print + AllocGlobal, C: ScriptWorkforce<R>>(
+    stage: &Stage<'_, R, C>,
+) -> Result<()>
+    requires ready { C.accepts stage.now.crew.now }
+{
+    note(stage)?;
+    drop(table_after(stage)?);
+    note(stage)
+}

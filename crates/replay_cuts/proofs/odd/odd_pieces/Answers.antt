@@ -1,0 +1,40 @@
+use Rattle.std.proofs.Common.{◌≡◌, ◌<◌, ◌+◌, ◌∷◌, ◌++◌, ◌∙◌, [], None, ap, arith, drop, length, map, rules, subst, sym}
+use Rattle.std.proofs.lemmas.List.{drop_all, drop_more}
+use Rattle.std.specs.FinMap.{find}
+use Rattle.std.specs.List.{AllByRecursion as Each}
+use Rattle.bt_gather.specs.Views.{pieces_of}
+use Rattle.bt_messages.specs.Effects.{effect_of}
+use Rattle.bt_plan.specs.Pieces.{place_cmp}
+use Rattle.bt_plan.specs.Views.{place_of}
+use Rattle.replay_cuts.specs.Turns.{AreRun}
+use Rattle.replay_cuts.proofs.Turning.{map-last, run-more, run-odd}
+use Rattle.replay_cuts.proofs.odd.odd_pieces.Goals as goal
+
+pub loop-number-preserved : goal.loop-number-preserved
+loop-number-preserved g c =
+    let effect = effect_of g.V.Merge.merged in
+    let left = map place_of c.in_ok-pieces.left.items in
+    let place = c.child_of_root-in-loop-number.result in
+    let grew : c.push.new.self.items ≡ c.loop-number.pieces.items ++ (place, c.in_ok-leaf.leaf) ∷ [] = search rules in
+    subst (λ ps. AreRun effect c.args.shape c.args.jobs.items ps left)
+    (sym (ap pieces_of grew ∙ map-last (λ p. (place_of p.0, p.1)) c.loop-number.pieces.items (place, c.in_ok-leaf.leaf)))
+    (run-more effect c.args.shape c.args.jobs.items (pieces_of c.loop-number.pieces.items) ((place_of place, c.in_ok-leaf.leaf) ∷ []) left c.loop-number.invariant)
+
+pub loop-place-preserved : goal.loop-place-preserved
+loop-place-preserved g c =
+    let places = c.deref-place-items.result.now in
+    let at = c.loop-place.place-index in
+    let place = c.place-item.result in
+    let within : at < length places = omega arith in
+    let next = ap (map place_of) (drop_more places at place within) ∙ ap (λ p. place_of p ∷ map place_of (drop (at + 1) places)) (sym c.place-item.is) in
+    let free : find place_cmp (place_of place) (pieces_of c.loop-number.pieces.items) ≡ None = search rules in
+    λ others. c.loop-place.invariant (subst (Each (λ p. find place_cmp p (pieces_of c.loop-number.pieces.items) ≡ None)) (sym next) (free, others))
+
+pub returns : goal.returns
+returns g c =
+    let pieces = pieces_of c.loop-number.pieces.items in
+    let places = c.deref-place-items.result.now in
+    let none = drop_all c.loop-place.place-index places (omega arith) in
+    let free = c.loop-place.invariant (subst (λ ps. Each (λ p. find place_cmp p pieces ≡ None) (map place_of ps)) (sym none) tt) in
+    run-odd (effect_of g.V.Merge.merged) c.args.shape c.args.jobs.items pieces (map place_of c.in_ok-pieces.left.items) c.loop-number.invariant
+    (subst (λ ps. Each (λ p. find place_cmp p pieces ≡ None) (map place_of ps)) c.deref-place-items.ensures.value free)
