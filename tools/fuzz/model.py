@@ -1,4 +1,4 @@
-"""A plain model of the script language: which replies a script has, said a second time, from docs/SCRIPT.md alone.
+"""A plain model of the script language: which replies a script has, said a second time, from docs/SCRIPT.md and not from the code.
 
     replies(script: bytes) -> bytes
 
