@@ -9,13 +9,13 @@ use Rattle.std.specs.declared.option.Option.{Option}
 use Rattle.std.specs.declared.option.Option.TheVariants.{None, Some}
 use Rattle.bt_messages.specs.declared.message.Message.{Message}
 use Rattle.bt_node.specs.Fits.{HasShape, IsInOrder}
-use Rattle.bt_node.specs.Flushes.{crown}
+use Rattle.bt_node.specs.Flushes.{crown, flush_in}
 use Rattle.bt_node.specs.Messages.{Messages}
 use Rattle.bt_node.specs.Trees.{Shape, Siblings, Tree}
+use Rattle.bt_node.specs.declared.mode.Mode.{Mode}
 use Rattle.bt_plan.specs.declared.job.Job as code
-use Rattle.bt_plan.specs.declared.job.Mode.{Mode}
 use Rattle.bt_plan.specs.declared.job.Place as code_place
-use Rattle.bt_plan.specs.Cuts.{Job, Pieced, all_done, cut, done, flush_in, hole_of}
+use Rattle.bt_plan.specs.Cuts.{Job, Pieced, all_done, cut, done, hole_of}
 use Rattle.bt_plan.specs.Laws.{FillsUp, PlacesRise, StandInHoles}
 use Rattle.bt_plan.specs.Pieces.{Holed, Pieces, Place, filled, holes, place_cmp}
 use Rattle.bt_plan.specs.Views.{IsCut, job_of, place_of}

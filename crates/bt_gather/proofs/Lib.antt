@@ -3,7 +3,6 @@ pub mod Eithers
 pub mod Filled
 pub mod ForkedParts
 pub mod HolePlaces
-pub mod Kept
 pub mod KeyShares
 pub mod NoMisfit
 pub mod Opening

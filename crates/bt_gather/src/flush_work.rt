@@ -8,8 +8,8 @@ ghost use Rattle.bt_plan.specs.Views.{job_of};
 use crate::either::Either;
 use bt_gang::Work;
 use bt_messages::Merge;
-use bt_node::{Shape, Siblings, absorb_alone, drain_alone};
-use bt_plan::{Job, Mode, Place};
+use bt_node::{Mode, Shape, Siblings, absorb_alone, drain_alone};
+use bt_plan::{Job, Place};
 use std::alloc::{AllocError, Global};
 use std::marker::PhantomData;
 

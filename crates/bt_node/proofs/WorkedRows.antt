@@ -1,5 +1,5 @@
 -- Worked trees: what a packet makes of a small tree, computed.
-use Rattle.std.specs.Prelude.{◌≡◌, ℕ, List, [], ◌∷◌, ℤ, pos, neg_ℤ, ◌+ℤ◌}
+use Rattle.std.specs.Prelude.{◌≡◌, ℕ, true, false, List, [], ◌∷◌, ℤ, pos, neg_ℤ, ◌+ℤ◌}
 use Rattle.std.proofs.Common.{refl}
 use Rattle.std.specs.declared.option.Option.{Option}
 use Rattle.std.specs.declared.option.Option.TheVariants.{None, Some}
@@ -14,6 +14,8 @@ use Rattle.bt_keycode.specs.Keys.{Key}
 use Rattle.bt_node.specs.Messages.{rows_after}
 use Rattle.bt_node.specs.Deals.{sizes}
 use Rattle.bt_node.specs.Plans.{planned}
+use Rattle.bt_node.specs.Marks.{flush_marks}
+use Rattle.bt_node.specs.declared.mode.Mode.TheVariants.{Absorb, Drain}
 use Rattle.bt_node.specs.Trees.{Shape, Tree, leaf, inner, Nodes, none, node}
 use Rattle.bt_node.specs.Flushes.{sunk, holds}
 use Rattle.bt_node.specs.Drains.{drained, packed, rebuilt}
@@ -77,6 +79,12 @@ ties_go_left = refl
 
 nothing_to_flush : planned (0 ∷ 0 ∷ []) 3 ≡ []
 nothing_to_flush = refl
+
+planned_are_marked : flush_marks Absorb 4 (1 ∷ 3 ∷ 3 ∷ 2 ∷ []) ≡ false ∷ true ∷ true ∷ false ∷ []
+planned_are_marked = refl
+
+all_are_marked : flush_marks Drain 4 (1 ∷ 0 ∷ []) ≡ true ∷ true ∷ []
+all_are_marked = refl
 
 -- ---- flushing
 

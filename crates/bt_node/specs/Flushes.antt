@@ -7,6 +7,8 @@ use Rattle.bt_node.specs.Messages.{Rows, Messages, rows_after, with_messages, be
 use Rattle.bt_node.specs.Deals.{deal}
 use Rattle.bt_node.specs.Plans.{total, fullest}
 use Rattle.bt_node.specs.Loops.{opened_at, settled}
+use Rattle.bt_node.specs.declared.mode.Mode.{Mode}
+use Rattle.bt_node.specs.declared.mode.Mode.TheVariants.{Absorb, Drain}
 use Rattle.bt_node.specs.Trees.{Shape, Tree, leaf, inner, Nodes, none, node, Siblings, children, nodes, height}
 
 -- a child with the messages of its parent's buffer that are pending for it
@@ -53,6 +55,11 @@ module _ {V M : Type 0} where
   abbrev pub flushed_over : Flush V M → ℕ → List (Child V M) → List (Child V M)
   flushed_over flush capacity cs = settled (λ c. length c.pending) (flushed flush) capacity (total (counts cs)) cs
 
+  -- What becomes of children: they are flushed one by one until no more than the capacity is pending, or each of them is, even with nothing.
+  abbrev pub flushed_in : Mode → Flush V M → ℕ → List (Child V M) → List (Child V M)
+  flushed_in Absorb flush capacity cs = flushed_over flush capacity cs
+  flushed_in Drain flush capacity cs = flat_map (flushed flush) cs
+
   -- the children after the fullest of them was flushed
   abbrev pub fullest_flushed : Flush V M → List (Child V M) → List (Child V M)
   fullest_flushed flush cs = opened_at (λ c. length c.pending) (flushed flush) (fullest (counts cs)) cs
@@ -82,17 +89,22 @@ module _ {V M : Type 0} where
   crown shape xs = crowned (length xs) shape xs
 
 module _ {V M : Type 0} (effect : Option V → M → Option V) where
-  -- What becomes of a node and a packet, with a bound on the node's height, at which `absorb` never drops a packet: clause `one_rule` of the call `absorb_alone`.
-  abbrev pub absorbed : ℕ → Shape → Flush V M
-  absorbed height shape (leaf rows) packet = leaves shape (rows_after effect packet rows)
-  absorbed zero shape (inner ns buffer) packet = ([], inner ns buffer) ∷ []
-  absorbed (suc height) shape (inner ns buffer) packet =
-      grouped shape (flushed_over (absorbed height shape) shape.buffer (shared (children ns) (with_messages packet buffer)))
+  -- What becomes of a node and a packet in a mode, with a bound on the node's height, at which `flush_in` never drops a packet: clauses `one_rule` of the calls
+  -- `absorb_alone` and `drain_alone`.
+  abbrev pub flush_at : Mode → ℕ → Shape → Flush V M
+  flush_at mode height shape (leaf rows) packet = leaves shape (rows_after effect packet rows)
+  flush_at mode zero shape (inner ns buffer) packet = ([], inner ns buffer) ∷ []
+  flush_at mode (suc height) shape (inner ns buffer) packet =
+      grouped shape (flushed_in mode (flush_at mode height shape) shape.buffer (shared (children ns) (with_messages packet buffer)))
 
-  -- A leaf's rows after the messages, dealt anew. An inner node takes the packet into its buffer, flushes the fullest child as long as the buffer is
-  -- over capacity, and its children are dealt anew, each part with its share of the buffer.
+  -- A leaf's rows after the messages, dealt anew. An inner node takes the packet into its buffer, what is pending goes down to its children as the mode
+  -- says, and they are dealt anew, each part with its share of the buffer.
+  abbrev pub flush_in : Mode → Shape → Flush V M
+  flush_in mode shape t packet = flush_at mode (height t) shape t packet
+
+  -- what becomes of a node that keeps as many messages as its buffer has room for: the fullest child is flushed as long as the buffer is over capacity
   abbrev pub absorb : Shape → Flush V M
-  absorb shape t packet = absorbed (height t) shape t packet
+  absorb = flush_in Absorb
 
   -- a tree after a packet
   abbrev pub sunk : Shape → Tree V M → Messages M → Tree V M

@@ -1,14 +1,13 @@
 -- What calls on trees promise beside the definitions, a named fact each.
 use Rattle.std.specs.Prelude.{◌≡◌, ℕ, suc, ◌<◌, ◌≤◌, List, [], ◌∷◌, length}
-use Rattle.std.specs.List.{flat_map}
 use Rattle.std.specs.declared.option.Option.{Option}
 use Rattle.bt_keycode.specs.Keys.{Key}
 use Rattle.bt_node.specs.Messages.{Messages, rows_after, with_messages}
 use Rattle.bt_node.specs.Plans.{total, planned}
 use Rattle.bt_node.specs.Loops.{replaced, items_at}
 use Rattle.bt_node.specs.Trees.{Shape, Tree, inner, Nodes, Siblings, children, height}
-use Rattle.bt_node.specs.Flushes.{Child, Flush, counts, shared, none_pending, flushed, flushed_over, fullest_flushed, grouped, absorb, crown, holds, all_hold}
-use Rattle.bt_node.specs.Drains.{drain}
+use Rattle.bt_node.specs.Flushes.{Child, Flush, counts, shared, none_pending, flushed, flushed_in, flushed_over, flush_in, fullest_flushed, grouped, crown, holds, all_hold}
+use Rattle.bt_node.specs.declared.mode.Mode.{Mode}
 use Rattle.bt_node.specs.Fits.{SiblingsFit, AreHigh, WhereFits, WhereSiblingsFit}
 
 -- ---- children that are flushed
@@ -46,14 +45,9 @@ module _ {V M : Type 0} (effect : Option V → M → Option V) (shape : Shape) (
   HoldRowsAfter xs = WhereFits shape t packet (λ levels low high. all_hold effect xs ≡ rows_after effect packet (holds effect t))
 
   -- an inner node's children take their messages by the same rule as itself, whatever the tree
-  abbrev pub ComeByOneRule : Siblings V M → Type 0
-  ComeByOneRule xs = (ns : Nodes V M) (buffer : Messages M) → t ≡ inner ns buffer →
-      xs ≡ grouped shape (flushed_over (absorb effect shape) shape.buffer (shared (children ns) (with_messages packet buffer)))
-
-  -- an inner node's children are drained by the same rule as itself, whatever the tree
-  abbrev pub DrainByOneRule : Siblings V M → Type 0
-  DrainByOneRule xs = (ns : Nodes V M) (buffer : Messages M) → t ≡ inner ns buffer →
-      xs ≡ grouped shape (flat_map (flushed (drain effect shape)) (shared (children ns) (with_messages packet buffer)))
+  abbrev pub ComeByOneRule : Mode → Siblings V M → Type 0
+  ComeByOneRule mode xs = (ns : Nodes V M) (buffer : Messages M) → t ≡ inner ns buffer →
+      xs ≡ grouped shape (flushed_in mode (flush_in effect mode shape) shape.buffer (shared (children ns) (with_messages packet buffer)))
 
 -- ---- siblings and the messages that are pending for them, dealt as children of inner nodes
 

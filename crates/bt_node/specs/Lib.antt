@@ -1,4 +1,5 @@
 pub mod inside
+pub mod Children
 pub mod Deals
 pub mod Drains
 pub mod Fits
@@ -12,5 +13,6 @@ pub mod Parts
 pub mod Plans
 pub mod Portions
 pub mod Shapes
+pub mod Steps
 pub mod Trees
 pub mod Walks

@@ -1,11 +1,21 @@
--- Marks on the children of a node, by their places.
-use Rattle.std.specs.Prelude.{ℕ, Bool, true, false, List, [], ◌∷◌, set, replicate}
+-- To which children the messages of a node go down.
+use Rattle.std.specs.Prelude.{ℕ, Bool, true, false, cond, nat_eq, nat_le, List, [], ◌∷◌, map}
+use Rattle.bt_node.specs.Plans.{placed, planned}
+use Rattle.bt_node.specs.Trees.{Shape}
+use Rattle.bt_node.specs.declared.mode.Mode.{Mode}
+use Rattle.bt_node.specs.declared.mode.Mode.TheVariants.{Absorb, Drain}
 
--- true at each of these places
-abbrev pub set_all : List ℕ → List Bool → List Bool
-set_all [] marks = marks
-set_all (i ∷ is) marks = set_all is (set marks i true)
+-- whether a place is among these
+abbrev pub is_among : ℕ → List ℕ → Bool
+is_among i [] = false
+is_among i (j ∷ js) = cond (nat_eq i j) true (is_among i js)
 
--- for each of n children, whether its place is among these
-abbrev pub marks_of : ℕ → List ℕ → List Bool
-marks_of n places = set_all places (replicate n false)
+-- for each child, whether it is flushed, where so many messages are pending for each: those that are planned, or all
+abbrev pub flush_marks : Mode → ℕ → List ℕ → List Bool
+flush_marks Absorb capacity counts = map (λ p. is_among p.0 (planned counts capacity)) (placed 0 counts)
+flush_marks Drain capacity counts = map (λ n. true) counts
+
+-- whether none is, since the buffer has room for so many messages
+abbrev pub has_room : Mode → Shape → ℕ → Bool
+has_room Absorb shape pending = nat_le pending shape.buffer
+has_room Drain shape pending = false

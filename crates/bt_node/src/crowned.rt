@@ -1,21 +1,21 @@
 //! One node above siblings.
 ghost use Rattle.std.specs.Prelude.{◌≡◌, IfOk};
-ghost use Rattle.bt_node.specs.Flushes.{crown};
-ghost use Rattle.bt_node.specs.inside.Views.{children_of, none_pending_of};
+ghost use Rattle.bt_node.specs.Flushes.{crown, none_pending};
 
-use crate::group::{add_parts, group};
-use crate::node::{Child, Node, Siblings};
+use crate::children::Children;
+use crate::group::close;
+use crate::node::{Node, Siblings};
 use crate::shape::Shape;
 use bt_keycode::Key;
-use bt_messages::Merge;
+use bt_messages::{Buffer, Merge};
 use std::alloc::{AllocError, Global};
 
 // Siblings as children for which nothing is pending.
-fn none_pending<V: Merge>(alloc: Global, siblings: Siblings<V>) -> Result<Vec<Child<V>>, AllocError>
-    ensures { IfOk result (λ children. children_of children.items ≡ none_pending_of siblings) }
+fn none_pending<V: Merge>(alloc: Global, siblings: Siblings<V>) -> Result<Children<V>, AllocError>
+    ensures { IfOk result (λ children. children ≡ none_pending siblings) }
 {
-    let mut children = Vec::with_capacity(alloc, siblings.len())?;
-    add_parts(alloc, &mut children, Key::new(), siblings)?;
+    let mut children = Children::with_capacity(alloc, siblings.len())?;
+    children.append(alloc, Key::new(), siblings, Buffer::new(alloc))?;
     Ok(children)
 }
 
@@ -30,7 +30,7 @@ pub(crate) fn crowned<V: Merge>(
     let mut level = siblings;
     'levels: while level.len() > 1 {
         let children = none_pending(alloc, level)?;
-        level = group(alloc, shape, children)?;
+        level = close(alloc, shape, children)?;
     }
     Ok(level.into_only())
 }

@@ -6,8 +6,8 @@ ghost use Rattle.bt_node.specs.Deals.{deal, even};
 use std::alloc::{AllocError, Global};
 use std::vec::IntoIter;
 
-// The size of the part at a place, where so many items are dealt into so many parts.
-fn size_at(place: usize, items: usize, parts: usize) -> usize
+/// The size of the part at a place, where so many items are dealt into so many parts.
+pub(crate) fn size_at(place: usize, items: usize, parts: usize) -> usize
     requires { place < parts }
     ensures { drop place (even items parts) ≡ result ∷ drop (place + 1) (even items parts) }
 {

@@ -1,15 +1,16 @@
 //! Nodes made of parts: rows dealt into leaves, children gathered under inner nodes.
-ghost use Rattle.std.specs.Prelude.{◌≡◌, ◌≤◌, ◌++◌, IfOk, OnOk, length};
+ghost use Rattle.std.specs.Prelude.{◌≡◌, ◌≤◌, [], IfOk, OnOk, drop, length, map, take};
+ghost use Rattle.bt_node.specs.Children.{AreDivided};
+ghost use Rattle.bt_node.specs.Deals.{even, parted};
 ghost use Rattle.bt_node.specs.Flushes.{first_key, gathered, grouped, leaves, pivot_first};
-ghost use Rattle.bt_node.specs.inside.Shares.{AreDivided};
-ghost use Rattle.bt_node.specs.inside.Views.{children_of, none_pending_of};
 
-use crate::deal::deal;
-use crate::node::{Child, Node, Siblings};
+use crate::children::{ChildIterator, Children};
+use crate::deal::size_at;
+use crate::node::{Node, Siblings};
 use crate::rows::Rows;
 use crate::shape::Shape;
 use bt_keycode::Key;
-use bt_messages::{Bins, Buffer, Merge};
+use bt_messages::Merge;
 use std::alloc::{AllocError, Global};
 
 // A copy of the least key of some rows, or the empty key where there are none.
@@ -49,80 +50,66 @@ pub(crate) fn leaves<V: Merge>(
     Ok(siblings)
 }
 
-// Neighbouring children under one inner node with their bins, behind the pivot of the first.
-fn gather<V: Merge>(alloc: Global, part: Vec<Child<V>>) -> Result<(Key, Node<V>), AllocError>
-    requires some { 1 ≤ length part.items }
-    requires divided { AreDivided (children_of part.items) }
-    ensures { IfOk result (λ node. (node.0, node.1) ≡ gathered (children_of part.items)) }
+// So many of the next children under one inner node with their bins, behind the pivot of the first.
+fn next_group<V: Merge>(
+    alloc: Global,
+    rest: &mut ChildIterator<V>,
+    size: usize,
+) -> Result<(Key, Node<V>), AllocError>
+    requires some { 1 ≤ size }
+    requires enough { size ≤ length rest.old }
+    requires divided { AreDivided rest.old }
+    ensures node { IfOk result (λ node. (node.0, node.1) ≡ gathered (take size rest.old)) }
+    ensures rest { OnOk result (rest.new ≡ drop size rest.old) }
 {
-    let count = part.len();
-    let mut bins = Vec::with_capacity(alloc, count)?;
-    let mut part = part.into_iter();
-    let Some(first) = part.next() else {
-        unreachable!()
-    };
-    let Child {
-        pivot,
-        node,
-        pending,
-    } = first;
-    bins.push_reserved(pending);
-    let mut children = Siblings::with_capacity(alloc, node, count)?;
-    for child in part {
-        let Child {
-            pivot,
-            node,
-            pending,
-        } = child;
-        bins.push_reserved(pending);
-        children.push(pivot, node)?;
+    let mut part = Children::with_capacity(alloc, size)?;
+    for _ in 0..size {
+        let Some((pivot, node, pending)) = rest.next() else {
+            unreachable!()
+        };
+        part.push(pivot, node, pending)?;
     }
-    let bins = Bins::from_buffers(bins);
-    Ok((pivot, Node::inner(children, bins)))
+    Ok(part.into_node())
 }
 
-/// The children dealt by the fanout, each part under an inner node.
-pub(crate) fn group<V: Merge>(
+// Children in so many parts, each under an inner node.
+fn groups<V: Merge>(
     alloc: Global,
-    shape: Shape,
-    children: Vec<Child<V>>,
+    children: Children<V>,
+    many: usize,
 ) -> Result<Siblings<V>, AllocError>
-    requires some { 1 ≤ length children.items }
-    requires divided { AreDivided (children_of children.items) }
-    ensures { IfOk result (λ siblings. siblings ≡ grouped shape (children_of children.items)) }
+    requires some { 1 ≤ many }
+    requires enough { many ≤ length children }
+    requires divided { AreDivided children }
+    ensures { IfOk result (λ siblings. siblings ≡ pivot_first [] (map gathered (parted (even (length children) many) children))) }
 {
-    let dealt = deal(alloc, children, shape.fanout())?;
-    let count = dealt.len();
-    let mut parts = dealt.into_iter();
-    let Some(first) = parts.next() else {
-        unreachable!()
-    };
-    let (_, node) = gather(alloc, first)?;
-    let mut siblings = Siblings::with_capacity(alloc, node, count)?;
-    for part in parts {
-        let (pivot, node) = gather(alloc, part)?;
+    let count = children.len();
+    let mut rest = children.into_iter();
+    let (_, first) = next_group(alloc, &mut rest, size_at(0, count, many))?;
+    let mut siblings = Siblings::with_capacity(alloc, first, many)?;
+    for place in 1..many {
+        let (pivot, node) = next_group(alloc, &mut rest, size_at(place, count, many))?;
         siblings.push(pivot, node)?;
     }
     Ok(siblings)
 }
 
-/// Adds the parts that a child became, the first of them behind its pivot. Nothing is pending for them.
-pub(crate) fn add_parts<V: Merge>(
+/// The deal that ends what becomes of an inner node: its children dealt by the fanout, each part under an inner node. Where one node has
+/// room for all, none of them is moved. An `Err` keeps none.
+pub fn close<V: Merge>(
     alloc: Global,
-    children: &mut Vec<Child<V>>,
-    pivot: Key,
-    parts: Siblings<V>,
-) -> Result<(), AllocError>
-    ensures { OnOk result (children_of children.new.items ≡ children_of children.old.items ++ none_pending_of (pivot_first pivot parts)) }
+    shape: Shape,
+    children: Children<V>,
+) -> Result<Siblings<V>, AllocError>
+    requires some { 1 ≤ length children }
+    requires divided { AreDivided children }
+    ensures { IfOk result (λ siblings. siblings ≡ grouped shape children) }
 {
-    let mut parts = parts.into_pairs(pivot);
-    while let Some((pivot, node)) = parts.next() {
-        let pending = Buffer::new(alloc);
-        children.push(Child {
-            pivot,
-            node,
-            pending,
-        })?;
+    let count = children.len();
+    let most = shape.fanout();
+    if count <= most {
+        let (_, node) = children.into_node();
+        return Siblings::with_capacity(alloc, node, 1);
     }
-    Ok(())
+    groups(alloc, children, count.div_ceil(most))
 }

@@ -21,6 +21,11 @@
 //! }
 //! ```
 //!
+//! A flush is one step at each node, in a [`Mode`]. [`open`] says what an inner node does with the messages that come to it: it has room
+//! for all and stays, or it is opened, its children side by side ([`Children`]), with marks for those to which messages go down. [`close`]
+//! deals what becomes of the children under inner nodes. [`absorb_alone`] and [`drain_alone`] take all steps on one thread; who divides a
+//! flush calls [`open`] and [`close`].
+//!
 //! [`pack`] makes a tree of sorted rows at once. [`Tree::drain`] sends all messages down to the leaves, and [`Tree::rebuild`] packs
 //! the rows that a tree holds.
 //!
@@ -28,16 +33,17 @@
 //! (`values`), the rows between two bounds, shown to a [`Visitor`] (`visit`) or copied (`rows`), and the first rows from a key on, at
 //! most so many, at a cost that goes by what is shown and by the nodes on the way (`visit_first`).
 //!
-//! `specs` has the definitions. `Trees` are the nodes, `Flushes` says what becomes of a node and a packet of messages, `Drains` what becomes of it
-//! when no message is to be left on the way, and which trees are made of rows alone, and `Fits` which trees are in order. `Plans` and `Loops` say
-//! which children are flushed. `Laws` are the facts that calls promise beside these definitions; what private code cites stands in `inside`.
-//! `proofs` has small trees worked out, in `WorkedRows`.
+//! `specs` has the definitions. `Trees` are the nodes, `Flushes` says what becomes of a node and a packet of messages in each mode, `Drains` what
+//! becomes of a tree when no message is to be left on the way, and which trees are made of rows alone, and `Fits` which trees are in order. `Plans`
+//! and `Loops` say which children are flushed, `Marks` says it of each child, and when a node has room. `Children` are children beside their bins,
+//! and `Steps` says what [`open`] gives. `Laws` are the facts that calls promise beside these definitions; what private code cites stands in
+//! `inside`. `proofs` has small trees worked out, in `WorkedRows`.
 #![tactic(auto)]
 
-mod absorb;
+mod children;
 mod crowned;
 mod deal;
-mod drain;
+mod flushing;
 mod group;
 mod held;
 mod leaf_visits;
@@ -45,19 +51,24 @@ mod lent;
 mod limit;
 mod lookup;
 mod lookups;
+mod mode;
 mod node;
+mod opening;
 mod planning;
 mod portions;
 mod rows;
 mod shape;
-mod share;
 mod tree;
 mod visitor;
 mod visits;
 mod walk;
 
+pub use children::Children;
+pub use group::close;
+pub use mode::Mode;
 pub use node::{Node, Parts, Siblings};
-pub use planning::{fullest_place, sum_of};
+pub use opening::{Opened, Step, open};
+pub use planning::{next_planned, sum_of};
 pub use portions::Portion;
 pub use shape::{
     LARGEST_BUFFER, LARGEST_FANOUT, LARGEST_LEAF, SMALLEST_BUFFER, SMALLEST_FANOUT, SMALLEST_LEAF,

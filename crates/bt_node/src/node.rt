@@ -158,13 +158,20 @@ impl<V: Merge> Node<V> {
 }
 
 impl<V: Merge> Siblings<V> {
+    pub(crate) fn from_parts(nodes: Vec<Node<V>>, pivots: Vec<Key>) -> Self
+        requires { length nodes.items ≡ length pivots.items + 1 }
+        ensures { result ≡ behind pivots.items nodes.items }
+    {
+        Siblings { nodes, pivots }
+    }
+
     /// Nodes with a pivot between each two neighbours.
     pub fn new(nodes: Vec<Node<V>>, pivots: Vec<Key>) -> Self
         requires one_fewer { length nodes.items ≡ length pivots.items + 1 }
         requires rising { AreRising pivots.items }
         ensures { result ≡ behind pivots.items nodes.items }
     {
-        Siblings { nodes, pivots }
+        Siblings::from_parts(nodes, pivots)
     }
 
     /// The nodes, and the pivots between them.
@@ -237,67 +244,4 @@ impl<V: Merge> Siblings<V> {
             None => unreachable!(),
         }
     }
-
-    /// The nodes to be taken one by one, the first behind this pivot.
-    pub(crate) fn into_pairs(self, pivot: Key) -> Pairs<V>
-        ensures first { result ≡ pivot_first pivot self }
-        ensures same { pivot ≡ [] → result ≡ self }
-    {
-        let Siblings { nodes, pivots } = self;
-        Pairs {
-            pivot,
-            nodes: nodes.into_iter(),
-            pivots: pivots.into_iter(),
-        }
-    }
-}
-
-/// Nodes that are taken one by one, each with the pivot before it.
-#[derive(Drop)]
-pub(crate) struct Pairs<V: Merge> {
-    // Of the next node.
-    pivot: Key,
-    nodes: IntoIter<Node<V>>,
-    pivots: IntoIter<Key>,
-}
-
-impl<V: Merge> Model for Pairs<V> {
-    ghost use Rattle.std.specs.Prelude.{◌+◌, ◌≤◌, ◌∷◌, length};
-    ghost use Rattle.std.specs.List.{zip};
-    ghost use Rattle.std.specs.Coded.{coded×, coded_list, coded_ℕ};
-    ghost use Rattle.std.specs.Vec.Iter.{into_iter_items};
-    ghost use Rattle.bt_messages.specs.declared.message.Message.{Message};
-    ghost use Rattle.bt_node.specs.Trees as trees;
-    ghost use Rattle.bt_node.specs.inside.Stored.{message_code, tree_code};
-
-    ghost Value = { trees.Siblings V (Message V V.Delta) };
-
-    ghost coded = { coded_list (coded× (coded_list coded_ℕ) (tree_code V.code (message_code V.code V.Delta.code))) };
-
-    ghost view = { λ p. zip (p.pivot ∷ into_iter_items p.pivots) (into_iter_items p.nodes) };
-
-    ghost invariant = { λ p. length (into_iter_items p.nodes) ≤ length (into_iter_items p.pivots) + 1 };
-}
-
-impl<V: Merge> Pairs<V> {
-    /// The next node behind its pivot.
-    pub(crate) fn next(&mut self) -> Option<(Key, Node<V>)>
-        ensures { MatchOption result (self.old ≡ []) (λ pair. self.old ≡ pair ∷ self.new) }
-    {
-        let node = self.nodes.next()?;
-        let following = match self.pivots.next() {
-            Some(key) => key,
-            None => Key::new(),
-        };
-        let pivot = mem::replace(&mut self.pivot, following);
-        Some((pivot, node))
-    }
-}
-
-/// A child of a node that is worked on: what is pending for it stands beside it.
-#[derive(Drop)]
-pub(crate) struct Child<V: Merge> {
-    pub(crate) pivot: Key,
-    pub(crate) node: Node<V>,
-    pub(crate) pending: Buffer<V>,
 }

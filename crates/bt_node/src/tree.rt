@@ -8,17 +8,17 @@ ghost use Rattle.bt_messages.specs.Bins.{LieBetween, joined};
 ghost use Rattle.bt_node.specs.Drains.{AreDry, IsDry, drain, drained, packed, rebuilt};
 ghost use Rattle.bt_node.specs.Fits.{AreFit, HasShape, IsInOrder};
 ghost use Rattle.bt_node.specs.Flushes.{absorb, crown, grouped, holds, shared, sunk};
-ghost use Rattle.bt_node.specs.Laws.{ChosenArePlanned, ComeByOneRule, DrainByOneRule, FitAbove, FitThere, FlushesInTurn, HoldAllAfter, HoldRowsAfter, HoldsAfter, HoldsAll, HoldsTheSame, KeepHeight, StandsAbove, StayWithoutPacket};
+ghost use Rattle.bt_node.specs.Laws.{ChosenArePlanned, ComeByOneRule, FitAbove, FitThere, FlushesInTurn, HoldAllAfter, HoldRowsAfter, HoldsAfter, HoldsAll, HoldsTheSame, KeepHeight, StandsAbove, StayWithoutPacket};
 ghost use Rattle.bt_node.specs.Trees.{leaf, nodes, pivots_of};
 
-use crate::absorb::absorb;
+use crate::children::Children;
 use crate::crowned::crowned;
-use crate::drain::drain;
-use crate::group::{group, leaves};
+use crate::flushing::flush;
+use crate::group::{close, leaves};
+use crate::mode::Mode;
 use crate::node::{Node, Siblings};
 use crate::rows::Rows;
 use crate::shape::Shape;
-use crate::share::beside;
 use crate::walk::Walk;
 use bt_keycode::Key;
 use bt_messages::{Bins, Merge, Packet};
@@ -60,13 +60,13 @@ pub fn absorb_alone<V: Merge>(
     ensures height { IfOk result (KeepHeight shape node packet) }
     ensures rows { IfOk result (HoldRowsAfter (effect_of V.merged) shape node packet) }
     ensures unchanged { IfOk result (StayWithoutPacket shape node packet) }
-    ensures one_rule { IfOk result (ComeByOneRule (effect_of V.merged) shape node packet) }
+    ensures one_rule { IfOk result (ComeByOneRule (effect_of V.merged) shape node packet Mode.Absorb) }
     ensures in_turn { FlushesInTurn V (Message V V.Delta) }
     ensures planned { ChosenArePlanned V (Message V V.Delta) }
 {
     let mut stream = packet.into_stream();
     let count = stream.len();
-    let nodes = absorb(alloc, shape, node, &mut stream, count)?;
+    let nodes = flush(alloc, shape, Mode::Absorb, node, &mut stream, count)?;
     Ok(nodes)
 }
 
@@ -83,11 +83,11 @@ pub fn drain_alone<V: Merge>(
     ensures height { IfOk result (KeepHeight shape node packet) }
     ensures rows { IfOk result (HoldRowsAfter (effect_of V.merged) shape node packet) }
     ensures dry { IfOk result (λ siblings. AreDry (nodes siblings)) }
-    ensures one_rule { IfOk result (DrainByOneRule (effect_of V.merged) shape node packet) }
+    ensures one_rule { IfOk result (ComeByOneRule (effect_of V.merged) shape node packet Mode.Drain) }
 {
     let mut stream = packet.into_stream();
     let count = stream.len();
-    let nodes = drain(alloc, shape, node, &mut stream, count)?;
+    let nodes = flush(alloc, shape, Mode::Drain, node, &mut stream, count)?;
     Ok(nodes)
 }
 
@@ -106,11 +106,7 @@ pub fn regroup<V: Merge>(
     ensures fits { IfOk result (FitAbove shape siblings (joined bins)) }
     ensures rows { IfOk result (HoldAllAfter (effect_of V.merged) shape siblings (joined bins)) }
 {
-    if siblings.len() <= shape.fanout() {
-        return Siblings::with_capacity(alloc, Node::inner(siblings, bins), 1);
-    }
-    let children = beside(alloc, siblings, bins)?;
-    group(alloc, shape, children)
+    close(alloc, shape, Children::beside(siblings, bins))
 }
 
 /// The tree whose root stands above these siblings, and holds what they hold. An `Err` keeps nothing of them.

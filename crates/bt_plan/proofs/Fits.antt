@@ -1,40 +1,35 @@
 -- A tree that is cut fits: each job in its hole, and what stays in its place.
-use Rattle.std.proofs.Common.{◌≡◌, ◌≤◌, ℕ, zero, suc, ◌<◌, Bool, true, false, cond, List, [], ◌∷◌, ◌++◌, length, map, refl, sym, ap, subst, ◌∙◌, arith, le_refl}
+use Rattle.std.proofs.Common.{◌≡◌, ◌≤◌, ℕ, zero, suc, ◌<◌, Bool, true, false, cond, List, [], ◌∷◌, ◌++◌, length, map, refl, sym, ap, subst, ◌∙◌, arith}
+use Rattle.std.proofs.lemmas.Bool.{cond_both}
 use Rattle.std.proofs.lemmas.List.{length-map}
 use Rattle.std.specs.declared.option.Option.{Option}
 use Rattle.std.specs.declared.option.Option.TheVariants.{Some}
 use Rattle.bt_keycode.specs.Keys.{Key, AllWithin, IsSorted, SideBySide}
 use Rattle.bt_messages.specs.Bins.{LieBetween, joined, parts}
 use Rattle.bt_messages.proofs.offered.Parts.{joined_sorted, parts-joined}
+use Rattle.bt_messages.proofs.offered.Placed.{sorted-with_messages}
 use Rattle.bt_node.specs.Fits.{IsSized, Lies}
-use Rattle.bt_node.specs.Flushes.{Child, Flush, counts, flushed, flushed_over, shared}
+use Rattle.bt_node.specs.Flushes.{Child, Flush, shared}
+use Rattle.bt_node.specs.Marks.{has_room}
 use Rattle.bt_node.specs.Messages.{Messages, with_messages}
-use Rattle.bt_node.specs.Plans.{total}
 use Rattle.bt_node.specs.Trees.{Shape, Tree, leaf, inner, children}
-use Rattle.bt_node.proofs.offered.FlushSteps.{ChildLies, ChildrenLie, ChildrenSized, all_pending, divided-lie, flushed-light, flushed-planned, length-shared, names, settled-fits, shared-sized, slots, start-lies, total-counts}
-use Rattle.bt_plan.specs.declared.job.Mode.{Mode}
-use Rattle.bt_plan.specs.declared.job.Mode.TheVariants.{Absorb, Drain}
+use Rattle.bt_node.specs.declared.mode.Mode.{Mode}
+use Rattle.bt_node.proofs.offered.FlushSteps.{ChildLies, ChildrenLie, ChildrenSized, all_pending, all_pending-shared, all_pending-within, divided-lie, flushed-fits, length-shared, names, start-lies}
+use Rattle.bt_node.proofs.offered.FlushSteps.{flushed-slots, names-slots, slots}
 use Rattle.bt_plan.specs.Pieces.{Holed, HoledChild, HoledFits, HoledNodes, IsSent, Place, hole, holed_nodes, opened, pivots_below, shared_below, whole, with_bins}
 use Rattle.bt_plan.specs.Cuts.{Job, child_place, cut_out, left_pending}
 use Rattle.bt_plan.specs.Laws.{JobFits}
-use Rattle.bt_plan.proofs.Filling.{opened_children}
-use Rattle.bt_plan.proofs.Marks.{left-all, names-slots_in, pending-pass, slots-are, slots_in}
+use Rattle.bt_plan.proofs.Filling.{AreSlots, opened_children, opened_node, room-within, slots-are}
+use Rattle.bt_plan.proofs.Passes.{pending-pass}
 
 -- ---- what is left in the bins
 
 module _ {V M : Type 0} where
   -- it is within capacity
-  left-within : (mode : Mode) (capacity : ℕ) (cs : List (Child V M)) → length (left_pending (slots_in mode capacity cs)) ≤ capacity
-  left-within Absorb capacity cs =
+  left-within : (mode : Mode) (capacity : ℕ) (cs : List (Child V M)) → length (left_pending (slots mode capacity cs)) ≤ capacity
+  left-within mode capacity cs =
       let f : Flush V M = λ t p. [] in
-      omega (
-        arith,
-        settled-fits (λ c. length c.pending) (flushed f) (flushed-light f) capacity (total (counts cs)) cs (le_refl (total (counts cs))),
-        total-counts (flushed_over f capacity cs),
-        ap (λ ds. length (all_pending ds)) (flushed-planned f capacity cs),
-        ap length (pending-pass f (slots capacity cs)),
-      )
-  left-within Drain capacity cs = omega (arith, ap length (left-all cs))
+      omega (arith, flushed-fits mode f capacity cs, ap (λ ds. length (all_pending ds)) (flushed-slots mode f capacity cs), ap length (pending-pass f (slots mode capacity cs)))
 
   -- a child with what is left in its bin
   abbrev kept : Child V M × Bool → Child V M
@@ -123,29 +118,35 @@ module _ {V M : Type 0} (effect : Option V → M → Option V) (s : Shape) (leaf
   cut-fits (suc depth) levels place low high (leaf rows) p lies sized within = (record { lies = lies; sized = sized }, within)
   cut-fits (suc depth) zero place low high (inner ns b) p lies sized within = absurd lies
   cut-fits (suc depth) (suc levels) place low high (inner ns b) p lies sized within =
-      subst (λ zs. HoledFits (JobFits s) s (suc levels) low high (opened (below depth place 0 zs) (left_pending zs))) (sym (slots-are mode s.buffer cs)) (
+      let all = with_messages p b in
+      let sorted = sorted-with_messages p b lies.1 in
+      let cs = shared (children ns) all in
+      let ss = slots mode s.buffer cs in
+      let are : AreSlots s levels low high ss = slots-are effect s leaf_some fanout_some mode levels low high ns b p lies sized within in
+      cond_both (has_room mode s (length all)) (whole (inner ns all)) (opened_node depth mode s place ss) (HoledFits (JobFits s) s (suc levels) low high)
+      (λ room. record {
+        lies = (
+          subst (AllWithin low high) (all_pending-shared (children ns) all (omega (arith, sized.0)) sorted)
+              (all_pending-within levels low high cs (start-lies effect s leaf_some fanout_some levels low high ns b p lies within)),
+          sorted,
+          lies.2,
+          lies.3,
+        );
+        sized = (sized.0, sized.1, room-within mode s (length all) room, sized.3);
+      })
+      (λ _. (
         omega (
           arith,
           sized.0,
-          length-shared (children ns) (with_messages p b),
-          ap length (names-slots_in mode s.buffer cs),
+          length-shared (children ns) all,
+          ap length (names-slots mode s.buffer cs),
           length-names ss,
           length-map ss kept,
           length-map (map kept ss) (λ (c : Child V M). c.pivot),
           ap length (pivots-opened depth place 0 ss),
         ),
         left-within mode s.buffer cs,
-        left-sorted levels low high ss placed,
-        subst (SideBySide (λ c. c.pivot) (Fits levels) low high) (sym (shared-left depth levels place low high ss placed))
-            (children-fit depth levels (cut-fits depth levels) place 0 low high ss placed
-            (subst (ChildrenSized s) (sym (names-slots_in mode s.buffer cs)) (shared-sized s ns (with_messages p b) sized.3))),
-      )
-    where
-      cs : List (Child V M)
-      cs = shared (children ns) (with_messages p b)
-
-      ss : List (Child V M × Bool)
-      ss = slots_in mode s.buffer cs
-
-      placed : ChildrenLie levels low high (names ss)
-      placed = subst (ChildrenLie levels low high) (sym (names-slots_in mode s.buffer cs)) (start-lies effect s leaf_some fanout_some levels low high ns b p lies within)
+        left-sorted levels low high ss are.lie,
+        subst (SideBySide (λ c. c.pivot) (Fits levels) low high) (sym (shared-left depth levels place low high ss are.lie))
+            (children-fit depth levels (cut-fits depth levels) place 0 low high ss are.lie are.sized),
+      ))

@@ -2,10 +2,9 @@ pub mod Filling
 pub mod Fits
 pub mod Found
 pub mod Holes
-pub mod Loads
-pub mod Marks
 pub mod offered
 pub mod Opening
+pub mod Passes
 pub mod Places
 pub mod PlanSizes
 pub mod Steps

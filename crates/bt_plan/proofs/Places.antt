@@ -1,19 +1,22 @@
 -- The places of the jobs of a cut strictly rise.
-use Rattle.std.proofs.Common.{◌≡◌, ℕ, zero, suc, ◌<◌, ◌≤◌, ◌&&◌, T, Bool, true, false, cond, List, [], ◌∷◌, ◌++◌, map, refl, sym, ap, subst, ◌∙◌, append-nil, append_assoc, arith}
+use Rattle.std.proofs.Common.{◌≡◌, ℕ, zero, suc, ◌<◌, ◌≤◌, ◌&&◌, T, Bool, true, false, cond, List, [], ◌∷◌, ◌++◌, length, map, refl, sym, ap, subst, ◌∙◌, append-nil, append_assoc, arith}
+use Rattle.std.proofs.lemmas.Bool.{cond_both}
 use Rattle.std.specs.Cmp.{nat_cmp_is}
 use Rattle.std.specs.Cmp.Lexicographic.{slice_cmp}
 use Rattle.std.specs.FinMap.{is_sorted}
 use Rattle.std.specs.FinMap.Entries.{below_all}
-use Rattle.std.specs.List.{AllByRecursion as Each, zip}
+use Rattle.std.specs.List.{AllByRecursion as Each}
 use Rattle.std.specs.Ordering.{is_lt, nat_cmp, ordering_then}
 use Rattle.std.specs.declared.cmp.Ordering.TheVariants.{Less, Equal}
-use Rattle.bt_node.specs.Flushes.{Child, counts, shared}
+use Rattle.bt_node.specs.Flushes.{Child, shared}
+use Rattle.bt_node.specs.Marks.{has_room}
 use Rattle.bt_node.specs.Messages.{Messages, with_messages}
 use Rattle.bt_node.specs.Trees.{Nodes, Shape, Tree, children, leaf, inner}
-use Rattle.bt_plan.specs.declared.job.Mode.{Mode}
+use Rattle.bt_node.specs.declared.mode.Mode.{Mode}
+use Rattle.bt_node.proofs.offered.FlushSteps.{slots}
 use Rattle.bt_plan.specs.Pieces.{Place, holed_nodes, holes, holes_below, place_cmp, whole}
-use Rattle.bt_plan.specs.Cuts.{Job, child_place, cut_out, flush_marks}
-use Rattle.bt_plan.proofs.Filling.{opened_children}
+use Rattle.bt_plan.specs.Cuts.{Job, child_place, cut_out}
+use Rattle.bt_plan.proofs.Filling.{opened_children, opened_node}
 
 pub each-append : {X : Type 0} (P : X → Type 0) (xs ys : List X) → Each P xs → Each P ys → Each P (xs ++ ys)
 each-append P [] ys u v = v
@@ -61,10 +64,6 @@ IsPastChild place i job = (j : ℕ) × (rest : List ℕ) × (i ≤ j) × (job.pl
 abbrev Under : (V M : Type 0) → ℕ → Mode → Shape → Type 0
 Under V M depth mode s = (place : Place) (t : Tree V M) (p : Messages M) → Each (IsUnder place) (holes (cut_out depth mode s place t p))
 
--- the children of a node that is opened, beside their marks
-abbrev opened_slots : {V M : Type 0} → Mode → Shape → Nodes V M → Messages M → Messages M → List (Child V M × Bool)
-opened_slots mode s ns b p = let cs = shared (children ns) (with_messages p b) in zip cs (flush_marks mode s.buffer (counts cs))
-
 -- jobs behind their places
 abbrev pub by_place : {V M : Type 0} → List (Job V M) → List (Place × Job V M)
 by_place = map (λ job. (job.place, job))
@@ -102,11 +101,21 @@ module _ {V M : Type 0} where
         (each-weaken (IsUnder (child_place place i)) (IsPastChild place i) (child-under place i) _ (child-jobs depth under (child_place place i) c))
         (each-weaken (IsPastChild place (suc i)) (IsPastChild place i) (past-next place i) _ (children-jobs depth under place (suc i) ss))
 
+    -- a fact of the jobs of an inner node that is cut: it holds where there are none, and of those of its children
+    by_room : (Fact : List (Job V M) → Type 0) (depth : ℕ) (place : Place) (ns : Nodes V M) (b p : Messages M) → Fact [] →
+        ((ss : List (Child V M × Bool)) → Fact (holes_below (holed_nodes (opened_children depth mode s place 0 ss)))) → Fact (holes (cut_out (suc depth) mode s place (inner ns b) p))
+    by_room Fact depth place ns b p none some =
+        let all = with_messages p b in
+        let ss = slots mode s.buffer (shared (children ns) all) in
+        cond_both (has_room mode s (length all)) (whole (inner ns all)) (opened_node depth mode s place ss) (λ h. Fact (holes h)) (λ _. none) (λ _. some ss)
+
     -- each job is at or below the place of what is cut
     jobs-under : (depth : ℕ) → Under V M depth mode s
     jobs-under zero place t p = (([], ap (λ path. record { tree = place.tree; path = path }) (sym (append-nil place.path))), tt)
     jobs-under (suc depth) place (leaf rows) p = (([], ap (λ path. record { tree = place.tree; path = path }) (sym (append-nil place.path))), tt)
-    jobs-under (suc depth) place (inner ns b) p = each-weaken (IsPastChild place 0) (IsUnder place) (past-under place) _ (children-jobs depth (jobs-under depth) place 0 (opened_slots mode s ns b p))
+    jobs-under (suc depth) place (inner ns b) p =
+        by_room (Each (IsUnder place)) depth place ns b p tt
+        (λ ss. each-weaken (IsPastChild place 0) (IsUnder place) (past-under place) _ (children-jobs depth (jobs-under depth) place 0 ss))
 
     -- ---- order
 
@@ -146,4 +155,4 @@ module _ {V M : Type 0} where
     pub cut-rises : (depth : ℕ) → Rising V M depth mode s
     cut-rises zero place t p = tt
     cut-rises (suc depth) place (leaf rows) p = tt
-    cut-rises (suc depth) place (inner ns b) p = children-rise depth (cut-rises depth) place 0 (opened_slots mode s ns b p)
+    cut-rises (suc depth) place (inner ns b) p = by_room Rise depth place ns b p tt (children-rise depth (cut-rises depth) place 0)

@@ -1,8 +1,7 @@
 -- No more children are planned than there are.
 use Rattle.std.proofs.Common.{◌≡◌, ◌≤◌, ◌<◌, ◌++◌, ℕ, suc, true, false, cond, nat_le, List, [], ◌∷◌, length, length-append, refl, ap, arith, ◌+◌}
 use Rattle.bt_node.specs.declared.shape.TheConstants.{LARGEST_FANOUT}
-use Rattle.bt_node.specs.Plans.{placed, planned, ranked, ranked_in, shortest, total, total_of}
-use Rattle.bt_node.proofs.offered.FlushSteps.{planned-over}
+use Rattle.bt_node.specs.Plans.{placed, planned, ranked, ranked_in, shortest, total_of}
 
 length-placed : (k : ℕ) (ns : List ℕ) → length (placed k ns) ≡ length ns
 length-placed k [] = refl
@@ -26,11 +25,12 @@ length-shortest capacity (x ∷ xs) = elim (nat_le (x.1 + total_of xs) capacity)
   | false ↦ omega (arith, length-shortest capacity xs)
 ]
 
-pub length-planned : (ns : List ℕ) (capacity : ℕ) → length (planned ns capacity) ≤ length ns
+length-planned : (ns : List ℕ) (capacity : ℕ) → length (planned ns capacity) ≤ length ns
 length-planned ns capacity =
     omega (arith, length-shortest capacity (ranked (placed 0 ns)), length-ranked (placed 0 ns), length-placed 0 ns)
 
--- while more than the capacity is pending, there is room for one more place
-pub room-left : (places rest counts : List ℕ) (capacity : ℕ) → places ++ planned rest capacity ≡ planned counts capacity → capacity < total rest → length counts ≤ LARGEST_FANOUT → length places < LARGEST_FANOUT
-room-left places rest counts capacity so_far over few =
-    omega (arith, ap length so_far, length-append places (planned rest capacity), ap length (planned-over rest capacity over), length-planned counts capacity, few)
+-- where one more place is planned, there is room for it
+pub room-left : (places left rest counts : List ℕ) (capacity place : ℕ) → places ++ planned left capacity ≡ planned counts capacity → planned left capacity ≡ place ∷ rest →
+    length counts ≤ LARGEST_FANOUT → length places < LARGEST_FANOUT
+room-left places left rest counts capacity place so_far next few =
+    omega (arith, ap length so_far, length-append places (planned left capacity), ap length next, length-planned counts capacity, few)

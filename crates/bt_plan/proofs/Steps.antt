@@ -6,7 +6,7 @@ use Rattle.bt_messages.specs.Bins.{each_with}
 use Rattle.bt_messages.specs.Parts.{parted, total}
 use Rattle.bt_node.specs.Messages.{Messages, with_messages}
 use Rattle.bt_node.specs.Trees.{Shape, Tree}
-use Rattle.bt_plan.specs.declared.job.Mode.{Mode}
+use Rattle.bt_node.specs.declared.mode.Mode.{Mode}
 use Rattle.bt_plan.specs.Cuts.{Job, child_place, cut_out}
 use Rattle.bt_plan.specs.Pieces.{Holed, Place, whole}
 use Rattle.bt_plan.specs.inside.Cutting.{AreSizedNodes, cut_each, kept_bins}

@@ -10,8 +10,8 @@ use Rattle.bt_node.specs.Flushes.{absorb}
 use Rattle.bt_node.specs.Drains.{drain}
 use Rattle.bt_node.specs.Messages.{Messages}
 use Rattle.bt_node.specs.Trees.{Shape, Siblings, Tree, leaf, inner, none, node}
-use Rattle.bt_plan.specs.declared.job.Mode.{Mode}
-use Rattle.bt_plan.specs.declared.job.Mode.TheVariants.{Absorb, Drain}
+use Rattle.bt_node.specs.declared.mode.Mode.{Mode}
+use Rattle.bt_node.specs.declared.mode.Mode.TheVariants.{Absorb, Drain}
 use Rattle.bt_plan.specs.Pieces.{Holed, Place, whole, hole, opened, childless, child, filled}
 use Rattle.bt_plan.specs.Cuts.{Job, all_done, cut}
 
@@ -162,7 +162,7 @@ first_child_splits = refl
 first_child_splits_filled : together four_leaves splitting 1 Absorb ≡ absorb effect shape four_leaves splitting
 first_child_splits_filled = refl
 
--- ---- a root that is a leaf is one job, and a root with nothing to flush makes none
+-- ---- a root that is a leaf is one job, and a root that has room for all messages stays whole
 
 leaf_job : cut 7 shape (two 1 10 2 20) (puts 3 30 ∷ []) 2 Absorb ≡ record {
   holed = hole_at [];
@@ -171,7 +171,10 @@ leaf_job : cut 7 shape (two 1 10 2 20) (puts 3 30 ∷ []) 2 Absorb ≡ record {
 leaf_job = refl
 
 no_job : cut 7 shape three_leaves (puts 1 11 ∷ []) 1 Absorb ≡ record {
-  holed = opened (child [] (whole (two 1 10 2 20)) (child (k 3) (whole (two 3 30 4 40)) (child (k 5) (whole (two 5 50 6 60)) childless))) (puts 1 11 ∷ []);
+  holed = whole (inner (node [] (two 1 10 2 20) (node (k 3) (two 3 30 4 40) (node (k 5) (two 5 50 6 60) none))) (puts 1 11 ∷ []));
   jobs = [];
 }
 no_job = refl
+
+no_job_filled : together three_leaves (puts 1 11 ∷ []) 1 Absorb ≡ absorb effect shape three_leaves (puts 1 11 ∷ [])
+no_job_filled = refl

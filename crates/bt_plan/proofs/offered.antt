@@ -1,3 +1,2 @@
 -- What the crates above may cite: statements over the definitions of this crate alone.
 pub mod Cuts
-pub mod KeptNodes

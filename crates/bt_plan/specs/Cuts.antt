@@ -1,15 +1,12 @@
 -- Cutting: the flushes of a tree are moved out of it as jobs.
-use Rattle.std.specs.Prelude.{ℕ, zero, suc, Bool, cond, true, List, [], ◌∷◌, ◌++◌, length, map, replicate}
+use Rattle.std.specs.Prelude.{ℕ, zero, suc, Bool, cond, List, [], ◌∷◌, ◌++◌, length, map}
 use Rattle.std.specs.List.{flat_map, zip}
 use Rattle.std.specs.declared.option.Option.{Option}
-use Rattle.bt_node.specs.Drains.{drain}
-use Rattle.bt_node.specs.Flushes.{Child, Flush, absorb, counts, shared}
+use Rattle.bt_node.specs.declared.mode.Mode.{Mode}
+use Rattle.bt_node.specs.Flushes.{Child, counts, flush_in, shared}
+use Rattle.bt_node.specs.Marks.{flush_marks, has_room}
 use Rattle.bt_node.specs.Messages.{Messages, with_messages}
-use Rattle.bt_node.specs.Plans.{planned}
 use Rattle.bt_node.specs.Trees.{Shape, Tree, leaf, inner, Siblings, children}
-use Rattle.bt_node.specs.Marks.{marks_of}
-use Rattle.bt_plan.specs.declared.job.Mode.{Mode}
-use Rattle.bt_plan.specs.declared.job.Mode.TheVariants.{Absorb, Drain}
 use Rattle.bt_plan.specs.Pieces.{Holed, Pieces, Place, whole, hole, opened, holed_nodes, holes, with_holes}
 
 -- a node that is moved out, with the messages for it
@@ -23,11 +20,6 @@ pub record Job (V M : Type 0) : Type 0 where
 abbrev pub hole_of : {V M : Type 0} → Job V M → Place
 hole_of job = job.place
 
--- what becomes of a node and a packet in a mode
-abbrev pub flush_in : {V M : Type 0} → (Option V → M → Option V) → Mode → Shape → Flush V M
-flush_in effect Absorb shape = absorb effect shape
-flush_in effect Drain shape = drain effect shape
-
 -- what becomes of a job's node and packet
 abbrev pub done : {V M : Type 0} → (Option V → M → Option V) → Shape → Job V M → Siblings V M
 done effect shape job = flush_in effect job.mode shape job.node job.packet
@@ -35,11 +27,6 @@ done effect shape job = flush_in effect job.mode shape job.node job.packet
 -- what becomes of jobs, by their places
 abbrev pub all_done : {V M : Type 0} → (Option V → M → Option V) → Shape → List (Job V M) → Pieces V M
 all_done effect shape = map (λ job. (job.place, done effect shape job))
-
--- for each child, whether it is flushed: as planned, or in any case
-abbrev pub flush_marks : Mode → ℕ → List ℕ → List Bool
-flush_marks Absorb capacity ns = marks_of (length ns) (planned ns capacity)
-flush_marks Drain capacity ns = replicate (length ns) true
 
 -- each item with its number, counted from k
 abbrev pub numbered : {X : Type 0} → ℕ → List X → List (ℕ × X)
@@ -54,17 +41,20 @@ child_place place i = record { tree = place.tree; path = place.path ++ i ∷ [] 
 abbrev pub left_pending : {V M : Type 0} → List (Child V M × Bool) → Messages M
 left_pending = flat_map (λ s. cond s.1 [] s.0.pending)
 
--- A node and a packet, so many levels above the cut: at the cut, or where the node is a leaf, it is moved out. Else its children are flushed as far as the
--- mode says: those are cut likewise with what is pending for them, and the others stay whole.
+-- A node and a packet, so many levels above the cut: at the cut, or where the node is a leaf, it is moved out. Else it stays whole, with all its messages, where
+-- its buffer has room for them and the mode lets them stay. Else its children are flushed as far as the mode says: those are cut likewise with what is pending for
+-- them, and the others stay whole.
 abbrev pub cut_out : {V M : Type 0} → ℕ → Mode → Shape → Place → Tree V M → Messages M → Holed V M (Job V M)
 cut_out zero mode shape place t packet = hole (record { place = place; node = t; packet = packet; mode = mode })
 cut_out (suc depth) mode shape place (leaf rows) packet = hole (record { place = place; node = leaf rows; packet = packet; mode = mode })
 cut_out (suc depth) mode shape place (inner ns buffer) packet =
-    let cs = shared (children ns) (with_messages packet buffer) in
+    let all = with_messages packet buffer in
+    let cs = shared (children ns) all in
     let ss = zip cs (flush_marks mode shape.buffer (counts cs)) in
-    opened
+    cond (has_room mode shape (length all)) (whole (inner ns all))
+    (opened
     (holed_nodes (map (λ s. (s.1.0.pivot, cond s.1.1 (cut_out depth mode shape (child_place place s.0) s.1.0.tree s.1.0.pending) (whole s.1.0.tree))) (numbered 0 ss)))
-    (left_pending ss)
+    (left_pending ss))
 
 -- the place of a root
 abbrev pub root_place : ℕ → Place

@@ -6,11 +6,12 @@ use Rattle.std.specs.declared.option.Option.{Option}
 use Rattle.std.specs.declared.option.Option.TheVariants.{None, Some}
 use Rattle.bt_keycode.specs.Keys.{AllWithin, Key}
 use Rattle.bt_node.specs.Fits.{NodeFits}
+use Rattle.bt_node.specs.Flushes.{flush_in}
 use Rattle.bt_node.specs.Messages.{Messages}
 use Rattle.bt_node.specs.Trees.{Shape, Tree}
-use Rattle.bt_plan.specs.Cuts.{Job, Pieced, done, flush_in, hole_of}
+use Rattle.bt_node.specs.declared.mode.Mode.{Mode}
+use Rattle.bt_plan.specs.Cuts.{Job, Pieced, done, hole_of}
 use Rattle.bt_plan.specs.Pieces.{Holed, HoledFits, Pieces, filled, holes, place_cmp, with_holes}
-use Rattle.bt_plan.specs.declared.job.Mode.{Mode}
 
 module _ {V M : Type 0} (shape : Shape) where
   -- a job's node, which has so many levels below it, and its packet, between the limits that the pivots around its hole set

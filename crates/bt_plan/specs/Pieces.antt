@@ -40,11 +40,6 @@ abbrev pub holed_nodes : {V M H : Type 0} → List (Key × Holed V M H) → Hole
 holed_nodes [] = childless
 holed_nodes (x ∷ xs) = child x.0 x.1 (holed_nodes xs)
 
--- children of a node to none of which anything goes down
-abbrev pub all_whole : {V M H : Type 0} → Siblings V M → List (Key × Holed V M H)
-all_whole [] = []
-all_whole (x ∷ xs) = (x.0, whole x.1) ∷ all_whole xs
-
 -- what the holes tell, from left to right
 abbrev mutual
   pub holes : {V M H : Type 0} → Holed V M H → List H

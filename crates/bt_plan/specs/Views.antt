@@ -3,14 +3,14 @@ use Rattle.std.specs.Prelude.{◌≡◌, ◌+◌, ℕ, List, length, map}
 use Rattle.bt_messages.specs.Bins.{LieBetween, joined}
 use Rattle.bt_messages.specs.declared.message.Message.{Message}
 use Rattle.bt_node.specs.Messages.{Messages}
-use Rattle.bt_node.specs.Trees.{Shape, Tree, behind, pivots_of}
+use Rattle.bt_node.specs.Trees.{Shape, Tree, behind}
+use Rattle.bt_node.specs.declared.mode.Mode.{Mode}
 use Rattle.bt_plan.specs.declared.holed.HoledParts.{HoledParts}
-use Rattle.bt_plan.specs.declared.holed.HoledParts.TheVariants.{Whole, Hole, Opened, Kept}
+use Rattle.bt_plan.specs.declared.holed.HoledParts.TheVariants.{Whole, Hole, Opened}
 use Rattle.bt_plan.specs.declared.job.Job as code
 use Rattle.bt_plan.specs.declared.job.Place as code_place
-use Rattle.bt_plan.specs.declared.job.Mode.{Mode}
 use Rattle.bt_plan.specs.Cuts.{Job, cut}
-use Rattle.bt_plan.specs.Pieces.{Holed, Place, whole, hole, opened, holed_nodes, all_whole}
+use Rattle.bt_plan.specs.Pieces.{Holed, Place, whole, hole, opened, holed_nodes}
 
 abbrev pub place_of : code_place.Place → Place
 place_of place = record { tree = place.tree; path = place.path.items }
@@ -23,15 +23,12 @@ abbrev pub holed_of : {V D : Type 0} → HoledParts V D → Holed V (Message V D
 holed_of (Whole node) = whole node
 holed_of (Hole place) = hole (place_of place)
 holed_of (Opened children pivots bins) = opened (holed_nodes (behind pivots.items children.items)) (joined bins)
-holed_of (Kept children bins) = opened (holed_nodes (all_whole children)) (joined bins)
 
--- An opened node has a pivot between each two children, and each child a bin, whose messages lie between the pivots around the child. So have the children of
--- one that is kept.
+-- An opened node has a pivot between each two children, and each child a bin, whose messages lie between the pivots around the child.
 abbrev pub IsDivided : {V D : Type 0} → HoledParts V D → Type 0
 IsDivided (Whole node) = Unit {0}
 IsDivided (Hole place) = Unit {0}
 IsDivided (Opened children pivots bins) = (length children.items ≡ length pivots.items + 1) × LieBetween pivots.items bins
-IsDivided (Kept children bins) = LieBetween (pivots_of children) bins
 
 -- a tree in pieces, with its shape, and jobs are those of a cut
 abbrev pub IsCut : {V D : Type 0} → Shape × Holed V (Message V D) Place → List (code.Job V D) → ℕ → Shape × Tree V (Message V D) → Messages (Message V D) → ℕ → Mode → Type 0

@@ -1,5 +1,5 @@
 //! How the flushes of a tree are moved out of it.
-ghost use Rattle.std.specs.Prelude.{◌≡◌, ◌≤◌, ◌<◌, ◌+◌, ◌++◌, ◌∷◌, [], IfOk, OnOk, cond, drop, length, map, replicate, suc, take, true};
+ghost use Rattle.std.specs.Prelude.{◌≡◌, ◌≤◌, ◌<◌, ◌+◌, ◌++◌, ◌∷◌, [], IfOk, OnOk, cond, drop, length, map, suc, take};
 ghost use Rattle.std.specs.List.{flat_map};
 ghost use Rattle.bt_messages.specs.Bins.{LieBetween, each_with, joined};
 ghost use Rattle.bt_messages.specs.Parts.{parted, total};
@@ -7,25 +7,20 @@ ghost use Rattle.bt_messages.specs.Effects.{effect_of};
 ghost use Rattle.bt_messages.specs.declared.message.Message.{Message};
 ghost use Rattle.bt_node.specs.Fits.{IsSized};
 ghost use Rattle.bt_node.specs.Messages.{with_messages};
-ghost use Rattle.bt_node.specs.Plans.{planned};
-ghost use Rattle.bt_node.specs.Marks.{marks_of};
 ghost use Rattle.bt_node.specs.Trees.{inner, nodes, pivots_of};
-ghost use Rattle.bt_plan.specs.Cuts.{cut, cut_out, flush_marks, hole_of};
+ghost use Rattle.bt_plan.specs.Cuts.{cut, cut_out, hole_of};
 ghost use Rattle.bt_plan.specs.Laws.{FillsUp, PlacesRise, StandInHoles};
-ghost use Rattle.bt_plan.specs.Pieces.{all_whole, holes, with_holes};
+ghost use Rattle.bt_plan.specs.Pieces.{holes, with_holes};
 ghost use Rattle.bt_plan.specs.Pieces as pieces;
 ghost use Rattle.bt_plan.specs.Views.{IsCut, job_of, place_of};
-ghost use Rattle.bt_plan.specs.declared.job.Mode.TheVariants.{Absorb};
 ghost use Rattle.bt_plan.specs.inside.Cutting.{AreSizedNodes, cut_each, cut_job, kept_bins, sent};
 ghost use Rattle.bt_plan.specs.inside.Entering.{entered_job};
 
 use crate::holed::{Holed, HoledNode};
-use crate::job::{Job, Mode, Place};
-use crate::planning::plan;
-use arrayvec::ArrayVec;
+use crate::job::{Job, Place};
 use bt_gang::DEEPEST_CUT;
 use bt_messages::{Bins, Buffer, Merge, Packet, Stream};
-use bt_node::{LARGEST_FANOUT, Node, Parts, Shape, Siblings, Tree};
+use bt_node::{LARGEST_FANOUT, Mode, Node, Opened, Parts, Shape, Siblings, Step, Tree, open};
 use std::alloc::{AllocError, Global};
 
 // A node that messages enter, with those that were pending for it.
@@ -35,61 +30,6 @@ struct Entered<V: Merge> {
     node: Node<V>,
     pending: Buffer<V>,
     mode: Mode,
-}
-
-// The same mark for so many children.
-fn same_marks(mark: bool, count: usize) -> ArrayVec<bool, LARGEST_FANOUT>
-    requires { count ≤ LARGEST_FANOUT }
-    ensures { result.items ≡ replicate count mark }
-{
-    let mut marks = ArrayVec::new();
-    for _ in 0..count {
-        marks.push(mark);
-    }
-    marks
-}
-
-// How many messages are pending for each child: those in its bin, and its share of those that come.
-fn loads<V: Merge>(
-    bins: &Bins<V>,
-    stream: &Stream<V>,
-    shares: &[usize],
-) -> ArrayVec<u64, LARGEST_FANOUT>
-    requires few { length bins.now ≤ LARGEST_FANOUT }
-    requires len { length shares.now ≡ length bins.now }
-    requires enough { total shares.now ≤ length stream.now }
-    ensures { result.items ≡ map length (each_with (parted shares.now stream.now) bins.now) }
-{
-    let _bound = stream.len();
-    let mut loads = ArrayVec::new();
-    for child in 0..shares.len() {
-        loads.push(bins.count(child) + shares[child] as u64);
-    }
-    loads
-}
-
-// Whether each child is planned.
-fn planned_marks(counts: &[u64], capacity: u64) -> ArrayVec<bool, LARGEST_FANOUT>
-    requires { length counts.now ≤ LARGEST_FANOUT }
-    ensures { result.items ≡ marks_of (length counts.now) (planned counts.now capacity) }
-{
-    let places = plan(counts, capacity);
-    let mut marks = same_marks(false, counts.len());
-    for place in places.as_slice() {
-        marks[*place as usize] = true;
-    }
-    marks
-}
-
-// Whether each child is flushed, where so many messages are pending for each.
-fn flush_marks(mode: Mode, shape: Shape, loads: &[u64]) -> ArrayVec<bool, LARGEST_FANOUT>
-    requires { length loads.now ≤ LARGEST_FANOUT }
-    ensures { result.items ≡ flush_marks mode shape.buffer loads.now }
-{
-    match mode {
-        Mode::Absorb => planned_marks(loads, shape.buffer() as u64),
-        Mode::Drain => same_marks(true, loads.len()),
-    }
 }
 
 // Messages and, after those of their key, the first ones of a stream, as a packet. Where there are none before these, whole runs of
@@ -218,7 +158,7 @@ fn cut_children<V: Merge>(
     mode: Mode,
     place: &Place,
     nodes: Vec<Node<V>>,
-    bins: Bins<V>,
+    buffers: Vec<Buffer<V>>,
     marks: &[bool],
     stream: &mut Stream<V>,
     shares: &[usize],
@@ -226,19 +166,19 @@ fn cut_children<V: Merge>(
 ) -> Result<(Vec<HoledNode<V>>, Bins<V>), AllocError>
     requires sized { AreSizedNodes shape nodes.items }
     requires few { length nodes.items ≤ LARGEST_FANOUT }
-    requires bins { length bins ≡ length nodes.items }
+    requires buffers { length buffers.items ≡ length nodes.items }
     requires marks { length marks.now ≡ length nodes.items }
     requires shares { length shares.now ≡ length nodes.items }
     requires enough { total shares.now ≤ length stream.old }
     requires path { length place.now.path.items + depth < DEEPEST_CUT }
-    ensures children { IfOk result (λ cut. cut.0.items ≡ map (with_holes hole_of) (cut_each depth mode shape (place_of place.now) 0 nodes.items (each_with (parted shares.now stream.old) bins) marks.now)) }
-    ensures bins { IfOk result (λ cut. cut.1 ≡ kept_bins (each_with (parted shares.now stream.old) bins) marks.now) }
-    ensures jobs { OnOk result (map job_of jobs.new.items ≡ map job_of jobs.old.items ++ flat_map holes (cut_each depth mode shape (place_of place.now) 0 nodes.items (each_with (parted shares.now stream.old) bins) marks.now)) }
+    ensures children { IfOk result (λ cut. cut.0.items ≡ map (with_holes hole_of) (cut_each depth mode shape (place_of place.now) 0 nodes.items (each_with (parted shares.now stream.old) buffers.items) marks.now)) }
+    ensures bins { IfOk result (λ cut. cut.1 ≡ kept_bins (each_with (parted shares.now stream.old) buffers.items) marks.now) }
+    ensures jobs { OnOk result (map job_of jobs.new.items ≡ map job_of jobs.old.items ++ flat_map holes (cut_each depth mode shape (place_of place.now) 0 nodes.items (each_with (parted shares.now stream.old) buffers.items) marks.now)) }
     ensures left { OnOk result (stream.new ≡ drop (total shares.now) stream.old) }
 {
     let mut children = Vec::with_capacity(alloc, nodes.len())?;
     let mut kept = Vec::with_capacity(alloc, nodes.len())?;
-    let mut buffers = bins.into_buffers().into_iter();
+    let mut buffers = buffers.into_iter();
     let mut number = 0;
     for node in nodes {
         let Some(pending) = buffers.next() else {
@@ -267,39 +207,10 @@ fn cut_children<V: Merge>(
     Ok((children, Bins::from_buffers(kept)))
 }
 
-// Whether no child is flushed, since there is room for so many messages more.
-fn has_room<V: Merge>(mode: Mode, shape: Shape, bins: &Bins<V>, count: usize) -> bool
-    ensures { result ≡ true → (mode ≡ Absorb) × (count + length (joined bins.now) ≤ shape.buffer) }
-{
-    let room = shape.buffer();
-    match mode {
-        Mode::Absorb => count <= room && bins.total() <= (room - count) as u128,
-        Mode::Drain => false,
-    }
-}
-
-// An inner node of which no child is flushed: what comes stays in the bins.
-fn keep_all<V: Merge>(
-    alloc: Global,
-    children: Siblings<V>,
-    bins: Bins<V>,
-    stream: &mut Stream<V>,
-    shares: &[usize],
-) -> Result<HoledNode<V>, AllocError>
-    requires len { length shares.now ≡ length bins }
-    requires enough { total shares.now ≤ length stream.old }
-    requires divided { LieBetween (pivots_of children) (each_with (parted shares.now stream.old) bins) }
-    ensures node { IfOk result (λ node. node ≡ pieces.opened (pieces.holed_nodes (all_whole children)) (joined (each_with (parted shares.now stream.old) bins))) }
-    ensures left { OnOk result (stream.new ≡ drop (total shares.now) stream.old) }
-{
-    let mut bins = bins;
-    bins.add_shares(alloc, stream, shares)?;
-    Ok(HoledNode::kept(children, bins))
-}
-
-// An inner node and the first messages of a stream: its children are cut one by one, so many levels above the cut.
+// What is left of an inner node and the first messages of a stream, so many levels above the cut: where messages go down from it, its children are cut one by
+// one.
 #[cycle(cuts)]
-fn open<V: Merge>(
+fn cut_inner<V: Merge>(
     alloc: Global,
     shape: Shape,
     depth: usize,
@@ -319,13 +230,16 @@ fn open<V: Merge>(
     ensures jobs { OnOk result (map job_of jobs.new.items ≡ map job_of jobs.old.items ++ holes (cut_out (suc depth) mode shape (place_of place.now) (inner (nodes children) (joined bins)) (take count stream.old))) }
     ensures left { OnOk result (stream.new ≡ drop count stream.old) }
 {
-    let shares = stream.shares(alloc, count, children.pivots())?;
-    if has_room(mode, shape, &bins, count) {
-        return keep_all(alloc, children, bins, stream, shares.as_slice());
-    }
-    let (nodes, pivots) = children.apart();
-    let loads = loads(&bins, stream, shares.as_slice());
-    let marks = flush_marks(mode, shape, loads.as_slice());
+    let opened = match open(alloc, shape, mode, children, bins, stream, count)? {
+        Step::Stays(node) => return Ok(HoledNode::whole(node)),
+        Step::Opens(opened) => opened,
+    };
+    let Opened {
+        children,
+        shares,
+        marks,
+    } = opened;
+    let (nodes, pivots, buffers) = children.apart();
     let (children, bins) = cut_children(
         alloc,
         shape,
@@ -333,7 +247,7 @@ fn open<V: Merge>(
         mode,
         place,
         nodes,
-        bins,
+        buffers,
         marks.as_slice(),
         stream,
         shares.as_slice(),
@@ -384,13 +298,13 @@ fn cut_node<V: Merge>(
         Parts::Inner { children, bins } => {
             let below = depth - 1;
             if pending.is_empty() {
-                return open(
+                return cut_inner(
                     alloc, shape, below, mode, &place, children, bins, stream, count, jobs,
                 );
             }
             let mut own = with_front(alloc, pending, stream, count)?;
             let count = own.len();
-            open(
+            cut_inner(
                 alloc, shape, below, mode, &place, children, bins, &mut own, count, jobs,
             )
         }

@@ -9,21 +9,19 @@
 //!                          [0]               [2]
 //! ```
 //!
-//! A node to which nothing went down is whole. Where a node was moved out, a hole tells its place. An inner node with holes below it is opened:
-//! it keeps its children, the pivots between them, and what is left in their bins. Where messages came to an inner node and none of its children was
-//! flushed, it is kept with all its children, and a contract sees an opened node whose children are whole. A contract sees the bins, one after the
+//! A node to which nothing went down, and one that has room for all that came to it, is whole. Where a node was moved out, a hole tells its place. An inner
+//! node with holes below it is opened: it keeps its children, the pivots between them, and what is left in their bins. A contract sees the bins, one after the
 //! other, as the node's buffer.
 ghost use Rattle.std.specs.Prelude.{◌≡◌, ◌+◌, length};
 ghost use Rattle.bt_messages.specs.Bins.{LieBetween, joined};
-ghost use Rattle.bt_node.specs.Trees.{behind, pivots_of};
+ghost use Rattle.bt_node.specs.Trees.{behind};
 ghost use Rattle.bt_plan.specs.Pieces as pieces;
-ghost use Rattle.bt_plan.specs.Pieces.{all_whole};
 ghost use Rattle.bt_plan.specs.Views.{IsDivided, holed_of, place_of};
 
 use crate::job::Place;
 use bt_keycode::Key;
 use bt_messages::{Bins, Merge};
-use bt_node::{Node, Shape, Siblings};
+use bt_node::{Node, Shape};
 use std::marker::Model;
 
 /// A node of a tree in pieces, with all that is below it. A contract sees the tree in pieces that it stands for.
@@ -45,11 +43,6 @@ pub enum HoledParts<V: Merge> {
     Opened {
         children: Vec<HoledNode<V>>,
         pivots: Vec<Key>,
-        bins: Bins<V>,
-    },
-    /// An inner node that stays, with all its children, and messages that came to it.
-    Kept {
-        children: Siblings<V>,
         bins: Bins<V>,
     },
 }
@@ -111,16 +104,6 @@ impl<V: Merge> HoledNode<V> {
                 pivots,
                 bins,
             },
-        }
-    }
-
-    /// An inner node that stays, with all its children, and messages that came to it.
-    pub(crate) fn kept(children: Siblings<V>, bins: Bins<V>) -> Self
-        requires { LieBetween (pivots_of children) bins }
-        ensures { result ≡ pieces.opened (pieces.holed_nodes (all_whole children)) (joined bins) }
-    {
-        HoledNode {
-            parts: HoledParts::Kept { children, bins },
         }
     }
 

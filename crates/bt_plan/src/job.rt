@@ -8,7 +8,7 @@ use crate::copies::copied;
 use arrayvec::ArrayVec;
 use bt_gang::DEEPEST_CUT;
 use bt_messages::{Merge, Packet};
-use bt_node::Node;
+use bt_node::{Mode, Node};
 use std::cmp::Ordering;
 
 /// Where a node stands: the number of its tree, and the numbers of the children on the way to it from the root, before any change.
@@ -56,13 +56,6 @@ impl Place {
         place.path.push(number);
         place
     }
-}
-
-/// How far messages go down: to the first buffer that has room for them, or all to the leaves.
-#[derive(Clone, Copy)]
-pub enum Mode {
-    Absorb,
-    Drain,
 }
 
 /// A node that is moved out of a tree, with the messages for it.

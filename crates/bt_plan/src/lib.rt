@@ -10,7 +10,8 @@ mod holed;
 mod job;
 mod planning;
 
+pub use bt_node::Mode;
 pub use cutting::cut;
 pub use holed::{Holed, HoledNode, HoledParts};
-pub use job::{Job, Mode, Place};
+pub use job::{Job, Place};
 pub use planning::plan;

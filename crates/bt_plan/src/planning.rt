@@ -6,23 +6,7 @@ ghost use Rattle.bt_node.specs.Plans.{planned, renewed, total};
 
 use crate::copies::copied;
 use arrayvec::ArrayVec;
-use bt_node::{LARGEST_FANOUT, fullest_place, sum_of};
-
-// The places in turn: the fullest child is emptied, until no more are left than the capacity.
-fn choose(rest: &mut [u64], capacity: u64) -> ArrayVec<u16, LARGEST_FANOUT>
-    requires { length rest.old ≤ LARGEST_FANOUT }
-    ensures { result.items ≡ planned rest.old capacity }
-{
-    let mut places = ArrayVec::new();
-    let mut left = sum_of(rest);
-    while left > u128::from(capacity) {
-        let place = fullest_place(rest);
-        left -= u128::from(rest[place]);
-        rest[place] = 0;
-        places.push(place as u16);
-    }
-    places
-}
+use bt_node::{LARGEST_FANOUT, next_planned, sum_of};
 
 /// The places of the children to flush, where this many messages are pending for each: the fullest first, of equally full ones the
 /// leftmost, and no more of them than it takes until at most the capacity is pending for the others.
@@ -32,5 +16,10 @@ pub fn plan(counts: &[u64], capacity: u64) -> ArrayVec<u16, LARGEST_FANOUT>
     ensures renewed { result.items ≡ renewed capacity (total counts.now) counts.now }
 {
     let mut rest: ArrayVec<u64, LARGEST_FANOUT> = copied(counts);
-    choose(rest.as_mut_slice(), capacity)
+    let mut left = sum_of(counts);
+    let mut places = ArrayVec::new();
+    while let Some(place) = next_planned(rest.as_mut_slice(), &mut left, capacity) {
+        places.push(place as u16);
+    }
+    places
 }

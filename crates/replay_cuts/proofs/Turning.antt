@@ -18,9 +18,9 @@ use Rattle.bt_messages.specs.declared.message.Message.{Message}
 use Rattle.bt_node.specs.Fits.{IsInOrder, IsRoomy}
 use Rattle.bt_node.specs.Messages.{Messages}
 use Rattle.bt_node.specs.Trees.{Shape, Siblings, Tree}
+use Rattle.bt_node.specs.declared.mode.Mode.{Mode}
 use Rattle.bt_plan.proofs.offered.Cuts.{Answers, jobs-in_order}
 use Rattle.bt_plan.specs.Cuts.{Job, Pieced, all_done, cut, done}
-use Rattle.bt_plan.specs.declared.job.Mode.{Mode}
 use Rattle.bt_plan.specs.Laws.{PlacesRise, StandInHoles}
 use Rattle.bt_plan.specs.Pieces.{Holed, Pieces, Place, place_cmp}
 use Rattle.bt_plan.specs.Views.{IsCut, job_of, place_of}

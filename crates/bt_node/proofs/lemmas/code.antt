@@ -1,10 +1,9 @@
 -- What the code makes is what the definitions say: one file for the steps of one loop or type.
-pub mod AbsorbStep
 pub mod ChildBounds
+pub mod ChildLists
 pub mod ChoiceLoop
 pub mod CrownLoop
 pub mod DealLoop
-pub mod DrainStep
 pub mod FirstChild
 pub mod FlushLoop
 pub mod GroupLoops
@@ -12,14 +11,14 @@ pub mod LoadLoop
 pub mod LeafPass
 pub mod LentMessages
 pub mod LookupPath
-pub mod Marks
+pub mod OpeningStep
 pub mod PivotSearch
 pub mod PortionSteps
+pub mod Results
 pub mod RowPass
 pub mod RowSearch
 pub mod RowsLimited
 pub mod RowsOfChildren
 pub mod RowsShown
-pub mod ShareLoop
 pub mod SiblingParts
 pub mod Together

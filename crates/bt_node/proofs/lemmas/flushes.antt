@@ -1,7 +1,6 @@
 -- What becomes of a node and a packet: order, sizes, height and rows.
 pub mod Children
 pub mod Divisions
-pub mod DrainLaws
 pub mod Drains
 pub mod EmptyPackets
 pub mod Groups

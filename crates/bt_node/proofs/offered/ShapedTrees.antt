@@ -7,6 +7,7 @@ use Rattle.bt_keycode.specs.Keys.{key_cmp}
 use Rattle.bt_node.specs.Messages.{Messages, rows_after}
 use Rattle.bt_node.specs.Laws.{FitThere}
 use Rattle.bt_node.specs.Trees.{Shape, Tree, Siblings, inner, nodes}
+use Rattle.bt_node.specs.declared.mode.Mode.TheVariants.{Absorb}
 use Rattle.bt_node.proofs.lemmas.crowns.CrownedRows.{crown-fits, crown-holds}
 use Rattle.bt_node.proofs.lemmas.flushes.Groups.{children-nodes}
 use Rattle.bt_node.proofs.lemmas.flushes.Laws.{anywhere, fit_there, hold_rows_after}
@@ -31,7 +32,7 @@ module _ {V M : Type 0} (effect : Option V → M → Option V) (shape : Shape) (
 
   module _ (packet : Messages M) where
     absorbed-fit : SiblingsFit shape has.levels None None (absorb effect shape t packet)
-    absorbed-fit = fit_there effect shape has.roomy t packet _ refl has.levels None None has.fits (anywhere packet)
+    absorbed-fit = fit_there effect Absorb shape has.roomy t packet _ refl has.levels None None has.fits (anywhere packet)
 
     -- a tree after a packet fits
     pub sunk-has_shape : HasShape shape (sunk effect shape t packet)
@@ -43,7 +44,7 @@ module _ {V M : Type 0} (effect : Option V → M → Option V) (shape : Shape) (
     pub sunk-holds : holds effect (sunk effect shape t packet) ≡ rows_after effect packet (holds effect t)
     sunk-holds =
         crown-holds shape has.roomy effect has.levels None None _ absorbed-fit
-        ∙ hold_rows_after effect shape has.roomy t packet _ refl has.levels None None has.fits (anywhere packet)
+        ∙ hold_rows_after effect Absorb shape has.roomy t packet _ refl has.levels None None has.fits (anywhere packet)
 
 -- siblings that fit where a whole tree fits, fit as those of a whole tree
 pub whole-fit : {V M : Type 0} (shape : Shape) (t : Tree V M) (has : HasShape shape t) (packet : Messages M) (xs : Siblings V M) →

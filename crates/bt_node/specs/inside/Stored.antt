@@ -7,6 +7,7 @@ use Rattle.std.proofs.Common.{ap, ◌∙◌, inl, inr}
 use Rattle.bt_messages.specs.declared.message.Message.{Message}
 use Rattle.bt_messages.specs.declared.message.Message.TheVariants.{Put, Del, Ups}
 use Rattle.bt_keycode.specs.Keys.{Key}
+use Rattle.bt_node.specs.Flushes.{Child}
 use Rattle.bt_node.specs.Messages.{Rows, Messages}
 use Rattle.bt_node.specs.Portions.{Portion}
 use Rattle.bt_node.specs.Trees.{Shape, Tree, leaf, inner, Nodes, none, node}
@@ -66,6 +67,13 @@ module _ {V M : Type 0} where
   abbrev pub tree_code : Coded V → Coded M → Coded (Tree V M)
   tree_code value message =
       code_by (List (Token V M)) (coded_list (token_code value message)) tree_tokens (λ xs. first_tree (nodes_of xs)) first_tree-tree_tokens
+
+-- a child is stored as its pivot, its tree and what is pending for it
+abbrev pub child_code : {V M : Type 0} → Coded V → Coded M → Coded (Child V M)
+child_code {V} {M} value message =
+    code_by (Key × (Tree V M × Messages M))
+    (coded× (coded_list coded_ℕ) (coded× (tree_code value message) (coded_list (coded× (coded_list coded_ℕ) message))))
+    (λ c. (c.pivot, (c.tree, c.pending))) (λ p. record { pivot = p.0; tree = p.1.0; pending = p.1.1 }) (λ _. refl)
 
 -- a message to a key is stored as what it carries, if it carries something
 module _ {V D : Type 0} where

@@ -7,12 +7,12 @@ use Rattle.std.specs.declared.option.Option.{Option}
 use Rattle.std.specs.declared.option.Option.TheVariants.{None, Some}
 use Rattle.bt_keycode.specs.Keys.{Key}
 use Rattle.bt_node.specs.Fits.{HasShape, IsInOrder, IsRoomy, SiblingsFit}
+use Rattle.bt_node.specs.Flushes.{flush_in}
 use Rattle.bt_node.specs.Messages.{Messages}
 use Rattle.bt_node.specs.Trees.{Shape, Siblings, Tree}
-use Rattle.bt_node.proofs.offered.FlushSteps.{anywhere, drain_fits_there, fit_there}
-use Rattle.bt_plan.specs.declared.job.Mode.{Mode}
-use Rattle.bt_plan.specs.declared.job.Mode.TheVariants.{Absorb, Drain}
-use Rattle.bt_plan.specs.Cuts.{Job, Pieced, all_done, cut, cut_out, done, flush_in, hole_of, root_place}
+use Rattle.bt_node.specs.declared.mode.Mode.{Mode}
+use Rattle.bt_node.proofs.offered.FlushSteps.{anywhere, fit_there}
+use Rattle.bt_plan.specs.Cuts.{Job, Pieced, all_done, cut, cut_out, done, hole_of, root_place}
 use Rattle.bt_plan.specs.Laws.{FillsUp, JobFits, PlacesRise, StandInHoles}
 use Rattle.bt_plan.specs.Pieces.{FitsHole, HoledFits, Pieces, filled, holes, place_cmp}
 use Rattle.bt_plan.proofs.Filling.{cut-filled}
@@ -21,7 +21,7 @@ use Rattle.bt_plan.proofs.Found.{all-stand, filled-standing}
 use Rattle.bt_plan.proofs.Holes.{Somewhere, each-asked, told-fits}
 use Rattle.bt_plan.proofs.Places.{cut-rises}
 -- children side by side, and what is pending for them
-pub use Rattle.bt_plan.proofs.Marks.{all_pending-none, lies-divided, stripped-none}
+pub use Rattle.bt_plan.proofs.Passes.{all_pending-none, lies-divides, stripped-none}
 -- what becomes of jobs at rising places stands at these
 pub use Rattle.bt_plan.proofs.Found.{all-stand}
 -- trees in pieces whose holes tell something else
@@ -49,7 +49,7 @@ module _ {V M : Type 0} (effect : Option V → M → Option V) (number : ℕ) (s
   cut-fills_up pieces all =
       filled-standing effect shape pieces (cut_out depth mode shape (root_place number) root packet) all
       ∙ cut-filled effect shape (omega (arith, has.roomy.leaf)) (omega (arith, has.roomy.fanout)) mode depth has.levels (root_place number) None None root packet
-      has.fits.lies (anywhere packet)
+      has.fits.lies has.fits.sized (anywhere packet)
 
   -- so the jobs, each run, and filled in
   pub cut-done : filled shape (cut number shape root packet depth mode).holed (all_done effect shape (cut number shape root packet depth mode).jobs) ≡ flush_in effect mode shape root packet
@@ -62,11 +62,7 @@ Answers {V} {M} effect shape pieces job = (xs : Siblings V M) → find place_cmp
 module _ {V M : Type 0} (effect : Option V → M → Option V) (shape : Shape) (roomy : IsRoomy shape) where
   -- what becomes of a job fits its hole
   done-fits : (job : Job V M) (levels : ℕ) (low high : Option Key) → JobFits shape levels low high job → SiblingsFit shape levels low high (done effect shape job)
-  done-fits job levels low high fits = go job.mode
-    where
-      go : (mode : Mode) → SiblingsFit shape levels low high (flush_in effect mode shape job.node job.packet)
-      go Absorb = fit_there effect shape roomy job.node job.packet _ refl levels low high fits.0 fits.1
-      go Drain = drain_fits_there effect shape job.node job.packet _ refl roomy levels low high fits.0 fits.1
+  done-fits job levels low high fits = fit_there effect job.mode shape roomy job.node job.packet _ refl levels low high fits.0 fits.1
 
   each-fits : (pieces : Pieces V M) (jobs : List (Job V M)) → Each (Answers effect shape pieces) jobs →
       Each (λ job. (levels : ℕ) (low high : Option Key) → JobFits shape levels low high job → FitsHole shape pieces levels low high (hole_of job)) jobs

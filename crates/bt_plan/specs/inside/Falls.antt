@@ -6,10 +6,9 @@ use denote.Param.Weighed.{most}
 use Rattle.bt_keycode.specs.Keys.{Key}
 use Rattle.bt_messages.specs.declared.message.Merge.{Ghosts}
 use Rattle.bt_plan.specs.declared.holed.HoledParts.{HoledParts}
-use Rattle.bt_plan.specs.declared.holed.HoledParts.TheVariants.{Whole, Hole, Opened, Kept}
+use Rattle.bt_plan.specs.declared.holed.HoledParts.TheVariants.{Whole, Hole, Opened}
 use Rattle.bt_plan.specs.declared.holed.HoledNode.TheDeep.{deep-HoledParts}
-use Rattle.bt_node.specs.Trees.{Siblings, height_below, nodes}
-use Rattle.bt_plan.specs.Pieces.{Holed, Place, all_whole, holed_nodes}
+use Rattle.bt_plan.specs.Pieces.{Holed, holed_nodes}
 use Rattle.bt_plan.specs.inside.DepthBounds.{depth_bound, depth_bound_below}
 use Rattle.bt_plan.specs.Views.{IsDivided, holed_of}
 
@@ -19,12 +18,7 @@ zipped [] (h ∷ hs) few = absurd (omega (arith, few))
 zipped (k ∷ ks) [] few = omega arith
 zipped (k ∷ ks) (h ∷ hs) few = omega (arith, zipped ks hs (omega (arith, few)))
 
-no_higher : {V M : Type 0} (H : Type 0) (xs : Siblings V M) → 2 * height_below (nodes xs) ≤ depth_bound_below {H = H} (holed_nodes (all_whole xs))
-no_higher H [] = omega arith
-no_higher H (x ∷ xs) = omega (arith, no_higher H xs)
-
 pub below_node : {V D : Type 0} (merge : Ghosts V D) (p : HoledParts V D) → IsDivided p → max (deep-HoledParts V D merge p) 0 ≤ depth_bound (holed_of p)
 below_node merge (Whole node) divided = omega arith
 below_node merge (Hole place) divided = omega arith
 below_node merge (Opened children pivots bins) divided = omega (arith, zipped ([] ∷ pivots.items) children.items (omega (arith, divided.0)))
-below_node merge (Kept children bins) divided = omega (arith, no_higher Place children)

@@ -1,8 +1,8 @@
 use Rattle.std.proofs.Common.{◌≡◌, ◌≤◌, ◌∷◌, ◌++◌, ◌∙◌, [], ap, arith, length, map, subst, sym}
+use Rattle.std.proofs.lemmas.Result.{IfOk-weaker}
 use Rattle.std.proofs.lemmas.List.{nil_from_length}
 use Rattle.bt_messages.specs.declared.message.Message.{Message}
 use Rattle.bt_node.specs.Deals.{deal}
-use Rattle.bt_node.proofs.lemmas.code.AbsorbStep.{if_ok}
 use Rattle.bt_node.proofs.lemmas.code.GroupLoops.{leaves_done, more_leaves, one_leaf}
 use Rattle.bt_node.proofs.lemmas.deals.Parts.{NonEmpty}
 use Rattle.bt_node.proofs.lemmas.flushes.Groups.{as_leaf, deal-some}
@@ -12,7 +12,7 @@ pub returns-then-len-most : goal.returns-then-len-most
 returns-then-len-most g c =
     let some : 1 ≤ c.args.shape.leaf = omega (arith, c.leaf-most.ensures.value, c.leaf-most.ensures.range.0) in
     let few : length c.args.rows ≤ c.args.shape.leaf = omega (arith, c.if-len-most.true, c.len.ensures, c.leaf-most.ensures.value) in
-    if_ok _ _ c.with_capacity.result (λ siblings e. e ∙ ap (λ t. ([], t) ∷ []) c.leaf.ensures ∙ sym (one_leaf c.args.shape c.args.rows some few)) c.with_capacity.ensures
+    IfOk-weaker c.with_capacity.result _ _ (λ siblings e. e ∙ ap (λ t. ([], t) ∷ []) c.leaf.ensures ∙ sym (one_leaf c.args.shape c.args.rows some few)) c.with_capacity.ensures
 
 pub unreachable-requires : goal.unreachable-requires
 unreachable-requires g c =

@@ -1,5 +1,5 @@
 -- One pass that deals items.
-use Rattle.std.proofs.Common.{◌≡◌, ◌∙◌, ℕ, zero, suc, ◌+◌, ◌-◌, ◌<◌, ◌%◌, ◌/◌, List, [], ◌∷◌, ◌++◌, length, take, drop, ap, sym, max, min, append_assoc, append-nil, ◌*◌, arith}
+use Rattle.std.proofs.Common.{◌≡◌, ◌∙◌, ℕ, zero, suc, ◌+◌, ◌-◌, ◌<◌, ◌≤◌, ◌%◌, ◌/◌, List, [], ◌∷◌, ◌++◌, length, take, drop, ap, sym, max, min, append_assoc, append-nil, ◌*◌, arith}
 use Rattle.std.proofs.Math.Seq.{drop-length, drop-nil, take-nil}
 use Rattle.std.proofs.lemmas.List.{nil_from_length}
 use Rattle.std.specs.Int.{div_ceil}
@@ -26,6 +26,13 @@ module _ {X : Type 0} where
   item_passed k n rest next all x l e h =
       let one : k - n ≡ suc (k - (n + 1)) = omega arith in
       sym (ap (λ i. drop i (x ∷ next)) one) ∙ sym (ap (drop (k - n)) e) ∙ h
+
+  -- all of one part are moved
+  pub all_moved : (k n : ℕ) (part rest all : List X) → k ≤ n → part ++ take (k - n) rest ≡ all → part ≡ all
+  all_moved k n part rest all l h = let none : k - n ≡ 0 = omega arith in sym (append-nil part) ∙ sym (ap (λ i. part ++ take i rest) none) ∙ h
+
+  pub all_passed : (k n : ℕ) (rest all : List X) → k ≤ n → drop (k - n) rest ≡ all → rest ≡ all
+  all_passed k n rest all l h = let none : k - n ≡ 0 = omega arith in sym (ap (λ i. drop i rest) none) ∙ h
 
   -- a step of the pass over all parts
   pub part_dealt : (p n : ℕ) (sizes : List ℕ) (parts more wanted : List (List X)) (rest next xs : List X) → drop p sizes ≡ n ∷ drop (p + 1) sizes → xs ≡ take n rest → next ≡ drop n rest →

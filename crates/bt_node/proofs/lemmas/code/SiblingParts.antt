@@ -15,18 +15,18 @@ use Rattle.bt_messages.specs.declared.message.Message.{Message}
 use Rattle.bt_node.proofs.lemmas.flushes.Groups.{children-nodes}
 
 module _ {X : Type 0} where
-  zip-items : (ks : List Key) (xs : List X) → length xs ≤ length ks → map (λ x. x.1) (zip ks xs) ≡ xs
+  pub zip-items : (ks : List Key) (xs : List X) → length xs ≤ length ks → map (λ x. x.1) (zip ks xs) ≡ xs
   zip-items [] [] few = refl
   zip-items [] (x ∷ xs) few = absurd (omega (arith, few))
   zip-items (k ∷ ks) [] few = refl
   zip-items (k ∷ ks) (x ∷ xs) few = ap (λ z. x ∷ z) (zip-items ks xs (omega (arith, few)))
 
-  zip-keys : (ks : List Key) (xs : List X) → length xs ≡ length ks → map (λ x. x.0) (zip ks xs) ≡ ks
+  pub zip-keys : (ks : List Key) (xs : List X) → length xs ≡ length ks → map (λ x. x.0) (zip ks xs) ≡ ks
   zip-keys [] xs same = refl
   zip-keys (k ∷ ks) [] same = absurd (omega (arith, same))
   zip-keys (k ∷ ks) (x ∷ xs) same = ap (λ z. k ∷ z) (zip-keys ks xs (omega (arith, same)))
 
-  zip-length : (ks : List Key) (xs : List X) → length xs ≤ length ks → length (zip ks xs) ≡ length xs
+  pub zip-length : (ks : List Key) (xs : List X) → length xs ≤ length ks → length (zip ks xs) ≡ length xs
   zip-length [] [] few = refl
   zip-length [] (x ∷ xs) few = absurd (omega (arith, few))
   zip-length (k ∷ ks) [] few = refl

@@ -38,7 +38,7 @@ total-even n k l =
 pub total-sizes : (n m : ℕ) → total (sizes n m) ≡ n
 total-sizes n m = total-even n _ (omega arith)
 
-abbrev AllPositive : List ℕ → Type 0
+abbrev pub AllPositive : List ℕ → Type 0
 AllPositive [] = Unit {0}
 AllPositive (n ∷ ns) = (0 < n) × AllPositive ns
 
@@ -54,16 +54,19 @@ some_each : (k q r n : ℕ) → k * q + r ≡ n → r < k → k ≤ n → 0 < q
 some_each k zero r n e l h = absurd (omega arith)
 some_each k (suc q) r n e l h = omega arith
 
+pub positive-even : (n k : ℕ) → 0 < k → k ≤ n → AllPositive (even n k)
+positive-even n k l few =
+    let some : 0 < n / k = some_each k (n / k) (n % k) n (omega arith) (omega arith) few in
+    positive-append (replicate (n % k) (n / k + 1)) (replicate (k - n % k) (n / k)) (positive-replicate _ _ (omega arith)) (positive-replicate _ _ some)
+
 few_parts : (n m a b : ℕ) → suc m * a + b ≡ n → 0 < n → a + min 1 b ≤ n
 few_parts n m a b e l = omega arith
 
 pub positive-sizes : (n m : ℕ) → 0 < n → 0 < m → AllPositive (sizes n m)
 positive-sizes n zero l h = absurd (omega arith)
 positive-sizes n (suc m) l h =
-    let k = max 1 (div_ceil n (suc m)) in
-    let few : k ≤ n = omega (arith, few_parts n m (n / suc m) (n % suc m) (omega arith) l) in
-    let some : 0 < n / k = some_each k (n / k) (n % k) n (omega arith) (omega arith) few in
-    positive-append (replicate (n % k) (n / k + 1)) (replicate (k - n % k) (n / k)) (positive-replicate _ _ (omega arith)) (positive-replicate _ _ some)
+    let few : max 1 (div_ceil n (suc m)) ≤ n = omega (arith, few_parts n m (n / suc m) (n % suc m) (omega arith) l) in
+    positive-even n (max 1 (div_ceil n (suc m))) (omega arith) few
 
 pub joined-parted : {X : Type 0} (ns : List ℕ) (xs : List X) → total ns ≡ length xs → joined (parted ns xs) ≡ xs
 joined-parted [] [] e = refl

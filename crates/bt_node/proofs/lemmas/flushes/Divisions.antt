@@ -1,20 +1,23 @@
 -- Children beside their bins, and with their shares of the messages that come: what is pending for each of them.
-use Rattle.std.proofs.Common.{◌≡◌, ◌+◌, ◌≤◌, ℕ, zero, suc, List, [], ◌∷◌, ◌++◌, drop, length, map, take, refl, sym, ap, subst, ◌∙◌, arith}
-use Rattle.std.proofs.lemmas.List.{length-drop, length-map}
+use Rattle.std.proofs.Common.{◌≡◌, ◌≤◌, ℕ, zero, suc, List, [], ◌∷◌, ◌++◌, drop, length, map, take, refl, sym, ap, subst, ◌∙◌, arith}
+use Rattle.std.proofs.lemmas.List.{length-map}
 use Rattle.std.specs.declared.option.Option.{Option}
-use Rattle.std.specs.declared.option.Option.TheVariants.{Some}
+use Rattle.std.specs.declared.option.Option.TheVariants.{None, Some}
 use Rattle.bt_keycode.specs.Keys.{AllFrom, AllWithin, IsSorted, Key}
 use Rattle.bt_messages.specs.Bins.{AllBefore, LieBetween, each_with, joined, parts}
 use Rattle.bt_messages.specs.Parts.{parted}
-use Rattle.bt_messages.proofs.offered.Parts.{added_is, length-with_messages, lie_length, parts-joined}
+use Rattle.bt_messages.proofs.offered.Parts.{added_is, lie_length, parts-joined}
 use Rattle.bt_node.specs.Fits.{SiblingsLie}
 use Rattle.bt_node.specs.Flushes.{Child, counts, shared}
 use Rattle.bt_node.specs.Messages.{Messages, before, from, with_messages}
-use Rattle.bt_node.specs.Plans.{total}
-use Rattle.bt_node.specs.Trees.{Siblings, Tree, pivots_of}
-use Rattle.bt_node.specs.inside.Shares.{AreDivided, AreInOrder, beside, loaded, sums}
+use Rattle.bt_node.specs.Trees.{Siblings, Tree, inner, nodes, pivots_of}
+use Rattle.bt_node.specs.Children.{AreDivided, beside}
+use Rattle.bt_node.specs.inside.Flushing.{AreReady, IsReady, loaded}
+use Rattle.bt_node.specs.declared.mode.Mode.{Mode}
+use Rattle.bt_node.specs.declared.mode.Mode.TheVariants.{Absorb, Drain}
 use Rattle.bt_node.proofs.lemmas.flushes.Children.{ChildrenLie, all_pending}
 use Rattle.bt_node.proofs.lemmas.flushes.Groups.{all_pending-within, stripped}
+use Rattle.bt_node.proofs.lemmas.flushes.Widest.{siblings_widest}
 use Rattle.bt_node.proofs.lemmas.keys.SortedLists.{from-back, from-joined, from-prefix}
 
 pub length-first : {X : Type 0} (n : ℕ) (xs : List X) → n ≤ length xs → length (take n xs) ≡ n
@@ -29,6 +32,13 @@ within-before low k (m ∷ ms) w = (w.0.below, within-before low k ms w.1)
 within-from : {M : Type 0} (k : Key) (high : Option Key) (ms : Messages M) → AllWithin (Some k) high ms → AllFrom k ms
 within-from k high [] w = tt
 within-from k high (m ∷ ms) w = (w.0.from, within-from k high ms w.1)
+
+-- as many bins with their shares as without
+pub each-long : {M : Type 0} (ns : List ℕ) (ms : Messages M) (bs : List (Messages M)) → length ns ≡ length bs → length (each_with (parted ns ms) bs) ≡ length bs
+each-long [] ms [] e = refl
+each-long [] ms (b ∷ bs) e = absurd (omega (arith, e))
+each-long (n ∷ ns) ms [] e = absurd (omega (arith, e))
+each-long (n ∷ ns) ms (b ∷ bs) e = omega (arith, each-long ns (drop n ms) bs (omega (arith, e)))
 
 module _ {V M : Type 0} where
   -- a buffer that is divided at the pivots is pending for the children as it is shared
@@ -79,20 +89,25 @@ module _ {V M : Type 0} where
   counts-beside (x ∷ xs) [] e = absurd (omega (arith, e))
   counts-beside (x ∷ xs) (b ∷ bs) e = ap (λ ns. length b ∷ ns) (counts-beside xs bs (omega (arith, e)))
 
-  -- what is pending is counted without the messages
-  counts-loaded : (cs : List (Child V M)) (ns : List ℕ) (ms : Messages M) → total ns ≤ length ms → sums (counts cs) ns ≡ counts (loaded cs ns ms)
-  counts-loaded [] ns ms few = refl
-  counts-loaded (c ∷ cs) [] ms few = refl
-  counts-loaded (c ∷ cs) (n ∷ ns) ms few =
-      let one : length c.pending + n ≡ length (with_messages (take n ms) c.pending) =
-      omega (arith, length-with_messages (take n ms) c.pending, length-first n ms (omega (arith, few))) in
-      ap (λ k. k ∷ sums (counts cs) ns) one
-      ∙ ap (λ z. length (with_messages (take n ms) c.pending) ∷ z) (counts-loaded cs ns (drop n ms) (omega (arith, few, length-drop n ms)))
+  -- a share for each of siblings
+  pub shares-length : (xs : Siblings V M) (ns : List ℕ) (ms packet : Messages M) → 1 ≤ length xs → parted ns ms ≡ parts (pivots_of xs) packet → length ns ≡ length xs
+  shares-length [] ns ms packet some sizes = absurd (omega (arith, some))
+  shares-length (x ∷ xs) ns ms packet some sizes = omega (arith, parted-long ns ms, ap length sizes, parts-long (pivots_of (x ∷ xs)) packet, length-map xs (λ (y : Key × Tree V M). y.0))
+    where
+      parted-long : (ns : List ℕ) (ms : Messages M) → length (parted ns ms) ≡ length ns
+      parted-long [] ms = refl
+      parted-long (n ∷ ns) ms = ap suc (parted-long ns (drop n ms))
 
-  -- what bins and shares count is what is pending for the children
-  pub counts-bins : (xs : Siblings V M) (bs : List (Messages M)) (ns : List ℕ) (ms : Messages M) → length bs ≡ length xs → total ns ≤ length ms →
-      sums (map length bs) ns ≡ counts (loaded (beside xs bs) ns ms)
-  counts-bins xs bs ns ms e few = ap (λ ks. sums ks ns) (sym (counts-beside xs bs e)) ∙ counts-loaded (beside xs bs) ns ms few
+      parts-long : (ks : List Key) (ms : Messages M) → length (parts ks ms) ≡ suc (length ks)
+      parts-long [] ms = refl
+      parts-long (k ∷ ks) ms = ap suc (parts-long ks (from k ms))
+
+  -- bins with their shares have what is pending for the children
+  pub loads-are : (xs : Siblings V M) (bs : List (Messages M)) (ns : List ℕ) (ms packet : Messages M) → LieBetween (pivots_of xs) bs → parted ns ms ≡ parts (pivots_of xs) packet →
+      length bs ≡ length xs → length ns ≡ length bs → map length (each_with (parted ns ms) bs) ≡ counts (shared xs (with_messages packet (joined bs)))
+  loads-are xs bs ns ms packet h sizes e few =
+      sym (counts-beside xs (each_with (parted ns ms) bs) (omega (arith, each-long ns ms bs few, e)))
+      ∙ ap counts (sym (loaded-beside xs bs ns ms) ∙ loaded-shared xs bs ns ms packet h sizes)
 
   pub length-loaded : (cs : List (Child V M)) (ns : List ℕ) (ms : Messages M) → length ns ≡ length cs → length (loaded cs ns ms) ≡ length cs
   length-loaded [] ns ms e = refl
@@ -102,11 +117,21 @@ module _ {V M : Type 0} where
   -- ---- order
 
   -- siblings in their places are in order
-  pub beside-in_order : (levels : ℕ) (low high : Option Key) (xs : Siblings V M) (bs : List (Messages M)) → SiblingsLie levels low high xs → AreInOrder (beside xs bs)
+  beside-in_order : (levels : ℕ) (low high : Option Key) (xs : Siblings V M) (bs : List (Messages M)) → SiblingsLie levels low high xs → AreReady Absorb (beside xs bs)
   beside-in_order levels low high [] bs p = tt
   beside-in_order levels low high (x ∷ xs) [] p = tt
   beside-in_order levels low high (x ∷ []) (b ∷ bs) p = ((levels, low, high, p), tt)
   beside-in_order levels low high (x ∷ y ∷ ys) (b ∷ bs) p = ((levels, low, Some y.0, p.2), beside-in_order levels (Some y.0) high (y ∷ ys) bs p.3)
+
+  beside-drained : (xs : Siblings V M) (bs : List (Messages M)) → AreReady Drain (beside xs bs)
+  beside-drained [] bs = tt
+  beside-drained (x ∷ xs) [] = tt
+  beside-drained (x ∷ xs) (b ∷ bs) = (tt, beside-drained xs bs)
+
+  -- the children of a node that messages may enter
+  pub beside-ready : (mode : Mode) (t : Tree V M) (xs : Siblings V M) (buffer : Messages M) (bs : List (Messages M)) → t ≡ inner (nodes xs) buffer → IsReady mode t → AreReady mode (beside xs bs)
+  beside-ready Absorb t xs buffer bs here order = let side = siblings_widest t xs buffer here order in beside-in_order side.0 None None xs bs side.1
+  beside-ready Drain t xs buffer bs here order = beside-drained xs bs
 
   -- ---- between the pivots
 
@@ -125,12 +150,12 @@ module _ {V M : Type 0} where
     divided-lie levels (Some d.pivot) high (d ∷ cs) p.3,
   )
 
-  pivots-beside : (xs : Siblings V M) (bs : List (Messages M)) → length bs ≡ length xs → map (λ c. c.pivot) (beside xs bs) ≡ map (λ x. x.0) xs
+  pub pivots-beside : (xs : Siblings V M) (bs : List (Messages M)) → length bs ≡ length xs → map (λ c. c.pivot) (beside xs bs) ≡ map (λ x. x.0) xs
   pivots-beside [] bs e = refl
   pivots-beside (x ∷ xs) [] e = absurd (omega (arith, e))
   pivots-beside (x ∷ xs) (b ∷ bs) e = ap (λ z. x.0 ∷ z) (pivots-beside xs bs (omega (arith, e)))
 
-  pending-beside : (xs : Siblings V M) (bs : List (Messages M)) → length bs ≡ length xs → map (λ c. c.pending) (beside xs bs) ≡ bs
+  pub pending-beside : (xs : Siblings V M) (bs : List (Messages M)) → length bs ≡ length xs → map (λ c. c.pending) (beside xs bs) ≡ bs
   pending-beside [] [] e = refl
   pending-beside [] (b ∷ bs) e = absurd (omega (arith, e))
   pending-beside (x ∷ xs) [] e = absurd (omega (arith, e))

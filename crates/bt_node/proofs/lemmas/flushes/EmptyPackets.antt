@@ -4,8 +4,9 @@ use Rattle.std.specs.declared.option.Option.{Option}
 use Rattle.bt_keycode.specs.Keys.{Key, is_before, AllFrom, IsSorted}
 use Rattle.bt_node.specs.Messages.{Messages, before, from}
 use Rattle.bt_node.specs.Plans.{total}
+use Rattle.bt_node.specs.declared.mode.Mode.TheVariants.{Absorb}
 use Rattle.bt_node.specs.Trees.{Shape, Tree, leaf, inner, Nodes, Siblings, children, nodes}
-use Rattle.bt_node.specs.Flushes.{Child, Flush, pivot_first, counts, shared, flushed, flushed_over, gathered, grouped, absorbed, absorb}
+use Rattle.bt_node.specs.Flushes.{Child, Flush, pivot_first, counts, shared, flushed, flushed_in, flush_at, gathered, grouped, absorb}
 use Rattle.bt_node.specs.Fits.{IsLed, Lies, IsSized, NodeFits, IsRoomy}
 use Rattle.bt_keycode.proofs.offered.Order.{from_earlier}
 use Rattle.bt_node.proofs.lemmas.keys.SortedLists.{sorted-where}
@@ -16,7 +17,7 @@ use Rattle.bt_node.proofs.lemmas.flushes.Groups.{some_length, led-full, stripped
 use Rattle.bt_node.proofs.lemmas.flushes.Passes.{flushed-light}
 use Rattle.bt_node.proofs.lemmas.flushes.NodeSizes.{total-counts}
 use Rattle.bt_node.proofs.lemmas.flushes.Shares.{length-shared}
-use Rattle.bt_node.proofs.lemmas.flushes.RowsKept.{absorb-at}
+use Rattle.bt_node.proofs.lemmas.flushes.RowsKept.{flush-at-levels}
 
 module _ {M : Type 0} where
   before-none : (k : Key) (ms : Messages M) → AllFrom k ms → before k ms ≡ []
@@ -73,7 +74,7 @@ module _ {V M : Type 0} where
 
   -- what becomes of a node whose children and messages are within its shape is the node
   pub still-here : (s : Shape) (ns : Nodes V M) (b : Messages M) → IsLed (children ns) → IsSorted b → 1 ≤ s.fanout → length (children ns) ≤ s.fanout → length b ≤ s.buffer → (flush : Flush V M) →
-      grouped s (flushed_over flush s.buffer (shared (children ns) b)) ≡ ([], inner ns b) ∷ []
+      grouped s (flushed_in Absorb flush s.buffer (shared (children ns) b)) ≡ ([], inner ns b) ∷ []
   still-here s ns b l r some few fits flush =
       let cs = shared (children ns) b in
       let pending : total (counts cs) ≤ s.buffer = omega (arith, total-counts cs, ap length (all_pending-shared (children ns) b (some_length (children ns) (led-full (children ns) l)) r), fits) in
@@ -81,12 +82,12 @@ module _ {V M : Type 0} where
       ∙ grouped-shared s (children ns) b l r some few ∙ ap (λ ms. ([], inner ms b) ∷ []) (nodes-children ns)
 
 module _ {V M : Type 0} (effect : Option V → M → Option V) (s : Shape) (roomy : IsRoomy s) where
-  absorbed-still : (levels : ℕ) (low high : Option Key) (t : Tree V M) → Lies levels low high t → IsSized s t → absorbed effect (suc levels) s t [] ≡ ([], t) ∷ []
-  absorbed-still zero low high (leaf rs) lies z = ap (λ gs. pivot_first [] (map (as_leaf M) gs)) (deal-one s.leaf rs roomy.leaf z)
-  absorbed-still zero low high (inner ns b) lies z = absurd lies
-  absorbed-still (suc levels) low high (leaf rs) lies z = absurd lies
-  absorbed-still (suc levels) low high (inner ns b) lies z =
-      still-here s ns b lies.3 lies.1 (omega (arith, roomy.fanout)) z.1 z.2 (absorbed effect (suc levels) s)
+  flush_at-still : (levels : ℕ) (low high : Option Key) (t : Tree V M) → Lies levels low high t → IsSized s t → flush_at effect Absorb (suc levels) s t [] ≡ ([], t) ∷ []
+  flush_at-still zero low high (leaf rs) lies z = ap (λ gs. pivot_first [] (map (as_leaf M) gs)) (deal-one s.leaf rs roomy.leaf z)
+  flush_at-still zero low high (inner ns b) lies z = absurd lies
+  flush_at-still (suc levels) low high (leaf rs) lies z = absurd lies
+  flush_at-still (suc levels) low high (inner ns b) lies z =
+      still-here s ns b lies.3 lies.1 (omega (arith, roomy.fanout)) z.1 z.2 (flush_at effect Absorb (suc levels) s)
 
   pub absorb-still : (levels : ℕ) (low high : Option Key) (t : Tree V M) → NodeFits s levels low high t → absorb effect s t [] ≡ ([], t) ∷ []
-  absorb-still levels low high t fits = absorb-at effect s levels low high t [] fits.lies ∙ absorbed-still levels low high t fits.lies fits.sized
+  absorb-still levels low high t fits = flush-at-levels effect Absorb s levels low high t [] fits.lies ∙ flush_at-still levels low high t fits.lies fits.sized

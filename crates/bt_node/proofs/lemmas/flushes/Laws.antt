@@ -1,21 +1,25 @@
--- What is promised of a node and a packet, and of children that are flushed, from its parts.
-use Rattle.std.proofs.Common.{◌≡◌, ℕ, suc, List, [], ◌∷◌, length, refl, sym, ap, subst, ◌∙◌, arith, le_refl}
+-- What is promised of a node and a packet, of children that are flushed, and of rows that are packed, from its parts.
+use Rattle.std.proofs.Common.{◌≡◌, ℕ, suc, T, List, [], ◌∷◌, length, refl, sym, ap, subst, ◌∙◌, arith, le_refl}
+use Rattle.std.specs.FinMap.{is_sorted}
 use Rattle.std.specs.declared.option.Option.{Option}
 use Rattle.std.specs.declared.option.Option.TheVariants.{None, Some}
-use Rattle.bt_keycode.specs.Keys.{Key, AllWithin}
-use Rattle.bt_node.specs.Messages.{Messages}
+use Rattle.bt_keycode.specs.Keys.{Key, key_cmp, AllWithin}
+use Rattle.bt_node.specs.Messages.{Rows, Messages}
 use Rattle.bt_node.specs.Plans.{total}
-use Rattle.bt_node.specs.Trees.{Shape, Tree, Siblings, nodes}
-use Rattle.bt_node.specs.Flushes.{counts, flushed, absorb, all_hold}
-use Rattle.bt_node.specs.Fits.{SiblingsLie, SiblingsFit, AreSized, AreHigh, IsRoomy}
+use Rattle.bt_node.specs.declared.mode.Mode.{Mode}
+use Rattle.bt_node.specs.Trees.{Shape, Tree, Siblings}
+use Rattle.bt_node.specs.Flushes.{counts, flushed, flush_in, absorb, leaves, all_hold}
+use Rattle.bt_node.specs.Fits.{SiblingsLie, SiblingsFit, AreHigh, IsRoomy}
 use Rattle.bt_node.specs.Laws.{FlushesInTurn, ChosenArePlanned, FitThere, KeepHeight, StayWithoutPacket, HoldRowsAfter, ComeByOneRule}
 use Rattle.bt_node.proofs.lemmas.plans.OnePass.{replaced-planned}
 use Rattle.bt_node.proofs.lemmas.plans.Capacity.{settled-on, settled-still}
+use Rattle.bt_node.proofs.lemmas.rows.RowsAfter.{rows-lie}
 use Rattle.bt_node.proofs.lemmas.flushes.Passes.{flushed-light}
-use Rattle.bt_node.proofs.lemmas.flushes.RowsKept.{height-lies, absorb-at, absorb-keeps, absorb-holds}
-use Rattle.bt_node.proofs.lemmas.flushes.NodeSizes.{absorbed-sized}
+use Rattle.bt_node.proofs.lemmas.flushes.Groups.{leaves-led, leaves-lie}
+use Rattle.bt_node.proofs.lemmas.flushes.RowsKept.{height-lies, flush-keeps, flush-holds}
+use Rattle.bt_node.proofs.lemmas.flushes.NodeSizes.{flush-sized, leaves-sized}
 use Rattle.bt_node.proofs.lemmas.flushes.EmptyPackets.{absorb-still}
-use Rattle.bt_node.proofs.lemmas.flushes.Recursion.{absorb_recurs}
+use Rattle.bt_node.proofs.lemmas.flushes.Recursion.{flush_recurs}
 
 pub flushes_in_turn : {V M : Type 0} → FlushesInTurn V M
 flushes_in_turn = record {
@@ -36,27 +40,36 @@ pub anywhere : {X : Type 0} (xs : List (Key × X)) → AllWithin None None xs
 anywhere [] = tt
 anywhere (x ∷ xs) = (record { from = refl; below = refl }, anywhere xs)
 
-module _ {V M : Type 0} (effect : Option V → M → Option V) (s : Shape) (roomy : IsRoomy s) (t : Tree V M) (p : Messages M) (xs : Siblings V M) (is : xs ≡ absorb effect s t p) where
-  pub hold_rows_after : HoldRowsAfter effect s t p xs
-  hold_rows_after levels low high fits within = ap (λ ys. all_hold effect ys) is
-      ∙ absorb-holds effect s (omega (arith, roomy.leaf)) (omega (arith, roomy.fanout)) levels low high t p fits.lies within
+module _ {V M : Type 0} (effect : Option V → M → Option V) (mode : Mode) (s : Shape) where
+  module _ (roomy : IsRoomy s) (t : Tree V M) (p : Messages M) (xs : Siblings V M) (is : xs ≡ flush_in effect mode s t p) where
+    pub hold_rows_after : HoldRowsAfter effect s t p xs
+    hold_rows_after levels low high fits within =
+        ap (λ ys. all_hold effect ys) is ∙ flush-holds effect mode s (omega (arith, roomy.leaf)) (omega (arith, roomy.fanout)) levels low high t p fits.lies within
 
-  pub fit_there : FitThere s t p xs
-  fit_there levels low high fits within =
-      let k = absorb-keeps effect s (omega (arith, roomy.leaf)) (omega (arith, roomy.fanout)) levels low high t p fits.lies within in
-      subst (SiblingsFit s levels low high) (sym is) (record {
-        lie = k.lie;
-        led = k.led;
-        sized = subst (λ ys. AreSized s (nodes ys)) (sym (absorb-at effect s levels low high t p fits.lies))
-            (absorbed-sized effect s (omega (arith, roomy.leaf)) roomy.fanout levels low high t p fits.lies within fits.sized);
-      })
+    pub fit_there : FitThere s t p xs
+    fit_there levels low high fits within =
+        let k = flush-keeps effect mode s (omega (arith, roomy.leaf)) (omega (arith, roomy.fanout)) levels low high t p fits.lies within in
+        subst (SiblingsFit s levels low high) (sym is) (record {
+          lie = k.lie;
+          led = k.led;
+          sized = flush-sized effect s mode (omega (arith, roomy.leaf)) roomy.fanout levels low high t p fits.lies within fits.sized;
+        })
 
-  pub keep_height : KeepHeight s t p xs
-  keep_height levels low high fits within =
-      subst (λ h. AreHigh h xs) (sym (height-lies levels low high t fits.lies)) (high-siblings levels low high xs (fit_there levels low high fits within).lie)
+    pub keep_height : KeepHeight s t p xs
+    keep_height levels low high fits within =
+        subst (λ h. AreHigh h xs) (sym (height-lies levels low high t fits.lies)) (high-siblings levels low high xs (fit_there levels low high fits within).lie)
 
-  pub stay_without_packet : StayWithoutPacket s t p xs
-  stay_without_packet none levels low high fits within = is ∙ ap (absorb effect s t) none ∙ absorb-still effect s roomy levels low high t fits
+  pub come_by_one_rule : (t : Tree V M) (p : Messages M) (xs : Siblings V M) → xs ≡ flush_in effect mode s t p → ComeByOneRule effect s t p mode xs
+  come_by_one_rule t p xs is ns buffer inside = is ∙ ap (λ u. flush_in effect mode s u p) inside ∙ flush_recurs effect mode s ns buffer p
 
-  pub come_by_one_rule : ComeByOneRule effect s t p xs
-  come_by_one_rule ns buffer inside = is ∙ ap (λ u. absorb effect s u p) inside ∙ absorb_recurs effect s ns buffer p
+pub stay_without_packet : {V M : Type 0} (effect : Option V → M → Option V) (s : Shape) (roomy : IsRoomy s) (t : Tree V M) (p : Messages M) (xs : Siblings V M) → xs ≡ absorb effect s t p →
+    StayWithoutPacket s t p xs
+stay_without_packet effect s roomy t p xs is none levels low high fits within = is ∙ ap (absorb effect s t) none ∙ absorb-still effect s roomy levels low high t fits
+
+-- rows that rise by their keys, dealt into leaves
+pub leaves-fit : {V : Type 0} (M : Type 0) (s : Shape) (rs : Rows V) → IsRoomy s → T (is_sorted key_cmp rs) → SiblingsFit {M = M} s 0 None None (leaves s rs)
+leaves-fit M s rs roomy sorted = record {
+  lie = leaves-lie M s None None rs (omega (arith, roomy.leaf)) (rows-lie None None rs (anywhere rs) sorted);
+  led = leaves-led M s rs (omega (arith, roomy.leaf));
+  sized = leaves-sized M s rs (omega (arith, roomy.leaf));
+}

@@ -6,19 +6,22 @@ use Rattle.bt_keycode.specs.Keys.{Key, AllWithin}
 use Rattle.bt_node.specs.Messages.{Rows, Messages, rows_after, with_messages, from}
 use Rattle.bt_node.specs.Deals.{deal}
 use Rattle.bt_node.specs.Plans.{total}
+use Rattle.bt_node.specs.declared.mode.Mode.{Mode}
+use Rattle.bt_node.specs.declared.mode.Mode.TheVariants.{Absorb, Drain}
 use Rattle.bt_node.specs.inside.Passes.{passed}
 use Rattle.bt_node.specs.Trees.{Shape, Tree, leaf, inner, Nodes, none, node, Siblings, children, nodes}
-use Rattle.bt_node.specs.Flushes.{Child, Flush, pivot_first, counts, shared, flushed, flushed_over, gathered, grouped, leaves, absorbed, none_pending}
+use Rattle.bt_node.specs.Flushes.{Child, Flush, pivot_first, counts, shared, flushed, flushed_in, flush_at, flush_in, gathered, grouped, leaves, none_pending}
 use Rattle.bt_node.specs.Fits.{Lies, IsSized, AreSized}
 use Rattle.bt_node.proofs.lemmas.deals.Parts.{joined, joined-deal}
 use Rattle.bt_node.proofs.lemmas.deals.PartSizes.{Each, sizes-at_most, sizes-two, lengths-deal}
 use Rattle.bt_node.proofs.lemmas.plans.Capacity.{settled-fits}
 use Rattle.bt_node.proofs.lemmas.plans.OnePass.{names}
 use Rattle.bt_node.proofs.lemmas.flushes.Children.{ChildLies, ChildrenLie, all_pending}
+use Rattle.bt_node.proofs.lemmas.flushes.Drains.{all_pending-flushed}
 use Rattle.bt_node.proofs.lemmas.flushes.Groups.{stripped, children-nodes, as_leaf}
-use Rattle.bt_node.proofs.lemmas.flushes.Passes.{Keeps, flushed-light, slots, flushed-planned, names-slots, passed-long}
-use Rattle.bt_node.proofs.lemmas.flushes.Shares.{length-shared}
-use Rattle.bt_node.proofs.lemmas.flushes.ValuesKept.{start-lies, absorbed-keeps}
+use Rattle.bt_node.proofs.lemmas.flushes.Passes.{Keeps, flushed-light, slots, flushed-slots, names-slots}
+use Rattle.bt_node.proofs.lemmas.flushes.RowsKept.{flush-at-levels}
+use Rattle.bt_node.proofs.lemmas.flushes.ValuesKept.{TakesPacket, end-long, flush_at-keeps, slots-lie}
 
 pub sized-pivot_first : {V M : Type 0} (s : Shape) (k : Key) (xs : Siblings V M) → AreSized s (nodes xs) → AreSized s (nodes (pivot_first k xs))
 sized-pivot_first s k [] z = z
@@ -108,6 +111,15 @@ pub total-counts : {V M : Type 0} (cs : List (Child V M)) → total (counts cs) 
 total-counts [] = refl
 total-counts (c ∷ cs) = omega (arith, length-append c.pending (all_pending cs), total-counts cs)
 
+-- no more is pending for what becomes of children than fits
+pub flushed-fits : {V M : Type 0} (mode : Mode) (f : Flush V M) (capacity : ℕ) (cs : List (Child V M)) → length (all_pending (flushed_in mode f capacity cs)) ≤ capacity
+flushed-fits Absorb f capacity cs = omega (
+  arith,
+  settled-fits (λ c. length c.pending) (flushed f) (flushed-light f) capacity (total (counts cs)) cs (le_refl (total (counts cs))),
+  total-counts (flushed_in Absorb f capacity cs),
+)
+flushed-fits Drain f capacity cs = omega (arith, ap length (all_pending-flushed f cs))
+
 -- ---- one pass over the children
 
 -- what becomes of a node is no larger than the shape allows
@@ -132,34 +144,33 @@ module _ {V M : Type 0} (effect : Option V → M → Option V) (s : Shape) (leve
   pass-sized low high (c ∷ d ∷ ss) p z = both-sized s (block c) (pass (d ∷ ss)) (block-sized low (Some d.0.pivot) c p.2 z.0) (pass-sized (Some d.0.pivot) high (d ∷ ss) p.3 z.1)
 
 module _ {V M : Type 0} (effect : Option V → M → Option V) (s : Shape) (leaf_some : 0 < s.leaf) (three : 3 ≤ s.fanout) where
-  -- an inner node's children, of which so many are flushed that the messages for the others fit in a buffer
-  pub node-sized : (levels : ℕ) (f : Flush V M) → Keeps effect levels f → KeepsSized s levels f → (low high : Option Key) (ns : Nodes V M) (b p : Messages M) →
-      Lies (suc levels) low high (inner ns b) → AllWithin low high p → IsSized s (inner ns b) →
-      (ss : List (Child V M × Bool)) → names ss ≡ shared (children ns) (with_messages p b) → length (all_pending (passed (λ c. length c.pending) (flushed f) ss)) ≤ s.buffer →
-      AreSized s (nodes (grouped s (passed (λ c. length c.pending) (flushed f) ss)))
-  node-sized levels f keeps sizes low high ns b p lies within z ss same fits = grouped-sized s _ three two fits sized
+  -- what becomes of an inner node's children, dealt
+  node-sized : (mode : Mode) (levels : ℕ) (f : Flush V M) → KeepsSized s levels f → (low high : Option Key) (ns : Nodes V M) (b p : Messages M) →
+      TakesPacket effect levels f low high ns b p → IsSized s (inner ns b) → AreSized s (nodes (grouped s (flushed_in mode f s.buffer (shared (children ns) (with_messages p b)))))
+  node-sized mode levels f sizes low high ns b p takes z = grouped-sized s _ three two (flushed-fits mode f s.buffer cs) sized
     where
-      all : Messages M
-      all = with_messages p b
+      cs : List (Child V M)
+      cs = shared (children ns) (with_messages p b)
 
-      placed : ChildrenLie levels low high (names ss)
-      placed = subst (ChildrenLie levels low high) (sym same) (start-lies effect s leaf_some (omega arith) levels low high ns b p lies within)
+      two : 2 ≤ length (flushed_in mode f s.buffer cs)
+      two = omega (arith, end-long effect s leaf_some (omega arith) mode levels f low high ns b p takes, z.0)
 
-      two : 2 ≤ length (passed (λ c. length c.pending) (flushed f) ss)
-      two = omega (arith, passed-long effect levels f keeps low high ss placed, ap length same, length-shared (children ns) all, z.0)
+      sized : ChildrenSized s (flushed_in mode f s.buffer cs)
+      sized =
+          subst (ChildrenSized s) (sym (flushed-slots mode f s.buffer cs))
+          (pass-sized effect s levels f takes.keeps sizes low high (slots mode s.buffer cs) (slots-lie effect s leaf_some (omega arith) mode levels f low high ns b p takes)
+          (subst (ChildrenSized s) (sym (names-slots mode s.buffer cs)) (shared-sized s ns (with_messages p b) z.3)))
 
-      sized : ChildrenSized s (passed (λ c. length c.pending) (flushed f) ss)
-      sized = pass-sized effect s levels f keeps sizes low high ss placed (subst (ChildrenSized s) (sym same) (shared-sized s ns all z.3))
+  flush_at-sized : (mode : Mode) (levels : ℕ) → KeepsSized s levels (flush_at effect mode (suc levels) s)
+  flush_at-sized mode zero low high (leaf rs) p lies within z = leaves-sized M s (rows_after effect p rs) leaf_some
+  flush_at-sized mode zero low high (inner ns b) p lies within z = absurd lies
+  flush_at-sized mode (suc levels) low high (leaf rs) p lies within z = absurd lies
+  flush_at-sized mode (suc levels) low high (inner ns b) p lies within z =
+      let keeps = flush_at-keeps effect s leaf_some (omega arith) mode levels in
+      node-sized mode levels (flush_at effect mode (suc levels) s) (flush_at-sized mode levels) low high ns b p (record { keeps = keeps; lies = lies; within = within }) z
 
-  pub absorbed-sized : (levels : ℕ) → KeepsSized s levels (absorbed effect (suc levels) s)
-  absorbed-sized zero low high (leaf rs) p lies within z = leaves-sized M s (rows_after effect p rs) leaf_some
-  absorbed-sized zero low high (inner ns b) p lies within z = absurd lies
-  absorbed-sized (suc levels) low high (leaf rs) p lies within z = absurd lies
-  absorbed-sized (suc levels) low high (inner ns b) p lies within z =
-      let f = absorbed effect (suc levels) s in
-      let cs = shared (children ns) (with_messages p b) in
-      let eq = flushed-planned f s.buffer cs in
-      let fits = settled-fits (λ c. length c.pending) (flushed f) (flushed-light f) s.buffer (total (counts cs)) cs (le_refl (total (counts cs))) in
-      subst (λ cs. AreSized s (nodes (grouped s cs))) (sym eq)
-      (node-sized levels f (absorbed-keeps effect s leaf_some (omega arith) levels) (absorbed-sized levels) low high ns b p lies within z (slots s.buffer cs) (names-slots s.buffer cs)
-      (omega (arith, fits, total-counts (flushed_over f s.buffer cs), ap (λ cs. length (all_pending cs)) eq)))
+module _ {V M : Type 0} (effect : Option V → M → Option V) (s : Shape) where
+  -- what becomes of a node that is no larger than the shape allows
+  pub flush-sized : (mode : Mode) → 0 < s.leaf → 3 ≤ s.fanout → (levels : ℕ) → KeepsSized s levels (flush_in effect mode s)
+  flush-sized mode leaf_some three levels low high t p lies within z =
+      subst (λ xs. AreSized s (nodes xs)) (sym (flush-at-levels effect mode s levels low high t p lies)) (flush_at-sized effect s leaf_some three mode levels low high t p lies within z)

@@ -1,19 +1,24 @@
 -- One pass over the children, of which some are flushed: they lie where they lay, and what one finds among them stays.
-use Rattle.std.proofs.Common.{◌≡◌, ◌≤◌, ℕ, Bool, true, false, cond, List, [], ◌∷◌, length, refl, sym, ap, ◌∙◌, append-nil, arith, le_refl}
+use Rattle.std.proofs.Common.{◌≡◌, ◌≤◌, ℕ, Bool, true, false, cond, List, [], ◌∷◌, ◌++◌, length, map, refl, sym, ap, ◌∙◌, append-nil, arith, le_refl}
 use Rattle.std.proofs.lemmas.List.{length-map}
+use Rattle.std.specs.List.{flat_map, zip}
 use Rattle.std.specs.FinMap.{find}
 use Rattle.std.specs.declared.option.Option.{Option}
 use Rattle.std.specs.declared.option.Option.TheVariants.{Some}
 use Rattle.bt_keycode.specs.Keys.{Key, key_cmp, AllWithin, SideBySide}
 use Rattle.bt_node.specs.Messages.{Messages, value_after}
 use Rattle.bt_node.specs.Plans.{total, planned}
-use Rattle.bt_node.specs.inside.Passes.{passed, IsLight, marked_all, unmarked}
+use Rattle.bt_node.specs.Marks.{flush_marks}
+use Rattle.bt_node.specs.declared.mode.Mode.{Mode}
+use Rattle.bt_node.specs.declared.mode.Mode.TheVariants.{Absorb, Drain}
+use Rattle.bt_node.specs.inside.Passes.{passed, IsLight}
 use Rattle.bt_node.specs.Trees.{Tree, Siblings}
-use Rattle.bt_node.specs.Flushes.{Child, Flush, pivot_first, counts, none_pending, flushed, flushed_over, holds, all_hold}
+use Rattle.bt_node.specs.Flushes.{Child, Flush, pivot_first, counts, none_pending, flushed, flushed_in, holds, all_hold}
 use Rattle.bt_node.specs.Fits.{IsLed, Lies, SiblingsLie}
 use Rattle.bt_node.proofs.lemmas.keys.SideBySide.{Begins, blocks-lie, blocks-long, led-side, side-map, side-mapped, side-weaken}
 use Rattle.bt_node.proofs.lemmas.rows.Values.{find-append, or_else, or_else-None}
-use Rattle.bt_node.proofs.lemmas.plans.OnePass.{names, names-marked_all, names-unmarked, settled-planned}
+use Rattle.bt_node.proofs.lemmas.plans.Marks.{length-flush_marks, marked-words, names-zip}
+use Rattle.bt_node.proofs.lemmas.plans.OnePass.{names, settled-planned}
 use Rattle.bt_node.proofs.lemmas.flushes.Children.{ChildLies, ChildrenLie, seen, seen_in, seen-append}
 use Rattle.bt_node.proofs.lemmas.flushes.Groups.{all-pivot_first}
 
@@ -84,7 +89,7 @@ module _ {V M : Type 0} (effect : Option V → M → Option V) (levels : ℕ) (f
       ∙ ap (λ z. or_else z (seen_in effect q (pass (t ∷ ss)))) (seen-block q low (Some t.0.pivot) s p.2)
       ∙ ap (or_else (seen effect q s.0)) (seen-passed q (Some t.0.pivot) high (t ∷ ss) p.3)
 
--- ---- the pass that the plan marks
+-- ---- the pass that the marks say
 
 module _ {V M : Type 0} (f : Flush V M) where
   pub none_pending-light : (xs : Siblings V M) → IsLight (λ c. length c.pending) (flushed f) (none_pending xs)
@@ -94,12 +99,21 @@ module _ {V M : Type 0} (f : Flush V M) where
   pub flushed-light : (c : Child V M) → IsLight (λ c. length c.pending) (flushed f) (flushed f c)
   flushed-light c = none_pending-light (pivot_first c.pivot (f c.tree c.pending))
 
--- the children, marked where the plan has their places
-abbrev pub slots : {V M : Type 0} → ℕ → List (Child V M) → List (Child V M × Bool)
-slots capacity cs = marked_all (planned (counts cs) capacity) (unmarked cs)
+module _ {V M : Type 0} where
+  -- the children, each with whether it is flushed
+  abbrev pub slots : Mode → ℕ → List (Child V M) → List (Child V M × Bool)
+  slots mode capacity cs = zip cs (flush_marks mode capacity (counts cs))
 
-pub flushed-planned : {V M : Type 0} (f : Flush V M) (capacity : ℕ) (cs : List (Child V M)) → flushed_over f capacity cs ≡ passed (λ c. length c.pending) (flushed f) (slots capacity cs)
-flushed-planned f capacity cs = settled-planned (λ c. length c.pending) (flushed f) (flushed-light f) capacity (total (counts cs)) cs (le_refl (total (counts cs)))
+  -- the marked ones are those that are flushed
+  pub flushed-slots : (mode : Mode) (f : Flush V M) (capacity : ℕ) (cs : List (Child V M)) → flushed_in mode f capacity cs ≡ passed (λ c. length c.pending) (flushed f) (slots mode capacity cs)
+  flushed-slots Absorb f capacity cs =
+      settled-planned (λ c. length c.pending) (flushed f) (flushed-light f) capacity (total (counts cs)) cs (le_refl (total (counts cs)))
+      ∙ ap (passed (λ c. length c.pending) (flushed f)) (marked-words (λ c. length c.pending) (planned (counts cs) capacity) cs)
+  flushed-slots Drain f capacity cs = each cs
+    where
+      each : (cs : List (Child V M)) → flat_map (flushed f) cs ≡ passed (λ c. length c.pending) (flushed f) (zip cs (map (λ n. true) (counts cs)))
+      each [] = refl
+      each (c ∷ cs) = ap (λ z. flushed f c ++ z) (each cs)
 
-pub names-slots : {V M : Type 0} (capacity : ℕ) (cs : List (Child V M)) → names (slots capacity cs) ≡ cs
-names-slots capacity cs = names-marked_all (planned (counts cs) capacity) (unmarked cs) ∙ names-unmarked cs
+  pub names-slots : (mode : Mode) (capacity : ℕ) (cs : List (Child V M)) → names (slots mode capacity cs) ≡ cs
+  names-slots mode capacity cs = names-zip cs (flush_marks mode capacity (counts cs)) (length-flush_marks mode capacity (counts cs) ∙ length-map cs (λ c. length c.pending))

@@ -1,12 +1,15 @@
 -- A flush of a node flushes its children by the same rule, with no bound on heights.
-use Rattle.std.proofs.Common.{◌≡◌, ℕ, zero, suc, ◌≤◌, Bool, true, false, cond, List, [], ◌∷◌, ◌++◌, length, refl, sym, ap, subst, ◌∙◌, arith, le_refl}
+use Rattle.std.proofs.Common.{◌≡◌, ℕ, zero, suc, ◌<◌, ◌≤◌, Bool, true, false, cond, List, [], ◌∷◌, ◌++◌, length, refl, sym, ap, subst, ◌∙◌, arith, le_refl}
 use Rattle.std.specs.declared.option.Option.{Option}
 use Rattle.bt_node.specs.Messages.{Messages, from, with_messages}
+use Rattle.bt_node.specs.declared.mode.Mode.{Mode}
 use Rattle.bt_node.specs.inside.Passes.{passed}
 use Rattle.bt_node.specs.Trees.{Shape, Tree, leaf, inner, Nodes, none, node, children, height, height_below}
-use Rattle.bt_node.specs.Flushes.{Child, Flush, pivot_first, shared, flushed, flushed_over, grouped, absorbed, absorb, none_pending}
+use Rattle.bt_node.specs.Fits.{IsLed}
+use Rattle.bt_node.specs.Flushes.{Child, Flush, pivot_first, shared, flushed, flushed_in, flush_at, flush_in, gathered, grouped, none_pending}
 use Rattle.bt_node.proofs.lemmas.plans.OnePass.{names}
-use Rattle.bt_node.proofs.lemmas.flushes.Passes.{slots, flushed-planned, names-slots}
+use Rattle.bt_node.proofs.lemmas.flushes.Groups.{deal-some, leaves-led, led-map}
+use Rattle.bt_node.proofs.lemmas.flushes.Passes.{slots, flushed-slots, names-slots}
 
 -- none of these children is higher than this
 abbrev pub AreWithin : {V M : Type 0} → ℕ → List (Child V M) → Type 0
@@ -20,11 +23,8 @@ shared-within most (node k t (node j u ns)) b l = (omega (arith, l), shared-with
 
 -- Two flushes that do the same to trees up to a height do the same to children up to this height: one pass flushes no others.
 module _ {V M : Type 0} (most : ℕ) (f g : Flush V M) (agree : (t : Tree V M) (p : Messages M) → height t ≤ most → f t p ≡ g t p) where
-  pub flushed-same : (c : Child V M) → height c.tree ≤ most → flushed f c ≡ flushed g c
-  flushed-same c l = ap (λ xs. none_pending (pivot_first c.pivot xs)) (agree c.tree c.pending l)
-
   block-same : (s : Child V M × Bool) → height s.0.tree ≤ most → cond s.1 (flushed f s.0) (s.0 ∷ []) ≡ cond s.1 (flushed g s.0) (s.0 ∷ [])
-  block-same (c, true) l = flushed-same c l
+  block-same (c, true) l = ap (λ xs. none_pending (pivot_first c.pivot xs)) (agree c.tree c.pending l)
   block-same (c, false) l = refl
 
   abbrev pass : Flush V M → List (Child V M × Bool) → List (Child V M)
@@ -34,26 +34,40 @@ module _ {V M : Type 0} (most : ℕ) (f g : Flush V M) (agree : (t : Tree V M) (
   pass-same [] l = refl
   pass-same (s ∷ ss) l = ap (λ z. z ++ pass f ss) (block-same s l.0) ∙ ap (λ z. cond s.1 (flushed g s.0) (s.0 ∷ []) ++ z) (pass-same ss l.1)
 
-  -- the loop with one flush is the loop with the other
-  pub loop-same : (capacity : ℕ) (cs : List (Child V M)) → AreWithin most cs → flushed_over f capacity cs ≡ flushed_over g capacity cs
-  loop-same capacity cs l =
-      flushed-planned f capacity cs
-      ∙ pass-same (slots capacity cs) (subst (AreWithin most) (sym (names-slots capacity cs)) l)
-      ∙ sym (flushed-planned g capacity cs)
+  -- what becomes of the children with one flush is what becomes of them with the other
+  children-same : (mode : Mode) (capacity : ℕ) (cs : List (Child V M)) → AreWithin most cs → flushed_in mode f capacity cs ≡ flushed_in mode g capacity cs
+  children-same mode capacity cs l =
+      flushed-slots mode f capacity cs
+      ∙ pass-same (slots mode capacity cs) (subst (AreWithin most) (sym (names-slots mode capacity cs)) l)
+      ∙ sym (flushed-slots mode g capacity cs)
 
 module _ {V M : Type 0} (effect : Option V → M → Option V) where
   -- any two bounds that are at least the node's height give the same
-  pub absorbed-same : (s : Shape) (h j : ℕ) (t : Tree V M) (p : Messages M) → height t ≤ h → height t ≤ j → absorbed effect h s t p ≡ absorbed effect j s t p
-  absorbed-same s h j (leaf rows) p l m = refl
-  absorbed-same s zero j (inner ns b) p l m = absurd (omega (arith, l))
-  absorbed-same s (suc h) zero (inner ns b) p l m = absurd (omega (arith, m))
-  absorbed-same s (suc h) (suc j) (inner ns b) p l m =
-      ap (grouped s) (loop-same (height_below ns) (absorbed effect h s) (absorbed effect j s) (λ t p k. absorbed-same s h j t p (omega (arith, k, l)) (omega (arith, k, m))) s.buffer _
-      (shared-within (height_below ns) ns _ (le_refl (height_below ns))))
+  pub flush-same : (mode : Mode) (s : Shape) (h j : ℕ) (t : Tree V M) (p : Messages M) → height t ≤ h → height t ≤ j → flush_at effect mode h s t p ≡ flush_at effect mode j s t p
+  flush-same mode s h j (leaf rows) p l m = refl
+  flush-same mode s zero j (inner ns b) p l m = absurd (omega (arith, l))
+  flush-same mode s (suc h) zero (inner ns b) p l m = absurd (omega (arith, m))
+  flush-same mode s (suc h) (suc j) (inner ns b) p l m =
+      let most = height_below ns in
+      ap (grouped s)
+      (children-same most (flush_at effect mode h s) (flush_at effect mode j s) (λ t p k. flush-same mode s h j t p (omega (arith, k, l)) (omega (arith, k, m))) mode s.buffer _
+      (shared-within most ns _ (le_refl most)))
 
   -- an inner node flushes its children by the same rule as itself
-  pub absorb_recurs : (s : Shape) (ns : Nodes V M) (b p : Messages M) →
-      absorb effect s (inner ns b) p ≡ grouped s (flushed_over (absorb effect s) s.buffer (shared (children ns) (with_messages p b)))
-  absorb_recurs s ns b p =
-      ap (grouped s) (loop-same (height_below ns) (absorbed effect (height_below ns) s) (absorb effect s) (λ t p l. absorbed-same s (height_below ns) (height t) t p l (le_refl (height t))) s.buffer _
-      (shared-within (height_below ns) ns _ (le_refl (height_below ns))))
+  pub flush_recurs : (mode : Mode) (s : Shape) (ns : Nodes V M) (b p : Messages M) →
+      flush_in effect mode s (inner ns b) p ≡ grouped s (flushed_in mode (flush_in effect mode s) s.buffer (shared (children ns) (with_messages p b)))
+  flush_recurs mode s ns b p =
+      let most = height_below ns in
+      ap (grouped s)
+      (children-same most (flush_at effect mode most s) (flush_in effect mode s) (λ t p l. flush-same mode s most (height t) t p l (le_refl (height t))) mode s.buffer _
+      (shared-within most ns _ (le_refl most)))
+
+  module _ (s : Shape) (mode : Mode) (leaf_some : 0 < s.leaf) (fanout_some : 0 < s.fanout) where
+    flush_at-led : (h : ℕ) (t : Tree V M) (p : Messages M) → IsLed (flush_at effect mode h s t p)
+    flush_at-led h (leaf rows) p = leaves-led M s _ leaf_some
+    flush_at-led zero (inner ns b) p = refl
+    flush_at-led (suc h) (inner ns b) p = led-map gathered _ (deal-some s.fanout _ fanout_some)
+
+    -- the first sibling stands behind the empty key
+    pub flush-led : (t : Tree V M) (p : Messages M) → IsLed (flush_in effect mode s t p)
+    flush-led t p = flush_at-led (height t) t p

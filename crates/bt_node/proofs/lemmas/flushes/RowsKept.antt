@@ -6,8 +6,9 @@ use Rattle.std.specs.declared.option.Option.{Option}
 use Rattle.std.specs.declared.option.Option.TheVariants.{Some}
 use Rattle.bt_keycode.specs.Keys.{Key, key_cmp, IsPast, IsBelow, AllWithin}
 use Rattle.bt_node.specs.Messages.{Rows, Messages, rows_after}
+use Rattle.bt_node.specs.declared.mode.Mode.{Mode}
 use Rattle.bt_node.specs.Trees.{Shape, Tree, leaf, inner, Nodes, none, node, Siblings, children, height, height_below}
-use Rattle.bt_node.specs.Flushes.{absorbed, absorb, holds, nodes_hold, all_hold}
+use Rattle.bt_node.specs.Flushes.{flush_at, flush_in, holds, nodes_hold, all_hold}
 use Rattle.bt_node.specs.Fits.{RowsLie, Lies, SiblingsLie}
 use Rattle.bt_keycode.proofs.offered.Order.{total_keys}
 use Rattle.bt_node.proofs.lemmas.keys.Limits.{within-append, within-below, within-from}
@@ -15,7 +16,7 @@ use Rattle.bt_node.proofs.lemmas.rows.RowsAfter.{rows-within, rows-sorted, rows-
 use Rattle.bt_node.proofs.lemmas.rows.Values.{find-rows}
 use Rattle.bt_node.proofs.lemmas.lookups.Outside.{nodes_hold-children}
 use Rattle.bt_node.proofs.lemmas.flushes.Passes.{Kept}
-use Rattle.bt_node.proofs.lemmas.flushes.ValuesKept.{absorbed-keeps}
+use Rattle.bt_node.proofs.lemmas.flushes.ValuesKept.{flush_at-keeps}
 
 below-append : {V : Type 0} (k : Key) (rs ss : Rows V) → T (below_all key_cmp k rs) → T (below_all key_cmp k ss) → T (below_all key_cmp k (rs ++ ss))
 below-append k [] ss u v = v
@@ -76,15 +77,16 @@ module _ {V M : Type 0} (effect : Option V → M → Option V) where
       (rows-sorted low high _ (rows_after-lie effect low high p (holds effect t) within (holds-lie levels low high t lies)))
       (λ q. k.finds q ∙ sym (find-rows effect q p (holds effect t)))
 
-  -- absorb at the height that the node has
-  pub absorb-at : (s : Shape) (levels : ℕ) (low high : Option Key) (t : Tree V M) (p : Messages M) → Lies levels low high t → absorb effect s t p ≡ absorbed effect (suc levels) s t p
-  absorb-at s levels low high t p lies = ap (λ h. absorbed effect h s t p) (height-lies levels low high t lies)
+  -- a flush at the height that the node has
+  pub flush-at-levels : (mode : Mode) (s : Shape) (levels : ℕ) (low high : Option Key) (t : Tree V M) (p : Messages M) → Lies levels low high t →
+      flush_in effect mode s t p ≡ flush_at effect mode (suc levels) s t p
+  flush-at-levels mode s levels low high t p lies = ap (λ h. flush_at effect mode h s t p) (height-lies levels low high t lies)
 
-  pub absorb-keeps : (s : Shape) → 0 < s.leaf → 0 < s.fanout → (levels : ℕ) (low high : Option Key) (t : Tree V M) (p : Messages M) → Lies levels low high t → AllWithin low high p →
-      Kept effect levels low high t p (absorb effect s t p)
-  absorb-keeps s a b levels low high t p lies within =
-      subst (Kept effect levels low high t p) (sym (absorb-at s levels low high t p lies)) (absorbed-keeps effect s a b levels low high t p lies within)
+  pub flush-keeps : (mode : Mode) (s : Shape) → 0 < s.leaf → 0 < s.fanout → (levels : ℕ) (low high : Option Key) (t : Tree V M) (p : Messages M) → Lies levels low high t → AllWithin low high p →
+      Kept effect levels low high t p (flush_in effect mode s t p)
+  flush-keeps mode s a b levels low high t p lies within =
+      subst (Kept effect levels low high t p) (sym (flush-at-levels mode s levels low high t p lies)) (flush_at-keeps effect s a b mode levels low high t p lies within)
 
-  pub absorb-holds : (s : Shape) → 0 < s.leaf → 0 < s.fanout → (levels : ℕ) (low high : Option Key) (t : Tree V M) (p : Messages M) → Lies levels low high t → AllWithin low high p →
-      all_hold effect (absorb effect s t p) ≡ rows_after effect p (holds effect t)
-  absorb-holds s a b levels low high t p lies within = holds-kept levels low high t p _ lies within (absorb-keeps s a b levels low high t p lies within)
+  pub flush-holds : (mode : Mode) (s : Shape) → 0 < s.leaf → 0 < s.fanout → (levels : ℕ) (low high : Option Key) (t : Tree V M) (p : Messages M) → Lies levels low high t → AllWithin low high p →
+      all_hold effect (flush_in effect mode s t p) ≡ rows_after effect p (holds effect t)
+  flush-holds mode s a b levels low high t p lies within = holds-kept levels low high t p _ lies within (flush-keeps mode s a b levels low high t p lies within)

@@ -15,11 +15,7 @@ names-marked i [] = refl
 names-marked zero (s ∷ ss) = refl
 names-marked (suc i) (s ∷ ss) = ap (λ z. s.0 ∷ z) (names-marked i ss)
 
-pub names-marked_all : {X : Type 0} (is : List ℕ) (ss : List (X × Bool)) → names (marked_all is ss) ≡ names ss
-names-marked_all [] ss = refl
-names-marked_all (i ∷ is) ss = names-marked_all is (marked i ss) ∙ names-marked i ss
-
-pub names-unmarked : {X : Type 0} (xs : List X) → names (unmarked xs) ≡ xs
+names-unmarked : {X : Type 0} (xs : List X) → names (unmarked xs) ≡ xs
 names-unmarked [] = refl
 names-unmarked (x ∷ xs) = ap (λ z. x ∷ z) (names-unmarked xs)
 

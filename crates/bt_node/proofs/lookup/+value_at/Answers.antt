@@ -1,10 +1,10 @@
 use Rattle.std.proofs.Common.{◌≡◌, None, Some, ◌∙◌, ap, arith, rules, subst, sym}
+use Rattle.std.proofs.lemmas.Result.{IfOk-weaker}
 use Rattle.bt_messages.specs.Bins.{LieBetween, joined}
 use Rattle.bt_messages.specs.Effects.{effect_of}
 use Rattle.bt_node.specs.inside.Kinds.{IsDivided, tree_of}
 use Rattle.bt_node.specs.inside.Lookups.{value_at}
 use Rattle.bt_node.specs.inside.Held.{value_of}
-use Rattle.bt_node.proofs.lemmas.code.AbsorbStep.{if_ok}
 use Rattle.bt_node.proofs.lemmas.code.LookupPath.{along, along_reset, begins_at}
 use Rattle.bt_node.proofs.lemmas.code.PivotSearch.{pivots_rise}
 use Rattle.bt_node.proofs.lemmas.code.RowsOfChildren.{child_in_order, child_lower}
@@ -45,7 +45,7 @@ returns-in-Some g t c =
     let lie = subst (λ ps. LieBetween ps c.in-Inner.bins) (sym c.pivots.ensures.pivots) (subst IsDivided c.in-Inner.is c.kind.ensures.divided) in
     let begins = begins-bin effect k c.pivots.result.now c.in-Inner.bins c.pivots_up_to-place.result c.since_reset-start.result.left c.since_reset-start.result.start lie c.pivots_up_to-place.ensures.count c.since_reset-start.ensures.value in
     let is : c.since_reset-start.result.start ≡ Some c.in-Some.held = search rules in
-    if_ok _ _ c.after_messages.result (λ value e. e
+    IfOk-weaker c.after_messages.result _ _ (λ value e. e
     ∙ along_reset effect k c.in-Inner.children (joined c.in-Inner.bins) c.since_reset-start.result.left c.args.node.now c.since_reset-start.result.start c.in-Some.held here begins is) c.after_messages.ensures
 
 pub returns-in_ok-old-in-Inner : goal.returns-in_ok-old-in-Inner
@@ -56,7 +56,7 @@ returns-in_ok-old-in-Inner g t c =
     let lie = subst (λ ps. LieBetween ps c.in-Inner.bins) (sym c.pivots.ensures.pivots) (subst IsDivided c.in-Inner.is c.kind.ensures.divided) in
     let begins = begins-bin effect k c.pivots.result.now c.in-Inner.bins c.pivots_up_to-place.result c.since_reset-start.result.left c.since_reset-start.result.start lie c.pivots_up_to-place.ensures.count c.since_reset-start.ensures.value in
     let none : c.since_reset-start.result.start ≡ None = search rules in
-    if_ok _ _ c.after_messages-in-Inner.result (λ value e. e
+    IfOk-weaker c.after_messages-in-Inner.result _ _ (λ value e. e
     ∙ begins_at effect k (joined c.in-Inner.bins) c.since_reset-start.result.left c.since_reset-start.result.start None (value_of c.in_ok-old-in-Inner.old) begins none
     ∙ along effect k c.in-Inner.children (joined c.in-Inner.bins) c.args.node.now c.nodes.result.now c.pivots.result.now c.pivots_up_to-place.result c.index-nodes-place.result (value_of c.in_ok-old-in-Inner.old)
     here c.nodes.ensures c.pivots.ensures.pivots c.pivots.ensures.some c.pivots_up_to-place.ensures.count c.index-nodes-place.is c.in_ok-old-in-Inner.ensures) c.after_messages-in-Inner.ensures

@@ -1,10 +1,10 @@
 use Rattle.std.proofs.Common.{◌∙◌, ◌+◌, ◌++◌, ap, arith, drop, length, length-drop, map, subst, sym, take}
+use Rattle.std.proofs.lemmas.Result.{IfOk-weaker}
 use Rattle.bt_messages.specs.Bins.{LieBetween, joined}
 use Rattle.bt_messages.specs.Effects.{effect_of}
 use Rattle.bt_node.specs.inside.Kinds.{IsDivided, tree_of}
 use Rattle.bt_node.specs.inside.Held.{value_of}
 use Rattle.bt_node.specs.inside.Together.{values_at}
-use Rattle.bt_node.proofs.lemmas.code.AbsorbStep.{if_ok}
 use Rattle.bt_node.proofs.lemmas.code.PivotSearch.{pivots_rise}
 use Rattle.bt_node.proofs.lemmas.code.RowsOfChildren.{child_in_order, child_lower}
 use Rattle.bt_node.proofs.lemmas.code.SiblingParts.{pivot_within}
@@ -49,7 +49,7 @@ loop-done-preserved g t c =
 
 pub returns-in-Leaf : goal.returns-in-Leaf
 returns-in-Leaf g t c =
-    if_ok _ _ c.found_at.result (λ values e. e
+    IfOk-weaker c.found_at.result _ _ (λ values e. e
     ∙ leaf_values (effect_of g.V.Merge.merged) (λ k. k.now) c.args.keys.now c.in-Leaf.rows c.args.node.now (c.kind.ensures.tree ∙ ap tree_of c.in-Leaf.is)) c.found_at.ensures
 
 pub loop-done-init : goal.loop-done-init

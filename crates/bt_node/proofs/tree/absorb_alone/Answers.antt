@@ -1,8 +1,9 @@
 use Rattle.std.proofs.Common.{◌∙◌, ap, rules, take}
 use Rattle.std.proofs.Math.Seq.{take-length}
-use Rattle.bt_node.specs.Flushes.{absorb}
 use Rattle.bt_messages.specs.Effects.{effect_of}
 use Rattle.bt_node.specs.Fits.{IsRoomy}
+use Rattle.bt_node.specs.Flushes.{absorb}
+use Rattle.bt_node.specs.declared.mode.Mode.TheVariants.{Absorb}
 use Rattle.bt_node.proofs.lemmas.crowns.ShapedTrees.{has_room}
 use Rattle.bt_node.proofs.lemmas.flushes.Laws.{chosen_are_planned, come_by_one_rule, fit_there, flushes_in_turn, hold_rows_after, keep_height, stay_without_packet}
 use Rattle.bt_node.proofs.tree.absorb_alone.Goals as goal
@@ -15,11 +16,11 @@ returns g c =
     let is = c.in_ok-nodes.ensures.siblings ∙ ap (absorb effect c.args.shape c.args.node) all in
     record {
       siblings = is;
-      fits = fit_there effect c.args.shape roomy c.args.node c.args.packet _ is;
-      height = keep_height effect c.args.shape roomy c.args.node c.args.packet _ is;
-      rows = hold_rows_after effect c.args.shape roomy c.args.node c.args.packet _ is;
+      fits = fit_there effect Absorb c.args.shape roomy c.args.node c.args.packet _ is;
+      height = keep_height effect Absorb c.args.shape roomy c.args.node c.args.packet _ is;
+      rows = hold_rows_after effect Absorb c.args.shape roomy c.args.node c.args.packet _ is;
       unchanged = stay_without_packet effect c.args.shape roomy c.args.node c.args.packet _ is;
-      one_rule = come_by_one_rule effect c.args.shape roomy c.args.node c.args.packet _ is;
+      one_rule = come_by_one_rule effect Absorb c.args.shape c.args.node c.args.packet _ is;
       in_turn = flushes_in_turn;
       planned = chosen_are_planned;
     }

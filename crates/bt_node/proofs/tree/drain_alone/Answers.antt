@@ -3,8 +3,10 @@ use Rattle.std.proofs.Math.Seq.{take-length}
 use Rattle.bt_messages.specs.Effects.{effect_of}
 use Rattle.bt_node.specs.Drains.{drain}
 use Rattle.bt_node.specs.Fits.{IsRoomy}
+use Rattle.bt_node.specs.declared.mode.Mode.TheVariants.{Drain}
 use Rattle.bt_node.proofs.lemmas.crowns.ShapedTrees.{has_room}
-use Rattle.bt_node.proofs.lemmas.flushes.DrainLaws.{drain_by_one_rule, drain_dries, drain_fits_there, drain_holds_rows, drain_keeps_height}
+use Rattle.bt_node.proofs.lemmas.flushes.Drains.{drain_dries}
+use Rattle.bt_node.proofs.lemmas.flushes.Laws.{come_by_one_rule, fit_there, hold_rows_after, keep_height}
 use Rattle.bt_node.proofs.tree.drain_alone.Goals as goal
 
 pub returns : goal.returns
@@ -15,9 +17,9 @@ returns g c =
     let is = c.in_ok-nodes.ensures.siblings ∙ ap (drain effect c.args.shape c.args.node) all in
     record {
       siblings = is;
-      fits = drain_fits_there effect c.args.shape c.args.node c.args.packet _ is roomy;
-      height = drain_keeps_height effect c.args.shape c.args.node c.args.packet _ is roomy;
-      rows = drain_holds_rows effect c.args.shape c.args.node c.args.packet _ is roomy;
+      fits = fit_there effect Drain c.args.shape roomy c.args.node c.args.packet _ is;
+      height = keep_height effect Drain c.args.shape roomy c.args.node c.args.packet _ is;
+      rows = hold_rows_after effect Drain c.args.shape roomy c.args.node c.args.packet _ is;
       dry = drain_dries effect c.args.shape c.args.node c.args.packet _ is;
-      one_rule = drain_by_one_rule effect c.args.shape c.args.node c.args.packet _ is;
+      one_rule = come_by_one_rule effect Drain c.args.shape c.args.node c.args.packet _ is;
     }

@@ -9,9 +9,9 @@ use Rattle.bt_node.specs.Fits.{IsRoomy, SiblingsFit}
 use Rattle.bt_node.specs.Flushes.{all_hold, crown, leaves}
 use Rattle.bt_node.specs.Trees.{nodes}
 use Rattle.bt_node.proofs.lemmas.crowns.ShapedTrees.{has_room}
-use Rattle.bt_node.proofs.lemmas.flushes.DrainLaws.{crown_dries, leaves-fit}
-use Rattle.bt_node.proofs.lemmas.flushes.Drains.{dry-leaves}
+use Rattle.bt_node.proofs.lemmas.flushes.Drains.{crown_dries, dry-leaves}
 use Rattle.bt_node.proofs.lemmas.flushes.Groups.{leaves-hold}
+use Rattle.bt_node.proofs.lemmas.flushes.Laws.{leaves-fit}
 use Rattle.bt_node.proofs.lemmas.rows.RowsAfter.{t_true}
 use Rattle.bt_node.proofs.tree.pack.Goals as goal
 

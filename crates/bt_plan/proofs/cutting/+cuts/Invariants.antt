@@ -13,10 +13,10 @@ use Rattle.bt_plan.proofs.cutting.+cuts.Given as goal
 abbrev pub invariant-cut_children-loop-node : goal.invariant-cut_children-loop-node
 invariant-cut_children-loop-node g l = record {
   children : l.children.items ++ map (with_holes hole_of) (cut_each l.depth l.mode l.shape (place_of l.place) l.number l.node-iterator.rest.items (each_with (parted (drop l.number l.shares) l.stream) (into_iter_items l.buffers)) (drop l.number l.marks))
-      ≡ map (with_holes hole_of) (cut_each l.fn.depth l.fn.mode l.fn.shape (place_of l.fn.place) 0 l.fn.nodes.items (each_with (parted l.fn.shares l.fn.stream) l.fn.bins) l.fn.marks);
-  kept : l.kept.items ++ kept_bins (each_with (parted (drop l.number l.shares) l.stream) (into_iter_items l.buffers)) (drop l.number l.marks) ≡ kept_bins (each_with (parted l.fn.shares l.fn.stream) l.fn.bins) l.fn.marks;
+      ≡ map (with_holes hole_of) (cut_each l.fn.depth l.fn.mode l.fn.shape (place_of l.fn.place) 0 l.fn.nodes.items (each_with (parted l.fn.shares l.fn.stream) l.fn.buffers.items) l.fn.marks);
+  kept : l.kept.items ++ kept_bins (each_with (parted (drop l.number l.shares) l.stream) (into_iter_items l.buffers)) (drop l.number l.marks) ≡ kept_bins (each_with (parted l.fn.shares l.fn.stream) l.fn.buffers.items) l.fn.marks;
   jobs : map job_of l.jobs.items ++ flat_map holes (cut_each l.depth l.mode l.shape (place_of l.place) l.number l.node-iterator.rest.items (each_with (parted (drop l.number l.shares) l.stream) (into_iter_items l.buffers)) (drop l.number l.marks))
-      ≡ map job_of l.fn.jobs.items ++ flat_map holes (cut_each l.fn.depth l.fn.mode l.fn.shape (place_of l.fn.place) 0 l.fn.nodes.items (each_with (parted l.fn.shares l.fn.stream) l.fn.bins) l.fn.marks);
+      ≡ map job_of l.fn.jobs.items ++ flat_map holes (cut_each l.fn.depth l.fn.mode l.fn.shape (place_of l.fn.place) 0 l.fn.nodes.items (each_with (parted l.fn.shares l.fn.stream) l.fn.buffers.items) l.fn.marks);
   left : drop (total (drop l.number l.shares)) l.stream ≡ drop (total l.fn.shares) l.fn.stream;
   enough : total (drop l.number l.shares) ≤ length l.stream;
   number : l.number + length l.node-iterator.rest.items ≡ length l.fn.nodes.items;
@@ -38,5 +38,5 @@ decreases-cut_child g l = 4 * l.depth + 1
 abbrev pub decreases-cut_children : goal.decreases-cut_children
 decreases-cut_children g l = 4 * l.depth + 2
 
-abbrev pub decreases-open : goal.decreases-open
-decreases-open g l = 4 * l.depth + 3
+abbrev pub decreases-cut_inner : goal.decreases-cut_inner
+decreases-cut_inner g l = 4 * l.depth + 3

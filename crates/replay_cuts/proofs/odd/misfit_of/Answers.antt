@@ -2,7 +2,7 @@ use Rattle.std.proofs.Common.{rules}
 use Rattle.bt_messages.specs.Effects.{effect_of}
 use Rattle.bt_gather.specs.Views.{pieces_of}
 use Rattle.bt_node.specs.Fits.{IsRoomy}
-use Rattle.bt_plan.specs.declared.job.Mode.TheVariants.{Absorb}
+use Rattle.bt_node.specs.declared.mode.Mode.TheVariants.{Absorb}
 use Rattle.replay_cuts.proofs.Turning.{cut-in_order, cut-odd}
 use Rattle.replay_cuts.proofs.odd.misfit_of.Goals as goal
 

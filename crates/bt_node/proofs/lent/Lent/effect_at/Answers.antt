@@ -1,8 +1,8 @@
 use Rattle.std.proofs.Common.{subst, sym}
+use Rattle.std.proofs.lemmas.Result.{IfOk-weaker}
 use Rattle.bt_keycode.specs.Keys.{IsSorted}
 use Rattle.bt_messages.specs.Effects.{effect_of}
 use Rattle.bt_node.specs.inside.Held.{value_of}
-use Rattle.bt_node.proofs.lemmas.code.AbsorbStep.{if_ok}
 use Rattle.bt_node.proofs.lemmas.code.LentMessages.{in_parts, rest_sorted_from}
 use Rattle.bt_node.proofs.lemmas.code.LookupPath.{left_from, two_parts}
 use Rattle.bt_node.proofs.lemmas.keys.SortedLists.{sorted-back, sorted-prefix}
@@ -37,7 +37,7 @@ after_entries-requires-2-clause-from g c = left_from (effect_of g.V.Merge.merged
 pub returns : goal.returns
 returns g c =
     let parts = in_parts (λ m. (m.key.now, m.message.now)) c.as_slices.result.0.now c.as_slices.result.1.now c.self.inside.messages.items c.args.self.now c.as_slices.ensures.items c.self.view_is in
-    if_ok _ _ c.after_entries-2.result
+    IfOk-weaker c.after_entries-2.result _ _
     (λ value e. two_parts (effect_of g.V.Merge.merged) c.args.key.now _ _ c.args.self.now _ _ (value_of c.args.old) (value_of c.in_ok-value.value) (value_of value) parts c.entries_from-earlier.ensures c.entries_from-later.ensures
     c.in_ok-value.ensures e)
     c.after_entries-2.ensures

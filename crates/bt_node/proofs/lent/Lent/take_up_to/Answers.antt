@@ -1,9 +1,9 @@
 use Rattle.std.proofs.Common.{◌∙◌, ap, sym}
+use Rattle.std.proofs.lemmas.Result.{IfOk-weaker}
 use Rattle.std.proofs.lemmas.Result.{on_ok_weaker}
 use Rattle.bt_messages.specs.Effects.{effect_of}
 use Rattle.bt_messages.specs.inside.Merges.{messages_past}
 use Rattle.bt_node.specs.inside.Held.{value_of}
-use Rattle.bt_node.proofs.lemmas.code.AbsorbStep.{if_ok}
 use Rattle.bt_node.proofs.lemmas.code.LentMessages.{past_from, rest_sorted_from}
 use Rattle.bt_node.proofs.lemmas.code.LookupPath.{all_left, left_from}
 use Rattle.bt_node.proofs.lent.Lent.take_up_to.Goals as goal
@@ -17,7 +17,7 @@ take_effect-requires-clause-from g c = left_from (effect_of g.V.Merge.merged) c.
 pub returns-clause-value : goal.returns-clause-value
 returns-clause-value g c =
     let effect = effect_of g.V.Merge.merged in
-    if_ok _ _ c.take_effect.result (λ value e. e ∙ sym (all_left effect c.args.key.now c.args.self.now c.drop_before.new.self (value_of c.args.old) c.drop_before.ensures)) c.take_effect.ensures.value
+    IfOk-weaker c.take_effect.result _ _ (λ value e. e ∙ sym (all_left effect c.args.key.now c.args.self.now c.drop_before.new.self (value_of c.args.old) c.drop_before.ensures)) c.take_effect.ensures.value
 
 pub returns-clause-left : goal.returns-clause-left
 returns-clause-left g c =

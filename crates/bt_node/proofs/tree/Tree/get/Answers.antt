@@ -1,10 +1,10 @@
 use Rattle.std.proofs.Common.{◌∙◌, ap, subst, sym}
+use Rattle.std.proofs.lemmas.Result.{IfOk-weaker}
 use Rattle.std.specs.FinMap.{find}
 use Rattle.bt_keycode.specs.Keys.{key_cmp}
 use Rattle.bt_messages.specs.Effects.{effect_of}
 use Rattle.bt_node.specs.Fits.{IsInOrder}
 use Rattle.bt_node.specs.Flushes.{holds}
-use Rattle.bt_node.proofs.lemmas.code.AbsorbStep.{if_ok}
 use Rattle.bt_node.proofs.lemmas.code.RowsOfChildren.{shape_in_order}
 use Rattle.bt_node.proofs.tree.Tree.get.Goals as goal
 
@@ -13,4 +13,4 @@ get-requires g c = subst IsInOrder (sym c.walk.ensures.root) (shape_in_order c.a
 
 pub returns : goal.returns
 returns g c =
-    if_ok _ _ c.get.result (λ value e. e ∙ ap (λ t. find key_cmp c.args.key.now (holds (effect_of g.V.Merge.merged) t)) c.walk.ensures.root) c.get.ensures
+    IfOk-weaker c.get.result _ _ (λ value e. e ∙ ap (λ t. find key_cmp c.args.key.now (holds (effect_of g.V.Merge.merged) t)) c.walk.ensures.root) c.get.ensures

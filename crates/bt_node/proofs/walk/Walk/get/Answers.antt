@@ -1,7 +1,7 @@
 use Rattle.std.proofs.Common.{◌∙◌, ap}
+use Rattle.std.proofs.lemmas.Result.{IfOk-weaker}
 use Rattle.bt_messages.specs.Effects.{effect_of}
 use Rattle.bt_node.specs.inside.Lookups.{value_at}
-use Rattle.bt_node.proofs.lemmas.code.AbsorbStep.{if_ok}
 use Rattle.bt_node.proofs.lemmas.lookups.HeldValues.{value_at-held}
 use Rattle.bt_node.proofs.walk.Walk.get.Goals as goal
 
@@ -9,4 +9,4 @@ pub returns : goal.returns
 returns g c =
     let effect = effect_of g.V.Merge.merged in
     let order = c.requires in
-    if_ok _ _ c.into_value.result (λ value e. e ∙ c.in_ok-value_at.ensures ∙ ap (value_at effect c.args.key.now) c.self.view_is ∙ value_at-held effect order.0 order.1 order.2 c.args.self.now c.args.key.now order.3) c.into_value.ensures
+    IfOk-weaker c.into_value.result _ _ (λ value e. e ∙ c.in_ok-value_at.ensures ∙ ap (value_at effect c.args.key.now) c.self.view_is ∙ value_at-held effect order.0 order.1 order.2 c.args.self.now c.args.key.now order.3) c.into_value.ensures

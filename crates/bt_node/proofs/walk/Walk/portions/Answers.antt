@@ -1,23 +1,23 @@
 use Rattle.std.proofs.Common.{◌∙◌, ℕ, cond, ap, refl, subst, sym, true≢false}
+use Rattle.std.proofs.lemmas.Result.{IfOk-weaker}
 use Rattle.std.specs.FinMap.{find}
 use Rattle.std.specs.Option.{option_copied}
 use Rattle.bt_keycode.specs.Keys.{key_cmp}
 use Rattle.bt_messages.specs.Effects.{effect_of}
 use Rattle.bt_node.specs.Flushes.{holds}
 use Rattle.bt_node.specs.Portions.{HaveThere, all_rows, owners}
-use Rattle.bt_node.proofs.lemmas.code.AbsorbStep.{if_ok}
 use Rattle.bt_node.proofs.lemmas.rows.Between.{empty_range, none_between}
 use Rattle.bt_node.proofs.walk.Walk.portions.Goals as goal
 
 pub returns-clause-values : goal.returns-clause-values
 returns-clause-values g c =
     let effect = effect_of g.V.Merge.merged in
-    if_ok _ _ c.divided.result
+    IfOk-weaker c.divided.result _ _
     (λ parts divided key. divided.values key (find key_cmp key (holds effect c.args.self.now)) ((λ owned. ap (λ t. find key_cmp key (holds effect t)) c.self.view_is), tt))
     c.divided.ensures
 
 pub returns-clause-chained : goal.returns-clause-chained
-returns-clause-chained g c = if_ok _ _ c.divided.result (λ parts divided key inside. divided.chained (option_copied c.args.from) (option_copied c.args.to) (refl, refl)) c.divided.ensures
+returns-clause-chained g c = IfOk-weaker c.divided.result _ _ (λ parts divided key inside. divided.chained (option_copied c.args.from) (option_copied c.args.to) (refl, refl)) c.divided.ensures
 
 pub returns-then-is_empty_range-clause-rows : goal.returns-then-is_empty_range-clause-rows
 returns-then-is_empty_range-clause-rows g c =

@@ -1,7 +1,7 @@
 use Rattle.std.proofs.Common.{◌∙◌, ap, map}
+use Rattle.std.proofs.lemmas.Result.{IfOk-weaker}
 use Rattle.bt_messages.specs.Effects.{effect_of}
 use Rattle.bt_node.specs.inside.Together.{values_at}
-use Rattle.bt_node.proofs.lemmas.code.AbsorbStep.{if_ok}
 use Rattle.bt_node.proofs.lemmas.code.Together.{all_held}
 use Rattle.bt_node.proofs.walk.Walk.values.Goals as goal
 
@@ -9,5 +9,5 @@ pub returns : goal.returns
 returns g c =
     let effect = effect_of g.V.Merge.merged in
     let order = c.requires in
-    if_ok _ _ c.into_values.result (λ values e. e ∙ c.in_ok-values_at.ensures ∙ ap (values_at effect (map (λ k. k.now) c.args.keys.now)) c.self.view_is
+    IfOk-weaker c.into_values.result _ _ (λ values e. e ∙ c.in_ok-values_at.ensures ∙ ap (values_at effect (map (λ k. k.now) c.args.keys.now)) c.self.view_is
     ∙ all_held effect (λ k. k.now) order.0 order.1 order.2 c.args.self.now c.args.keys.now order.3) c.into_values.ensures

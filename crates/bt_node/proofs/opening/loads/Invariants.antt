@@ -1,0 +1,11 @@
+use Rattle.std.proofs.Common.{◌≡◌, ◌≤◌, length, take, vec_capacity, vec_len}
+use Rattle.bt_node.proofs.lemmas.code.LoadLoop.{loads}
+use Rattle.bt_node.proofs.opening.loads.Given as goal
+
+-- the counts so far
+abbrev pub invariant-loop-child : goal.invariant-loop-child
+invariant-loop-child g l = record {
+  made : l.loads.items ≡ take l.child (loads l.shares l.stream l.bins);
+  len : vec_len l.loads ≤ l.child;
+  room : length l.shares ≤ vec_capacity l.loads;
+}

@@ -1,0 +1,24 @@
+-- Children of a node that is worked on, side by side with their bins.
+use Rattle.std.specs.Prelude.{List, [], ◌∷◌, map}
+use Rattle.bt_keycode.specs.Keys.{Key}
+use Rattle.bt_messages.specs.Bins.{LieBetween}
+use Rattle.bt_node.specs.Flushes.{Child, none_pending}
+use Rattle.bt_node.specs.Messages.{Messages}
+use Rattle.bt_node.specs.Trees.{Siblings}
+
+module _ {V M : Type 0} where
+  -- siblings, each with what is in its bin
+  abbrev pub beside : Siblings V M → List (Messages M) → List (Child V M)
+  beside [] bins = []
+  beside (x ∷ xs) [] = []
+  beside (x ∷ xs) (b ∷ bs) = record { pivot = x.0; tree = x.1; pending = b } ∷ beside xs bs
+
+  -- the siblings of one child behind its pivot; what is pending for it is pending for the first of them
+  abbrev pub behind_pivot : Key → Messages M → Siblings V M → List (Child V M)
+  behind_pivot k pending [] = []
+  behind_pivot k pending (x ∷ xs) = record { pivot = k; tree = x.1; pending = pending } ∷ none_pending xs
+
+  -- what is pending for each child lies between the pivots around it
+  abbrev pub AreDivided : List (Child V M) → Type 0
+  AreDivided [] = Unit {0}
+  AreDivided (c ∷ cs) = LieBetween (map (λ d. d.pivot) cs) (map (λ d. d.pending) (c ∷ cs))

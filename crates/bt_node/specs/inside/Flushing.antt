@@ -1,0 +1,24 @@
+-- Nodes that messages may enter, and children with their shares of the messages that come.
+use Rattle.std.specs.Prelude.{ℕ, List, [], ◌∷◌, drop, take}
+use Rattle.bt_node.specs.Fits.{IsInOrder}
+use Rattle.bt_node.specs.Flushes.{Child}
+use Rattle.bt_node.specs.Messages.{Messages, with_messages}
+use Rattle.bt_node.specs.Trees.{Tree}
+use Rattle.bt_node.specs.declared.mode.Mode.{Mode}
+use Rattle.bt_node.specs.declared.mode.Mode.TheVariants.{Absorb, Drain}
+
+module _ {V M : Type 0} where
+  -- where messages may stay on the way, the keys are in order
+  abbrev pub IsReady : Mode → Tree V M → Type 0
+  IsReady Absorb t = IsInOrder t
+  IsReady Drain t = Unit {0}
+
+  abbrev pub AreReady : Mode → List (Child V M) → Type 0
+  AreReady mode [] = Unit {0}
+  AreReady mode (c ∷ cs) = IsReady mode c.tree × AreReady mode cs
+
+  -- children with so many messages each of those that come, in order
+  abbrev pub loaded : List (Child V M) → List ℕ → Messages M → List (Child V M)
+  loaded [] shares ms = []
+  loaded (c ∷ cs) [] ms = []
+  loaded (c ∷ cs) (n ∷ ns) ms = record { pivot = c.pivot; tree = c.tree; pending = with_messages (take n ms) c.pending } ∷ loaded cs ns (drop n ms)
