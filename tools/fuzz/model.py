@@ -19,7 +19,8 @@ NUMBERS = {
 }  # fmt: skip
 NAMED_WITH_ITEM = ("BadField", "BadLength", "DuplicateKey")
 
-FANOUTS, BUFFERS, LEAVES = range(4, 65), range(1, 4097), range(2, 1025)
+FANOUTS, LEAVES = range(4, 65), range(2, 1025)
+BUFFERS, BUFFERS_IN_BYTES = range(1, 4097), range(1, 1_048_577)
 COLUMNS, KEY_COLUMNS = range(1, 17), range(1, 5)
 MOST_MESSAGES, MOST_OPERATIONS, MOST_INDEXES, MOST_ON, MOST_INCLUDED = 65_536, 16, 8, 4, 8
 LEAST_INT, GREATEST_INT = -(2**63), 2**63 - 1
@@ -239,8 +240,22 @@ class Tree:
     """A tree of a shape. `kinds` are those of the values of its rows, which an image prints behind the keys."""
 
     def __init__(self, shape, kinds):
-        (self.fanout, self.buffer, self.leaf), self.kinds = shape, kinds
+        (self.fanout, self.buffer, self.is_in_bytes, self.leaf), self.kinds = shape, kinds
         self.root = Leaf([])
+
+    def weight(self, message):
+        """What a message weighs: a byte, its key's code and what it carries."""
+        key, sign, content = message
+        carried = 0
+        if sign == PUT:
+            carried = len(code_of(self.kinds, content))
+        elif sign == UPSERT:
+            carried = sum([2 + len(CODE[self.kinds[column]](argument)) for _, column, argument in content[0]])
+        return 1 + len(key) + carried
+
+    def load(self, messages):
+        """How much of a buffer messages take: their number, or what they weigh."""
+        return sum([self.weight(message) for message in messages]) if self.is_in_bytes else len(messages)
 
     def is_empty_leaf(self):
         return isinstance(self.root, Leaf) and not self.root.rows
@@ -276,14 +291,13 @@ class Tree:
         if isinstance(node, Leaf):
             return self.leaves(pivot, rows_after(node.rows, messages))
         children = with_messages(node.children, messages)
-        pending = sum([len(child.pending) for child in children])
-        while pending > self.buffer:
-            sizes = [len(child.pending) for child in children]
-            fullest = sizes.index(max(sizes))
+        loads = [self.load(child.pending) for child in children]
+        while sum(loads) > self.buffer:
+            fullest = loads.index(max(loads))
             taken = children[fullest]
             parts = self.absorbed(taken.pivot, taken.node, taken.pending)
             children[fullest : fullest + 1] = [Child(pivot_of_part, part, []) for pivot_of_part, part in parts]
-            pending -= len(taken.pending)
+            loads[fullest : fullest + 1] = [0] * len(parts)
         return self.grouped(children)
 
     def drained(self, pivot, node, messages):
@@ -546,7 +560,7 @@ def form(pattern):
 # How the line of each command is spelled; a space stands for one or more, and \x20 for exactly one. The record of a `get` and
 # the constant of an `index` stand behind exactly one, and go up to the end of the line.
 FORMS = {
-    b"table": form(rb"table (%b) (%b) (%b) (%b)((?: %b:(?:int|text|flag))+)" % (NUMBER, NUMBER, NUMBER, NUMBER, NAME)),
+    b"table": form(rb"table (%b) (%b)(b?) (%b) (%b)((?: %b:(?:int|text|flag))+)" % (NUMBER, NUMBER, NUMBER, NUMBER, NAME)),
     b"load": form(b"load"),
     b"batch": form(b"batch"),
     b"get": form(rb"get\x20(.*)"),
@@ -671,8 +685,8 @@ class Session:
             raise Refused("NoTable")
         return getattr(self, word.decode())(*parts)
 
-    def make_table(self, fanout, buffer, leaf, key_length, columns):
-        shape, key_length = (int(fanout), int(buffer), int(leaf)), int(key_length)
+    def make_table(self, fanout, buffer, unit, leaf, key_length, columns):
+        fanout, buffer, leaf, key_length = int(fanout), int(buffer), int(leaf), int(key_length)
         pairs = [column.split(b":") for column in columns.split()]
         names, kinds = [name for name, _ in pairs], [kind for _, kind in pairs]
         if self.table:
@@ -681,9 +695,9 @@ class Session:
             raise Refused("BadSchema")
         if len(set(names)) < len(names):
             raise Refused("BadSchema")
-        if shape[0] not in FANOUTS or shape[1] not in BUFFERS or shape[2] not in LEAVES:
+        if fanout not in FANOUTS or buffer not in (BUFFERS_IN_BYTES if unit else BUFFERS) or leaf not in LEAVES:
             raise Refused("BadShape")
-        self.table = Table(shape, key_length, names, kinds)
+        self.table = Table((fanout, buffer, bool(unit), leaf), key_length, names, kinds)
         return [b"table %d" % len(names)]
 
     def load(self, text):

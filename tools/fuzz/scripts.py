@@ -29,11 +29,15 @@ WRONG_TEXTS = [b"\xff", b"a\xc3", b"\xed\xa0\x80", b"\xc0\x80", b"t" * 256, "å"
 WRONG_INTS = [b"", b"-", b"+1", b" 1", b"1 ", b"x", b"1.0", b"9223372036854775808", b"-9223372036854775809", b"9" * 30, b"--1"]
 WRONG_FLAGS = [b"", b"yes", b"1", b"true ", b"TRU"]
 INTS = [b"-0", b"007", b"-1", b"%d" % GREATEST_INT, b"%d" % -GREATEST_INT, b"-9223372036854775808", b"0" * 30 + b"5"]
+WRONG_SHAPES = [
+    b"3 1 2", b"4 0 2", b"4 4097 2", b"4 1 1", b"4 1 1025", b"65 1 2", b"4 0b 2", b"4 1048577b 2", b"3 1b 2", b"4 1b 1",
+    b"4 b 2", b"4 60B 2", b"4 60bb 2", b"4 b60 2", b"4 1234567890b 2", b"4b 1 2", b"4 1 2b", b"4 60 b 2",
+]  # fmt: skip
 TOKENS = [
     b"table", b"4", b"2", b"1", b"id:int", b"a:text", b"b:flag", b"load", b"batch", b"put", b"del", b"ups", b"end", b"get",
     b"scan", b"primary", b"from", b"to", b"go", b"sums", b"image", b"index", b"on", b"include", b"where", b"=", b"<", b">=",
     b"build", b"drop", b"drain", b"rebuild", b".", b"1,2", b"1,set,a,x", b"1,add,id,2", b"i", b"id", b"id,a", b"0", b"65",
-    b"999999999", b"1234567890",
+    b"999999999", b"1234567890", b"60b", b"60B", b"1048577b", b"b",
 ]  # fmt: skip
 PIECES = [
     b"\n", b"\r", b"\r\n", b" ", b",", b'"', b'""', MARK, b"\0", b"\xff", b"-", b"0", b":", b"\n\n", b"\n.\n", b"\nend\n",
@@ -142,7 +146,7 @@ class Maker:
 
     @staticmethod
     def table_line(shape, key_length, columns):
-        return b" ".join([b"table", *[b"%d" % number for number in (*shape, key_length)], *map(b":".join, columns)])
+        return b" ".join([b"table", *shape, b"%d" % key_length, *map(b":".join, columns)])
 
     def faulty_table(self, shape):
         key_length, columns = self.key_length, self.columns
@@ -151,7 +155,7 @@ class Maker:
         if self.happens(0.4):
             columns = self.dice.choice([[], columns[:1] * 2, [(b"m%d" % place, b"int") for place in range(17)]])
         if self.happens(0.4):
-            shape = self.dice.choice([(3, 1, 2), (4, 0, 2), (4, 4097, 2), (4, 1, 1), (4, 1, 1025), (65, 1, 2)])
+            shape = self.dice.choice(WRONG_SHAPES).split()
         line = self.table_line(shape, key_length, columns)
         return with_token(self.dice, line) if self.happens(0.3) else line
 
@@ -307,8 +311,15 @@ WEIGHTS = {
 OF_INDEXES = ("build", "build_whole", "drop")
 
 
+def capacity(dice, counts, weights):
+    """The word for how much a buffer holds: one of these counts of messages, or in some scripts one of these weights."""
+    return b"%d" % dice.choice(counts) if dice.random() < 0.65 else b"%db" % dice.choice(weights)
+
+
 def small_shape(dice):
-    return dice.choice([4, 4, 4, 5, 6]), dice.choice([1, 1, 2, 3, 4, 8]), dice.choice([2, 2, 3, 4])
+    """The words of a table's shape."""
+    buffer = capacity(dice, [1, 1, 2, 3, 4, 8], [1, 10, 25, 40, 60, 61, 80, 120, 200, 400])
+    return b"%d" % dice.choice([4, 4, 4, 5, 6]), buffer, b"%d" % dice.choice([2, 2, 3, 4])
 
 
 def small(dice):
@@ -347,20 +358,23 @@ def dressed(dice, lines):
     return b"".join(lines)
 
 
+DEEP_TEXTS = [b"", b"x", b"yy", b"yy\0", b"z" * 25]
+
+
 def deep(dice):
     """Few commands over many rows: deep trees, messages that stay pending on each level, and indexes of both."""
     maker = Maker(dice, 0)
     fanout, leaf = dice.choice([4, 4, 5]), dice.choice([2, 2, 2, 3])
-    buffer = dice.choice([1, 1, 2, 3, 5, 20, 64, 4096])
+    buffer = capacity(dice, [1, 1, 2, 3, 5, 20, 64, 4096], [1, 20, 50, 60, 100, 150, 500, 2_000, 1_048_576])
     key_kind = dice.choice([b"int", b"int", b"text"])
     maker.columns, maker.key_length = [(b"id", key_kind), (b"a", b"int"), (b"b", b"text")], 1
-    maker.add(b"table %d %d %d 1 id:%b a:int b:text" % (fanout, buffer, leaf, key_kind))
+    maker.add(b"table %d %b %d 1 id:%b a:int b:text" % (fanout, buffer, leaf, key_kind))
     span = dice.choice([40, 150, 400, 1000])
     largest = dice.choice([30, 100, 100, 300])
     if maker.happens(0.5):
         maker.add(b"load\nid,a,b")
         for key in sorted(dice.sample(range(span), dice.randint(0, span))):
-            maker.add(b"%d,%d,%b" % (key, key % 7, dice.choice([b"", b"x", b"yy"])))
+            maker.add(b"%d,%d,%b" % (key, key % 7, dice.choice(DEEP_TEXTS)))
         maker.add(b".")
     for name, words in ((b"i", b"on a"), (b"j", b"on b,a include a"), (b"k", b"on a,a include b where a >= 3")):
         if maker.happens(0.35):
@@ -395,7 +409,7 @@ def deep_batch(maker, span, count):
             operation = b"add,a,%d" % dice.randint(-2, 3) if maker.happens(0.7) else b"set,b,%d" % dice.randrange(3)
             maker.add(b"ups %d,%b" % (key, operation))
         else:
-            maker.add(b"put %d,%d,%b" % (key, dice.randrange(6), dice.choice([b"", b"x", b"yy"])))
+            maker.add(b"put %d,%d,%b" % (key, dice.randrange(6), dice.choice(DEEP_TEXTS)))
     maker.add(b"end")
 
 

@@ -4,10 +4,12 @@ use Rattle.std.specs.FinMap.{find}
 use Rattle.std.specs.List.{filter}
 use Rattle.bt_rowtype.specs.declared.value.Value.{Value}
 use Rattle.bt_keycode.specs.Keys.{Key, key_cmp}
-use Rattle.bt_messages.specs.Effects.{Rows, effect_of, merged_entry, rows_after}
+use Rattle.bt_messages.specs.Effects.{Rows, effect_of, rows_after}
+use Rattle.bt_messages.specs.Meanings.{Meaning, meaning_of}
 use Rattle.bt_messages.specs.Messages.{Messages}
+use Rattle.bt_messages.specs.Payloads.{entry_terms, row_terms}
 use Rattle.bt_messages.specs.declared.message.Message.{Message}
-use Rattle.bt_rowtype.specs.Ops.{Change, merged}
+use Rattle.bt_rowtype.specs.Ops.{Change}
 use Rattle.bt_fanout.specs.Covers.{is_covered}
 use Rattle.bt_fanout.specs.Entries.{Definition, IsWithin, own_entry, same_values}
 use Rattle.bt_fanout.specs.Selections.{between, named}
@@ -23,10 +25,17 @@ EntryMessage = Message (List Value) (List Value)
 
 -- what a message makes of a row, and of an entry
 abbrev pub row_effect : Option (List Value) → RowMessage → Option (List Value)
-row_effect = effect_of merged
+row_effect = effect_of row_terms.merged
 
 abbrev pub entry_effect : Option (List Value) → EntryMessage → Option (List Value)
-entry_effect = effect_of merged_entry
+entry_effect = effect_of entry_terms.merged
+
+-- what a message to a row means, and to an entry: what it makes of it, and what it weighs
+abbrev pub row_meaning : Meaning (List Value) RowMessage
+row_meaning = meaning_of row_terms
+
+abbrev pub entry_meaning : Meaning (List Value) EntryMessage
+entry_meaning = meaning_of entry_terms
 
 -- for each of these keys the row before and the row after
 abbrev pub effects_at : (Key → Option (List Value)) → (Key → Option (List Value)) → Rows (Unit {0}) → List Effect

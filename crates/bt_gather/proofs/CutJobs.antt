@@ -5,12 +5,11 @@ use Rattle.std.proofs.lemmas.Option.{same_Some}
 use Rattle.std.specs.FinMap.{find}
 use Rattle.std.specs.Global.{Global}
 use Rattle.std.specs.List.{All, AllByRecursion as Each}
-use Rattle.std.specs.declared.option.Option.{Option}
 use Rattle.std.specs.declared.option.Option.TheVariants.{None, Some}
 use Rattle.bt_messages.specs.declared.message.Message.{Message}
 use Rattle.bt_node.specs.Fits.{HasShape, IsInOrder}
 use Rattle.bt_node.specs.Flushes.{crown, flush_in}
-use Rattle.bt_node.specs.Messages.{Messages}
+use Rattle.bt_node.specs.Messages.{Meaning, Messages}
 use Rattle.bt_node.specs.Trees.{Shape, Siblings, Tree}
 use Rattle.bt_node.specs.declared.mode.Mode.{Mode}
 use Rattle.bt_plan.specs.declared.job.Job as code
@@ -29,22 +28,22 @@ use Rattle.bt_gather.specs.inside.RoundTrees.{AreJobsOf, HasRoom}
 use Rattle.bt_gather.proofs.NoMisfit.{no_misfit, places_at}
 use Rattle.bt_gather.proofs.offered.Fillable.{cut-fillable, holes-told}
 
-module _ {V M : Type 0} (effect : Option V → M → Option V) (shape : Shape) where
-  done-places : (jobs : List (Job V M)) → places_at (all_done effect shape jobs) ≡ map hole_of jobs
+module _ {V M : Type 0} (meaning : Meaning V M) (shape : Shape) where
+  done-places : (jobs : List (Job V M)) → places_at (all_done meaning shape jobs) ≡ map hole_of jobs
   done-places [] = refl
   done-places (job ∷ jobs) = ap (λ ps. job.place ∷ ps) (done-places jobs)
 
-  done-answers : (pieces : Pieces V M) (jobs : List (Job V M)) → All (λ job. find place_cmp job.place pieces ≡ Some (done effect shape job)) jobs → All (Answers effect shape pieces) jobs
+  done-answers : (pieces : Pieces V M) (jobs : List (Job V M)) → All (λ job. find place_cmp job.place pieces ≡ Some (done meaning shape job)) jobs → All (Answers meaning shape pieces) jobs
   done-answers pieces jobs all =
-      All-weaker (λ job. find place_cmp job.place pieces ≡ Some (done effect shape job)) (Answers effect shape pieces)
-      (λ job e xs f. sym (same_Some (done effect shape job) xs (sym e ∙ f))) jobs all
+      All-weaker (λ job. find place_cmp job.place pieces ≡ Some (done meaning shape job)) (Answers meaning shape pieces)
+      (λ job e xs f. sym (same_Some (done meaning shape job) xs (sym e ∙ f))) jobs all
 
-module _ {V D : Type 0} (effect : Option V → Message V D → Option V) where
-  pieces-shaped : (shape : Shape) (jobs : List (code.Job V D)) → all_pieces effect (map (shaped shape) jobs) ≡ all_done effect shape (map job_of jobs)
+module _ {V D : Type 0} (meaning : Meaning V (Message V D)) where
+  pieces-shaped : (shape : Shape) (jobs : List (code.Job V D)) → all_pieces meaning (map (shaped shape) jobs) ≡ all_done meaning shape (map job_of jobs)
   pieces-shaped shape [] = refl
-  pieces-shaped shape (j ∷ js) = ap (λ ps. (place_of j.place, done effect shape (job_of j)) ∷ ps) (pieces-shaped shape js)
+  pieces-shaped shape (j ∷ js) = ap (λ ps. (place_of j.place, done meaning shape (job_of j)) ∷ ps) (pieces-shaped shape js)
 
-  length-shaped : (shape : Shape) (jobs : List (code.Job V D)) → length (all_pieces effect (map (shaped shape) jobs)) ≡ length jobs
+  length-shaped : (shape : Shape) (jobs : List (code.Job V D)) → length (all_pieces meaning (map (shaped shape) jobs)) ≡ length jobs
   length-shaped shape [] = refl
   length-shaped shape (j ∷ js) = omega (arith, length-shaped shape js)
 
@@ -52,46 +51,46 @@ module _ {V D : Type 0} (effect : Option V → Message V D → Option V) where
   runnable-shaped shape [] e = tt
   runnable-shaped shape (j ∷ js) e = (e.0, runnable-shaped shape js e.1)
 
-  module _ (tree : Shape × Tree V (Message V D)) (has : HasShape tree.0 tree.1) (holed : Shape × Holed V (Message V D) Place) (jobs : List (code.Job V D))
-      (number : ℕ) (packet : Messages (Message V D)) (depth : ℕ) (mode : Mode) (is : IsCut holed jobs number tree packet depth mode)
-      (stand : StandInHoles tree.0 (cut number tree.0 tree.1 packet depth mode)) (rise : PlacesRise (cut number tree.0 tree.1 packet depth mode))
-      (fills : FillsUp effect tree.0 tree.1 packet mode (cut number tree.0 tree.1 packet depth mode))
+  module _ (tree : Shape × Tree V (Message V D)) (has : HasShape meaning.weigh tree.0 tree.1) (holed : Shape × Holed V (Message V D) Place) (jobs : List (code.Job V D))
+      (number : ℕ) (packet : Messages (Message V D)) (depth : ℕ) (mode : Mode) (is : IsCut meaning.weigh holed jobs number tree packet depth mode)
+      (stand : StandInHoles meaning.weigh tree.0 (cut meaning.weigh number tree.0 tree.1 packet depth mode)) (rise : PlacesRise (cut meaning.weigh number tree.0 tree.1 packet depth mode))
+      (fills : FillsUp meaning tree.0 tree.1 packet mode (cut meaning.weigh number tree.0 tree.1 packet depth mode))
       (shape : Shape) (same : shape ≡ holed.0) (count : ℕ) (counted : count ≡ length jobs) (room : Vec (code_place.Place × Siblings V (Message V D)) Global) (roomy : HasRoom room count)
       (found : List (ShapedJob V D)) (are : found ≡ map (shaped shape) jobs) where
     abbrev pieced : Pieced V (Message V D)
-    pieced = cut number tree.0 tree.1 packet depth mode
+    pieced = cut meaning.weigh number tree.0 tree.1 packet depth mode
 
     abbrev wanted : Pieces V (Message V D)
-    wanted = all_done effect tree.0 pieced.jobs
+    wanted = all_done meaning tree.0 pieced.jobs
 
-    pieces-wanted : all_pieces effect found ≡ wanted
+    pieces-wanted : all_pieces meaning found ≡ wanted
     pieces-wanted =
-        ap (all_pieces effect) are ∙ pieces-shaped shape jobs ∙ ap (λ s. all_done effect s (map job_of jobs)) (same ∙ ap (λ h. h.0) is.0) ∙ ap (all_done effect tree.0) is.1
+        ap (all_pieces meaning) are ∙ pieces-shaped shape jobs ∙ ap (λ s. all_done meaning s (map job_of jobs)) (same ∙ ap (λ h. h.0) is.0) ∙ ap (all_done meaning tree.0) is.1
 
-    all-there : All (λ job. find place_cmp job.place wanted ≡ Some (done effect tree.0 job)) pieced.jobs
-    all-there = all-stand effect tree.0 pieced.jobs rise
+    all-there : All (λ job. find place_cmp job.place wanted ≡ Some (done meaning tree.0 job)) pieced.jobs
+    all-there = all-stand meaning tree.0 pieced.jobs rise
 
-    fillable : IsFillable tree.0 pieced.holed wanted
-    fillable = cut-fillable effect tree.0 has.roomy pieced stand rise wanted (done-answers effect tree.0 wanted pieced.jobs all-there)
+    fillable : IsFillable meaning.weigh tree.0 pieced.holed wanted
+    fillable = cut-fillable meaning tree.0 has.roomy pieced stand rise wanted (done-answers meaning tree.0 wanted pieced.jobs all-there)
 
     at-holes : places_at wanted ≡ holes pieced.holed
     at-holes =
-        done-places effect tree.0 pieced.jobs ∙ ap (map hole_of) stand.jobs ∙ sym (holes-told hole_of stand.tree) ∙ sym (ap holes stand.holed)
+        done-places meaning tree.0 pieced.jobs ∙ ap (map hole_of) stand.jobs ∙ sym (holes-told hole_of stand.tree) ∙ sym (ap holes stand.holed)
 
     fit : misfit pieced.holed wanted ≡ None
     fit = no_misfit (holes pieced.holed) wanted at-holes fillable.rise
 
     -- the jobs of a tree that is cut
-    pub cut-jobs : AreJobsOf effect (Cut holed count room) found (tree.0, crown tree.0 (flush_in effect mode tree.0 tree.1 packet))
+    pub cut-jobs : AreJobsOf meaning (Cut holed count room) found (tree.0, crown tree.0 (flush_in meaning mode tree.0 tree.1 packet))
     cut-jobs = record {
       runnable = subst AreRunnable (sym are)
           (All-from_recursion IsRunnable (map (shaped shape) jobs)
-          (runnable-shaped shape jobs (subst (Each (λ job. IsInOrder job.node)) (sym is.1) (jobs-in_order tree.0 pieced stand))));
+          (runnable-shaped shape jobs (subst (Each (λ job. IsInOrder job.node)) (sym is.1) (jobs-in_order meaning.weigh tree.0 pieced stand))));
       fill = record {
-        count = ap (λ js. length (all_pieces effect js)) are ∙ length-shaped shape jobs ∙ sym counted;
+        count = ap (λ js. length (all_pieces meaning js)) are ∙ length-shaped shape jobs ∙ sym counted;
         roomy = roomy;
-        fillable = subst (λ h. IsFillable h.0 h.1 (all_pieces effect found)) (sym is.0) (subst (IsFillable tree.0 pieced.holed) (sym pieces-wanted) fillable);
-        fit = subst (λ h. misfit h.1 (all_pieces effect found) ≡ None) (sym is.0) (subst (λ ps. misfit pieced.holed ps ≡ None) (sym pieces-wanted) fit);
+        fillable = subst (λ h. IsFillable meaning.weigh h.0 h.1 (all_pieces meaning found)) (sym is.0) (subst (IsFillable meaning.weigh tree.0 pieced.holed) (sym pieces-wanted) fillable);
+        fit = subst (λ h. misfit h.1 (all_pieces meaning found) ≡ None) (sym is.0) (subst (λ ps. misfit pieced.holed ps ≡ None) (sym pieces-wanted) fit);
       };
       give = ap (λ ps. (holed.0, crown holed.0 (filled holed.0 holed.1 ps))) pieces-wanted
           ∙ ap (λ h. (h.0, crown h.0 (filled h.0 h.1 wanted))) is.0

@@ -4,8 +4,9 @@ use Rattle.std.proofs.Math.Seq.{take-length}
 use Rattle.std.proofs.lemmas.List.{drop-append-le, drop-map, length-map, take-append-le, take-map}
 use Rattle.std.proofs.lemmas.List.Elements.{All-append}
 use Rattle.std.specs.Global.{Global}
-use Rattle.std.specs.declared.option.Option.{Option}
+use Rattle.bt_keycode.specs.Keys.{Key}
 use Rattle.bt_messages.specs.declared.message.Message.{Message}
+use Rattle.bt_node.specs.Messages.{Meaning}
 use Rattle.bt_node.specs.Trees.{Shape, Siblings, Tree}
 use Rattle.bt_plan.specs.declared.job.Place as code_place
 use Rattle.bt_plan.specs.Pieces.{Holed, Pieces, Place}
@@ -42,44 +43,45 @@ module _ {V D : Type 0} where
   drop-pieces : (n : ℕ) (items : List (code_place.Place × Siblings V (Message V D))) → pieces_of (drop n items) ≡ drop n (pieces_of items)
   drop-pieces n items = sym (drop-map (λ p. (place_of p.0, p.1)) n items)
 
-  count-is : (t : RoundTree V D) (ps : Pieces V (Message V D)) → IsFilledBy t ps → length ps ≡ job_count t
-  count-is (Whole tree) ps e = ap length e
-  count-is (Cut holed jobs room) ps e = e.count
+  module _ (weigh : Key × Message V D → ℕ) where
+    count-is : (t : RoundTree V D) (ps : Pieces V (Message V D)) → IsFilledBy weigh t ps → length ps ≡ job_count t
+    count-is (Whole tree) ps e = ap length e
+    count-is (Cut holed jobs room) ps e = e.count
 
-  few-enough : (t : RoundTree V D) (ps : Pieces V (Message V D)) → IsFilledBy t (take (job_count t) ps) → job_count t ≤ length ps
-  few-enough t ps e = omega (arith, count-is t _ e, length-take (job_count t) ps)
+    few-enough : (t : RoundTree V D) (ps : Pieces V (Message V D)) → IsFilledBy weigh t (take (job_count t) ps) → job_count t ≤ length ps
+    few-enough t ps e = omega (arith, count-is t _ e, length-take (job_count t) ps)
 
-  -- the pieces that a tree which was cut takes
-  module _ (t : RoundTree V D) (holed : Shape × Holed V (Message V D) Place) (jobs : ℕ) (room : Vec (code_place.Place × Siblings V (Message V D)) Global) (is : t ≡ Cut holed jobs room)
-      (items : List (code_place.Place × Siblings V (Message V D))) (fill : IsFilledBy t (take (job_count t) (pieces_of items))) where
-    as-cut : IsCutFilledBy holed jobs room (take jobs (pieces_of items))
-    as-cut = subst (λ t. IsFilledBy t (take (job_count t) (pieces_of items))) is fill
+    -- the pieces that a tree which was cut takes
+    module _ (t : RoundTree V D) (holed : Shape × Holed V (Message V D) Place) (jobs : ℕ) (room : Vec (code_place.Place × Siblings V (Message V D)) Global) (is : t ≡ Cut holed jobs room)
+        (items : List (code_place.Place × Siblings V (Message V D))) (fill : IsFilledBy weigh t (take (job_count t) (pieces_of items))) where
+      as-cut : IsCutFilledBy weigh holed jobs room (take jobs (pieces_of items))
+      as-cut = subst (λ t. IsFilledBy weigh t (take (job_count t) (pieces_of items))) is fill
 
-    pub own-room : HasRoom room jobs
-    own-room = as-cut.roomy
+      pub own-room : HasRoom room jobs
+      own-room = as-cut.roomy
 
-    pub own-enough : jobs ≤ length items
-    own-enough =
-        let told : code_place.Place × Siblings V (Message V D) → Place × Siblings V (Message V D) = λ p. (place_of p.0, p.1) in
-        omega (arith, as-cut.count, length-take jobs (pieces_of items), length-map items told)
+      pub own-enough : jobs ≤ length items
+      own-enough =
+          let told : code_place.Place × Siblings V (Message V D) → Place × Siblings V (Message V D) = λ p. (place_of p.0, p.1) in
+          omega (arith, as-cut.count, length-take jobs (pieces_of items), length-map items told)
 
-    module _ (own : List (code_place.Place × Siblings V (Message V D))) (next : own ≡ take jobs items) where
-      own-pieces : pieces_of own ≡ take jobs (pieces_of items)
-      own-pieces = ap pieces_of next ∙ take-pieces jobs items
+      module _ (own : List (code_place.Place × Siblings V (Message V D))) (next : own ≡ take jobs items) where
+        own-pieces : pieces_of own ≡ take jobs (pieces_of items)
+        own-pieces = ap pieces_of next ∙ take-pieces jobs items
 
-      pub own-fill : IsCutFilledBy holed jobs room (pieces_of own)
-      own-fill = subst (IsCutFilledBy holed jobs room) (sym own-pieces) as-cut
+        pub own-fill : IsCutFilledBy weigh holed jobs room (pieces_of own)
+        own-fill = subst (IsCutFilledBy weigh holed jobs room) (sym own-pieces) as-cut
 
-      pub own-tree : tree_with (Cut holed jobs room) (pieces_of own) ≡ tree_with t (take (job_count t) (pieces_of items))
-      own-tree = ap (tree_with (Cut holed jobs room)) own-pieces ∙ sym (ap (λ t. tree_with t (take (job_count t) (pieces_of items))) is)
+        pub own-tree : tree_with (Cut holed jobs room) (pieces_of own) ≡ tree_with t (take (job_count t) (pieces_of items))
+        own-tree = ap (tree_with (Cut holed jobs room)) own-pieces ∙ sym (ap (λ t. tree_with t (take (job_count t) (pieces_of items))) is)
 
   -- one tree is put together, and the others are left
   module _ (t : RoundTree V D) (rest rest' : List (RoundTree V D)) (one : rest ≡ t ∷ rest') (items items' : List (code_place.Place × Siblings V (Message V D))) (left : items' ≡ drop (job_count t) items) where
     left-pieces : pieces_of items' ≡ drop (job_count t) (pieces_of items)
     left-pieces = ap pieces_of left ∙ drop-pieces (job_count t) items
 
-    pub next-fill : AreFilledBy rest (pieces_of items) → IsFilledBy t (take (job_count t) (pieces_of items)) × AreFilledBy rest' (pieces_of items')
-    next-fill e = let all = subst (λ ts. AreFilledBy ts (pieces_of items)) one e in (all.0, subst (AreFilledBy rest') (sym left-pieces) all.1)
+    pub next-fill : (weigh : Key × Message V D → ℕ) → AreFilledBy weigh rest (pieces_of items) → IsFilledBy weigh t (take (job_count t) (pieces_of items)) × AreFilledBy weigh rest' (pieces_of items')
+    next-fill weigh e = let all = subst (λ ts. AreFilledBy weigh ts (pieces_of items)) one e in (all.0, subst (AreFilledBy weigh rest') (sym left-pieces) all.1)
 
     pub next-trees : (trees trees' : List (Shape × Tree V (Message V D))) (u : Shape × Tree V (Message V D)) → trees' ≡ trees ++ u ∷ [] → u ≡ tree_with t (take (job_count t) (pieces_of items)) →
         (all : List (Shape × Tree V (Message V D))) → trees ++ trees_with rest (pieces_of items) ≡ all → trees' ++ trees_with rest' (pieces_of items') ≡ all
@@ -93,62 +95,63 @@ module _ {V D : Type 0} where
 
   -- ---- one tree more
 
-  own-all : (t : RoundTree V D) (ps : Pieces V (Message V D)) → IsFilledBy t ps → (take (job_count t) ps ≡ ps) × (drop (job_count t) ps ≡ [])
-  own-all t ps e =
-      let n = count-is t ps e in
-      (ap (λ k. take k ps) (sym n) ∙ take-length ps, ap (λ k. drop k ps) (sym n) ∙ drop-length ps)
+  module _ (weigh : Key × Message V D → ℕ) where
+    own-all : (t : RoundTree V D) (ps : Pieces V (Message V D)) → IsFilledBy weigh t ps → (take (job_count t) ps ≡ ps) × (drop (job_count t) ps ≡ [])
+    own-all t ps e =
+        let n = count-is weigh t ps e in
+        (ap (λ k. take k ps) (sym n) ∙ take-length ps, ap (λ k. drop k ps) (sym n) ∙ drop-length ps)
 
-  module _ (t : RoundTree V D) (qs : Pieces V (Message V D)) (one : IsFilledBy t qs) where
-    fill-more : (ts : List (RoundTree V D)) (ps : Pieces V (Message V D)) → AreFilledBy ts ps → AreFilledBy (ts ++ t ∷ []) (ps ++ qs)
-    fill-more [] ps none =
-        let mine = own-all t qs one in
-        subst (λ ps. AreFilledBy (t ∷ []) (ps ++ qs)) (sym none) (subst (IsFilledBy t) (sym mine.0) one, mine.1)
-    fill-more (x ∷ ts) ps all =
-        let few = few-enough x ps all.0 in (
-          subst (IsFilledBy x) (sym (take-append-le (job_count x) ps qs few)) all.0,
-          subst (AreFilledBy (ts ++ t ∷ [])) (sym (drop-append-le (job_count x) ps qs few)) (fill-more ts (drop (job_count x) ps) all.1),
-        )
+    module _ (t : RoundTree V D) (qs : Pieces V (Message V D)) (one : IsFilledBy weigh t qs) where
+      fill-more : (ts : List (RoundTree V D)) (ps : Pieces V (Message V D)) → AreFilledBy weigh ts ps → AreFilledBy weigh (ts ++ t ∷ []) (ps ++ qs)
+      fill-more [] ps none =
+          let mine = own-all t qs one in
+          subst (λ ps. AreFilledBy weigh (t ∷ []) (ps ++ qs)) (sym none) (subst (IsFilledBy weigh t) (sym mine.0) one, mine.1)
+      fill-more (x ∷ ts) ps all =
+          let few = few-enough weigh x ps all.0 in (
+            subst (IsFilledBy weigh x) (sym (take-append-le (job_count x) ps qs few)) all.0,
+            subst (AreFilledBy weigh (ts ++ t ∷ [])) (sym (drop-append-le (job_count x) ps qs few)) (fill-more ts (drop (job_count x) ps) all.1),
+          )
 
-    trees-more : (ts : List (RoundTree V D)) (ps : Pieces V (Message V D)) → AreFilledBy ts ps → trees_with (ts ++ t ∷ []) (ps ++ qs) ≡ trees_with ts ps ++ tree_with t qs ∷ []
-    trees-more [] ps none = ap (λ ps. trees_with (t ∷ []) (ps ++ qs)) none ∙ ap (λ ps. tree_with t ps ∷ []) (own-all t qs one).0
-    trees-more (x ∷ ts) ps all =
-        let few = few-enough x ps all.0 in
-        ap (λ y. tree_with x y ∷ trees_with (ts ++ t ∷ []) (drop (job_count x) (ps ++ qs))) (take-append-le (job_count x) ps qs few)
-        ∙ ap (λ y. tree_with x (take (job_count x) ps) ∷ trees_with (ts ++ t ∷ []) y) (drop-append-le (job_count x) ps qs few)
-        ∙ ap (λ ys. tree_with x (take (job_count x) ps) ∷ ys) (trees-more ts (drop (job_count x) ps) all.1)
+      trees-more : (ts : List (RoundTree V D)) (ps : Pieces V (Message V D)) → AreFilledBy weigh ts ps → trees_with (ts ++ t ∷ []) (ps ++ qs) ≡ trees_with ts ps ++ tree_with t qs ∷ []
+      trees-more [] ps none = ap (λ ps. trees_with (t ∷ []) (ps ++ qs)) none ∙ ap (λ ps. tree_with t ps ∷ []) (own-all t qs one).0
+      trees-more (x ∷ ts) ps all =
+          let few = few-enough weigh x ps all.0 in
+          ap (λ y. tree_with x y ∷ trees_with (ts ++ t ∷ []) (drop (job_count x) (ps ++ qs))) (take-append-le (job_count x) ps qs few)
+          ∙ ap (λ y. tree_with x (take (job_count x) ps) ∷ trees_with (ts ++ t ∷ []) y) (drop-append-le (job_count x) ps qs few)
+          ∙ ap (λ ys. tree_with x (take (job_count x) ps) ∷ ys) (trees-more ts (drop (job_count x) ps) all.1)
 
-  module _ (effect : Option V → Message V D → Option V) where
-    pieces-append : (js more : List (ShapedJob V D)) → all_pieces effect (js ++ more) ≡ all_pieces effect js ++ all_pieces effect more
+  module _ (meaning : Meaning V (Message V D)) where
+    pieces-append : (js more : List (ShapedJob V D)) → all_pieces meaning (js ++ more) ≡ all_pieces meaning js ++ all_pieces meaning more
     pieces-append [] more = refl
-    pieces-append (j ∷ js) more = ap (λ ps. (place_of j.job.place, (piece_of effect j).1) ∷ ps) (pieces-append js more)
+    pieces-append (j ∷ js) more = ap (λ ps. (place_of j.job.place, (piece_of meaning j).1) ∷ ps) (pieces-append js more)
 
     -- the jobs of trees, and of one more
-    pub more-jobs : (ts : List (RoundTree V D)) (js : List (ShapedJob V D)) (us : List (Shape × Tree V (Message V D))) → AreJobsOfAll effect ts js us →
-        (t : RoundTree V D) (more : List (ShapedJob V D)) (u : Shape × Tree V (Message V D)) → AreJobsOf effect t more u →
-        (ts' : List (RoundTree V D)) → ts' ≡ ts ++ t ∷ [] → (js' : List (ShapedJob V D)) → js' ≡ js ++ more → AreJobsOfAll effect ts' js' (us ++ u ∷ [])
+    pub more-jobs : (ts : List (RoundTree V D)) (js : List (ShapedJob V D)) (us : List (Shape × Tree V (Message V D))) → AreJobsOfAll meaning ts js us →
+        (t : RoundTree V D) (more : List (ShapedJob V D)) (u : Shape × Tree V (Message V D)) → AreJobsOf meaning t more u →
+        (ts' : List (RoundTree V D)) → ts' ≡ ts ++ t ∷ [] → (js' : List (ShapedJob V D)) → js' ≡ js ++ more → AreJobsOfAll meaning ts' js' (us ++ u ∷ [])
     more-jobs ts js us all t more u one ts' pushed js' added =
-        subst (λ ts. AreJobsOfAll effect ts js' (us ++ u ∷ [])) (sym pushed) (subst (λ js. AreJobsOfAll effect (ts ++ t ∷ []) js (us ++ u ∷ [])) (sym added) (record {
+        subst (λ ts. AreJobsOfAll meaning ts js' (us ++ u ∷ [])) (sym pushed) (subst (λ js. AreJobsOfAll meaning (ts ++ t ∷ []) js (us ++ u ∷ [])) (sym added) (record {
           runnable = All-append IsRunnable js more all.runnable one.runnable;
-          fill = subst (AreFilledBy (ts ++ t ∷ [])) (sym (pieces-append js more)) (fill-more t (all_pieces effect more) one.fill ts (all_pieces effect js) all.fill);
+          fill = subst (AreFilledBy meaning.weigh (ts ++ t ∷ [])) (sym (pieces-append js more)) (fill-more meaning.weigh t (all_pieces meaning more) one.fill ts (all_pieces meaning js) all.fill);
           give = ap (trees_with (ts ++ t ∷ [])) (pieces-append js more)
-              ∙ trees-more t (all_pieces effect more) one.fill ts (all_pieces effect js) all.fill
-              ∙ ap (λ us. us ++ tree_with t (all_pieces effect more) ∷ []) all.give
+              ∙ trees-more meaning.weigh t (all_pieces meaning more) one.fill ts (all_pieces meaning js) all.fill
+              ∙ ap (λ us. us ++ tree_with t (all_pieces meaning more) ∷ []) all.give
               ∙ ap (λ u. us ++ u ∷ []) one.give;
         }))
 
     -- the tree that it is when the pieces of all its jobs have come
-    pub tree-done : (t : RoundTree V D) (jobs : List (ShapedJob V D)) (u : Shape × Tree V (Message V D)) → AreJobsOf effect t jobs u →
-        (items : List (code_place.Place × Siblings V (Message V D))) → items ≡ map (piece_of effect) jobs →
-        IsFilledBy t (take (job_count t) (pieces_of items)) × (tree_with t (take (job_count t) (pieces_of items)) ≡ u)
+    pub tree-done : (t : RoundTree V D) (jobs : List (ShapedJob V D)) (u : Shape × Tree V (Message V D)) → AreJobsOf meaning t jobs u →
+        (items : List (code_place.Place × Siblings V (Message V D))) → items ≡ map (piece_of meaning) jobs →
+        IsFilledBy meaning.weigh t (take (job_count t) (pieces_of items)) × (tree_with t (take (job_count t) (pieces_of items)) ≡ u)
     tree-done t jobs u all items are =
-        let own = (own-all t (all_pieces effect jobs) all.fill).0 in (
-          subst (λ xs. IsFilledBy t (take (job_count t) (pieces_of xs))) (sym are) (subst (IsFilledBy t) (sym own) all.fill),
+        let own = (own-all meaning.weigh t (all_pieces meaning jobs) all.fill).0 in (
+          subst (λ xs. IsFilledBy meaning.weigh t (take (job_count t) (pieces_of xs))) (sym are) (subst (IsFilledBy meaning.weigh t) (sym own) all.fill),
           ap (λ xs. tree_with t (take (job_count t) (pieces_of xs))) are ∙ ap (tree_with t) own ∙ all.give,
         )
 
     -- and those that trees are
-    pub trees-done : (ts : List (RoundTree V D)) (jobs : List (ShapedJob V D)) (us : List (Shape × Tree V (Message V D))) → AreJobsOfAll effect ts jobs us →
-        (items : List (code_place.Place × Siblings V (Message V D))) → items ≡ map (piece_of effect) jobs →
-        AreFilledBy ts (pieces_of items) × (trees_with ts (pieces_of items) ≡ us)
+    pub trees-done : (ts : List (RoundTree V D)) (jobs : List (ShapedJob V D)) (us : List (Shape × Tree V (Message V D))) → AreJobsOfAll meaning ts jobs us →
+        (items : List (code_place.Place × Siblings V (Message V D))) → items ≡ map (piece_of meaning) jobs →
+        AreFilledBy meaning.weigh ts (pieces_of items) × (trees_with ts (pieces_of items) ≡ us)
     trees-done ts jobs us all items are =
-        (subst (λ xs. AreFilledBy ts (pieces_of xs)) (sym are) all.fill, ap (λ xs. trees_with ts (pieces_of xs)) are ∙ all.give)
+        (subst (λ xs. AreFilledBy meaning.weigh ts (pieces_of xs)) (sym are) all.fill, ap (λ xs. trees_with ts (pieces_of xs)) are ∙ all.give)

@@ -1,14 +1,12 @@
 -- Trees after their packets fit their shapes and hold what they held, and a drained tree is dry beside that.
 use Rattle.std.proofs.Common.{◌≡◌, ◌∙◌, List, [], ◌∷◌, ◌++◌, ap, append_assoc, map, refl, subst, sym}
-use Rattle.std.proofs.lemmas.List.{map-append}
 use Rattle.std.proofs.lemmas.List.Elements.{All-from_recursion, recursion_from_All}
 use Rattle.std.specs.List.{All, AllByRecursion as Each}
-use Rattle.std.specs.declared.option.Option.{Option}
 use Rattle.bt_node.specs.Drains.{IsDry, drain, drained}
 use Rattle.bt_node.specs.Fits.{HasShape}
 use Rattle.bt_node.specs.Flushes.{holds}
-use Rattle.bt_node.specs.Laws.{HoldsAfter, HoldsTheSame}
-use Rattle.bt_node.specs.Messages.{Messages, Rows, rows_after}
+use Rattle.bt_node.specs.Laws.{HoldsTheSame}
+use Rattle.bt_node.specs.Messages.{Meaning, Messages, rows_after}
 use Rattle.bt_node.specs.Trees.{Shape, Tree}
 use Rattle.bt_node.proofs.offered.PackedTrees.{crown-dry, drain-dry, drained-has_shape, drained-holds}
 use Rattle.bt_node.proofs.offered.ShapedTrees.{sunk-has_shape, sunk-holds}
@@ -24,47 +22,41 @@ next-mapped f so_far so_far' y pushed x rest rest' next is all equal =
     ∙ ap (λ xs. so_far ++ map f xs) (sym next)
     ∙ equal
 
-module _ {V M : Type 0} (effect : Option V → M → Option V) where
+module _ {V M : Type 0} (meaning : Meaning V M) where
   -- one more tree is sunk
   module _ (so_far so_far' : List (Shape × Tree V M)) (u : Shape × Tree V M) (pushed : so_far' ≡ so_far ++ u ∷ []) (x : (Shape × Tree V M) × Messages M)
       (rest rest' : List ((Shape × Tree V M) × Messages M)) (next : rest ≡ x ∷ rest') where
-    pub sunk-next : u ≡ sunk_tree effect x → (all : List (Shape × Tree V M)) → so_far ++ all_sunk effect rest ≡ all → so_far' ++ all_sunk effect rest' ≡ all
-    sunk-next = next-mapped (sunk_tree effect) so_far so_far' u pushed x rest rest' next
+    pub sunk-next : u ≡ sunk_tree meaning x → (all : List (Shape × Tree V M)) → so_far ++ all_sunk meaning rest ≡ all → so_far' ++ all_sunk meaning rest' ≡ all
+    sunk-next = next-mapped (sunk_tree meaning) so_far so_far' u pushed x rest rest' next
 
-    pub held-next : HoldsAfter effect x.0.1 x.1 u.1 → (all : List (Rows V)) → rows_of_all effect so_far ++ rows_after_all effect rest ≡ all →
-        rows_of_all effect so_far' ++ rows_after_all effect rest' ≡ all
-    held-next =
-        next-mapped (λ x. rows_after effect x.1 (holds effect x.0.1)) (rows_of_all effect so_far) (rows_of_all effect so_far') (holds effect u.1)
-        (ap (rows_of_all effect) pushed ∙ map-append (λ tree. holds effect tree.1) so_far (u ∷ [])) x rest rest' next
-
-  each-shaped : (xs : List ((Shape × Tree V M) × Messages M)) → Each (λ x. HasShape x.0.0 x.0.1) xs → Each (λ tree. HasShape tree.0 tree.1) (all_sunk effect xs)
+  each-shaped : (xs : List ((Shape × Tree V M) × Messages M)) → Each (λ x. HasShape meaning.weigh x.0.0 x.0.1) xs → Each (λ tree. HasShape meaning.weigh tree.0 tree.1) (all_sunk meaning xs)
   each-shaped [] e = tt
-  each-shaped (x ∷ xs) e = (sunk-has_shape effect x.0.0 x.0.1 e.0 x.1, each-shaped xs e.1)
+  each-shaped (x ∷ xs) e = (sunk-has_shape meaning x.0.0 x.0.1 e.0 x.1, each-shaped xs e.1)
 
-  each-holds : (xs : List ((Shape × Tree V M) × Messages M)) → Each (λ x. HasShape x.0.0 x.0.1) xs → rows_of_all effect (all_sunk effect xs) ≡ rows_after_all effect xs
+  each-holds : (xs : List ((Shape × Tree V M) × Messages M)) → Each (λ x. HasShape meaning.weigh x.0.0 x.0.1) xs → rows_of_all meaning.effect (all_sunk meaning xs) ≡ rows_after_all meaning.effect xs
   each-holds [] e = refl
   each-holds (x ∷ xs) e =
-      ap (λ rows. rows ∷ rows_of_all effect (all_sunk effect xs)) (sunk-holds effect x.0.0 x.0.1 e.0 x.1)
-      ∙ ap (λ all. rows_after effect x.1 (holds effect x.0.1) ∷ all) (each-holds xs e.1)
+      ap (λ rows. rows ∷ rows_of_all meaning.effect (all_sunk meaning xs)) (sunk-holds meaning x.0.0 x.0.1 e.0 x.1)
+      ∙ ap (λ all. rows_after meaning.effect x.1 (holds meaning.effect x.0.1) ∷ all) (each-holds xs e.1)
 
-  module _ (xs : List ((Shape × Tree V M) × Messages M)) (have : All (λ x. HasShape x.0.0 x.0.1) xs) (trees : List (Shape × Tree V M)) (are : trees ≡ all_sunk effect xs) where
-    each : Each (λ x. HasShape x.0.0 x.0.1) xs
-    each = recursion_from_All (λ x. HasShape x.0.0 x.0.1) xs have
+  module _ (xs : List ((Shape × Tree V M) × Messages M)) (have : All (λ x. HasShape meaning.weigh x.0.0 x.0.1) xs) (trees : List (Shape × Tree V M)) (are : trees ≡ all_sunk meaning xs) where
+    each : Each (λ x. HasShape meaning.weigh x.0.0 x.0.1) xs
+    each = recursion_from_All (λ x. HasShape meaning.weigh x.0.0 x.0.1) xs have
 
     -- trees after their packets fit
-    pub all-sunk-fit : AllHaveShape trees
-    all-sunk-fit = subst AllHaveShape (sym are) (All-from_recursion (λ tree. HasShape tree.0 tree.1) (all_sunk effect xs) (each-shaped xs each))
+    pub all-sunk-fit : AllHaveShape meaning.weigh trees
+    all-sunk-fit = subst (AllHaveShape meaning.weigh) (sym are) (All-from_recursion (λ tree. HasShape meaning.weigh tree.0 tree.1) (all_sunk meaning xs) (each-shaped xs each))
 
     -- and hold what they held, after their packets
-    pub all-sunk-hold : AllHoldAfter effect xs trees
-    all-sunk-hold = ap (rows_of_all effect) are ∙ each-holds xs each
+    pub all-sunk-hold : AllHoldAfter meaning.effect xs trees
+    all-sunk-hold = ap (rows_of_all meaning.effect) are ∙ each-holds xs each
 
-  module _ (tree : Shape × Tree V M) (has : HasShape tree.0 tree.1) (u : Shape × Tree V M) (is : u ≡ (tree.0, drained effect tree.0 tree.1)) where
-    pub drained_fits : HasShape u.0 u.1
-    drained_fits = subst (λ (x : Shape × Tree V M). HasShape x.0 x.1) (sym is) (drained-has_shape effect tree.0 tree.1 has)
+  module _ (tree : Shape × Tree V M) (has : HasShape meaning.weigh tree.0 tree.1) (u : Shape × Tree V M) (is : u ≡ (tree.0, drained meaning tree.0 tree.1)) where
+    pub drained_fits : HasShape meaning.weigh u.0 u.1
+    drained_fits = subst (λ (x : Shape × Tree V M). HasShape meaning.weigh x.0 x.1) (sym is) (drained-has_shape meaning tree.0 tree.1 has)
 
-    pub drained_holds : HoldsTheSame effect tree.1 u.1
-    drained_holds = ap (λ x. holds effect x.1) is ∙ drained-holds effect tree.0 tree.1 has
+    pub drained_holds : HoldsTheSame meaning.effect tree.1 u.1
+    drained_holds = ap (λ x. holds meaning.effect x.1) is ∙ drained-holds meaning tree.0 tree.1 has
 
     pub drained_dry : IsDry u.1
-    drained_dry = subst (λ (x : Shape × Tree V M). IsDry x.1) (sym is) (crown-dry tree.0 (drain effect tree.0 tree.1 []) (drain-dry effect tree.0 tree.1 []))
+    drained_dry = subst (λ (x : Shape × Tree V M). IsDry x.1) (sym is) (crown-dry tree.0 (drain meaning tree.0 tree.1 []) (drain-dry meaning tree.0 tree.1 []))

@@ -1,25 +1,27 @@
 -- What becomes of several trees, each with a packet of its own.
-use Rattle.std.specs.Prelude.{◌≡◌, List, map}
+use Rattle.std.specs.Prelude.{◌≡◌, ℕ, List, map}
 use Rattle.std.specs.List.{All}
 use Rattle.std.specs.declared.option.Option.{Option}
+use Rattle.bt_keycode.specs.Keys.{Key}
 use Rattle.bt_node.specs.Fits.{HasShape}
 use Rattle.bt_node.specs.Flushes.{holds, sunk}
-use Rattle.bt_node.specs.Messages.{Messages, Rows, rows_after}
+use Rattle.bt_node.specs.Messages.{Meaning, Messages, Rows, rows_after}
 use Rattle.bt_node.specs.Trees.{Shape, Tree}
 
 -- each tree fits its shape
-abbrev pub AllHaveShape : {V M : Type 0} → List (Shape × Tree V M) → Type 0
-AllHaveShape = All (λ tree. HasShape tree.0 tree.1)
+abbrev pub AllHaveShape : {V M : Type 0} → (Key × M → ℕ) → List (Shape × Tree V M) → Type 0
+AllHaveShape weigh = All (λ tree. HasShape weigh tree.0 tree.1)
 
-module _ {V M : Type 0} (effect : Option V → M → Option V) where
+module _ {V M : Type 0} (meaning : Meaning V M) where
   -- a tree after its packet, with its shape
   abbrev pub sunk_tree : (Shape × Tree V M) × Messages M → Shape × Tree V M
-  sunk_tree x = (x.0.0, sunk effect x.0.0 x.0.1 x.1)
+  sunk_tree x = (x.0.0, sunk meaning x.0.0 x.0.1 x.1)
 
   -- trees, each after its packet
   abbrev pub all_sunk : List ((Shape × Tree V M) × Messages M) → List (Shape × Tree V M)
   all_sunk = map sunk_tree
 
+module _ {V M : Type 0} (effect : Option V → M → Option V) where
   -- what trees hold
   abbrev pub rows_of_all : List (Shape × Tree V M) → List (Rows V)
   rows_of_all = map (λ tree. holds effect tree.1)

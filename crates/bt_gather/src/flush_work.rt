@@ -1,6 +1,6 @@
 //! The jobs of a round, and what a worker does with each.
 ghost use Rattle.std.specs.Prelude.{◌≡◌, IfOk};
-ghost use Rattle.bt_messages.specs.Effects.{effect_of};
+ghost use Rattle.bt_messages.specs.Meanings.{meaning_of};
 ghost use Rattle.bt_node.specs.Fits.{IsInOrder};
 ghost use Rattle.bt_plan.specs.Cuts.{done};
 ghost use Rattle.bt_plan.specs.Views.{job_of};
@@ -20,7 +20,7 @@ pub fn run_job<V: Merge>(
     job: Job<V>,
 ) -> Result<(Place, Siblings<V>), AllocError>
     requires { IsInOrder job.node }
-    ensures { IfOk result (λ piece. piece ≡ (job.place, done (effect_of V.merged) shape (job_of job))) }
+    ensures { IfOk result (λ piece. piece ≡ (job.place, done (meaning_of V.terms) shape (job_of job))) }
 {
     let Job {
         place,
@@ -71,13 +71,13 @@ where
 
     ghost use Rattle.std.specs.Prelude.{◌≡◌, MatchResult, ⊤};
     ghost use Rattle.std.proofs.Common.{sym, ◌∙◌};
-    ghost use Rattle.bt_messages.specs.Effects.{effect_of};
+    ghost use Rattle.bt_messages.specs.Meanings.{meaning_of};
     ghost use Rattle.bt_gather.specs.inside.Eithers.{HoldsOfEither, either_map};
     ghost use Rattle.bt_gather.specs.inside.RoundJobs.{IsRunnable, piece_of};
 
     ghost accepts = { λ _ job. HoldsOfEither IsRunnable IsRunnable job };
 
-    ghost allows = { λ _ job answer. MatchResult answer (λ piece. piece ≡ either_map (piece_of (effect_of R.merged)) (piece_of (effect_of E.merged)) job) (λ _. ⊤) };
+    ghost allows = { λ _ job answer. MatchResult answer (λ piece. piece ≡ either_map (piece_of (meaning_of R.terms)) (piece_of (meaning_of E.terms)) job) (λ _. ⊤) };
 
     fn run(
         &self,

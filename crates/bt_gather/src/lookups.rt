@@ -57,7 +57,7 @@ where
 
     ghost accepts = { λ _ job. HasRisingKeys job };
 
-    ghost allows = { λ _ job answer. MatchResult answer (λ values. values ≡ values_there (effect_of V.merged) job) (λ _. ⊤) };
+    ghost allows = { λ _ job answer. MatchResult answer (λ values. values ≡ values_there (effect_of V.terms.merged) job) (λ _. ⊤) };
 
     fn run(
         &self,
@@ -116,7 +116,7 @@ fn add_job<'a, V: Merge>(
     keys: &'a [&'a Key],
 ) -> Result<(), AllocError>
     requires { AreRising (map (λ k. k.now) keys.now) }
-    ensures values { OnOk result (flat_map (values_there (effect_of V.merged)) jobs.new.items ≡ flat_map (values_there (effect_of V.merged)) jobs.old.items ++ map (λ k. value_in (effect_of V.merged) k.now portion.entry) keys.now) }
+    ensures values { OnOk result (flat_map (values_there (effect_of V.terms.merged)) jobs.new.items ≡ flat_map (values_there (effect_of V.terms.merged)) jobs.old.items ++ map (λ k. value_in (effect_of V.terms.merged) k.now portion.entry) keys.now) }
     ensures rising { All HasRisingKeys jobs.old.items → OnOk result (All HasRisingKeys jobs.new.items) }
 {
     if keys.is_empty() {
@@ -135,8 +135,8 @@ fn shared<'a, V: Merge>(
     requires rising { AreRising (map (λ k. k.now) keys.now) }
     requires some { 0 < length portions.items }
     requires chained { Chained None portions.items None }
-    ensures values { IfOk result (λ jobs. (value : Key → Option V) → ((key : Key) → HaveThere (effect_of V.merged) key (value key) portions.entry.items) →
-        flat_map (values_there (effect_of V.merged)) jobs.items ≡ map (λ k. value k.now) keys.now) }
+    ensures values { IfOk result (λ jobs. (value : Key → Option V) → ((key : Key) → HaveThere (effect_of V.terms.merged) key (value key) portions.entry.items) →
+        flat_map (values_there (effect_of V.terms.merged)) jobs.items ≡ map (λ k. value k.now) keys.now) }
     ensures rising { IfOk result (λ jobs. All HasRisingKeys jobs.items) }
 {
     let mut jobs = Vec::new(alloc);
@@ -179,7 +179,7 @@ pub fn values<'k, V: Merge + Send + Sync, G: Gate + Sync, T: Threads + Wait + Sy
 where
     V::Delta: Send + Sync,
     requires rising { AreRising (map (λ k. k.now) keys.now) }
-    ensures { IfOk result (λ values. values.items ≡ map (λ k. find key_cmp k.now (holds (effect_of V.merged) tree.now.1)) keys.now) }
+    ensures { IfOk result (λ values. values.items ≡ map (λ k. find key_cmp k.now (holds (effect_of V.terms.merged) tree.now.1)) keys.now) }
 {
     let crew = crew.with_at_most(most_workers(crew, keys.len()));
     if crew.workers == 1 {

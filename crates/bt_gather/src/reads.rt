@@ -2,6 +2,7 @@
 ghost use Rattle.std.specs.Prelude.{◌≡◌, IfOk, fold, map};
 ghost use Rattle.std.specs.Option.{option_copied};
 ghost use Rattle.bt_messages.specs.Effects.{effect_of};
+ghost use Rattle.bt_messages.specs.Weights.{weigh_of};
 ghost use Rattle.bt_node.specs.Drains.{IsDry, rebuilt};
 ghost use Rattle.bt_node.specs.Fits.{HasShape};
 ghost use Rattle.bt_node.specs.Flushes.{holds};
@@ -45,7 +46,7 @@ where
 
     ghost accepts = { λ _ _. ⊤ };
 
-    ghost allows = { λ _ job answer. MatchResult answer (λ visitor. visitor ≡ fold S.visited job.1 (rows_of (effect_of V.merged) job.0)) (λ _. ⊤) };
+    ghost allows = { λ _ job answer. MatchResult answer (λ visitor. visitor ≡ fold S.visited job.1 (rows_of (effect_of V.terms.merged) job.0)) (λ _. ⊤) };
 
     fn run(&self, alloc: Global, job: (Portion<'a, V>, S)) -> Result<S, AllocError> {
         let (portion, mut visitor) = job;
@@ -94,7 +95,7 @@ fn read_alone<V: Merge, S: Visitor<V>>(
     to: Option<&Key>,
     visitor: S,
 ) -> Result<S, AllocError>
-    ensures { IfOk result (λ after. after ≡ fold S.visited visitor (between (option_copied from.entry) (option_copied to.entry) (holds (effect_of V.merged) tree.now.1))) }
+    ensures { IfOk result (λ after. after ≡ fold S.visited visitor (between (option_copied from.entry) (option_copied to.entry) (holds (effect_of V.terms.merged) tree.now.1))) }
 {
     let mut visitor = visitor;
     tree.walk().visit(alloc, from, to, &mut visitor)?;
@@ -107,7 +108,7 @@ fn read_in_turn<V: Merge, S: Visitor<V>>(
     portions: Vec<Portion<'_, V>>,
     visitor: S,
 ) -> Result<S, AllocError>
-    ensures { IfOk result (λ after. after ≡ fold S.visited visitor (all_rows (effect_of V.merged) portions.entry.items)) }
+    ensures { IfOk result (λ after. after ≡ fold S.visited visitor (all_rows (effect_of V.terms.merged) portions.entry.items)) }
 {
     let mut visitor = visitor;
     for portion in portions {
@@ -139,7 +140,7 @@ pub fn read<
 ) -> Result<S, AllocError>
 where
     V::Delta: Send + Sync,
-    ensures { IfOk result (λ after. after ≡ fold S.visited visitor (between (option_copied from.entry) (option_copied to.entry) (holds (effect_of V.merged) tree.now.1))) }
+    ensures { IfOk result (λ after. after ≡ fold S.visited visitor (between (option_copied from.entry) (option_copied to.entry) (holds (effect_of V.terms.merged) tree.now.1))) }
 {
     if crew.workers == 1 {
         return read_alone(alloc, tree, from, to, visitor);
@@ -166,9 +167,9 @@ pub fn rebuild<V: Merge + Send + Sync, G: Gate + Sync, T: Threads + Wait + Sync>
 ) -> Result<Tree<V>, AllocError>
 where
     V::Delta: Send + Sync,
-    ensures tree { IfOk result (λ new. new ≡ (tree.now.0, rebuilt (effect_of V.merged) tree.now.0 tree.now.1)) }
-    ensures fits { IfOk result (λ new. HasShape new.0 new.1) }
-    ensures rows { IfOk result (λ new. HoldsTheSame (effect_of V.merged) tree.now.1 new.1) }
+    ensures tree { IfOk result (λ new. new ≡ (tree.now.0, rebuilt (effect_of V.terms.merged) tree.now.0 tree.now.1)) }
+    ensures fits { IfOk result (λ new. HasShape (weigh_of V.terms) new.0 new.1) }
+    ensures rows { IfOk result (λ new. HoldsTheSame (effect_of V.terms.merged) tree.now.1 new.1) }
     ensures dry { IfOk result (λ new. IsDry new.1) }
 {
     has_shape(tree);

@@ -1,6 +1,8 @@
 //! One round over trees: the flushes of all of them are jobs of one run.
 ghost use Rattle.std.specs.Prelude.{◌≡◌, ◌≤◌, ◌+◌, IfOk, length, map};
 ghost use Rattle.bt_messages.specs.Effects.{effect_of};
+ghost use Rattle.bt_messages.specs.Meanings.{meaning_of};
+ghost use Rattle.bt_messages.specs.Weights.{weigh_of};
 ghost use Rattle.bt_node.specs.Drains.{IsDry, drained};
 ghost use Rattle.bt_node.specs.Fits.{HasShape};
 ghost use Rattle.bt_node.specs.Laws.{HoldsTheSame};
@@ -37,8 +39,8 @@ where
     E::Delta: Send + Sync,
     requires rows { AreRunnable rows.items }
     requires entries { AreRunnable entries.items }
-    ensures rows { IfOk result (λ pieces. pieces.0.items ≡ map (piece_of (effect_of R.merged)) rows.items) }
-    ensures entries { IfOk result (λ pieces. pieces.1.items ≡ map (piece_of (effect_of E.merged)) entries.items) }
+    ensures rows { IfOk result (λ pieces. pieces.0.items ≡ map (piece_of (meaning_of R.terms)) rows.items) }
+    ensures entries { IfOk result (λ pieces. pieces.1.items ≡ map (piece_of (meaning_of E.terms)) entries.items) }
 {
     let row_room = Vec::with_capacity(alloc, rows.len())?;
     let entry_room = Vec::with_capacity(alloc, entries.len())?;
@@ -67,10 +69,10 @@ where
     R::Delta: Send + Sync,
     E::Delta: Send + Sync,
     requires few { length rows.items + length entries.items ≤ 65536 }
-    ensures rows { IfOk result (λ trees. trees.0.items ≡ all_sunk (effect_of R.merged) rows.items) }
-    ensures entries { IfOk result (λ trees. trees.1.items ≡ all_sunk (effect_of E.merged) entries.items) }
-    ensures fit { IfOk result (λ trees. AllHaveShape trees.0.items × AllHaveShape trees.1.items) }
-    ensures hold { IfOk result (λ trees. AllHoldAfter (effect_of R.merged) rows.items trees.0.items × AllHoldAfter (effect_of E.merged) entries.items trees.1.items) }
+    ensures rows { IfOk result (λ trees. trees.0.items ≡ all_sunk (meaning_of R.terms) rows.items) }
+    ensures entries { IfOk result (λ trees. trees.1.items ≡ all_sunk (meaning_of E.terms) entries.items) }
+    ensures fit { IfOk result (λ trees. AllHaveShape (weigh_of R.terms) trees.0.items × AllHaveShape (weigh_of E.terms) trees.1.items) }
+    ensures hold { IfOk result (λ trees. AllHoldAfter (effect_of R.terms.merged) rows.items trees.0.items × AllHoldAfter (effect_of E.terms.merged) entries.items trees.1.items) }
 {
     let count = rows.len();
     let rows = round_trees(alloc, 0, rows, crew.cut, crew.grain)?;
@@ -93,9 +95,9 @@ pub fn drain<V: Merge + Send + Sync, G: Gate + Sync, T: Threads + Wait + Sync>(
 ) -> Result<Tree<V>, AllocError>
 where
     V::Delta: Send + Sync,
-    ensures tree { IfOk result (λ dry. dry ≡ (tree.0, drained (effect_of V.merged) tree.0 tree.1)) }
-    ensures fits { IfOk result (λ dry. HasShape dry.0 dry.1) }
-    ensures rows { IfOk result (λ dry. HoldsTheSame (effect_of V.merged) tree.1 dry.1) }
+    ensures tree { IfOk result (λ dry. dry ≡ (tree.0, drained (meaning_of V.terms) tree.0 tree.1)) }
+    ensures fits { IfOk result (λ dry. HasShape (weigh_of V.terms) dry.0 dry.1) }
+    ensures rows { IfOk result (λ dry. HoldsTheSame (effect_of V.terms.merged) tree.1 dry.1) }
     ensures dry { IfOk result (λ dry. IsDry dry.1) }
 {
     let (tree, jobs) = cut_tree(alloc, 0, tree, Packet::new(alloc), crew.cut, Mode::Drain)?;

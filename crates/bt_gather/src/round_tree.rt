@@ -3,7 +3,8 @@ ghost use Rattle.std.specs.Prelude.{◌≡◌, ◌≤◌, ◌<◌, ◌+◌, ◌+
 ghost use Rattle.std.specs.List.{All};
 ghost use Rattle.std.specs.Vec.Iter.{into_iter_items};
 ghost use Rattle.std.specs.declared.option.Option.TheVariants.{None};
-ghost use Rattle.bt_messages.specs.Effects.{effect_of};
+ghost use Rattle.bt_messages.specs.Meanings.{meaning_of};
+ghost use Rattle.bt_messages.specs.Weights.{weigh_of};
 ghost use Rattle.bt_node.specs.Fits.{HasShape};
 ghost use Rattle.bt_node.specs.Flushes.{crown, flush_in};
 ghost use Rattle.bt_plan.specs.Pieces.{filled};
@@ -49,7 +50,7 @@ pub(crate) struct RoundTrees<V: Merge> {
 
 /// Says that a tree has its shape, which is known of each tree, but in a contract only where the tree is looked at.
 pub(crate) fn has_shape<V: Merge>(tree: &Tree<V>)
-    ensures { HasShape tree.now.0 tree.now.1 }
+    ensures { HasShape (weigh_of V.terms) tree.now.0 tree.now.1 }
 {
     let _root = tree.walk();
 }
@@ -79,8 +80,8 @@ pub(crate) fn cut_tree<V: Merge>(
     mode: Mode,
 ) -> Result<(RoundTree<V>, Vec<ShapedJob<V>>), AllocError>
     requires { (1 ≤ depth) × (depth ≤ DEEPEST_CUT) }
-    ensures jobs { IfOk result (λ cut. AreJobsOf (effect_of V.merged) cut.0 cut.1.items (tree.0, crown tree.0 (flush_in (effect_of V.merged) mode tree.0 tree.1 packet))) }
-    ensures fits { HasShape tree.0 tree.1 }
+    ensures jobs { IfOk result (λ cut. AreJobsOf (meaning_of V.terms) cut.0 cut.1.items (tree.0, crown tree.0 (flush_in (meaning_of V.terms) mode tree.0 tree.1 packet))) }
+    ensures fits { HasShape (weigh_of V.terms) tree.0 tree.1 }
 {
     has_shape(&tree);
     let (holed, jobs) = cut(alloc, number, tree, packet, depth, mode)?;
@@ -108,8 +109,8 @@ fn round_tree<V: Merge>(
     grain: usize,
 ) -> Result<(RoundTree<V>, Vec<ShapedJob<V>>), AllocError>
     requires { (1 ≤ depth) × (depth ≤ DEEPEST_CUT) }
-    ensures jobs { IfOk result (λ cut. AreJobsOf (effect_of V.merged) cut.0 cut.1.items (sunk_tree (effect_of V.merged) (tree, packet))) }
-    ensures fits { HasShape tree.0 tree.1 }
+    ensures jobs { IfOk result (λ cut. AreJobsOf (meaning_of V.terms) cut.0 cut.1.items (sunk_tree (meaning_of V.terms) (tree, packet))) }
+    ensures fits { HasShape (weigh_of V.terms) tree.0 tree.1 }
 {
     if packet.len() < grain {
         has_shape(&tree);
@@ -137,8 +138,8 @@ pub(crate) fn round_trees<V: Merge>(
 ) -> Result<RoundTrees<V>, AllocError>
     requires depth { (1 ≤ depth) × (depth ≤ DEEPEST_CUT) }
     requires few { first + length trees.items ≤ 65536 }
-    ensures jobs { IfOk result (λ round. AreJobsOfAll (effect_of V.merged) round.trees.items round.jobs.items (all_sunk (effect_of V.merged) trees.items)) }
-    ensures fit { IfOk result (λ _. All (λ x. HasShape x.0.0 x.0.1) trees.items) }
+    ensures jobs { IfOk result (λ round. AreJobsOfAll (meaning_of V.terms) round.trees.items round.jobs.items (all_sunk (meaning_of V.terms) trees.items)) }
+    ensures fit { IfOk result (λ _. All (λ x. HasShape (weigh_of V.terms) x.0.0 x.0.1) trees.items) }
     ensures room { IfOk result (λ round. HasRoom round.room (vec_len round.trees)) }
 {
     let room = Vec::with_capacity(alloc, trees.len())?;
@@ -189,7 +190,7 @@ fn filled_tree<V: Merge>(
     holed: Holed<V>,
     pieces: Vec<(Place, Siblings<V>)>,
 ) -> Result<Tree<V>, AllocError>
-    requires fillable { IsFillable holed.0 holed.1 (pieces_of pieces.items) }
+    requires fillable { IsFillable (weigh_of V.terms) holed.0 holed.1 (pieces_of pieces.items) }
     requires fit { misfit holed.1 (pieces_of pieces.items) ≡ None }
     ensures { IfOk result (λ tree. tree ≡ (holed.0, crown holed.0 (filled holed.0 holed.1 (pieces_of pieces.items)))) }
 {
@@ -207,7 +208,7 @@ pub(crate) fn whole_tree<V: Merge>(
     tree: RoundTree<V>,
     pieces: &mut IntoIter<(Place, Siblings<V>)>,
 ) -> Result<Tree<V>, AllocError>
-    requires { IsFilledBy tree (take (job_count tree) (pieces_of (into_iter_items pieces.old))) }
+    requires { IsFilledBy (weigh_of V.terms) tree (take (job_count tree) (pieces_of (into_iter_items pieces.old))) }
     ensures tree { IfOk result (λ whole. whole ≡ tree_with tree (take (job_count tree) (pieces_of (into_iter_items pieces.old)))) }
     ensures left { OnOk result (into_iter_items pieces.new ≡ drop (job_count tree) (into_iter_items pieces.old)) }
 {
@@ -227,7 +228,7 @@ pub(crate) fn whole_trees<V: Merge>(
     pieces: Vec<(Place, Siblings<V>)>,
     room: Vec<Tree<V>>,
 ) -> Result<Vec<Tree<V>>, AllocError>
-    requires pieces { AreFilledBy trees.items (pieces_of pieces.items) }
+    requires pieces { AreFilledBy (weigh_of V.terms) trees.items (pieces_of pieces.items) }
     requires room { HasRoom room (vec_len trees) }
     ensures { IfOk result (λ whole. whole.items ≡ trees_with trees.items (pieces_of pieces.items)) }
 {

@@ -1,3 +1,4 @@
+pub mod CodeLengths
 pub mod Codes
 pub mod CodesOfOne
 pub mod Decoding

@@ -1,8 +1,10 @@
--- Codes of worked values, computed from the definitions.
+-- Codes of worked values, and their lengths, computed from the definitions.
 use Rattle.std.proofs.Common.{◌≡◌, true, false, [], ◌∷◌, pos, negsuc, refl, codes}
+use Rattle.bt_rowtype.specs.declared.op.Op.TheVariants.{Add, Set}
 use Rattle.bt_rowtype.specs.declared.value.Value.TheVariants as value
 use Rattle.bt_keycode.specs.Codes.{code_of, eight_bytes}
 use Rattle.bt_keycode.specs.Hex.{hex_text}
+use Rattle.bt_keycode.specs.Lengths.{byte_weight, change_code_length, code_length}
 
 -- of 3
 three : code_of (value.Int (pos 3) ∷ []) ≡ 128 ∷ 0 ∷ 0 ∷ 0 ∷ 0 ∷ 0 ∷ 0 ∷ 3 ∷ []
@@ -43,3 +45,17 @@ true_and_empty = refl
 
 false_and_text : hex_text (code_of (value.Flag false ∷ value.Text (codes "b") ∷ [])) ≡ codes "00620001"
 false_and_text = refl
+
+-- of an int, of a text with a zero byte and of a flag: 8, 4 and 1
+lengths : code_length (value.Int (pos 3) ∷ value.Text (0 ∷ []) ∷ value.Flag true ∷ []) ≡ 13
+unfolding eight_bytes
+lengths = refl
+
+-- of a change that sets a text and adds to an int: 2 and 4, and 2 and 8
+change_length : change_code_length (record { base = []; ops = Set 1 (value.Text (codes "ab")) ∷ Add 2 (pos 1) ∷ [] }) ≡ 16
+unfolding eight_bytes
+change_length = refl
+
+-- the most weight is held
+most : byte_weight 16777216 ≡ 16777215
+most = refl

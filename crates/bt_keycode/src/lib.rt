@@ -3,7 +3,7 @@
 //! A tree compares keys and never looks into them, so the values of a key become one [`Key`]. The code of an int is eight
 //! bytes, big endian, with the sign bit inverted. That of a text is its bytes, with 255 behind each zero byte, and 0 and 1 at
 //! the end; that of a flag is one byte, 0 or 1. A list has the codes of its values one after the other. No code is the
-//! beginning of another one of the same kinds.
+//! beginning of another one of the same kinds. How long a code is can be had without writing it, as a weight ([`code_len`]).
 //!
 //! ```text
 //! let key = encode(alloc, &[Value::Int(3)])?;
@@ -22,9 +22,11 @@ mod code_builder;
 mod decoder;
 mod hex;
 mod key;
+mod lengths;
 mod zeros;
 
 pub use code::{cmp_rows, encode, encode_prefix, encode_row};
 pub use code_builder::CodeBuilder;
 pub use decoder::{DecodeError, decode, decode_onto};
 pub use key::Key;
+pub use lengths::{MOST_WEIGHT, change_code_len, code_len, row_code_len};

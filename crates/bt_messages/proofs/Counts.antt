@@ -1,9 +1,12 @@
 -- Counts of the front of a stream.
 use Rattle.std.proofs.Common.{◌≡◌, ℕ, ◌+◌, ◌-◌, ◌≤◌, ◌<◌, List, [], ◌∷◌, ◌++◌, append_assoc, get_or, length, map, take, drop, refl, sym, ap, ◌∙◌, arith}
-use Rattle.std.proofs.lemmas.List.{drop-drop, drop-take, drop_more}
+use Rattle.std.proofs.lemmas.List.{drop-drop, drop-take, drop_more, map-append}
 use Rattle.bt_messages.specs.Messages.{Messages, messages_before, messages_from}
 use Rattle.bt_messages.specs.Bins.{parts}
 use Rattle.bt_messages.specs.Parts.{parted, total}
+use Rattle.bt_messages.specs.Shares.{counts}
+use Rattle.bt_messages.specs.declared.share.Share.{Share}
+use Rattle.bt_messages.specs.inside.Sums.{counted}
 
 -- the parts of these sizes, from a place on
 abbrev pub sliced : {M : Type 0} → ℕ → List ℕ → Messages M → List (Messages M)
@@ -13,6 +16,14 @@ sliced from (n ∷ ns) ms = drop from (take (from + n) ms) ∷ sliced (from + n)
 pub total-push : (ns : List ℕ) (n : ℕ) → total (ns ++ n ∷ []) ≡ total ns + n
 total-push [] n = omega arith
 total-push (x ∷ xs) n = omega (arith, total-push xs n)
+
+-- one share more
+pub counts-push : (ss more : List Share) (s : Share) → more ≡ ss ++ s ∷ [] → (n : ℕ) → s ≡ counted n → counts more ≡ counts ss ++ n ∷ []
+counts-push ss more s e n f = ap counts e ∙ map-append (λ (s : Share). s.count) ss (s ∷ []) ∙ ap (λ (s : Share). counts ss ++ s.count ∷ []) f
+
+pub one_counted : (ss more : List Share) (s : Share) → more ≡ ss ++ s ∷ [] → (n : ℕ) → s ≡ counted n → ss ≡ map counted (counts ss) → more ≡ map counted (counts more)
+one_counted ss more s e n f h =
+    e ∙ ap (λ z. ss ++ z ∷ []) f ∙ ap (λ zs. zs ++ counted n ∷ []) h ∙ sym (map-append counted (counts ss) (n ∷ [])) ∙ ap (map counted) (sym (counts-push ss more s e n f))
 
 same_keys : (ks : List (List ℕ)) → map (λ k. k) ks ≡ ks
 same_keys [] = refl
@@ -33,12 +44,12 @@ module _ {M : Type 0} where
   sliced-push from (x ∷ xs) n start end ms e f = ap (λ zs. drop from (take (from + x) ms) ∷ zs) (sliced-push (from + x) xs n start end ms (omega (arith, e)) f)
 
   -- one more pivot
-  pub counted : {X : Type 0} (key : X → List ℕ) (xs : List X) (i : ℕ) (x : X) (counts next : List ℕ) (from place count : ℕ) (ms : Messages M) (wanted : List (Messages M)) →
+  pub counted_next : {X : Type 0} (key : X → List ℕ) (xs : List X) (i : ℕ) (x : X) (counts next : List ℕ) (from place count : ℕ) (ms : Messages M) (wanted : List (Messages M)) →
       i < length xs → x ≡ get_or xs i x → total counts ≡ from → from ≤ place → next ≡ counts ++ (place - from) ∷ [] →
       messages_before (key x) (drop from (take count ms)) ≡ drop from (take place ms) → messages_from (key x) (drop from (take count ms)) ≡ drop place (take count ms) →
       sliced 0 counts ms ++ parts (map key (drop i xs)) (drop from (take count ms)) ≡ wanted →
       sliced 0 next ms ++ parts (map key (drop (i + 1) xs)) (drop place (take count ms)) ≡ wanted
-  counted key xs i x counts next from place count ms wanted within is t l p b f w =
+  counted_next key xs i x counts next from place count ms wanted within is t l p b f w =
       let rest = map key (drop (i + 1) xs) in
       let step : drop i xs ≡ x ∷ drop (i + 1) xs = drop_more xs i x within ∙ ap (λ y. y ∷ drop (i + 1) xs) (sym is) in
       ap (λ zs. sliced 0 zs ms ++ parts rest (drop place (take count ms))) p
@@ -67,5 +78,5 @@ module _ {M : Type 0} where
       sliced 0 next ms ++ parts (drop (i + 1) ks) (drop place (take count ms)) ≡ wanted
   counted_keys ks i k counts next from place count ms wanted within is t l p b f w =
       sym (ap (λ js. sliced 0 next ms ++ parts js (drop place (take count ms))) (same_keys (drop (i + 1) ks)))
-      ∙ counted (λ k. k) ks i k counts next from place count ms wanted within is t l p b f
+      ∙ counted_next (λ k. k) ks i k counts next from place count ms wanted within is t l p b f
       (ap (λ js. sliced 0 counts ms ++ parts js (drop from (take count ms))) (same_keys (drop i ks)) ∙ w)

@@ -7,5 +7,6 @@ pub mod Slices
 pub mod Stable
 pub mod StablePlaces
 pub mod Totals
+pub mod Weighing
 pub mod WorkedRows
 pub mod offered

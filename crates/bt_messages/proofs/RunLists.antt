@@ -38,6 +38,19 @@ module _ {M : Type 0} where
   joined-append [] bs = refl
   joined-append (a ∷ qs) bs = ap (λ z. a ++ z) (joined-append qs bs) ∙ sym (append_assoc a (joined qs) (joined bs))
 
+  -- the pieces of a list and of the runs behind it are all of them
+  pub walked : (a b first : Messages M) (qs bs rest : List (Messages M)) (x y z : Messages M) {p q : Messages M} → a ++ b ≡ first → qs ++ bs ≡ rest →
+      x ≡ p ++ [] → p ≡ a → y ≡ q ++ joined qs → q ≡ b → z ≡ joined bs → x ++ (y ++ z) ≡ first ++ joined rest
+  walked a b first qs bs rest x y z {p} {q} e f g j h k l =
+      ap (λ ms. ms ++ (y ++ z)) (g ∙ append-nil p ∙ j)
+      ∙ ap (λ ms. a ++ (ms ++ z)) (h ∙ ap (λ ms. ms ++ joined qs) k)
+      ∙ ap (λ ms. a ++ ((b ++ joined qs) ++ ms)) l
+      ∙ ap (λ ms. a ++ ms) (append_assoc b (joined qs) (joined bs))
+      ∙ ap (λ ms. a ++ (b ++ ms)) (sym (joined-append qs bs))
+      ∙ sym (append_assoc a b (joined (qs ++ bs)))
+      ∙ ap (λ ms. ms ++ joined (qs ++ bs)) e
+      ∙ ap (λ rs. first ++ joined rs) f
+
   pub joined-push : (qs : List (Messages M)) (b : Messages M) → joined (qs ++ b ∷ []) ≡ joined qs ++ b
   joined-push qs b = joined-append qs (b ∷ []) ∙ ap (λ z. joined qs ++ z) (append-nil b)
 

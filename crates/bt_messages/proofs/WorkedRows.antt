@@ -3,6 +3,9 @@ use Rattle.std.proofs.Common.{◌≡◌, ℕ, ◌+◌, List, [], ◌∷◌, Opti
 use Rattle.bt_messages.specs.Bins.{added, parts}
 use Rattle.bt_messages.specs.Effects.{effect_of, rows_after}
 use Rattle.bt_messages.specs.Messages.{messages_between, messages_outside, sorted_batch, with_messages}
+use Rattle.bt_messages.specs.Terms.{Terms}
+use Rattle.bt_messages.specs.Weights.{load, weigh_of}
+use Rattle.bt_messages.specs.declared.measure.Measure.TheVariants.{Bytes, Messages}
 use Rattle.bt_messages.specs.declared.message.Message.{Message}
 use Rattle.bt_messages.specs.declared.message.Message.TheVariants.{Put, Del, Ups}
 
@@ -71,3 +74,19 @@ older_first = refl
 at_pivot : parts (key 4 ∷ []) packet ≡ (put_at 1 10 ∷ []) ∷ (put_at 4 40 ∷ put_at 4 41 ∷ put_at 9 90 ∷ []) ∷ []
 unfolding key put_at packet
 at_pivot = refl
+
+-- here a put carries as many bytes as its value says, and an upsert twice as many
+terms : Terms ℕ ℕ
+terms = record { merged = merged; payload = λ n. n; delta_payload = λ n. n + n }
+
+counted : load (weigh_of terms) Messages (put_at 0 5 ∷ del_at 1 ∷ add_at 2 4 ∷ []) ≡ 3
+unfolding key put_at del_at add_at terms
+counted = refl
+
+weighed : load (weigh_of terms) Bytes (put_at 0 5 ∷ del_at 1 ∷ add_at 2 4 ∷ []) ≡ 7 + 2 + 10
+unfolding key put_at del_at add_at terms
+weighed = refl
+
+limited : weigh_of terms (put_at 0 99999999) ≡ 16777215
+unfolding key put_at terms
+limited = refl

@@ -1,5 +1,6 @@
 -- What the crates above cite of the proofs of this one.
 pub mod Fronts
+pub mod Loads
 pub mod Parts
 pub mod Placed
 pub mod Rows

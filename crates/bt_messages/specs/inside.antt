@@ -3,3 +3,4 @@ pub mod Merges
 pub mod Places
 pub mod Rooms
 pub mod Runs
+pub mod Sums

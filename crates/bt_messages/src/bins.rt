@@ -4,14 +4,17 @@ ghost use Rattle.bt_keycode.specs.Keys.{IsSorted};
 ghost use Rattle.bt_messages.specs.Bins.{added, each_with, joined};
 ghost use Rattle.bt_messages.specs.Parts.{parted, total};
 ghost use Rattle.bt_messages.specs.Messages.{messages_between, messages_from};
+ghost use Rattle.bt_messages.specs.Shares.{AreShares, counts};
+ghost use Rattle.bt_messages.specs.Weights.{load, weigh_of, weight};
 ghost use Rattle.std.specs.Option.{option_copied};
 
 use crate::buffer::Buffer;
 use crate::iter::Messages;
 use crate::joined::Joined;
+use crate::measure::Measure;
 use crate::message::Merge;
 use crate::packet::Packet;
-use crate::share::{move_each, room_for_each};
+use crate::share::{Share, move_each, room_for_each};
 use crate::stream::Stream;
 use bt_keycode::Key;
 use std::alloc::{AllocError, Global};
@@ -131,6 +134,24 @@ impl<V: Merge> Bins<V> {
         self.count
     }
 
+    /// What the messages of a bin weigh together. Where it is kept nothing is added up.
+    pub fn weight(&self, child: usize) -> u128
+        requires { child < length self.now }
+        ensures weight { result ≡ weight (weigh_of V.terms) (slice_index_or self.now child []) }
+        ensures bound { result < 2 ^ 87 }
+    {
+        self.bins[child].weight()
+    }
+
+    /// How much room the messages of a bin take.
+    pub fn load(&self, child: usize, measure: Measure) -> u128
+        requires { child < length self.now }
+        ensures load { result ≡ load (weigh_of V.terms) measure (slice_index_or self.now child []) }
+        ensures bound { result < 2 ^ 87 }
+    {
+        self.bins[child].load(measure)
+    }
+
     /// The messages of a bin with a key at or past this one, in order. The first of them is found by halving.
     pub fn bin_from(&self, child: usize, key: &Key) -> Messages<'_, V>
         requires { child < length self.now }
@@ -158,17 +179,17 @@ impl<V: Merge> Bins<V> {
         Joined::of(self.bins.as_slice())
     }
 
-    /// Moves so many messages from the front of a stream to each bin, each after those of its key. An `Err` changes nothing.
+    /// Moves shares from the front of a stream to the bins, in order, each message after those of its key. An `Err` changes nothing.
     pub fn add_shares(
         &mut self,
         alloc: Global,
         stream: &mut Stream<V>,
-        shares: &[usize],
+        shares: &[Share],
     ) -> Result<(), AllocError>
         requires len { length shares.now ≡ length self.old }
-        requires enough { total shares.now ≤ length stream.old }
-        ensures added { OnOk result (self.new ≡ each_with (parted shares.now stream.old) self.old) }
-        ensures left { OnOk result (stream.new ≡ drop (total shares.now) stream.old) }
+        requires shares { AreShares (weigh_of V.terms) stream.old shares.now }
+        ensures added { OnOk result (self.new ≡ each_with (parted (counts shares.now) stream.old) self.old) }
+        ensures left { OnOk result (stream.new ≡ drop (total (counts shares.now)) stream.old) }
         ensures err { OnErr result (self.new ≡ self.old) }
         ensures err_stream { OnErr result (stream.new ≡ stream.old) }
     {
@@ -192,7 +213,7 @@ impl<V: Merge> Bins<V> {
         ensures err { OnErr result (self.new ≡ self.old) }
     {
         let mut stream = packet.into_stream();
-        let shares = stream.shares(alloc, stream.len(), pivots)?;
+        let shares = stream.shares(alloc, Measure::Messages, stream.len(), pivots)?;
         self.add_shares(alloc, &mut stream, shares.as_slice())
     }
 

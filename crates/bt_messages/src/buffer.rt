@@ -1,16 +1,20 @@
 //! Buffers: what is pending for a node, one list.
-ghost use Rattle.std.specs.Prelude.{◌≡◌, ◌==◌, ◌<◌, ◌≤◌, ◌^◌, [], IfOk, OnOk, OnErr, drop, length, take};
+ghost use Rattle.std.specs.Prelude.{◌≡◌, ◌==◌, ◌<◌, ◌≤◌, ◌^◌, [], List, ℕ, IfOk, IfSome, OnOk, OnErr, drop, length, take};
 ghost use Rattle.bt_keycode.specs.Keys.{AllFrom, IsSorted};
 ghost use Rattle.bt_messages.specs.Bins.{AllBefore};
 ghost use Rattle.bt_messages.specs.Messages.{messages_between, messages_from, messages_outside, with_messages};
+ghost use Rattle.bt_messages.specs.Shares.{IsShare};
+ghost use Rattle.bt_messages.specs.Weights.{IsSum, load, weigh_of, weight};
 ghost use Rattle.bt_messages.specs.inside.Rooms.{HasRoom};
 ghost use Rattle.bt_messages.specs.inside.Runs.{begins_before};
+ghost use Rattle.bt_messages.specs.inside.Sums.{IsBuffer};
 ghost use Rattle.std.specs.Option.{option_copied};
 
 use crate::iter::Messages;
+use crate::measure::{Measure, weigh_all};
 use crate::message::{Merge, Message};
 use crate::packet::Packet;
-use crate::share::gain;
+use crate::share::{Share, gain};
 use crate::sorted;
 use crate::stream::Stream;
 use bt_keycode::Key;
@@ -23,6 +27,8 @@ use std::mem::replace;
 #[derive(Drop)]
 pub struct Buffer<V: Merge> {
     messages: Vec<(Key, Message<V>)>,
+    // What the messages weigh together, where it is kept.
+    sum: Option<u128>,
 }
 
 impl<V: Merge> Model for Buffer<V> {
@@ -34,7 +40,10 @@ impl<V: Merge> Model for Buffer<V> {
 
     ghost view = { λ b. b.messages.items };
 
-    ghost invariant = { λ b. IsSorted b.messages.items };
+    ghost use Rattle.bt_messages.specs.inside.Sums.{IsBuffer};
+    ghost use Rattle.bt_messages.specs.Weights.{weigh_of};
+
+    ghost invariant = { λ b. IsBuffer (weigh_of V.terms) b.messages.items b.sum };
 }
 
 impl<V: Merge> Buffer<V> {
@@ -44,6 +53,7 @@ impl<V: Merge> Buffer<V> {
     {
         Buffer {
             messages: Vec::new(alloc),
+            sum: None,
         }
     }
 
@@ -60,6 +70,29 @@ impl<V: Merge> Buffer<V> {
         ensures { result ≡ (length self.now == 0) }
     {
         self.messages.is_empty()
+    }
+
+    /// What the messages weigh together. Where it is kept nothing is added up.
+    pub fn weight(&self) -> u128
+        ensures weight { result ≡ weight (weigh_of V.terms) self.now }
+        ensures bound { result < 2 ^ 87 }
+    {
+        let _bound = self.count();
+        match self.sum {
+            Some(sum) => sum,
+            None => weigh_all(self.messages.as_slice()),
+        }
+    }
+
+    /// How much room the messages take.
+    pub fn load(&self, measure: Measure) -> u128
+        ensures load { result ≡ load (weigh_of V.terms) measure self.now }
+        ensures bound { result < 2 ^ 87 }
+    {
+        match measure {
+            Measure::Messages => self.count() as u128,
+            Measure::Bytes => self.weight(),
+        }
     }
 
     /// The messages and their keys, in order.
@@ -121,17 +154,17 @@ impl<V: Merge> Buffer<V> {
         &mut self,
         alloc: Global,
         stream: &mut Stream<V>,
-        count: usize,
+        share: Share,
     ) -> Result<(), AllocError>
-        requires { count ≤ length stream.old }
-        ensures added { OnOk result (self.new ≡ with_messages (take count stream.old) self.old) }
-        ensures left { OnOk result (stream.new ≡ drop count stream.old) }
+        requires { IsShare (weigh_of V.terms) stream.old share }
+        ensures added { OnOk result (self.new ≡ with_messages (take share.count stream.old) self.old) }
+        ensures left { OnOk result (stream.new ≡ drop share.count stream.old) }
         ensures err { OnErr result (self.new ≡ self.old) }
         ensures err_stream { OnErr result (stream.new ≡ stream.old) }
     {
         let _bound = stream.len();
-        let mut room = self.room_with(alloc, count)?;
-        gain(alloc, self, &mut room, stream, count);
+        let mut room = self.room_with(alloc, share.count)?;
+        gain(alloc, self, &mut room, stream, share);
         Ok(())
     }
 
@@ -143,7 +176,7 @@ impl<V: Merge> Buffer<V> {
         let alloc = *self.messages.allocator();
         let mut stream = packet.into_stream();
         let count = stream.len();
-        self.add_front(alloc, &mut stream, count)
+        self.add_front(alloc, &mut stream, Share::new(count))
     }
 
     // Takes the messages. The empty list that is left has the allocator of the one that is taken.
@@ -170,6 +203,7 @@ impl<V: Merge> Buffer<V> {
         if self.is_empty() {
             return Ok(Packet::new(alloc));
         }
+        self.sum = None;
         let taken = sorted::take_between(&mut self.messages, from, to)?;
         Ok(Packet::from_buffer(alloc, Buffer::from_sorted(taken)))
     }
@@ -189,12 +223,36 @@ impl<V: Merge> Buffer<V> {
         Vec::with_capacity(alloc, self.messages.len() + more)
     }
 
-    // The buffer of messages that are sorted by key.
+    // What the messages weigh together with a share more, where both are known.
+    pub(crate) fn sum_with(&self, share: Share) -> Option<u128>
+        requires { IfSome share.weight (λ n. n < 2 ^ 87) }
+        ensures { (ms : List (List ℕ × Message V V.Delta)) → IsSum (weigh_of V.terms) ms share.weight → IsSum (weigh_of V.terms) (with_messages ms self.now) result }
+    {
+        let more = share.weight?;
+        if self.is_empty() {
+            return Some(more);
+        }
+        let _bound = self.count();
+        Some(self.sum? + more)
+    }
+
+    // The buffer of messages that are sorted by key. It keeps no sum.
     pub(crate) fn from_sorted(messages: Vec<(Key, Message<V>)>) -> Self
         requires { IsSorted messages.items }
         ensures { result ≡ messages.items }
     {
-        Buffer { messages }
+        Buffer {
+            messages,
+            sum: None,
+        }
+    }
+
+    // The buffer of messages that are sorted by key, and what they weigh together, if it is kept.
+    pub(crate) fn with_sum(messages: Vec<(Key, Message<V>)>, sum: Option<u128>) -> Self
+        requires { IsBuffer (weigh_of V.terms) messages.items sum }
+        ensures { result ≡ messages.items }
+    {
+        Buffer { messages, sum }
     }
 
     // The messages and their keys, in order.
@@ -202,7 +260,10 @@ impl<V: Merge> Buffer<V> {
         ensures messages { result.items ≡ self }
         ensures sorted { IsSorted result.items }
     {
-        let Buffer { messages } = self;
+        let Buffer {
+            messages,
+            sum: _sum,
+        } = self;
         messages
     }
 }

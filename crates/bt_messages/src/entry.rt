@@ -1,8 +1,10 @@
 //! Index values.
-ghost use Rattle.std.specs.Prelude.{◌≡◌, IfOk};
-ghost use Rattle.bt_messages.specs.Effects.{merged_entry};
+ghost use Rattle.std.specs.Prelude.{◌≡◌, IfOk, min};
+ghost use Rattle.bt_keycode.specs.Lengths.{most_weight};
+ghost use Rattle.bt_messages.specs.Payloads.{entry_terms, row_payload};
 
 use crate::message::Merge;
+use bt_keycode::row_code_len;
 use bt_rowtype::{Row, copy_row};
 use std::alloc::{AllocError, Global};
 use std::marker::Model;
@@ -49,12 +51,22 @@ fn copy_entry(alloc: Global, entry: &Entry) -> Result<Entry, AllocError>
 impl Merge for Entry {
     type Delta = Entry;
 
-    ghost merged = { merged_entry };
+    ghost terms = { entry_terms };
 
     fn merge(alloc: Global, _old: Option<Entry>, delta: &Entry) -> Result<Entry, AllocError>
         ensures { IfOk result (λ new. new ≡ delta.now) }
     {
         copy_entry(alloc, delta)
+    }
+
+    fn weight(&self) -> u64 {
+        row_code_len(&self.values)
+    }
+
+    fn delta_weight(delta: &Entry) -> u64
+        ensures { result ≡ min most_weight (row_payload delta.now) }
+    {
+        row_code_len(&delta.values)
     }
 
     fn copy(&self, alloc: Global) -> Result<Entry, AllocError> {

@@ -7,6 +7,10 @@
 //! A packet lies in runs, lists of a few messages, one after the other: what goes down to another node goes as whole runs, and the
 //! room of each is given back when it is gone through, so that it is used again while it is near.
 //!
+//! The room that messages take is counted in messages or in bytes ([`Measure`]): a message weighs one, the bytes of its key and those
+//! that a put or an upsert carries, and no more than 16,777,215. A [`Share`] of a stream may tell what its messages weigh; a buffer
+//! keeps the sum as long as it is told, and adds up where it isn't. Where messages are counted nothing is weighed.
+//!
 //! ```text
 //! let mut batch = Vec::new(alloc);
 //! batch.push((encode(alloc, &[Value::Int(2)])?, Message::Put(row)))?;
@@ -22,6 +26,7 @@ mod buffer;
 mod entry;
 mod iter;
 mod joined;
+mod measure;
 mod message;
 mod packet;
 mod places;
@@ -29,13 +34,16 @@ mod runs;
 mod share;
 mod sorted;
 mod stream;
+mod walk;
 
 pub use bins::Bins;
 pub use buffer::Buffer;
 pub use entry::Entry;
 pub use iter::Messages;
 pub use joined::Joined;
+pub use measure::Measure;
 pub use message::{Merge, Message, effect, effect_borrowed};
 pub use packet::Packet;
+pub use share::Share;
 pub use sorted::between;
 pub use stream::Stream;

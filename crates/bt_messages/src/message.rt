@@ -1,7 +1,12 @@
 //! Messages, and what they make of a value.
-ghost use Rattle.std.specs.Prelude.{◌≡◌, IfOk, Option};
+ghost use Rattle.std.specs.Prelude.{◌≡◌, ◌≤◌, IfOk, min};
+ghost use Rattle.bt_keycode.specs.Lengths.{most_weight};
 ghost use Rattle.bt_messages.specs.Effects.{effect_of};
+ghost use Rattle.bt_messages.specs.Payloads.{change_payload, row_payload, row_terms};
+ghost use Rattle.bt_messages.specs.Terms.{Terms};
+ghost use Rattle.bt_messages.specs.Weights.{weigh_of};
 
+use bt_keycode::{Key, MOST_WEIGHT, change_code_len, row_code_len};
 use bt_rowtype::{Change, Row, copy_change, copy_row};
 use std::alloc::{AllocError, Global};
 
@@ -10,12 +15,20 @@ pub trait Merge: Drop {
     /// What an upsert carries.
     type Delta: Drop;
 
-    /// What an upsert makes of the value at its key, or of none.
-    ghost merged: { Option Self → Self.Delta → Self };
+    /// What an upsert makes of the value at its key, or of none, and how many bytes messages carry.
+    ghost terms: { Terms Self Self.Delta };
 
     /// The value after an upsert. It may be asked for where there was none.
     fn merge(alloc: Global, old: Option<Self>, delta: &Self::Delta) -> Result<Self, AllocError>
-        ensures { IfOk result (λ new. new ≡ merged old delta.now) };
+        ensures { IfOk result (λ new. new ≡ terms.merged old delta.now) };
+
+    /// The number of bytes that a put of the value carries, or 16,777,215 where they are more. Takes no memory.
+    fn weight(&self) -> u64
+        ensures { result ≡ min most_weight (terms.payload self.now) };
+
+    /// The number of bytes that an upsert carries, or 16,777,215 where they are more. Takes no memory.
+    fn delta_weight(delta: &Self::Delta) -> u64
+        ensures { result ≡ min most_weight (terms.delta_payload delta.now) };
 
     /// A copy of the value.
     fn copy(&self, alloc: Global) -> Result<Self, AllocError>
@@ -31,12 +44,22 @@ impl Merge for Row {
 
     type Delta = Change;
 
-    ghost merged = { ops.merged };
+    ghost terms = { row_terms };
 
     fn merge(alloc: Global, old: Option<Row>, delta: &Change) -> Result<Row, AllocError>
         ensures { IfOk result (λ new. new ≡ ops.merged old delta.now) }
     {
         delta.apply(alloc, old)
+    }
+
+    fn weight(&self) -> u64 {
+        row_code_len(self)
+    }
+
+    fn delta_weight(delta: &Change) -> u64
+        ensures { result ≡ min most_weight (change_payload delta.now) }
+    {
+        change_code_len(delta)
     }
 
     fn copy(&self, alloc: Global) -> Result<Row, AllocError> {
@@ -60,6 +83,25 @@ pub enum Message<V: Merge> {
 }
 
 impl<V: Merge> Message<V> {
+    /// What the message weighs together with its key: one, the bytes of the key and those that a put or an upsert carries. Takes no
+    /// memory.
+    pub fn weight(&self, key: &Key) -> u64
+        ensures weight { result ≡ weigh_of V.terms (key.now, self.now) }
+        ensures most { result ≤ most_weight }
+    {
+        let payload = match self {
+            Message::Put(value) => value.weight(),
+            Message::Del => 0,
+            Message::Ups(delta) => V::delta_weight(delta),
+        };
+        let whole = u128::from(payload) + key.len() as u128 + 1;
+        if whole < u128::from(MOST_WEIGHT) {
+            whole as u64
+        } else {
+            MOST_WEIGHT
+        }
+    }
+
     /// A copy of the message.
     pub fn copy(&self, alloc: Global) -> Result<Self, AllocError>
         ensures { IfOk result (λ copy. copy ≡ self.now) }
@@ -78,7 +120,7 @@ pub fn effect<V: Merge>(
     old: Option<V>,
     message: Message<V>,
 ) -> Result<Option<V>, AllocError>
-    ensures { IfOk result (λ new. new ≡ effect_of V.merged old message) }
+    ensures { IfOk result (λ new. new ≡ effect_of V.terms.merged old message) }
 {
     match message {
         Message::Put(value) => Ok(Some(value)),
@@ -93,7 +135,7 @@ pub fn effect_borrowed<V: Merge>(
     old: Option<V>,
     message: &Message<V>,
 ) -> Result<Option<V>, AllocError>
-    ensures { IfOk result (λ new. new ≡ effect_of V.merged old message.now) }
+    ensures { IfOk result (λ new. new ≡ effect_of V.terms.merged old message.now) }
 {
     match message {
         Message::Put(value) => Ok(Some(value.copy(alloc)?)),

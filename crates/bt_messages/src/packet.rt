@@ -50,7 +50,7 @@ impl<V: Merge> Packet<V> {
     /// The messages of a batch, in the order in which they came.
     pub fn from_batch(alloc: Global, batch: Vec<(Key, Message<V>)>) -> Result<Self, AllocError>
         ensures messages { IfOk result (λ packet. packet ≡ sorted_batch batch.items) }
-        ensures same_rows { IfOk result (λ packet. DoTheSame (effect_of V.merged) packet batch.items) }
+        ensures same_rows { IfOk result (λ packet. DoTheSame (effect_of V.terms.merged) packet batch.items) }
     {
         if sorted::is_sorted_by_places(alloc, batch.as_slice())? {
             return sorted_by_first_bytes(alloc, batch);

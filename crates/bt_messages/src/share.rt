@@ -1,12 +1,15 @@
 //! Shares of a stream, moved to buffers.
-ghost use Rattle.std.specs.Prelude.{◌≡◌, ◌+◌, ◌<◌, ◌≤◌, ◌++◌, ◌^◌, IfOk, drop, length, take, vec_len, vec_capacity};
+ghost use Rattle.std.specs.Prelude.{◌≡◌, ◌+◌, ◌<◌, ◌≤◌, ◌++◌, ◌^◌, IfOk, None, drop, length, take, vec_len, vec_capacity};
 ghost use Rattle.bt_keycode.specs.Keys.{IsSorted};
 ghost use Rattle.bt_messages.specs.Bins.{each_with};
 ghost use Rattle.bt_messages.specs.Parts.{parted, total};
 ghost use Rattle.bt_messages.specs.Messages.{with_messages};
+ghost use Rattle.bt_messages.specs.Shares.{AreShares, IsShare, counts, load_of};
+ghost use Rattle.bt_messages.specs.Weights.{weigh_of};
 ghost use Rattle.bt_messages.specs.inside.Rooms.{HasRoom, HaveRoom};
 
 use crate::buffer::Buffer;
+use crate::measure::Measure;
 use crate::message::{Merge, Message};
 use crate::sorted;
 use crate::stream::Stream;
@@ -15,20 +18,51 @@ use std::alloc::{AllocError, Global};
 use std::collections::VecDeque;
 use std::mem::replace;
 
+/// So many of the first messages of a stream, and what they weigh together, where that is known.
+#[derive(Clone, Copy, Debug, Drop)]
+pub struct Share {
+    /// The number of messages.
+    pub count: usize,
+    /// What they weigh.
+    pub weight: Option<u128>,
+}
+
+impl Share {
+    /// So many messages. It isn't known what they weigh.
+    pub fn new(count: usize) -> Self
+        ensures { result ≡ record { count = count; weight = None } }
+    {
+        Share {
+            count,
+            weight: None,
+        }
+    }
+
+    /// How much room the messages take. Where bytes are measured and it isn't known what they weigh, it is 0.
+    pub fn load(self, measure: Measure) -> u128
+        ensures { result ≡ load_of measure self }
+    {
+        match measure {
+            Measure::Messages => self.count as u128,
+            Measure::Bytes => self.weight.unwrap_or(0),
+        }
+    }
+}
+
 /// For each buffer, room for what it holds and is to gain.
 pub(crate) fn room_for_each<V: Merge>(
     alloc: Global,
     buffers: &[Buffer<V>],
-    shares: &[usize],
+    shares: &[Share],
 ) -> Result<Vec<Vec<(Key, Message<V>)>>, AllocError>
     requires len { length shares.now ≡ length buffers.now }
-    requires bound { total shares.now < 2 ^ 63 }
-    ensures room { IfOk result (λ rooms. HaveRoom shares.now buffers.now rooms.items) }
+    requires bound { total (counts shares.now) < 2 ^ 63 }
+    ensures room { IfOk result (λ rooms. HaveRoom (counts shares.now) buffers.now rooms.items) }
     ensures len { IfOk result (λ rooms. length rooms.items ≡ length shares.now) }
 {
     let mut rooms = Vec::with_capacity(alloc, shares.len())?;
     for place in 0..shares.len() {
-        let room = buffers[place].room_with(alloc, shares[place])?;
+        let room = buffers[place].room_with(alloc, shares[place].count)?;
         rooms.push_reserved(room);
     }
     Ok(rooms)
@@ -104,42 +138,45 @@ fn merge_front<V: Merge>(
     merge_each(merged, older, stream, count)
 }
 
-/// Moves the first messages of a stream to a buffer, whose messages then stand where room was made for all.
+/// Moves the first messages of a stream to a buffer, whose messages then stand where room was made for all. Their weight is added to
+/// what the buffer's messages weigh, where both are known.
 pub(crate) fn gain<V: Merge>(
     alloc: Global,
     buffer: &mut Buffer<V>,
     room: &mut Vec<(Key, Message<V>)>,
     stream: &mut Stream<V>,
-    count: usize,
+    share: Share,
 )
-    requires count { count ≤ length stream.old }
-    requires room { HasRoom count buffer.old room.old }
-    ensures gained { buffer.new ≡ with_messages (take count stream.old) buffer.old }
-    ensures left { stream.new ≡ drop count stream.old }
+    requires share { IsShare (weigh_of V.terms) stream.old share }
+    requires room { HasRoom share.count buffer.old room.old }
+    ensures gained { buffer.new ≡ with_messages (take share.count stream.old) buffer.old }
+    ensures left { stream.new ≡ drop share.count stream.old }
 {
-    if count == 0 {
+    if share.count == 0 {
         return;
     }
+    let _bound = stream.len();
+    let sum = buffer.sum_with(share);
     let older = replace(buffer, Buffer::new(alloc));
     let mut merged = replace(room, Vec::new(alloc));
-    merge_front(&mut merged, older.into_messages(), stream, count);
-    *buffer = Buffer::from_sorted(merged);
+    merge_front(&mut merged, older.into_messages(), stream, share.count);
+    *buffer = Buffer::with_sum(merged, sum);
 }
 
-/// Moves so many messages from the front of a stream to each buffer, by way of the rooms.
+/// Moves shares from the front of a stream to the buffers, by way of the rooms.
 pub(crate) fn move_each<V: Merge>(
     alloc: Global,
     buffers: &mut Vec<Buffer<V>>,
     rooms: Vec<Vec<(Key, Message<V>)>>,
     stream: &mut Stream<V>,
-    shares: &[usize],
+    shares: &[Share],
 )
     requires len { length shares.now ≡ length buffers.old.items }
     requires rooms_len { length rooms.items ≡ length shares.now }
-    requires enough { total shares.now ≤ length stream.old }
-    requires room { HaveRoom shares.now buffers.old.items rooms.items }
-    ensures moved { buffers.new.items ≡ each_with (parted shares.now stream.old) buffers.old.items }
-    ensures left { stream.new ≡ drop (total shares.now) stream.old }
+    requires shares { AreShares (weigh_of V.terms) stream.old shares.now }
+    requires room { HaveRoom (counts shares.now) buffers.old.items rooms.items }
+    ensures moved { buffers.new.items ≡ each_with (parted (counts shares.now) stream.old) buffers.old.items }
+    ensures left { stream.new ≡ drop (total (counts shares.now)) stream.old }
 {
     let mut rooms = rooms;
     for place in 0..shares.len() {

@@ -1,14 +1,22 @@
 //! Streams: sorted messages that are taken off at the front.
-ghost use Rattle.std.specs.Prelude.{◌≡◌, ◌+◌, ◌-◌, ◌<◌, ◌≤◌, ◌^◌, ◌∷◌, ◌++◌, [], ℕ, true, IfOk, MatchOption, OnOk, drop, length, slice_index_or, take, vec_len, vec_capacity};
+ghost use Rattle.std.specs.Prelude.{◌≡◌, ◌+◌, ◌-◌, ◌<◌, ◌≤◌, ◌^◌, ◌∷◌, ◌++◌, [], ℕ, true, IfOk, MatchOption, OnOk, drop, length, map, slice_index_or, take, vec_len, vec_capacity};
 ghost use Rattle.bt_keycode.specs.Keys.{AllFrom, IsSorted};
 ghost use Rattle.bt_messages.specs.Bins.{AllBefore, joined, parts};
 ghost use Rattle.bt_messages.specs.Parts.{parted, total};
 ghost use Rattle.bt_messages.specs.Messages.{messages_before, messages_from, with_messages};
+ghost use Rattle.bt_messages.specs.Shares.{AreShares, counts, share_of};
+ghost use Rattle.bt_messages.specs.Weights.{weigh_of};
 ghost use Rattle.bt_messages.specs.inside.Runs.{AreRuns, AreSome, begins_before};
+ghost use Rattle.bt_messages.specs.inside.Sums.{counted};
 
 use crate::buffer::Buffer;
+use crate::iter::Messages;
+use crate::joined::Joined;
+use crate::measure::Measure;
 use crate::message::{Merge, Message};
 use crate::packet::Packet;
+use crate::share::Share;
+use crate::walk::Walk;
 use bt_keycode::Key;
 use std::alloc::{AllocError, Global};
 use std::cmp::{Ordering, min};
@@ -155,28 +163,66 @@ impl<V: Merge> Stream<V> {
         if to < place { to } else { place }
     }
 
-    /// Of the first messages, how many lie before the first pivot, how many from it on and before the next, and so on: one number
-    /// more than pivots, found by halving.
-    pub fn shares(
+    // Of the first messages, how many lie before the first pivot, how many from it on and before the next, and so on, found by
+    // halving. Nothing is weighed.
+    fn counted_shares(
         &self,
         alloc: Global,
         count: usize,
         pivots: &[Key],
-    ) -> Result<Vec<usize>, AllocError>
+    ) -> Result<Vec<Share>, AllocError>
         requires { count ≤ length self.now }
-        ensures parts { IfOk result (λ shares. parted shares.items self.now ≡ parts pivots.now (take count self.now)) }
-        ensures total { IfOk result (λ shares. total shares.items ≡ count) }
+        ensures parts { IfOk result (λ shares. parted (counts shares.items) self.now ≡ parts pivots.now (take count self.now)) }
+        ensures total { IfOk result (λ shares. total (counts shares.items) ≡ count) }
         ensures len { IfOk result (λ shares. length shares.items ≡ length pivots.now + 1) }
+        ensures counted { IfOk result (λ shares. shares.items ≡ map counted (counts shares.items)) }
     {
         let mut shares = Vec::with_capacity(alloc, pivots.len() + 1)?;
         let mut from = 0;
         for pivot in pivots {
             let place = self.place_within(from, count, pivot);
-            shares.push_reserved(place - from);
+            shares.push_reserved(Share::new(place - from));
             from = place;
         }
-        shares.push_reserved(count - from);
+        shares.push_reserved(Share::new(count - from));
         Ok(shares)
+    }
+
+    /// Of the first messages, those that lie before the first pivot, those from it on and before the next, and so on: one share more
+    /// than pivots, their numbers found by halving. Where bytes are measured the messages are gone through once, and weighed.
+    pub fn shares(
+        &self,
+        alloc: Global,
+        measure: Measure,
+        count: usize,
+        pivots: &[Key],
+    ) -> Result<Vec<Share>, AllocError>
+        requires { count ≤ length self.now }
+        ensures each { IfOk result (λ shares. shares.items ≡ map (share_of (weigh_of V.terms) measure) (parts pivots.now (take count self.now))) }
+        ensures shares { IfOk result (λ shares. AreShares (weigh_of V.terms) self.now shares.items) }
+        ensures parts { IfOk result (λ shares. parted (counts shares.items) self.now ≡ parts pivots.now (take count self.now)) }
+        ensures total { IfOk result (λ shares. total (counts shares.items) ≡ count) }
+        ensures len { IfOk result (λ shares. length shares.items ≡ length pivots.now + 1) }
+    {
+        let shares = self.counted_shares(alloc, count, pivots)?;
+        match measure {
+            Measure::Messages => Ok(shares),
+            Measure::Bytes => Ok(self.walk().weighed(shares)),
+        }
+    }
+
+    // A walk over the messages.
+    fn walk(&self) -> Walk<'_, V>
+        ensures { result ≡ self.now }
+    {
+        let _sorted = self.len();
+        let (first, second) = self.first.as_slices();
+        let (runs, others) = self.rest.as_slices();
+        Walk::of(
+            Joined::behind(Messages::of_sorted(first), &[]),
+            Joined::behind(Messages::of_sorted(second), runs),
+            Joined::of(others),
+        )
     }
 
     // Moves the first messages to where there is room.

@@ -4,12 +4,17 @@ use Rattle.std.proofs.Common.{refl}
 use Rattle.std.specs.declared.option.Option.{Option}
 use Rattle.std.specs.declared.option.Option.TheVariants.{None, Some}
 use Rattle.bt_messages.specs.Effects.{effect_of}
+use Rattle.bt_messages.specs.Meanings.{Meaning, meaning_of}
+use Rattle.bt_messages.specs.Payloads.{row_terms}
+use Rattle.bt_messages.specs.Terms.{Terms}
+use Rattle.bt_messages.specs.declared.measure.Measure.TheVariants as measures
 use Rattle.bt_messages.specs.declared.message.Message.{Message}
 use Rattle.bt_messages.specs.declared.message.Message.TheVariants.{Put, Del, Ups}
 use Rattle.bt_rowtype.specs.Ops as ops
 use Rattle.bt_rowtype.specs.declared.op.Op.TheVariants.{Add}
 use Rattle.bt_rowtype.specs.declared.value.Value.{Value}
 use Rattle.bt_rowtype.specs.declared.value.Value.TheVariants.{Int}
+use Rattle.bt_keycode.specs.Codes as codes
 use Rattle.bt_keycode.specs.Keys.{Key}
 use Rattle.bt_node.specs.Messages.{rows_after}
 use Rattle.bt_node.specs.Deals.{sizes}
@@ -29,6 +34,13 @@ merged (Some old) n = old +ℤ n
 -- a message of these trees
 abbrev Change : Type 0
 Change = Message ℤ ℤ
+
+-- no more than its key is carried
+abbrev terms : Terms ℤ ℤ
+terms = record { merged = merged; payload = λ _. 0; delta_payload = λ _. 0 }
+
+abbrev meaning : Meaning ℤ Change
+meaning = meaning_of terms
 
 abbrev effect : Option ℤ → Change → Option ℤ
 effect = effect_of merged
@@ -58,7 +70,7 @@ two a x b y = leaf (entry a x ∷ entry b y ∷ [])
 
 -- at most four children, three pending messages, two rows
 abbrev shape : Shape
-shape = record { fanout = 4; buffer = 3; leaf = 2 }
+shape = record { fanout = 4; buffer = 3; leaf = 2; measure = measures.Messages }
 
 abbrev empty : Tree ℤ Change
 empty = leaf []
@@ -92,11 +104,11 @@ all_are_marked = refl
 abbrev split_leaf : Tree ℤ Change
 split_leaf = inner (node [] (two 1 10 2 20) (node (k 3) (two 3 30 4 40) none)) []
 
-four_puts : sunk effect shape empty (puts 1 10 ∷ puts 2 20 ∷ puts 3 30 ∷ puts 4 40 ∷ []) ≡ split_leaf
+four_puts : sunk meaning shape empty (puts 1 10 ∷ puts 2 20 ∷ puts 3 30 ∷ puts 4 40 ∷ []) ≡ split_leaf
 four_puts = refl
 
 -- of two counts of 2 the left child is flushed, and the right one's messages are pending
-tie_flushes_left : sunk effect shape split_leaf (puts 1 11 ∷ puts 2 21 ∷ puts 3 31 ∷ puts 4 41 ∷ [])
+tie_flushes_left : sunk meaning shape split_leaf (puts 1 11 ∷ puts 2 21 ∷ puts 3 31 ∷ puts 4 41 ∷ [])
     ≡ inner (node [] (two 1 11 2 21) (node (k 3) (two 3 30 4 40) none)) (puts 3 31 ∷ puts 4 41 ∷ [])
 tie_flushes_left = refl
 
@@ -106,7 +118,7 @@ four_leaves = inner
     (node [] (two 1 10 2 20) (node (k 3) (two 3 30 4 40) (node (k 5) (two 5 50 6 60) (node (k 7) (leaf (entry 7 70 ∷ [])) none))))
     (puts 1 11 ∷ [])
 
-fullest_is_right : sunk effect shape (sunk effect shape split_leaf (puts 5 50 ∷ puts 6 60 ∷ puts 1 11 ∷ [])) (puts 7 70 ∷ []) ≡ four_leaves
+fullest_is_right : sunk meaning shape (sunk meaning shape split_leaf (puts 5 50 ∷ puts 6 60 ∷ puts 1 11 ∷ [])) (puts 7 70 ∷ []) ≡ four_leaves
 fullest_is_right = refl
 
 -- the first child is flushed and splits; five children become three and two, and the buffer is divided
@@ -116,23 +128,23 @@ three_high = inner
     (node (k 5) (inner (node [] (two 5 50 6 60) (node (k 7) (leaf (entry 7 70 ∷ [])) none)) (puts 8 80 ∷ []))
     none)) []
 
-first_child_splits : sunk effect shape four_leaves (puts 8 80 ∷ puts 0 0 ∷ (k_minus_1, Put minus_10) ∷ puts 4 44 ∷ []) ≡ three_high
+first_child_splits : sunk meaning shape four_leaves (puts 8 80 ∷ puts 0 0 ∷ (k_minus_1, Put minus_10) ∷ puts 4 44 ∷ []) ≡ three_high
 first_child_splits = refl
 
 -- the root sends three messages left, and that node sends two on
-two_levels : sunk effect shape three_high (puts 3 33 ∷ puts 2 22 ∷ puts 10 100 ∷ puts 1 12 ∷ []) ≡ inner
+two_levels : sunk meaning shape three_high (puts 3 33 ∷ puts 2 22 ∷ puts 10 100 ∷ puts 1 12 ∷ []) ≡ inner
     (node [] (inner (node [] (leaf ((k_minus_1, minus_10) ∷ entry 0 0 ∷ [])) (node (k 1) (two 1 12 2 22) (node (k 3) (two 3 30 4 40) none))) (puts 3 33 ∷ puts 4 44 ∷ []))
     (node (k 5) (inner (node [] (two 5 50 6 60) (node (k 7) (leaf (entry 7 70 ∷ [])) none)) (puts 8 80 ∷ []))
     none)) (puts 10 100 ∷ [])
 two_levels = refl
 
 -- room for one message
-buffer_of_one : sunk effect (record { fanout = 4; buffer = 1; leaf = 2 }) split_leaf (puts 1 11 ∷ puts 4 41 ∷ [])
+buffer_of_one : sunk meaning (record { fanout = 4; buffer = 1; leaf = 2; measure = measures.Messages }) split_leaf (puts 1 11 ∷ puts 4 41 ∷ [])
     ≡ inner (node [] (two 1 11 2 20) (node (k 3) (two 3 30 4 40) none)) (puts 4 41 ∷ [])
 buffer_of_one = refl
 
 -- all that comes goes to the right child
-right_takes_all : sunk effect shape split_leaf (puts 3 31 ∷ puts 4 41 ∷ puts 5 51 ∷ puts 6 61 ∷ [])
+right_takes_all : sunk meaning shape split_leaf (puts 3 31 ∷ puts 4 41 ∷ puts 5 51 ∷ puts 6 61 ∷ [])
     ≡ inner (node [] (two 1 10 2 20) (node (k 3) (two 3 31 4 41) (node (k 5) (two 5 51 6 61) none))) []
 right_takes_all = refl
 
@@ -142,7 +154,7 @@ right_takes_all = refl
 abbrev upserts_wait : Tree ℤ Change
 upserts_wait = inner (node [] (two 1 10 2 20) (node (k 3) (two 3 30 4 40) none)) (adds 1 5 ∷ adds 1 5 ∷ puts 4 0 ∷ [])
 
-exact_capacity : sunk effect shape split_leaf (adds 1 5 ∷ adds 1 5 ∷ puts 4 0 ∷ []) ≡ upserts_wait
+exact_capacity : sunk meaning shape split_leaf (adds 1 5 ∷ adds 1 5 ∷ puts 4 0 ∷ []) ≡ upserts_wait
 exact_capacity = refl
 
 -- both are added to the old value
@@ -153,7 +165,7 @@ upserts_held : holds effect upserts_wait ≡ entry 1 20 ∷ entry 2 20 ∷ entry
 upserts_held = refl
 
 -- one more, and the three go down to the left child
-three_go_down : sunk effect shape upserts_wait (adds 2 7 ∷ []) ≡ inner (node [] (two 1 20 2 27) (node (k 3) (two 3 30 4 40) none)) (puts 4 0 ∷ [])
+three_go_down : sunk meaning shape upserts_wait (adds 2 7 ∷ []) ≡ inner (node [] (two 1 20 2 27) (node (k 3) (two 3 30 4 40) none)) (puts 4 0 ∷ [])
 three_go_down = refl
 
 -- what an upsert adds to, where a put and a del come before it
@@ -173,13 +185,16 @@ row_change n v = (k n, Ups (record { base = quantity n 0; ops = Add 1 (pos v) �
 abbrev row_put : ℕ → ℕ → Key × Message (List Value) ops.Change
 row_put n v = (k n, Put (quantity n v))
 
+abbrev row_meaning : Meaning (List Value) (Message (List Value) ops.Change)
+row_meaning = meaning_of row_terms
+
 abbrev row_leaves : Nodes (List Value) (Message (List Value) ops.Change)
 row_leaves = node [] (leaf (row_at 1 10 ∷ row_at 2 20 ∷ [])) (node (k 3) (leaf (row_at 3 30 ∷ row_at 4 40 ∷ [])) none)
 
-row_puts : sunk (effect_of ops.merged) shape (leaf []) (row_put 1 10 ∷ row_put 2 20 ∷ row_put 3 30 ∷ row_put 4 40 ∷ []) ≡ inner row_leaves []
+row_puts : sunk row_meaning shape (leaf []) (row_put 1 10 ∷ row_put 2 20 ∷ row_put 3 30 ∷ row_put 4 40 ∷ []) ≡ inner row_leaves []
 row_puts = refl
 
-row_changes_wait : sunk (effect_of ops.merged) shape (inner row_leaves []) (row_change 1 5 ∷ row_change 1 5 ∷ row_put 4 0 ∷ [])
+row_changes_wait : sunk row_meaning shape (inner row_leaves []) (row_change 1 5 ∷ row_change 1 5 ∷ row_put 4 0 ∷ [])
     ≡ inner row_leaves (row_change 1 5 ∷ row_change 1 5 ∷ row_put 4 0 ∷ [])
 row_changes_wait = refl
 
@@ -193,6 +208,52 @@ row_changes_held = refl
 -- the default row, changed, where there is none
 row_begun : value_at (effect_of ops.merged) (k 9) (inner row_leaves (row_change 9 7 ∷ [])) ≡ Some (quantity 9 7)
 row_begun = refl
+
+-- ---- buffers measured in bytes: a put weighs 25, a del 9, an upsert that adds 19
+
+abbrev weighed : ℕ → Shape
+weighed bytes = record { fanout = 4; buffer = bytes; leaf = 2; measure = measures.Bytes }
+
+abbrev row_del : ℕ → Key × Message (List Value) ops.Change
+row_del n = (k n, Del)
+
+-- a leaf of two rows
+abbrev row_two : ℕ → ℕ → ℕ → ℕ → Tree (List Value) (Message (List Value) ops.Change)
+row_two a x b y = leaf (row_at a x ∷ row_at b y ∷ [])
+
+abbrev two_rows_each : Tree (List Value) (Message (List Value) ops.Change) → Tree (List Value) (Message (List Value) ops.Change) → Nodes (List Value) (Message (List Value) ops.Change)
+two_rows_each left right = node [] left (node (k 3) right none)
+
+abbrev within_bytes : Tree (List Value) (Message (List Value) ops.Change)
+within_bytes = inner row_leaves (row_put 1 11 ∷ row_put 4 41 ∷ [])
+
+weights_within : sunk row_meaning (weighed 60) (inner row_leaves []) (row_put 1 11 ∷ row_put 4 41 ∷ []) ≡ within_bytes
+unfolding codes.eight_bytes
+weights_within = refl
+
+-- weights 25 and 44
+heavier_is_right : sunk row_meaning (weighed 60) within_bytes (row_change 3 1 ∷ []) ≡ inner (two_rows_each (row_two 1 10 2 20) (row_two 3 31 4 41)) (row_put 1 11 ∷ [])
+unfolding codes.eight_bytes
+heavier_is_right = refl
+
+-- weights 50 and 27, of two messages and three
+heavier_has_fewer : sunk row_meaning (weighed 60) (inner (two_rows_each (row_two 1 10 2 20) (row_two 3 31 4 41)) (row_put 1 11 ∷ [])) (row_put 2 21 ∷ row_del 3 ∷ row_del 4 ∷ row_del 3 ∷ [])
+    ≡ inner (two_rows_each (row_two 1 11 2 21) (row_two 3 31 4 41)) (row_del 3 ∷ row_del 3 ∷ row_del 4 ∷ [])
+unfolding codes.eight_bytes
+heavier_has_fewer = refl
+
+-- equal weights: the left child first
+ties_within : sunk row_meaning (weighed 50) (inner row_leaves []) (row_put 1 12 ∷ row_put 4 42 ∷ []) ≡ inner row_leaves (row_put 1 12 ∷ row_put 4 42 ∷ [])
+unfolding codes.eight_bytes
+ties_within = refl
+
+ties_flush_left : sunk row_meaning (weighed 49) (inner row_leaves []) (row_put 1 12 ∷ row_put 4 42 ∷ []) ≡ inner (two_rows_each (row_two 1 12 2 20) (row_two 3 30 4 40)) (row_put 4 42 ∷ [])
+unfolding codes.eight_bytes
+ties_flush_left = refl
+
+one_byte : sunk row_meaning (weighed 1) (inner row_leaves []) (row_put 4 41 ∷ []) ≡ inner (two_rows_each (row_two 1 10 2 20) (row_two 3 30 4 41)) []
+unfolding codes.eight_bytes
+one_byte = refl
 
 -- ---- what a tree holds
 
@@ -216,7 +277,7 @@ dry_three_high = inner
     (node (k 5) (inner (node [] (two 5 50 6 60) (node (k 7) (two 7 70 8 80) none)) [])
     none)) []
 
-three_high_drained : drained effect shape three_high ≡ dry_three_high
+three_high_drained : drained meaning shape three_high ≡ dry_three_high
 three_high_drained = refl
 
 three_high_rebuilt : rebuilt effect shape dry_three_high ≡ dry_three_high
@@ -233,7 +294,7 @@ abbrev dels_wait : Tree ℤ Change
 dels_wait = inner (node [] (two 1 10 2 20) (node (k 3) (two 3 30 4 40) none)) ((k 1, Del) ∷ (k 2, Del) ∷ puts 5 50 ∷ [])
 
 -- the left leaf stays, empty, and three rows split the right one
-dels_drained : drained effect shape dels_wait ≡ inner (node [] (leaf []) (node (k 3) (two 3 30 4 40) (node (k 5) (leaf (entry 5 50 ∷ [])) none))) []
+dels_drained : drained meaning shape dels_wait ≡ inner (node [] (leaf []) (node (k 3) (two 3 30 4 40) (node (k 5) (leaf (entry 5 50 ∷ [])) none))) []
 dels_drained = refl
 
 -- packed anew, the empty leaf is gone

@@ -1,7 +1,7 @@
 -- Trees whose messages are all worked off, and trees made of rows alone.
 use Rattle.std.specs.Prelude.{◌≡◌, []}
 use Rattle.std.specs.declared.option.Option.{Option}
-use Rattle.bt_node.specs.Messages.{Rows}
+use Rattle.bt_node.specs.Messages.{Rows, Meaning}
 use Rattle.bt_node.specs.Trees.{Shape, Tree, leaf, inner, Nodes, none, node}
 use Rattle.bt_node.specs.Flushes.{Flush, crown, flush_in, holds, leaves}
 use Rattle.bt_node.specs.declared.mode.Mode.TheVariants.{Drain}
@@ -10,18 +10,18 @@ use Rattle.bt_node.specs.declared.mode.Mode.TheVariants.{Drain}
 abbrev pub packed : {V M : Type 0} → Shape → Rows V → Tree V M
 packed shape rows = crown shape (leaves shape rows)
 
-module _ {V M : Type 0} (effect : Option V → M → Option V) where
+module _ {V M : Type 0} (meaning : Meaning V M) where
   -- what becomes of a node and a packet when every message goes down to the leaves: each child is flushed with what is pending for it, even nothing
   abbrev pub drain : Shape → Flush V M
-  drain = flush_in effect Drain
+  drain = flush_in meaning Drain
 
   -- a tree with every buffer flushed empty
   abbrev pub drained : Shape → Tree V M → Tree V M
   drained shape t = crown shape (drain shape t [])
 
-  -- a tree of the rows that a tree holds, packed anew
-  abbrev pub rebuilt : Shape → Tree V M → Tree V M
-  rebuilt shape t = packed shape (holds effect t)
+-- a tree of the rows that a tree holds, packed anew
+abbrev pub rebuilt : {V M : Type 0} → (Option V → M → Option V) → Shape → Tree V M → Tree V M
+rebuilt effect shape t = packed shape (holds effect t)
 
 -- no messages are pending in a node or below it
 abbrev mutual

@@ -3,7 +3,7 @@ use Rattle.std.specs.Prelude.{◌≡◌, ℕ, zero, suc, ◌≤◌, List, [], �
 use Rattle.std.specs.declared.option.Option.{Option}
 use Rattle.std.specs.declared.option.Option.TheVariants.{None}
 use Rattle.bt_keycode.specs.Keys.{Key, Within, AllWithin, IsSorted, SideBySide}
-use Rattle.bt_node.specs.Messages.{Rows, Messages}
+use Rattle.bt_node.specs.Messages.{Rows, Messages, load}
 use Rattle.bt_node.specs.Trees.{Shape, Tree, leaf, inner, Nodes, none, node, Siblings, children, nodes, height}
 
 -- keys strictly rising from the one limit to the other
@@ -34,25 +34,25 @@ IsInOrder t = (levels : ℕ) × (low : Option Key) × (high : Option Key) × Lie
 
 -- no node is larger than the shape allows, and no inner node has fewer than two children
 abbrev mutual
-  pub IsSized : {V M : Type 0} → Shape → Tree V M → Type 0
-  IsSized shape (leaf rows) = length rows ≤ shape.leaf
-  IsSized shape (inner ns buffer) =
-      (2 ≤ length (children ns)) × (length (children ns) ≤ shape.fanout) × (length buffer ≤ shape.buffer) × AreSized shape ns
+  pub IsSized : {V M : Type 0} → (Key × M → ℕ) → Shape → Tree V M → Type 0
+  IsSized weigh shape (leaf rows) = length rows ≤ shape.leaf
+  IsSized weigh shape (inner ns buffer) =
+      (2 ≤ length (children ns)) × (length (children ns) ≤ shape.fanout) × (load weigh shape.measure buffer ≤ shape.buffer) × AreSized weigh shape ns
 
-  pub AreSized : {V M : Type 0} → Shape → Nodes V M → Type 0
-  AreSized shape none = Unit {0}
-  AreSized shape (node k t ns) = IsSized shape t × AreSized shape ns
+  pub AreSized : {V M : Type 0} → (Key × M → ℕ) → Shape → Nodes V M → Type 0
+  AreSized weigh shape none = Unit {0}
+  AreSized weigh shape (node k t ns) = IsSized weigh shape t × AreSized weigh shape ns
 
 -- a node that fits between two limits, with this many levels below it
-pub record NodeFits {V M : Type 0} (shape : Shape) (levels : ℕ) (low high : Option Key) (t : Tree V M) : Type 0 where
+pub record NodeFits {V M : Type 0} (weigh : Key × M → ℕ) (shape : Shape) (levels : ℕ) (low high : Option Key) (t : Tree V M) : Type 0 where
   pub lies : Lies levels low high t
-  pub sized : IsSized shape t
+  pub sized : IsSized weigh shape t
 
 -- siblings that fit as the children of one node, whatever their number
-pub record SiblingsFit {V M : Type 0} (shape : Shape) (levels : ℕ) (low high : Option Key) (xs : Siblings V M) : Type 0 where
+pub record SiblingsFit {V M : Type 0} (weigh : Key × M → ℕ) (shape : Shape) (levels : ℕ) (low high : Option Key) (xs : Siblings V M) : Type 0 where
   pub lie : SiblingsLie levels low high xs
   pub led : IsLed xs
-  pub sized : AreSized shape (nodes xs)
+  pub sized : AreSized weigh shape (nodes xs)
 
 -- siblings of this height
 abbrev pub AreHigh : {V M : Type 0} → ℕ → Siblings V M → Type 0
@@ -65,21 +65,21 @@ pub record IsRoomy (shape : Shape) : Type 0 where
   pub leaf : 1 ≤ shape.leaf
 
 -- a tree that fits its shape, which has room
-pub record HasShape {V M : Type 0} (shape : Shape) (t : Tree V M) : Type 0 where
+pub record HasShape {V M : Type 0} (weigh : Key × M → ℕ) (shape : Shape) (t : Tree V M) : Type 0 where
   pub roomy : IsRoomy shape
   pub levels : ℕ
-  pub fits : NodeFits shape levels None None t
+  pub fits : NodeFits weigh shape levels None None t
 
 -- siblings of a whole tree that fit
-abbrev pub AreFit : {V M : Type 0} → Shape → Siblings V M → Type 0
-AreFit shape xs = (levels : ℕ) × SiblingsFit shape levels None None xs
+abbrev pub AreFit : {V M : Type 0} → (Key × M → ℕ) → Shape → Siblings V M → Type 0
+AreFit weigh shape xs = (levels : ℕ) × SiblingsFit weigh shape levels None None xs
 
 -- a fact of a node and a packet, wherever the node fits between two limits and the packet lies between them
-abbrev pub WhereFits : {V M : Type 0} → Shape → Tree V M → Messages M → (ℕ → Option Key → Option Key → Type 0) → Type 0
-WhereFits shape t packet Fact =
-    (levels : ℕ) (low high : Option Key) → NodeFits shape levels low high t → AllWithin low high packet → Fact levels low high
+abbrev pub WhereFits : {V M : Type 0} → (Key × M → ℕ) → Shape → Tree V M → Messages M → (ℕ → Option Key → Option Key → Type 0) → Type 0
+WhereFits weigh shape t packet Fact =
+    (levels : ℕ) (low high : Option Key) → NodeFits weigh shape levels low high t → AllWithin low high packet → Fact levels low high
 
 -- a fact of siblings and messages, wherever the siblings fit between two limits and the messages lie between them
-abbrev pub WhereSiblingsFit : {V M : Type 0} → Shape → Siblings V M → Messages M → (ℕ → Option Key → Option Key → Type 0) → Type 0
-WhereSiblingsFit shape xs messages Fact =
-    (levels : ℕ) (low high : Option Key) → SiblingsFit shape levels low high xs → AllWithin low high messages → Fact levels low high
+abbrev pub WhereSiblingsFit : {V M : Type 0} → (Key × M → ℕ) → Shape → Siblings V M → Messages M → (ℕ → Option Key → Option Key → Type 0) → Type 0
+WhereSiblingsFit weigh shape xs messages Fact =
+    (levels : ℕ) (low high : Option Key) → SiblingsFit weigh shape levels low high xs → AllWithin low high messages → Fact levels low high

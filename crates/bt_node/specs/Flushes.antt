@@ -3,7 +3,7 @@ use Rattle.std.specs.Prelude.{ℕ, zero, suc, List, [], ◌∷◌, ◌++◌, map
 use Rattle.std.specs.List.{flat_map}
 use Rattle.std.specs.declared.option.Option.{Option}
 use Rattle.bt_keycode.specs.Keys.{Key}
-use Rattle.bt_node.specs.Messages.{Rows, Messages, rows_after, with_messages, before, from}
+use Rattle.bt_node.specs.Messages.{Rows, Meaning, Messages, load, rows_after, with_messages, before, from}
 use Rattle.bt_node.specs.Deals.{deal}
 use Rattle.bt_node.specs.Plans.{total, fullest}
 use Rattle.bt_node.specs.Loops.{opened_at, settled}
@@ -38,10 +38,6 @@ module _ {V M : Type 0} where
   shared (x ∷ []) buffer = record { pivot = x.0; tree = x.1; pending = buffer } ∷ []
   shared (x ∷ y ∷ ys) buffer = record { pivot = x.0; tree = x.1; pending = before y.0 buffer } ∷ shared (y ∷ ys) (from y.0 buffer)
 
-  -- how many messages are pending for each child
-  abbrev pub counts : List (Child V M) → List ℕ
-  counts = map (λ c. length c.pending)
-
   -- siblings as children for which no message is pending
   abbrev pub none_pending : Siblings V M → List (Child V M)
   none_pending = map (λ x. record { pivot = x.0; tree = x.1; pending = [] })
@@ -49,20 +45,6 @@ module _ {V M : Type 0} where
   -- what becomes of a child when the messages that are pending for it go down, behind its pivot; no messages are pending for the parts
   abbrev pub flushed : Flush V M → Child V M → List (Child V M)
   flushed flush c = none_pending (pivot_first c.pivot (flush c.tree c.pending))
-
-  -- While more than the capacity is pending, the fullest child is flushed, and the choice is made anew. Each turn sends a message down at least, so there
-  -- are no more turns than messages.
-  abbrev pub flushed_over : Flush V M → ℕ → List (Child V M) → List (Child V M)
-  flushed_over flush capacity cs = settled (λ c. length c.pending) (flushed flush) capacity (total (counts cs)) cs
-
-  -- What becomes of children: they are flushed one by one until no more than the capacity is pending, or each of them is, even with nothing.
-  abbrev pub flushed_in : Mode → Flush V M → ℕ → List (Child V M) → List (Child V M)
-  flushed_in Absorb flush capacity cs = flushed_over flush capacity cs
-  flushed_in Drain flush capacity cs = flat_map (flushed flush) cs
-
-  -- the children after the fullest of them was flushed
-  abbrev pub fullest_flushed : Flush V M → List (Child V M) → List (Child V M)
-  fullest_flushed flush cs = opened_at (λ c. length c.pending) (flushed flush) (fullest (counts cs)) cs
 
   -- neighbouring children under one inner node, what is pending for them in its buffer, behind the pivot of the first
   abbrev pub gathered : List (Child V M) → Key × Tree V M
@@ -88,21 +70,44 @@ module _ {V M : Type 0} where
   abbrev pub crown : Shape → Siblings V M → Tree V M
   crown shape xs = crowned (length xs) shape xs
 
-module _ {V M : Type 0} (effect : Option V → M → Option V) where
+module _ {V M : Type 0} (weigh : Key × M → ℕ) (shape : Shape) where
+  -- how much of the buffer's room the messages take that are pending for a child
+  abbrev pub pending_load : Child V M → ℕ
+  pending_load c = load weigh shape.measure c.pending
+
+  -- how much those take that are pending for each child
+  abbrev pub loads : List (Child V M) → List ℕ
+  loads = map pending_load
+
+  -- While more is pending than the buffer has room for, the fullest child is flushed, and the choice is made anew. Each turn sends a message down at least, so
+  -- there are no more turns than the room that all take.
+  abbrev pub flushed_over : Flush V M → List (Child V M) → List (Child V M)
+  flushed_over flush cs = settled pending_load (flushed flush) shape.buffer (total (loads cs)) cs
+
+  -- What becomes of children: they are flushed one by one until the buffer has room for all that is pending, or each of them is, even with nothing.
+  abbrev pub flushed_in : Mode → Flush V M → List (Child V M) → List (Child V M)
+  flushed_in Absorb flush cs = flushed_over flush cs
+  flushed_in Drain flush cs = flat_map (flushed flush) cs
+
+  -- the children after the fullest of them was flushed
+  abbrev pub fullest_flushed : Flush V M → List (Child V M) → List (Child V M)
+  fullest_flushed flush cs = opened_at pending_load (flushed flush) (fullest (loads cs)) cs
+
+module _ {V M : Type 0} (meaning : Meaning V M) where
   -- What becomes of a node and a packet in a mode, with a bound on the node's height, at which `flush_in` never drops a packet: clauses `one_rule` of the calls
   -- `absorb_alone` and `drain_alone`.
   abbrev pub flush_at : Mode → ℕ → Shape → Flush V M
-  flush_at mode height shape (leaf rows) packet = leaves shape (rows_after effect packet rows)
+  flush_at mode height shape (leaf rows) packet = leaves shape (rows_after meaning.effect packet rows)
   flush_at mode zero shape (inner ns buffer) packet = ([], inner ns buffer) ∷ []
   flush_at mode (suc height) shape (inner ns buffer) packet =
-      grouped shape (flushed_in mode (flush_at mode height shape) shape.buffer (shared (children ns) (with_messages packet buffer)))
+      grouped shape (flushed_in meaning.weigh shape mode (flush_at mode height shape) (shared (children ns) (with_messages packet buffer)))
 
   -- A leaf's rows after the messages, dealt anew. An inner node takes the packet into its buffer, what is pending goes down to its children as the mode
   -- says, and they are dealt anew, each part with its share of the buffer.
   abbrev pub flush_in : Mode → Shape → Flush V M
   flush_in mode shape t packet = flush_at mode (height t) shape t packet
 
-  -- what becomes of a node that keeps as many messages as its buffer has room for: the fullest child is flushed as long as the buffer is over capacity
+  -- what becomes of a node that keeps as much as its buffer has room for: the fullest child is flushed as long as the buffer is over capacity
   abbrev pub absorb : Shape → Flush V M
   absorb = flush_in Absorb
 
@@ -110,6 +115,7 @@ module _ {V M : Type 0} (effect : Option V → M → Option V) where
   abbrev pub sunk : Shape → Tree V M → Messages M → Tree V M
   sunk shape t packet = crown shape (absorb shape t packet)
 
+module _ {V M : Type 0} (effect : Option V → M → Option V) where
   -- the rows of a tree when all its messages have had their effect, those of a node after those below it
   abbrev mutual
     pub holds : Tree V M → Rows V

@@ -10,12 +10,12 @@ abbrev pub is_among : ℕ → List ℕ → Bool
 is_among i [] = false
 is_among i (j ∷ js) = cond (nat_eq i j) true (is_among i js)
 
--- for each child, whether it is flushed, where so many messages are pending for each: those that are planned, or all
+-- for each child, whether it is flushed, where so much is pending for each: those that are planned, or all
 abbrev pub flush_marks : Mode → ℕ → List ℕ → List Bool
-flush_marks Absorb capacity counts = map (λ p. is_among p.0 (planned counts capacity)) (placed 0 counts)
-flush_marks Drain capacity counts = map (λ n. true) counts
+flush_marks Absorb capacity loads = map (λ p. is_among p.0 (planned loads capacity)) (placed 0 loads)
+flush_marks Drain capacity loads = map (λ n. true) loads
 
--- whether none is, since the buffer has room for so many messages
+-- whether none is, since the buffer has room for so much
 abbrev pub has_room : Mode → Shape → ℕ → Bool
-has_room Absorb shape pending = nat_le pending shape.buffer
-has_room Drain shape pending = false
+has_room Absorb shape load = nat_le load shape.buffer
+has_room Drain shape load = false

@@ -2,13 +2,14 @@
 use Rattle.std.specs.Prelude.{ℕ, suc, max, List, [], ◌∷◌, drop, map}
 use Rattle.std.specs.List.{zip}
 use Rattle.bt_keycode.specs.Keys.{Key}
-use Rattle.bt_node.specs.Messages.{Rows, Messages}
+use Rattle.bt_node.specs.Messages.{Rows, Measure, Messages}
 
--- how large nodes may be: the children of an inner node, the messages of its buffer, the rows of a leaf
+-- how large nodes may be: the children of an inner node, the room of its buffer and what it is counted in, the rows of a leaf
 pub record Shape : Type 0 where
   pub fanout : ℕ
   pub buffer : ℕ
   pub leaf : ℕ
+  pub measure : Measure
 
 -- A node, and nodes side by side, each behind the pivot before it. Before the first of them there is no pivot: it stands behind the empty key.
 mutual

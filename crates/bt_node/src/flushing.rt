@@ -2,7 +2,9 @@
 ghost use Rattle.std.specs.Prelude.{◌≡◌, ◌≤◌, ◌++◌, IfOk, OnOk, drop, length, take};
 ghost use Rattle.std.specs.List.{zip};
 ghost use Rattle.bt_messages.specs.Parts.{total};
-ghost use Rattle.bt_messages.specs.Effects.{effect_of};
+ghost use Rattle.bt_messages.specs.Shares.{AreShares, IsShare, counts};
+ghost use Rattle.bt_messages.specs.Weights.{weigh_of};
+ghost use Rattle.bt_messages.specs.Meanings.{meaning_of};
 ghost use Rattle.bt_node.specs.Flushes.{flush_in, flushed};
 ghost use Rattle.bt_node.specs.Messages.{with_messages};
 ghost use Rattle.bt_node.specs.inside.Flushing.{AreReady, IsReady, loaded};
@@ -14,7 +16,7 @@ use crate::mode::Mode;
 use crate::node::{Kind, Node, Siblings};
 use crate::opening::{Opened, Step, open};
 use crate::shape::Shape;
-use bt_messages::{Buffer, Merge, Stream};
+use bt_messages::{Buffer, Merge, Share, Stream};
 use std::alloc::{AllocError, Global};
 
 // What becomes of a child when its messages go down: those that are pending for it, and its share of those that come. Where none is
@@ -27,16 +29,16 @@ fn flush_child<V: Merge>(
     node: Node<V>,
     pending: Buffer<V>,
     stream: &mut Stream<V>,
-    share: usize,
+    share: Share,
 ) -> Result<Siblings<V>, AllocError>
-    requires enough { share ≤ length stream.old }
+    requires share { IsShare (weigh_of V.terms) stream.old share }
     requires ready { IsReady mode node }
-    ensures siblings { IfOk result (λ siblings. siblings ≡ flush_in (effect_of V.merged) mode shape node (with_messages (take share stream.old) pending)) }
-    ensures left { OnOk result (stream.new ≡ drop share stream.old) }
+    ensures siblings { IfOk result (λ siblings. siblings ≡ flush_in (meaning_of V.terms) mode shape node (with_messages (take share.count stream.old) pending)) }
+    ensures left { OnOk result (stream.new ≡ drop share.count stream.old) }
 {
     let _in_order = stream.len();
     if pending.is_empty() {
-        return flush(alloc, shape, mode, node, stream, share);
+        return flush(alloc, shape, mode, node, stream, share.count);
     }
     let mut all = pending;
     all.add_front(alloc, stream, share)?;
@@ -55,12 +57,12 @@ fn flush_marked<V: Merge>(
     opened: Opened<V>,
     stream: &mut Stream<V>,
 ) -> Result<Children<V>, AllocError>
-    requires enough { total opened.shares.items ≤ length stream.old }
+    requires weighed { AreShares (weigh_of V.terms) stream.old opened.shares.items }
     requires ready { AreReady mode opened.children }
     requires shares { length opened.shares.items ≡ length opened.children }
     requires marks { length opened.marks.items ≡ length opened.children }
-    ensures children { IfOk result (λ parts. parts ≡ passed (λ c. length c.pending) (flushed (flush_in (effect_of V.merged) mode shape)) (zip (loaded opened.children opened.shares.items stream.old) opened.marks.items)) }
-    ensures left { OnOk result (stream.new ≡ drop (total opened.shares.items) stream.old) }
+    ensures children { IfOk result (λ parts. parts ≡ passed (flushed (flush_in (meaning_of V.terms) mode shape)) (zip (loaded opened.children (counts opened.shares.items) stream.old) opened.marks.items)) }
+    ensures left { OnOk result (stream.new ≡ drop (total (counts opened.shares.items)) stream.old) }
 {
     let Opened {
         children,
@@ -103,7 +105,7 @@ pub(crate) fn flush<V: Merge>(
 ) -> Result<Siblings<V>, AllocError>
     requires enough { count ≤ length stream.old }
     requires ready { IsReady mode node }
-    ensures siblings { IfOk result (λ siblings. siblings ≡ flush_in (effect_of V.merged) mode shape node (take count stream.old)) }
+    ensures siblings { IfOk result (λ siblings. siblings ≡ flush_in (meaning_of V.terms) mode shape node (take count stream.old)) }
     ensures left { OnOk result (stream.new ≡ drop count stream.old) }
 {
     match node.into_kind() {

@@ -39,7 +39,7 @@ impl<'a, V: Merge> Held<'a, V> {
 
     /// What a message makes of it: what is put is lent, and an upsert changes a copy of what is lent, or what was made in its place.
     pub(crate) fn after(self, alloc: Global, message: &'a Message<V>) -> Result<Self, AllocError>
-        ensures { IfOk result (λ new. value_of new ≡ effect_of V.merged (value_of self.entry) message.now) }
+        ensures { IfOk result (λ new. value_of new ≡ effect_of V.terms.merged (value_of self.entry) message.now) }
     {
         match message {
             Message::Put(value) => Ok(Held::Lent(value)),
@@ -54,7 +54,7 @@ impl<'a, V: Merge> Held<'a, V> {
 
 /// What a key has after a message that leaves nothing of its value: a put or a del.
 pub(crate) fn reset<'a, V: Merge>(message: &'a Message<V>) -> Option<Held<'a, V>>
-    ensures { IfSome result (λ new. Resets (effect_of V.merged) message.now (value_of new)) }
+    ensures { IfSome result (λ new. Resets (effect_of V.terms.merged) message.now (value_of new)) }
 {
     match message {
         Message::Put(value) => Some(Held::Lent(value)),

@@ -93,7 +93,7 @@ pub(crate) fn visit_leaf<'a, V: Merge, S: Visitor<V>>(
 ) -> Result<(), AllocError>
     requires rows { IsTrue (is_sorted key_cmp rows.now) }
     requires messages { IsSorted messages }
-    ensures { OnOk result ((visitor.new, limit.new) ≡ fold (limited S.visited) (visitor.old, limit.old) (rows_after (effect_of V.merged) messages.entry rows.now)) }
+    ensures { OnOk result ((visitor.new, limit.new) ≡ fold (limited S.visited) (visitor.old, limit.old) (rows_after (effect_of V.terms.merged) messages.entry rows.now)) }
 {
     let mut left = rows;
     let mut messages = messages;

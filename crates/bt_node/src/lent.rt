@@ -74,7 +74,7 @@ impl<'a, V: Merge> Lent<'a, V> {
         old: Held<'a, V>,
     ) -> Result<Held<'a, V>, AllocError>
         requires { IsSorted self.now }
-        ensures { IfOk result (λ value. value_of value ≡ value_after (effect_of V.merged) key.now self.now (value_of old.entry)) }
+        ensures { IfOk result (λ value. value_of value ≡ value_after (effect_of V.terms.merged) key.now self.now (value_of old.entry)) }
     {
         let (first, second) = self.messages.as_slices();
         let earlier = entries_from(first, key);
@@ -159,7 +159,7 @@ impl<'a, V: Merge> Lent<'a, V> {
     ) -> Result<Held<'a, V>, AllocError>
         requires sorted { IsSorted self.old }
         requires from { AllFrom key.now self.old }
-        ensures value { IfOk result (λ value. value_of value ≡ value_after (effect_of V.merged) key.now self.old (value_of old.entry)) }
+        ensures value { IfOk result (λ value. value_of value ≡ value_after (effect_of V.terms.merged) key.now self.old (value_of old.entry)) }
         ensures left { OnOk result (self.new ≡ messages_past key.now self.old) }
     {
         let mut value = old;
@@ -185,7 +185,7 @@ impl<'a, V: Merge> Lent<'a, V> {
         old: Held<'a, V>,
     ) -> Result<Held<'a, V>, AllocError>
         requires { IsSorted self.old }
-        ensures value { IfOk result (λ value. value_of value ≡ value_after (effect_of V.merged) key.now self.old (value_of old.entry)) }
+        ensures value { IfOk result (λ value. value_of value ≡ value_after (effect_of V.terms.merged) key.now self.old (value_of old.entry)) }
         ensures left { OnOk result (self.new ≡ messages_past key.now self.old) }
     {
         self.drop_before(key);
@@ -223,7 +223,7 @@ fn after_entries<'a, V: Merge>(
 ) -> Result<Held<'a, V>, AllocError>
     requires sorted { IsSorted (map (λ m. (m.key.now, m.message.now)) entries.now) }
     requires from { AllFrom key.now (map (λ m. (m.key.now, m.message.now)) entries.now) }
-    ensures { IfOk result (λ value. value_of value ≡ value_after (effect_of V.merged) key.now (map (λ m. (m.key.now, m.message.now)) entries.now) (value_of old.entry)) }
+    ensures { IfOk result (λ value. value_of value ≡ value_after (effect_of V.terms.merged) key.now (map (λ m. (m.key.now, m.message.now)) entries.now) (value_of old.entry)) }
 {
     let mut value = old;
     for entry in entries {

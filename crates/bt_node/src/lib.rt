@@ -68,11 +68,11 @@ pub use group::close;
 pub use mode::Mode;
 pub use node::{Node, Parts, Siblings};
 pub use opening::{Opened, Step, open};
-pub use planning::{next_planned, sum_of};
+pub use planning::next_planned;
 pub use portions::Portion;
 pub use shape::{
-    LARGEST_BUFFER, LARGEST_FANOUT, LARGEST_LEAF, SMALLEST_BUFFER, SMALLEST_FANOUT, SMALLEST_LEAF,
-    Shape,
+    LARGEST_BUFFER, LARGEST_FANOUT, LARGEST_LEAF, LARGEST_WEIGHED_BUFFER, SMALLEST_BUFFER,
+    SMALLEST_FANOUT, SMALLEST_LEAF, Shape,
 };
 pub use tree::{Tree, absorb_alone, crown, drain_alone, pack, regroup};
 pub use visitor::{Copies, ForkVisitor, Visitor};

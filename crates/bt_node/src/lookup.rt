@@ -34,7 +34,7 @@ struct Newest<'a, V: Merge> {
 
 fn since_reset<'a, V: Merge>(bins: &'a Bins<V>, place: usize, key: &Key) -> Newest<'a, V>
     requires { place < length bins.now }
-    ensures value { BeginsWith (effect_of V.merged) key.now (slice_index_or bins.now place []) result.start result.left }
+    ensures value { BeginsWith (effect_of V.terms.merged) key.now (slice_index_or bins.now place []) result.start result.left }
     ensures from { AllFrom key.now result.left }
     ensures sorted { IsSorted result.left }
 {
@@ -62,7 +62,7 @@ pub(crate) fn after_messages<'a, V: Merge>(
 ) -> Result<Held<'a, V>, AllocError>
     requires from { AllFrom key.now messages }
     requires sorted { IsSorted messages }
-    ensures { IfOk result (λ value. value_of value ≡ value_after (effect_of V.merged) key.now messages.entry (value_of old.entry)) }
+    ensures { IfOk result (λ value. value_of value ≡ value_after (effect_of V.terms.merged) key.now messages.entry (value_of old.entry)) }
 {
     let mut value = old;
     for (at, message) in messages {
@@ -82,7 +82,7 @@ pub(crate) fn value_at<'a, V: Merge>(
     key: &Key,
 ) -> Result<Held<'a, V>, AllocError>
     requires { IsInOrder node.now }
-    ensures { IfOk result (λ value. value_of value ≡ value_at (effect_of V.merged) key.now node.now) }
+    ensures { IfOk result (λ value. value_of value ≡ value_at (effect_of V.terms.merged) key.now node.now) }
 {
     match node.kind() {
         Kind::Leaf(rows) => Ok(Held::found(rows.find(key))),

@@ -89,7 +89,7 @@ fn add_after<'a, V: Merge>(
     below: Vec<Held<'a, V>>,
 ) -> Result<(), AllocError>
     requires { place < length bins.now }
-    ensures { OnOk result (map value_of values.new.items ≡ map value_of values.old.items ++ values_after (effect_of V.merged) (slice_index_or bins.now place []) (map (λ k. k.now) keys.now) (map value_of below.entry.items)) }
+    ensures { OnOk result (map value_of values.new.items ≡ map value_of values.old.items ++ values_after (effect_of V.terms.merged) (slice_index_or bins.now place []) (map (λ k. k.now) keys.now) (map value_of below.entry.items)) }
 {
     let mut rest = keys;
     for old in below {
@@ -111,7 +111,7 @@ pub(crate) fn values_at<'a, 'k, V: Merge>(
     keys: &'k [&'k Key],
 ) -> Result<Vec<Held<'a, V>>, AllocError>
     requires { IsInOrder node.now }
-    ensures { IfOk result (λ values. map value_of values.items ≡ values_at (effect_of V.merged) (map (λ k. k.now) keys.now) node.now) }
+    ensures { IfOk result (λ values. map value_of values.items ≡ values_at (effect_of V.terms.merged) (map (λ k. k.now) keys.now) node.now) }
 {
     match node.kind() {
         Kind::Leaf(rows) => found_at(alloc, rows, keys),

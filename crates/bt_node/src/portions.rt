@@ -81,7 +81,7 @@ impl<'a, V: Merge> Portion<'a, V> {
 
     /// The value that it has at a key, when all messages have had their effect.
     pub fn get(&self, alloc: Global, key: &Key) -> Result<Option<V>, AllocError>
-        ensures { IfOk result (λ value. value ≡ value_in (effect_of V.merged) key.now self.now) }
+        ensures { IfOk result (λ value. value ≡ value_in (effect_of V.terms.merged) key.now self.now) }
     {
         let old = value_at(alloc, self.node, key)?;
         self.newer.effect_at(alloc, key, old)?.into_value(alloc)
@@ -95,7 +95,7 @@ impl<'a, V: Merge> Portion<'a, V> {
         keys: &'k [&'k Key],
     ) -> Result<Vec<Option<V>>, AllocError>
         requires rising { AreRising (map (λ k. k.now) keys.now) }
-        ensures { IfOk result (λ values. values.items ≡ map (λ k. value_in (effect_of V.merged) k.now self.entry) keys.now) }
+        ensures { IfOk result (λ values. values.items ≡ map (λ k. value_in (effect_of V.terms.merged) k.now self.entry) keys.now) }
     {
         let Portion {
             node,
@@ -133,7 +133,7 @@ impl<'a, V: Merge> Portion<'a, V> {
 
     /// Copies of the rows that it holds between its bounds, when all messages have had their effect, by rising key.
     pub fn rows(&self, alloc: Global) -> Result<Vec<(Key, V)>, AllocError>
-        ensures { IfOk result (λ rows. rows.items ≡ rows_of (effect_of V.merged) self.now) }
+        ensures { IfOk result (λ rows. rows.items ≡ rows_of (effect_of V.terms.merged) self.now) }
     {
         let mut copies = Copies::new(alloc);
         self.again(alloc)?.visit(alloc, &mut copies)?;
@@ -142,7 +142,7 @@ impl<'a, V: Merge> Portion<'a, V> {
 
     /// Shows a visitor the rows that it holds between its bounds, when all messages have had their effect, by rising key.
     pub fn visit<S: Visitor<V>>(self, alloc: Global, visitor: &mut S) -> Result<(), AllocError>
-        ensures { OnOk result (visitor.new ≡ fold S.visited visitor.old (rows_of (effect_of V.merged) self.entry)) }
+        ensures { OnOk result (visitor.new ≡ fold S.visited visitor.old (rows_of (effect_of V.terms.merged) self.entry)) }
     {
         let mut limit = Limit::none();
         visit_portion(alloc, self, visitor, &mut limit)
@@ -156,7 +156,7 @@ pub(crate) fn first_child<'a, V: Merge>(
     portion: Portion<'a, V>,
 ) -> Result<(Portion<'a, V>, Option<Portion<'a, V>>), AllocError>
     requires { is_leaf portion.tree ≡ false }
-    ensures parts { IfOk result (λ parts. Divide (effect_of V.merged) (portion.entry ∷ []) (parts.0 ∷ list_of parts.1)) }
+    ensures parts { IfOk result (λ parts. Divide (effect_of V.terms.merged) (portion.entry ∷ []) (parts.0 ∷ list_of parts.1)) }
     ensures lower { IfOk result (λ parts. height parts.0.tree < height portion.entry.tree) }
     ensures fewer { IfOk result (λ parts. IfSome parts.1 (λ rest. (rest.tree ≡ portion.entry.tree) × (children_left rest < children_left portion.entry))) }
 {
@@ -199,7 +199,7 @@ fn opened<'a, V: Merge>(
     alloc: Global,
     portion: Portion<'a, V>,
 ) -> Result<Vec<Portion<'a, V>>, AllocError>
-    ensures { IfOk result (λ parts. Divide (effect_of V.merged) (portion.entry ∷ []) parts.items) }
+    ensures { IfOk result (λ parts. Divide (effect_of V.terms.merged) (portion.entry ∷ []) parts.items) }
 {
     let mut parts = Vec::new(alloc);
     if let Kind::Leaf(_) = portion.node.kind() {
@@ -222,7 +222,7 @@ fn opened_all<'a, V: Merge>(
     alloc: Global,
     portions: Vec<Portion<'a, V>>,
 ) -> Result<Vec<Portion<'a, V>>, AllocError>
-    ensures { IfOk result (λ parts. Divide (effect_of V.merged) portions.entry.items parts.items) }
+    ensures { IfOk result (λ parts. Divide (effect_of V.terms.merged) portions.entry.items parts.items) }
 {
     let mut parts = Vec::new(alloc);
     for portion in portions {
@@ -241,7 +241,7 @@ pub(crate) fn divided<'a, V: Merge>(
     to: Option<&'a Key>,
 ) -> Result<Vec<Portion<'a, V>>, AllocError>
     requires { IsInOrder node.now }
-    ensures { IfOk result (λ parts. Divide (effect_of V.merged) (portions.whole (option_copied from.entry) (option_copied to.entry) node.now ∷ []) parts.items) }
+    ensures { IfOk result (λ parts. Divide (effect_of V.terms.merged) (portions.whole (option_copied from.entry) (option_copied to.entry) node.now ∷ []) parts.items) }
 {
     let mut parts = vec![in alloc; Portion::whole(alloc, node, from, to)]?;
     for _ in 0..depth {

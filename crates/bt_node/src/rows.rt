@@ -148,7 +148,7 @@ impl<V: Merge> Rows<V> {
         count: usize,
     ) -> Result<Self, AllocError>
         requires { count ≤ length stream.old }
-        ensures rows { IfOk result (λ rows. rows ≡ rows_after (effect_of V.merged) (take count stream.old) self) }
+        ensures rows { IfOk result (λ rows. rows ≡ rows_after (effect_of V.terms.merged) (take count stream.old) self) }
         ensures left { OnOk result (stream.new ≡ drop count stream.old) }
     {
         if count == 0 {

@@ -2,6 +2,7 @@
 ghost use Rattle.std.specs.Prelude.{◌≡◌, ◌≤◌, false, true, IfErr, IfOk};
 ghost use Rattle.bt_node.specs.Shapes.{is_shape};
 
+use bt_messages::Measure;
 use bt_rowtype::Refusal;
 use std::marker::Model;
 
@@ -11,19 +12,22 @@ pub const SMALLEST_FANOUT: usize = 4;
 pub const LARGEST_FANOUT: usize = 64;
 /// The smallest buffer.
 pub const SMALLEST_BUFFER: usize = 1;
-/// The largest buffer.
+/// The largest buffer, in messages.
 pub const LARGEST_BUFFER: usize = 4096;
+/// The largest buffer, in bytes.
+pub const LARGEST_WEIGHED_BUFFER: usize = 1_048_576;
 /// The smallest leaf.
 pub const SMALLEST_LEAF: usize = 2;
 /// The largest leaf.
 pub const LARGEST_LEAF: usize = 1024;
 
-/// The most children of an inner node, the most messages in its buffer, and the most rows of a leaf.
+/// The most children of an inner node, the room of its buffer and what it is counted in, and the most rows of a leaf.
 #[derive(Clone, Copy, Debug, Drop)]
 pub struct Shape {
     fanout: u16,
-    buffer: u16,
+    buffer: u32,
     leaf: u16,
+    measure: Measure,
 }
 
 impl Model for Shape {
@@ -34,25 +38,29 @@ impl Model for Shape {
 
     ghost use Rattle.bt_node.specs.Shapes.{is_shape};
 
-    ghost view = { λ s. record { fanout = s.fanout; buffer = s.buffer; leaf = s.leaf } };
+    ghost view = { λ s. record { fanout = s.fanout; buffer = s.buffer; leaf = s.leaf; measure = s.measure } };
 
-    ghost inverse = { λ s. record { fanout = s.fanout; buffer = s.buffer; leaf = s.leaf } };
+    ghost inverse = { λ s. record { fanout = s.fanout; buffer = s.buffer; leaf = s.leaf; measure = s.measure } };
 
-    ghost invariant = { λ s. is_shape s.fanout s.buffer s.leaf ≡ true };
+    ghost invariant = { λ s. is_shape s.measure s.fanout s.buffer s.leaf ≡ true };
 }
 
 impl Shape {
-    /// A fanout of 4 to 64, a buffer of 1 to 4,096 and a leaf of 2 to 1,024, else `BadShape`.
-    pub fn new(fanout: u32, buffer: u32, leaf: u32) -> Result<Self, Refusal>
-        ensures ok { IfOk result (λ shape. shape ≡ record { fanout = fanout; buffer = buffer; leaf = leaf }) }
-        ensures allowed { IfOk result (λ _. is_shape fanout buffer leaf ≡ true) }
-        ensures refused { IfErr result (λ e. (e ≡ Refusal.BadShape) × (is_shape fanout buffer leaf ≡ false)) }
+    // A shape within the limits, else `BadShape`.
+    fn of(measure: Measure, fanout: u32, buffer: u32, leaf: u32) -> Result<Self, Refusal>
+        ensures ok { IfOk result (λ shape. shape ≡ record { fanout = fanout; buffer = buffer; leaf = leaf; measure = measure }) }
+        ensures allowed { IfOk result (λ _. is_shape measure fanout buffer leaf ≡ true) }
+        ensures refused { IfErr result (λ e. (e ≡ Refusal.BadShape) × (is_shape measure fanout buffer leaf ≡ false)) }
     {
-        let (children, messages, rows) = (fanout as usize, buffer as usize, leaf as usize);
+        let (children, room, rows) = (fanout as usize, buffer as usize, leaf as usize);
+        let most = match measure {
+            Measure::Messages => LARGEST_BUFFER,
+            Measure::Bytes => LARGEST_WEIGHED_BUFFER,
+        };
         if children < SMALLEST_FANOUT
             || LARGEST_FANOUT < children
-            || messages < SMALLEST_BUFFER
-            || LARGEST_BUFFER < messages
+            || room < SMALLEST_BUFFER
+            || most < room
             || rows < SMALLEST_LEAF
             || LARGEST_LEAF < rows
         {
@@ -60,9 +68,29 @@ impl Shape {
         }
         Ok(Shape {
             fanout: fanout as u16,
-            buffer: buffer as u16,
+            buffer,
             leaf: leaf as u16,
+            measure,
         })
+    }
+
+    /// A fanout of 4 to 64, a buffer of 1 to 4,096 messages and a leaf of 2 to 1,024, else `BadShape`.
+    pub fn new(fanout: u32, buffer: u32, leaf: u32) -> Result<Self, Refusal>
+        ensures ok { IfOk result (λ shape. shape ≡ record { fanout = fanout; buffer = buffer; leaf = leaf; measure = Measure.Messages }) }
+        ensures allowed { IfOk result (λ _. is_shape Measure.Messages fanout buffer leaf ≡ true) }
+        ensures refused { IfErr result (λ e. (e ≡ Refusal.BadShape) × (is_shape Measure.Messages fanout buffer leaf ≡ false)) }
+    {
+        Shape::of(Measure::Messages, fanout, buffer, leaf)
+    }
+
+    /// A fanout of 4 to 64, a buffer of 1 to 1,048,576 bytes and a leaf of 2 to 1,024, else `BadShape`. What a message weighs is what
+    /// `Message::weight` says.
+    pub fn weighed(fanout: u32, bytes: u32, leaf: u32) -> Result<Self, Refusal>
+        ensures ok { IfOk result (λ shape. shape ≡ record { fanout = fanout; buffer = bytes; leaf = leaf; measure = Measure.Bytes }) }
+        ensures allowed { IfOk result (λ _. is_shape Measure.Bytes fanout bytes leaf ≡ true) }
+        ensures refused { IfErr result (λ e. (e ≡ Refusal.BadShape) × (is_shape Measure.Bytes fanout bytes leaf ≡ false)) }
+    {
+        Shape::of(Measure::Bytes, fanout, bytes, leaf)
     }
 
     /// The most children of an inner node.
@@ -73,12 +101,19 @@ impl Shape {
         self.fanout as usize
     }
 
-    /// The most messages in the buffer of an inner node.
+    /// The room of the buffer of an inner node: messages, or bytes.
     pub fn buffer(self) -> usize
         ensures value { result ≡ self.buffer }
-        ensures range { (SMALLEST_BUFFER ≤ result) × (result ≤ LARGEST_BUFFER) }
+        ensures range { (SMALLEST_BUFFER ≤ result) × (result ≤ LARGEST_WEIGHED_BUFFER) }
     {
         self.buffer as usize
+    }
+
+    /// What the room of a buffer is counted in.
+    pub fn measure(self) -> Measure
+        ensures { result ≡ self.measure }
+    {
+        self.measure
     }
 
     /// The most rows of a leaf.

@@ -3,6 +3,8 @@ ghost use Rattle.std.specs.Prelude.{◌≡◌, ◌≤◌, [], IfOk, IsTrue, leng
 ghost use Rattle.std.specs.FinMap.{find, is_sorted};
 ghost use Rattle.bt_keycode.specs.Keys.{key_cmp};
 ghost use Rattle.bt_messages.specs.Effects.{effect_of};
+ghost use Rattle.bt_messages.specs.Meanings.{meaning_of};
+ghost use Rattle.bt_messages.specs.Weights.{load, weigh_of};
 ghost use Rattle.bt_messages.specs.declared.message.Message.{Message};
 ghost use Rattle.bt_messages.specs.Bins.{LieBetween, joined};
 ghost use Rattle.bt_node.specs.Drains.{AreDry, IsDry, drain, drained, packed, rebuilt};
@@ -33,6 +35,7 @@ pub struct Tree<V: Merge> {
 }
 
 impl<V: Merge> Model for Tree<V> {
+    ghost use Rattle.bt_messages.specs.Weights.{weigh_of};
     ghost use Rattle.bt_messages.specs.declared.message.Message.{Message};
     ghost use Rattle.bt_node.specs.Trees as trees;
     ghost use Rattle.bt_node.specs.Fits.{HasShape};
@@ -44,7 +47,7 @@ impl<V: Merge> Model for Tree<V> {
 
     ghost view = { λ t. (t.shape, t.root) };
 
-    ghost invariant = { λ t. HasShape t.shape t.root };
+    ghost invariant = { λ t. HasShape (weigh_of V.terms) t.shape t.root };
 }
 
 /// What becomes of a node whose keys are in order and a packet, on the caller's thread. An `Err` keeps neither.
@@ -55,14 +58,14 @@ pub fn absorb_alone<V: Merge>(
     packet: Packet<V>,
 ) -> Result<Siblings<V>, AllocError>
     requires in_order { IsInOrder node }
-    ensures siblings { IfOk result (λ siblings. siblings ≡ absorb (effect_of V.merged) shape node packet) }
-    ensures fits { IfOk result (FitThere shape node packet) }
-    ensures height { IfOk result (KeepHeight shape node packet) }
-    ensures rows { IfOk result (HoldRowsAfter (effect_of V.merged) shape node packet) }
-    ensures unchanged { IfOk result (StayWithoutPacket shape node packet) }
-    ensures one_rule { IfOk result (ComeByOneRule (effect_of V.merged) shape node packet Mode.Absorb) }
-    ensures in_turn { FlushesInTurn V (Message V V.Delta) }
-    ensures planned { ChosenArePlanned V (Message V V.Delta) }
+    ensures siblings { IfOk result (λ siblings. siblings ≡ absorb (meaning_of V.terms) shape node packet) }
+    ensures fits { IfOk result (FitThere (weigh_of V.terms) shape node packet) }
+    ensures height { IfOk result (KeepHeight (weigh_of V.terms) shape node packet) }
+    ensures rows { IfOk result (HoldRowsAfter (meaning_of V.terms) shape node packet) }
+    ensures unchanged { IfOk result (StayWithoutPacket (weigh_of V.terms) shape node packet) }
+    ensures one_rule { IfOk result (ComeByOneRule (meaning_of V.terms) shape node packet Mode.Absorb) }
+    ensures in_turn { FlushesInTurn V (weigh_of V.terms) }
+    ensures planned { ChosenArePlanned V (weigh_of V.terms) }
 {
     let mut stream = packet.into_stream();
     let count = stream.len();
@@ -78,12 +81,12 @@ pub fn drain_alone<V: Merge>(
     node: Node<V>,
     packet: Packet<V>,
 ) -> Result<Siblings<V>, AllocError>
-    ensures siblings { IfOk result (λ siblings. siblings ≡ drain (effect_of V.merged) shape node packet) }
-    ensures fits { IfOk result (FitThere shape node packet) }
-    ensures height { IfOk result (KeepHeight shape node packet) }
-    ensures rows { IfOk result (HoldRowsAfter (effect_of V.merged) shape node packet) }
+    ensures siblings { IfOk result (λ siblings. siblings ≡ drain (meaning_of V.terms) shape node packet) }
+    ensures fits { IfOk result (FitThere (weigh_of V.terms) shape node packet) }
+    ensures height { IfOk result (KeepHeight (weigh_of V.terms) shape node packet) }
+    ensures rows { IfOk result (HoldRowsAfter (meaning_of V.terms) shape node packet) }
     ensures dry { IfOk result (λ siblings. AreDry (nodes siblings)) }
-    ensures one_rule { IfOk result (ComeByOneRule (effect_of V.merged) shape node packet Mode.Drain) }
+    ensures one_rule { IfOk result (ComeByOneRule (meaning_of V.terms) shape node packet Mode.Drain) }
 {
     let mut stream = packet.into_stream();
     let count = stream.len();
@@ -100,11 +103,11 @@ pub fn regroup<V: Merge>(
     bins: Bins<V>,
 ) -> Result<Siblings<V>, AllocError>
     requires several { 2 ≤ length siblings }
-    requires capacity { length (joined bins) ≤ shape.buffer }
+    requires capacity { load (weigh_of V.terms) shape.measure (joined bins) ≤ shape.buffer }
     requires divided { LieBetween (pivots_of siblings) bins }
     ensures nodes { IfOk result (λ nodes. nodes ≡ grouped shape (shared siblings (joined bins))) }
-    ensures fits { IfOk result (FitAbove shape siblings (joined bins)) }
-    ensures rows { IfOk result (HoldAllAfter (effect_of V.merged) shape siblings (joined bins)) }
+    ensures fits { IfOk result (FitAbove (weigh_of V.terms) shape siblings (joined bins)) }
+    ensures rows { IfOk result (HoldAllAfter (meaning_of V.terms) shape siblings (joined bins)) }
 {
     close(alloc, shape, Children::beside(siblings, bins))
 }
@@ -116,10 +119,10 @@ pub fn crown<V: Merge>(
     shape: Shape,
     siblings: Siblings<V>,
 ) -> Result<Tree<V>, AllocError>
-    requires { AreFit shape siblings }
+    requires { AreFit (weigh_of V.terms) shape siblings }
     ensures tree { IfOk result (λ tree. tree ≡ (shape, crown shape siblings)) }
-    ensures fits { IfOk result (λ tree. HasShape tree.0 tree.1) }
-    ensures rows { IfOk result (λ tree. HoldsAll (effect_of V.merged) siblings tree.1) }
+    ensures fits { IfOk result (λ tree. HasShape (weigh_of V.terms) tree.0 tree.1) }
+    ensures rows { IfOk result (λ tree. HoldsAll (effect_of V.terms.merged) siblings tree.1) }
     ensures stands { IfOk result (λ tree. StandsAbove shape siblings tree.1) }
 {
     let root = crowned(alloc, shape, siblings)?;
@@ -135,8 +138,8 @@ pub fn pack<V: Merge>(
 ) -> Result<Tree<V>, AllocError>
     requires { IsTrue (is_sorted key_cmp rows.items) }
     ensures tree { IfOk result (λ tree. tree ≡ (shape, packed shape rows.items)) }
-    ensures fits { IfOk result (λ tree. HasShape tree.0 tree.1) }
-    ensures rows { IfOk result (λ tree. holds (effect_of V.merged) tree.1 ≡ rows.items) }
+    ensures fits { IfOk result (λ tree. HasShape (weigh_of V.terms) tree.0 tree.1) }
+    ensures rows { IfOk result (λ tree. holds (effect_of V.terms.merged) tree.1 ≡ rows.items) }
     ensures dry { IfOk result (λ tree. IsDry tree.1) }
 {
     let siblings = leaves(alloc, shape, Rows::from_sorted(rows))?;
@@ -163,14 +166,14 @@ impl<V: Merge> Tree<V> {
 
     /// The value at a key when all messages have had their effect.
     pub fn get(&self, alloc: Global, key: &Key) -> Result<Option<V>, AllocError>
-        ensures { IfOk result (λ value. value ≡ find key_cmp key.now (holds (effect_of V.merged) self.now.1)) }
+        ensures { IfOk result (λ value. value ≡ find key_cmp key.now (holds (effect_of V.terms.merged) self.now.1)) }
     {
         self.walk().get(alloc, key)
     }
 
     /// The pairs that it holds when all messages have had their effect, by rising key.
     pub fn rows(&self, alloc: Global) -> Result<Vec<(Key, V)>, AllocError>
-        ensures held { IfOk result (λ rows. rows.items ≡ holds (effect_of V.merged) self.now.1) }
+        ensures held { IfOk result (λ rows. rows.items ≡ holds (effect_of V.terms.merged) self.now.1) }
         ensures sorted { IfOk result (λ rows. IsTrue (is_sorted key_cmp rows.items)) }
     {
         self.walk().rows(alloc, None, None)
@@ -180,7 +183,7 @@ impl<V: Merge> Tree<V> {
     pub fn apart(self) -> (Shape, Node<V>)
         ensures shape { result.0 ≡ self.0 }
         ensures root { result.1 ≡ self.1 }
-        ensures fits { HasShape result.0 result.1 }
+        ensures fits { HasShape (weigh_of V.terms) result.0 result.1 }
     {
         let Tree { shape, root } = self;
         (shape, root)
@@ -188,9 +191,9 @@ impl<V: Merge> Tree<V> {
 
     /// The tree after a packet, on the caller's thread. An `Err` keeps neither.
     pub fn sink(self, alloc: Global, packet: Packet<V>) -> Result<Self, AllocError>
-        ensures tree { IfOk result (λ tree. tree ≡ (self.0, sunk (effect_of V.merged) self.0 self.1 packet)) }
-        ensures fits { IfOk result (λ tree. HasShape tree.0 tree.1) }
-        ensures rows { IfOk result (λ tree. HoldsAfter (effect_of V.merged) self.1 packet tree.1) }
+        ensures tree { IfOk result (λ tree. tree ≡ (self.0, sunk (meaning_of V.terms) self.0 self.1 packet)) }
+        ensures fits { IfOk result (λ tree. HasShape (weigh_of V.terms) tree.0 tree.1) }
+        ensures rows { IfOk result (λ tree. HoldsAfter (effect_of V.terms.merged) self.1 packet tree.1) }
         ensures unchanged { packet ≡ [] → IfOk result (λ tree. tree ≡ self) }
     {
         let (shape, root) = self.apart();
@@ -201,9 +204,9 @@ impl<V: Merge> Tree<V> {
     /// The tree when all its messages have gone down to the leaves, on the caller's thread. Leaves without rows stay. An `Err`
     /// keeps nothing of it.
     pub fn drain(self, alloc: Global) -> Result<Self, AllocError>
-        ensures tree { IfOk result (λ tree. tree ≡ (self.0, drained (effect_of V.merged) self.0 self.1)) }
-        ensures fits { IfOk result (λ tree. HasShape tree.0 tree.1) }
-        ensures rows { IfOk result (λ tree. HoldsTheSame (effect_of V.merged) self.1 tree.1) }
+        ensures tree { IfOk result (λ tree. tree ≡ (self.0, drained (meaning_of V.terms) self.0 self.1)) }
+        ensures fits { IfOk result (λ tree. HasShape (weigh_of V.terms) tree.0 tree.1) }
+        ensures rows { IfOk result (λ tree. HoldsTheSame (effect_of V.terms.merged) self.1 tree.1) }
         ensures dry { IfOk result (λ tree. IsDry tree.1) }
     {
         let (shape, root) = self.apart();
@@ -213,9 +216,9 @@ impl<V: Merge> Tree<V> {
 
     /// The rows that the tree holds, copied and packed anew, on the caller's thread. The tree stays as it is, also at an `Err`.
     pub fn rebuild(&self, alloc: Global) -> Result<Self, AllocError>
-        ensures tree { IfOk result (λ tree. tree ≡ (self.now.0, rebuilt (effect_of V.merged) self.now.0 self.now.1)) }
-        ensures fits { IfOk result (λ tree. HasShape tree.0 tree.1) }
-        ensures rows { IfOk result (λ tree. HoldsTheSame (effect_of V.merged) self.now.1 tree.1) }
+        ensures tree { IfOk result (λ tree. tree ≡ (self.now.0, rebuilt (effect_of V.terms.merged) self.now.0 self.now.1)) }
+        ensures fits { IfOk result (λ tree. HasShape (weigh_of V.terms) tree.0 tree.1) }
+        ensures rows { IfOk result (λ tree. HoldsTheSame (effect_of V.terms.merged) self.now.1 tree.1) }
         ensures dry { IfOk result (λ tree. IsDry tree.1) }
     {
         let rows = self.rows(alloc)?;
@@ -225,7 +228,7 @@ impl<V: Merge> Tree<V> {
     /// What can be seen of the root and of all that is below it.
     pub fn walk(&self) -> Walk<'_, V>
         ensures root { result ≡ self.now.1 }
-        ensures fits { HasShape self.now.0 self.now.1 }
+        ensures fits { HasShape (weigh_of V.terms) self.now.0 self.now.1 }
     {
         Walk::new(&self.root)
     }

@@ -54,7 +54,7 @@ pub(crate) fn visit_portion<V: Merge, S: Visitor<V>>(
     visitor: &mut S,
     limit: &mut Limit,
 ) -> Result<(), AllocError>
-    ensures { OnOk result ((visitor.new, limit.new) ≡ fold (limited S.visited) (visitor.old, limit.old) (rows_of (effect_of V.merged) portion.entry)) }
+    ensures { OnOk result ((visitor.new, limit.new) ≡ fold (limited S.visited) (visitor.old, limit.old) (rows_of (effect_of V.terms.merged) portion.entry)) }
 {
     if let Kind::Leaf(rows) = portion.node.kind() {
         let Portion {
@@ -89,7 +89,7 @@ pub(crate) fn visit_between<V: Merge, S: Visitor<V>>(
     limit: Limit,
 ) -> Result<(), AllocError>
     requires { IsInOrder node.now }
-    ensures { OnOk result (visitor.new ≡ fold S.visited visitor.old (first_of limit (between (option_copied from.entry) (option_copied to.entry) (holds (effect_of V.merged) node.now)))) }
+    ensures { OnOk result (visitor.new ≡ fold S.visited visitor.old (first_of limit (between (option_copied from.entry) (option_copied to.entry) (holds (effect_of V.terms.merged) node.now)))) }
 {
     let whole = Portion::whole(alloc, node, from, to);
     let mut limit = limit;

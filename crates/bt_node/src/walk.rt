@@ -135,7 +135,7 @@ impl<'a, V: Merge> Walk<'a, V> {
     /// The value at a key when all messages here and below have had their effect, found along one path.
     pub fn get(&self, alloc: Global, key: &Key) -> Result<Option<V>, AllocError>
         requires { IsInOrder self.now }
-        ensures { IfOk result (λ value. value ≡ find key_cmp key.now (holds (effect_of V.merged) self.now)) }
+        ensures { IfOk result (λ value. value ≡ find key_cmp key.now (holds (effect_of V.terms.merged) self.now)) }
     {
         value_at(alloc, self.node, key)?.into_value(alloc)
     }
@@ -148,7 +148,7 @@ impl<'a, V: Merge> Walk<'a, V> {
         keys: &'k [&'k Key],
     ) -> Result<Vec<Option<V>>, AllocError>
         requires { IsInOrder self.now }
-        ensures { IfOk result (λ values. values.items ≡ map (λ k. find key_cmp k.now (holds (effect_of V.merged) self.now)) keys.now) }
+        ensures { IfOk result (λ values. values.items ≡ map (λ k. find key_cmp k.now (holds (effect_of V.terms.merged) self.now)) keys.now) }
     {
         into_values(alloc, values_at(alloc, self.node, keys)?)
     }
@@ -164,7 +164,7 @@ impl<'a, V: Merge> Walk<'a, V> {
         visitor: &mut S,
     ) -> Result<(), AllocError>
         requires { IsInOrder self.now }
-        ensures { OnOk result (visitor.new ≡ fold S.visited visitor.old (between (option_copied from.entry) (option_copied to.entry) (holds (effect_of V.merged) self.now))) }
+        ensures { OnOk result (visitor.new ≡ fold S.visited visitor.old (between (option_copied from.entry) (option_copied to.entry) (holds (effect_of V.terms.merged) self.now))) }
     {
         visit_between(alloc, self.node, from, to, visitor, Limit::none())
     }
@@ -180,7 +180,7 @@ impl<'a, V: Merge> Walk<'a, V> {
         visitor: &mut S,
     ) -> Result<(), AllocError>
         requires { IsInOrder self.now }
-        ensures { OnOk result (visitor.new ≡ fold S.visited visitor.old (take count (between (option_copied from.entry) None (holds (effect_of V.merged) self.now)))) }
+        ensures { OnOk result (visitor.new ≡ fold S.visited visitor.old (take count (between (option_copied from.entry) None (holds (effect_of V.terms.merged) self.now)))) }
     {
         visit_between(alloc, self.node, from, None, visitor, Limit::rows(count))
     }
@@ -194,7 +194,7 @@ impl<'a, V: Merge> Walk<'a, V> {
         to: Option<&Key>,
     ) -> Result<Vec<(Key, V)>, AllocError>
         requires { IsInOrder self.now }
-        ensures rows { IfOk result (λ rows. rows.items ≡ between (option_copied from.entry) (option_copied to.entry) (holds (effect_of V.merged) self.now)) }
+        ensures rows { IfOk result (λ rows. rows.items ≡ between (option_copied from.entry) (option_copied to.entry) (holds (effect_of V.terms.merged) self.now)) }
         ensures sorted { IfOk result (λ rows. IsTrue (is_sorted key_cmp rows.items)) }
     {
         let mut copies = Copies::new(alloc);
@@ -212,10 +212,10 @@ impl<'a, V: Merge> Walk<'a, V> {
         to: Option<&'a Key>,
     ) -> Result<Vec<Portion<'a, V>>, AllocError>
         requires { IsInOrder self.now }
-        ensures rows { IfOk result (λ parts. all_rows (effect_of V.merged) parts.items ≡ between (option_copied from.entry) (option_copied to.entry) (holds (effect_of V.merged) self.now)) }
+        ensures rows { IfOk result (λ parts. all_rows (effect_of V.terms.merged) parts.items ≡ between (option_copied from.entry) (option_copied to.entry) (holds (effect_of V.terms.merged) self.now)) }
         ensures owners { IfOk result (λ parts. (key : Key) → owners key parts.items ≡ cond (is_between (option_copied from.entry) (option_copied to.entry) key) 1 0) }
         ensures chained { IfOk result (λ parts. (key : Key) → is_between (option_copied from.entry) (option_copied to.entry) key ≡ true → Chained (option_copied from.entry) parts.items (option_copied to.entry)) }
-        ensures values { IfOk result (λ parts. (key : Key) → HaveThere (effect_of V.merged) key (find key_cmp key (holds (effect_of V.merged) self.now)) parts.items) }
+        ensures values { IfOk result (λ parts. (key : Key) → HaveThere (effect_of V.terms.merged) key (find key_cmp key (holds (effect_of V.terms.merged) self.now)) parts.items) }
     {
         if is_empty_range(from, to) {
             return Ok(Vec::new(alloc));

@@ -11,7 +11,7 @@ use Rattle.bt_messages.proofs.offered.Placed.{sorted-with_messages}
 use Rattle.bt_node.specs.Fits.{IsSized, Lies}
 use Rattle.bt_node.specs.Flushes.{Child, Flush, shared}
 use Rattle.bt_node.specs.Marks.{has_room}
-use Rattle.bt_node.specs.Messages.{Messages, with_messages}
+use Rattle.bt_node.specs.Messages.{Meaning, Messages, load, with_messages}
 use Rattle.bt_node.specs.Trees.{Shape, Tree, leaf, inner, children}
 use Rattle.bt_node.specs.declared.mode.Mode.{Mode}
 use Rattle.bt_node.proofs.offered.FlushSteps.{ChildLies, ChildrenLie, ChildrenSized, all_pending, all_pending-shared, all_pending-within, divided-lie, flushed-fits, length-shared, names, start-lies}
@@ -26,10 +26,11 @@ use Rattle.bt_plan.proofs.Passes.{pending-pass}
 
 module _ {V M : Type 0} where
   -- it is within capacity
-  left-within : (mode : Mode) (capacity : ℕ) (cs : List (Child V M)) → length (left_pending (slots mode capacity cs)) ≤ capacity
-  left-within mode capacity cs =
+  left-within : (weigh : Key × M → ℕ) (s : Shape) (mode : Mode) (cs : List (Child V M)) → load weigh s.measure (left_pending (slots weigh s mode cs)) ≤ s.buffer
+  left-within weigh s mode cs =
       let f : Flush V M = λ t p. [] in
-      omega (arith, flushed-fits mode f capacity cs, ap (λ ds. length (all_pending ds)) (flushed-slots mode f capacity cs), ap length (pending-pass f (slots mode capacity cs)))
+      let room = load weigh s.measure in
+      omega (arith, flushed-fits weigh s mode f cs, ap (λ ds. room (all_pending ds)) (flushed-slots weigh s mode f cs), ap room (pending-pass f (slots weigh s mode cs)))
 
   -- a child with what is left in its bin
   abbrev kept : Child V M × Bool → Child V M
@@ -61,26 +62,26 @@ module _ {V M : Type 0} where
   sent-none (hole h) = refl
   sent-none (opened hs buffer) = refl
 
-module _ {V M : Type 0} (effect : Option V → M → Option V) (s : Shape) (leaf_some : 0 < s.leaf) (fanout_some : 0 < s.fanout) (mode : Mode) where
+module _ {V M : Type 0} (meaning : Meaning V M) (s : Shape) (leaf_some : 0 < s.leaf) (fanout_some : 0 < s.fanout) (mode : Mode) where
   abbrev Suits : ℕ → ℕ → Type 0
-  Suits depth levels = (place : Place) (low high : Option Key) (t : Tree V M) (p : Messages M) → Lies levels low high t → IsSized s t → AllWithin low high p →
-      HoledFits (JobFits s) s levels low high (cut_out depth mode s place t p)
+  Suits depth levels = (place : Place) (low high : Option Key) (t : Tree V M) (p : Messages M) → Lies levels low high t → IsSized meaning.weigh s t → AllWithin low high p →
+      HoledFits meaning.weigh (JobFits meaning.weigh s) s levels low high (cut_out meaning.weigh depth mode s place t p)
 
   -- a child in its place, with its bin
   abbrev Fits : ℕ → Option Key → Option Key → HoledChild V M (Job V M) → Type 0
-  Fits levels low high c = HoledFits (JobFits s) s levels low high c.node × AllWithin low high c.pending × IsSorted c.pending × IsSent c.node c.pending
+  Fits levels low high c = HoledFits meaning.weigh (JobFits meaning.weigh s) s levels low high c.node × AllWithin low high c.pending × IsSorted c.pending × IsSent c.node c.pending
 
-  child-fits : (depth levels : ℕ) → Suits depth levels → (place : Place) (low high : Option Key) (c : Child V M × Bool) → ChildLies levels low high c.0 → IsSized s c.0.tree →
-      Fits levels low high (record { pivot = c.0.pivot; node = cond c.1 (cut_out depth mode s place c.0.tree c.0.pending) (whole c.0.tree); pending = cond c.1 [] c.0.pending })
+  child-fits : (depth levels : ℕ) → Suits depth levels → (place : Place) (low high : Option Key) (c : Child V M × Bool) → ChildLies levels low high c.0 → IsSized meaning.weigh s c.0.tree →
+      Fits levels low high (record { pivot = c.0.pivot; node = cond c.1 (cut_out meaning.weigh depth mode s place c.0.tree c.0.pending) (whole c.0.tree); pending = cond c.1 [] c.0.pending })
   child-fits depth levels suits place low high (c, true) lies sized =
-      (suits place low high c.tree c.pending lies.0 sized lies.1, tt, tt, sent-none (cut_out depth mode s place c.tree c.pending))
+      (suits place low high c.tree c.pending lies.0 sized lies.1, tt, tt, sent-none (cut_out meaning.weigh depth mode s place c.tree c.pending))
   child-fits depth levels suits place low high (c, false) lies sized = (record { lies = lies.0; sized = sized }, lies.1, lies.2, tt)
 
   abbrev below : ℕ → Place → ℕ → List (Child V M × Bool) → HoledNodes V M (Job V M)
-  below depth place i ss = holed_nodes (opened_children depth mode s place i ss)
+  below depth place i ss = holed_nodes (opened_children meaning.weigh depth mode s place i ss)
 
   children-fit : (depth levels : ℕ) → Suits depth levels → (place : Place) (i : ℕ) (low high : Option Key) (ss : List (Child V M × Bool)) →
-      ChildrenLie levels low high (names ss) → ChildrenSized s (names ss) → SideBySide (λ c. c.pivot) (Fits levels) low high (with_bins (below depth place i ss) (bins ss))
+      ChildrenLie levels low high (names ss) → ChildrenSized meaning.weigh s (names ss) → SideBySide (λ c. c.pivot) (Fits levels) low high (with_bins (below depth place i ss) (bins ss))
   children-fit depth levels suits place i low high [] lie sized = tt
   children-fit depth levels suits place i low high (c ∷ []) lie sized = child-fits depth levels suits (child_place place i) low high c lie sized.0
   children-fit depth levels suits place i low high (c ∷ d ∷ ss) lie sized = (
@@ -121,31 +122,31 @@ module _ {V M : Type 0} (effect : Option V → M → Option V) (s : Shape) (leaf
       let all = with_messages p b in
       let sorted = sorted-with_messages p b lies.1 in
       let cs = shared (children ns) all in
-      let ss = slots mode s.buffer cs in
-      let are : AreSlots s levels low high ss = slots-are effect s leaf_some fanout_some mode levels low high ns b p lies sized within in
-      cond_both (has_room mode s (length all)) (whole (inner ns all)) (opened_node depth mode s place ss) (HoledFits (JobFits s) s (suc levels) low high)
+      let ss = slots meaning.weigh s mode cs in
+      let are : AreSlots meaning.weigh s levels low high ss = slots-are meaning s leaf_some fanout_some mode levels low high ns b p lies sized within in
+      cond_both (has_room mode s (load meaning.weigh s.measure all)) (whole (inner ns all)) (opened_node meaning.weigh depth mode s place ss) (HoledFits meaning.weigh (JobFits meaning.weigh s) s (suc levels) low high)
       (λ room. record {
         lies = (
           subst (AllWithin low high) (all_pending-shared (children ns) all (omega (arith, sized.0)) sorted)
-              (all_pending-within levels low high cs (start-lies effect s leaf_some fanout_some levels low high ns b p lies within)),
+              (all_pending-within levels low high cs (start-lies meaning s leaf_some fanout_some levels low high ns b p lies within)),
           sorted,
           lies.2,
           lies.3,
         );
-        sized = (sized.0, sized.1, room-within mode s (length all) room, sized.3);
+        sized = (sized.0, sized.1, room-within mode s (load meaning.weigh s.measure all) room, sized.3);
       })
       (λ _. (
         omega (
           arith,
           sized.0,
           length-shared (children ns) all,
-          ap length (names-slots mode s.buffer cs),
+          ap length (names-slots meaning.weigh s mode cs),
           length-names ss,
           length-map ss kept,
           length-map (map kept ss) (λ (c : Child V M). c.pivot),
           ap length (pivots-opened depth place 0 ss),
         ),
-        left-within mode s.buffer cs,
+        left-within meaning.weigh s mode cs,
         left-sorted levels low high ss are.lie,
         subst (SideBySide (λ c. c.pivot) (Fits levels) low high) (sym (shared-left depth levels place low high ss are.lie))
             (children-fit depth levels (cut-fits depth levels) place 0 low high ss are.lie are.sized),

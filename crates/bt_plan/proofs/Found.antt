@@ -9,10 +9,10 @@ use Rattle.std.specs.List.{All, AllByRecursion as Each}
 use Rattle.std.specs.Option.{unwrap_or}
 use Rattle.std.specs.Ordering.{eq_by_cmp, is_eq, ordering_reverse}
 use Rattle.std.specs.declared.cmp.Ordering.TheVariants.{Less}
-use Rattle.std.specs.declared.option.Option.{Option}
 use Rattle.std.specs.declared.option.Option.TheVariants.{Some}
 use Rattle.bt_keycode.proofs.offered.Order.{is_less, total_keys}
 use Rattle.bt_node.specs.Flushes.{pivot_first, grouped, shared}
+use Rattle.bt_node.specs.Messages.{Meaning}
 use Rattle.bt_node.specs.Trees.{Shape, Siblings}
 use Rattle.bt_plan.specs.Pieces.{Holed, HoledNodes, Pieces, child, childless, filled_below, filled_with, hole, holes, holes_below, opened, piece_at, place_cmp, whole, with_holes, with_holes_below}
 use Rattle.bt_plan.specs.Cuts.{Job, all_done, done, hole_of}
@@ -43,20 +43,20 @@ module _ {V M H G : Type 0} (s : Shape) (told : H → G) (piece : G → Siblings
         ap (λ xs. pivot_first k xs ++ filled_below s piece (with_holes_below told hs)) (filled-as h (each-first _ (holes h) (holes_below hs) e))
         ∙ ap (λ xs. pivot_first k (filled_with s wanted h) ++ xs) (below-as hs (each-rest _ (holes h) (holes_below hs) e))
 
-module _ {V M : Type 0} (effect : Option V → M → Option V) (s : Shape) where
+module _ {V M : Type 0} (meaning : Meaning V M) (s : Shape) where
   -- the pieces have at this job's place what becomes of it
   abbrev Stands : Pieces V M → Job V M → Type 0
-  Stands pieces job = find place_cmp job.place pieces ≡ Some (done effect s job)
+  Stands pieces job = find place_cmp job.place pieces ≡ Some (done meaning s job)
 
-  each-piece : (pieces : Pieces V M) (jobs : List (Job V M)) → Each (Stands pieces) jobs → Each (λ job. piece_at pieces (hole_of job) ≡ done effect s job) jobs
+  each-piece : (pieces : Pieces V M) (jobs : List (Job V M)) → Each (Stands pieces) jobs → Each (λ job. piece_at pieces (hole_of job) ≡ done meaning s job) jobs
   each-piece pieces [] e = tt
   each-piece pieces (job ∷ jobs) e = (ap (λ o. unwrap_or o []) e.0, each-piece pieces jobs e.1)
 
   -- pieces that have at each job's place what becomes of it fill the holes with it
   pub filled-standing : (pieces : Pieces V M) (h : Holed V M (Job V M)) → All (Stands pieces) (holes h) →
-      filled_with s (piece_at pieces) (with_holes hole_of h) ≡ filled_with s (done effect s) h
+      filled_with s (piece_at pieces) (with_holes hole_of h) ≡ filled_with s (done meaning s) h
   filled-standing pieces h all =
-      filled-as s hole_of (piece_at pieces) (done effect s) h (each-piece pieces (holes h) (recursion_from_All (Stands pieces) (holes h) all))
+      filled-as s hole_of (piece_at pieces) (done meaning s) h (each-piece pieces (holes h) (recursion_from_All (Stands pieces) (holes h) all))
 
   -- ---- by rising places
 
@@ -65,7 +65,7 @@ module _ {V M : Type 0} (effect : Option V → M → Option V) (s : Shape) where
   t_is false t = absurd t
 
   later : (job : Job V M) (pieces : Pieces V M) (others : List (Job V M)) → T (below_all place_cmp job.place (by_place others)) → Each (Stands pieces) others →
-      Each (Stands ((job.place, done effect s job) ∷ pieces)) others
+      Each (Stands ((job.place, done meaning s job) ∷ pieces)) others
   later job pieces [] b e = tt
   later job pieces (other ∷ others) b e =
       let less : place_cmp job.place other.place ≡ Less = is_less _ (t_is _ (t_first _ _ b)) in
@@ -73,13 +73,13 @@ module _ {V M : Type 0} (effect : Option V → M → Option V) (s : Shape) where
       ap is_eq (total_keys.antisymm (other.place.tree ∷ other.place.path) (job.place.tree ∷ job.place.path) ∙ ap ordering_reverse less) in
       (cond-false _ _ _ differs ∙ e.0, later job pieces others (t_second _ _ b) e.1)
 
-  each-stands : (jobs : List (Job V M)) → Rise jobs → Each (Stands (all_done effect s jobs)) jobs
+  each-stands : (jobs : List (Job V M)) → Rise jobs → Each (Stands (all_done meaning s jobs)) jobs
   each-stands [] r = tt
   each-stands (job ∷ jobs) r = (
     cond-true _ _ _ (ap is_eq (tied_itself total_keys (job.place.tree ∷ job.place.path))),
-    later job (all_done effect s jobs) jobs (t_first _ _ r) (each-stands jobs (t_second _ _ r)),
+    later job (all_done meaning s jobs) jobs (t_first _ _ r) (each-stands jobs (t_second _ _ r)),
   )
 
   -- what becomes of jobs at rising places stands at these
-  pub all-stand : (jobs : List (Job V M)) → Rise jobs → All (Stands (all_done effect s jobs)) jobs
+  pub all-stand : (jobs : List (Job V M)) → Rise jobs → All (Stands (all_done meaning s jobs)) jobs
   all-stand jobs r = All-from_recursion _ jobs (each-stands jobs r)

@@ -17,11 +17,11 @@ abbrev pub Turns : {H G : Type 0} → (H → G) → (ℕ → Option Key → Opti
 Turns told Asked Wanted h = (levels : ℕ) (low high : Option Key) → Asked levels low high h → Wanted levels low high (told h)
 
 -- a tree in pieces with so many levels fits with what its holes tell now
-abbrev Tells : (V M : Type 0) {H G : Type 0} → Shape → (H → G) → (ℕ → Option Key → Option Key → H → Type 0) → (ℕ → Option Key → Option Key → G → Type 0) → ℕ → Type 0
-Tells V M {H} shape told Asked Wanted levels = (low high : Option Key) (h : Holed V M H) → Each (Turns told Asked Wanted) (holes h) → HoledFits Asked shape levels low high h →
-    HoledFits Wanted shape levels low high (with_holes told h)
+abbrev Tells : (V M : Type 0) {H G : Type 0} → (Key × M → ℕ) → Shape → (H → G) → (ℕ → Option Key → Option Key → H → Type 0) → (ℕ → Option Key → Option Key → G → Type 0) → ℕ → Type 0
+Tells V M {H} weigh shape told Asked Wanted levels = (low high : Option Key) (h : Holed V M H) → Each (Turns told Asked Wanted) (holes h) → HoledFits weigh Asked shape levels low high h →
+    HoledFits weigh Wanted shape levels low high (with_holes told h)
 
-module _ {V M H G : Type 0} (shape : Shape) (told : H → G) where
+module _ {V M H G : Type 0} (weigh : Key × M → ℕ) (shape : Shape) (told : H → G) where
   pub pivots-told : (hs : HoledNodes V M H) → pivots_below (with_holes_below told hs) ≡ pivots_below hs
   pivots-told childless = refl
   pivots-told (child k h hs) = ap (λ ks. k ∷ ks) (pivots-told hs)
@@ -34,13 +34,13 @@ module _ {V M H G : Type 0} (shape : Shape) (told : H → G) where
   module _ (Asked : ℕ → Option Key → Option Key → H → Type 0) (Wanted : ℕ → Option Key → Option Key → G → Type 0) where
     -- a child in its place
     abbrev Child : {K : Type 0} → (ℕ → Option Key → Option Key → K → Type 0) → ℕ → Option Key → Option Key → HoledChild V M K → Type 0
-    Child P levels low high c = HoledFits P shape levels low high c.node × AllWithin low high c.pending × IsSorted c.pending × IsSent c.node c.pending
+    Child P levels low high c = HoledFits weigh P shape levels low high c.node × AllWithin low high c.pending × IsSorted c.pending × IsSent c.node c.pending
 
-    child-told : (levels : ℕ) → Tells V M shape told Asked Wanted levels → (low high : Option Key) (k : Key) (h : Holed V M H) (b : Messages M) → Each (Turns told Asked Wanted) (holes h) →
+    child-told : (levels : ℕ) → Tells V M weigh shape told Asked Wanted levels → (low high : Option Key) (k : Key) (h : Holed V M H) (b : Messages M) → Each (Turns told Asked Wanted) (holes h) →
         Child Asked levels low high (record { pivot = k; node = h; pending = b }) → Child Wanted levels low high (record { pivot = k; node = with_holes told h; pending = b })
     child-told levels tells low high k h b e f = (tells low high h e f.0, f.1, f.2, sent-told h b f.3)
 
-    children-told : (levels : ℕ) → Tells V M shape told Asked Wanted levels → (low high : Option Key) (hs : HoledNodes V M H) (bs : List (Messages M)) → Each (Turns told Asked Wanted) (holes_below hs) →
+    children-told : (levels : ℕ) → Tells V M weigh shape told Asked Wanted levels → (low high : Option Key) (hs : HoledNodes V M H) (bs : List (Messages M)) → Each (Turns told Asked Wanted) (holes_below hs) →
         SideBySide (λ c. c.pivot) (Child Asked levels) low high (with_bins hs bs) → SideBySide (λ c. c.pivot) (Child Wanted levels) low high (with_bins (with_holes_below told hs) bs)
     children-told levels tells low high childless bs e s = tt
     children-told levels tells low high (child k h hs) [] e s = tt
@@ -53,7 +53,7 @@ module _ {V M H G : Type 0} (shape : Shape) (told : H → G) where
       children-told levels tells (Some j) high (child j i hs) (c ∷ bs) (each-rest (Turns told Asked Wanted) (holes h) (holes_below (child j i hs)) e) s.3,
     )
 
-    pub told-fits : (levels : ℕ) → Tells V M shape told Asked Wanted levels
+    pub told-fits : (levels : ℕ) → Tells V M weigh shape told Asked Wanted levels
     told-fits levels low high (whole t) e f = f
     told-fits levels low high (hole h) e f = e.0 levels low high f
     told-fits zero low high (opened hs buffer) e f = absurd f
@@ -77,12 +77,12 @@ bins-long (child k h hs) buffer two sorted = omega (arith, lie_length (pivots_be
 abbrev pub Somewhere : {H : Type 0} → (ℕ → Option Key → Option Key → H → Type 0) → H → Type 0
 Somewhere Asked h = (levels : ℕ) × (low : Option Key) × (high : Option Key) × Asked levels low high h
 
-module _ {V M H : Type 0} (shape : Shape) (Asked : ℕ → Option Key → Option Key → H → Type 0) where
+module _ {V M H : Type 0} (weigh : Key × M → ℕ) (shape : Shape) (Asked : ℕ → Option Key → Option Key → H → Type 0) where
   -- a child in its place
   abbrev Placed : ℕ → Option Key → Option Key → HoledChild V M H → Type 0
-  Placed levels low high c = HoledFits Asked shape levels low high c.node × AllWithin low high c.pending × IsSorted c.pending × IsSent c.node c.pending
+  Placed levels low high c = HoledFits weigh Asked shape levels low high c.node × AllWithin low high c.pending × IsSorted c.pending × IsSent c.node c.pending
 
-  below-asked : (levels : ℕ) → ((low high : Option Key) (h : Holed V M H) → HoledFits Asked shape levels low high h → Each (Somewhere Asked) (holes h)) →
+  below-asked : (levels : ℕ) → ((low high : Option Key) (h : Holed V M H) → HoledFits weigh Asked shape levels low high h → Each (Somewhere Asked) (holes h)) →
       (low high : Option Key) (hs : HoledNodes V M H) (bs : List (Messages M)) → length bs ≡ length (pivots_below hs) → SideBySide (λ c. c.pivot) (Placed levels) low high (with_bins hs bs) →
       Each (Somewhere Asked) (holes_below hs)
   below-asked levels asked low high childless bs e s = tt
@@ -95,7 +95,7 @@ module _ {V M H : Type 0} (shape : Shape) (Asked : ℕ → Option Key → Option
       (below-asked levels asked (Some j) high (child j i hs) (c ∷ bs) (omega (arith, e)) s.3)
 
   -- in a tree in pieces that fits, what is asked holds of each hole somewhere
-  pub each-asked : (levels : ℕ) (low high : Option Key) (h : Holed V M H) → HoledFits Asked shape levels low high h → Each (Somewhere Asked) (holes h)
+  pub each-asked : (levels : ℕ) (low high : Option Key) (h : Holed V M H) → HoledFits weigh Asked shape levels low high h → Each (Somewhere Asked) (holes h)
   each-asked levels low high (whole t) f = tt
   each-asked levels low high (hole h) f = ((levels, low, high, f), tt)
   each-asked zero low high (opened hs buffer) f = absurd f

@@ -6,18 +6,20 @@ use Rattle.std.specs.List.{flat_map, zip}
 use Rattle.bt_keycode.specs.Keys.{AllFrom, IsSorted, Key}
 use Rattle.bt_messages.specs.Bins.{LieBetween, added, each_with, joined, parts}
 use Rattle.bt_messages.specs.Parts.{parted, total}
+use Rattle.bt_messages.specs.Shares.{AreShares, counts}
 use Rattle.bt_messages.specs.declared.message.Message.{Message}
+use Rattle.bt_messages.specs.declared.share.Share.{Share}
 use Rattle.bt_messages.proofs.offered.Fronts.{sorted_take}
 use Rattle.bt_messages.proofs.offered.Parts.{added_lie, joined-added, lie_length}
 use Rattle.bt_messages.proofs.offered.Placed.{alone}
 use Rattle.bt_messages.proofs.offered.Totals.{nothing_pending}
 use Rattle.bt_node.specs.Children.{beside}
 use Rattle.bt_node.specs.Fits.{AreSized, IsLed, IsSized}
-use Rattle.bt_node.specs.Flushes.{Child, counts, shared}
+use Rattle.bt_node.specs.Flushes.{loads, pending_load, shared}
 use Rattle.bt_node.specs.Marks.{flush_marks, has_room}
-use Rattle.bt_node.specs.Messages.{Messages, with_messages}
+use Rattle.bt_node.specs.Messages.{Messages, load, with_messages}
 use Rattle.bt_node.specs.Steps.{IsStep}
-use Rattle.bt_node.specs.Trees.{Shape, Siblings, Tree, behind, children, inner, leaf, nodes, pivots_of}
+use Rattle.bt_node.specs.Trees.{Shape, Siblings, Tree, behind, inner, leaf, nodes, pivots_of}
 use Rattle.bt_node.specs.Walks.{is_leaf}
 use Rattle.bt_node.specs.declared.mode.Mode.{Mode}
 use Rattle.bt_node.specs.declared.opening.Opened as code
@@ -74,9 +76,9 @@ module _ {V M : Type 0} where
   led_keys [] led = absurd led
   led_keys (x ∷ xs) led = ap (λ k. k ∷ map (λ (y : Key × Tree V M). y.0) xs) led
 
-  all-sized : (s : Shape) (xs : Siblings V M) → AreSized s (nodes xs) → AreSizedNodes s (map (λ x. x.1) xs)
-  all-sized s [] sized = tt
-  all-sized s (x ∷ xs) sized = (sized.0, all-sized s xs sized.1)
+  all-sized : (weigh : Key × M → ℕ) (s : Shape) (xs : Siblings V M) → AreSized weigh s (nodes xs) → AreSizedNodes weigh s (map (λ x. x.1) xs)
+  all-sized weigh s [] sized = tt
+  all-sized weigh s (x ∷ xs) sized = (sized.0, all-sized weigh s xs sized.1)
 
   trees-beside : (xs : Siblings V M) (bs : List (Messages M)) → length bs ≡ length xs → map (λ c. c.tree) (beside xs bs) ≡ map (λ x. x.1) xs
   trees-beside [] bs e = refl
@@ -95,17 +97,17 @@ module _ {V M : Type 0} where
   left-kept (x ∷ xs) (b ∷ bs) [] e = refl
   left-kept (x ∷ xs) (b ∷ bs) (m ∷ ms) e = ap (λ z. cond m [] b ++ z) (left-kept xs bs ms (omega (arith, e)))
 
-  module _ (depth : ℕ) (mode : Mode) (s : Shape) (place : Place) where
+  module _ (weigh : Key × M → ℕ) (depth : ℕ) (mode : Mode) (s : Shape) (place : Place) where
     each-opened : (i : ℕ) (xs : Siblings V M) (bs : List (Messages M)) (ms : List Bool) →
-        opened_children depth mode s place i (zip (beside xs bs) ms) ≡ zip (map (λ x. x.0) xs) (cut_each depth mode s place i (map (λ x. x.1) xs) bs ms)
+        opened_children weigh depth mode s place i (zip (beside xs bs) ms) ≡ zip (map (λ x. x.0) xs) (cut_each weigh depth mode s place i (map (λ x. x.1) xs) bs ms)
     each-opened i [] bs ms = refl
     each-opened i (x ∷ xs) [] ms = refl
     each-opened i (x ∷ xs) (b ∷ bs) [] = refl
-    each-opened i (x ∷ xs) (b ∷ bs) (m ∷ ms) = ap (λ z. (x.0, cond m (cut_out depth mode s (child_place place i) x.1 b) (whole x.1)) ∷ z)
-        (let next : suc i ≡ i + 1 = omega arith in ap (λ j. opened_children depth mode s place j (zip (beside xs bs) ms)) next ∙ each-opened (i + 1) xs bs ms)
+    each-opened i (x ∷ xs) (b ∷ bs) (m ∷ ms) = ap (λ z. (x.0, cond m (cut_out weigh depth mode s (child_place place i) x.1 b) (whole x.1)) ∷ z)
+        (let next : suc i ≡ i + 1 = omega arith in ap (λ j. opened_children weigh depth mode s place j (zip (beside xs bs) ms)) next ∙ each-opened (i + 1) xs bs ms)
 
     each-long : (i : ℕ) (ts : List (Tree V M)) (bs : List (Messages M)) (ms : List Bool) → length bs ≡ length ts → length ms ≡ length ts →
-        length (cut_each depth mode s place i ts bs ms) ≡ length ts
+        length (cut_each weigh depth mode s place i ts bs ms) ≡ length ts
     each-long i [] bs ms e f = refl
     each-long i (t ∷ ts) [] ms e f = absurd (omega (arith, e))
     each-long i (t ∷ ts) (b ∷ bs) [] e f = absurd (omega (arith, f))
@@ -120,43 +122,43 @@ only-come n ms pending empty told is sorted =
 
 module _ {V M : Type 0} where
   -- a leaf is moved out
-  pub leaf-cut : (depth : ℕ) (mode : Mode) (s : Shape) (place : Place) (t u : Tree V M) (packet : Messages M) → u ≡ t → is_leaf t ≡ true →
-      cut_out depth mode s place t packet ≡ hole (record { place = place; node = u; packet = packet; mode = mode })
-  leaf-cut zero mode s place t u packet same is = ap (λ n. hole (record { place = place; node = n; packet = packet; mode = mode })) (sym same)
-  leaf-cut (suc depth) mode s place (leaf rows) u packet same is = ap (λ n. hole (record { place = place; node = n; packet = packet; mode = mode })) (sym same)
-  leaf-cut (suc depth) mode s place (inner ns buffer) u packet same is = absurd (true≢false (sym is))
+  pub leaf-cut : (weigh : Key × M → ℕ) (depth : ℕ) (mode : Mode) (s : Shape) (place : Place) {t u : Tree V M} (packet : Messages M) → u ≡ t → is_leaf t ≡ true →
+      cut_out weigh depth mode s place t packet ≡ hole (record { place = place; node = u; packet = packet; mode = mode })
+  leaf-cut weigh zero mode s place packet same is = ap (λ n. hole (record { place = place; node = n; packet = packet; mode = mode })) (sym same)
+  leaf-cut weigh (suc depth) mode s place {t = leaf rows} packet same is = ap (λ n. hole (record { place = place; node = n; packet = packet; mode = mode })) (sym same)
+  leaf-cut weigh (suc depth) mode s place {t = inner ns buffer} packet same is = absurd (true≢false (sym is))
 
   -- an inner node is opened
-  pub inner-cut : (depth : ℕ) (mode : Mode) (s : Shape) (place : Place) (t : Tree V M) (xs : Siblings V M) (bins : List (Messages M)) (ms packet : Messages M) → 1 ≤ depth →
-      t ≡ inner (nodes xs) (joined bins) → ms ≡ packet → cut_out (suc (depth - 1)) mode s place (inner (nodes xs) (joined bins)) ms ≡ cut_out depth mode s place t packet
-  inner-cut depth mode s place t xs bins ms packet some here all =
+  pub inner-cut : (weigh : Key × M → ℕ) (depth : ℕ) (mode : Mode) (s : Shape) (place : Place) {t : Tree V M} (xs : Siblings V M) (bins : List (Messages M)) {ms packet : Messages M} → 1 ≤ depth →
+      t ≡ inner (nodes xs) (joined bins) → ms ≡ packet → cut_out weigh (suc (depth - 1)) mode s place (inner (nodes xs) (joined bins)) ms ≡ cut_out weigh depth mode s place t packet
+  inner-cut weigh depth mode s place xs bins some here all =
       let deep : suc (depth - 1) ≡ depth = omega (arith, some) in
-      ap (λ d. cut_out d mode s place (inner (nodes xs) (joined bins)) ms) deep ∙ ap (λ u. cut_out depth mode s place u ms) (sym here) ∙ ap (cut_out depth mode s place t) all
+      (λ i. cut_out weigh (deep i) mode s place (sym here i) (all i))
 
 -- An inner node that is opened: its nodes, the pivots between them and its bins, what is left of the stream whose first messages come to it, its shares of them, and its marks.
-pub record IsOpen {V M : Type 0} (mode : Mode) (s : Shape) (xs : Siblings V M) (bins : List (Messages M)) (stream : Messages M) (count : ℕ) (rest : Messages M) (ts : List (Tree V M))
-    (ks : List Key) (bs : List (Messages M)) (ns : List ℕ) (ms : List Bool) : Type 0 where
+pub record IsOpen {V M : Type 0} (weigh : Key × M → ℕ) (mode : Mode) (s : Shape) (xs : Siblings V M) (bins : List (Messages M)) (stream : Messages M) (count : ℕ) (rest : Messages M) (ts : List (Tree V M))
+    (ks : List Key) (bs : List (Messages M)) (ss : List Share) (ms : List Bool) : Type 0 where
   pub led : IsLed xs
   pub lie : LieBetween (pivots_of xs) bins
-  pub sized : IsSized s (inner (nodes xs) (joined bins))
-  pub room : has_room mode s (length (with_messages (take count stream) (joined bins))) ≡ false
-  pub marks : ms ≡ flush_marks mode s.buffer (counts (shared xs (with_messages (take count stream) (joined bins))))
+  pub sized : IsSized weigh s (inner (nodes xs) (joined bins))
+  pub room : has_room mode s (load weigh s.measure (with_messages (take count stream) (joined bins))) ≡ false
+  pub marks : ms ≡ flush_marks mode s.buffer (loads weigh s (shared xs (with_messages (take count stream) (joined bins))))
   pub left : rest ≡ stream
-  pub all : total ns ≡ count
-  pub shares : parted ns rest ≡ parts (pivots_of xs) (take count stream)
+  pub all : total (counts ss) ≡ count
+  pub weighed : AreShares weigh rest ss
+  pub shares : parted (counts ss) rest ≡ parts (pivots_of xs) (take count stream)
   pub trees : ts ≡ map (λ x. x.1) xs
   pub pivots : ks ≡ pivots_of xs
   pub buffers : bs ≡ bins
 
 -- so it is where the code opens it and takes its children apart
-module _ {V D : Type 0} (mode : Mode) (s : Shape) (xs : Siblings V (Message V D)) (bins : List (Messages (Message V D))) (stream : Messages (Message V D)) (count : ℕ)
-    (rest : Messages (Message V D)) where
-  pub is_open : (step : Step V D) (node : code.Opened V D) → step ≡ Opens node → IsStep mode s xs bins stream count rest step → LieBetween (pivots_of xs) bins →
-      IsSized s (inner (nodes xs) (joined bins)) → (ts : List (Tree V (Message V D))) (ks : List Key) (bs : List (Messages (Message V D))) (ns : List ℕ) (ms : List Bool) →
+module _ {V D : Type 0} {weigh : Key × Message V D → ℕ} (mode : Mode) {s : Shape} {xs : Siblings V (Message V D)} {bins : List (Messages (Message V D))} (stream : Messages (Message V D)) (count : ℕ)
+    {rest : Messages (Message V D)} {step : Step V D} {node : code.Opened V D} {ts : List (Tree V (Message V D))} {ks : List Key} {bs : List (Messages (Message V D))} {ss : List Share} {ms : List Bool} where
+  pub is_open : step ≡ Opens node → IsStep weigh mode s xs bins stream count rest step → LieBetween (pivots_of xs) bins → IsSized weigh s (inner (nodes xs) (joined bins)) →
       ts ≡ map (λ c. c.tree) node.children → ks ≡ map (λ c. c.pivot) (drop 1 node.children) → bs ≡ map (λ c. c.pending) node.children →
-      ns ≡ node.shares.items → ms ≡ node.marks.items → IsOpen mode s xs bins stream count rest ts ks bs ns ms
-  is_open step node opens ensured lie sized ts ks bs ns ms trees pivots buffers shares marks =
-      let known = subst (IsStep mode s xs bins stream count rest) opens ensured in
+      ss ≡ node.shares.items → ms ≡ node.marks.items → IsOpen weigh mode s xs bins stream count rest ts ks bs ss ms
+  is_open opens ensured lie sized trees pivots buffers shares marks =
+      let known = subst (IsStep weigh mode s xs bins stream count rest) opens ensured in
       let is = known.1 in
       let long = bins-length xs bins (some_length xs (led-full xs is.led)) lie in
       record {
@@ -166,20 +168,21 @@ module _ {V D : Type 0} (mode : Mode) (s : Shape) (xs : Siblings V (Message V D)
         room = is.full (subst (λ ys. length ys ≤ s.fanout) (children-nodes xs) sized.1);
         marks = marks ∙ is.marks;
         left = known.0;
-        all = ap total shares ∙ is.total;
-        shares = ap (λ ks. parted ks rest) shares ∙ ap (parted node.shares.items) known.0 ∙ is.shares;
+        all = ap (λ zs. total (counts zs)) shares ∙ is.total;
+        weighed = subst (AreShares weigh rest) (sym shares) (subst (λ ys. AreShares weigh ys node.shares.items) (sym known.0) is.weighed);
+        shares = ap (λ zs. parted (counts zs) rest) shares ∙ ap (parted (counts node.shares.items)) known.0 ∙ is.shares;
         trees = trees ∙ ap (map (λ c. c.tree)) is.children ∙ trees-beside xs bins long;
         pivots = pivots ∙ ap (λ cs. map (λ c. c.pivot) (drop 1 cs)) is.children ∙ rest-beside xs bins long;
         buffers = buffers ∙ ap (map (λ c. c.pending)) is.children ∙ pending-beside xs bins long;
       }
 
-module _ {V M : Type 0} {mode : Mode} {s : Shape} {xs : Siblings V M} {bins : List (Messages M)} {stream : Messages M} {count : ℕ} {rest : Messages M} {ts : List (Tree V M)}
-    {ks : List Key} {bs : List (Messages M)} {ns : List ℕ} {ms : List Bool} (opening : IsOpen mode s xs bins stream count rest ts ks bs ns ms) where
+module _ {V M : Type 0} {weigh : Key × M → ℕ} {mode : Mode} {s : Shape} {xs : Siblings V M} {bins : List (Messages M)} {stream : Messages M} {count : ℕ} {rest : Messages M} {ts : List (Tree V M)}
+    {ks : List Key} {bs : List (Messages M)} {ss : List Share} {ms : List Bool} (opening : IsOpen weigh mode s xs bins stream count rest ts ks bs ss ms) where
   abbrev packet : Messages M
   packet = take count stream
 
-  pub nodes_sized : AreSizedNodes s ts
-  nodes_sized = subst (AreSizedNodes s) (sym opening.trees) (all-sized s xs opening.sized.3)
+  pub nodes_sized : AreSizedNodes weigh s ts
+  nodes_sized = subst (AreSizedNodes weigh s) (sym opening.trees) (all-sized weigh s xs opening.sized.3)
 
   nodes_long : length ts ≡ length xs
   nodes_long = ap length opening.trees ∙ length-map xs _
@@ -190,27 +193,26 @@ module _ {V M : Type 0} {mode : Mode} {s : Shape} {xs : Siblings V M} {bins : Li
   pivots_long : length ts ≡ length ks + 1
   pivots_long = omega (arith, nodes_long, siblings_long xs opening.led, ap length opening.pivots)
 
-  pub enough_left : count ≤ length stream → total ns ≤ length rest
-  enough_left enough = omega (arith, enough, opening.all, ap length opening.left)
-
-  pub rest_left : drop (total ns) rest ≡ drop count stream
+  pub rest_left : drop (total (counts ss)) rest ≡ drop count stream
   rest_left i = drop (opening.all i) (opening.left i)
 
   pub bins_long : length bs ≡ length ts
   bins_long = omega (arith, ap length opening.buffers, lie_length (pivots_of xs) bins opening.lie, pivots_long, ap length opening.pivots)
 
-  pub shares_long : length ns ≡ length ts
-  shares_long = shares-length xs ns rest packet (omega (arith, siblings_long xs opening.led)) opening.shares ∙ sym nodes_long
+  pub shares_long : length ss ≡ length ts
+  shares_long =
+      sym (length-map ss (λ (z : Share). z.count))
+      ∙ shares-length xs (counts ss) rest packet (omega (arith, siblings_long xs opening.led)) opening.shares ∙ sym nodes_long
 
   pub marks_long : length ms ≡ length ts
   marks_long =
       let cs = shared xs (with_messages packet (joined bins)) in
-      ap length opening.marks ∙ length-flush_marks mode s.buffer (counts cs) ∙ length-map cs (λ (c : Child V M). length c.pending)
+      ap length opening.marks ∙ length-flush_marks mode s.buffer (loads weigh s cs) ∙ length-map cs (pending_load weigh s)
       ∙ length-shared xs (with_messages packet (joined bins)) ∙ sym nodes_long
 
   -- its bins, once the shares have come into them
   abbrev after : List (Messages M)
-  after = each_with (parted ns rest) bs
+  after = each_with (parted (counts ss) rest) bs
 
   after-is : after ≡ added (pivots_of xs) packet bins
   after-is i = each_with (opening.shares i) (opening.buffers i)
@@ -232,25 +234,25 @@ module _ {V M : Type 0} {mode : Mode} {s : Shape} {xs : Siblings V M} {bins : Li
 
   module _ (depth : ℕ) (place : Place) where
     abbrev cuts : List (Holed V M (Job V M))
-    cuts = cut_each depth mode s place 0 ts after ms
+    cuts = cut_each weigh depth mode s place 0 ts after ms
 
     pub cuts_long : length cuts ≡ length ks + 1
-    cuts_long = each-long depth mode s place 0 ts after ms after_long marks_long ∙ pivots_long
+    cuts_long = each-long weigh depth mode s place 0 ts after ms after_long marks_long ∙ pivots_long
 
-    node-cut : cut_out (suc depth) mode s place (inner (nodes xs) (joined bins)) packet ≡ opened (holed_nodes (behind ks cuts)) (joined (kept_bins after ms))
+    node-cut : cut_out weigh (suc depth) mode s place (inner (nodes xs) (joined bins)) packet ≡ opened (holed_nodes (behind ks cuts)) (joined (kept_bins after ms))
     node-cut =
         let all = with_messages packet (joined bins) in
         let keys : map (λ x. x.0) xs ≡ [] ∷ ks = led_keys xs opening.led ∙ ap (λ js. [] ∷ js) (sym opening.pivots) in
         cond-false _ _ _ opening.room
-        ∙ ap (λ ys. opened_node depth mode s place (zip (shared ys all) (flush_marks mode s.buffer (counts (shared ys all))))) (children-nodes xs)
-        ∙ (λ i. opened_node depth mode s place (zip (sym after-shared i) (sym opening.marks i)))
-        ∙ (λ i. opened (holed_nodes (each-opened depth mode s place 0 xs after ms i)) (left-kept xs after ms (after_long ∙ nodes_long) i))
-        ∙ (λ i. opened (holed_nodes (zip (keys i) (cut_each depth mode s place 0 (sym opening.trees i) after ms))) (joined (kept_bins after ms)))
+        ∙ ap (λ ys. opened_node weigh depth mode s place (zip (shared ys all) (flush_marks mode s.buffer (loads weigh s (shared ys all))))) (children-nodes xs)
+        ∙ (λ i. opened_node weigh depth mode s place (zip (sym after-shared i) (sym opening.marks i)))
+        ∙ (λ i. opened (holed_nodes (each-opened weigh depth mode s place 0 xs after ms i)) (left-kept xs after ms (after_long ∙ nodes_long) i))
+        ∙ (λ i. opened (holed_nodes (zip (keys i) (cut_each weigh depth mode s place 0 (sym opening.trees i) after ms))) (joined (kept_bins after ms)))
 
     -- what the holes tell
     pub node-told : opened (holed_nodes (behind ks (map (with_holes hole_of) cuts))) (joined (kept_bins after ms))
-        ≡ with_holes hole_of (cut_out (suc depth) mode s place (inner (nodes xs) (joined bins)) packet)
+        ≡ with_holes hole_of (cut_out weigh (suc depth) mode s place (inner (nodes xs) (joined bins)) packet)
     node-told = ap (λ hs. opened hs (joined (kept_bins after ms))) (sym (told-zip hole_of ([] ∷ ks) cuts)) ∙ ap (with_holes hole_of) (sym node-cut)
 
-    pub node-jobs : flat_map holes cuts ≡ holes (cut_out (suc depth) mode s place (inner (nodes xs) (joined bins)) packet)
+    pub node-jobs : flat_map holes cuts ≡ holes (cut_out weigh (suc depth) mode s place (inner (nodes xs) (joined bins)) packet)
     node-jobs = sym (ap holes node-cut ∙ holes-zip ([] ∷ ks) cuts (omega (arith, cuts_long)))

@@ -1,5 +1,5 @@
 -- Children after one pass: what is left pending for them, and how they are divided again from their pivots and all their messages.
-use Rattle.std.proofs.Common.{◌≡◌, ℕ, Bool, true, false, List, [], ◌∷◌, ◌++◌, length, map, refl, sym, ap, subst, ◌∙◌}
+use Rattle.std.proofs.Common.{◌≡◌, ℕ, Bool, true, false, List, [], ◌∷◌, ◌++◌, map, refl, sym, ap, subst, ◌∙◌}
 use Rattle.std.specs.declared.option.Option.{Option}
 use Rattle.bt_keycode.specs.Keys.{Key}
 use Rattle.bt_messages.specs.Bins.{LieBetween}
@@ -13,7 +13,7 @@ use Rattle.bt_plan.specs.Cuts.{left_pending}
 module _ {V M : Type 0} where
   -- the children after one pass that flushes the marked ones
   abbrev pub pass : Flush V M → List (Child V M × Bool) → List (Child V M)
-  pass f = passed (λ c. length c.pending) (flushed f)
+  pass f = passed (flushed f)
 
   pub all_pending-none : (xs : Siblings V M) (cs : List (Child V M)) → all_pending (none_pending xs ++ cs) ≡ all_pending cs
   all_pending-none [] cs = refl

@@ -1,5 +1,5 @@
 -- The places of the jobs of a cut strictly rise.
-use Rattle.std.proofs.Common.{◌≡◌, ℕ, zero, suc, ◌<◌, ◌≤◌, ◌&&◌, T, Bool, true, false, cond, List, [], ◌∷◌, ◌++◌, length, map, refl, sym, ap, subst, ◌∙◌, append-nil, append_assoc, arith}
+use Rattle.std.proofs.Common.{◌≡◌, ℕ, zero, suc, ◌<◌, ◌≤◌, ◌&&◌, T, Bool, true, false, cond, List, [], ◌∷◌, ◌++◌, map, refl, sym, ap, subst, ◌∙◌, append-nil, append_assoc, arith}
 use Rattle.std.proofs.lemmas.Bool.{cond_both}
 use Rattle.std.specs.Cmp.{nat_cmp_is}
 use Rattle.std.specs.Cmp.Lexicographic.{slice_cmp}
@@ -10,7 +10,8 @@ use Rattle.std.specs.Ordering.{is_lt, nat_cmp, ordering_then}
 use Rattle.std.specs.declared.cmp.Ordering.TheVariants.{Less, Equal}
 use Rattle.bt_node.specs.Flushes.{Child, shared}
 use Rattle.bt_node.specs.Marks.{has_room}
-use Rattle.bt_node.specs.Messages.{Messages, with_messages}
+use Rattle.bt_keycode.specs.Keys.{Key}
+use Rattle.bt_node.specs.Messages.{Messages, load, with_messages}
 use Rattle.bt_node.specs.Trees.{Nodes, Shape, Tree, children, leaf, inner}
 use Rattle.bt_node.specs.declared.mode.Mode.{Mode}
 use Rattle.bt_node.proofs.offered.FlushSteps.{slots}
@@ -61,8 +62,8 @@ abbrev IsPastChild : {V M : Type 0} → Place → ℕ → Job V M → Type 0
 IsPastChild place i job = (j : ℕ) × (rest : List ℕ) × (i ≤ j) × (job.place ≡ record { tree = place.tree; path = place.path ++ j ∷ rest })
 
 -- each job of a cut so deep is at or below the place of what is cut
-abbrev Under : (V M : Type 0) → ℕ → Mode → Shape → Type 0
-Under V M depth mode s = (place : Place) (t : Tree V M) (p : Messages M) → Each (IsUnder place) (holes (cut_out depth mode s place t p))
+abbrev Under : (V : Type 0) {M : Type 0} → (Key × M → ℕ) → ℕ → Mode → Shape → Type 0
+Under V {M} weigh depth mode s = (place : Place) (t : Tree V M) (p : Messages M) → Each (IsUnder place) (holes (cut_out weigh depth mode s place t p))
 
 -- jobs behind their places
 abbrev pub by_place : {V M : Type 0} → List (Job V M) → List (Place × Job V M)
@@ -73,8 +74,8 @@ abbrev pub Rise : {V M : Type 0} → List (Job V M) → Type 0
 Rise jobs = T (is_sorted place_cmp (by_place jobs))
 
 -- the places of the jobs of a cut so deep rise
-abbrev Rising : (V M : Type 0) → ℕ → Mode → Shape → Type 0
-Rising V M depth mode s = (place : Place) (t : Tree V M) (p : Messages M) → Rise (holes (cut_out depth mode s place t p))
+abbrev Rising : (V : Type 0) {M : Type 0} → (Key × M → ℕ) → ℕ → Mode → Shape → Type 0
+Rising V {M} weigh depth mode s = (place : Place) (t : Tree V M) (p : Messages M) → Rise (holes (cut_out weigh depth mode s place t p))
 
 module _ {V M : Type 0} where
   child-under : (place : Place) (i : ℕ) (job : Job V M) → IsUnder (child_place place i) job → IsPastChild place i job
@@ -87,14 +88,14 @@ module _ {V M : Type 0} where
   past-under : (place : Place) (job : Job V M) → IsPastChild place 0 job → IsUnder place job
   past-under place job p = (p.0 ∷ p.1, p.3)
 
-  module _ (mode : Mode) (s : Shape) where
-    child-jobs : (depth : ℕ) → Under V M depth mode s → (place : Place) (c : Child V M × Bool) →
-        Each (IsUnder place) (holes (cond c.1 (cut_out depth mode s place c.0.tree c.0.pending) (whole c.0.tree)))
+  module _ (weigh : Key × M → ℕ) (mode : Mode) (s : Shape) where
+    child-jobs : (depth : ℕ) → Under V weigh depth mode s → (place : Place) (c : Child V M × Bool) →
+        Each (IsUnder place) (holes (cond c.1 (cut_out weigh depth mode s place c.0.tree c.0.pending) (whole c.0.tree)))
     child-jobs depth under place (c, true) = under place c.tree c.pending
     child-jobs depth under place (c, false) = tt
 
-    children-jobs : (depth : ℕ) → Under V M depth mode s → (place : Place) (i : ℕ) (ss : List (Child V M × Bool)) →
-        Each (IsPastChild place i) (holes_below (holed_nodes (opened_children depth mode s place i ss)))
+    children-jobs : (depth : ℕ) → Under V weigh depth mode s → (place : Place) (i : ℕ) (ss : List (Child V M × Bool)) →
+        Each (IsPastChild place i) (holes_below (holed_nodes (opened_children weigh depth mode s place i ss)))
     children-jobs depth under place i [] = tt
     children-jobs depth under place i (c ∷ ss) =
         each-append (IsPastChild place i) _ _
@@ -103,14 +104,14 @@ module _ {V M : Type 0} where
 
     -- a fact of the jobs of an inner node that is cut: it holds where there are none, and of those of its children
     by_room : (Fact : List (Job V M) → Type 0) (depth : ℕ) (place : Place) (ns : Nodes V M) (b p : Messages M) → Fact [] →
-        ((ss : List (Child V M × Bool)) → Fact (holes_below (holed_nodes (opened_children depth mode s place 0 ss)))) → Fact (holes (cut_out (suc depth) mode s place (inner ns b) p))
+        ((ss : List (Child V M × Bool)) → Fact (holes_below (holed_nodes (opened_children weigh depth mode s place 0 ss)))) → Fact (holes (cut_out weigh (suc depth) mode s place (inner ns b) p))
     by_room Fact depth place ns b p none some =
         let all = with_messages p b in
-        let ss = slots mode s.buffer (shared (children ns) all) in
-        cond_both (has_room mode s (length all)) (whole (inner ns all)) (opened_node depth mode s place ss) (λ h. Fact (holes h)) (λ _. none) (λ _. some ss)
+        let ss = slots weigh s mode (shared (children ns) all) in
+        cond_both (has_room mode s (load weigh s.measure all)) (whole (inner ns all)) (opened_node weigh depth mode s place ss) (λ h. Fact (holes h)) (λ _. none) (λ _. some ss)
 
     -- each job is at or below the place of what is cut
-    jobs-under : (depth : ℕ) → Under V M depth mode s
+    jobs-under : (depth : ℕ) → Under V weigh depth mode s
     jobs-under zero place t p = (([], ap (λ path. record { tree = place.tree; path = path }) (sym (append-nil place.path))), tt)
     jobs-under (suc depth) place (leaf rows) p = (([], ap (λ path. record { tree = place.tree; path = path }) (sym (append-nil place.path))), tt)
     jobs-under (suc depth) place (inner ns b) p =
@@ -141,18 +142,18 @@ module _ {V M : Type 0} where
     rise-append place i (job ∷ jobs) others r u q v =
         t_both _ _ (below-append job.place jobs others (t_first _ _ r) (before-all place i job others u.0 v)) (rise-append place i jobs others (t_second _ _ r) u.1 q v)
 
-    child-rises : (depth : ℕ) → Rising V M depth mode s → (place : Place) (c : Child V M × Bool) → Rise (holes (cond c.1 (cut_out depth mode s place c.0.tree c.0.pending) (whole c.0.tree)))
+    child-rises : (depth : ℕ) → Rising V weigh depth mode s → (place : Place) (c : Child V M × Bool) → Rise (holes (cond c.1 (cut_out weigh depth mode s place c.0.tree c.0.pending) (whole c.0.tree)))
     child-rises depth rising place (c, true) = rising place c.tree c.pending
     child-rises depth rising place (c, false) = tt
 
-    children-rise : (depth : ℕ) → Rising V M depth mode s → (place : Place) (i : ℕ) (ss : List (Child V M × Bool)) → Rise (holes_below (holed_nodes (opened_children depth mode s place i ss)))
+    children-rise : (depth : ℕ) → Rising V weigh depth mode s → (place : Place) (i : ℕ) (ss : List (Child V M × Bool)) → Rise (holes_below (holed_nodes (opened_children weigh depth mode s place i ss)))
     children-rise depth rising place i [] = tt
     children-rise depth rising place i (c ∷ ss) =
         rise-append place i _ _ (child-rises depth rising (child_place place i) c) (child-jobs depth (jobs-under depth) (child_place place i) c)
         (children-rise depth rising place (suc i) ss) (children-jobs depth (jobs-under depth) place (suc i) ss)
 
     -- the jobs of a cut, from left to right
-    pub cut-rises : (depth : ℕ) → Rising V M depth mode s
+    pub cut-rises : (depth : ℕ) → Rising V weigh depth mode s
     cut-rises zero place t p = tt
     cut-rises (suc depth) place (leaf rows) p = tt
     cut-rises (suc depth) place (inner ns b) p = by_room Rise depth place ns b p tt (children-rise depth (cut-rises depth) place 0)

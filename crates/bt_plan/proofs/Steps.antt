@@ -1,15 +1,18 @@
 -- One more child of a node that is opened, for the loop that cuts them one by one.
-use Rattle.std.proofs.Common.{◌≡◌, ◌<◌, ◌≤◌, ◌+◌, ℕ, Bool, false, cond, List, [], ◌∷◌, ◌++◌, ◌∙◌, append_assoc, arith, ap, drop, get_or, length, map, sym, subst, take}
-use Rattle.std.proofs.lemmas.List.{drop-drop, drop_more, length-drop}
+use Rattle.std.proofs.Common.{◌≡◌, ◌<◌, ◌+◌, ℕ, Bool, false, cond, List, [], ◌∷◌, ◌++◌, ◌∙◌, None, append_assoc, ap, drop, get_or, length, map, sym, subst, take}
+use Rattle.std.proofs.lemmas.List.{drop-drop, drop_more}
 use Rattle.std.specs.List.{flat_map}
 use Rattle.bt_messages.specs.Bins.{each_with}
 use Rattle.bt_messages.specs.Parts.{parted, total}
+use Rattle.bt_messages.specs.Shares.{AreShares, IsShare, counts}
+use Rattle.bt_messages.specs.declared.share.Share.{Share}
+use Rattle.bt_keycode.specs.Keys.{Key}
 use Rattle.bt_node.specs.Messages.{Messages, with_messages}
 use Rattle.bt_node.specs.Trees.{Shape, Tree}
 use Rattle.bt_node.specs.declared.mode.Mode.{Mode}
 use Rattle.bt_plan.specs.Cuts.{Job, child_place, cut_out}
 use Rattle.bt_plan.specs.Pieces.{Holed, Place, whole}
-use Rattle.bt_plan.specs.inside.Cutting.{AreSizedNodes, cut_each, kept_bins}
+use Rattle.bt_plan.specs.inside.Cutting.{cut_each, kept_bins}
 
 -- ---- lists that are gone through
 
@@ -31,36 +34,39 @@ module _ {X Y : Type 0} where
 
 -- ---- shares of a stream
 
-pub total_left : (ns : List ℕ) (i : ℕ) → i < length ns → total (drop i ns) ≡ get_or ns i 0 + total (drop (i + 1) ns)
-total_left ns i within = ap total (drop_more ns i 0 within)
+-- what stands past the end of shares
+abbrev pub no_share : Share
+no_share = record { count = 0; weight = None }
 
-module _ {M : Type 0} where
-  pub left_after : (ns : List ℕ) (i : ℕ) (ms rest left : Messages M) → i < length ns → rest ≡ drop (get_or ns i 0) ms → drop (total (drop i ns)) ms ≡ left → drop (total (drop (i + 1) ns)) rest ≡ left
-  left_after ns i ms rest left within after so_far =
-      ap (drop (total (drop (i + 1) ns))) after ∙ drop-drop (total (drop (i + 1) ns)) (get_or ns i 0) ms ∙ ap (λ n. drop n ms) (sym (total_left ns i within)) ∙ so_far
+module _ {M : Type 0} (shares : List Share) (i : ℕ) (ms : Messages M) (within : i < length shares) where
+  -- the one at a place, and those behind it, which are shares of what it leaves
+  pub share_here : (weigh : Key × M → ℕ) → AreShares weigh ms (drop i shares) →
+      IsShare weigh ms (get_or shares i no_share) × AreShares weigh (drop (get_or shares i no_share).count ms) (drop (i + 1) shares)
+  share_here weigh are = subst (AreShares weigh ms) (drop_more shares i no_share within) are
 
-  pub enough_after : (ns : List ℕ) (i : ℕ) (ms rest : Messages M) → i < length ns → rest ≡ drop (get_or ns i 0) ms → total (drop i ns) ≤ length ms → total (drop (i + 1) ns) ≤ length rest
-  enough_after ns i ms rest within after enough = omega (arith, ap length after, length-drop (get_or ns i 0) ms, total_left ns i within, enough)
+  module _ {rest : Messages M} (after : rest ≡ drop (get_or shares i no_share).count ms) where
+    pub left_after : {left : Messages M} → drop (total (counts (drop i shares))) ms ≡ left → drop (total (counts (drop (i + 1) shares))) rest ≡ left
+    left_after so_far =
+        let later = total (counts (drop (i + 1) shares)) in
+        ap (drop later) after ∙ drop-drop later (get_or shares i no_share).count ms ∙ sym (ap (λ zs. drop (total (counts zs)) ms) (drop_more shares i no_share within)) ∙ so_far
 
-  pub next_bin : (i : ℕ) (b : Messages M) (bs cs : List (Messages M)) (shares : List ℕ) (ms rest : Messages M) (marks : List Bool) → cs ≡ b ∷ bs → i < length shares → i < length marks →
-      rest ≡ drop (get_or shares i 0) ms → kept_bins (each_with (parted (drop i shares) ms) cs) (drop i marks)
-      ≡ cond (get_or marks i false) [] (with_messages (take (get_or shares i 0) ms) b) ∷ kept_bins (each_with (parted (drop (i + 1) shares) rest) bs) (drop (i + 1) marks)
-  next_bin i b bs cs shares ms rest marks here within marked after =
-      (λ j. kept_bins (each_with (parted (drop_more shares i 0 within j) ms) (here j)) (drop_more marks i false marked j))
-      ∙ ap (λ zs. cond (get_or marks i false) [] (with_messages (take (get_or shares i 0) ms) b) ∷ kept_bins (each_with (parted (drop (i + 1) shares) zs) bs) (drop (i + 1) marks)) (sym after)
+    pub next_bin : {b : Messages M} {bs cs : List (Messages M)} (marks : List Bool) → cs ≡ b ∷ bs → i < length marks →
+        kept_bins (each_with (parted (counts (drop i shares)) ms) cs) (drop i marks)
+        ≡ cond (get_or marks i false) [] (with_messages (take (get_or shares i no_share).count ms) b)
+        ∷ kept_bins (each_with (parted (counts (drop (i + 1) shares)) rest) bs) (drop (i + 1) marks)
+    next_bin {b} {bs} marks here marked =
+        let bin = cond (get_or marks i false) [] (with_messages (take (get_or shares i no_share).count ms) b) in
+        (λ j. kept_bins (each_with (parted (counts (drop_more shares i no_share within j)) ms) (here j)) (drop_more marks i false marked j))
+        ∙ ap (λ zs. bin ∷ kept_bins (each_with (parted (counts (drop (i + 1) shares)) zs) bs) (drop (i + 1) marks)) (sym after)
 
--- ---- children
-
-module _ {V M : Type 0} (depth : ℕ) (mode : Mode) (s : Shape) (place : Place) where
-  pub next_child : (i : ℕ) (t : Tree V M) (ts us : List (Tree V M)) (b : Messages M) (bs cs : List (Messages M)) (shares : List ℕ) (ms rest : Messages M) (marks : List Bool) (p : Place) →
-      us ≡ t ∷ ts → cs ≡ b ∷ bs → i < length shares → i < length marks → rest ≡ drop (get_or shares i 0) ms → p ≡ child_place place i →
-      cut_each depth mode s place i us (each_with (parted (drop i shares) ms) cs) (drop i marks)
-      ≡ cond (get_or marks i false) (cut_out depth mode s p t (with_messages (take (get_or shares i 0) ms) b)) (whole t)
-      ∷ cut_each depth mode s place (i + 1) ts (each_with (parted (drop (i + 1) shares) rest) bs) (drop (i + 1) marks)
-  next_child i t ts us b bs cs shares ms rest marks p node here within marked after there =
-      let later : List (Messages M) → List (Holed V M (Job V M)) = λ ds. cut_each depth mode s place (i + 1) ts ds (drop (i + 1) marks) in
-      (λ j. cut_each depth mode s place i (node j) (each_with (parted (drop_more shares i 0 within j) ms) (here j)) (drop_more marks i false marked j))
-      ∙ (λ j. cond (get_or marks i false) (cut_out depth mode s (sym there j) t (with_messages (take (get_or shares i 0) ms) b)) (whole t) ∷ later (each_with (parted (drop (i + 1) shares) (sym after j)) bs))
-
-  pub sized_after : (t : Tree V M) (ts us : List (Tree V M)) → us ≡ t ∷ ts → AreSizedNodes s us → AreSizedNodes s ts
-  sized_after t ts us node sized = (subst (AreSizedNodes s) node sized).1
+    module _ {V : Type 0} (weigh : Key × M → ℕ) (depth : ℕ) (mode : Mode) (s : Shape) (place : Place) where
+      pub next_child : {t : Tree V M} {ts us : List (Tree V M)} {b : Messages M} {bs cs : List (Messages M)} {p : Place} (marks : List Bool) →
+          us ≡ t ∷ ts → cs ≡ b ∷ bs → i < length marks → p ≡ child_place place i →
+          cut_each weigh depth mode s place i us (each_with (parted (counts (drop i shares)) ms) cs) (drop i marks)
+          ≡ cond (get_or marks i false) (cut_out weigh depth mode s p t (with_messages (take (get_or shares i no_share).count ms) b)) (whole t)
+          ∷ cut_each weigh depth mode s place (i + 1) ts (each_with (parted (counts (drop (i + 1) shares)) rest) bs) (drop (i + 1) marks)
+      next_child {t} {ts} {us} {b} {bs} marks node here marked there =
+          let later : List (Messages M) → List (Holed V M (Job V M)) = λ ds. cut_each weigh depth mode s place (i + 1) ts ds (drop (i + 1) marks) in
+          let all = with_messages (take (get_or shares i no_share).count ms) b in
+          (λ j. cut_each weigh depth mode s place i (node j) (each_with (parted (counts (drop_more shares i no_share within j)) ms) (here j)) (drop_more marks i false marked j))
+          ∙ (λ j. cond (get_or marks i false) (cut_out weigh depth mode s (sym there j) t all) (whole t) ∷ later (each_with (parted (counts (drop (i + 1) shares)) (sym after j)) bs))

@@ -1,11 +1,11 @@
 -- Worked trees: cut into a tree in pieces and jobs, and filled again with what becomes of these, computed.
 use Rattle.std.specs.Prelude.{◌≡◌, ℕ, List, [], ◌∷◌, ℤ, pos, neg_ℤ}
 use Rattle.std.proofs.Common.{refl}
-use Rattle.std.specs.declared.option.Option.{Option}
 use Rattle.bt_keycode.specs.Keys.{Key}
-use Rattle.bt_messages.specs.Effects.{effect_of}
+use Rattle.bt_messages.specs.Meanings.{Meaning, meaning_of}
+use Rattle.bt_messages.specs.declared.measure.Measure.TheVariants as measures
 use Rattle.bt_messages.specs.declared.message.Message.{Message}
-use Rattle.bt_messages.specs.declared.message.Message.TheVariants.{Put}
+use Rattle.bt_messages.specs.declared.message.Message.TheVariants.{Put, Del}
 use Rattle.bt_node.specs.Flushes.{absorb}
 use Rattle.bt_node.specs.Drains.{drain}
 use Rattle.bt_node.specs.Messages.{Messages}
@@ -13,14 +13,15 @@ use Rattle.bt_node.specs.Trees.{Shape, Siblings, Tree, leaf, inner, none, node}
 use Rattle.bt_node.specs.declared.mode.Mode.{Mode}
 use Rattle.bt_node.specs.declared.mode.Mode.TheVariants.{Absorb, Drain}
 use Rattle.bt_plan.specs.Pieces.{Holed, Place, whole, hole, opened, childless, child, filled}
-use Rattle.bt_plan.specs.Cuts.{Job, all_done, cut}
+use Rattle.bt_plan.specs.Cuts.{Job, Pieced, all_done, cut}
 
 -- a message of these trees; none of them is an upsert
 abbrev Change : Type 0
 Change = Message ℤ ℤ
 
-abbrev effect : Option ℤ → Change → Option ℤ
-effect = effect_of (λ old n. n)
+-- beside its key of eight bytes a put carries 16
+abbrev meaning : Meaning ℤ Change
+meaning = meaning_of (record { merged = λ old n. n; payload = λ value. 16; delta_payload = λ n. 10 })
 
 -- the code of a number from 0 to 255, and of -1
 abbrev k : ℕ → Key
@@ -35,6 +36,9 @@ minus_10 = neg_ℤ (pos 10)
 abbrev puts : ℕ → ℕ → Key × Change
 puts n v = (k n, Put (pos v))
 
+abbrev dels : ℕ → Key × Change
+dels n = (k n, Del)
+
 abbrev entry : ℕ → ℕ → Key × ℤ
 entry n v = (k n, pos v)
 
@@ -43,7 +47,7 @@ two a x b y = leaf (entry a x ∷ entry b y ∷ [])
 
 -- at most four children, three pending messages, two rows
 abbrev shape : Shape
-shape = record { fanout = 4; buffer = 3; leaf = 2 }
+shape = record { fanout = 4; buffer = 3; leaf = 2; measure = measures.Messages }
 
 -- a job of tree 7
 abbrev job : List ℕ → Mode → Tree ℤ Change → Messages Change → Job ℤ Change
@@ -53,9 +57,12 @@ job path mode t packet = record { place = record { tree = 7; path = path }; node
 abbrev hole_at : List ℕ → Holed ℤ Change Place
 hole_at path = hole (record { tree = 7; path = path })
 
+abbrev cut_of : Shape → Tree ℤ Change → Messages Change → ℕ → Mode → Pieced ℤ Change
+cut_of = cut meaning.weigh 7
+
 -- cut, run and filled
-abbrev together : Tree ℤ Change → Messages Change → ℕ → Mode → Siblings ℤ Change
-together t packet depth mode = let c = cut 7 shape t packet depth mode in filled shape c.holed (all_done effect shape c.jobs)
+abbrev together : Shape → Tree ℤ Change → Messages Change → ℕ → Mode → Siblings ℤ Change
+together s t packet depth mode = let c = cut_of s t packet depth mode in filled s c.holed (all_done meaning s c.jobs)
 
 -- ---- counts 4, 2 and 2: the first two children are flushed
 
@@ -68,7 +75,7 @@ four_left = (k_minus_1, Put minus_10) ∷ puts 0 0 ∷ puts 1 11 ∷ puts 2 21 �
 abbrev eight_puts : Messages Change
 eight_puts = (k_minus_1, Put minus_10) ∷ puts 0 0 ∷ puts 1 11 ∷ puts 2 21 ∷ puts 3 31 ∷ puts 4 41 ∷ puts 5 51 ∷ puts 6 61 ∷ []
 
-two_jobs : cut 7 shape three_leaves eight_puts 1 Absorb ≡ record {
+two_jobs : cut_of shape three_leaves eight_puts 1 Absorb ≡ record {
   holed = opened (child [] (hole_at (0 ∷ [])) (child (k 3) (hole_at (1 ∷ [])) (child (k 5) (whole (two 5 50 6 60)) childless))) (puts 5 51 ∷ puts 6 61 ∷ []);
   jobs =
       job (0 ∷ []) Absorb (two 1 10 2 20) four_left
@@ -78,10 +85,10 @@ two_jobs : cut 7 shape three_leaves eight_puts 1 Absorb ≡ record {
 two_jobs = refl
 
 -- leaves above the cut are jobs at any depth
-two_jobs_deeper : cut 7 shape three_leaves eight_puts 3 Absorb ≡ cut 7 shape three_leaves eight_puts 1 Absorb
+two_jobs_deeper : cut_of shape three_leaves eight_puts 3 Absorb ≡ cut_of shape three_leaves eight_puts 1 Absorb
 two_jobs_deeper = refl
 
-two_jobs_filled : together three_leaves eight_puts 1 Absorb ≡ absorb effect shape three_leaves eight_puts
+two_jobs_filled : together shape three_leaves eight_puts 1 Absorb ≡ absorb meaning shape three_leaves eight_puts
 two_jobs_filled = refl
 
 -- ---- the root sends three messages left, and that node, where one is pending, sends two on
@@ -98,13 +105,13 @@ three_high = inner (node [] first_three (node (k 5) last_two none)) []
 abbrev four_puts : Messages Change
 four_puts = puts 1 12 ∷ puts 2 22 ∷ puts 3 33 ∷ puts 10 100 ∷ []
 
-two_levels_cut_1 : cut 7 shape three_high four_puts 1 Absorb ≡ record {
+two_levels_cut_1 : cut_of shape three_high four_puts 1 Absorb ≡ record {
   holed = opened (child [] (hole_at (0 ∷ [])) (child (k 5) (whole last_two) childless)) (puts 10 100 ∷ []);
   jobs = job (0 ∷ []) Absorb first_three (puts 1 12 ∷ puts 2 22 ∷ puts 3 33 ∷ []) ∷ [];
 }
 two_levels_cut_1 = refl
 
-two_levels_cut_2 : cut 7 shape three_high four_puts 2 Absorb ≡ record {
+two_levels_cut_2 : cut_of shape three_high four_puts 2 Absorb ≡ record {
   holed = opened
       (child []
       (opened
@@ -116,21 +123,21 @@ two_levels_cut_2 : cut 7 shape three_high four_puts 2 Absorb ≡ record {
 }
 two_levels_cut_2 = refl
 
-two_levels_filled_1 : together three_high four_puts 1 Absorb ≡ absorb effect shape three_high four_puts
+two_levels_filled_1 : together shape three_high four_puts 1 Absorb ≡ absorb meaning shape three_high four_puts
 two_levels_filled_1 = refl
 
-two_levels_filled_2 : together three_high four_puts 2 Absorb ≡ absorb effect shape three_high four_puts
+two_levels_filled_2 : together shape three_high four_puts 2 Absorb ≡ absorb meaning shape three_high four_puts
 two_levels_filled_2 = refl
 
-two_levels_filled_3 : together three_high four_puts 3 Absorb ≡ absorb effect shape three_high four_puts
+two_levels_filled_3 : together shape three_high four_puts 3 Absorb ≡ absorb meaning shape three_high four_puts
 two_levels_filled_3 = refl
 
 -- ---- drained, each child is flushed, also where nothing is pending for it
 
-drained_cut_1 : (cut 7 shape three_high [] 1 Drain).jobs ≡ job (0 ∷ []) Drain first_three [] ∷ job (1 ∷ []) Drain last_two [] ∷ []
+drained_cut_1 : (cut_of shape three_high [] 1 Drain).jobs ≡ job (0 ∷ []) Drain first_three [] ∷ job (1 ∷ []) Drain last_two [] ∷ []
 drained_cut_1 = refl
 
-drained_cut_2 : (cut 7 shape three_high [] 2 Drain).jobs
+drained_cut_2 : (cut_of shape three_high [] 2 Drain).jobs
     ≡ job (0 ∷ 0 ∷ []) Drain (leaf ((k_minus_1, minus_10) ∷ entry 0 0 ∷ [])) []
     ∷ job (0 ∷ 1 ∷ []) Drain (two 1 11 2 20) []
     ∷ job (0 ∷ 2 ∷ []) Drain (two 3 30 4 40) (puts 4 44 ∷ [])
@@ -139,10 +146,10 @@ drained_cut_2 : (cut 7 shape three_high [] 2 Drain).jobs
     ∷ []
 drained_cut_2 = refl
 
-drained_filled_1 : together three_high [] 1 Drain ≡ drain effect shape three_high []
+drained_filled_1 : together shape three_high [] 1 Drain ≡ drain meaning shape three_high []
 drained_filled_1 = refl
 
-drained_filled_2 : together three_high [] 2 Drain ≡ drain effect shape three_high []
+drained_filled_2 : together shape three_high [] 2 Drain ≡ drain meaning shape three_high []
 drained_filled_2 = refl
 
 -- ---- the first child is flushed and splits
@@ -155,26 +162,58 @@ four_leaves = inner
 abbrev splitting : Messages Change
 splitting = (k_minus_1, Put minus_10) ∷ puts 0 0 ∷ puts 4 44 ∷ puts 8 80 ∷ []
 
-first_child_splits : (cut 7 shape four_leaves splitting 1 Absorb).jobs
+first_child_splits : (cut_of shape four_leaves splitting 1 Absorb).jobs
     ≡ job (0 ∷ []) Absorb (two 1 10 2 20) ((k_minus_1, Put minus_10) ∷ puts 0 0 ∷ puts 1 11 ∷ []) ∷ []
 first_child_splits = refl
 
-first_child_splits_filled : together four_leaves splitting 1 Absorb ≡ absorb effect shape four_leaves splitting
+first_child_splits_filled : together shape four_leaves splitting 1 Absorb ≡ absorb meaning shape four_leaves splitting
 first_child_splits_filled = refl
 
 -- ---- a root that is a leaf is one job, and a root that has room for all messages stays whole
 
-leaf_job : cut 7 shape (two 1 10 2 20) (puts 3 30 ∷ []) 2 Absorb ≡ record {
+leaf_job : cut_of shape (two 1 10 2 20) (puts 3 30 ∷ []) 2 Absorb ≡ record {
   holed = hole_at [];
   jobs = job [] Absorb (two 1 10 2 20) (puts 3 30 ∷ []) ∷ [];
 }
 leaf_job = refl
 
-no_job : cut 7 shape three_leaves (puts 1 11 ∷ []) 1 Absorb ≡ record {
+no_job : cut_of shape three_leaves (puts 1 11 ∷ []) 1 Absorb ≡ record {
   holed = whole (inner (node [] (two 1 10 2 20) (node (k 3) (two 3 30 4 40) (node (k 5) (two 5 50 6 60) none))) (puts 1 11 ∷ []));
   jobs = [];
 }
 no_job = refl
 
-no_job_filled : together three_leaves (puts 1 11 ∷ []) 1 Absorb ≡ absorb effect shape three_leaves (puts 1 11 ∷ [])
+no_job_filled : together shape three_leaves (puts 1 11 ∷ []) 1 Absorb ≡ absorb meaning shape three_leaves (puts 1 11 ∷ [])
 no_job_filled = refl
+
+-- ---- a buffer of 60 bytes, where a put weighs 25 and a del 9
+
+abbrev weighed : Shape
+weighed = record { fanout = 4; buffer = 60; leaf = 2; measure = measures.Bytes }
+
+abbrev one_waits : Tree ℤ Change
+one_waits = inner (node [] (two 1 10 2 20) (node (k 3) (two 3 30 4 40) none)) (puts 1 11 ∷ [])
+
+-- weights 25 and 25: the root stays whole
+within_bytes : cut_of weighed one_waits (puts 4 41 ∷ []) 1 Absorb ≡ record {
+  holed = whole (inner (node [] (two 1 10 2 20) (node (k 3) (two 3 30 4 40) none)) (puts 1 11 ∷ puts 4 41 ∷ []));
+  jobs = [];
+}
+within_bytes = refl
+
+abbrev three_dels : Messages Change
+three_dels = dels 3 ∷ dels 3 ∷ dels 4 ∷ []
+
+-- weights 50 and 27, of two messages and three: the left child is flushed
+heavier_has_fewer : cut_of weighed one_waits (puts 2 21 ∷ three_dels) 1 Absorb ≡ record {
+  holed = opened (child [] (hole_at (0 ∷ [])) (child (k 3) (whole (two 3 30 4 40)) childless)) three_dels;
+  jobs = job (0 ∷ []) Absorb (two 1 10 2 20) (puts 1 11 ∷ puts 2 21 ∷ []) ∷ [];
+}
+heavier_has_fewer = refl
+
+heavier_has_fewer_filled : together weighed one_waits (puts 2 21 ∷ three_dels) 1 Absorb ≡ absorb meaning weighed one_waits (puts 2 21 ∷ three_dels)
+heavier_has_fewer_filled = refl
+
+-- where messages are counted, the right one
+more_messages : (cut_of shape one_waits (puts 2 21 ∷ three_dels) 1 Absorb).jobs ≡ job (1 ∷ []) Absorb (two 3 30 4 40) three_dels ∷ []
+more_messages = refl

@@ -1,11 +1,11 @@
 -- Cutting: the flushes of a tree are moved out of it as jobs.
-use Rattle.std.specs.Prelude.{ℕ, zero, suc, Bool, cond, List, [], ◌∷◌, ◌++◌, length, map}
+use Rattle.std.specs.Prelude.{ℕ, zero, suc, Bool, cond, List, [], ◌∷◌, ◌++◌, map}
 use Rattle.std.specs.List.{flat_map, zip}
-use Rattle.std.specs.declared.option.Option.{Option}
+use Rattle.bt_keycode.specs.Keys.{Key}
 use Rattle.bt_node.specs.declared.mode.Mode.{Mode}
-use Rattle.bt_node.specs.Flushes.{Child, counts, flush_in, shared}
+use Rattle.bt_node.specs.Flushes.{Child, flush_in, loads, shared}
 use Rattle.bt_node.specs.Marks.{flush_marks, has_room}
-use Rattle.bt_node.specs.Messages.{Messages, with_messages}
+use Rattle.bt_node.specs.Messages.{Meaning, Messages, load, with_messages}
 use Rattle.bt_node.specs.Trees.{Shape, Tree, leaf, inner, Siblings, children}
 use Rattle.bt_plan.specs.Pieces.{Holed, Pieces, Place, whole, hole, opened, holed_nodes, holes, with_holes}
 
@@ -21,12 +21,12 @@ abbrev pub hole_of : {V M : Type 0} → Job V M → Place
 hole_of job = job.place
 
 -- what becomes of a job's node and packet
-abbrev pub done : {V M : Type 0} → (Option V → M → Option V) → Shape → Job V M → Siblings V M
-done effect shape job = flush_in effect job.mode shape job.node job.packet
+abbrev pub done : {V M : Type 0} → Meaning V M → Shape → Job V M → Siblings V M
+done meaning shape job = flush_in meaning job.mode shape job.node job.packet
 
 -- what becomes of jobs, by their places
-abbrev pub all_done : {V M : Type 0} → (Option V → M → Option V) → Shape → List (Job V M) → Pieces V M
-all_done effect shape = map (λ job. (job.place, done effect shape job))
+abbrev pub all_done : {V M : Type 0} → Meaning V M → Shape → List (Job V M) → Pieces V M
+all_done meaning shape = map (λ job. (job.place, done meaning shape job))
 
 -- each item with its number, counted from k
 abbrev pub numbered : {X : Type 0} → ℕ → List X → List (ℕ × X)
@@ -44,16 +44,16 @@ left_pending = flat_map (λ s. cond s.1 [] s.0.pending)
 -- A node and a packet, so many levels above the cut: at the cut, or where the node is a leaf, it is moved out. Else it stays whole, with all its messages, where
 -- its buffer has room for them and the mode lets them stay. Else its children are flushed as far as the mode says: those are cut likewise with what is pending for
 -- them, and the others stay whole.
-abbrev pub cut_out : {V M : Type 0} → ℕ → Mode → Shape → Place → Tree V M → Messages M → Holed V M (Job V M)
-cut_out zero mode shape place t packet = hole (record { place = place; node = t; packet = packet; mode = mode })
-cut_out (suc depth) mode shape place (leaf rows) packet = hole (record { place = place; node = leaf rows; packet = packet; mode = mode })
-cut_out (suc depth) mode shape place (inner ns buffer) packet =
+abbrev pub cut_out : {V M : Type 0} → (Key × M → ℕ) → ℕ → Mode → Shape → Place → Tree V M → Messages M → Holed V M (Job V M)
+cut_out weigh zero mode shape place t packet = hole (record { place = place; node = t; packet = packet; mode = mode })
+cut_out weigh (suc depth) mode shape place (leaf rows) packet = hole (record { place = place; node = leaf rows; packet = packet; mode = mode })
+cut_out weigh (suc depth) mode shape place (inner ns buffer) packet =
     let all = with_messages packet buffer in
     let cs = shared (children ns) all in
-    let ss = zip cs (flush_marks mode shape.buffer (counts cs)) in
-    cond (has_room mode shape (length all)) (whole (inner ns all))
+    let ss = zip cs (flush_marks mode shape.buffer (loads weigh shape cs)) in
+    cond (has_room mode shape (load weigh shape.measure all)) (whole (inner ns all))
     (opened
-    (holed_nodes (map (λ s. (s.1.0.pivot, cond s.1.1 (cut_out depth mode shape (child_place place s.0) s.1.0.tree s.1.0.pending) (whole s.1.0.tree))) (numbered 0 ss)))
+    (holed_nodes (map (λ s. (s.1.0.pivot, cond s.1.1 (cut_out weigh depth mode shape (child_place place s.0) s.1.0.tree s.1.0.pending) (whole s.1.0.tree))) (numbered 0 ss)))
     (left_pending ss))
 
 -- the place of a root
@@ -66,7 +66,7 @@ pub record Pieced (V M : Type 0) : Type 0 where
   pub jobs : List (Job V M)
 
 -- A tree and a packet, cut at a depth. Where a root is a leaf, it is one job.
-abbrev pub cut : {V M : Type 0} → ℕ → Shape → Tree V M → Messages M → ℕ → Mode → Pieced V M
-cut number shape root packet depth mode =
-    let h = cut_out depth mode shape (root_place number) root packet in
+abbrev pub cut : {V M : Type 0} → (Key × M → ℕ) → ℕ → Shape → Tree V M → Messages M → ℕ → Mode → Pieced V M
+cut weigh number shape root packet depth mode =
+    let h = cut_out weigh depth mode shape (root_place number) root packet in
     record { holed = with_holes hole_of h; jobs = holes h }

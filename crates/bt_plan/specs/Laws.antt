@@ -7,16 +7,16 @@ use Rattle.std.specs.declared.option.Option.TheVariants.{None, Some}
 use Rattle.bt_keycode.specs.Keys.{AllWithin, Key}
 use Rattle.bt_node.specs.Fits.{NodeFits}
 use Rattle.bt_node.specs.Flushes.{flush_in}
-use Rattle.bt_node.specs.Messages.{Messages}
+use Rattle.bt_node.specs.Messages.{Meaning, Messages}
 use Rattle.bt_node.specs.Trees.{Shape, Tree}
 use Rattle.bt_node.specs.declared.mode.Mode.{Mode}
 use Rattle.bt_plan.specs.Cuts.{Job, Pieced, done, hole_of}
 use Rattle.bt_plan.specs.Pieces.{Holed, HoledFits, Pieces, filled, holes, place_cmp, with_holes}
 
-module _ {V M : Type 0} (shape : Shape) where
+module _ {V M : Type 0} (weigh : Key × M → ℕ) (shape : Shape) where
   -- a job's node, which has so many levels below it, and its packet, between the limits that the pivots around its hole set
   abbrev pub JobFits : ℕ → Option Key → Option Key → Job V M → Type 0
-  JobFits levels low high job = NodeFits shape levels low high job.node × AllWithin low high job.packet
+  JobFits levels low high job = NodeFits weigh shape levels low high job.node × AllWithin low high job.packet
 
   -- Each job stands in a hole of its own, from left to right, with the place that the hole tells, as high as the hole stands in the tree, and the pivots around the hole
   -- bound it. What stays fits too, and nothing is pending for a node that is in pieces.
@@ -25,14 +25,14 @@ module _ {V M : Type 0} (shape : Shape) where
     pub holed : c.holed ≡ with_holes hole_of tree
     pub jobs : c.jobs ≡ holes tree
     pub levels : ℕ
-    pub fit : HoledFits JobFits shape levels None None tree
+    pub fit : HoledFits weigh JobFits shape levels None None tree
 
 -- the places of the jobs rise: no place comes twice
 abbrev pub PlacesRise : {V M : Type 0} → Pieced V M → Type 0
 PlacesRise c = T (is_sorted place_cmp (map (λ job. (job.place, job)) c.jobs))
 
 -- Pieces in any order that have at the place of each job what becomes of it, fill the holes to what becomes of the whole.
-abbrev pub FillsUp : {V M : Type 0} → (Option V → M → Option V) → Shape → Tree V M → Messages M → Mode → Pieced V M → Type 0
-FillsUp {V} {M} effect shape root packet mode c =
-    (pieces : Pieces V M) → All (λ job. find place_cmp job.place pieces ≡ Some (done effect shape job)) c.jobs →
-    filled shape c.holed pieces ≡ flush_in effect mode shape root packet
+abbrev pub FillsUp : {V M : Type 0} → Meaning V M → Shape → Tree V M → Messages M → Mode → Pieced V M → Type 0
+FillsUp {V} {M} meaning shape root packet mode c =
+    (pieces : Pieces V M) → All (λ job. find place_cmp job.place pieces ≡ Some (done meaning shape job)) c.jobs →
+    filled shape c.holed pieces ≡ flush_in meaning mode shape root packet

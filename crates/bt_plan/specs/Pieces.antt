@@ -11,7 +11,7 @@ use Rattle.bt_keycode.specs.Keys.{Key, AllWithin, IsSorted, SideBySide}
 use Rattle.bt_messages.specs.Bins.{parts}
 use Rattle.bt_node.specs.Fits.{NodeFits, SiblingsFit}
 use Rattle.bt_node.specs.Flushes.{pivot_first, shared, grouped}
-use Rattle.bt_node.specs.Messages.{Messages}
+use Rattle.bt_node.specs.Messages.{Messages, load}
 use Rattle.bt_node.specs.Trees.{Shape, Tree, Siblings}
 
 -- where a node stands: the number of its tree, and the numbers of the children on the way to it from the root, before any change
@@ -92,14 +92,14 @@ IsSent (hole h) pending = pending ≡ []
 IsSent (opened hs buffer) pending = pending ≡ []
 
 -- A tree in pieces with so many levels below it, between two limits. A node that stays whole fits there, and of a hole this is asked. An opened node has two children or
--- more, which fit between their pivots likewise, and no more messages than may be pending, none of them for a child that is in pieces.
-abbrev pub HoledFits : {V M H : Type 0} → (ℕ → Option Key → Option Key → H → Type 0) → Shape → ℕ → Option Key → Option Key → Holed V M H → Type 0
-HoledFits Asked shape levels low high (whole t) = NodeFits shape levels low high t
-HoledFits Asked shape levels low high (hole h) = Asked levels low high h
-HoledFits Asked shape zero low high (opened hs buffer) = ⊥
-HoledFits Asked shape (suc levels) low high (opened hs buffer) =
-    (2 ≤ length (pivots_below hs)) × (length buffer ≤ shape.buffer) × IsSorted buffer
-    × SideBySide (λ c. c.pivot) (λ l h c. HoledFits Asked shape levels l h c.node × AllWithin l h c.pending × IsSorted c.pending × IsSent c.node c.pending)
+-- more, which fit between their pivots likewise, and no more is pending than the buffer has room for, nothing for a child that is in pieces.
+abbrev pub HoledFits : {V M H : Type 0} → (Key × M → ℕ) → (ℕ → Option Key → Option Key → H → Type 0) → Shape → ℕ → Option Key → Option Key → Holed V M H → Type 0
+HoledFits weigh Asked shape levels low high (whole t) = NodeFits weigh shape levels low high t
+HoledFits weigh Asked shape levels low high (hole h) = Asked levels low high h
+HoledFits weigh Asked shape zero low high (opened hs buffer) = ⊥
+HoledFits weigh Asked shape (suc levels) low high (opened hs buffer) =
+    (2 ≤ length (pivots_below hs)) × (load weigh shape.measure buffer ≤ shape.buffer) × IsSorted buffer
+    × SideBySide (λ c. c.pivot) (λ l h c. HoledFits weigh Asked shape levels l h c.node × AllWithin l h c.pending × IsSorted c.pending × IsSent c.node c.pending)
     low high (shared_below hs buffer)
 
 -- ---- filling
@@ -129,5 +129,5 @@ abbrev pub filled : {V M : Type 0} → Shape → Holed V M Place → Pieces V M 
 filled shape holed pieces = filled_with shape (piece_at pieces) holed
 
 -- siblings that stand at the place of a hole fit there: they have as many levels below them as the node that stood there, and the pivots around it bound them
-abbrev pub FitsHole : {V M : Type 0} → Shape → Pieces V M → ℕ → Option Key → Option Key → Place → Type 0
-FitsHole {V} {M} shape pieces levels low high place = (xs : Siblings V M) → find place_cmp place pieces ≡ Some xs → SiblingsFit shape levels low high xs
+abbrev pub FitsHole : {V M : Type 0} → (Key × M → ℕ) → Shape → Pieces V M → ℕ → Option Key → Option Key → Place → Type 0
+FitsHole {V} {M} weigh shape pieces levels low high place = (xs : Siblings V M) → find place_cmp place pieces ≡ Some xs → SiblingsFit weigh shape levels low high xs

@@ -1,5 +1,6 @@
 -- What the values of the code stand for.
 use Rattle.std.specs.Prelude.{◌≡◌, ◌+◌, ℕ, List, length, map}
+use Rattle.bt_keycode.specs.Keys.{Key}
 use Rattle.bt_messages.specs.Bins.{LieBetween, joined}
 use Rattle.bt_messages.specs.declared.message.Message.{Message}
 use Rattle.bt_node.specs.Messages.{Messages}
@@ -31,6 +32,6 @@ IsDivided (Hole place) = Unit {0}
 IsDivided (Opened children pivots bins) = (length children.items ≡ length pivots.items + 1) × LieBetween pivots.items bins
 
 -- a tree in pieces, with its shape, and jobs are those of a cut
-abbrev pub IsCut : {V D : Type 0} → Shape × Holed V (Message V D) Place → List (code.Job V D) → ℕ → Shape × Tree V (Message V D) → Messages (Message V D) → ℕ → Mode → Type 0
-IsCut holed jobs number tree packet depth mode =
-    (holed ≡ (tree.0, (cut number tree.0 tree.1 packet depth mode).holed)) × (map job_of jobs ≡ (cut number tree.0 tree.1 packet depth mode).jobs)
+abbrev pub IsCut : {V D : Type 0} → (Key × Message V D → ℕ) → Shape × Holed V (Message V D) Place → List (code.Job V D) → ℕ → Shape × Tree V (Message V D) → Messages (Message V D) → ℕ → Mode → Type 0
+IsCut weigh holed jobs number tree packet depth mode =
+    (holed ≡ (tree.0, (cut weigh number tree.0 tree.1 packet depth mode).holed)) × (map job_of jobs ≡ (cut weigh number tree.0 tree.1 packet depth mode).jobs)

@@ -3,7 +3,9 @@ ghost use Rattle.std.specs.Prelude.{◌≡◌, ◌≤◌, ◌<◌, ◌+◌, ◌+
 ghost use Rattle.std.specs.List.{flat_map};
 ghost use Rattle.bt_messages.specs.Bins.{LieBetween, each_with, joined};
 ghost use Rattle.bt_messages.specs.Parts.{parted, total};
-ghost use Rattle.bt_messages.specs.Effects.{effect_of};
+ghost use Rattle.bt_messages.specs.Meanings.{meaning_of};
+ghost use Rattle.bt_messages.specs.Shares.{AreShares, IsShare, counts};
+ghost use Rattle.bt_messages.specs.Weights.{weigh_of};
 ghost use Rattle.bt_messages.specs.declared.message.Message.{Message};
 ghost use Rattle.bt_node.specs.Fits.{IsSized};
 ghost use Rattle.bt_node.specs.Messages.{with_messages};
@@ -19,7 +21,7 @@ ghost use Rattle.bt_plan.specs.inside.Entering.{entered_job};
 use crate::holed::{Holed, HoledNode};
 use crate::job::{Job, Place};
 use bt_gang::DEEPEST_CUT;
-use bt_messages::{Bins, Buffer, Merge, Packet, Stream};
+use bt_messages::{Bins, Buffer, Merge, Packet, Share, Stream};
 use bt_node::{LARGEST_FANOUT, Mode, Node, Opened, Parts, Shape, Siblings, Step, Tree, open};
 use std::alloc::{AllocError, Global};
 
@@ -32,8 +34,23 @@ struct Entered<V: Merge> {
     mode: Mode,
 }
 
-// Messages and, after those of their key, the first ones of a stream, as a packet. Where there are none before these, whole runs of
-// the stream go into it.
+// Messages and, after those of their key, the first ones of a stream.
+fn with_front<V: Merge>(
+    alloc: Global,
+    pending: Buffer<V>,
+    stream: &mut Stream<V>,
+    count: usize,
+) -> Result<Buffer<V>, AllocError>
+    requires { count ≤ length stream.old }
+    ensures all { IfOk result (λ all. all ≡ with_messages (take count stream.old) pending) }
+    ensures left { OnOk result (stream.new ≡ drop count stream.old) }
+{
+    let mut all = pending;
+    all.add_front(alloc, stream, Share::new(count))?;
+    Ok(all)
+}
+
+// The same as a packet. Where there are none before those of the stream, whole runs of it go into the packet.
 fn packet_of<V: Merge>(
     alloc: Global,
     pending: Buffer<V>,
@@ -48,8 +65,7 @@ fn packet_of<V: Merge>(
     if pending.is_empty() {
         return stream.take_front(alloc, count);
     }
-    let mut all = pending;
-    all.add_front(alloc, stream, count)?;
+    let all = with_front(alloc, pending, stream, count)?;
     Ok(Packet::from_buffer(alloc, all))
 }
 
@@ -83,33 +99,17 @@ fn move_out<V: Merge>(
     Ok(hole)
 }
 
-// Messages and, after those of their key, the first ones of a stream, as a stream of their own.
-fn with_front<V: Merge>(
-    alloc: Global,
-    pending: Buffer<V>,
-    stream: &mut Stream<V>,
-    count: usize,
-) -> Result<Stream<V>, AllocError>
-    requires { count ≤ length stream.old }
-    ensures all { IfOk result (λ all. all ≡ with_messages (take count stream.old) pending) }
-    ensures left { OnOk result (stream.new ≡ drop count stream.old) }
-{
-    let mut all = pending;
-    all.add_front(alloc, stream, count)?;
-    Ok(all.into_stream())
-}
-
 // A child that is not flushed, and what is in its bin then.
 fn keep<V: Merge>(
     alloc: Global,
     child: Entered<V>,
     stream: &mut Stream<V>,
-    share: usize,
+    share: Share,
 ) -> Result<(HoledNode<V>, Buffer<V>), AllocError>
-    requires enough { share ≤ length stream.old }
+    requires share { IsShare (weigh_of V.terms) stream.old share }
     ensures node { IfOk result (λ kept. kept.0 ≡ pieces.whole child.node) }
-    ensures bin { IfOk result (λ kept. kept.1 ≡ with_messages (take share stream.old) child.pending) }
-    ensures left { OnOk result (stream.new ≡ drop share stream.old) }
+    ensures bin { IfOk result (λ kept. kept.1 ≡ with_messages (take share.count stream.old) child.pending) }
+    ensures left { OnOk result (stream.new ≡ drop share.count stream.old) }
 {
     let Entered {
         place: _place,
@@ -131,21 +131,21 @@ fn cut_child<V: Merge>(
     child: Entered<V>,
     marked: bool,
     stream: &mut Stream<V>,
-    share: usize,
+    share: Share,
     jobs: &mut Vec<Job<V>>,
 ) -> Result<(HoledNode<V>, Buffer<V>), AllocError>
-    requires sized { IsSized shape child.node }
+    requires sized { IsSized (weigh_of V.terms) shape child.node }
     requires path { length child.place.path.items + depth ≤ DEEPEST_CUT }
-    requires enough { share ≤ length stream.old }
-    ensures child { IfOk result (λ cut. cut.0 ≡ with_holes hole_of (cond marked (cut_job depth shape (sent (take share stream.old) (entered_job child))) (pieces.whole child.node))) }
-    ensures kept { IfOk result (λ cut. cut.1 ≡ cond marked [] (with_messages (take share stream.old) child.pending)) }
-    ensures jobs { OnOk result (map job_of jobs.new.items ≡ map job_of jobs.old.items ++ holes (cond marked (cut_job depth shape (sent (take share stream.old) (entered_job child))) (pieces.whole child.node))) }
-    ensures left { OnOk result (stream.new ≡ drop share stream.old) }
+    requires share { IsShare (weigh_of V.terms) stream.old share }
+    ensures child { IfOk result (λ cut. cut.0 ≡ with_holes hole_of (cond marked (cut_job (weigh_of V.terms) depth shape (sent (take share.count stream.old) (entered_job child))) (pieces.whole child.node))) }
+    ensures kept { IfOk result (λ cut. cut.1 ≡ cond marked [] (with_messages (take share.count stream.old) child.pending)) }
+    ensures jobs { OnOk result (map job_of jobs.new.items ≡ map job_of jobs.old.items ++ holes (cond marked (cut_job (weigh_of V.terms) depth shape (sent (take share.count stream.old) (entered_job child))) (pieces.whole child.node))) }
+    ensures left { OnOk result (stream.new ≡ drop share.count stream.old) }
 {
     if !marked {
         return keep(alloc, child, stream, share);
     }
-    let node = cut_node(alloc, shape, depth, child, stream, share, jobs)?;
+    let node = cut_node(alloc, shape, depth, child, stream, share.count, jobs)?;
     Ok((node, Buffer::new(alloc)))
 }
 
@@ -161,20 +161,20 @@ fn cut_children<V: Merge>(
     buffers: Vec<Buffer<V>>,
     marks: &[bool],
     stream: &mut Stream<V>,
-    shares: &[usize],
+    shares: &[Share],
     jobs: &mut Vec<Job<V>>,
 ) -> Result<(Vec<HoledNode<V>>, Bins<V>), AllocError>
-    requires sized { AreSizedNodes shape nodes.items }
+    requires sized { AreSizedNodes (weigh_of V.terms) shape nodes.items }
     requires few { length nodes.items ≤ LARGEST_FANOUT }
     requires buffers { length buffers.items ≡ length nodes.items }
     requires marks { length marks.now ≡ length nodes.items }
     requires shares { length shares.now ≡ length nodes.items }
-    requires enough { total shares.now ≤ length stream.old }
+    requires weighed { AreShares (weigh_of V.terms) stream.old shares.now }
     requires path { length place.now.path.items + depth < DEEPEST_CUT }
-    ensures children { IfOk result (λ cut. cut.0.items ≡ map (with_holes hole_of) (cut_each depth mode shape (place_of place.now) 0 nodes.items (each_with (parted shares.now stream.old) buffers.items) marks.now)) }
-    ensures bins { IfOk result (λ cut. cut.1 ≡ kept_bins (each_with (parted shares.now stream.old) buffers.items) marks.now) }
-    ensures jobs { OnOk result (map job_of jobs.new.items ≡ map job_of jobs.old.items ++ flat_map holes (cut_each depth mode shape (place_of place.now) 0 nodes.items (each_with (parted shares.now stream.old) buffers.items) marks.now)) }
-    ensures left { OnOk result (stream.new ≡ drop (total shares.now) stream.old) }
+    ensures children { IfOk result (λ cut. cut.0.items ≡ map (with_holes hole_of) (cut_each (weigh_of V.terms) depth mode shape (place_of place.now) 0 nodes.items (each_with (parted (counts shares.now) stream.old) buffers.items) marks.now)) }
+    ensures bins { IfOk result (λ cut. cut.1 ≡ kept_bins (each_with (parted (counts shares.now) stream.old) buffers.items) marks.now) }
+    ensures jobs { OnOk result (map job_of jobs.new.items ≡ map job_of jobs.old.items ++ flat_map holes (cut_each (weigh_of V.terms) depth mode shape (place_of place.now) 0 nodes.items (each_with (parted (counts shares.now) stream.old) buffers.items) marks.now)) }
+    ensures left { OnOk result (stream.new ≡ drop (total (counts shares.now)) stream.old) }
 {
     let mut children = Vec::with_capacity(alloc, nodes.len())?;
     let mut kept = Vec::with_capacity(alloc, nodes.len())?;
@@ -223,11 +223,11 @@ fn cut_inner<V: Merge>(
     jobs: &mut Vec<Job<V>>,
 ) -> Result<HoledNode<V>, AllocError>
     requires lie { LieBetween (pivots_of children) bins }
-    requires sized { IsSized shape (inner (nodes children) (joined bins)) }
+    requires sized { IsSized (weigh_of V.terms) shape (inner (nodes children) (joined bins)) }
     requires path { length place.now.path.items + depth < DEEPEST_CUT }
     requires enough { count ≤ length stream.old }
-    ensures holed { IfOk result (λ holed. holed ≡ with_holes hole_of (cut_out (suc depth) mode shape (place_of place.now) (inner (nodes children) (joined bins)) (take count stream.old))) }
-    ensures jobs { OnOk result (map job_of jobs.new.items ≡ map job_of jobs.old.items ++ holes (cut_out (suc depth) mode shape (place_of place.now) (inner (nodes children) (joined bins)) (take count stream.old))) }
+    ensures holed { IfOk result (λ holed. holed ≡ with_holes hole_of (cut_out (weigh_of V.terms) (suc depth) mode shape (place_of place.now) (inner (nodes children) (joined bins)) (take count stream.old))) }
+    ensures jobs { OnOk result (map job_of jobs.new.items ≡ map job_of jobs.old.items ++ holes (cut_out (weigh_of V.terms) (suc depth) mode shape (place_of place.now) (inner (nodes children) (joined bins)) (take count stream.old))) }
     ensures left { OnOk result (stream.new ≡ drop count stream.old) }
 {
     let opened = match open(alloc, shape, mode, children, bins, stream, count)? {
@@ -268,11 +268,11 @@ fn cut_node<V: Merge>(
     count: usize,
     jobs: &mut Vec<Job<V>>,
 ) -> Result<HoledNode<V>, AllocError>
-    requires sized { IsSized shape entered.node }
+    requires sized { IsSized (weigh_of V.terms) shape entered.node }
     requires path { length entered.place.path.items + depth ≤ DEEPEST_CUT }
     requires enough { count ≤ length stream.old }
-    ensures holed { IfOk result (λ holed. holed ≡ with_holes hole_of (cut_job depth shape (sent (take count stream.old) (entered_job entered)))) }
-    ensures jobs { OnOk result (map job_of jobs.new.items ≡ map job_of jobs.old.items ++ holes (cut_job depth shape (sent (take count stream.old) (entered_job entered)))) }
+    ensures holed { IfOk result (λ holed. holed ≡ with_holes hole_of (cut_job (weigh_of V.terms) depth shape (sent (take count stream.old) (entered_job entered)))) }
+    ensures jobs { OnOk result (map job_of jobs.new.items ≡ map job_of jobs.old.items ++ holes (cut_job (weigh_of V.terms) depth shape (sent (take count stream.old) (entered_job entered)))) }
     ensures left { OnOk result (stream.new ≡ drop count stream.old) }
 {
     if depth == 0 {
@@ -302,7 +302,7 @@ fn cut_node<V: Merge>(
                     alloc, shape, below, mode, &place, children, bins, stream, count, jobs,
                 );
             }
-            let mut own = with_front(alloc, pending, stream, count)?;
+            let mut own = with_front(alloc, pending, stream, count)?.into_stream();
             let count = own.len();
             cut_inner(
                 alloc, shape, below, mode, &place, children, bins, &mut own, count, jobs,
@@ -323,10 +323,10 @@ pub fn cut<V: Merge>(
     mode: Mode,
 ) -> Result<(Holed<V>, Vec<Job<V>>), AllocError>
     requires { (1 ≤ depth) × (depth ≤ DEEPEST_CUT) }
-    ensures pieces { IfOk result (λ cut. IsCut cut.0 cut.1.items tree_number tree packet depth mode) }
-    ensures stand { IfOk result (λ _. StandInHoles tree.0 (cut tree_number tree.0 tree.1 packet depth mode)) }
-    ensures rise { IfOk result (λ _. PlacesRise (cut tree_number tree.0 tree.1 packet depth mode)) }
-    ensures fills { IfOk result (λ _. FillsUp (effect_of V.merged) tree.0 tree.1 packet mode (cut tree_number tree.0 tree.1 packet depth mode)) }
+    ensures pieces { IfOk result (λ cut. IsCut (weigh_of V.terms) cut.0 cut.1.items tree_number tree packet depth mode) }
+    ensures stand { IfOk result (λ _. StandInHoles (weigh_of V.terms) tree.0 (cut (weigh_of V.terms) tree_number tree.0 tree.1 packet depth mode)) }
+    ensures rise { IfOk result (λ _. PlacesRise (cut (weigh_of V.terms) tree_number tree.0 tree.1 packet depth mode)) }
+    ensures fills { IfOk result (λ _. FillsUp (meaning_of V.terms) tree.0 tree.1 packet mode (cut (weigh_of V.terms) tree_number tree.0 tree.1 packet depth mode)) }
 {
     let (shape, root) = tree.apart();
     let mut jobs = Vec::new(alloc);

@@ -39,6 +39,11 @@ abbrev pub after_ops : List Op → List Value → List Value
 after_ops [] row = row
 after_ops (op ∷ ops) row = after_ops ops (after_op row op)
 
+-- the argument of an operation: the value that it sets, or the number that it adds
+abbrev pub argument_of : Op → Value
+argument_of (Set place new) = new
+argument_of (Add place n) = value.Int n
+
 -- what an upsert does to the row of its key: operations in turn, and a row to begin with where the key has none
 pub record Change : Type 0 where
   pub base : List Value

@@ -1,5 +1,6 @@
 -- Definitions that only private clauses cite: how the code's values are seen, and the steps of its loops.
 pub mod Additions
+pub mod Arguments
 pub mod Changes
 pub mod Fits
 pub mod Packing

@@ -1,8 +1,9 @@
 //! What an upsert does to the row of its key.
-ghost use Rattle.std.specs.Prelude.{◌≡◌, ◌∷◌, [], IfOk};
+ghost use Rattle.std.specs.Prelude.{◌≡◌, ◌∷◌, [], IfOk, map};
 ghost use Rattle.bt_rowtype.specs.inside.Changes.{ops_of};
 ghost use Rattle.bt_rowtype.specs.Ops as spec;
 
+use crate::arguments::Arguments;
 use crate::copies::clone_all;
 use crate::op::{Op, Ops, apply_ops};
 use crate::packed_row::{Row, copy_row};
@@ -117,6 +118,16 @@ impl Change {
         match &self.work {
             Work::Addition(place, number) => addition(alloc, *place, *number),
             Work::List(ops) => copy_ops(alloc, ops),
+        }
+    }
+
+    /// The arguments of the operations, to go through.
+    pub fn arguments(&self) -> Arguments<'_>
+        ensures { result ≡ map spec.argument_of self.now.ops }
+    {
+        match &self.work {
+            Work::Addition(_, number) => Arguments::of_addition(*number),
+            Work::List(ops) => Arguments::of(ops.as_slice()),
         }
     }
 

@@ -28,6 +28,7 @@
 #![tactic(auto)]
 
 mod addition;
+mod arguments;
 mod bytes;
 mod change;
 mod copies;
@@ -60,6 +61,7 @@ mod value;
 mod value_ref;
 mod values;
 
+pub use arguments::Arguments;
 pub use bytes::Bytes;
 pub use change::{Change, copy_change};
 pub use copies::{TryClone, clone_all};

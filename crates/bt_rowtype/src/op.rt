@@ -25,6 +25,19 @@ pub enum Op {
     Add(usize, i64),
 }
 
+impl Op {
+    // The value that is set, or the number that is added.
+    pub(crate) fn argument(&self) -> ValueRef<'_>
+        ensures value { shown result ≡ spec.argument_of self.now }
+        ensures text { HasText (shown result) }
+    {
+        match self {
+            Op::Set(_, value) => value.as_ref(),
+            Op::Add(_, number) => ValueRef::Int(*number),
+        }
+    }
+}
+
 /// Operations in order.
 pub type Ops = Sequence<Op>;
 

@@ -3,10 +3,50 @@ use Rattle.std.proofs.Common.{[], ◌∷◌, ◌≡◌, refl, codes}
 use Rattle.std.specs.Prelude.{Err, None, Ok, Some}
 use Rattle.bt_rowtype.specs.declared.refusal.Refusal.TheVariants.{Syntax, Unfinished}
 use Rattle.bt_rowtype.specs.declared.filter.Test.TheVariants as test
+use Rattle.bt_rowtype.specs.declared.value.Kind.TheVariants as kind
 use Rattle.bt_rowtype.proofs.offered.OnLiterals.{rowtype_on_literals}
-use Rattle.bt_script.specs.Commands.{build_command, closing_of, command_of, commands, commands_from, filter_of, index_command, index_from, line_step, names_of}
+use Rattle.bt_script.specs.Commands.{build_command, closing_of, command_of, commands, commands_from, column_of, filter_of, form_of, index_command, index_from, line_step, names_of, table_command}
 use Rattle.bt_script.specs.Lines.{behind_words, text_of_lines}
+use Rattle.bt_script.specs.declared.command.Capacity.TheVariants.{Bytes, Messages}
 use Rattle.bt_script.specs.declared.command.Command.TheVariants.{Build, Drain, Drop, Load, Rebuild}
+
+-- buffers of three messages, of 60 bytes, and of the greatest number that is read as one
+pub buffer_of_messages : command_of (codes "table 4 3 2 1 id:int") [] ≡ Some (form_of 4 (Messages 3) 2 1 (record { name = codes "id"; kind = kind.Int } ∷ []))
+unfolding command_of table_command column_of rowtype_on_literals
+buffer_of_messages = refl
+
+pub buffer_of_bytes : command_of (codes "table 4 60b 2 1 id:int") [] ≡ Some (form_of 4 (Bytes 60) 2 1 (record { name = codes "id"; kind = kind.Int } ∷ []))
+unfolding command_of table_command column_of rowtype_on_literals
+buffer_of_bytes = refl
+
+pub most_bytes : command_of (codes "table 4 999999999b 2 1 id:int") [] ≡ Some (form_of 4 (Bytes 999999999) 2 1 (record { name = codes "id"; kind = kind.Int } ∷ []))
+unfolding command_of table_command column_of rowtype_on_literals
+most_bytes = refl
+
+-- no number before the `b`, ten digits, a great letter, two letters, a letter before the number, and bytes where none are measured
+pub letter_alone : command_of (codes "table 4 b 2 1 id:int") [] ≡ None
+unfolding command_of table_command column_of rowtype_on_literals
+letter_alone = refl
+
+pub ten_digits_of_bytes : command_of (codes "table 4 1234567890b 2 1 id:int") [] ≡ None
+unfolding command_of table_command column_of rowtype_on_literals
+ten_digits_of_bytes = refl
+
+pub great_letter : command_of (codes "table 4 60B 2 1 id:int") [] ≡ None
+unfolding command_of table_command column_of rowtype_on_literals
+great_letter = refl
+
+pub two_letters : command_of (codes "table 4 60bb 2 1 id:int") [] ≡ None
+unfolding command_of table_command column_of rowtype_on_literals
+two_letters = refl
+
+pub letter_first : command_of (codes "table 4 b60 2 1 id:int") [] ≡ None
+unfolding command_of table_command column_of rowtype_on_literals
+letter_first = refl
+
+pub leaf_of_bytes : command_of (codes "table 4 3 60b 1 id:int") [] ≡ None
+unfolding command_of table_command column_of rowtype_on_literals
+leaf_of_bytes = refl
 
 -- all parts of an index
 pub whole_index : command_of (codes "index c on city include qty where qty >= 15") []

@@ -1,5 +1,5 @@
 -- The commands of a script.
-use Rattle.std.specs.Prelude.{ℕ, ◌≡◌, ◌==◌, ◌&&◌, ◌<◌, ◌≤◌, ◌+◌, not, Bool, List, [], ◌∷◌, ◌++◌, length, map, filter, take, drop, get_or, nat_le, Option, Some, None, Result, Ok, Err, if◌then◌else◌, codes, option_and_then, option_map, is_some, is_none, fold, ⊤}
+use Rattle.std.specs.Prelude.{ℕ, ◌≡◌, ◌==◌, ◌&&◌, ◌<◌, ◌≤◌, ◌+◌, ◌-◌, not, Bool, List, [], ◌∷◌, ◌++◌, length, map, filter, take, drop, get_or, nat_le, Option, Some, None, Result, Ok, Err, if◌then◌else◌, codes, option_and_then, option_map, is_some, is_none, fold, ⊤}
 use Rattle.std.specs.List.{slice_split}
 use Rattle.std.specs.Cmp.Lexicographic.{pointwise}
 use Rattle.bt_rowtype.specs.Records.{record_of}
@@ -12,6 +12,8 @@ use Rattle.bt_rowtype.specs.declared.schema.Column.{Column}
 use Rattle.bt_rowtype.specs.declared.value.Kind.{Kind}
 use Rattle.bt_rowtype.specs.declared.value.Kind.TheVariants as kind
 use Rattle.bt_script.specs.Lines.{behind_words, is_blank, is_name, lines, name_of_word, number_of_word, text_of_lines, without_return, without_spaces, words}
+use Rattle.bt_script.specs.declared.command.Capacity.{Capacity}
+use Rattle.bt_script.specs.declared.command.Capacity.TheVariants.{Bytes, Messages}
 use Rattle.bt_script.specs.declared.command.Command.{Command}
 use Rattle.bt_script.specs.declared.command.Command.TheVariants.{Batch, Build, Drain, Drop, Get, Image, Index, Load, Rebuild, Scan, Sums, Table}
 use Rattle.bt_script.specs.declared.command.Bounds.{Bounds}
@@ -73,15 +75,23 @@ column_from parts =
 unfoldable pub column_of : List ℕ → Option Column
 column_of word = column_from (slice_split (λ b. b == 58) word)
 
-abbrev pub form_of : ℕ → ℕ → ℕ → ℕ → List Column → Command
+-- the last byte of a word, where it has one
+abbrev pub last_byte : List ℕ → ℕ
+last_byte word = get_or word (length word - 1) 0
+
+-- the capacity of a buffer that a word writes: a number of messages, or with `b` behind it of bytes
+abbrev pub capacity_of_word : List ℕ → Option Capacity
+capacity_of_word word = if last_byte word == 98 then option_map Bytes (number_of_word (take (length word - 1) word)) else option_map Messages (number_of_word word)
+
+abbrev pub form_of : ℕ → Capacity → ℕ → ℕ → List Column → Command
 form_of fanout buffer leaf keys columns = Table (record { fanout = fanout; buffer = buffer; leaf = leaf; keys = keys; columns = columns })
 
--- table, four numbers, and one column or more
+-- table, four numbers, of which the second may have a `b` behind it, and one column or more
 unfoldable pub table_command : List (List ℕ) → Option Command
 table_command ws =
     if nat_le 6 (length ws) then
     option_and_then (λ fanout. option_and_then (λ buffer. option_and_then (λ leaf. option_and_then (λ keys. option_map (form_of fanout buffer leaf keys)
-    (all_some (map column_of (drop 5 ws)))) (number_of_word (word_at ws 4))) (number_of_word (word_at ws 3))) (number_of_word (word_at ws 2))) (number_of_word (word_at ws 1))
+    (all_some (map column_of (drop 5 ws)))) (number_of_word (word_at ws 4))) (number_of_word (word_at ws 3))) (capacity_of_word (word_at ws 2))) (number_of_word (word_at ws 1))
     else None
 
 -- batch, with its messages

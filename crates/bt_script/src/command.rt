@@ -5,13 +5,22 @@ use bt_rowtype::{Columns, Filter, Item, RecordLine, Refusal, Sequence, Text, Tex
 /// The messages of a batch, in order.
 pub type Items<'a> = Sequence<Item<'a>>;
 
+/// How much the buffer of an inner node holds at most.
+#[derive(Clone, Copy, Debug, Drop)]
+pub enum Capacity {
+    /// `C`: so many messages.
+    Messages(u32),
+    /// `Cb`: messages that weigh so many bytes together.
+    Bytes(u32),
+}
+
 /// What a table is made of.
 #[derive(Drop)]
 pub struct TableForm {
     /// The most children of an inner node.
     pub fanout: u32,
-    /// The most messages in the buffer of an inner node.
-    pub buffer: u32,
+    /// The most that the buffer of an inner node holds.
+    pub buffer: Capacity,
     /// The most rows of a leaf.
     pub leaf: u32,
     /// How many of the columns are the key.
@@ -55,7 +64,7 @@ pub struct SumsForm<'a> {
 /// A command.
 #[derive(Drop)]
 pub enum Command<'a> {
-    /// `table F C L K name:kind ..`
+    /// `table F C L K name:kind ..`, with `b` behind C where it is in bytes
     Table(TableForm),
     /// `load` and the text of its block: CSV with a header.
     Load(BlockText<'a>),

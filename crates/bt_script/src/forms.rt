@@ -4,7 +4,7 @@ ghost use Rattle.bt_script.specs.Commands as spec;
 ghost use Rattle.bt_script.specs.Lines as text;
 ghost use Rattle.bt_script.specs.inside.Forms as forms;
 
-use crate::command::{Bounds, Command, IndexForm, Items, SumsForm, TableForm};
+use crate::command::{Bounds, Capacity, Command, IndexForm, Items, SumsForm, TableForm};
 use crate::lines::{
     begins, behind_words, is_word, parse_name, parse_names, parse_number, parts, record_behind,
     without_spaces, word_at,
@@ -59,6 +59,16 @@ fn parse_columns(alloc: Global, words: &[&[u8]]) -> Result<Option<Columns>, Allo
     Ok(Some(columns))
 }
 
+// The capacity of a buffer: a number of messages, or with `b` behind it of bytes.
+fn parse_capacity(word: &[u8]) -> Option<Capacity>
+    ensures { result ≡ spec.capacity_of_word word.now }
+{
+    match word {
+        [digits @ .., b'b'] => parse_number(digits).map(Capacity::Bytes),
+        _ => parse_number(word).map(Capacity::Messages),
+    }
+}
+
 #[tactic(auto, unfolding(crate::specs::Commands::table_command))]
 fn table_command<'a>(alloc: Global, words: &[&[u8]]) -> Result<Option<Command<'a>>, AllocError>
     ensures { IfOk result (λ command. command ≡ spec.table_command (map (λ w. w.now) words.now)) }
@@ -69,7 +79,7 @@ fn table_command<'a>(alloc: Global, words: &[&[u8]]) -> Result<Option<Command<'a
     let Some(fanout) = parse_number(word_at(words, 1)) else {
         return Ok(None);
     };
-    let Some(buffer) = parse_number(word_at(words, 2)) else {
+    let Some(buffer) = parse_capacity(word_at(words, 2)) else {
         return Ok(None);
     };
     let Some(leaf) = parse_number(word_at(words, 3)) else {

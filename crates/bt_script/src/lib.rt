@@ -24,7 +24,7 @@ mod parse;
 mod streams;
 mod words;
 
-pub use command::{Bounds, Command, IndexForm, Items, Parsed, SumsForm, TableForm};
+pub use command::{Bounds, Capacity, Command, IndexForm, Items, Parsed, SumsForm, TableForm};
 pub use counted::Counted;
 pub use load::BlockText;
 pub use parse::parse_command;

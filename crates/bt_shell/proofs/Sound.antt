@@ -7,7 +7,6 @@ use Rattle.bt_rowtype.specs.Ops.{unless}
 use Rattle.bt_rowtype.specs.declared.schema.Column.{Column}
 use Rattle.bt_rowtype.specs.declared.refusal.Refusal.{Refusal}
 use Rattle.bt_rowtype.specs.declared.refusal.Refusal.TheVariants.{BadSchema, BadShape, TableExists}
-use Rattle.bt_node.specs.Shapes.{is_shape}
 use Rattle.bt_script.specs.Commands.{Answer}
 use Rattle.bt_script.specs.declared.command.Command.{Command}
 use Rattle.bt_script.specs.declared.command.Command.TheVariants.{Batch, Build, Drain, Drop, Get, Image, Index, Load, Rebuild, Scan, Sums, Table}
@@ -18,7 +17,7 @@ use Rattle.bt_fanout.specs.Entries.{Definition}
 use Rattle.bt_fanout.proofs.offered.Definitions.{definition_suits}
 use Rattle.bt_shell.specs.Replies.{count_line}
 use Rattle.bt_shell.specs.Runs.{after_commands}
-use Rattle.bt_shell.specs.Steps.{Done, State, checked, created, definition_of, done_or_refused, form_refusals, outcome, seen, table_of, told, turn}
+use Rattle.bt_shell.specs.Steps.{Done, State, checked, created, definition_of, done_or_refused, form_refusals, is_allowed, outcome, seen, shape_of, table_of, told, turn}
 use Rattle.bt_table.specs.Batches.{one_if}
 use Rattle.bt_table.specs.Calls as call
 use Rattle.bt_table.specs.Calls.{name_refusals, step}
@@ -55,10 +54,10 @@ when_allowed None done sound = sound refl
 form_keeps_sound : (state : State) (form : TableForm) → IsSoundAfter (outcome state (Table form))
 form_keeps_sound state form =
     when_allowed (least (form_refusals state form)) (Some (table_of form), count_line (codes "table ") (length form.columns)) (λ none.
-    let allowed = shape_allowed _ (is_schema form.columns form.keys) (is_shape form.fanout form.buffer form.leaf) none in
-    let few = few_keys form.columns form.keys (schema_allowed _ (is_schema form.columns form.keys) (is_shape form.fanout form.buffer form.leaf) none) in
-    empty_is_sound (record { columns = form.columns; keys = form.keys }) (record { fanout = form.fanout; buffer = form.buffer; leaf = form.leaf }) few
-    (shape_is_roomy (record { fanout = form.fanout; buffer = form.buffer; leaf = form.leaf }) allowed))
+    let shape = shape_of form.fanout form.buffer form.leaf in
+    let allowed = shape_allowed _ (is_schema form.columns form.keys) (is_allowed shape) none in
+    let few = few_keys form.columns form.keys (schema_allowed _ (is_schema form.columns form.keys) (is_allowed shape) none) in
+    empty_is_sound (record { columns = form.columns; keys = form.keys }) shape few (shape_is_roomy shape allowed))
 
 told_keeps_sound : (after : Result (TableState × Reply) Refusal) → IfOk after (λ (step : TableState × Reply). IsSound step.0) → IsSoundAfter (told after)
 told_keeps_sound (Ok step) sound = sound

@@ -9,6 +9,7 @@ use Rattle.bt_rowtype.specs.declared.value.Kind.TheVariants as kind
 use Rattle.bt_rowtype.specs.declared.value.Value.TheVariants as value
 use Rattle.bt_rowtype.proofs.offered.OnLiterals.{rowtype_on_literals}
 use Rattle.bt_messages.specs.declared.message.Message.TheVariants as message
+use Rattle.bt_script.specs.declared.command.Capacity.TheVariants.{Messages}
 use Rattle.bt_script.specs.Commands.{bounds_of, closing_of, column_of, command_of, commands_from, form_of, index_command, item_of_line, items_of, line_step, names_of, sums_command, table_command}
 use Rattle.bt_keycode.specs.Codes.{eight_bytes}
 use Rattle.bt_node.specs.Trees.{inner, leaf, node, none}
@@ -37,7 +38,7 @@ date_column = refl
 
 -- a table with two key columns
 pub two_key_columns : command_of (codes "table 4 3 2 2 id:int ok:flag") []
-    ≡ Some (form_of 4 3 2 2 (record { name = codes "id"; kind = kind.Int } ∷ record { name = codes "ok"; kind = kind.Flag } ∷ []))
+    ≡ Some (form_of 4 (Messages 3) 2 2 (record { name = codes "id"; kind = kind.Int } ∷ record { name = codes "ok"; kind = kind.Flag } ∷ []))
 unfolding command_of table_command column_of rowtype_on_literals
 two_key_columns = refl
 
@@ -138,6 +139,24 @@ pub capacity_is_not_over : run (codes "table 4 3 2 1 id:int qty:int\nbatch\nput 
     ≡ codes "table 2\nbatch 4\nbatch 3\nimage primary height 2\ninner 2 3\n  ~ 8000000000000001 add,qty,5\n  ~ 8000000000000001 add,qty,5\n  + 8000000000000004 4,0\n  leaf 2\n    = 8000000000000001 1,10\n    = 8000000000000002 2,20\n  | 8000000000000003\n  leaf 2\n    = 8000000000000003 3,30\n    = 8000000000000004 4,40\nend\nrow 1,20\n"
 unfolding replies commands_from line_step closing_of command_of bounds_of items_of item_of_line column_of table_command eight_bytes rowtype_on_literals
 capacity_is_not_over = refl
+
+-- buffers in bytes: 25 and 25 stay, of 25 and 44 the right child is flushed, and of 50 and 27 the left one, though three messages are pending for the right one
+pub buffer_in_bytes : run (codes "table 4 60b 2 1 id:int qty:int\nbatch\nput 1,10\nput 2,20\nput 3,30\nput 4,40\nend\nbatch\nput 1,11\nput 4,41\nend\nimage primary\nbatch\nups 3,add,qty,1\nend\nimage primary\nbatch\nput 2,21\ndel 3\ndel 4\ndel 3\nend\nimage primary\n")
+    ≡ codes "table 2\nbatch 4\nbatch 2\nimage primary height 2\ninner 2 2\n  + 8000000000000001 1,11\n  + 8000000000000004 4,41\n  leaf 2\n    = 8000000000000001 1,10\n    = 8000000000000002 2,20\n  | 8000000000000003\n  leaf 2\n    = 8000000000000003 3,30\n    = 8000000000000004 4,40\nend\nbatch 1\nimage primary height 2\ninner 2 1\n  + 8000000000000001 1,11\n  leaf 2\n    = 8000000000000001 1,10\n    = 8000000000000002 2,20\n  | 8000000000000003\n  leaf 2\n    = 8000000000000003 3,31\n    = 8000000000000004 4,41\nend\nbatch 4\nimage primary height 2\ninner 2 3\n  - 8000000000000003\n  - 8000000000000003\n  - 8000000000000004\n  leaf 2\n    = 8000000000000001 1,11\n    = 8000000000000002 2,21\n  | 8000000000000003\n  leaf 2\n    = 8000000000000003 3,31\n    = 8000000000000004 4,41\nend\n"
+unfolding replies commands_from line_step closing_of command_of bounds_of items_of item_of_line column_of table_command eight_bytes rowtype_on_literals
+buffer_in_bytes = refl
+
+-- of equal weights the left child is flushed
+pub bytes_over_capacity : run (codes "table 4 49b 2 1 id:int qty:int\nbatch\nput 1,10\nput 2,20\nput 3,30\nput 4,40\nend\nbatch\nput 1,12\nput 4,42\nend\nimage primary\n")
+    ≡ codes "table 2\nbatch 4\nbatch 2\nimage primary height 2\ninner 2 1\n  + 8000000000000004 4,42\n  leaf 2\n    = 8000000000000001 1,12\n    = 8000000000000002 2,20\n  | 8000000000000003\n  leaf 2\n    = 8000000000000003 3,30\n    = 8000000000000004 4,40\nend\n"
+unfolding replies commands_from line_step closing_of command_of bounds_of items_of item_of_line column_of table_command eight_bytes rowtype_on_literals
+bytes_over_capacity = refl
+
+-- what is no capacity of a buffer, and what is none within the limits
+pub refusals_of_buffers : run (codes "table 4 b 2 1 id:int\ntable 4 60B 2 1 id:int\ntable 4 60bb 2 1 id:int\ntable 4 b60 2 1 id:int\ntable 4 -60b 2 1 id:int\ntable 4 1234567890b 2 1 id:int\ntable 4 60 b 2 1 id:int\ntable 4b 3 2 1 id:int\ntable 4 3 2b 1 id:int\ntable 4 3 2 1b id:int\ntable 4 0b 2 1 id:int\ntable 4 000000000b 2 1 id:int\ntable 4 1048577b 2 1 id:int\ntable 4 999999999b 2 1 id:int\ntable 4 4097 2 1 id:int\ntable 3 60b 2 1 id:int\ntable 4 60b 1 1 id:int\ntable 4 0b 2 1 id:int id:int\ntable 4 001048576b 2 1 id:int\ntable 4 60b 2 1 id:int\ntable 4 60bb 2 1 id:int\n")
+    ≡ codes "refused 1 Syntax\nrefused 1 Syntax\nrefused 1 Syntax\nrefused 1 Syntax\nrefused 1 Syntax\nrefused 1 Syntax\nrefused 1 Syntax\nrefused 1 Syntax\nrefused 1 Syntax\nrefused 1 Syntax\nrefused 20 BadShape\nrefused 20 BadShape\nrefused 20 BadShape\nrefused 20 BadShape\nrefused 20 BadShape\nrefused 20 BadShape\nrefused 20 BadShape\nrefused 5 BadSchema\ntable 1\nrefused 4 TableExists\nrefused 1 Syntax\n"
+unfolding replies commands_from line_step closing_of command_of bounds_of items_of item_of_line column_of table_command eight_bytes rowtype_on_literals
+refusals_of_buffers = refl
 
 -- an addition holds at both ends of 64 bits, and a new key begins with its default row
 pub adds_saturate : run (codes "table 4 3 2 1 id:int qty:int\nbatch\nput 1,9223372036854775807\nput 2,-9223372036854775808\nend\nbatch\nups 1,add,qty,1\nups 2,add,qty,-1\nups 9,add,qty,1\nend\nscan primary\ngo\n")

@@ -1,11 +1,15 @@
 -- What a command does to the table, what it is answered, and why it is refused.
-use Rattle.std.specs.Prelude.{ℕ, not, List, ◌++◌, length, Option, Some, None, is_some, Result, Ok, Err, codes}
+use Rattle.std.specs.Prelude.{ℕ, not, Bool, List, ◌++◌, length, Option, Some, None, is_some, Result, Ok, Err, codes}
 use Rattle.bt_rowtype.specs.Refusals.{least, lesser}
 use Rattle.bt_rowtype.specs.Schemas.{is_schema}
 use Rattle.bt_rowtype.specs.declared.refusal.Refusal.{Refusal}
 use Rattle.bt_rowtype.specs.declared.refusal.Refusal.TheVariants.{BadSchema, BadShape, Failed, NoTable, TableExists}
+use Rattle.bt_messages.specs.declared.measure.Measure.TheVariants as measure
 use Rattle.bt_node.specs.Shapes.{is_shape}
+use Rattle.bt_node.specs.Trees.{Shape}
 use Rattle.bt_script.specs.Commands.{Answer}
+use Rattle.bt_script.specs.declared.command.Capacity.{Capacity}
+use Rattle.bt_script.specs.declared.command.Capacity.TheVariants.{Bytes, Messages}
 use Rattle.bt_script.specs.declared.command.Command.{Command}
 use Rattle.bt_script.specs.declared.command.Command.TheVariants.{Batch, Build, Drain, Drop, Get, Image, Index, Load, Rebuild, Scan, Sums, Table}
 use Rattle.bt_script.specs.declared.command.IndexForm.{IndexForm}
@@ -30,14 +34,24 @@ State = Option TableState
 abbrev pub Done : Type 0
 Done = State × List ℕ
 
+-- how large nodes may be whose buffers have this capacity
+abbrev pub shape_of : ℕ → Capacity → ℕ → Shape
+shape_of fanout (Messages most) leaf = record { fanout = fanout; buffer = most; leaf = leaf; measure = measure.Messages }
+shape_of fanout (Bytes most) leaf = record { fanout = fanout; buffer = most; leaf = leaf; measure = measure.Bytes }
+
+-- whether a shape is within the limits
+abbrev pub is_allowed : Shape → Bool
+is_allowed shape = is_shape shape.measure shape.fanout shape.buffer shape.leaf
+
 -- the refusals that apply to making a table
 abbrev pub form_refusals : State → TableForm → List Refusal
 form_refusals state form =
-    one_if (is_some state) TableExists ++ (one_if (not (is_schema form.columns form.keys)) BadSchema ++ one_if (not (is_shape form.fanout form.buffer form.leaf)) BadShape)
+    one_if (is_some state) TableExists
+    ++ (one_if (not (is_schema form.columns form.keys)) BadSchema ++ one_if (not (is_allowed (shape_of form.fanout form.buffer form.leaf))) BadShape)
 
 -- what a table is made of
 abbrev pub table_of : TableForm → TableState
-table_of form = Intact (empty_table (record { columns = form.columns; keys = form.keys }) (record { fanout = form.fanout; buffer = form.buffer; leaf = form.leaf }))
+table_of form = Intact (empty_table (record { columns = form.columns; keys = form.keys }) (shape_of form.fanout form.buffer form.leaf))
 
 -- a call on the table, in text
 abbrev pub told : Result (TableState × Reply) Refusal → Result Done Refusal

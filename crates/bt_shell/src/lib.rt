@@ -23,8 +23,8 @@ mod workforce;
 
 pub use bt_gang::{Crew, Gate, NoGate};
 pub use bt_script::{
-    BlockText, Bounds, Command, Counted, IndexForm, Items, Parsed, RunFault, SCRIPT_LIMIT,
-    SumsForm, TableForm, Words, WordsError, parse_command, read_words,
+    BlockText, Bounds, Capacity, Command, Counted, IndexForm, Items, Parsed, RunFault,
+    SCRIPT_LIMIT, SumsForm, TableForm, Words, WordsError, parse_command, read_words,
 };
 pub use bt_table::{Alone, Workforce};
 pub use entry::{ProgramFault, program};

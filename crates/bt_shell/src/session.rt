@@ -1,5 +1,5 @@
 //! The table between commands, and the reply to each.
-ghost use Rattle.std.specs.Prelude.{◌≡◌, ◌<◌, ◌≤◌, Ok, IfErr, IfOk, IfNone, IfSome, OnOk, [], drop, length};
+ghost use Rattle.std.specs.Prelude.{◌≡◌, ◌<◌, ◌≤◌, false, true, Ok, IfErr, IfOk, IfNone, IfSome, OnOk, [], drop, length};
 ghost use Rattle.bt_script.specs.Commands.{commands};
 ghost use Rattle.bt_script.specs.declared.command.Command.TheVariants as command;
 ghost use Rattle.bt_shell.specs.inside.Turns.{IsDone, IsRefused, IsTurn};
@@ -15,10 +15,23 @@ use bt_fanout::IndexDef;
 use bt_node::Shape;
 use bt_rowtype::{RecordLine, Refusal, Schema, Text, least_with};
 use bt_script::{
-    BlockText, Bounds, Command, IndexForm, Items, Parsed, SumsForm, TableForm, parse_command,
+    BlockText, Bounds, Capacity, Command, IndexForm, Items, Parsed, SumsForm, TableForm,
+    parse_command,
 };
 use bt_table::Table;
 use std::alloc::{AllocError, Global};
+
+// A shape whose buffers have this capacity, within the limits.
+fn shape_of(fanout: u32, buffer: Capacity, leaf: u32) -> Result<Shape, Refusal>
+    ensures ok { IfOk result (λ shape. shape ≡ step.shape_of fanout buffer leaf) }
+    ensures allowed { IfOk result (λ _. step.is_allowed (step.shape_of fanout buffer leaf) ≡ true) }
+    ensures refused { IfErr result (λ e. (e ≡ Refusal.BadShape) × (step.is_allowed (step.shape_of fanout buffer leaf) ≡ false)) }
+{
+    match buffer {
+        Capacity::Messages(most) => Shape::new(fanout, most, leaf),
+        Capacity::Bytes(most) => Shape::weighed(fanout, most, leaf),
+    }
+}
 
 // Makes the table.
 fn create_table(
@@ -36,7 +49,7 @@ fn create_table(
     let Ok(schema) = Schema::new(form.columns, form.keys as usize) else {
         return Err(Refusal::BadSchema);
     };
-    let shape = Shape::new(form.fanout, form.buffer, form.leaf)?;
+    let shape = shape_of(form.fanout, form.buffer, form.leaf)?;
     drop(table.replace(Table::new(alloc, schema, shape)));
     Ok(count_reply(alloc, b"table ", count)?)
 }

@@ -18,7 +18,7 @@ use Rattle.bt_node.proofs.offered.PackedTrees.{packed-has_shape, packed-holds}
 use Rattle.bt_node.proofs.offered.ShapedTrees.{sunk-has_shape, sunk-holds}
 use Rattle.bt_fanout.specs.Covers.{is_covered, next_rows, wider}
 use Rattle.bt_fanout.specs.Definitions.{kinds_of}
-use Rattle.bt_fanout.specs.Effects.{EntryMessage, SuitsEffect, effects_of, effects_within, entry_effect, row_effect, sent_for_all}
+use Rattle.bt_fanout.specs.Effects.{EntryMessage, SuitsEffect, effects_of, effects_within, entry_effect, entry_meaning, row_effect, sent_for_all}
 use Rattle.bt_fanout.specs.Entries.{Definition, IsWithin, StandsUnder, SuitsKinds, entry_of}
 use Rattle.bt_fanout.specs.Promises.{SuitsRows, Turns, index_of, own_puts}
 use Rattle.bt_fanout.specs.Selections as selection
@@ -87,8 +87,8 @@ module _ (schema : Schema) (shape : Shape) (rows : Rows (List Value)) (batch : R
         suits = sound.suits;
         keys = sound.keys;
         shaped = sound.shaped;
-        tree = subst (λ s. HasShape shape (sunk entry_effect s index.tree.1 packet)) (sym sound.shaped) (sunk-has_shape entry_effect shape index.tree.1 sound.tree packet);
-        held = ap (λ s. holds entry_effect (sunk entry_effect s index.tree.1 packet)) sound.shaped ∙ sunk-holds entry_effect shape index.tree.1 sound.tree packet
+        tree = subst (λ s. HasShape entry_meaning.weigh shape (sunk entry_meaning s index.tree.1 packet)) (sym sound.shaped) (sunk-has_shape entry_meaning shape index.tree.1 sound.tree packet);
+        held = ap (λ s. holds entry_effect (sunk entry_meaning s index.tree.1 packet)) sound.shaped ∙ sunk-holds entry_meaning shape index.tree.1 sound.tree packet
             ∙ ap (rows_after entry_effect packet) sound.held
             ∙ subst (λ p. rows_after entry_effect p (index_of index.def index.cover rows) ≡ index_of index.def index.cover (rows_after row_effect batch rows)) turned.messages turned.index;
       }
@@ -123,8 +123,8 @@ module _ (schema : Schema) (shape : Shape) (rows : Rows (List Value)) (sorted : 
         suits = sound.suits;
         keys = sound.keys;
         shaped = sound.shaped;
-        tree = subst (λ s. HasShape shape (sunk entry_effect s index.tree.1 packet)) (sym sound.shaped) (sunk-has_shape entry_effect shape index.tree.1 sound.tree packet);
-        held = ap (λ s. holds entry_effect (sunk entry_effect s index.tree.1 packet)) sound.shaped ∙ sunk-holds entry_effect shape index.tree.1 sound.tree packet
+        tree = subst (λ s. HasShape entry_meaning.weigh shape (sunk entry_meaning s index.tree.1 packet)) (sym sound.shaped) (sunk-has_shape entry_meaning shape index.tree.1 sound.tree packet);
+        held = ap (λ s. holds entry_effect (sunk entry_meaning s index.tree.1 packet)) sound.shaped ∙ sunk-holds entry_meaning shape index.tree.1 sound.tree packet
             ∙ ap (rows_after entry_effect packet) sound.held ∙ step_builds index.def (kinds_of schema.columns) rows sorted (stands index sound.keys) n index.cover;
       }
 
@@ -157,8 +157,8 @@ module _ (schema : Schema) (shape : Shape) (rows : Rows (List Value)) (sorted : 
           suits = sound.suits;
           keys = sound.keys;
           shaped = sound.shaped;
-          tree = subst (λ (s : Shape). HasShape {M = EntryMessage} shape (packed s entries)) (sym sound.shaped) (packed-has_shape EntryMessage shape sound.tree.roomy entries rising);
-          held = ap (λ (s : Shape). holds entry_effect (packed s entries)) sound.shaped ∙ packed-holds EntryMessage shape sound.tree.roomy entries rising entry_effect
+          tree = subst (λ (s : Shape). HasShape entry_meaning.weigh shape (packed s entries)) (sym sound.shaped) (packed-has_shape entry_meaning.weigh shape sound.tree.roomy entries rising);
+          held = ap (λ (s : Shape). holds entry_effect (packed s entries)) sound.shaped ∙ packed-holds entry_meaning.weigh shape sound.tree.roomy entries rising entry_effect
               ∙ sym (of_whole index.def index.cover rows whole);
         }
 

@@ -3,8 +3,7 @@ use Rattle.std.proofs.Common.{ℕ, arith, ◌+◌, ◌≡◌, ◌∙◌, ◌++�
 use Rattle.std.specs.FinMap.{is_sorted}
 use Rattle.std.specs.List.{filter_map, list_all}
 use Rattle.std.specs.Result.{result_ok}
-use Rattle.bt_messages.specs.declared.message.Message.{Message}
-use Rattle.bt_rowtype.specs.Ops.{Change, after_ops, default_row, upsert_as}
+use Rattle.bt_rowtype.specs.Ops.{after_ops, default_row, upsert_as}
 use Rattle.bt_rowtype.specs.inside.Fits.{OpsFit}
 use Rattle.bt_rowtype.specs.Schemas.{Schema, fit_columns}
 use Rattle.bt_rowtype.specs.Values.{AreInRange, read_as}
@@ -19,11 +18,11 @@ use Rattle.bt_keycode.proofs.offered.Ranges.{OpsInRange, after_ops_in_range, def
 use Rattle.bt_keycode.specs.Keys.{key_cmp}
 use Rattle.bt_node.specs.Fits.{HasShape}
 use Rattle.bt_node.specs.Flushes.{holds}
-use Rattle.bt_node.specs.Messages.{Rows, rows_after}
+use Rattle.bt_node.specs.Messages.{Meaning, Rows, rows_after}
 use Rattle.bt_node.specs.Trees.{Shape, Tree}
 use Rattle.bt_node.proofs.offered.PackedTrees.{drained-has_shape, drained-holds, packed-has_shape, packed-holds, rebuilt-has_shape, rebuilt-holds}
 use Rattle.bt_node.proofs.offered.ShapedTrees.{holds-sorted}
-use Rattle.bt_fanout.specs.Effects.{entry_effect, row_effect}
+use Rattle.bt_fanout.specs.Effects.{entry_effect, entry_meaning, row_effect, row_meaning}
 use Rattle.bt_rowtype.specs.declared.item.Item.{Item}
 use Rattle.bt_rowtype.specs.declared.item.Item.TheVariants.{Put, Del, Ups}
 use Rattle.bt_table.specs.Batches.{del_of, made, messages_of, one_if, put_of, read_batch, read_key, read_message, ups_of}
@@ -95,7 +94,7 @@ batch_of_schema schema items = lines_of_schema schema 1 items
 
 -- the rows of a sound table rise by their keys
 pub rows_sorted : (table : PlainTable) → IsSoundTable table → T (is_sorted key_cmp table.rows)
-rows_sorted table sound = subst (λ rows. T (is_sorted key_cmp rows)) sound.held (holds-sorted row_effect table.shape table.tree sound.tree)
+rows_sorted table sound = subst (λ rows. T (is_sorted key_cmp rows)) sound.held (holds-sorted row_meaning table.shape table.tree sound.tree)
 
 pub batch_keeps_sound : (table : PlainTable) (batch : RowMessages) → AreOfSchema table.schema batch → IsSoundTable table → IsSoundTable (after_batch table batch)
 batch_keeps_sound table batch fit sound =
@@ -148,26 +147,26 @@ none_building false false allowed = absurd cc
 pub with_rows-sound : (table : PlainTable) (rows : Rows (List Value)) → AllStand table.schema rows → T (is_sorted key_cmp rows) → list_all is_complete table.indexes ≡ true → IsSoundTable table
     → IsSoundTable (with_rows table rows)
 with_rows-sound table rows stand sorted complete sound = record {
-  tree = packed-has_shape (Message (List Value) Change) table.shape sound.tree.roomy rows sorted;
-  held = packed-holds (Message (List Value) Change) table.shape sound.tree.roomy rows sorted row_effect;
+  tree = packed-has_shape row_meaning.weigh table.shape sound.tree.roomy rows sorted;
+  held = packed-holds row_meaning.weigh table.shape sound.tree.roomy rows sorted row_effect;
   rows = stand;
   keys = sound.keys;
   indexes = all_packed-sound table.schema table.shape rows sorted stand table.rows table.indexes sound.indexes complete;
 }
 
-module _ {V M : Type 0} (effect : Option V → M → Option V) (shape : Shape) (t : Tree V M) (has : HasShape shape t) where
-  pub renewed-has_shape : (upkeep : Upkeep) → HasShape shape (renewed upkeep effect shape t)
-  renewed-has_shape Draining = drained-has_shape effect shape t has
-  renewed-has_shape Rebuilding = rebuilt-has_shape effect shape t has
+module _ {V M : Type 0} (meaning : Meaning V M) (shape : Shape) (t : Tree V M) (has : HasShape meaning.weigh shape t) where
+  pub renewed-has_shape : (upkeep : Upkeep) → HasShape meaning.weigh shape (renewed upkeep meaning shape t)
+  renewed-has_shape Draining = drained-has_shape meaning shape t has
+  renewed-has_shape Rebuilding = rebuilt-has_shape meaning shape t has
 
-  pub renewed-holds : (upkeep : Upkeep) → holds effect (renewed upkeep effect shape t) ≡ holds effect t
-  renewed-holds Draining = drained-holds effect shape t has
-  renewed-holds Rebuilding = rebuilt-holds effect shape t has
+  pub renewed-holds : (upkeep : Upkeep) → holds meaning.effect (renewed upkeep meaning shape t) ≡ holds meaning.effect t
+  renewed-holds Draining = drained-holds meaning shape t has
+  renewed-holds Rebuilding = rebuilt-holds meaning shape t has
 
 pub with_renewed_rows-sound : (upkeep : Upkeep) (table : PlainTable) → IsSoundTable table → IsSoundTable (with_renewed_rows upkeep table)
 with_renewed_rows-sound upkeep table sound = record {
-  tree = renewed-has_shape row_effect table.shape table.tree sound.tree upkeep;
-  held = renewed-holds row_effect table.shape table.tree sound.tree upkeep ∙ sound.held;
+  tree = renewed-has_shape row_meaning table.shape table.tree sound.tree upkeep;
+  held = renewed-holds row_meaning table.shape table.tree sound.tree upkeep ∙ sound.held;
   rows = sound.rows;
   keys = sound.keys;
   indexes = sound.indexes;
@@ -179,8 +178,8 @@ renewed_index-sound upkeep schema shape rows index sound = record {
   suits = sound.suits;
   keys = sound.keys;
   shaped = sound.shaped;
-  tree = subst (λ (s : Shape). HasShape shape (renewed upkeep entry_effect s index.tree.1)) (sym sound.shaped) (renewed-has_shape entry_effect shape index.tree.1 sound.tree upkeep);
-  held = ap (λ (s : Shape). holds entry_effect (renewed upkeep entry_effect s index.tree.1)) sound.shaped ∙ renewed-holds entry_effect shape index.tree.1 sound.tree upkeep ∙ sound.held;
+  tree = subst (λ (s : Shape). HasShape entry_meaning.weigh shape (renewed upkeep entry_meaning s index.tree.1)) (sym sound.shaped) (renewed-has_shape entry_meaning shape index.tree.1 sound.tree upkeep);
+  held = ap (λ (s : Shape). holds entry_effect (renewed upkeep entry_meaning s index.tree.1)) sound.shaped ∙ renewed-holds entry_meaning shape index.tree.1 sound.tree upkeep ∙ sound.held;
 }
 
 -- a table with a sound index at a place

@@ -17,14 +17,13 @@ use Rattle.bt_load.proofs.offered.Loaded.{loaded-of}
 use Rattle.bt_table.proofs.Loads.{map_of-sorted, map_of-stand}
 use Rattle.bt_messages.specs.Effects.{Rows, rows_after}
 use Rattle.bt_messages.specs.Messages.{Messages, sorted_batch}
-use Rattle.bt_messages.specs.declared.message.Message.{Message}
-use Rattle.bt_rowtype.specs.Ops.{Change, unless}
+use Rattle.bt_rowtype.specs.Ops.{unless}
 use Rattle.bt_node.specs.Drains.{packed}
 use Rattle.bt_node.specs.Flushes.{sunk}
 use Rattle.bt_node.specs.Trees.{Shape, leaf}
 use Rattle.bt_node.proofs.offered.PackedTrees.{packed-holds}
 use Rattle.bt_fanout.specs.Covers.{cover_after, next_rows}
-use Rattle.bt_fanout.specs.Effects.{EntryMessage, SuitsEffect, effects_of, row_effect}
+use Rattle.bt_fanout.specs.Effects.{EntryMessage, SuitsEffect, effects_of, row_effect, row_meaning}
 use Rattle.bt_rowtype.specs.declared.item.Item.{Item}
 use Rattle.bt_table.specs.Batches.{and_then, batch_refusals, made, messages_of, one_if}
 use Rattle.bt_fanout.specs.Entries.{Definition, IsWithin}
@@ -137,13 +136,13 @@ module _ (schema : Schema) (heads : List IndexHead) (kept : Option Trees) (trees
       each_has_packet = ap length packets_are ∙ length-map heads sent_by ∙ sym (ap (λ (t : Trees). length t.entries.items) (same is took) ∙ each_has_tree)
 
       module _ (sent : List SentCount) (sent_are : sent ≡ map (sent_for (effects_of (sorted_batch batch) before.rows)) heads) (new : Trees) (after : Option Trees) (put : after ≡ Some new)
-          (rows_are : new.rows ≡ (taken.rows.0, sunk row_effect taken.rows.0 taken.rows.1 (sorted_batch batch))) (entries_are : new.entries.items ≡ sunk_trees taken.entries.items packets) where
+          (rows_are : new.rows ≡ (taken.rows.0, sunk row_meaning taken.rows.0 taken.rows.1 (sorted_batch batch))) (entries_are : new.entries.items ≡ sunk_trees taken.entries.items packets) where
         trees_are : new.entries.items ≡ sunk_trees trees.entries.items (map sent_by heads)
         trees_are = entries_are ∙ (λ i. sunk_trees (same is took i).entries.items (packets_are i))
 
         stepped_to : held_by schema new.rows (indexes_of heads new.entries.items) ≡ after_batch before batch
         stepped_to =
-            ap (λ t. held_by schema t (indexes_of heads new.entries.items)) (rows_are ∙ ap (λ (t : Trees). (t.rows.0, sunk row_effect t.rows.0 t.rows.1 (sorted_batch batch))) (same is took))
+            ap (λ t. held_by schema t (indexes_of heads new.entries.items)) (rows_are ∙ ap (λ (t : Trees). (t.rows.0, sunk row_meaning t.rows.0 t.rows.1 (sorted_batch batch))) (same is took))
             ∙ stepped schema trees.rows.0 trees.rows.1 indexes (indexes_of heads new.entries.items) batch was_sound.tree
             (ap (indexes_of heads) trees_are
             ∙ sunk_is schema before.shape before.rows batch (rows_sorted before was_sound) was_sound.rows rows_stand heads trees.entries.items was_sound.indexes)
@@ -266,7 +265,7 @@ module _ (schema : Schema) (heads : List IndexHead) (kept : Option Trees) (trees
             ∙ (λ i. record {
               schema = schema;
               shape = trees.rows.0;
-              rows = packed-holds (Message (List Value) Change) trees.rows.0 was_sound.tree.roomy map_is sorted row_effect i;
+              rows = packed-holds row_meaning.weigh trees.rows.0 was_sound.tree.roomy map_is sorted row_effect i;
               tree = packed trees.rows.0 map_is;
               indexes = with_entry_trees schema before.shape map_is sorted stand before.rows heads trees.entries.items each_has_tree was_sound.indexes i;
             })
@@ -292,12 +291,12 @@ module _ (schema : Schema) (heads : List IndexHead) (kept : Option Trees) (trees
       renewed_step = ap (λ s. step s (upkeep_call upkeep name)) state_is ∙ upkeep_step upkeep before name
 
       module _ (taken from new : Trees) (took : kept ≡ Some taken) (whole : kept ≡ Some from) (after : Option Trees) (put : after ≡ Some new)
-          (rows_are : new.rows ≡ (from.rows.0, renewed upkeep row_effect from.rows.0 from.rows.1)) (entries_are : new.entries.items ≡ taken.entries.items) where
+          (rows_are : new.rows ≡ (from.rows.0, renewed upkeep row_meaning from.rows.0 from.rows.1)) (entries_are : new.entries.items ≡ taken.entries.items) where
         rows_to : held_by schema new.rows (indexes_of heads new.entries.items) ≡ with_renewed_rows upkeep before
         rows_to =
             (λ i. held_by schema (rows_are i) (indexes_of heads (entries_are i)))
-            ∙ (λ i. held_by schema ((same is whole i).rows.0, renewed upkeep row_effect (same is whole i).rows.0 (same is whole i).rows.1) (indexes_of heads (same is took i).entries.items))
-            ∙ (λ i. record { schema = schema; shape = trees.rows.0; rows = renewed-holds row_effect trees.rows.0 trees.rows.1 was_sound.tree upkeep i; tree = renewed upkeep row_effect trees.rows.0 trees.rows.1; indexes = indexes })
+            ∙ (λ i. held_by schema ((same is whole i).rows.0, renewed upkeep row_meaning (same is whole i).rows.0 (same is whole i).rows.1) (indexes_of heads (same is took i).entries.items))
+            ∙ (λ i. record { schema = schema; shape = trees.rows.0; rows = renewed-holds row_meaning trees.rows.0 trees.rows.1 was_sound.tree upkeep i; tree = renewed upkeep row_meaning trees.rows.0 trees.rows.1; indexes = indexes })
 
         pub renewed_rows_is_sound : AreSoundParts schema heads after
         renewed_rows_is_sound =

@@ -8,6 +8,7 @@ use Rattle.bt_rowtype.specs.declared.value.Kind.TheVariants as kind
 use Rattle.bt_rowtype.specs.declared.value.Value.TheVariants as value
 use Rattle.bt_rowtype.proofs.offered.OnLiterals.{rowtype_on_literals}
 use Rattle.bt_keycode.specs.Codes.{eight_bytes}
+use Rattle.bt_messages.specs.declared.measure.Measure.TheVariants as measures
 use Rattle.bt_rowtype.specs.declared.item.Item.TheVariants.{Put, Del, Ups}
 use Rattle.bt_table.specs.Batches.{made}
 use Rattle.bt_fanout.specs.Entries.{Definition}
@@ -21,7 +22,7 @@ abbrev stock : Schema
 stock = record { columns = record { name = codes "id"; kind = kind.Int } ∷ record { name = codes "qty"; kind = kind.Int } ∷ []; keys = 1 }
 
 abbrev empty : TableState
-empty = Intact (empty_table stock (record { fanout = 4; buffer = 3; leaf = 2 }))
+empty = Intact (empty_table stock (record { fanout = 4; buffer = 3; leaf = 2; measure = measures.Messages }))
 
 -- what a call is answered
 abbrev reply_of : TableState → Call → Result Reply Refusal

@@ -14,14 +14,14 @@ use Rattle.bt_keycode.specs.Codes.{code_of}
 use Rattle.bt_keycode.specs.Keys.{key_cmp}
 use Rattle.bt_node.specs.Drains.{drained, packed, rebuilt}
 use Rattle.bt_node.specs.Flushes.{holds}
-use Rattle.bt_node.specs.Messages.{Rows}
+use Rattle.bt_node.specs.Messages.{Meaning, Rows}
 use Rattle.bt_node.specs.Trees.{Shape, Tree}
 use Rattle.bt_node.specs.Walks.{is_leaf, rows_of}
 use Rattle.bt_load.specs.Loads.{loaded}
 use Rattle.bt_load.specs.Maps.{map_of}
 use Rattle.bt_rowtype.specs.declared.item.Item.{Item}
 use Rattle.bt_fanout.specs.Covers.{next_rows}
-use Rattle.bt_fanout.specs.Effects.{entry_effect, row_effect}
+use Rattle.bt_fanout.specs.Effects.{entry_effect, entry_meaning, row_effect, row_meaning}
 use Rattle.bt_fanout.specs.Definitions.{kinds_of}
 use Rattle.bt_fanout.specs.Entries.{Definition, SuitsKinds}
 use Rattle.bt_fanout.specs.Promises.{index_of}
@@ -134,17 +134,17 @@ pub data Upkeep : Type 0 where
   Rebuilding : Upkeep
 
 -- a tree after it
-abbrev pub renewed : {V M : Type 0} → Upkeep → (Option V → M → Option V) → Shape → Tree V M → Tree V M
-renewed Draining effect shape t = drained effect shape t
-renewed Rebuilding effect shape t = rebuilt effect shape t
+abbrev pub renewed : {V M : Type 0} → Upkeep → Meaning V M → Shape → Tree V M → Tree V M
+renewed Draining meaning shape t = drained meaning shape t
+renewed Rebuilding meaning shape t = rebuilt meaning.effect shape t
 
 -- an index after it
 abbrev pub renewed_index : Upkeep → Index → Index
-renewed_index upkeep index = with_tree index (index.tree.0, renewed upkeep entry_effect index.tree.0 index.tree.1)
+renewed_index upkeep index = with_tree index (index.tree.0, renewed upkeep entry_meaning index.tree.0 index.tree.1)
 
 -- a table after it was done for the tree of its rows, and for the index that was found at a place
 abbrev pub with_renewed_rows : Upkeep → PlainTable → PlainTable
-with_renewed_rows upkeep table = record table { tree = renewed upkeep row_effect table.shape table.tree }
+with_renewed_rows upkeep table = record table { tree = renewed upkeep row_meaning table.shape table.tree }
 
 abbrev pub with_renewed_index : Upkeep → PlainTable → ℕ × Index → PlainTable
 with_renewed_index upkeep table found = with_index_at table found.0 (renewed_index upkeep found.1)

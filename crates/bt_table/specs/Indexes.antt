@@ -8,7 +8,7 @@ use Rattle.bt_node.specs.Drains.{packed}
 use Rattle.bt_node.specs.Flushes.{sunk}
 use Rattle.bt_node.specs.Trees.{Shape, Tree, leaf}
 use Rattle.bt_fanout.specs.Covers.{cover_after, is_covered, is_whole, next_rows, puts_of}
-use Rattle.bt_fanout.specs.Effects.{EntryMessage, RowMessage, entry_effect, row_effect}
+use Rattle.bt_fanout.specs.Effects.{EntryMessage, RowMessage, entry_meaning, row_effect}
 use Rattle.bt_fanout.specs.Entries.{Definition, entry_of, same_values}
 use Rattle.bt_fanout.specs.Selections.{index_messages, select}
 use Rattle.bt_fanout.specs.declared.cover.Cover.{Cover}
@@ -81,7 +81,7 @@ sent_count index packet = record { name = index.name; count = length packet }
 
 -- an index after a packet
 abbrev pub sunk_index : Index → Messages EntryMessage → Index
-sunk_index index packet = record index { tree = (index.tree.0, sunk entry_effect index.tree.0 index.tree.1 packet) }
+sunk_index index packet = record index { tree = (index.tree.0, sunk entry_meaning index.tree.0 index.tree.1 packet) }
 
 -- indexes after a batch on rows
 abbrev pub indexes_after : Rows (List Value) → Messages RowMessage → List Index → List Index

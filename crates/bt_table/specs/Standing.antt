@@ -10,7 +10,7 @@ use Rattle.bt_node.specs.Flushes.{holds}
 use Rattle.bt_node.specs.Messages.{Rows}
 use Rattle.bt_node.specs.Trees.{Shape}
 use Rattle.bt_fanout.specs.Definitions.{kinds_of}
-use Rattle.bt_fanout.specs.Effects.{entry_effect, row_effect}
+use Rattle.bt_fanout.specs.Effects.{entry_effect, entry_meaning, row_effect, row_meaning}
 use Rattle.bt_fanout.specs.Entries.{Definition, SuitsKinds, entry_of}
 use Rattle.bt_fanout.specs.Promises.{index_of}
 use Rattle.bt_fanout.specs.Selections.{select}
@@ -24,7 +24,7 @@ pub record IsSoundIndex (schema : Schema) (shape : Shape) (rows : Rows (List Val
   pub suits : SuitsKinds index.def (kinds_of schema.columns)
   pub keys : index.def.keys ≡ schema.keys
   pub shaped : index.tree.0 ≡ shape
-  pub tree : HasShape shape index.tree.1
+  pub tree : HasShape entry_meaning.weigh shape index.tree.1
   pub held : holds entry_effect index.tree.1 ≡ index_of index.def index.cover rows
 
 -- an index that is complete holds exactly the entries that its definition selects from the rows
@@ -43,7 +43,7 @@ AreSoundIndexes schema shape rows (index ∷ indexes) = IsSoundIndex schema shap
 
 -- its tree fits its shape and holds its rows, each row stands in its place and is of the schema, whose key columns are columns of it, and its indexes are sound
 pub record IsSoundTable (table : PlainTable) : Type 0 where
-  pub tree : HasShape table.shape table.tree
+  pub tree : HasShape row_meaning.weigh table.shape table.tree
   pub held : holds row_effect table.tree ≡ table.rows
   pub rows : AllStand table.schema table.rows
   pub keys : table.schema.keys ≤ length table.schema.columns

@@ -12,7 +12,7 @@ use Rattle.bt_node.specs.Trees.{Shape, Tree, leaf}
 use Rattle.bt_table.specs.Indexes.{Index, indexes_after, indexes_of}
 use Rattle.bt_table.specs.declared.index.IndexHead.{IndexHead}
 use Rattle.bt_table.specs.declared.trees.Trees.{Trees}
-use Rattle.bt_fanout.specs.Effects.{row_effect}
+use Rattle.bt_fanout.specs.Effects.{row_effect, row_meaning}
 
 -- a message to the key of a row, and messages
 abbrev pub KeyedMessage : Type 0
@@ -50,7 +50,7 @@ held_by schema tree indexes = record { schema = schema; shape = tree.0; rows = h
 abbrev pub after_batch : PlainTable → RowMessages → PlainTable
 after_batch table batch = record table {
   rows = rows_after row_effect batch table.rows;
-  tree = sunk row_effect table.shape table.tree (sorted_batch batch);
+  tree = sunk row_meaning table.shape table.tree (sorted_batch batch);
   indexes = indexes_after table.rows batch table.indexes;
 }
 

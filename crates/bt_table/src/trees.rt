@@ -2,7 +2,7 @@
 ghost use Rattle.std.specs.Prelude.{◌≡◌, ◌≤◌, [], IfOk, IsSome, None, Some, length, vec_capacity};
 ghost use Rattle.std.specs.List.{zip};
 ghost use Rattle.bt_node.specs.Flushes.{sunk};
-ghost use Rattle.bt_fanout.specs.Effects.{row_effect};
+ghost use Rattle.bt_fanout.specs.Effects.{row_meaning};
 ghost use Rattle.bt_table.specs.inside.IndexTrees.{sunk_tree, sunk_trees};
 
 use crate::workforce::Workforce;
@@ -93,7 +93,7 @@ pub(crate) fn sunk_all<T, W: Workforce<T>>(
     requires few { length trees.entries.items ≤ 65535 }
     requires rows_room { (room.rows.items ≡ []) × (1 ≤ vec_capacity room.rows) }
     requires room { (room.entries.items ≡ []) × (length trees.entries.items ≤ vec_capacity room.entries) }
-    ensures rows { IfOk result (λ after. after.rows ≡ (trees.rows.0, sunk row_effect trees.rows.0 trees.rows.1 packet)) }
+    ensures rows { IfOk result (λ after. after.rows ≡ (trees.rows.0, sunk row_meaning trees.rows.0 trees.rows.1 packet)) }
     ensures entries { IfOk result (λ after. after.entries.items ≡ sunk_trees trees.entries.items packets.items) }
 {
     let Room {

@@ -1,9 +1,9 @@
 //! Who works for a table: the caller alone, or a crew.
 ghost use Rattle.std.specs.Prelude.{◌≡◌, ◌≤◌, ◌+◌, ◌++◌, IfErr, IfOk, IsErrOf, OnErr, length};
-ghost use Rattle.bt_messages.specs.Effects.{effect_of};
+ghost use Rattle.bt_messages.specs.Meanings.{meaning_of};
 ghost use Rattle.bt_node.specs.Drains.{drained, rebuilt};
 ghost use Rattle.bt_node.specs.Flushes.{holds};
-ghost use Rattle.bt_fanout.specs.Effects.{effects_within, entry_effect, row_effect};
+ghost use Rattle.bt_fanout.specs.Effects.{effects_within, entry_effect, entry_meaning, row_effect, row_meaning};
 ghost use Rattle.bt_gather.specs.Rounds.{all_sunk};
 ghost use Rattle.bt_rowtype.specs.declared.refusal.Refusal.TheVariants as refusal;
 ghost use Rattle.bt_table.specs.Calls.{IsRefused, IsStep, Load};
@@ -54,13 +54,13 @@ pub trait Workforce<T> {
     ) -> Result<(Vec<Tree<Row>>, Vec<Tree<Entry>>), AllocError>
         requires ready { accepts self.now }
         requires few { length rows.items + length entries.items ≤ 65536 }
-        ensures rows { IfOk result (λ trees. trees.0.items ≡ all_sunk row_effect rows.items) }
-        ensures entries { IfOk result (λ trees. trees.1.items ≡ all_sunk entry_effect entries.items) };
+        ensures rows { IfOk result (λ trees. trees.0.items ≡ all_sunk row_meaning rows.items) }
+        ensures entries { IfOk result (λ trees. trees.1.items ≡ all_sunk entry_meaning entries.items) };
 
     /// A tree of rows when all its messages have gone down to the leaves. An `Err` keeps nothing of it.
     fn drain_rows(&self, rt: &T, alloc: Global, tree: Tree<Row>) -> Result<Tree<Row>, AllocError>
         requires ready { accepts self.now }
-        ensures tree { IfOk result (λ dry. dry ≡ (tree.0, drained row_effect tree.0 tree.1)) };
+        ensures tree { IfOk result (λ dry. dry ≡ (tree.0, drained row_meaning tree.0 tree.1)) };
 
     /// An index's tree when all its messages have gone down to the leaves. An `Err` keeps nothing of it.
     fn drain_entries(
@@ -70,7 +70,7 @@ pub trait Workforce<T> {
         tree: Tree<Entry>,
     ) -> Result<Tree<Entry>, AllocError>
         requires ready { accepts self.now }
-        ensures tree { IfOk result (λ dry. dry ≡ (tree.0, drained entry_effect tree.0 tree.1)) };
+        ensures tree { IfOk result (λ dry. dry ≡ (tree.0, drained entry_meaning tree.0 tree.1)) };
 
     /// A tree of what a tree of rows holds, packed.
     fn rebuild_rows(&self, rt: &T, alloc: Global, tree: &Tree<Row>) -> Result<Tree<Row>, AllocError>
@@ -107,7 +107,7 @@ fn sink_each<V: Merge>(
     alloc: Global,
     trees: Vec<(Tree<V>, Packet<V>)>,
 ) -> Result<Vec<Tree<V>>, AllocError>
-    ensures { IfOk result (λ sunk. sunk.items ≡ all_sunk (effect_of V.merged) trees.items) }
+    ensures { IfOk result (λ sunk. sunk.items ≡ all_sunk (meaning_of V.terms) trees.items) }
 {
     let mut sunk = Vec::with_capacity(alloc, trees.len())?;
     for (tree, packet) in trees {

@@ -8,6 +8,7 @@ use Rattle.bt_rowtype.specs.declared.value.Value.{Value}
 use Rattle.bt_rowtype.specs.declared.value.Value.TheVariants as value
 use Rattle.bt_rowtype.proofs.offered.OnLiterals.{rowtype_on_literals}
 use Rattle.bt_keycode.specs.Codes.{code_of, eight_bytes}
+use Rattle.bt_messages.specs.declared.measure.Measure.TheVariants as measures
 use Rattle.bt_node.specs.Trees.{leaf}
 use Rattle.bt_fanout.specs.declared.cover.Cover.{Cover}
 use Rattle.bt_fanout.specs.declared.cover.Cover.TheVariants.{UpTo, Whole}
@@ -27,9 +28,9 @@ at_key id qty = (code_of (value.Int (pos id) ∷ []), row id qty 7)
 
 -- the rows 1,20,7 and 2,10,7 and 3,20,7, and an index on qty that includes the place
 abbrev with_cover : Cover → TableState
-with_cover cover = Intact (record (empty_table stock (record { fanout = 4; buffer = 3; leaf = 2 })) {
+with_cover cover = Intact (record (empty_table stock (record { fanout = 4; buffer = 3; leaf = 2; measure = measures.Messages })) {
   rows = at_key 1 20 ∷ at_key 2 10 ∷ at_key 3 20 ∷ [];
-  indexes = record { name = codes "q"; def = record { on = 1 ∷ []; include = 2 ∷ []; condition = None; keys = 1 }; cover = cover; tree = (record { fanout = 4; buffer = 3; leaf = 2 }, leaf []) } ∷ [];
+  indexes = record { name = codes "q"; def = record { on = 1 ∷ []; include = 2 ∷ []; condition = None; keys = 1 }; cover = cover; tree = (record { fanout = 4; buffer = 3; leaf = 2; measure = measures.Messages }, leaf []) } ∷ [];
 })
 
 -- its columns, those of the key, the included ones; by rising qty, and then by key

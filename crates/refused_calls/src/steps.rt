@@ -6,7 +6,7 @@ use crate::marks::{Mark, set_mark};
 use anyhow::{Result, bail};
 use bt_node::Shape;
 use bt_rowtype::{Refusal, Schema, Text};
-use bt_script::{Command, Parsed, TableForm, parse_command};
+use bt_script::{Capacity, Command, Parsed, TableForm, parse_command};
 use bt_shell::ScriptWorkforce;
 use bt_table::Table;
 use bt_view::image;
@@ -23,13 +23,21 @@ pub(crate) struct Stage<'a, R, C> {
     pub(crate) is_rehearsal: bool,
 }
 
+// The shape that a form describes.
+fn shape_of(form: &TableForm) -> Result<Shape, Refusal> {
+    match form.buffer {
+        Capacity::Messages(messages) => Shape::new(form.fanout, messages, form.leaf),
+        Capacity::Bytes(bytes) => Shape::weighed(form.fanout, bytes, form.leaf),
+    }
+}
+
 // The table that a form describes.
 fn table_of(alloc: Global, form: TableForm) -> Result<Table> {
+    let Ok(shape) = shape_of(&form) else {
+        bail!("the sizes make no shape")
+    };
     let Ok(schema) = Schema::new(form.columns, form.keys as usize) else {
         bail!("the columns make no schema")
-    };
-    let Ok(shape) = Shape::new(form.fanout, form.buffer, form.leaf) else {
-        bail!("the sizes make no shape")
     };
     Ok(Table::new(alloc, schema, shape))
 }

@@ -4,13 +4,13 @@ use crate::steps::{Stage, table_after};
 use anyhow::{Result, bail};
 use bt_fanout::{Cover, covers};
 use bt_gang::{Board, Crew, Gate, NoGate};
-use bt_keycode::{Key, cmp_rows, encode};
-use bt_messages::{Buffer, Packet};
+use bt_keycode::{Key, cmp_rows, code_len, encode};
+use bt_messages::{Bins, Buffer, Merge, Message, Packet};
 use bt_node::{Node, Parts, Portion, Shape, Siblings, Tree, Walk};
 use bt_plan::{Holed, Mode, cut, plan};
 use bt_rowtype::{
-    Column, Columns, Fields, Kind, Op, Refusal, Row, Schema, Text, Texts, Value, ValueRef,
-    check_ops,
+    Change, Column, Columns, Fields, Kind, Op, Ops, Refusal, Row, Schema, Text, Texts, Value,
+    ValueRef, check_ops,
 };
 use bt_script::Counted;
 use bt_table::{Alone, Table, TreeRef};
@@ -149,6 +149,7 @@ fn compare_values<R: Print + AllocGlobal>(rt: &R) -> Result<()> {
         "cmp_rows",
         cmp_rows(slice::from_ref(&less), slice::from_ref(&more))
     );
+    compare!(rt, "code_len", code_len(slice::from_ref(&less)));
     Ok(())
 }
 
@@ -176,17 +177,63 @@ fn compare_covers<R: Print + AllocGlobal>(rt: &R, cover: &Cover, key: &Key) -> R
     Ok(())
 }
 
-fn compare_plans<R: Print + AllocGlobal>(rt: &R, counts: &[u64]) -> Result<()> {
-    if counts.len() > 64 {
+// What adds to the quantity of a row.
+fn change(alloc: Global) -> Result<Change, AllocError> {
+    let mut ops = Ops::new(alloc);
+    ops.push(Op::Add(1, 5))?;
+    Change::new(alloc, row(alloc)?, ops)
+}
+
+// One bin with a put of the row.
+fn one_bin(alloc: Global) -> Result<Bins<Row>, AllocError> {
+    let batch = vec![in alloc; (key(alloc, 1)?, Message::Put(row(alloc)?))]?;
+    let mut bins = Bins::new(alloc, 1)?;
+    bins.add(alloc, &[], Packet::from_batch(alloc, batch)?)?;
+    Ok(bins)
+}
+
+fn compare_bins<R: Print + AllocGlobal>(rt: &R, bins: &Bins<Row>) -> Result<()> {
+    if bins.len() == 0 {
+        bail!("there is no bin");
+    }
+    compare!(rt, "Bins::weight", bins.weight(0));
+    Ok(())
+}
+
+fn compare_weights<R: Print + AllocGlobal>(rt: &R, row: &Row, change: &Change) -> Result<()> {
+    compare!(rt, "Merge::weight", row.weight());
+    compare!(rt, "Merge::delta_weight", Row::delta_weight(change));
+    Ok(())
+}
+
+fn compare_weighed<R: Print + AllocGlobal>(
+    rt: &R,
+    key: &Key,
+    message: &Message<Row>,
+) -> Result<()> {
+    compare!(rt, "Message::weight", message.weight(key));
+    Ok(())
+}
+
+fn compare_all_weights<R: Print + AllocGlobal>(rt: &R) -> Result<()> {
+    let alloc = rt.alloc();
+    compare_weights(rt, &row(alloc)?, &change(alloc)?)?;
+    compare_weighed(rt, &key(alloc, 1)?, &Message::Put(row(alloc)?))?;
+    compare_bins(rt, &one_bin(alloc)?)
+}
+
+fn compare_plans<R: Print + AllocGlobal>(rt: &R, loads: &[u128]) -> Result<()> {
+    if loads.len() > 64 {
         bail!("no node has so many children");
     }
-    compare!(rt, "plan", plan(counts, 9).len());
+    compare!(rt, "plan", plan(loads, 9).len());
     Ok(())
 }
 
 fn compare_messages<R: Print + AllocGlobal>(rt: &R) -> Result<()> {
     let alloc = rt.alloc();
     compare_plans(rt, [5, 9, 9].as_slice())?;
+    compare_all_weights(rt)?;
     compare_counts(rt, &Buffer::new(alloc), &Packet::new(alloc))?;
     let cover = Cover::UpTo(key(alloc, 5)?);
     let other = key(alloc, 6)?;
@@ -271,6 +318,12 @@ fn compare_shape<R: Print + AllocGlobal>(rt: &R, tree: &Tree<Row>) -> Result<()>
 fn compare_shapes<R: Print + AllocGlobal>(rt: &R) -> Result<()> {
     compare!(rt, "Shape::new", Shape::new(4, 3, 2).is_ok());
     compare!(rt, "Shape::new, refused", Shape::new(3, 3, 2).is_ok());
+    compare!(rt, "Shape::weighed", Shape::weighed(4, 60, 2).is_ok());
+    compare!(
+        rt,
+        "Shape::weighed, refused",
+        Shape::weighed(4, 0, 2).is_ok()
+    );
     let tree = bare(rt.alloc())?;
     let compared = compare_shape(rt, &tree);
     drop(tree);

@@ -11,12 +11,11 @@ use Rattle.std.specs.List.{All, AllByRecursion as Each}
 use Rattle.std.specs.Ordering.{eq_by_cmp, is_eq, ordering_reverse}
 use Rattle.std.specs.declared.cmp.Ordering.{Ordering}
 use Rattle.std.specs.declared.cmp.Ordering.TheVariants.{Less, Equal, Greater}
-use Rattle.std.specs.declared.option.Option.{Option}
 use Rattle.std.specs.declared.option.Option.TheVariants.{None, Some}
 use Rattle.bt_keycode.proofs.offered.Order.{is_less, total_keys}
 use Rattle.bt_messages.specs.declared.message.Message.{Message}
 use Rattle.bt_node.specs.Fits.{IsInOrder, IsRoomy}
-use Rattle.bt_node.specs.Messages.{Messages}
+use Rattle.bt_node.specs.Messages.{Meaning, Messages}
 use Rattle.bt_node.specs.Trees.{Shape, Siblings, Tree}
 use Rattle.bt_node.specs.declared.mode.Mode.{Mode}
 use Rattle.bt_plan.proofs.offered.Cuts.{Answers, jobs-in_order}
@@ -127,26 +126,26 @@ module _ {V M : Type 0} where
       absurd (less-equal _ less turned)
   one-job (j ∷ js) r a b (inr m) (inr n) tie = one-job js (of_true _ (and_parts _ _ (is_true _ r)).1) a b m n tie
 
-  module _ (effect : Option V → M → Option V) (shape : Shape) (jobs : List (Job V M)) (rise : Rise jobs) where
+  module _ (meaning : Meaning V M) (shape : Shape) (jobs : List (Job V M)) (rise : Rise jobs) where
     -- what stands at the place of a job is what becomes of it
-    stands : (js : List (Job V M)) → Each (λ j. Among j jobs) js → (job : Job V M) → Among job jobs → Answers effect shape (all_done effect shape js) job
+    stands : (js : List (Job V M)) → Each (λ j. Among j jobs) js → (job : Job V M) → Among job jobs → Answers meaning shape (all_done meaning shape js) job
     stands [] are job m xs e = absurd (none-some xs e)
     stands (j ∷ js) are job m xs e = go (stands js are.1 job m xs) (eq_by_cmp place_cmp job.place j.place) refl
       where
         rest : Pieces V M
-        rest = all_done effect shape js
+        rest = all_done meaning shape js
 
-        go : (find place_cmp job.place rest ≡ Some xs → xs ≡ done effect shape job) → (b : Bool) → eq_by_cmp place_cmp job.place j.place ≡ b → xs ≡ done effect shape job
+        go : (find place_cmp job.place rest ≡ Some xs → xs ≡ done meaning shape job) → (b : Bool) → eq_by_cmp place_cmp job.place j.place ≡ b → xs ≡ done meaning shape job
         go later true t =
             let same : job ≡ j = one-job jobs rise job j m are.0 (is_equal _ t) in
-            let there : Some (done effect shape j) ≡ Some xs = sym (cond-true _ (Some (done effect shape j)) (find place_cmp job.place rest) t) ∙ e in
-            sym (same_Some (done effect shape j) xs there) ∙ ap (done effect shape) (sym same)
-        go later false t = later (sym (cond-false _ (Some (done effect shape j)) (find place_cmp job.place rest) t) ∙ e)
+            let there : Some (done meaning shape j) ≡ Some xs = sym (cond-true _ (Some (done meaning shape j)) (find place_cmp job.place rest) t) ∙ e in
+            sym (same_Some (done meaning shape j) xs there) ∙ ap (done meaning shape) (sym same)
+        go later false t = later (sym (cond-false _ (Some (done meaning shape j)) (find place_cmp job.place rest) t) ∙ e)
 
-    all-stand : (js : List (Job V M)) → Each (λ j. Among j jobs) js → All (Answers effect shape (all_done effect shape js)) jobs
+    all-stand : (js : List (Job V M)) → Each (λ j. Among j jobs) js → All (Answers meaning shape (all_done meaning shape js)) jobs
     all-stand js are =
         All-from_recursion _ jobs
-        (each-weaken (λ j. Among j jobs) (Answers effect shape (all_done effect shape js)) (stands js are) jobs (among-themselves jobs))
+        (each-weaken (λ j. Among j jobs) (Answers meaning shape (all_done meaning shape js)) (stands js are) jobs (among-themselves jobs))
 
   -- a piece that stands first at a place stays first there
   find-more : (p : Place) (ps more : Pieces V M) (xs : Siblings V M) → find place_cmp p ps ≡ Some xs → find place_cmp p (ps ++ more) ≡ Some xs
@@ -168,43 +167,43 @@ module _ {V M : Type 0} where
 
 -- ---- the jobs at a place
 
-module _ {V D : Type 0} (effect : Option V → Message V D → Option V) (shape : Shape) where
-  pub run-more : (jobs : List (code.Job V D)) (pieces more : Pieces V (Message V D)) (left : List Place) → AreRun effect shape jobs pieces left → AreRun effect shape jobs (pieces ++ more) left
+module _ {V D : Type 0} (meaning : Meaning V (Message V D)) (shape : Shape) where
+  pub run-more : (jobs : List (code.Job V D)) (pieces more : Pieces V (Message V D)) (left : List Place) → AreRun meaning shape jobs pieces left → AreRun meaning shape jobs (pieces ++ more) left
   run-more [] pieces more left u = tt
-  run-more (job ∷ jobs) pieces more left (inl e, u) = (inl (find-more (place_of job.place) pieces more (done effect shape (job_of job)) e), run-more jobs pieces more left u)
+  run-more (job ∷ jobs) pieces more left (inl e, u) = (inl (find-more (place_of job.place) pieces more (done meaning shape (job_of job)) e), run-more jobs pieces more left u)
   run-more (job ∷ jobs) pieces more left (inr m, u) = (inr m, run-more jobs pieces more left u)
 
-  left-more : (jobs : List (code.Job V D)) (pieces : Pieces V (Message V D)) (left more : List Place) → AreRun effect shape jobs pieces left → AreRun effect shape jobs pieces (left ++ more)
+  left-more : (jobs : List (code.Job V D)) (pieces : Pieces V (Message V D)) (left more : List Place) → AreRun meaning shape jobs pieces left → AreRun meaning shape jobs pieces (left ++ more)
   left-more [] pieces left more u = tt
   left-more (job ∷ jobs) pieces left more (inl e, u) = (inl e, left-more jobs pieces left more u)
   left-more (job ∷ jobs) pieces left more (inr m, u) = (inr (among-append (place_of job.place) left more m), left-more jobs pieces left more u)
 
   -- one job more was run, or was not
-  pub run-next : (jobs : List (code.Job V D)) (job : code.Job V D) (pieces : Pieces V (Message V D)) (left : List Place) → AreRun effect shape jobs pieces left →
-      find place_cmp (place_of job.place) pieces ≡ None → AreRun effect shape (jobs ++ job ∷ []) (pieces ++ (place_of job.place, done effect shape (job_of job)) ∷ []) left
+  pub run-next : (jobs : List (code.Job V D)) (job : code.Job V D) (pieces : Pieces V (Message V D)) (left : List Place) → AreRun meaning shape jobs pieces left →
+      find place_cmp (place_of job.place) pieces ≡ None → AreRun meaning shape (jobs ++ job ∷ []) (pieces ++ (place_of job.place, done meaning shape (job_of job)) ∷ []) left
   run-next jobs job pieces left u free =
-      each-append _ jobs (job ∷ []) (run-more jobs pieces _ left u) (inl (find-new (place_of job.place) pieces (done effect shape (job_of job)) free), tt)
+      each-append _ jobs (job ∷ []) (run-more jobs pieces _ left u) (inl (find-new (place_of job.place) pieces (done meaning shape (job_of job)) free), tt)
 
-  pub left-next : (jobs : List (code.Job V D)) (job : code.Job V D) (pieces : Pieces V (Message V D)) (left : List Place) → AreRun effect shape jobs pieces left →
-      AreRun effect shape (jobs ++ job ∷ []) pieces (left ++ place_of job.place ∷ [])
+  pub left-next : (jobs : List (code.Job V D)) (job : code.Job V D) (pieces : Pieces V (Message V D)) (left : List Place) → AreRun meaning shape jobs pieces left →
+      AreRun meaning shape (jobs ++ job ∷ []) pieces (left ++ place_of job.place ∷ [])
   left-next jobs job pieces left u =
       each-append _ jobs (job ∷ []) (left-more jobs pieces left _ u) (inr (among-last (place_of job.place) left), tt)
 
-  pub run-step : (jobs coming : List (code.Job V D)) (job : code.Job V D) (pieces : Pieces V (Message V D)) (left : List Place) → AreRunBefore effect shape jobs (job ∷ coming) pieces left →
-      find place_cmp (place_of job.place) pieces ≡ None → AreRunBefore effect shape jobs coming (pieces ++ (place_of job.place, done effect shape (job_of job)) ∷ []) left
+  pub run-step : (jobs coming : List (code.Job V D)) (job : code.Job V D) (pieces : Pieces V (Message V D)) (left : List Place) → AreRunBefore meaning shape jobs (job ∷ coming) pieces left →
+      find place_cmp (place_of job.place) pieces ≡ None → AreRunBefore meaning shape jobs coming (pieces ++ (place_of job.place, done meaning shape (job_of job)) ∷ []) left
   run-step jobs coming job pieces left u free = (u.0 ++ job ∷ [], u.1 ∙ one-behind u.0 coming job, run-next u.0 job pieces left u.2 free)
 
-  pub left-step : (jobs coming : List (code.Job V D)) (job : code.Job V D) (pieces : Pieces V (Message V D)) (left : List Place) → AreRunBefore effect shape jobs (job ∷ coming) pieces left →
-      AreRunBefore effect shape jobs coming pieces (left ++ place_of job.place ∷ [])
+  pub left-step : (jobs coming : List (code.Job V D)) (job : code.Job V D) (pieces : Pieces V (Message V D)) (left : List Place) → AreRunBefore meaning shape jobs (job ∷ coming) pieces left →
+      AreRunBefore meaning shape jobs coming pieces (left ++ place_of job.place ∷ [])
   left-step jobs coming job pieces left u = (u.0 ++ job ∷ [], u.1 ∙ one-behind u.0 coming job, left-next u.0 job pieces left u.2)
 
-  pub run-all : (jobs : List (code.Job V D)) (pieces : Pieces V (Message V D)) (left : List Place) → AreRunBefore effect shape jobs [] pieces left → AreRun effect shape jobs pieces left
-  run-all jobs pieces left u = subst (λ js. AreRun effect shape js pieces left) (sym (u.1 ∙ append-nil u.0)) u.2
+  pub run-all : (jobs : List (code.Job V D)) (pieces : Pieces V (Message V D)) (left : List Place) → AreRunBefore meaning shape jobs [] pieces left → AreRun meaning shape jobs pieces left
+  run-all jobs pieces left u = subst (λ js. AreRun meaning shape js pieces left) (sym (u.1 ∙ append-nil u.0)) u.2
 
   -- where no piece stands at the places that are left
-  pub run-odd : (jobs : List (code.Job V D)) (pieces : Pieces V (Message V D)) (left : List Place) → AreRun effect shape jobs pieces left → Each (λ p. find place_cmp p pieces ≡ None) left → AreOdd effect shape jobs pieces
+  pub run-odd : (jobs : List (code.Job V D)) (pieces : Pieces V (Message V D)) (left : List Place) → AreRun meaning shape jobs pieces left → Each (λ p. find place_cmp p pieces ≡ None) left → AreOdd meaning shape jobs pieces
   run-odd [] pieces left u free = tt
-  run-odd (job ∷ jobs) pieces left (inl e, u) free = ((λ xs found. sym (same_Some (done effect shape (job_of job)) xs (sym e ∙ found))), run-odd jobs pieces left u free)
+  run-odd (job ∷ jobs) pieces left (inl e, u) free = ((λ xs found. sym (same_Some (done meaning shape (job_of job)) xs (sym e ∙ found))), run-odd jobs pieces left u free)
   run-odd (job ∷ jobs) pieces left (inr m, u) free =
       ((λ xs found. absurd (none-some xs (sym (among-each (λ p. find place_cmp p pieces ≡ None) (place_of job.place) left m free) ∙ found))), run-odd jobs pieces left u free)
 
@@ -214,45 +213,45 @@ map-each : {X Y : Type 0} (f : X → Y) (P : Y → Type 0) (xs : List X) → Eac
 map-each f P [] u = tt
 map-each f P (x ∷ xs) u = (u.0, map-each f P xs u.1)
 
-module _ {V D : Type 0} (effect : Option V → Message V D → Option V) (shape : Shape) (roomy : IsRoomy shape) (c : Pieced V (Message V D)) (stand : StandInHoles shape c) (rise : PlacesRise c)
+module _ {V D : Type 0} (meaning : Meaning V (Message V D)) (shape : Shape) (roomy : IsRoomy shape) (c : Pieced V (Message V D)) (stand : StandInHoles meaning.weigh shape c) (rise : PlacesRise c)
     (jobs : List (code.Job V D)) (are : map job_of jobs ≡ c.jobs) where
   -- their nodes are in order
   pub are-in_order : AreInOrder jobs
-  are-in_order = each-map job_of (λ job. IsInOrder job.node) jobs (subst (Each (λ job. IsInOrder job.node)) (sym are) (jobs-in_order shape c stand))
+  are-in_order = each-map job_of (λ job. IsInOrder job.node) jobs (subst (Each (λ job. IsInOrder job.node)) (sym are) (jobs-in_order meaning.weigh shape c stand))
 
-  fillable : (pieces found : Pieces V (Message V D)) → pieces ≡ found → All (Answers effect shape found) c.jobs → IsFillable shape c.holed pieces
-  fillable pieces found is all = cut-fillable effect shape roomy c stand rise pieces (subst (λ ps. All (Answers effect shape ps) c.jobs) (sym is) all)
+  fillable : (pieces found : Pieces V (Message V D)) → pieces ≡ found → All (Answers meaning shape found) c.jobs → IsFillable meaning.weigh shape c.holed pieces
+  fillable pieces found is all = cut-fillable meaning shape roomy c stand rise pieces (subst (λ ps. All (Answers meaning shape ps) c.jobs) (sym is) all)
 
   -- what becomes of them in either order can fill the cut
-  pub turned-fillable : (js : List (code.Job V D)) → AreTurned jobs js → (pieces : Pieces V (Message V D)) → pieces ≡ all_done effect shape (map job_of js) → IsFillable shape c.holed pieces
+  pub turned-fillable : (js : List (code.Job V D)) → AreTurned jobs js → (pieces : Pieces V (Message V D)) → pieces ≡ all_done meaning shape (map job_of js) → IsFillable meaning.weigh shape c.holed pieces
   turned-fillable js turned pieces is =
       let here = each-map job_of (λ j. Among j c.jobs) jobs (subst (Each (λ j. Among j c.jobs)) (sym are) (among-themselves c.jobs)) in
-      fillable pieces (all_done effect shape (map job_of js)) is
-      (all-stand effect shape c.jobs rise (map job_of js) (map-each job_of (λ j. Among j c.jobs) js (each-turned (λ j. Among (job_of j) c.jobs) jobs js turned here)))
+      fillable pieces (all_done meaning shape (map job_of js)) is
+      (all-stand meaning shape c.jobs rise (map job_of js) (map-each job_of (λ j. Among j c.jobs) js (each-turned (λ j. Among (job_of j) c.jobs) jobs js turned here)))
 
   -- and so can odd pieces, before they are looked at
-  pub odd-fillable : (pieces : Pieces V (Message V D)) → AreOdd effect shape jobs pieces → IsFillable shape c.holed pieces
+  pub odd-fillable : (pieces : Pieces V (Message V D)) → AreOdd meaning shape jobs pieces → IsFillable meaning.weigh shape c.holed pieces
   odd-fillable pieces odd =
-      fillable pieces pieces refl (subst (All (Answers effect shape pieces)) are (All-from_recursion _ (map job_of jobs) (map-each job_of (Answers effect shape pieces) jobs odd)))
+      fillable pieces pieces refl (subst (All (Answers meaning shape pieces)) are (All-from_recursion _ (map job_of jobs) (map-each job_of (Answers meaning shape pieces) jobs odd)))
 
-module _ {V D : Type 0} (effect : Option V → Message V D → Option V) (shape : Shape) (roomy : IsRoomy shape) (holed : Shape × Holed V (Message V D) Place) (jobs : List (code.Job V D))
-    (tree : Shape × Tree V (Message V D)) (same : shape ≡ tree.0) (number : ℕ) (packet : Messages (Message V D)) (depth : ℕ) (mode : Mode) (is : IsCut holed jobs number tree packet depth mode)
-    (stand : StandInHoles tree.0 (cut number tree.0 tree.1 packet depth mode)) (rise : PlacesRise (cut number tree.0 tree.1 packet depth mode)) where
+module _ {V D : Type 0} (meaning : Meaning V (Message V D)) (shape : Shape) (roomy : IsRoomy shape) (holed : Shape × Holed V (Message V D) Place) (jobs : List (code.Job V D))
+    (tree : Shape × Tree V (Message V D)) (same : shape ≡ tree.0) (number : ℕ) (packet : Messages (Message V D)) (depth : ℕ) (mode : Mode) (is : IsCut meaning.weigh holed jobs number tree packet depth mode)
+    (stand : StandInHoles meaning.weigh tree.0 (cut meaning.weigh number tree.0 tree.1 packet depth mode)) (rise : PlacesRise (cut meaning.weigh number tree.0 tree.1 packet depth mode)) where
   abbrev pieced : Pieced V (Message V D)
-  pieced = cut number tree.0 tree.1 packet depth mode
+  pieced = cut meaning.weigh number tree.0 tree.1 packet depth mode
 
   pub cut-in_order : AreInOrder jobs
-  cut-in_order = are-in_order effect tree.0 (subst IsRoomy same roomy) pieced stand rise jobs is.1
+  cut-in_order = are-in_order meaning tree.0 (subst IsRoomy same roomy) pieced stand rise jobs is.1
 
-  as-holed : (pieces : Pieces V (Message V D)) → IsFillable tree.0 pieced.holed pieces → IsFillable holed.0 holed.1 pieces
-  as-holed pieces f = subst (λ h. IsFillable h.0 h.1 pieces) (sym is.0) f
+  as-holed : (pieces : Pieces V (Message V D)) → IsFillable meaning.weigh tree.0 pieced.holed pieces → IsFillable meaning.weigh holed.0 holed.1 pieces
+  as-holed pieces f = subst (λ h. IsFillable meaning.weigh h.0 h.1 pieces) (sym is.0) f
 
   -- a cut can be filled by what becomes of its jobs, in either order
-  pub cut-turned : (js : List (code.Job V D)) → AreTurned jobs js → (pieces : Pieces V (Message V D)) → pieces ≡ all_done effect shape (map job_of js) → IsFillable holed.0 holed.1 pieces
+  pub cut-turned : (js : List (code.Job V D)) → AreTurned jobs js → (pieces : Pieces V (Message V D)) → pieces ≡ all_done meaning shape (map job_of js) → IsFillable meaning.weigh holed.0 holed.1 pieces
   cut-turned js turned pieces done =
-      as-holed pieces (turned-fillable effect tree.0 (subst IsRoomy same roomy) pieced stand rise jobs is.1 js turned pieces (done ∙ ap (λ s. all_done effect s (map job_of js)) same))
+      as-holed pieces (turned-fillable meaning tree.0 (subst IsRoomy same roomy) pieced stand rise jobs is.1 js turned pieces (done ∙ ap (λ s. all_done meaning s (map job_of js)) same))
 
   -- and odd pieces may be looked at
-  pub cut-odd : (pieces : Pieces V (Message V D)) → AreOdd effect shape jobs pieces → IsFillable holed.0 holed.1 pieces
+  pub cut-odd : (pieces : Pieces V (Message V D)) → AreOdd meaning shape jobs pieces → IsFillable meaning.weigh holed.0 holed.1 pieces
   cut-odd pieces odd =
-      as-holed pieces (odd-fillable effect tree.0 (subst IsRoomy same roomy) pieced stand rise jobs is.1 pieces (subst (λ s. AreOdd effect s jobs pieces) same odd))
+      as-holed pieces (odd-fillable meaning tree.0 (subst IsRoomy same roomy) pieced stand rise jobs is.1 pieces (subst (λ s. AreOdd meaning s jobs pieces) same odd))

@@ -2,9 +2,9 @@
 use Rattle.std.specs.Prelude.{◌≡◌, ◌⊎◌, List, [], ◌∷◌, ◌++◌, Some, reverse}
 use Rattle.std.specs.FinMap.{find}
 use Rattle.std.specs.List.{AllByRecursion as Each}
-use Rattle.std.specs.declared.option.Option.{Option}
 use Rattle.bt_messages.specs.declared.message.Message.{Message}
 use Rattle.bt_node.specs.Fits.{IsInOrder}
+use Rattle.bt_node.specs.Messages.{Meaning}
 use Rattle.bt_node.specs.Trees.{Shape, Siblings}
 use Rattle.bt_plan.specs.Cuts.{done}
 use Rattle.bt_plan.specs.Pieces.{Pieces, Place, place_cmp}
@@ -25,15 +25,15 @@ Among x [] = ⊥
 Among x (y ∷ ys) = (x ≡ y) ⊎ Among x ys
 
 -- the first piece at the place of each job is what becomes of the job, or the place is one of those that are left
-abbrev pub AreRun : {V D : Type 0} → (Option V → Message V D → Option V) → Shape → List (code.Job V D) → Pieces V (Message V D) → List Place → Type 0
-AreRun effect shape jobs pieces left =
-    Each (λ job. (find place_cmp (place_of job.place) pieces ≡ Some (done effect shape (job_of job))) ⊎ Among (place_of job.place) left) jobs
+abbrev pub AreRun : {V D : Type 0} → Meaning V (Message V D) → Shape → List (code.Job V D) → Pieces V (Message V D) → List Place → Type 0
+AreRun meaning shape jobs pieces left =
+    Each (λ job. (find place_cmp (place_of job.place) pieces ≡ Some (done meaning shape (job_of job))) ⊎ Among (place_of job.place) left) jobs
 
 -- so it is for the jobs before those that come
-abbrev pub AreRunBefore : {V D : Type 0} → (Option V → Message V D → Option V) → Shape → List (code.Job V D) → List (code.Job V D) → Pieces V (Message V D) → List Place → Type 0
-AreRunBefore {V} {D} effect shape jobs coming pieces left = (seen : List (code.Job V D)) × (jobs ≡ seen ++ coming) × AreRun effect shape seen pieces left
+abbrev pub AreRunBefore : {V D : Type 0} → Meaning V (Message V D) → Shape → List (code.Job V D) → List (code.Job V D) → Pieces V (Message V D) → List Place → Type 0
+AreRunBefore {V} {D} meaning shape jobs coming pieces left = (seen : List (code.Job V D)) × (jobs ≡ seen ++ coming) × AreRun meaning shape seen pieces left
 
 -- the first piece at the place of each job, if there is one, is what becomes of the job
-abbrev pub AreOdd : {V D : Type 0} → (Option V → Message V D → Option V) → Shape → List (code.Job V D) → Pieces V (Message V D) → Type 0
-AreOdd {V} {D} effect shape jobs pieces =
-    Each (λ job. (xs : Siblings V (Message V D)) → find place_cmp (place_of job.place) pieces ≡ Some xs → xs ≡ done effect shape (job_of job)) jobs
+abbrev pub AreOdd : {V D : Type 0} → Meaning V (Message V D) → Shape → List (code.Job V D) → Pieces V (Message V D) → Type 0
+AreOdd {V} {D} meaning shape jobs pieces =
+    Each (λ job. (xs : Siblings V (Message V D)) → find place_cmp (place_of job.place) pieces ≡ Some xs → xs ≡ done meaning shape (job_of job)) jobs

@@ -2,7 +2,7 @@
 ghost use Rattle.std.specs.Prelude.{◌≡◌, ◌≤◌, IfOk, IfSome, IsTrue, None, map};
 ghost use Rattle.std.specs.FinMap.{find};
 ghost use Rattle.bt_gather.specs.Views.{pieces_of};
-ghost use Rattle.bt_messages.specs.Effects.{effect_of};
+ghost use Rattle.bt_messages.specs.Meanings.{meaning_of};
 ghost use Rattle.bt_plan.specs.Pieces.{place_cmp};
 ghost use Rattle.bt_plan.specs.Views.{place_of};
 ghost use Rattle.replay_cuts.specs.Turns.{AreInOrder, AreOdd, AreRun};
@@ -56,7 +56,7 @@ fn run_at<V: Merge>(
     place: &Place,
 ) -> Result<(Vec<(Place, Siblings<V>)>, Vec<Place>), AllocError>
     requires { AreInOrder jobs.items }
-    ensures { IfOk result (λ run. AreRun (effect_of V.merged) shape jobs.items (pieces_of run.0.items) (map place_of run.1.items)) }
+    ensures { IfOk result (λ run. AreRun (meaning_of V.terms) shape jobs.items (pieces_of run.0.items) (map place_of run.1.items)) }
 {
     let mut pieces = Vec::new(alloc);
     let mut left = Vec::new(alloc);
@@ -80,7 +80,7 @@ fn odd_pieces<V: Merge>(
     odd: Odd,
 ) -> Result<Option<Vec<(Place, Siblings<V>)>>, AllocError>
     requires { AreInOrder jobs.items }
-    ensures { IfOk result (λ made. IfSome made (λ pieces. AreOdd (effect_of V.merged) shape jobs.items (pieces_of pieces.items))) }
+    ensures { IfOk result (λ made. IfSome made (λ pieces. AreOdd (meaning_of V.terms) shape jobs.items (pieces_of pieces.items))) }
 {
     let [first, ..] = odd.children else {
         return Ok(None);

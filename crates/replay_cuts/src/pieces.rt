@@ -1,7 +1,7 @@
 //! Flushes in pieces: a tree is cut, its jobs are run one by one, and what becomes of them is filled in.
 ghost use Rattle.std.specs.Prelude.{◌≡◌, ◌≤◌, IfOk, map, reverse};
 ghost use Rattle.bt_gather.specs.Views.{pieces_of};
-ghost use Rattle.bt_messages.specs.Effects.{effect_of};
+ghost use Rattle.bt_messages.specs.Meanings.{meaning_of};
 ghost use Rattle.bt_plan.specs.Cuts.{all_done};
 ghost use Rattle.bt_plan.specs.Views.{job_of};
 ghost use Rattle.replay_cuts.specs.Turns.{AreInOrder, AreTurned};
@@ -26,7 +26,7 @@ pub(crate) fn run_all<V: Merge>(
     jobs: Vec<Job<V>>,
 ) -> Result<Vec<(Place, Siblings<V>)>, AllocError>
     requires { AreInOrder jobs.items }
-    ensures { IfOk result (λ pieces. pieces_of pieces.items ≡ all_done (effect_of V.merged) shape (map job_of jobs.items)) }
+    ensures { IfOk result (λ pieces. pieces_of pieces.items ≡ all_done (meaning_of V.terms) shape (map job_of jobs.items)) }
 {
     let mut pieces = Vec::with_capacity(alloc, jobs.len())?;
     for job in jobs {

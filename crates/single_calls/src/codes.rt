@@ -1,6 +1,6 @@
 //! Codes of values, and keys.
 use crate::samples::{fields, is_text, key, row_text};
-use bt_keycode::{DecodeError, Key, cmp_rows, decode, encode, encode_prefix};
+use bt_keycode::{DecodeError, Key, cmp_rows, code_len, decode, encode, encode_prefix};
 use bt_rowtype::{Kind, Refusal, Value, read_field};
 use std::alloc::{AllocError, Global};
 use std::cmp::Ordering;
@@ -51,6 +51,24 @@ fn codes_of_values(rt: HostRuntime) {
     ];
     for (kinds, line, expected) in lines {
         assert!(rt; is_text(code_of(rt.alloc(), kinds, line), expected));
+    }
+}
+
+// The length of the code of the fields of a line, of these kinds.
+fn length_of(alloc: Global, kinds: &[Kind], line: &str) -> Result<u64, Refusal> {
+    let values = values_of(alloc, kinds, line)?;
+    Ok(code_len(values.as_slice()))
+}
+
+#[test]
+fn lengths_of_codes(rt: HostRuntime) {
+    let lines: [(&[Kind], &str, u64); 3] = [
+        (&[Kind::Int], "3", 8),
+        (&[Kind::Text, Kind::Int], "a,1", 11),
+        (&[Kind::Text], "\0", 4),
+    ];
+    for (kinds, line, expected) in lines {
+        assert!(rt; length_of(rt.alloc(), kinds, line) == Ok(expected));
     }
 }
 

@@ -69,7 +69,8 @@ fn index(
     IndexDef::new(alloc, &schema, &on, &include, filter)
 }
 
-fn row(alloc: Global, id: i64, quantity: i64) -> Result<Row, AllocError>
+/// The row of an id and a quantity.
+pub(crate) fn row(alloc: Global, id: i64, quantity: i64) -> Result<Row, AllocError>
     ensures { IfOk result (λ row. row ≡ spec.row_of id quantity) }
 {
     let mut row = Row::new();
@@ -78,7 +79,8 @@ fn row(alloc: Global, id: i64, quantity: i64) -> Result<Row, AllocError>
     Ok(row)
 }
 
-fn key(alloc: Global, id: i64) -> Result<Key, AllocError>
+/// The key of an id.
+pub(crate) fn key(alloc: Global, id: i64) -> Result<Key, AllocError>
     ensures { IfOk result (λ key. key ≡ spec.key_of id) }
 {
     encode(alloc, slice::from_ref(&Value::Int(id)))

@@ -18,3 +18,5 @@ mod samples;
 mod trees;
 #[cfg(test)]
 mod values;
+#[cfg(test)]
+mod weights;

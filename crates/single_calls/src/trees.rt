@@ -313,16 +313,34 @@ fn portions_of_a_tree(rt: HostRuntime) {
     }
 }
 
+// The room of the buffers of a shape that is counted in bytes.
+fn room_of(bytes: u32) -> Result<usize, Refusal> {
+    Ok(Shape::weighed(4, bytes, 2)?.buffer())
+}
+
+#[test]
+fn shapes_are_weighed(rt: HostRuntime) {
+    for (bytes, expected) in [
+        (0, Err(Refusal::BadShape)),
+        (1_048_576, Ok(1_048_576)),
+        (1_048_577, Err(Refusal::BadShape)),
+    ] {
+        assert!(rt; room_of(bytes) == expected);
+    }
+}
+
 #[test]
 fn plans(rt: HostRuntime) {
-    let table: [(&[u64], u64, &[u16]); 5] = [
+    let most = u128::from(u64::MAX);
+    let table: [(&[u128], u64, &[u16]); 6] = [
         (&[4, 2, 2], 3, &[0, 1]),
         (&[1, 3, 3, 2], 4, &[1, 2]),
         (&[0, 0], 3, &[]),
         (&[1, 0, 2], 0, &[2, 0]),
-        (&[u64::MAX, u64::MAX], u64::MAX, &[0]),
+        (&[most, most], u64::MAX, &[0]),
+        (&[25, 44], 60, &[1]),
     ];
-    for (counts, capacity, places) in table {
-        assert!(rt; plan(counts, capacity).as_slice() == places);
+    for (loads, capacity, places) in table {
+        assert!(rt; plan(loads, capacity).as_slice() == places);
     }
 }

@@ -4,8 +4,8 @@ use Rattle.std.specs.FinMap.{is_sorted}
 use Rattle.std.specs.FinMap.Entries.{below_all}
 use Rattle.std.specs.List.{All}
 use Rattle.std.specs.Ordering.{is_lt}
-use Rattle.std.specs.declared.option.Option.{Option}
 use Rattle.bt_node.specs.Fits.{IsRoomy}
+use Rattle.bt_node.specs.Messages.{Meaning}
 use Rattle.bt_node.specs.Trees.{Shape}
 use Rattle.bt_plan.specs.Cuts.{Job, Pieced, hole_of}
 use Rattle.bt_plan.specs.Laws.{PlacesRise, StandInHoles}
@@ -43,10 +43,10 @@ module _ {V M : Type 0} where
       ∙ ap (λ b. below_all place_cmp job.place (map (λ p. (p, p)) (map hole_of jobs)) && b) (sorted-same jobs)
 
   -- a tree that is cut can be filled by pieces that have at the place of each job what becomes of it, or nothing
-  pub cut-fillable : (effect : Option V → M → Option V) (shape : Shape) → IsRoomy shape → (c : Pieced V M) → StandInHoles shape c → PlacesRise c → (pieces : Pieces V M) →
-      All (Answers effect shape pieces) c.jobs → IsFillable shape c.holed pieces
-  cut-fillable effect shape roomy c stand rise pieces all = record {
+  pub cut-fillable : (meaning : Meaning V M) (shape : Shape) → IsRoomy shape → (c : Pieced V M) → StandInHoles meaning.weigh shape c → PlacesRise c → (pieces : Pieces V M) →
+      All (Answers meaning shape pieces) c.jobs → IsFillable meaning.weigh shape c.holed pieces
+  cut-fillable meaning shape roomy c stand rise pieces all = record {
     rise = subst AreRisingPlaces (sym (ap holes stand.holed ∙ holes-told hole_of stand.tree ∙ ap (map hole_of) (sym stand.jobs))) (subst T (sorted-same c.jobs) rise);
     levels = stand.levels;
-    fits = pieces-fit effect shape roomy c stand pieces all;
+    fits = pieces-fit meaning shape roomy c stand pieces all;
   }

@@ -1,9 +1,9 @@
 -- The jobs of a round, and what becomes of them.
 use Rattle.std.specs.Prelude.{List, map}
 use Rattle.std.specs.List.{All}
-use Rattle.std.specs.declared.option.Option.{Option}
 use Rattle.bt_messages.specs.declared.message.Message.{Message}
 use Rattle.bt_node.specs.Fits.{IsInOrder}
+use Rattle.bt_node.specs.Messages.{Meaning}
 use Rattle.bt_node.specs.Trees.{Shape, Siblings}
 use Rattle.bt_plan.specs.declared.job.Job as code_job
 use Rattle.bt_plan.specs.declared.job.Place as code_place
@@ -25,10 +25,10 @@ module _ {V D : Type 0} where
   abbrev pub AreRunnable : List (ShapedJob V D) → Type 0
   AreRunnable = All IsRunnable
 
-  module _ (effect : Option V → Message V D → Option V) where
+  module _ (meaning : Meaning V (Message V D)) where
     -- what becomes of a job, at its place
     abbrev pub piece_of : ShapedJob V D → code_place.Place × Siblings V (Message V D)
-    piece_of shaped = (shaped.job.place, done effect shaped.shape (job_of shaped.job))
+    piece_of shaped = (shaped.job.place, done meaning shaped.shape (job_of shaped.job))
 
     -- what becomes of jobs, each at its place
     abbrev pub all_pieces : List (ShapedJob V D) → Pieces V (Message V D)

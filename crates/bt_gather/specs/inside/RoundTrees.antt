@@ -1,10 +1,11 @@
 -- The trees of a round: their jobs, and what they become with the pieces that these become.
 use Rattle.std.specs.Prelude.{◌≡◌, ◌≤◌, ℕ, List, [], ◌∷◌, Vec, drop, length, take, vec_capacity}
 use Rattle.std.specs.Global.{Global}
-use Rattle.std.specs.declared.option.Option.{Option}
 use Rattle.std.specs.declared.option.Option.TheVariants.{None}
+use Rattle.bt_keycode.specs.Keys.{Key}
 use Rattle.bt_messages.specs.declared.message.Message.{Message}
 use Rattle.bt_node.specs.Flushes.{crown}
+use Rattle.bt_node.specs.Messages.{Meaning}
 use Rattle.bt_node.specs.Trees.{Shape, Siblings, Tree}
 use Rattle.bt_plan.specs.declared.job.Place as code_place
 use Rattle.bt_plan.specs.Pieces.{Holed, Pieces, Place, filled}
@@ -31,36 +32,36 @@ module _ {V D : Type 0} where
   tree_with (Cut holed jobs room) pieces = (holed.0, crown holed.0 (filled holed.0 holed.1 pieces))
 
   -- there is one piece for each job, with room for all, and nothing is wrong with them
-  pub record IsCutFilledBy (holed : Shape × Holed V (Message V D) Place) (jobs : ℕ) (room : Vec (code_place.Place × Siblings V (Message V D)) Global)
+  pub record IsCutFilledBy (weigh : Key × Message V D → ℕ) (holed : Shape × Holed V (Message V D) Place) (jobs : ℕ) (room : Vec (code_place.Place × Siblings V (Message V D)) Global)
       (pieces : Pieces V (Message V D)) : Type 0 where
     pub count : length pieces ≡ jobs
     pub roomy : HasRoom room jobs
-    pub fillable : IsFillable holed.0 holed.1 pieces
+    pub fillable : IsFillable weigh holed.0 holed.1 pieces
     pub fit : misfit holed.1 pieces ≡ None
 
   -- these are the pieces that become of its jobs
-  abbrev pub IsFilledBy : RoundTree V D → Pieces V (Message V D) → Type 0
-  IsFilledBy (Whole tree) pieces = pieces ≡ []
-  IsFilledBy (Cut holed jobs room) pieces = IsCutFilledBy holed jobs room pieces
+  abbrev pub IsFilledBy : (Key × Message V D → ℕ) → RoundTree V D → Pieces V (Message V D) → Type 0
+  IsFilledBy weigh (Whole tree) pieces = pieces ≡ []
+  IsFilledBy weigh (Cut holed jobs room) pieces = IsCutFilledBy weigh holed jobs room pieces
 
   -- trees, each with its share of the pieces
   abbrev pub trees_with : List (RoundTree V D) → Pieces V (Message V D) → List (Shape × Tree V (Message V D))
   trees_with [] pieces = []
   trees_with (tree ∷ trees) pieces = tree_with tree (take (job_count tree) pieces) ∷ trees_with trees (drop (job_count tree) pieces)
 
-  abbrev pub AreFilledBy : List (RoundTree V D) → Pieces V (Message V D) → Type 0
-  AreFilledBy [] pieces = pieces ≡ []
-  AreFilledBy (tree ∷ trees) pieces = IsFilledBy tree (take (job_count tree) pieces) × AreFilledBy trees (drop (job_count tree) pieces)
+  abbrev pub AreFilledBy : (Key × Message V D → ℕ) → List (RoundTree V D) → Pieces V (Message V D) → Type 0
+  AreFilledBy weigh [] pieces = pieces ≡ []
+  AreFilledBy weigh (tree ∷ trees) pieces = IsFilledBy weigh tree (take (job_count tree) pieces) × AreFilledBy weigh trees (drop (job_count tree) pieces)
 
-  module _ (effect : Option V → Message V D → Option V) where
+  module _ (meaning : Meaning V (Message V D)) where
     -- these are its jobs: with what becomes of them it is that tree
     pub record AreJobsOf (tree : RoundTree V D) (jobs : List (ShapedJob V D)) (whole : Shape × Tree V (Message V D)) : Type 0 where
       pub runnable : AreRunnable jobs
-      pub fill : IsFilledBy tree (all_pieces effect jobs)
-      pub give : tree_with tree (all_pieces effect jobs) ≡ whole
+      pub fill : IsFilledBy meaning.weigh tree (all_pieces meaning jobs)
+      pub give : tree_with tree (all_pieces meaning jobs) ≡ whole
 
     -- these are their jobs, one tree after the other: with what becomes of them they are those trees
     pub record AreJobsOfAll (trees : List (RoundTree V D)) (jobs : List (ShapedJob V D)) (whole : List (Shape × Tree V (Message V D))) : Type 0 where
       pub runnable : AreRunnable jobs
-      pub fill : AreFilledBy trees (all_pieces effect jobs)
-      pub give : trees_with trees (all_pieces effect jobs) ≡ whole
+      pub fill : AreFilledBy meaning.weigh trees (all_pieces meaning jobs)
+      pub give : trees_with trees (all_pieces meaning jobs) ≡ whole

@@ -8,7 +8,7 @@ pub use Rattle.bt_node.proofs.lemmas.plans.RenewedChoice.{renewed-planned}
 pub use Rattle.bt_node.proofs.lemmas.flushes.Children.{ChildLies, ChildrenLie, all_pending}
 pub use Rattle.bt_node.proofs.lemmas.flushes.Divisions.{beside-shared, bins-length, divided-lie, joined-pending, pending-beside, pivots-beside, shares-length}
 pub use Rattle.bt_node.proofs.lemmas.flushes.Groups.{all_pending-within, children-nodes, led-full, some_length, stripped, stripped-lie}
-pub use Rattle.bt_node.proofs.lemmas.flushes.NodeSizes.{ChildrenSized, both-sized, flushed-fits, none_pending-sized, shared-sized, total-counts}
+pub use Rattle.bt_node.proofs.lemmas.flushes.NodeSizes.{ChildrenSized, both-sized, flushed-fits, none_pending-sized, shared-sized, total-loads}
 pub use Rattle.bt_node.proofs.lemmas.flushes.Shares.{length-shared}
 pub use Rattle.bt_node.proofs.lemmas.keys.SideBySide.{Begins, blocks-lie, blocks-long}
 pub use Rattle.bt_node.proofs.lemmas.keys.SortedLists.{from-back, from-joined, from-prefix}

@@ -17,12 +17,11 @@ marked_all (i ∷ is) ss = marked_all is (marked i ss)
 abbrev pub unmarked : {X : Type 0} → List X → List (X × Bool)
 unmarked = map (λ x. (x, false))
 
-module _ {X : Type 0} (weight : X → ℕ) (parts : X → List X) where
-  -- the list after one pass that replaces each item with a mark
-  abbrev pub passed : List (X × Bool) → List X
-  passed = flat_map (λ s. cond s.1 (parts s.0) (s.0 ∷ []))
+-- the list after one pass that replaces each item with a mark by its parts
+abbrev pub passed : {X : Type 0} → (X → List X) → List (X × Bool) → List X
+passed parts = flat_map (λ s. cond s.1 (parts s.0) (s.0 ∷ []))
 
-  -- each of these weighs nothing
-  abbrev pub IsLight : List X → Type 0
-  IsLight [] = Unit {0}
-  IsLight (x ∷ xs) = (weight x ≡ 0) × IsLight xs
+-- each of these weighs nothing
+abbrev pub IsLight : {X : Type 0} → (X → ℕ) → List X → Type 0
+IsLight weight [] = Unit {0}
+IsLight weight (x ∷ xs) = (weight x ≡ 0) × IsLight weight xs

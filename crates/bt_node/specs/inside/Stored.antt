@@ -1,5 +1,5 @@
 -- Codes of trees and shapes, by which a proof tells their values apart.
-use Rattle.std.specs.Prelude.{◌≡◌, refl, ℕ, List, [], ◌∷◌, ◌⊎◌}
+use Rattle.std.specs.Prelude.{◌≡◌, refl, ℕ, zero, suc, List, [], ◌∷◌, ◌⊎◌}
 use Rattle.std.specs.Coded.{Coded, code_by, coded×, coded⊎, coded_ℕ, coded_list, coded_option}
 use Rattle.std.specs.declared.option.Option.{Option}
 use Rattle.std.specs.declared.option.Option.TheVariants.{None, Some}
@@ -7,14 +7,16 @@ use Rattle.std.proofs.Common.{ap, ◌∙◌, inl, inr}
 use Rattle.bt_messages.specs.declared.message.Message.{Message}
 use Rattle.bt_messages.specs.declared.message.Message.TheVariants.{Put, Del, Ups}
 use Rattle.bt_keycode.specs.Keys.{Key}
+use Rattle.bt_messages.specs.declared.measure.Measure.TheVariants.{Bytes, Messages}
 use Rattle.bt_node.specs.Flushes.{Child}
-use Rattle.bt_node.specs.Messages.{Rows, Messages}
+use Rattle.bt_node.specs.Messages as messages
+use Rattle.bt_node.specs.Messages.{Measure, Rows}
 use Rattle.bt_node.specs.Portions.{Portion}
 use Rattle.bt_node.specs.Trees.{Shape, Tree, leaf, inner, Nodes, none, node}
 
 -- a node behind its pivot, told by its rows or its buffer, or nothing: the end of nodes side by side
 abbrev pub Token : Type 0 → Type 0 → Type 0
-Token V M = Option (Key × (Rows V ⊎ Messages M))
+Token V M = Option (Key × (Rows V ⊎ messages.Messages M))
 
 module _ {V M : Type 0} where
   -- the tokens of nodes side by side, each node's before those of its children, and then more
@@ -71,7 +73,7 @@ module _ {V M : Type 0} where
 -- a child is stored as its pivot, its tree and what is pending for it
 abbrev pub child_code : {V M : Type 0} → Coded V → Coded M → Coded (Child V M)
 child_code {V} {M} value message =
-    code_by (Key × (Tree V M × Messages M))
+    code_by (Key × (Tree V M × messages.Messages M))
     (coded× (coded_list coded_ℕ) (coded× (tree_code value message) (coded_list (coded× (coded_list coded_ℕ) message))))
     (λ c. (c.pivot, (c.tree, c.pending))) (λ p. record { pivot = p.0; tree = p.1.0; pending = p.1.1 }) (λ _. refl)
 
@@ -95,11 +97,26 @@ module _ {V D : Type 0} where
   abbrev pub message_code : Coded V → Coded D → Coded (Message V D)
   message_code value delta = code_by (Option (V ⊎ D)) (coded_option (coded⊎ value delta)) carried carrying carrying-carried
 
--- a shape is stored as its three numbers
+-- what room is counted in is stored as a number
+abbrev pub measure_number : Measure → ℕ
+measure_number Messages = 0
+measure_number Bytes = 1
+
+abbrev pub numbered_measure : ℕ → Measure
+numbered_measure zero = Messages
+numbered_measure (suc n) = Bytes
+
+pub numbered-number : (m : Measure) → numbered_measure (measure_number m) ≡ m
+numbered-number Messages = refl
+numbered-number Bytes = refl
+
+-- a shape is stored as its three sizes and its measure
 abbrev pub shape_code : Coded Shape
 shape_code =
-    code_by (ℕ × (ℕ × ℕ)) (coded× coded_ℕ (coded× coded_ℕ coded_ℕ)) (λ s. (s.fanout, (s.buffer, s.leaf)))
-    (λ p. record { fanout = p.0; buffer = p.1.0; leaf = p.1.1 }) (λ _. refl)
+    code_by (ℕ × (ℕ × (ℕ × ℕ))) (coded× coded_ℕ (coded× coded_ℕ (coded× coded_ℕ coded_ℕ)))
+    (λ s. (s.fanout, (s.buffer, (s.leaf, measure_number s.measure))))
+    (λ p. record { fanout = p.0; buffer = p.1.0; leaf = p.1.1.0; measure = numbered_measure p.1.1.1 })
+    (λ s. ap (λ m. record { fanout = s.fanout; buffer = s.buffer; leaf = s.leaf; measure = m }) (numbered-number s.measure))
 
 -- a tree with the shape of its nodes
 abbrev pub shaped_tree_code : {V M : Type 0} → Coded V → Coded M → Coded (Shape × Tree V M)
@@ -108,6 +125,6 @@ shaped_tree_code value message = coded× shape_code (tree_code value message)
 -- a portion is stored as its bounds, its subtree and its messages
 abbrev pub portion_code : {V M : Type 0} → Coded V → Coded M → Coded (Portion V M)
 portion_code {V} {M} value message =
-    code_by (Option Key × (Option Key × (Tree V M × Messages M)))
+    code_by (Option Key × (Option Key × (Tree V M × messages.Messages M)))
     (coded× (coded_option (coded_list coded_ℕ)) (coded× (coded_option (coded_list coded_ℕ)) (coded× (tree_code value message) (coded_list (coded× (coded_list coded_ℕ) message)))))
     (λ p. (p.low, (p.high, (p.tree, p.newer)))) (λ c. record { low = c.0; high = c.1.0; tree = c.1.1.0; newer = c.1.1.1 }) (λ _. refl)

@@ -8,7 +8,7 @@ use Rattle.std.specs.declared.option.Option.TheVariants.{None, Some}
 use Rattle.bt_keycode.specs.Keys.{Key}
 use Rattle.bt_node.specs.Fits.{HasShape, IsInOrder, IsRoomy, SiblingsFit}
 use Rattle.bt_node.specs.Flushes.{flush_in}
-use Rattle.bt_node.specs.Messages.{Messages}
+use Rattle.bt_node.specs.Messages.{Meaning, Messages}
 use Rattle.bt_node.specs.Trees.{Shape, Siblings, Tree}
 use Rattle.bt_node.specs.declared.mode.Mode.{Mode}
 use Rattle.bt_node.proofs.offered.FlushSteps.{anywhere, fit_there}
@@ -28,60 +28,60 @@ pub use Rattle.bt_plan.proofs.Found.{all-stand}
 pub use Rattle.bt_plan.proofs.Found.{filled-as}
 pub use Rattle.bt_plan.proofs.Holes.{bins-long, told-fits}
 
-module _ {V M : Type 0} (effect : Option V → M → Option V) (number : ℕ) (shape : Shape) (root : Tree V M) (has : HasShape shape root) (packet : Messages M) (depth : ℕ) (mode : Mode) where
+module _ {V M : Type 0} (meaning : Meaning V M) (number : ℕ) (shape : Shape) (root : Tree V M) (has : HasShape meaning.weigh shape root) (packet : Messages M) (depth : ℕ) (mode : Mode) where
   -- each job stands in a hole of its own and fits there
-  pub cut-stand_in_holes : StandInHoles shape (cut number shape root packet depth mode)
+  pub cut-stand_in_holes : StandInHoles meaning.weigh shape (cut meaning.weigh number shape root packet depth mode)
   cut-stand_in_holes = record {
-    tree = cut_out depth mode shape (root_place number) root packet;
+    tree = cut_out meaning.weigh depth mode shape (root_place number) root packet;
     holed = refl;
     jobs = refl;
     levels = has.levels;
-    fit = cut-fits effect shape (omega (arith, has.roomy.leaf)) (omega (arith, has.roomy.fanout)) mode depth has.levels (root_place number) None None root packet
+    fit = cut-fits meaning shape (omega (arith, has.roomy.leaf)) (omega (arith, has.roomy.fanout)) mode depth has.levels (root_place number) None None root packet
         has.fits.lies has.fits.sized (anywhere packet);
   }
 
   -- the places of the jobs rise
-  pub cut-places_rise : PlacesRise (cut number shape root packet depth mode)
-  cut-places_rise = cut-rises mode shape depth (root_place number) root packet
+  pub cut-places_rise : PlacesRise (cut meaning.weigh number shape root packet depth mode)
+  cut-places_rise = cut-rises meaning.weigh mode shape depth (root_place number) root packet
 
   -- what becomes of the jobs fills the holes
-  pub cut-fills_up : FillsUp effect shape root packet mode (cut number shape root packet depth mode)
+  pub cut-fills_up : FillsUp meaning shape root packet mode (cut meaning.weigh number shape root packet depth mode)
   cut-fills_up pieces all =
-      filled-standing effect shape pieces (cut_out depth mode shape (root_place number) root packet) all
-      ∙ cut-filled effect shape (omega (arith, has.roomy.leaf)) (omega (arith, has.roomy.fanout)) mode depth has.levels (root_place number) None None root packet
+      filled-standing meaning shape pieces (cut_out meaning.weigh depth mode shape (root_place number) root packet) all
+      ∙ cut-filled meaning shape (omega (arith, has.roomy.leaf)) (omega (arith, has.roomy.fanout)) mode depth has.levels (root_place number) None None root packet
       has.fits.lies has.fits.sized (anywhere packet)
 
   -- so the jobs, each run, and filled in
-  pub cut-done : filled shape (cut number shape root packet depth mode).holed (all_done effect shape (cut number shape root packet depth mode).jobs) ≡ flush_in effect mode shape root packet
-  cut-done = cut-fills_up _ (all-stand effect shape _ cut-places_rise)
+  pub cut-done : filled shape (cut meaning.weigh number shape root packet depth mode).holed (all_done meaning shape (cut meaning.weigh number shape root packet depth mode).jobs) ≡ flush_in meaning mode shape root packet
+  cut-done = cut-fills_up _ (all-stand meaning shape _ cut-places_rise)
 
 -- what stands at the place of a job is what becomes of it
-abbrev pub Answers : {V M : Type 0} → (Option V → M → Option V) → Shape → Pieces V M → Job V M → Type 0
-Answers {V} {M} effect shape pieces job = (xs : Siblings V M) → find place_cmp job.place pieces ≡ Some xs → xs ≡ done effect shape job
+abbrev pub Answers : {V M : Type 0} → Meaning V M → Shape → Pieces V M → Job V M → Type 0
+Answers {V} {M} meaning shape pieces job = (xs : Siblings V M) → find place_cmp job.place pieces ≡ Some xs → xs ≡ done meaning shape job
 
-module _ {V M : Type 0} (effect : Option V → M → Option V) (shape : Shape) (roomy : IsRoomy shape) where
+module _ {V M : Type 0} (meaning : Meaning V M) (shape : Shape) (roomy : IsRoomy shape) where
   -- what becomes of a job fits its hole
-  done-fits : (job : Job V M) (levels : ℕ) (low high : Option Key) → JobFits shape levels low high job → SiblingsFit shape levels low high (done effect shape job)
-  done-fits job levels low high fits = fit_there effect job.mode shape roomy job.node job.packet _ refl levels low high fits.0 fits.1
+  done-fits : (job : Job V M) (levels : ℕ) (low high : Option Key) → JobFits meaning.weigh shape levels low high job → SiblingsFit meaning.weigh shape levels low high (done meaning shape job)
+  done-fits job levels low high fits = fit_there meaning job.mode shape roomy job.node job.packet _ refl levels low high fits.0 fits.1
 
-  each-fits : (pieces : Pieces V M) (jobs : List (Job V M)) → Each (Answers effect shape pieces) jobs →
-      Each (λ job. (levels : ℕ) (low high : Option Key) → JobFits shape levels low high job → FitsHole shape pieces levels low high (hole_of job)) jobs
+  each-fits : (pieces : Pieces V M) (jobs : List (Job V M)) → Each (Answers meaning shape pieces) jobs →
+      Each (λ job. (levels : ℕ) (low high : Option Key) → JobFits meaning.weigh shape levels low high job → FitsHole meaning.weigh shape pieces levels low high (hole_of job)) jobs
   each-fits pieces [] e = tt
   each-fits pieces (job ∷ jobs) e =
-      ((λ levels low high fits xs found. subst (SiblingsFit shape levels low high) (sym (e.0 xs found)) (done-fits job levels low high fits)), each-fits pieces jobs e.1)
+      ((λ levels low high fits xs found. subst (SiblingsFit meaning.weigh shape levels low high) (sym (e.0 xs found)) (done-fits job levels low high fits)), each-fits pieces jobs e.1)
 
   -- so it fits the hole
-  pub pieces-fit : (c : Pieced V M) (stand : StandInHoles shape c) (pieces : Pieces V M) → All (Answers effect shape pieces) c.jobs → HoledFits (FitsHole shape pieces) shape stand.levels None None c.holed
+  pub pieces-fit : (c : Pieced V M) (stand : StandInHoles meaning.weigh shape c) (pieces : Pieces V M) → All (Answers meaning shape pieces) c.jobs → HoledFits meaning.weigh (FitsHole meaning.weigh shape pieces) shape stand.levels None None c.holed
   pieces-fit c stand pieces all =
-      subst (HoledFits (FitsHole shape pieces) shape stand.levels None None) (sym stand.holed)
-      (told-fits shape hole_of (JobFits shape) (FitsHole shape pieces) stand.levels None None stand.tree
-      (each-fits pieces (holes stand.tree) (recursion_from_All (Answers effect shape pieces) (holes stand.tree) (subst (All (Answers effect shape pieces)) stand.jobs all))) stand.fit)
+      subst (HoledFits meaning.weigh (FitsHole meaning.weigh shape pieces) shape stand.levels None None) (sym stand.holed)
+      (told-fits meaning.weigh shape hole_of (JobFits meaning.weigh shape) (FitsHole meaning.weigh shape pieces) stand.levels None None stand.tree
+      (each-fits pieces (holes stand.tree) (recursion_from_All (Answers meaning shape pieces) (holes stand.tree) (subst (All (Answers meaning shape pieces)) stand.jobs all))) stand.fit)
 
 -- the nodes of the jobs of a cut are in order
-pub jobs-in_order : {V M : Type 0} (shape : Shape) (c : Pieced V M) → StandInHoles shape c → Each (λ job. IsInOrder job.node) c.jobs
-jobs-in_order {V} {M} shape c stand =
-    subst (Each (λ job. IsInOrder job.node)) (sym stand.jobs) (go (holes stand.tree) (each-asked shape (JobFits shape) stand.levels None None stand.tree stand.fit))
+pub jobs-in_order : {V M : Type 0} (weigh : Key × M → ℕ) (shape : Shape) (c : Pieced V M) → StandInHoles weigh shape c → Each (λ job. IsInOrder job.node) c.jobs
+jobs-in_order {V} {M} weigh shape c stand =
+    subst (Each (λ job. IsInOrder job.node)) (sym stand.jobs) (go (holes stand.tree) (each-asked weigh shape (JobFits weigh shape) stand.levels None None stand.tree stand.fit))
   where
-    go : (jobs : List (Job V M)) → Each (Somewhere (JobFits shape)) jobs → Each (λ job. IsInOrder job.node) jobs
+    go : (jobs : List (Job V M)) → Each (Somewhere (JobFits weigh shape)) jobs → Each (λ job. IsInOrder job.node) jobs
     go [] e = tt
     go (job ∷ jobs) e = let fits = e.0 in ((fits.0, fits.1, fits.2, fits.3.0.lies), go jobs e.1)

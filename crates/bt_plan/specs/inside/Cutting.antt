@@ -1,5 +1,6 @@
 -- The children of an opened node, cut one by one.
 use Rattle.std.specs.Prelude.{ℕ, ◌+◌, Bool, cond, List, [], ◌∷◌}
+use Rattle.bt_keycode.specs.Keys.{Key}
 use Rattle.bt_node.specs.Fits.{IsSized}
 use Rattle.bt_node.specs.Messages.{Messages, with_messages}
 use Rattle.bt_node.specs.Trees.{Shape, Tree}
@@ -13,21 +14,21 @@ module _ {V M : Type 0} where
   sent newer job = record { place = job.place; node = job.node; packet = with_messages newer job.packet; mode = job.mode }
 
   -- a job that is cut, so many levels above the cut
-  abbrev pub cut_job : ℕ → Shape → Job V M → Holed V M (Job V M)
-  cut_job depth shape job = cut_out depth job.mode shape job.place job.node job.packet
+  abbrev pub cut_job : (Key × M → ℕ) → ℕ → Shape → Job V M → Holed V M (Job V M)
+  cut_job weigh depth shape job = cut_out weigh depth job.mode shape job.place job.node job.packet
 
   -- the children from the i-th on, each with its bin and its mark
-  abbrev pub cut_each : ℕ → Mode → Shape → Place → ℕ → List (Tree V M) → List (Messages M) → List Bool → List (Holed V M (Job V M))
-  cut_each depth mode shape place i [] bins marks = []
-  cut_each depth mode shape place i (t ∷ ts) [] marks = []
-  cut_each depth mode shape place i (t ∷ ts) (b ∷ bs) [] = []
-  cut_each depth mode shape place i (t ∷ ts) (b ∷ bs) (m ∷ ms) =
-      cond m (cut_out depth mode shape (child_place place i) t b) (whole t) ∷ cut_each depth mode shape place (i + 1) ts bs ms
+  abbrev pub cut_each : (Key × M → ℕ) → ℕ → Mode → Shape → Place → ℕ → List (Tree V M) → List (Messages M) → List Bool → List (Holed V M (Job V M))
+  cut_each weigh depth mode shape place i [] bins marks = []
+  cut_each weigh depth mode shape place i (t ∷ ts) [] marks = []
+  cut_each weigh depth mode shape place i (t ∷ ts) (b ∷ bs) [] = []
+  cut_each weigh depth mode shape place i (t ∷ ts) (b ∷ bs) (m ∷ ms) =
+      cond m (cut_out weigh depth mode shape (child_place place i) t b) (whole t) ∷ cut_each weigh depth mode shape place (i + 1) ts bs ms
 
   -- each node is no larger than the shape allows
-  abbrev pub AreSizedNodes : Shape → List (Tree V M) → Type 0
-  AreSizedNodes shape [] = Unit {0}
-  AreSizedNodes shape (t ∷ ts) = IsSized shape t × AreSizedNodes shape ts
+  abbrev pub AreSizedNodes : (Key × M → ℕ) → Shape → List (Tree V M) → Type 0
+  AreSizedNodes weigh shape [] = Unit {0}
+  AreSizedNodes weigh shape (t ∷ ts) = IsSized weigh shape t × AreSizedNodes weigh shape ts
 
 -- what is left in bins, of which the marked ones are emptied
 abbrev pub kept_bins : {M : Type 0} → List (Messages M) → List Bool → List (Messages M)

@@ -1,5 +1,5 @@
 -- Nodes of a tree in pieces are larger than what is below them.
-use Rattle.std.specs.Prelude.{◌≤◌, ◌+◌, ◌*◌, suc, max, length, List, [], ◌∷◌}
+use Rattle.std.specs.Prelude.{◌≤◌, ◌+◌, suc, max, length, List, [], ◌∷◌}
 use Rattle.std.specs.List.{zip}
 use Rattle.std.proofs.Common.{arith}
 use denote.Param.Weighed.{most}

@@ -41,7 +41,7 @@ empty_is_sound schema shape few roomy = record {
   indexes = tt;
 }
 
-pub shape_is_roomy : (shape : Shape) → is_shape shape.fanout shape.buffer shape.leaf ≡ true → IsRoomy shape
+pub shape_is_roomy : (shape : Shape) → is_shape shape.measure shape.fanout shape.buffer shape.leaf ≡ true → IsRoomy shape
 shape_is_roomy shape test = record { fanout = grind (arith, nat_tests); leaf = grind (arith, nat_tests) }
 
 when_allowed : (refusal : Option Refusal) (table : PlainTable) (reply : Reply) → IsSoundTable table → IfOk (unless refusal (Intact table, reply)) (λ (after : TableState × Reply). IsSound after.0)

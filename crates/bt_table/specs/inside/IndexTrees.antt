@@ -7,7 +7,7 @@ use Rattle.bt_node.specs.Drains.{packed}
 use Rattle.bt_node.specs.Flushes.{sunk}
 use Rattle.bt_node.specs.Trees.{Shape}
 use Rattle.bt_fanout.specs.Covers.{is_whole, wider}
-use Rattle.bt_fanout.specs.Effects.{EntryMessage, entry_effect, sent_for_all}
+use Rattle.bt_fanout.specs.Effects.{EntryMessage, entry_meaning, sent_for_all}
 use Rattle.bt_fanout.specs.Entries.{Definition, entry_of}
 use Rattle.bt_fanout.specs.Selections.{select}
 use Rattle.bt_fanout.specs.declared.cover.Cover.{Cover}
@@ -47,7 +47,7 @@ sent_for effects head = record { name = head.name; count = length (packet_for ef
 
 -- a tree of entries after a packet
 abbrev pub sunk_tree : Shape × EntryTree → Messages EntryMessage → Shape × EntryTree
-sunk_tree tree packet = (tree.0, sunk entry_effect tree.0 tree.1 packet)
+sunk_tree tree packet = (tree.0, sunk entry_meaning tree.0 tree.1 packet)
 
 -- trees, each after its packet
 abbrev pub sunk_trees : List (Shape × EntryTree) → List (Messages EntryMessage) → List (Shape × EntryTree)

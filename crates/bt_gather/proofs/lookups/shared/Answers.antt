@@ -16,7 +16,7 @@ some_there xs some none = omega (arith, some, ap length none)
 
 pub loop-portion-init : goal.loop-portion-init
 loop-portion-init g c =
-    let effect = effect_of g.V.Merge.merged in
+    let effect = effect_of g.V.Merge.terms.merged in
     let given : into_iter_items c.into_iter-portion-iterator.result ≡ c.args.portions.items = c.into_iter-portion-iterator.ensures.into_iter_gives.0 in
     record {
       values = λ value have. ap (λ js. flat_map (values_there effect) js ++ map (λ k. value k.now) c.args.keys.now) c.new-jobs.ensures.items;
@@ -34,7 +34,7 @@ add_job-requires g c =
 
 pub loop-portion-preserved : goal.loop-portion-preserved
 loop-portion-preserved g c =
-    let effect = effect_of g.V.Merge.merged in
+    let effect = effect_of g.V.Merge.terms.merged in
     let so_far = c.loop-portion.invariant in
     let p = c.in-Some.portion in
     let steps = c.in-Some.ensures.steps.0 in
@@ -58,7 +58,7 @@ loop-portion-preserved g c =
 
 pub returns-clause-values : goal.returns-clause-values
 returns-clause-values g c =
-    let effect = effect_of g.V.Merge.merged in
+    let effect = effect_of g.V.Merge.terms.merged in
     let left = c.loop-portion.portion-iterator.rest in
     let none : left.items ≡ [] = nil_from_length left.items (omega (arith, left.ok.0, c.in-None.ensures.steps.0)) in
     λ value have.

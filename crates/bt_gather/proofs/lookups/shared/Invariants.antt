@@ -12,7 +12,7 @@ use Rattle.bt_gather.proofs.lookups.shared.Given as goal
 -- the jobs have the values at the keys so far, and the keys that are left belong to the portions that are left
 abbrev pub invariant-loop-portion : goal.invariant-loop-portion
 invariant-loop-portion g l =
-    let effect = effect_of g.V.Merge.merged in
+    let effect = effect_of g.V.Merge.terms.merged in
     let left = into_iter_items l.portion-iterator in
     let keys = map (λ k. k.now) (drop l.done l.keys) in
     record {

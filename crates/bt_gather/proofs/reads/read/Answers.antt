@@ -10,7 +10,7 @@ use Rattle.bt_gather.proofs.reads.read.Goals as goal
 
 pub returns : goal.returns
 returns g c =
-    let effect = effect_of g.V.Merge.merged in
+    let effect = effect_of g.V.Merge.terms.merged in
     let laws = g.met.S.ForkVisitor g.world.𝓛 g.world.𝓜 g.world.𝓡 ((λ s x. x), (λ x. x), (λ x. x), λ x. x) in
     let v = g.S.Visitor.visited in
     let f = g.S.ForkVisitor.forked in

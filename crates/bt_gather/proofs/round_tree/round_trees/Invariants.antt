@@ -1,7 +1,7 @@
 use Rattle.std.proofs.Common.{◌≡◌, ◌+◌, ◌≤◌, ◌++◌, [], vec_capacity, vec_len}
 use Rattle.std.specs.List.{All}
 use Rattle.std.specs.Vec.Iter.{into_iter_len}
-use Rattle.bt_messages.specs.Effects.{effect_of}
+use Rattle.bt_messages.specs.Meanings.{meaning_of}
 use Rattle.bt_node.specs.Fits.{HasShape}
 use Rattle.bt_gather.specs.Rounds.{all_sunk}
 use Rattle.bt_gather.specs.inside.RoundJobs.{AreRunnable, all_pieces}
@@ -11,11 +11,11 @@ use Rattle.bt_gather.proofs.round_tree.round_trees.Given as goal
 -- what the trees so far become, and then those that are left
 abbrev pub invariant-loop-tree : goal.invariant-loop-tree
 invariant-loop-tree g l =
-    let effect = effect_of g.V.Merge.merged in record {
+    let meaning = meaning_of g.V.Merge.terms in record {
       runnable : AreRunnable l.jobs.items;
-      fill : AreFilledBy l.list.items (all_pieces effect l.jobs.items);
-      give : trees_with l.list.items (all_pieces effect l.jobs.items) ++ all_sunk effect l.tree-iterator.rest.items ≡ all_sunk effect l.fn.trees.items;
-      fit : All (λ x. HasShape x.0.0 x.0.1) l.tree-iterator.rest.items → All (λ x. HasShape x.0.0 x.0.1) l.fn.trees.items;
+      fill : AreFilledBy meaning.weigh l.list.items (all_pieces meaning l.jobs.items);
+      give : trees_with l.list.items (all_pieces meaning l.jobs.items) ++ all_sunk meaning l.tree-iterator.rest.items ≡ all_sunk meaning l.fn.trees.items;
+      fit : All (λ x. HasShape meaning.weigh x.0.0 x.0.1) l.tree-iterator.rest.items → All (λ x. HasShape meaning.weigh x.0.0 x.0.1) l.fn.trees.items;
       number : l.number + into_iter_len l.tree-iterator ≤ 65536;
       space : vec_len l.list + into_iter_len l.tree-iterator ≤ vec_capacity l.list;
       empty : l.room.items ≡ [];

@@ -1,21 +1,32 @@
-use Rattle.std.proofs.Common.{◌<◌, ap, arith, length, subst}
+use Rattle.std.proofs.Common.{◌<◌, None, ap, arith, get_or, length, refl, subst}
 use Rattle.std.proofs.lemmas.List.{take_all}
 use Rattle.std.proofs.lemmas.Grind.{common_steps}
+use Rattle.bt_messages.specs.Shares.{counts}
+use Rattle.bt_messages.specs.declared.share.Share.{Share}
 use Rattle.bt_messages.specs.inside.Rooms.{HaveRoom}
-use Rattle.bt_messages.proofs.Sharing.{any_default, room_more}
+use Rattle.bt_messages.proofs.Sharing.{room_more}
+use Rattle.bt_messages.proofs.Weighing.{count_here, length-counts}
 use Rattle.bt_messages.proofs.offered.Totals.{part_of_total}
 use Rattle.bt_messages.proofs.share.room_for_each.Goals as goal
 
 pub room_with-requires : goal.room_with-requires
-room_with-requires g c = omega (arith, c.requires.bound, part_of_total c.args.shares.now c.loop-place.place 0 c.loop-place-test.true)
+room_with-requires g c =
+    let ss = c.args.shares.now in
+    let none : Share = record { count = 0; weight = None } in
+    let within : c.loop-place.place < length (counts ss) = omega (arith, c.loop-place-test.true, length-counts ss) in
+    let n = (get_or ss c.loop-place.place none).count in
+    omega (arith, c.requires.bound, part_of_total (counts ss) c.loop-place.place n within, count_here ss c.loop-place.place none n c.loop-place-test.true refl)
 
 pub loop-place-preserved : goal.loop-place-preserved
 loop-place-preserved g c =
-    let within : c.loop-place.place < length c.args.shares.now = c.loop-place-test.true in
-    let below : c.loop-place.place < length c.args.buffers.now = omega (arith, within, c.requires.len) in
+    let ss = c.args.shares.now in
+    let none : Share = record { count = 0; weight = None } in
+    let within : c.loop-place.place < length (counts ss) = omega (arith, c.loop-place-test.true, length-counts ss) in
+    let below : c.loop-place.place < length c.args.buffers.now = omega (arith, c.loop-place-test.true, c.requires.len) in
     record {
-      room = room_more c.loop-place.place c.args.shares.now c.args.buffers.now c.loop-place.rooms.items c.push_reserved.new.self.items _ c.index-buffers-place.result c.in_ok-room.room
-          c.loop-place.invariant.len within below (any_default c.args.shares.now c.loop-place.place 0 _ within) c.index-buffers-place.is c.in_ok-room.ensures c.push_reserved.ensures.items c.loop-place.invariant.room;
+      room = room_more c.loop-place.place (counts ss) c.args.buffers.now c.loop-place.rooms.items c.push_reserved.new.self.items _ c.index-buffers-place.result c.in_ok-room.room
+          c.loop-place.invariant.len within below (count_here ss c.loop-place.place none _ c.loop-place-test.true refl) c.index-buffers-place.is c.in_ok-room.ensures c.push_reserved.ensures.items
+          c.loop-place.invariant.room;
       len = grind (arith, common_steps);
       capacity = grind (arith, common_steps);
     }
@@ -33,6 +44,6 @@ push_reserved-requires g c =
 
 pub returns : goal.returns
 returns g c = record {
-  room = subst (λ shares. HaveRoom shares c.args.buffers.now c.loop-place.rooms.items) (take_all c.loop-place.place c.args.shares.now (omega (arith, c.loop-place-test.false))) c.loop-place.invariant.room;
+  room = subst (λ shares. HaveRoom shares c.args.buffers.now c.loop-place.rooms.items) (take_all c.loop-place.place (counts c.args.shares.now) (omega (arith, c.loop-place-test.false, length-counts c.args.shares.now))) c.loop-place.invariant.room;
   len = omega (arith, c.loop-place.invariant.len, c.loop-place-test.false, c.loop-place.auto.place-end);
 }

@@ -37,7 +37,7 @@ loop-key-smaller g c =
 
 pub loop-key-preserved-in_ok-visit_held : goal.loop-key-preserved-in_ok-visit_held
 loop-key-preserved-in_ok-visit_held g c =
-    let effect = effect_of g.V.Merge.merged in
+    let effect = effect_of g.V.Merge.terms.merged in
     let k = c.in-Some.key.now in
     let m : Key × Message g.row.V.Denot g.row.V-Delta.Denot = (k, c.in-Some.message.now) in
     let so_far = c.loop-key.invariant in
@@ -55,7 +55,7 @@ loop-key-preserved-in_ok-visit_held g c =
 
 pub loop-key-preserved : goal.loop-key-preserved
 loop-key-preserved g c =
-    let effect = effect_of g.V.Merge.merged in
+    let effect = effect_of g.V.Merge.terms.merged in
     let k = c.in-Some.key.now in
     let m : Key × Message g.row.V.Denot g.row.V-Delta.Denot = (k, c.in-Some.message.now) in
     let so_far = c.loop-key.invariant in
@@ -73,7 +73,7 @@ loop-key-preserved g c =
 
 pub returns-then-is_reached : goal.returns-then-is_reached
 returns-then-is_reached g c =
-    let effect = effect_of g.V.Merge.merged in
+    let effect = effect_of g.V.Merge.terms.merged in
     let so_far = c.loop-key.invariant in
     let all = fold (limited g.S.Visitor.visited) (c.args.visitor.now, c.args.limit.now) (rows_after effect c.args.messages c.args.rows.now) in
     let reached : c.visit_rows.new.limit ≡ Some 0 = search rules in

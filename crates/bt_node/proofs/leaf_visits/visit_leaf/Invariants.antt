@@ -9,8 +9,8 @@ use Rattle.bt_node.proofs.leaf_visits.visit_leaf.Given as goal
 -- the rows that were shown, and then those after the messages that are left
 abbrev pub invariant-loop-key : goal.invariant-loop-key
 invariant-loop-key g l = record {
-  wanted : fold (limited g.S.Visitor.visited) (l.fn.visitor, l.fn.limit) (rows_after (effect_of g.V.Merge.merged) l.fn.messages l.fn.rows)
-      ≡ fold (limited g.S.Visitor.visited) (l.visitor, l.limit) (rows_after (effect_of g.V.Merge.merged) l.messages l.left);
+  wanted : fold (limited g.S.Visitor.visited) (l.fn.visitor, l.fn.limit) (rows_after (effect_of g.V.Merge.terms.merged) l.fn.messages l.fn.rows)
+      ≡ fold (limited g.S.Visitor.visited) (l.visitor, l.limit) (rows_after (effect_of g.V.Merge.terms.merged) l.messages l.left);
   rows : is_sorted key_cmp l.left ≡ true;
   messages : IsSorted l.messages;
 }

@@ -1,7 +1,7 @@
 -- To empty the fullest in turn is to take the plan.
-use Rattle.std.proofs.Common.{◌≡◌, ℕ, zero, suc, ◌+◌, ◌<◌, ◌≤◌, ◌≢◌, cond, ltb, List, [], ◌∷◌, ◌++◌, length, get_or, set, refl, sym, ap, ◌∙◌, subst, arith, inl, inr, append_assoc}
-use Rattle.std.proofs.lemmas.Bool.{le-leb, lt-leb, cond-true, cond-false, lt-ltb, le-ltb}
-use Rattle.std.proofs.lemmas.List.{get_or_default, get_or_past}
+use Rattle.std.proofs.Common.{◌≡◌, ℕ, zero, suc, ◌+◌, ◌<◌, ◌≤◌, ◌≢◌, Bool, true, false, nat_le, cond, ltb, List, [], ◌∷◌, length, get_or, set, refl, sym, ap, ◌∙◌, subst, arith, inl, inr}
+use Rattle.std.proofs.lemmas.Bool.{leb-true, leb-false, le-leb, lt-leb, cond-true, cond-false, lt-ltb, le-ltb}
+use Rattle.std.proofs.lemmas.List.{get_or_past}
 use Rattle.std.specs.List.{All, AllByRecursion}
 use Rattle.bt_node.specs.Plans.{total, most, fullest, planned}
 use Rattle.bt_node.proofs.lemmas.plans.RenewedChoice.{le_or_lt, nothing, most-here, most-later, fullest-here, fullest-later, total-rest, renewed-planned}
@@ -75,34 +75,30 @@ planned-over ns capacity over =
     ∙ cond-false _ _ _ (lt-leb _ _ over)
     ∙ ap (λ is. fullest ns ∷ is) (renewed-planned capacity (total ns) (set ns (fullest ns) 0) (omega (arith, total-emptied ns capacity over)))
 
--- A turn while n are pending in all, at place i.
-pub record Turn (ns : List ℕ) (capacity n i : ℕ) : Type 0 where
-  pub over : capacity < n
-  pub all : n ≡ total ns
+-- a turn, at place i
+pub record Turn (ns : List ℕ) (capacity i : ℕ) : Type 0 where
+  pub over : capacity < total ns
   pub place : i ≡ fullest ns
 
-module _ (ns : List ℕ) (capacity left place : ℕ) (turn : Turn ns capacity left place) where
+-- the code's test whether the loads are within the capacity
+pub none_planned : (ns : List ℕ) (capacity : ℕ) (test : Bool) → test ≡ true → test ≡ nat_le (total ns) capacity → planned ns capacity ≡ []
+none_planned ns capacity test within is = planned-within ns capacity (leb-true _ _ (sym is ∙ within))
+
+pub turn_taken : (ns : List ℕ) (capacity place : ℕ) (test : Bool) → test ≡ false → test ≡ nat_le (total ns) capacity → place ≡ fullest ns → Turn ns capacity place
+turn_taken ns capacity place test past is fullest_there = record { over = leb-false _ _ (sym is ∙ past); place = fullest_there }
+
+module _ (ns : List ℕ) (capacity place : ℕ) (turn : Turn ns capacity place) where
   -- its place is one of a child
   pub turn-below : place < length ns
-  turn-below = omega (arith, turn.place, fullest-below ns capacity (omega (arith, turn.over, turn.all)))
+  turn-below = omega (arith, turn.place, fullest-below ns capacity turn.over)
 
-  -- for the child some are pending
-  pub turn-some : (n : ℕ) → n ≡ get_or ns place n → 0 < n
-  turn-some n is =
-      let some : 0 < get_or ns place 0 = rw turn.place (fullest-some ns capacity (omega (arith, turn.over, turn.all))) in
-      omega (arith, is, some, get_or_default ns place n 0 turn-below)
-
-  -- and then no more do
-  pub turn-left : (n : ℕ) → n ≡ get_or ns place n → n + total (set ns place 0) ≡ left
-  turn-left n is =
-      let less : get_or ns place 0 + total (set ns place 0) ≡ total ns = rw turn.place (total-emptied ns capacity (omega (arith, turn.over, turn.all))) in
-      omega (arith, is, less, turn.all, get_or_default ns place n 0 turn-below)
+  -- less is pending then
+  pub turn-less : total (set ns place 0) < total ns
+  turn-less = rw turn.place (omega (arith, total-emptied ns capacity turn.over, fullest-some ns capacity turn.over))
 
   -- the place comes before those that are planned without it
-  pub turn-planned : (done : List ℕ) → (done ++ place ∷ []) ++ planned (set ns place 0) capacity ≡ done ++ planned ns capacity
-  turn-planned done =
-      append_assoc done (place ∷ []) (planned (set ns place 0) capacity)
-      ∙ ap (λ z. done ++ z) (rw turn.place (sym (planned-over ns capacity (omega (arith, turn.over, turn.all)))))
+  pub turn-planned : place ∷ planned (set ns place 0) capacity ≡ planned ns capacity
+  turn-planned = rw turn.place (sym (planned-over ns capacity turn.over))
 
 -- ---- what is planned
 

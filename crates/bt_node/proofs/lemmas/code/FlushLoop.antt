@@ -1,7 +1,8 @@
 -- A pass over children takes their shares from one stream.
-use Rattle.std.proofs.Common.{◌≡◌, ◌≤◌, ℕ, Bool, true, false, List, [], ◌∷◌, ◌++◌, Option, append_assoc, drop, length, take, refl, sym, ap, ◌∙◌, arith, length-drop}
+use Rattle.std.proofs.Common.{◌≡◌, ℕ, Bool, true, false, List, [], ◌∷◌, ◌++◌, append_assoc, drop, take, refl, sym, ap, ◌∙◌}
 use Rattle.std.proofs.lemmas.List.{drop-drop}
 use Rattle.std.specs.List.{zip}
+use Rattle.bt_messages.specs.Meanings.{Meaning}
 use Rattle.bt_messages.specs.Parts.{total}
 use Rattle.bt_messages.specs.declared.message.Message.{Message}
 use Rattle.bt_node.specs.declared.mode.Mode.{Mode}
@@ -18,38 +19,35 @@ module _ {X : Type 0} (n : ℕ) (ns shares : List ℕ) (ms stream : List X) (fir
   pub same_left : (whole : List X) → drop (total shares) stream ≡ whole → drop (total ns) ms ≡ whole
   same_left whole kept = ap (drop (total ns)) left ∙ drop-drop (total ns) n stream ∙ sym (ap (λ ks. drop (total ks) stream) first) ∙ kept
 
-  pub rest_fits : total shares ≤ length stream → total ns ≤ length ms
-  rest_fits enough = omega (arith, ap total first, ap length left, length-drop n stream, enough)
-
 -- the siblings of a child that is flushed, for which nothing is pending
 pub behind_pivot-flushed : {V M : Type 0} (k : Key) (xs : Siblings V M) → behind_pivot k [] xs ≡ none_pending (pivot_first k xs)
 behind_pivot-flushed k [] = refl
 behind_pivot-flushed k (x ∷ xs) = refl
 
-module _ {V D : Type 0} (effect : Option V → Message V D → Option V) (mode : Mode) (s : Shape) (c : Child V (Message V D)) (cs all : List (Child V (Message V D))) (n : ℕ) (ns shares : List ℕ)
+module _ {V D : Type 0} (meaning : Meaning V (Message V D)) (mode : Mode) (s : Shape) (c : Child V (Message V D)) (cs all : List (Child V (Message V D))) (n : ℕ) (ns shares : List ℕ)
     (ms stream : Messages (Message V D)) (marks_left : List Bool) (child : all ≡ c ∷ cs) (share : shares ≡ n ∷ ns) (left : ms ≡ drop n stream) (done now : List (Child V (Message V D))) where
   -- the child with its share
   abbrev pub with_share : Child V (Message V D)
   with_share = record { pivot = c.pivot; tree = c.tree; pending = with_messages (take n stream) c.pending }
 
   abbrev rest : Messages (Message V D) → List (Child V (Message V D))
-  rest zs = pass effect mode s (zip (loaded cs ns zs) marks_left)
+  rest zs = pass meaning mode s (zip (loaded cs ns zs) marks_left)
 
   -- what it becomes, and then what the others do
   next : (part : List (Child V (Message V D))) (marks : List Bool) (m : Bool) → marks ≡ m ∷ marks_left → now ≡ done ++ part →
-      done ++ (part ++ rest (drop n stream)) ≡ done ++ pass effect mode s (zip (loaded (c ∷ cs) (n ∷ ns) stream) (m ∷ marks_left)) →
-      now ++ rest ms ≡ done ++ pass effect mode s (zip (loaded all shares stream) marks)
+      done ++ (part ++ rest (drop n stream)) ≡ done ++ pass meaning mode s (zip (loaded (c ∷ cs) (n ∷ ns) stream) (m ∷ marks_left)) →
+      now ++ rest ms ≡ done ++ pass meaning mode s (zip (loaded all shares stream) marks)
   next part marks m mark pushed same =
       ap (λ zs. zs ++ rest ms) pushed ∙ append_assoc done part (rest ms) ∙ ap (λ zs. done ++ (part ++ rest zs)) left ∙ same
-      ∙ sym (ap (λ bs. done ++ pass effect mode s (zip (loaded all shares stream) bs)) mark
-      ∙ ap (λ ks. done ++ pass effect mode s (zip (loaded all ks stream) (m ∷ marks_left))) share
-      ∙ ap (λ ds. done ++ pass effect mode s (zip (loaded ds (n ∷ ns) stream) (m ∷ marks_left))) child)
+      ∙ sym (ap (λ bs. done ++ pass meaning mode s (zip (loaded all shares stream) bs)) mark
+      ∙ ap (λ ks. done ++ pass meaning mode s (zip (loaded all ks stream) (m ∷ marks_left))) share
+      ∙ ap (λ ds. done ++ pass meaning mode s (zip (loaded ds (n ∷ ns) stream) (m ∷ marks_left))) child)
 
   -- a child that is flushed
-  pub one_flushed : (marks : List Bool) → marks ≡ true ∷ marks_left → now ≡ done ++ flushed (flush_in effect mode s) with_share →
-      now ++ rest ms ≡ done ++ pass effect mode s (zip (loaded all shares stream) marks)
-  one_flushed marks mark pushed = next (flushed (flush_in effect mode s) with_share) marks true mark pushed refl
+  pub one_flushed : (marks : List Bool) → marks ≡ true ∷ marks_left → now ≡ done ++ flushed (flush_in meaning mode s) with_share →
+      now ++ rest ms ≡ done ++ pass meaning mode s (zip (loaded all shares stream) marks)
+  one_flushed marks mark pushed = next (flushed (flush_in meaning mode s) with_share) marks true mark pushed refl
 
   -- a child that takes its share
-  pub one_kept : (marks : List Bool) → marks ≡ false ∷ marks_left → now ≡ done ++ with_share ∷ [] → now ++ rest ms ≡ done ++ pass effect mode s (zip (loaded all shares stream) marks)
+  pub one_kept : (marks : List Bool) → marks ≡ false ∷ marks_left → now ≡ done ++ with_share ∷ [] → now ++ rest ms ≡ done ++ pass meaning mode s (zip (loaded all shares stream) marks)
   one_kept marks mark pushed = next (with_share ∷ []) marks false mark pushed refl

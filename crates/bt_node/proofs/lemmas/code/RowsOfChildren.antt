@@ -24,8 +24,8 @@ module _ {V M : Type 0} where
   children_lie (suc levels) low high ns buffer lies = (levels, lies.2)
 
   -- a tree that fits is in order
-  pub shape_in_order : (shape : Shape) (t : Tree V M) → HasShape shape t → IsInOrder t
-  shape_in_order shape t has = (has.levels, None, None, has.fits.lies)
+  pub shape_in_order : (weigh : Key × M → ℕ) (shape : Shape) (t : Tree V M) → HasShape weigh shape t → IsInOrder t
+  shape_in_order weigh shape t has = (has.levels, None, None, has.fits.lies)
 
   -- a tree of siblings
   tree_at : (xs : Siblings V M) (i : ℕ) (t : Tree V M) → i < length xs → t ≡ get_or (map (λ x. x.1) xs) i t → (x : Key × Tree V M) × (x.1 ≡ t) × (x ≡ get_or xs i x)

@@ -8,9 +8,9 @@ use Rattle.bt_messages.specs.Bins.{AllBefore, LieBetween, each_with, joined, par
 use Rattle.bt_messages.specs.Parts.{parted}
 use Rattle.bt_messages.proofs.offered.Parts.{added_is, lie_length, parts-joined}
 use Rattle.bt_node.specs.Fits.{SiblingsLie}
-use Rattle.bt_node.specs.Flushes.{Child, counts, shared}
-use Rattle.bt_node.specs.Messages.{Messages, before, from, with_messages}
-use Rattle.bt_node.specs.Trees.{Siblings, Tree, inner, nodes, pivots_of}
+use Rattle.bt_node.specs.Flushes.{Child, loads, shared}
+use Rattle.bt_node.specs.Messages.{Messages, before, from, load, with_messages}
+use Rattle.bt_node.specs.Trees.{Shape, Siblings, Tree, inner, nodes, pivots_of}
 use Rattle.bt_node.specs.Children.{AreDivided, beside}
 use Rattle.bt_node.specs.inside.Flushing.{AreReady, IsReady, loaded}
 use Rattle.bt_node.specs.declared.mode.Mode.{Mode}
@@ -81,13 +81,13 @@ module _ {V M : Type 0} where
   bins-length [] bs some h = absurd (omega (arith, some))
   bins-length (x ∷ xs) bs some h = omega (arith, lie_length (pivots_of (x ∷ xs)) bs h, length-map xs (λ (y : Key × Tree V M). y.0))
 
-  -- ---- counts
+  -- ---- loads
 
-  counts-beside : (xs : Siblings V M) (bs : List (Messages M)) → length bs ≡ length xs → counts (beside xs bs) ≡ map length bs
-  counts-beside [] [] e = refl
-  counts-beside [] (b ∷ bs) e = absurd (omega (arith, e))
-  counts-beside (x ∷ xs) [] e = absurd (omega (arith, e))
-  counts-beside (x ∷ xs) (b ∷ bs) e = ap (λ ns. length b ∷ ns) (counts-beside xs bs (omega (arith, e)))
+  loads-beside : (weigh : Key × M → ℕ) (s : Shape) (xs : Siblings V M) (bs : List (Messages M)) → length bs ≡ length xs → loads weigh s (beside xs bs) ≡ map (load weigh s.measure) bs
+  loads-beside weigh s [] [] e = refl
+  loads-beside weigh s [] (b ∷ bs) e = absurd (omega (arith, e))
+  loads-beside weigh s (x ∷ xs) [] e = absurd (omega (arith, e))
+  loads-beside weigh s (x ∷ xs) (b ∷ bs) e = ap (λ ns. load weigh s.measure b ∷ ns) (loads-beside weigh s xs bs (omega (arith, e)))
 
   -- a share for each of siblings
   pub shares-length : (xs : Siblings V M) (ns : List ℕ) (ms packet : Messages M) → 1 ≤ length xs → parted ns ms ≡ parts (pivots_of xs) packet → length ns ≡ length xs
@@ -103,11 +103,11 @@ module _ {V M : Type 0} where
       parts-long (k ∷ ks) ms = ap suc (parts-long ks (from k ms))
 
   -- bins with their shares have what is pending for the children
-  pub loads-are : (xs : Siblings V M) (bs : List (Messages M)) (ns : List ℕ) (ms packet : Messages M) → LieBetween (pivots_of xs) bs → parted ns ms ≡ parts (pivots_of xs) packet →
-      length bs ≡ length xs → length ns ≡ length bs → map length (each_with (parted ns ms) bs) ≡ counts (shared xs (with_messages packet (joined bs)))
-  loads-are xs bs ns ms packet h sizes e few =
-      sym (counts-beside xs (each_with (parted ns ms) bs) (omega (arith, each-long ns ms bs few, e)))
-      ∙ ap counts (sym (loaded-beside xs bs ns ms) ∙ loaded-shared xs bs ns ms packet h sizes)
+  pub loads-are : (weigh : Key × M → ℕ) (s : Shape) (xs : Siblings V M) (bs : List (Messages M)) (ns : List ℕ) (ms packet : Messages M) → LieBetween (pivots_of xs) bs → parted ns ms ≡ parts (pivots_of xs) packet →
+      length bs ≡ length xs → length ns ≡ length bs → map (load weigh s.measure) (each_with (parted ns ms) bs) ≡ loads weigh s (shared xs (with_messages packet (joined bs)))
+  loads-are weigh s xs bs ns ms packet h sizes e few =
+      sym (loads-beside weigh s xs (each_with (parted ns ms) bs) (omega (arith, each-long ns ms bs few, e)))
+      ∙ ap (loads weigh s) (sym (loaded-beside xs bs ns ms) ∙ loaded-shared xs bs ns ms packet h sizes)
 
   pub length-loaded : (cs : List (Child V M)) (ns : List ℕ) (ms : Messages M) → length ns ≡ length cs → length (loaded cs ns ms) ≡ length cs
   length-loaded [] ns ms e = refl

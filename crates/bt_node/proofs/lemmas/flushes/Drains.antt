@@ -1,9 +1,8 @@
 -- No message is pending in what becomes of a node that is drained, nor in a tree of rows.
 use Rattle.std.proofs.Common.{◌≡◌, ℕ, zero, suc, ◌≤◌, List, [], ◌∷◌, ◌++◌, map, length, refl, sym, ap, subst, ◌∙◌, arith, le_refl}
 use Rattle.std.specs.List.{flat_map}
-use Rattle.std.specs.declared.option.Option.{Option}
 use Rattle.bt_keycode.specs.Keys.{Key}
-use Rattle.bt_node.specs.Messages.{Rows, Messages, rows_after}
+use Rattle.bt_node.specs.Messages.{Rows, Meaning, Messages, rows_after}
 use Rattle.bt_node.specs.Deals.{deal}
 use Rattle.bt_node.specs.declared.mode.Mode.TheVariants.{Drain}
 use Rattle.bt_node.specs.Trees.{Shape, Tree, leaf, inner, Siblings, nodes, height, height_below}
@@ -91,18 +90,18 @@ module _ {V M : Type 0} where
   pub crown-dry : (s : Shape) (xs : Siblings V M) → AreDry (nodes xs) → IsDry (crown s xs)
   crown-dry s xs d = crowned-dry (length xs) s xs d
 
-module _ {V M : Type 0} (effect : Option V → M → Option V) (s : Shape) where
-  flush_at-dry : (h : ℕ) (t : Tree V M) (p : Messages M) → height t ≤ h → AreDry (nodes (flush_at effect Drain h s t p))
-  flush_at-dry h (leaf rs) p l = dry-leaves M s (rows_after effect p rs)
+module _ {V M : Type 0} (meaning : Meaning V M) (s : Shape) where
+  flush_at-dry : (h : ℕ) (t : Tree V M) (p : Messages M) → height t ≤ h → AreDry (nodes (flush_at meaning Drain h s t p))
+  flush_at-dry h (leaf rs) p l = dry-leaves M s (rows_after meaning.effect p rs)
   flush_at-dry zero (inner ns b) p l = absurd (omega (arith, l))
   flush_at-dry (suc h) (inner ns b) p l =
-      dry-grouped s _ (dry-flushed (height_below ns) (flush_at effect Drain h s) (λ t p k. flush_at-dry h t p (omega (arith, k, l))) _
+      dry-grouped s _ (dry-flushed (height_below ns) (flush_at meaning Drain h s) (λ t p k. flush_at-dry h t p (omega (arith, k, l))) _
       (shared-within (height_below ns) ns _ (le_refl (height_below ns))))
 
-  pub drain-dry : (t : Tree V M) (p : Messages M) → AreDry (nodes (drain effect s t p))
+  pub drain-dry : (t : Tree V M) (p : Messages M) → AreDry (nodes (drain meaning s t p))
   drain-dry t p = flush_at-dry (height t) t p (le_refl (height t))
 
-  pub drain_dries : (t : Tree V M) (p : Messages M) (xs : Siblings V M) → xs ≡ drain effect s t p → AreDry (nodes xs)
+  pub drain_dries : (t : Tree V M) (p : Messages M) (xs : Siblings V M) → xs ≡ drain meaning s t p → AreDry (nodes xs)
   drain_dries t p xs is = subst (λ ys. AreDry (nodes ys)) (sym is) (drain-dry t p)
 
 -- in one node above siblings in which nothing is pending, nothing is

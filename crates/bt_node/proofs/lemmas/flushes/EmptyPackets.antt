@@ -2,11 +2,11 @@
 use Rattle.std.proofs.Common.{◌≡◌, ℕ, zero, suc, ◌≤◌, true, false, cond, not, List, [], ◌∷◌, ◌++◌, map, length, refl, sym, ap, ◌∙◌, arith, append-nil}
 use Rattle.std.specs.declared.option.Option.{Option}
 use Rattle.bt_keycode.specs.Keys.{Key, is_before, AllFrom, IsSorted}
-use Rattle.bt_node.specs.Messages.{Messages, before, from}
+use Rattle.bt_node.specs.Messages.{Meaning, Messages, before, from, load}
 use Rattle.bt_node.specs.Plans.{total}
 use Rattle.bt_node.specs.declared.mode.Mode.TheVariants.{Absorb}
 use Rattle.bt_node.specs.Trees.{Shape, Tree, leaf, inner, Nodes, Siblings, children, nodes}
-use Rattle.bt_node.specs.Flushes.{Child, Flush, pivot_first, counts, shared, flushed, flushed_in, flush_at, gathered, grouped, absorb}
+use Rattle.bt_node.specs.Flushes.{Child, Flush, pivot_first, loads, pending_load, shared, flushed, flushed_in, flush_at, gathered, grouped, absorb}
 use Rattle.bt_node.specs.Fits.{IsLed, Lies, IsSized, NodeFits, IsRoomy}
 use Rattle.bt_keycode.proofs.offered.Order.{from_earlier}
 use Rattle.bt_node.proofs.lemmas.keys.SortedLists.{sorted-where}
@@ -15,7 +15,7 @@ use Rattle.bt_node.proofs.lemmas.plans.Capacity.{settled-still}
 use Rattle.bt_node.proofs.lemmas.flushes.Children.{all_pending}
 use Rattle.bt_node.proofs.lemmas.flushes.Groups.{some_length, led-full, stripped, as_leaf, nodes-children}
 use Rattle.bt_node.proofs.lemmas.flushes.Passes.{flushed-light}
-use Rattle.bt_node.proofs.lemmas.flushes.NodeSizes.{total-counts}
+use Rattle.bt_node.proofs.lemmas.flushes.NodeSizes.{total-loads}
 use Rattle.bt_node.proofs.lemmas.flushes.Shares.{length-shared}
 use Rattle.bt_node.proofs.lemmas.flushes.RowsKept.{flush-at-levels}
 
@@ -73,21 +73,21 @@ module _ {V M : Type 0} where
       grouped-one s (shared xs b) some (omega (arith, length-shared xs b, few)) ∙ ap (λ t. ([], t) ∷ []) (gathered-shared xs b l r)
 
   -- what becomes of a node whose children and messages are within its shape is the node
-  pub still-here : (s : Shape) (ns : Nodes V M) (b : Messages M) → IsLed (children ns) → IsSorted b → 1 ≤ s.fanout → length (children ns) ≤ s.fanout → length b ≤ s.buffer → (flush : Flush V M) →
-      grouped s (flushed_in Absorb flush s.buffer (shared (children ns) b)) ≡ ([], inner ns b) ∷ []
-  still-here s ns b l r some few fits flush =
+  pub still-here : (weigh : Key × M → ℕ) (s : Shape) (ns : Nodes V M) (b : Messages M) → IsLed (children ns) → IsSorted b → 1 ≤ s.fanout → length (children ns) ≤ s.fanout → load weigh s.measure b ≤ s.buffer → (flush : Flush V M) →
+      grouped s (flushed_in weigh s Absorb flush (shared (children ns) b)) ≡ ([], inner ns b) ∷ []
+  still-here weigh s ns b l r some few fits flush =
       let cs = shared (children ns) b in
-      let pending : total (counts cs) ≤ s.buffer = omega (arith, total-counts cs, ap length (all_pending-shared (children ns) b (some_length (children ns) (led-full (children ns) l)) r), fits) in
-      ap (grouped s) (settled-still (λ c. length c.pending) (flushed flush) (flushed-light flush) s.buffer (total (counts cs)) cs pending)
+      let pending : total (loads weigh s cs) ≤ s.buffer = omega (arith, total-loads weigh s cs, ap (load weigh s.measure) (all_pending-shared (children ns) b (some_length (children ns) (led-full (children ns) l)) r), fits) in
+      ap (grouped s) (settled-still (pending_load weigh s) (flushed flush) (flushed-light weigh s flush) s.buffer (total (loads weigh s cs)) cs pending)
       ∙ grouped-shared s (children ns) b l r some few ∙ ap (λ ms. ([], inner ms b) ∷ []) (nodes-children ns)
 
-module _ {V M : Type 0} (effect : Option V → M → Option V) (s : Shape) (roomy : IsRoomy s) where
-  flush_at-still : (levels : ℕ) (low high : Option Key) (t : Tree V M) → Lies levels low high t → IsSized s t → flush_at effect Absorb (suc levels) s t [] ≡ ([], t) ∷ []
+module _ {V M : Type 0} (meaning : Meaning V M) (s : Shape) (roomy : IsRoomy s) where
+  flush_at-still : (levels : ℕ) (low high : Option Key) (t : Tree V M) → Lies levels low high t → IsSized meaning.weigh s t → flush_at meaning Absorb (suc levels) s t [] ≡ ([], t) ∷ []
   flush_at-still zero low high (leaf rs) lies z = ap (λ gs. pivot_first [] (map (as_leaf M) gs)) (deal-one s.leaf rs roomy.leaf z)
   flush_at-still zero low high (inner ns b) lies z = absurd lies
   flush_at-still (suc levels) low high (leaf rs) lies z = absurd lies
   flush_at-still (suc levels) low high (inner ns b) lies z =
-      still-here s ns b lies.3 lies.1 (omega (arith, roomy.fanout)) z.1 z.2 (flush_at effect Absorb (suc levels) s)
+      still-here meaning.weigh s ns b lies.3 lies.1 (omega (arith, roomy.fanout)) z.1 z.2 (flush_at meaning Absorb (suc levels) s)
 
-  pub absorb-still : (levels : ℕ) (low high : Option Key) (t : Tree V M) → NodeFits s levels low high t → absorb effect s t [] ≡ ([], t) ∷ []
-  absorb-still levels low high t fits = flush-at-levels effect Absorb s levels low high t [] fits.lies ∙ flush_at-still levels low high t fits.lies fits.sized
+  pub absorb-still : (levels : ℕ) (low high : Option Key) (t : Tree V M) → NodeFits meaning.weigh s levels low high t → absorb meaning s t [] ≡ ([], t) ∷ []
+  absorb-still levels low high t fits = flush-at-levels meaning Absorb s levels low high t [] fits.lies ∙ flush_at-still levels low high t fits.lies fits.sized

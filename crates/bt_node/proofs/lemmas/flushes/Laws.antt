@@ -1,14 +1,14 @@
 -- What is promised of a node and a packet, of children that are flushed, and of rows that are packed, from its parts.
-use Rattle.std.proofs.Common.{◌≡◌, ℕ, suc, T, List, [], ◌∷◌, length, refl, sym, ap, subst, ◌∙◌, arith, le_refl}
+use Rattle.std.proofs.Common.{◌≡◌, ℕ, suc, T, List, [], ◌∷◌, refl, sym, ap, subst, ◌∙◌, arith, le_refl}
 use Rattle.std.specs.FinMap.{is_sorted}
 use Rattle.std.specs.declared.option.Option.{Option}
 use Rattle.std.specs.declared.option.Option.TheVariants.{None, Some}
 use Rattle.bt_keycode.specs.Keys.{Key, key_cmp, AllWithin}
-use Rattle.bt_node.specs.Messages.{Rows, Messages}
+use Rattle.bt_node.specs.Messages.{Rows, Meaning, Messages}
 use Rattle.bt_node.specs.Plans.{total}
 use Rattle.bt_node.specs.declared.mode.Mode.{Mode}
 use Rattle.bt_node.specs.Trees.{Shape, Tree, Siblings}
-use Rattle.bt_node.specs.Flushes.{counts, flushed, flush_in, absorb, leaves, all_hold}
+use Rattle.bt_node.specs.Flushes.{loads, pending_load, flushed, flush_in, absorb, leaves, all_hold}
 use Rattle.bt_node.specs.Fits.{SiblingsLie, SiblingsFit, AreHigh, IsRoomy}
 use Rattle.bt_node.specs.Laws.{FlushesInTurn, ChosenArePlanned, FitThere, KeepHeight, StayWithoutPacket, HoldRowsAfter, ComeByOneRule}
 use Rattle.bt_node.proofs.lemmas.plans.OnePass.{replaced-planned}
@@ -21,14 +21,14 @@ use Rattle.bt_node.proofs.lemmas.flushes.NodeSizes.{flush-sized, leaves-sized}
 use Rattle.bt_node.proofs.lemmas.flushes.EmptyPackets.{absorb-still}
 use Rattle.bt_node.proofs.lemmas.flushes.Recursion.{flush_recurs}
 
-pub flushes_in_turn : {V M : Type 0} → FlushesInTurn V M
-flushes_in_turn = record {
-  within = λ f capacity cs few. settled-still (λ c. length c.pending) (flushed f) (flushed-light f) capacity (total (counts cs)) cs few;
-  over = λ f capacity cs many. settled-on (λ c. length c.pending) (flushed f) (flushed-light f) capacity (total (counts cs)) cs many (le_refl (total (counts cs)));
+pub flushes_in_turn : {V M : Type 0} (weigh : Key × M → ℕ) → FlushesInTurn V weigh
+flushes_in_turn weigh = record {
+  within = λ s f cs few. settled-still (pending_load weigh s) (flushed f) (flushed-light weigh s f) s.buffer (total (loads weigh s cs)) cs few;
+  over = λ s f cs many. settled-on (pending_load weigh s) (flushed f) (flushed-light weigh s f) s.buffer (total (loads weigh s cs)) cs many (le_refl (total (loads weigh s cs)));
 }
 
-pub chosen_are_planned : {V M : Type 0} → ChosenArePlanned V M
-chosen_are_planned f capacity cs = replaced-planned (λ c. length c.pending) (flushed f) (flushed-light f) capacity (total (counts cs)) cs (le_refl (total (counts cs)))
+pub chosen_are_planned : {V M : Type 0} (weigh : Key × M → ℕ) → ChosenArePlanned V weigh
+chosen_are_planned weigh s f cs = replaced-planned (pending_load weigh s) (flushed f) (flushed-light weigh s f) s.buffer (total (loads weigh s cs)) cs (le_refl (total (loads weigh s cs)))
 
 pub high-siblings : {V M : Type 0} (levels : ℕ) (low high : Option Key) (xs : Siblings V M) → SiblingsLie levels low high xs → AreHigh (suc levels) xs
 high-siblings levels low high [] b = tt
@@ -40,36 +40,36 @@ pub anywhere : {X : Type 0} (xs : List (Key × X)) → AllWithin None None xs
 anywhere [] = tt
 anywhere (x ∷ xs) = (record { from = refl; below = refl }, anywhere xs)
 
-module _ {V M : Type 0} (effect : Option V → M → Option V) (mode : Mode) (s : Shape) where
-  module _ (roomy : IsRoomy s) (t : Tree V M) (p : Messages M) (xs : Siblings V M) (is : xs ≡ flush_in effect mode s t p) where
-    pub hold_rows_after : HoldRowsAfter effect s t p xs
+module _ {V M : Type 0} (meaning : Meaning V M) (mode : Mode) (s : Shape) where
+  module _ (roomy : IsRoomy s) (t : Tree V M) (p : Messages M) (xs : Siblings V M) (is : xs ≡ flush_in meaning mode s t p) where
+    pub hold_rows_after : HoldRowsAfter meaning s t p xs
     hold_rows_after levels low high fits within =
-        ap (λ ys. all_hold effect ys) is ∙ flush-holds effect mode s (omega (arith, roomy.leaf)) (omega (arith, roomy.fanout)) levels low high t p fits.lies within
+        ap (λ ys. all_hold meaning.effect ys) is ∙ flush-holds meaning mode s (omega (arith, roomy.leaf)) (omega (arith, roomy.fanout)) levels low high t p fits.lies within
 
-    pub fit_there : FitThere s t p xs
+    pub fit_there : FitThere meaning.weigh s t p xs
     fit_there levels low high fits within =
-        let k = flush-keeps effect mode s (omega (arith, roomy.leaf)) (omega (arith, roomy.fanout)) levels low high t p fits.lies within in
-        subst (SiblingsFit s levels low high) (sym is) (record {
+        let k = flush-keeps meaning mode s (omega (arith, roomy.leaf)) (omega (arith, roomy.fanout)) levels low high t p fits.lies within in
+        subst (SiblingsFit meaning.weigh s levels low high) (sym is) (record {
           lie = k.lie;
           led = k.led;
-          sized = flush-sized effect s mode (omega (arith, roomy.leaf)) roomy.fanout levels low high t p fits.lies within fits.sized;
+          sized = flush-sized meaning s mode (omega (arith, roomy.leaf)) roomy.fanout levels low high t p fits.lies within fits.sized;
         })
 
-    pub keep_height : KeepHeight s t p xs
+    pub keep_height : KeepHeight meaning.weigh s t p xs
     keep_height levels low high fits within =
         subst (λ h. AreHigh h xs) (sym (height-lies levels low high t fits.lies)) (high-siblings levels low high xs (fit_there levels low high fits within).lie)
 
-  pub come_by_one_rule : (t : Tree V M) (p : Messages M) (xs : Siblings V M) → xs ≡ flush_in effect mode s t p → ComeByOneRule effect s t p mode xs
-  come_by_one_rule t p xs is ns buffer inside = is ∙ ap (λ u. flush_in effect mode s u p) inside ∙ flush_recurs effect mode s ns buffer p
+  pub come_by_one_rule : (t : Tree V M) (p : Messages M) (xs : Siblings V M) → xs ≡ flush_in meaning mode s t p → ComeByOneRule meaning s t p mode xs
+  come_by_one_rule t p xs is ns buffer inside = is ∙ ap (λ u. flush_in meaning mode s u p) inside ∙ flush_recurs meaning mode s ns buffer p
 
-pub stay_without_packet : {V M : Type 0} (effect : Option V → M → Option V) (s : Shape) (roomy : IsRoomy s) (t : Tree V M) (p : Messages M) (xs : Siblings V M) → xs ≡ absorb effect s t p →
-    StayWithoutPacket s t p xs
-stay_without_packet effect s roomy t p xs is none levels low high fits within = is ∙ ap (absorb effect s t) none ∙ absorb-still effect s roomy levels low high t fits
+pub stay_without_packet : {V M : Type 0} (meaning : Meaning V M) (s : Shape) (roomy : IsRoomy s) (t : Tree V M) (p : Messages M) (xs : Siblings V M) → xs ≡ absorb meaning s t p →
+    StayWithoutPacket meaning.weigh s t p xs
+stay_without_packet meaning s roomy t p xs is none levels low high fits within = is ∙ ap (absorb meaning s t) none ∙ absorb-still meaning s roomy levels low high t fits
 
 -- rows that rise by their keys, dealt into leaves
-pub leaves-fit : {V : Type 0} (M : Type 0) (s : Shape) (rs : Rows V) → IsRoomy s → T (is_sorted key_cmp rs) → SiblingsFit {M = M} s 0 None None (leaves s rs)
-leaves-fit M s rs roomy sorted = record {
+pub leaves-fit : {V M : Type 0} (weigh : Key × M → ℕ) (s : Shape) (rs : Rows V) → IsRoomy s → T (is_sorted key_cmp rs) → SiblingsFit weigh s 0 None None (leaves s rs)
+leaves-fit {M = M} weigh s rs roomy sorted = record {
   lie = leaves-lie M s None None rs (omega (arith, roomy.leaf)) (rows-lie None None rs (anywhere rs) sorted);
   led = leaves-led M s rs (omega (arith, roomy.leaf));
-  sized = leaves-sized M s rs (omega (arith, roomy.leaf));
+  sized = leaves-sized weigh s rs (omega (arith, roomy.leaf));
 }

@@ -6,14 +6,15 @@ use Rattle.std.specs.FinMap.{find}
 use Rattle.std.specs.declared.option.Option.{Option}
 use Rattle.std.specs.declared.option.Option.TheVariants.{Some}
 use Rattle.bt_keycode.specs.Keys.{Key, key_cmp, AllWithin, SideBySide}
+use Rattle.bt_messages.proofs.offered.Loads.{load-none}
 use Rattle.bt_node.specs.Messages.{Messages, value_after}
 use Rattle.bt_node.specs.Plans.{total, planned}
 use Rattle.bt_node.specs.Marks.{flush_marks}
 use Rattle.bt_node.specs.declared.mode.Mode.{Mode}
 use Rattle.bt_node.specs.declared.mode.Mode.TheVariants.{Absorb, Drain}
 use Rattle.bt_node.specs.inside.Passes.{passed, IsLight}
-use Rattle.bt_node.specs.Trees.{Tree, Siblings}
-use Rattle.bt_node.specs.Flushes.{Child, Flush, pivot_first, counts, none_pending, flushed, flushed_in, holds, all_hold}
+use Rattle.bt_node.specs.Trees.{Shape, Tree, Siblings}
+use Rattle.bt_node.specs.Flushes.{Child, Flush, pivot_first, loads, none_pending, pending_load, flushed, flushed_in, holds, all_hold}
 use Rattle.bt_node.specs.Fits.{IsLed, Lies, SiblingsLie}
 use Rattle.bt_node.proofs.lemmas.keys.SideBySide.{Begins, blocks-lie, blocks-long, led-side, side-map, side-mapped, side-weaken}
 use Rattle.bt_node.proofs.lemmas.rows.Values.{find-append, or_else, or_else-None}
@@ -63,7 +64,7 @@ module _ {V M : Type 0} (effect : Option V → M → Option V) (levels : ℕ) (f
   seen-block q low high (c, false) g = or_else-None (seen effect q c)
 
   abbrev pass : List (Child V M × Bool) → List (Child V M)
-  pass = passed (λ c. length c.pending) (flushed f)
+  pass = passed (flushed f)
 
   -- marked children in their places
   marked-lie : (low high : Option Key) (ss : List (Child V M × Bool)) → ChildrenLie levels low high (names ss) → SideBySide (λ s. s.0.pivot) (λ l h s. ChildLies levels l h s.0) low high ss
@@ -91,29 +92,28 @@ module _ {V M : Type 0} (effect : Option V → M → Option V) (levels : ℕ) (f
 
 -- ---- the pass that the marks say
 
-module _ {V M : Type 0} (f : Flush V M) where
-  pub none_pending-light : (xs : Siblings V M) → IsLight (λ c. length c.pending) (flushed f) (none_pending xs)
+module _ {V M : Type 0} (weigh : Key × M → ℕ) (s : Shape) where
+  none_pending-light : (xs : Siblings V M) → IsLight (pending_load weigh s) (none_pending xs)
   none_pending-light [] = tt
-  none_pending-light (x ∷ xs) = (refl, none_pending-light xs)
+  none_pending-light (x ∷ xs) = (load-none weigh s.measure, none_pending-light xs)
 
-  pub flushed-light : (c : Child V M) → IsLight (λ c. length c.pending) (flushed f) (flushed f c)
-  flushed-light c = none_pending-light (pivot_first c.pivot (f c.tree c.pending))
+  pub flushed-light : (f : Flush V M) (c : Child V M) → IsLight (pending_load weigh s) (flushed f c)
+  flushed-light f c = none_pending-light (pivot_first c.pivot (f c.tree c.pending))
 
-module _ {V M : Type 0} where
   -- the children, each with whether it is flushed
-  abbrev pub slots : Mode → ℕ → List (Child V M) → List (Child V M × Bool)
-  slots mode capacity cs = zip cs (flush_marks mode capacity (counts cs))
+  abbrev pub slots : Mode → List (Child V M) → List (Child V M × Bool)
+  slots mode cs = zip cs (flush_marks mode s.buffer (loads weigh s cs))
 
   -- the marked ones are those that are flushed
-  pub flushed-slots : (mode : Mode) (f : Flush V M) (capacity : ℕ) (cs : List (Child V M)) → flushed_in mode f capacity cs ≡ passed (λ c. length c.pending) (flushed f) (slots mode capacity cs)
-  flushed-slots Absorb f capacity cs =
-      settled-planned (λ c. length c.pending) (flushed f) (flushed-light f) capacity (total (counts cs)) cs (le_refl (total (counts cs)))
-      ∙ ap (passed (λ c. length c.pending) (flushed f)) (marked-words (λ c. length c.pending) (planned (counts cs) capacity) cs)
-  flushed-slots Drain f capacity cs = each cs
+  pub flushed-slots : (mode : Mode) (f : Flush V M) (cs : List (Child V M)) → flushed_in weigh s mode f cs ≡ passed (flushed f) (slots mode cs)
+  flushed-slots Absorb f cs =
+      settled-planned (pending_load weigh s) (flushed f) (flushed-light f) s.buffer (total (loads weigh s cs)) cs (le_refl (total (loads weigh s cs)))
+      ∙ ap (passed (flushed f)) (marked-words (pending_load weigh s) (planned (loads weigh s cs) s.buffer) cs)
+  flushed-slots Drain f cs = each cs
     where
-      each : (cs : List (Child V M)) → flat_map (flushed f) cs ≡ passed (λ c. length c.pending) (flushed f) (zip cs (map (λ n. true) (counts cs)))
+      each : (cs : List (Child V M)) → flat_map (flushed f) cs ≡ passed (flushed f) (zip cs (map (λ n. true) (loads weigh s cs)))
       each [] = refl
       each (c ∷ cs) = ap (λ z. flushed f c ++ z) (each cs)
 
-  pub names-slots : (mode : Mode) (capacity : ℕ) (cs : List (Child V M)) → names (slots mode capacity cs) ≡ cs
-  names-slots mode capacity cs = names-zip cs (flush_marks mode capacity (counts cs)) (length-flush_marks mode capacity (counts cs) ∙ length-map cs (λ c. length c.pending))
+  pub names-slots : (mode : Mode) (cs : List (Child V M)) → names (slots mode cs) ≡ cs
+  names-slots mode cs = names-zip cs (flush_marks mode s.buffer (loads weigh s cs)) (length-flush_marks mode s.buffer (loads weigh s cs) ∙ length-map cs (pending_load weigh s))

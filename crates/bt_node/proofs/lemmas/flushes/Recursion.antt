@@ -1,7 +1,7 @@
 -- A flush of a node flushes its children by the same rule, with no bound on heights.
-use Rattle.std.proofs.Common.{◌≡◌, ℕ, zero, suc, ◌<◌, ◌≤◌, Bool, true, false, cond, List, [], ◌∷◌, ◌++◌, length, refl, sym, ap, subst, ◌∙◌, arith, le_refl}
-use Rattle.std.specs.declared.option.Option.{Option}
-use Rattle.bt_node.specs.Messages.{Messages, from, with_messages}
+use Rattle.std.proofs.Common.{◌≡◌, ℕ, zero, suc, ◌<◌, ◌≤◌, Bool, true, false, cond, List, [], ◌∷◌, ◌++◌, refl, sym, ap, subst, ◌∙◌, arith, le_refl}
+use Rattle.bt_keycode.specs.Keys.{Key}
+use Rattle.bt_node.specs.Messages.{Meaning, Messages, from, with_messages}
 use Rattle.bt_node.specs.declared.mode.Mode.{Mode}
 use Rattle.bt_node.specs.inside.Passes.{passed}
 use Rattle.bt_node.specs.Trees.{Shape, Tree, leaf, inner, Nodes, none, node, children, height, height_below}
@@ -28,46 +28,46 @@ module _ {V M : Type 0} (most : ℕ) (f g : Flush V M) (agree : (t : Tree V M) (
   block-same (c, false) l = refl
 
   abbrev pass : Flush V M → List (Child V M × Bool) → List (Child V M)
-  pass h = passed (λ c. length c.pending) (flushed h)
+  pass h = passed (flushed h)
 
   pass-same : (ss : List (Child V M × Bool)) → AreWithin most (names ss) → pass f ss ≡ pass g ss
   pass-same [] l = refl
   pass-same (s ∷ ss) l = ap (λ z. z ++ pass f ss) (block-same s l.0) ∙ ap (λ z. cond s.1 (flushed g s.0) (s.0 ∷ []) ++ z) (pass-same ss l.1)
 
   -- what becomes of the children with one flush is what becomes of them with the other
-  children-same : (mode : Mode) (capacity : ℕ) (cs : List (Child V M)) → AreWithin most cs → flushed_in mode f capacity cs ≡ flushed_in mode g capacity cs
-  children-same mode capacity cs l =
-      flushed-slots mode f capacity cs
-      ∙ pass-same (slots mode capacity cs) (subst (AreWithin most) (sym (names-slots mode capacity cs)) l)
-      ∙ sym (flushed-slots mode g capacity cs)
+  children-same : (weigh : Key × M → ℕ) (s : Shape) (mode : Mode) (cs : List (Child V M)) → AreWithin most cs → flushed_in weigh s mode f cs ≡ flushed_in weigh s mode g cs
+  children-same weigh s mode cs l =
+      flushed-slots weigh s mode f cs
+      ∙ pass-same (slots weigh s mode cs) (subst (AreWithin most) (sym (names-slots weigh s mode cs)) l)
+      ∙ sym (flushed-slots weigh s mode g cs)
 
-module _ {V M : Type 0} (effect : Option V → M → Option V) where
+module _ {V M : Type 0} (meaning : Meaning V M) where
   -- any two bounds that are at least the node's height give the same
-  pub flush-same : (mode : Mode) (s : Shape) (h j : ℕ) (t : Tree V M) (p : Messages M) → height t ≤ h → height t ≤ j → flush_at effect mode h s t p ≡ flush_at effect mode j s t p
+  pub flush-same : (mode : Mode) (s : Shape) (h j : ℕ) (t : Tree V M) (p : Messages M) → height t ≤ h → height t ≤ j → flush_at meaning mode h s t p ≡ flush_at meaning mode j s t p
   flush-same mode s h j (leaf rows) p l m = refl
   flush-same mode s zero j (inner ns b) p l m = absurd (omega (arith, l))
   flush-same mode s (suc h) zero (inner ns b) p l m = absurd (omega (arith, m))
   flush-same mode s (suc h) (suc j) (inner ns b) p l m =
       let most = height_below ns in
       ap (grouped s)
-      (children-same most (flush_at effect mode h s) (flush_at effect mode j s) (λ t p k. flush-same mode s h j t p (omega (arith, k, l)) (omega (arith, k, m))) mode s.buffer _
+      (children-same most (flush_at meaning mode h s) (flush_at meaning mode j s) (λ t p k. flush-same mode s h j t p (omega (arith, k, l)) (omega (arith, k, m))) meaning.weigh s mode _
       (shared-within most ns _ (le_refl most)))
 
   -- an inner node flushes its children by the same rule as itself
   pub flush_recurs : (mode : Mode) (s : Shape) (ns : Nodes V M) (b p : Messages M) →
-      flush_in effect mode s (inner ns b) p ≡ grouped s (flushed_in mode (flush_in effect mode s) s.buffer (shared (children ns) (with_messages p b)))
+      flush_in meaning mode s (inner ns b) p ≡ grouped s (flushed_in meaning.weigh s mode (flush_in meaning mode s) (shared (children ns) (with_messages p b)))
   flush_recurs mode s ns b p =
       let most = height_below ns in
       ap (grouped s)
-      (children-same most (flush_at effect mode most s) (flush_in effect mode s) (λ t p l. flush-same mode s most (height t) t p l (le_refl (height t))) mode s.buffer _
+      (children-same most (flush_at meaning mode most s) (flush_in meaning mode s) (λ t p l. flush-same mode s most (height t) t p l (le_refl (height t))) meaning.weigh s mode _
       (shared-within most ns _ (le_refl most)))
 
   module _ (s : Shape) (mode : Mode) (leaf_some : 0 < s.leaf) (fanout_some : 0 < s.fanout) where
-    flush_at-led : (h : ℕ) (t : Tree V M) (p : Messages M) → IsLed (flush_at effect mode h s t p)
+    flush_at-led : (h : ℕ) (t : Tree V M) (p : Messages M) → IsLed (flush_at meaning mode h s t p)
     flush_at-led h (leaf rows) p = leaves-led M s _ leaf_some
     flush_at-led zero (inner ns b) p = refl
     flush_at-led (suc h) (inner ns b) p = led-map gathered _ (deal-some s.fanout _ fanout_some)
 
     -- the first sibling stands behind the empty key
-    pub flush-led : (t : Tree V M) (p : Messages M) → IsLed (flush_in effect mode s t p)
+    pub flush-led : (t : Tree V M) (p : Messages M) → IsLed (flush_in meaning mode s t p)
     flush-led t p = flush_at-led (height t) t p

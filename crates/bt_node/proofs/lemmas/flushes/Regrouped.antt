@@ -5,7 +5,7 @@ use Rattle.std.specs.FinMap.Entries.{same_entries}
 use Rattle.std.specs.declared.option.Option.{Option}
 use Rattle.bt_keycode.specs.Keys.{Key, key_cmp, AllWithin, IsSorted}
 use Rattle.bt_keycode.proofs.offered.Order.{total_keys}
-use Rattle.bt_node.specs.Messages.{Messages, rows_after, value_after}
+use Rattle.bt_node.specs.Messages.{Messages, load, rows_after, value_after}
 use Rattle.bt_node.specs.Trees.{Shape, Siblings, nodes}
 use Rattle.bt_node.specs.Flushes.{shared, grouped, all_hold}
 use Rattle.bt_node.specs.Fits.{AreSized, IsRoomy, SiblingsFit, SiblingsLie}
@@ -19,7 +19,7 @@ use Rattle.bt_node.proofs.lemmas.flushes.RowsKept.{all_hold-lie}
 use Rattle.bt_node.proofs.lemmas.flushes.Shares.{below-shared, length-shared, shared-lie}
 use Rattle.bt_node.proofs.lemmas.flushes.ValuesKept.{Grouped, groups}
 
-module _ {V M : Type 0} (s : Shape) (roomy : IsRoomy s) (levels : ℕ) (low high : Option Key) (xs : Siblings V M) (b : Messages M) (several : 2 ≤ length xs)
+module _ {V M : Type 0} (weigh : Key × M → ℕ) (s : Shape) (roomy : IsRoomy s) (levels : ℕ) (low high : Option Key) (xs : Siblings V M) (b : Messages M) (several : 2 ≤ length xs)
     (lie : SiblingsLie levels low high xs) (within : AllWithin low high b) (sorted : IsSorted b) where
   children_lie : ChildrenLie levels low high (shared xs b)
   children_lie = shared-lie levels low high xs b lie within sorted
@@ -27,14 +27,14 @@ module _ {V M : Type 0} (s : Shape) (roomy : IsRoomy s) (levels : ℕ) (low high
   dealt : (effect : Option V → M → Option V) → Grouped effect levels s low high (shared xs b)
   dealt effect = groups effect levels s low high (shared xs b) (omega (arith, roomy.fanout)) (omega (arith, length-shared xs b, several)) children_lie
 
-  pub grouped_fits : AreSized s (nodes xs) → length b ≤ s.buffer → SiblingsFit s (suc levels) low high (grouped s (shared xs b))
+  pub grouped_fits : AreSized weigh s (nodes xs) → load weigh s.measure b ≤ s.buffer → SiblingsFit weigh s (suc levels) low high (grouped s (shared xs b))
   grouped_fits sized few =
       let g = dealt (λ old m. old) in
       record {
         lie = g.lie;
         led = g.led;
-        sized = grouped-sized s (shared xs b) roomy.fanout (omega (arith, length-shared xs b, several)) (omega (arith, ap length (all_pending-shared xs b (omega (arith, several)) sorted), few))
-            (subst (λ ys. AreSized s (nodes ys)) (sym (stripped-shared xs b)) sized);
+        sized = grouped-sized weigh s (shared xs b) roomy.fanout (omega (arith, length-shared xs b, several)) (omega (arith, ap (load weigh s.measure) (all_pending-shared xs b (omega (arith, several)) sorted), few))
+            (subst (λ ys. AreSized weigh s (nodes ys)) (sym (stripped-shared xs b)) sized);
       }
 
   pub grouped_holds : (effect : Option V → M → Option V) → all_hold effect (grouped s (shared xs b)) ≡ rows_after effect b (all_hold effect xs)
@@ -51,10 +51,10 @@ module _ {V M : Type 0} (s : Shape) (roomy : IsRoomy s) (levels : ℕ) (low high
       ∙ ap (λ rs. value_after effect q b (find key_cmp q rs)) (below-shared effect xs b)
       ∙ sym (find-rows effect q b (all_hold effect xs)))
 
-module _ {V M : Type 0} (s : Shape) (roomy : IsRoomy s) (xs : Siblings V M) (b : Messages M) (several : 2 ≤ length xs) (sorted : IsSorted b) (ys : Siblings V M) (is : ys ≡ grouped s (shared xs b)) where
-  pub fit_above : length b ≤ s.buffer → FitAbove s xs b ys
+module _ {V M : Type 0} (weigh : Key × M → ℕ) (s : Shape) (roomy : IsRoomy s) (xs : Siblings V M) (b : Messages M) (several : 2 ≤ length xs) (sorted : IsSorted b) (ys : Siblings V M) (is : ys ≡ grouped s (shared xs b)) where
+  pub fit_above : load weigh s.measure b ≤ s.buffer → FitAbove weigh s xs b ys
   fit_above few levels low high fit within =
-      subst (SiblingsFit s (suc levels) low high) (sym is) (grouped_fits s roomy levels low high xs b several fit.lie within sorted fit.sized few)
+      subst (SiblingsFit weigh s (suc levels) low high) (sym is) (grouped_fits weigh s roomy levels low high xs b several fit.lie within sorted fit.sized few)
 
-  pub hold_all_after : (effect : Option V → M → Option V) → HoldAllAfter effect s xs b ys
-  hold_all_after effect levels low high fit within = ap (all_hold effect) is ∙ grouped_holds s roomy levels low high xs b several fit.lie within sorted effect
+  pub hold_all_after : (effect : Option V → M → Option V) → HoldAllAfter (record { effect = effect; weigh = weigh }) s xs b ys
+  hold_all_after effect levels low high fit within = ap (all_hold effect) is ∙ grouped_holds weigh s roomy levels low high xs b several fit.lie within sorted effect

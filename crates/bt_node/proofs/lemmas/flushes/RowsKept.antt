@@ -5,7 +5,7 @@ use Rattle.std.specs.FinMap.Entries.{below_all, same_entries}
 use Rattle.std.specs.declared.option.Option.{Option}
 use Rattle.std.specs.declared.option.Option.TheVariants.{Some}
 use Rattle.bt_keycode.specs.Keys.{Key, key_cmp, IsPast, IsBelow, AllWithin}
-use Rattle.bt_node.specs.Messages.{Rows, Messages, rows_after}
+use Rattle.bt_node.specs.Messages.{Meaning, Rows, Messages, rows_after}
 use Rattle.bt_node.specs.declared.mode.Mode.{Mode}
 use Rattle.bt_node.specs.Trees.{Shape, Tree, leaf, inner, Nodes, none, node, Siblings, children, height, height_below}
 use Rattle.bt_node.specs.Flushes.{flush_at, flush_in, holds, nodes_hold, all_hold}
@@ -77,16 +77,17 @@ module _ {V M : Type 0} (effect : Option V → M → Option V) where
       (rows-sorted low high _ (rows_after-lie effect low high p (holds effect t) within (holds-lie levels low high t lies)))
       (λ q. k.finds q ∙ sym (find-rows effect q p (holds effect t)))
 
+module _ {V M : Type 0} (meaning : Meaning V M) where
   -- a flush at the height that the node has
   pub flush-at-levels : (mode : Mode) (s : Shape) (levels : ℕ) (low high : Option Key) (t : Tree V M) (p : Messages M) → Lies levels low high t →
-      flush_in effect mode s t p ≡ flush_at effect mode (suc levels) s t p
-  flush-at-levels mode s levels low high t p lies = ap (λ h. flush_at effect mode h s t p) (height-lies levels low high t lies)
+      flush_in meaning mode s t p ≡ flush_at meaning mode (suc levels) s t p
+  flush-at-levels mode s levels low high t p lies = ap (λ h. flush_at meaning mode h s t p) (height-lies levels low high t lies)
 
   pub flush-keeps : (mode : Mode) (s : Shape) → 0 < s.leaf → 0 < s.fanout → (levels : ℕ) (low high : Option Key) (t : Tree V M) (p : Messages M) → Lies levels low high t → AllWithin low high p →
-      Kept effect levels low high t p (flush_in effect mode s t p)
+      Kept meaning.effect levels low high t p (flush_in meaning mode s t p)
   flush-keeps mode s a b levels low high t p lies within =
-      subst (Kept effect levels low high t p) (sym (flush-at-levels mode s levels low high t p lies)) (flush_at-keeps effect s a b mode levels low high t p lies within)
+      subst (Kept meaning.effect levels low high t p) (sym (flush-at-levels mode s levels low high t p lies)) (flush_at-keeps meaning s a b mode levels low high t p lies within)
 
   pub flush-holds : (mode : Mode) (s : Shape) → 0 < s.leaf → 0 < s.fanout → (levels : ℕ) (low high : Option Key) (t : Tree V M) (p : Messages M) → Lies levels low high t → AllWithin low high p →
-      all_hold effect (flush_in effect mode s t p) ≡ rows_after effect p (holds effect t)
-  flush-holds mode s a b levels low high t p lies within = holds-kept levels low high t p _ lies within (flush-keeps mode s a b levels low high t p lies within)
+      all_hold meaning.effect (flush_in meaning mode s t p) ≡ rows_after meaning.effect p (holds meaning.effect t)
+  flush-holds mode s a b levels low high t p lies within = holds-kept meaning.effect levels low high t p _ lies within (flush-keeps mode s a b levels low high t p lies within)

@@ -3,7 +3,7 @@ use Rattle.std.proofs.Common.{◌≡◌, ℕ, zero, suc, ◌<◌, ◌≤◌, Lis
 use Rattle.std.specs.FinMap.{find}
 use Rattle.std.specs.declared.option.Option.{Option}
 use Rattle.bt_keycode.specs.Keys.{Key, key_cmp, AllWithin}
-use Rattle.bt_node.specs.Messages.{Rows, Messages, rows_after, value_after, with_messages}
+use Rattle.bt_node.specs.Messages.{Meaning, Rows, Messages, rows_after, value_after, with_messages}
 use Rattle.bt_node.specs.Deals.{deal}
 use Rattle.bt_node.specs.declared.mode.Mode.{Mode}
 use Rattle.bt_node.specs.Trees.{Shape, leaf, inner, Nodes, Siblings, children}
@@ -45,7 +45,7 @@ value-shared-all : {V M : Type 0} (effect : Option V → M → Option V) (q : Ke
 value-shared-all effect q [] b o n = absurd n
 value-shared-all effect q (x ∷ xs) b o n = value-shared effect q x xs b o
 
-module _ {V M : Type 0} (effect : Option V → M → Option V) (s : Shape) (leaf_some : 0 < s.leaf) (fanout_some : 0 < s.fanout) where
+module _ {V M : Type 0} (meaning : Meaning V M) (s : Shape) (leaf_some : 0 < s.leaf) (fanout_some : 0 < s.fanout) where
   -- the children of a node that takes a packet, each with its share
   abbrev pub start : Nodes V M → Messages M → Messages M → List (Child V M)
   start ns b p = shared (children ns) (with_messages p b)
@@ -56,60 +56,60 @@ module _ {V M : Type 0} (effect : Option V → M → Option V) (s : Shape) (leaf
 
   -- a leaf's rows after a packet, dealt
   leaf-keeps : (low high : Option Key) (rs : Rows V) (p : Messages M) → Lies {M = M} zero low high (leaf rs) → AllWithin low high p →
-      Kept effect zero low high (leaf rs) p (leaves s (rows_after effect p rs))
+      Kept meaning.effect zero low high (leaf rs) p (leaves s (rows_after meaning.effect p rs))
   leaf-keeps low high rs p lies within = record {
-    lie = leaves-lie M s low high (rows_after effect p rs) leaf_some (rows_after-lie effect low high p rs within lies);
-    led = leaves-led M s (rows_after effect p rs) leaf_some;
-    finds = λ q. ap (find key_cmp q) (leaves-hold effect s (rows_after effect p rs)) ∙ find-rows effect q p rs;
+    lie = leaves-lie M s low high (rows_after meaning.effect p rs) leaf_some (rows_after-lie meaning.effect low high p rs within lies);
+    led = leaves-led M s (rows_after meaning.effect p rs) leaf_some;
+    finds = λ q. ap (find key_cmp q) (leaves-hold meaning.effect s (rows_after meaning.effect p rs)) ∙ find-rows meaning.effect q p rs;
   }
 
-  module _ (mode : Mode) (levels : ℕ) (f : Flush V M) (low high : Option Key) (ns : Nodes V M) (b p : Messages M) (takes : TakesPacket effect levels f low high ns b p) where
+  module _ (mode : Mode) (levels : ℕ) (f : Flush V M) (low high : Option Key) (ns : Nodes V M) (b p : Messages M) (takes : TakesPacket meaning.effect levels f low high ns b p) where
     -- what becomes of the children
     abbrev pub end : List (Child V M)
-    end = flushed_in mode f s.buffer (start ns b p)
+    end = flushed_in meaning.weigh s mode f (start ns b p)
 
-    pub slots-lie : ChildrenLie levels low high (names (slots mode s.buffer (start ns b p)))
-    slots-lie = subst (ChildrenLie levels low high) (sym (names-slots mode s.buffer (start ns b p))) (start-lies levels low high ns b p takes.lies takes.within)
+    pub slots-lie : ChildrenLie levels low high (names (slots meaning.weigh s mode (start ns b p)))
+    slots-lie = subst (ChildrenLie levels low high) (sym (names-slots meaning.weigh s mode (start ns b p))) (start-lies levels low high ns b p takes.lies takes.within)
 
     end-lies : ChildrenLie levels low high end
-    end-lies = subst (ChildrenLie levels low high) (sym (flushed-slots mode f s.buffer (start ns b p))) (passed-lie effect levels f takes.keeps low high _ slots-lie)
+    end-lies = subst (ChildrenLie levels low high) (sym (flushed-slots meaning.weigh s mode f (start ns b p))) (passed-lie meaning.effect levels f takes.keeps low high _ slots-lie)
 
     -- they are no fewer
     pub end-long : length (children ns) ≤ length end
     end-long = omega (
       arith,
-      passed-long effect levels f takes.keeps low high _ slots-lie,
-      ap length (names-slots mode s.buffer (start ns b p)),
-      ap length (flushed-slots mode f s.buffer (start ns b p)),
+      passed-long meaning.effect levels f takes.keeps low high _ slots-lie,
+      ap length (names-slots meaning.weigh s mode (start ns b p)),
+      ap length (flushed-slots meaning.weigh s mode f (start ns b p)),
       length-shared (children ns) (with_messages p b),
     )
 
-    seen-end : (q : Key) → seen_in effect q end ≡ seen_in effect q (start ns b p)
+    seen-end : (q : Key) → seen_in meaning.effect q end ≡ seen_in meaning.effect q (start ns b p)
     seen-end q =
-        ap (seen_in effect q) (flushed-slots mode f s.buffer (start ns b p))
-        ∙ seen-passed effect levels f takes.keeps q low high _ slots-lie
-        ∙ ap (seen_in effect q) (names-slots mode s.buffer (start ns b p))
+        ap (seen_in meaning.effect q) (flushed-slots meaning.weigh s mode f (start ns b p))
+        ∙ seen-passed meaning.effect levels f takes.keeps q low high _ slots-lie
+        ∙ ap (seen_in meaning.effect q) (names-slots meaning.weigh s mode (start ns b p))
 
-    found : (q : Key) → seen_in effect q end ≡ value_after effect q p (find key_cmp q (holds effect (inner ns b)))
+    found : (q : Key) → seen_in meaning.effect q end ≡ value_after meaning.effect q p (find key_cmp q (holds meaning.effect (inner ns b)))
     found q =
         let all = with_messages p b in
         seen-end q
-        ∙ sym (value-below-seen effect levels q low high (start ns b p) (start-lies levels low high ns b p takes.lies takes.within))
-        ∙ value-shared-all effect q (children ns) all _ (led-full _ takes.lies.3)
-        ∙ ap (λ rs. value_after effect q all (find key_cmp q rs)) (below-shared effect (children ns) all ∙ sym (nodes_hold-children effect ns))
-        ∙ value-with_messages effect q p b _ takes.lies.1
-        ∙ ap (value_after effect q p) (sym (find-rows effect q b (nodes_hold effect ns)))
+        ∙ sym (value-below-seen meaning.effect levels q low high (start ns b p) (start-lies levels low high ns b p takes.lies takes.within))
+        ∙ value-shared-all meaning.effect q (children ns) all _ (led-full _ takes.lies.3)
+        ∙ ap (λ rs. value_after meaning.effect q all (find key_cmp q rs)) (below-shared meaning.effect (children ns) all ∙ sym (nodes_hold-children meaning.effect ns))
+        ∙ value-with_messages meaning.effect q p b _ takes.lies.1
+        ∙ ap (value_after meaning.effect q p) (sym (find-rows meaning.effect q b (nodes_hold meaning.effect ns)))
 
     -- they are dealt
-    node-keeps : Kept effect (suc levels) low high (inner ns b) p (grouped s end)
+    node-keeps : Kept meaning.effect (suc levels) low high (inner ns b) p (grouped s end)
     node-keeps =
         let some : 1 ≤ length end = omega (arith, end-long, some_length (children ns) (led-full _ takes.lies.3)) in
-        let g = groups effect levels s low high end fanout_some some end-lies in
+        let g = groups meaning.effect levels s low high end fanout_some some end-lies in
         record { lie = g.lie; led = g.led; finds = λ q. g.finds q ∙ found q }
 
-  pub flush_at-keeps : (mode : Mode) (levels : ℕ) → Keeps effect levels (flush_at effect mode (suc levels) s)
+  pub flush_at-keeps : (mode : Mode) (levels : ℕ) → Keeps meaning.effect levels (flush_at meaning mode (suc levels) s)
   flush_at-keeps mode zero low high (leaf rs) p lies within = leaf-keeps low high rs p lies within
   flush_at-keeps mode zero low high (inner ns b) p lies within = absurd lies
   flush_at-keeps mode (suc levels) low high (leaf rs) p lies within = absurd lies
   flush_at-keeps mode (suc levels) low high (inner ns b) p lies within =
-      node-keeps mode levels (flush_at effect mode (suc levels) s) low high ns b p (record { keeps = flush_at-keeps mode levels; lies = lies; within = within })
+      node-keeps mode levels (flush_at meaning mode (suc levels) s) low high ns b p (record { keeps = flush_at-keeps mode levels; lies = lies; within = within })

@@ -7,7 +7,7 @@ use Rattle.bt_node.specs.inside.Passes.{IsLight}
 use Rattle.bt_node.proofs.lemmas.plans.RenewedChoice.{le_or_lt, nothing}
 use Rattle.bt_node.proofs.lemmas.plans.OnePass.{settled-planned, total-light}
 
-module _ {X : Type 0} (weight : X → ℕ) (parts : X → List X) (light : (x : X) → IsLight weight parts (parts x)) where
+module _ {X : Type 0} (weight : X → ℕ) (parts : X → List X) (light : (x : X) → IsLight weight (parts x)) where
   total-opened : (m : ℕ) (xs : List X) → m ≤ most (map weight xs) → 0 < m → most (map weight xs) ≤ m → total (map weight (opened_at weight parts (place_of m (map weight xs)) xs)) + m ≡ total (map weight xs)
   total-opened m [] a b c = absurd (omega arith)
   total-opened m (x ∷ xs) a b c = elim (eqb (weight x) m) as (λ t. eqb (weight x) m ≡ t → total (map weight (opened_at weight parts (cond t 0 (suc (place_of m (map weight xs)))) (x ∷ xs))) + m ≡ weight x + total (map weight xs)) [

@@ -19,45 +19,45 @@ names-unmarked : {X : Type 0} (xs : List X) → names (unmarked xs) ≡ xs
 names-unmarked [] = refl
 names-unmarked (x ∷ xs) = ap (λ z. x ∷ z) (names-unmarked xs)
 
-module _ {X : Type 0} (weight : X → ℕ) (parts : X → List X) (light : (x : X) → IsLight weight parts (parts x)) where
+module _ {X : Type 0} (weight : X → ℕ) (parts : X → List X) (light : (x : X) → IsLight weight (parts x)) where
   -- the weight of what still stands
   abbrev left : X × Bool → ℕ
   left s = cond s.1 0 (weight s.0)
 
-  pub total-light : (xs ys : List X) → IsLight weight parts xs → total (map weight (xs ++ ys)) ≡ total (map weight ys)
+  pub total-light : (xs ys : List X) → IsLight weight xs → total (map weight (xs ++ ys)) ≡ total (map weight ys)
   total-light [] ys l = refl
   total-light (x ∷ xs) ys l = omega (arith, l.0, total-light xs ys l.1)
 
-  most-light : (xs ys : List X) → IsLight weight parts xs → most (map weight (xs ++ ys)) ≡ most (map weight ys)
+  most-light : (xs ys : List X) → IsLight weight xs → most (map weight (xs ++ ys)) ≡ most (map weight ys)
   most-light [] ys l = refl
   most-light (x ∷ xs) ys l = omega (arith, l.0, most-light xs ys l.1)
 
   skips : (m : ℕ) (x : X) (xs : List X) → 0 < m → weight x ≡ 0 → place_of m (map weight (x ∷ xs)) ≡ suc (place_of m (map weight xs))
   skips m x xs l e = cond-false _ _ _ (ne_eqb (weight x) m (omega (arith, l, e)))
 
-  opened-light : (m : ℕ) (xs ys : List X) → 0 < m → IsLight weight parts xs → opened_at weight parts (place_of m (map weight (xs ++ ys))) (xs ++ ys) ≡ xs ++ opened_at weight parts (place_of m (map weight ys)) ys
+  opened-light : (m : ℕ) (xs ys : List X) → 0 < m → IsLight weight xs → opened_at weight parts (place_of m (map weight (xs ++ ys))) (xs ++ ys) ≡ xs ++ opened_at weight parts (place_of m (map weight ys)) ys
   opened-light m [] ys l h = refl
   opened-light m (x ∷ xs) ys l h = ap (λ i. opened_at weight parts i (x ∷ xs ++ ys)) (skips m x (xs ++ ys) l h.0) ∙ ap (λ z. x ∷ z) (opened-light m xs ys l h.1)
 
-  total-passed : (ss : List (X × Bool)) → total (map weight (passed weight parts ss)) ≡ total (map left ss)
+  total-passed : (ss : List (X × Bool)) → total (map weight (passed parts ss)) ≡ total (map left ss)
   total-passed [] = refl
-  total-passed ((x, true) ∷ ss) = omega (arith, total-light (parts x) (passed weight parts ss) (light x), total-passed ss)
+  total-passed ((x, true) ∷ ss) = omega (arith, total-light (parts x) (passed parts ss) (light x), total-passed ss)
   total-passed ((x, false) ∷ ss) = omega (arith, total-passed ss)
 
-  most-passed : (ss : List (X × Bool)) → most (map weight (passed weight parts ss)) ≡ most (map left ss)
+  most-passed : (ss : List (X × Bool)) → most (map weight (passed parts ss)) ≡ most (map left ss)
   most-passed [] = refl
-  most-passed ((x, true) ∷ ss) = omega (arith, most-light (parts x) (passed weight parts ss) (light x), most-passed ss)
+  most-passed ((x, true) ∷ ss) = omega (arith, most-light (parts x) (passed parts ss) (light x), most-passed ss)
   most-passed ((x, false) ∷ ss) = omega (arith, most-passed ss)
 
   -- to open in the list as it stands is to mark in the list as it stood
-  opened-passed : (m : ℕ) (ss : List (X × Bool)) → 0 < m → opened_at weight parts (place_of m (map weight (passed weight parts ss))) (passed weight parts ss) ≡ passed weight parts (marked (place_of m (map left ss)) ss)
+  opened-passed : (m : ℕ) (ss : List (X × Bool)) → 0 < m → opened_at weight parts (place_of m (map weight (passed parts ss))) (passed parts ss) ≡ passed parts (marked (place_of m (map left ss)) ss)
   opened-passed m [] l = refl
   opened-passed m ((x, true) ∷ ss) l =
-      opened-light m (parts x) (passed weight parts ss) l (light x)
+      opened-light m (parts x) (passed parts ss) l (light x)
       ∙ ap (λ z. parts x ++ z) (opened-passed m ss l)
-      ∙ ap (λ i. passed weight parts (marked i ((x, true) ∷ ss))) (sym (cond-false _ 0 (suc (place_of m (map left ss))) (ne_eqb 0 m (omega arith))))
+      ∙ ap (λ i. passed parts (marked i ((x, true) ∷ ss))) (sym (cond-false _ 0 (suc (place_of m (map left ss))) (ne_eqb 0 m (omega arith))))
   opened-passed m ((x, false) ∷ ss) l =
-      elim (eqb (weight x) m) as (λ b. opened_at weight parts (cond b 0 (suc (place_of m (map weight (passed weight parts ss))))) (x ∷ passed weight parts ss) ≡ passed weight parts (marked (cond b 0 (suc (place_of m (map left ss)))) ((x, false) ∷ ss))) [
+      elim (eqb (weight x) m) as (λ b. opened_at weight parts (cond b 0 (suc (place_of m (map weight (passed parts ss))))) (x ∷ passed parts ss) ≡ passed parts (marked (cond b 0 (suc (place_of m (map left ss)))) ((x, false) ∷ ss))) [
         | true ↦ refl
         | false ↦ ap (λ z. x ∷ z) (opened-passed m ss l)
       ]
@@ -74,27 +74,27 @@ module _ {X : Type 0} (weight : X → ℕ) (parts : X → List X) (light : (x : 
   Over capacity ss = capacity < total (map left ss)
 
   -- the next list, where the weights are over capacity
-  next : (capacity : ℕ) (ss : List (X × Bool)) → Over capacity ss → opened_at weight parts (fullest (map weight (passed weight parts ss))) (passed weight parts ss) ≡ passed weight parts (marked (fullest (map left ss)) ss)
+  next : (capacity : ℕ) (ss : List (X × Bool)) → Over capacity ss → opened_at weight parts (fullest (map weight (passed parts ss))) (passed parts ss) ≡ passed parts (marked (fullest (map left ss)) ss)
   next capacity ss over =
-      ap (λ m. opened_at weight parts (place_of m (map weight (passed weight parts ss))) (passed weight parts ss)) (most-passed ss)
+      ap (λ m. opened_at weight parts (place_of m (map weight (passed parts ss))) (passed parts ss)) (most-passed ss)
       ∙ opened-passed (most (map left ss)) ss (heavy (map left ss) capacity over)
 
-  settled-passed : (capacity turns : ℕ) (ss : List (X × Bool)) → settled weight parts capacity turns (passed weight parts ss) ≡ passed weight parts (marked_all (renewed capacity turns (map left ss)) ss)
+  settled-passed : (capacity turns : ℕ) (ss : List (X × Bool)) → settled weight parts capacity turns (passed parts ss) ≡ passed parts (marked_all (renewed capacity turns (map left ss)) ss)
   settled-passed capacity zero ss = refl
   settled-passed capacity (suc turns) ss = elim (le_or_lt (total (map left ss)) capacity) [
     | inl fits ↦
         cond-true _ _ _ (le-leb _ capacity (omega (arith, fits, total-passed ss)))
-        ∙ sym (ap (λ is. passed weight parts (marked_all is ss)) (cond-true _ _ _ (le-leb _ capacity fits)))
+        ∙ sym (ap (λ is. passed parts (marked_all is ss)) (cond-true _ _ _ (le-leb _ capacity fits)))
     | inr over ↦
         let ns = map left ss in
-        cond-false _ _ _ (lt-leb (total (map weight (passed weight parts ss))) capacity (omega (arith, over, total-passed ss)))
+        cond-false _ _ _ (lt-leb (total (map weight (passed parts ss))) capacity (omega (arith, over, total-passed ss)))
         ∙ ap (settled weight parts capacity turns) (next capacity ss over)
         ∙ settled-passed capacity turns (marked (fullest ns) ss)
-        ∙ ap (λ ms. passed weight parts (marked_all (renewed capacity turns ms) (marked (fullest ns) ss))) (left-marked (fullest ns) ss)
-        ∙ sym (ap (λ is. passed weight parts (marked_all is ss)) (cond-false _ _ _ (lt-leb (total ns) capacity over)))
+        ∙ ap (λ ms. passed parts (marked_all (renewed capacity turns ms) (marked (fullest ns) ss))) (left-marked (fullest ns) ss)
+        ∙ sym (ap (λ is. passed parts (marked_all is ss)) (cond-false _ _ _ (lt-leb (total ns) capacity over)))
   ]
 
-  passed-unmarked : (xs : List X) → passed weight parts (unmarked xs) ≡ xs
+  passed-unmarked : (xs : List X) → passed parts (unmarked xs) ≡ xs
   passed-unmarked [] = refl
   passed-unmarked (x ∷ xs) = ap (λ z. x ∷ z) (passed-unmarked xs)
 
@@ -103,32 +103,32 @@ module _ {X : Type 0} (weight : X → ℕ) (parts : X → List X) (light : (x : 
   left-unmarked (x ∷ xs) = ap (λ z. weight x ∷ z) (left-unmarked xs)
 
   -- The loop opens just the planned items, each once.
-  pub settled-planned : (capacity turns : ℕ) (xs : List X) → total (map weight xs) ≤ turns → settled weight parts capacity turns xs ≡ passed weight parts (marked_all (planned (map weight xs) capacity) (unmarked xs))
+  pub settled-planned : (capacity turns : ℕ) (xs : List X) → total (map weight xs) ≤ turns → settled weight parts capacity turns xs ≡ passed parts (marked_all (planned (map weight xs) capacity) (unmarked xs))
   settled-planned capacity turns xs l =
       ap (settled weight parts capacity turns) (sym (passed-unmarked xs))
       ∙ settled-passed capacity turns (unmarked xs)
-      ∙ ap (λ ns. passed weight parts (marked_all (renewed capacity turns ns) (unmarked xs))) (left-unmarked xs)
-      ∙ ap (λ is. passed weight parts (marked_all is (unmarked xs))) (renewed-planned capacity turns (map weight xs) l)
+      ∙ ap (λ ns. passed parts (marked_all (renewed capacity turns ns) (unmarked xs))) (left-unmarked xs)
+      ∙ ap (λ is. passed parts (marked_all is (unmarked xs))) (renewed-planned capacity turns (map weight xs) l)
 
   -- ---- which are replaced
 
-  prefix-light : (m : ℕ) (xs ys : List X) → 0 < m → IsLight weight parts xs → drop (place_of m (map weight (xs ++ ys))) (xs ++ ys) ≡ drop (place_of m (map weight ys)) ys
+  prefix-light : (m : ℕ) (xs ys : List X) → 0 < m → IsLight weight xs → drop (place_of m (map weight (xs ++ ys))) (xs ++ ys) ≡ drop (place_of m (map weight ys)) ys
   prefix-light m [] ys l h = refl
   prefix-light m (x ∷ xs) ys l h = ap (λ i. drop i (x ∷ xs ++ ys)) (skips m x (xs ++ ys) l h.0) ∙ prefix-light m xs ys l h.1
 
-  prefix-passed : (m : ℕ) (ss : List (X × Bool)) → 0 < m → take 1 (drop (place_of m (map weight (passed weight parts ss))) (passed weight parts ss)) ≡ take 1 (drop (place_of m (map left ss)) (names ss))
+  prefix-passed : (m : ℕ) (ss : List (X × Bool)) → 0 < m → take 1 (drop (place_of m (map weight (passed parts ss))) (passed parts ss)) ≡ take 1 (drop (place_of m (map left ss)) (names ss))
   prefix-passed m [] l = refl
   prefix-passed m ((x, true) ∷ ss) l =
-      ap (take 1) (prefix-light m (parts x) (passed weight parts ss) l (light x))
+      ap (take 1) (prefix-light m (parts x) (passed parts ss) l (light x))
       ∙ prefix-passed m ss l
       ∙ ap (λ i. take 1 (drop i (x ∷ names ss))) (sym (cond-false _ 0 (suc (place_of m (map left ss))) (ne_eqb 0 m (omega arith))))
   prefix-passed m ((x, false) ∷ ss) l =
-      elim (eqb (weight x) m) as (λ b. take 1 (drop (cond b 0 (suc (place_of m (map weight (passed weight parts ss))))) (x ∷ passed weight parts ss)) ≡ take 1 (drop (cond b 0 (suc (place_of m (map left ss)))) (x ∷ names ss))) [
+      elim (eqb (weight x) m) as (λ b. take 1 (drop (cond b 0 (suc (place_of m (map weight (passed parts ss))))) (x ∷ passed parts ss)) ≡ take 1 (drop (cond b 0 (suc (place_of m (map left ss)))) (x ∷ names ss))) [
         | true ↦ refl
         | false ↦ prefix-passed m ss l
       ]
 
-  replaced-passed : (capacity turns : ℕ) (ss : List (X × Bool)) → replaced weight parts capacity turns (passed weight parts ss) ≡ items_at (renewed capacity turns (map left ss)) (names ss)
+  replaced-passed : (capacity turns : ℕ) (ss : List (X × Bool)) → replaced weight parts capacity turns (passed parts ss) ≡ items_at (renewed capacity turns (map left ss)) (names ss)
   replaced-passed capacity zero ss = refl
   replaced-passed capacity (suc turns) ss = elim (le_or_lt (total (map left ss)) capacity) [
     | inl fits ↦
@@ -137,10 +137,10 @@ module _ {X : Type 0} (weight : X → ℕ) (parts : X → List X) (light : (x : 
     | inr over ↦
         let ns = map left ss in
         let i = fullest ns in
-        cond-false _ _ _ (lt-leb (total (map weight (passed weight parts ss))) capacity (omega (arith, over, total-passed ss)))
-        ∙ ap (λ xs. take 1 (drop (fullest (map weight (passed weight parts ss))) (passed weight parts ss)) ++ replaced weight parts capacity turns xs) (next capacity ss over)
-        ∙ ap (λ z. z ++ replaced weight parts capacity turns (passed weight parts (marked i ss)))
-        (ap (λ m. take 1 (drop (place_of m (map weight (passed weight parts ss))) (passed weight parts ss))) (most-passed ss)
+        cond-false _ _ _ (lt-leb (total (map weight (passed parts ss))) capacity (omega (arith, over, total-passed ss)))
+        ∙ ap (λ xs. take 1 (drop (fullest (map weight (passed parts ss))) (passed parts ss)) ++ replaced weight parts capacity turns xs) (next capacity ss over)
+        ∙ ap (λ z. z ++ replaced weight parts capacity turns (passed parts (marked i ss)))
+        (ap (λ m. take 1 (drop (place_of m (map weight (passed parts ss))) (passed parts ss))) (most-passed ss)
         ∙ prefix-passed (most ns) ss (heavy ns capacity over))
         ∙ ap (λ z. take 1 (drop i (names ss)) ++ z)
         (replaced-passed capacity turns (marked i ss)

@@ -7,7 +7,7 @@ use Rattle.bt_node.proofs.lent.after_entries.Goals as goal
 
 pub loop-entry-preserved : goal.loop-entry-preserved
 loop-entry-preserved g c =
-    let effect = effect_of g.V.Merge.merged in
+    let effect = effect_of g.V.Merge.terms.merged in
     let here = first_left (λ m. (m.key.now, m.message.now)) c.args.entries.now c.loop-entry.entry-index c.entry-item.result (omega arith) c.entry-item.is in
     let so_far = c.loop-entry.invariant in
     record {
@@ -18,7 +18,7 @@ loop-entry-preserved g c =
 
 pub returns-then-ne : goal.returns-then-ne
 returns-then-ne g c =
-    let effect = effect_of g.V.Merge.merged in
+    let effect = effect_of g.V.Merge.terms.merged in
     let here = first_left (λ m. (m.key.now, m.message.now)) c.args.entries.now c.loop-entry.entry-index c.entry-item.result (omega arith) c.entry-item.is in
     let so_far = c.loop-entry.invariant in
     none_left effect c.args.key.now _ _ _ _ here c.compare.result c.compare.ensures c.if-ne.ensures (value_of c.loop-entry.value) so_far.from so_far.sorted ∙ sym so_far.value

@@ -8,7 +8,7 @@ use Rattle.bt_node.proofs.lent.after_entries.Given as goal
 -- what the messages that are left make of the value so far
 abbrev pub invariant-loop-entry : goal.invariant-loop-entry
 invariant-loop-entry g l =
-    let effect = effect_of g.V.Merge.merged in
+    let effect = effect_of g.V.Merge.terms.merged in
     let left = map (λ m. (m.key.now, m.message.now)) (drop l.entry-index l.entries) in
     record {
       value : value_after effect l.key (map (λ m. (m.key.now, m.message.now)) l.entries) (value_of l.fn.old) ≡ value_after effect l.key left (value_of l.value);

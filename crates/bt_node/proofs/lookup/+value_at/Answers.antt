@@ -35,11 +35,11 @@ bounds-nodes-place g t c =
 
 pub returns-in-Leaf : goal.returns-in-Leaf
 returns-in-Leaf g t c =
-    c.found.ensures ∙ c.find.ensures ∙ sym (ap (value_at (effect_of g.V.Merge.merged) c.args.key.now) (c.kind.ensures.tree ∙ ap tree_of c.in-Leaf.is))
+    c.found.ensures ∙ c.find.ensures ∙ sym (ap (value_at (effect_of g.V.Merge.terms.merged) c.args.key.now) (c.kind.ensures.tree ∙ ap tree_of c.in-Leaf.is))
 
 pub returns-in-Some : goal.returns-in-Some
 returns-in-Some g t c =
-    let effect = effect_of g.V.Merge.merged in
+    let effect = effect_of g.V.Merge.terms.merged in
     let k = c.args.key.now in
     let here = c.kind.ensures.tree ∙ ap tree_of c.in-Inner.is in
     let lie = subst (λ ps. LieBetween ps c.in-Inner.bins) (sym c.pivots.ensures.pivots) (subst IsDivided c.in-Inner.is c.kind.ensures.divided) in
@@ -50,7 +50,7 @@ returns-in-Some g t c =
 
 pub returns-in_ok-old-in-Inner : goal.returns-in_ok-old-in-Inner
 returns-in_ok-old-in-Inner g t c =
-    let effect = effect_of g.V.Merge.merged in
+    let effect = effect_of g.V.Merge.terms.merged in
     let k = c.args.key.now in
     let here = c.kind.ensures.tree ∙ ap tree_of c.in-Inner.is in
     let lie = subst (λ ps. LieBetween ps c.in-Inner.bins) (sym c.pivots.ensures.pivots) (subst IsDivided c.in-Inner.is c.kind.ensures.divided) in

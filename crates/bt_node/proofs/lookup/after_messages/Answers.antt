@@ -6,7 +6,7 @@ use Rattle.bt_node.proofs.lookup.after_messages.Goals as goal
 
 pub loop-at-preserved : goal.loop-at-preserved
 loop-at-preserved g c =
-    let effect = effect_of g.V.Merge.merged in
+    let effect = effect_of g.V.Merge.terms.merged in
     let so_far = c.loop-at.invariant in
     record {
       value = so_far.value ∙ one_more effect c.args.key.now c.loop-at.at-iterator c.next.new.self _ _ c.in-Some.ensures.steps c.compare.result c.compare.ensures c.if-ne.ensures (value_of c.loop-at.value) (value_of c.in_ok-value.value) c.in_ok-value.ensures;
@@ -16,6 +16,6 @@ loop-at-preserved g c =
 
 pub returns-then-ne : goal.returns-then-ne
 returns-then-ne g c =
-    let effect = effect_of g.V.Merge.merged in
+    let effect = effect_of g.V.Merge.terms.merged in
     let so_far = c.loop-at.invariant in
     none_left effect c.args.key.now c.loop-at.at-iterator _ _ _ c.in-Some.ensures.steps c.compare.result c.compare.ensures c.if-ne.ensures (value_of c.loop-at.value) so_far.from so_far.sorted ∙ sym so_far.value

@@ -8,7 +8,7 @@ use Rattle.bt_node.proofs.lookup.after_messages.Given as goal
 -- what the messages that are left make of the value so far
 abbrev pub invariant-loop-at : goal.invariant-loop-at
 invariant-loop-at g l = record {
-  value : value_after (effect_of g.V.Merge.merged) l.key l.fn.messages (value_of l.fn.old) ≡ value_after (effect_of g.V.Merge.merged) l.key l.at-iterator (value_of l.value);
+  value : value_after (effect_of g.V.Merge.terms.merged) l.key l.fn.messages (value_of l.fn.old) ≡ value_after (effect_of g.V.Merge.terms.merged) l.key l.at-iterator (value_of l.value);
   from : AllFrom l.key l.at-iterator;
   sorted : IsSorted l.at-iterator;
 }

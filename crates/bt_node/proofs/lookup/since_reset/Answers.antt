@@ -7,7 +7,7 @@ use Rattle.bt_node.proofs.lookup.since_reset.Goals as goal
 
 pub loop-at-init : goal.loop-at-init
 loop-at-init g c =
-    let effect = effect_of g.V.Merge.merged in
+    let effect = effect_of g.V.Merge.terms.merged in
     let k = c.args.key.now in
     let bin = get_or c.args.bins.now c.args.place [] in
     let left : c.bin_from-left.result ≡ from k bin = c.bin_from-left.ensures.messages in
@@ -25,7 +25,7 @@ loop-at-init g c =
 
 pub loop-at-preserved-in-Some-reset : goal.loop-at-preserved-in-Some-reset
 loop-at-preserved-in-Some-reset g c =
-    let effect = effect_of g.V.Merge.merged in
+    let effect = effect_of g.V.Merge.terms.merged in
     let k = c.args.key.now in
     let so_far = c.loop-at.invariant in
     let left : c.again-left.result ≡ c.next.new.self = c.again-left.ensures.messages in
@@ -44,7 +44,7 @@ loop-at-preserved-in-Some-reset g c =
 
 pub loop-at-preserved : goal.loop-at-preserved
 loop-at-preserved g c =
-    let effect = effect_of g.V.Merge.merged in
+    let effect = effect_of g.V.Merge.terms.merged in
     let k = c.args.key.now in
     let so_far = c.loop-at.invariant in
     record {

@@ -10,10 +10,10 @@ abbrev pub invariant-loop-at : goal.invariant-loop-at
 invariant-loop-at g l = record {
   next : (goal.iterator-loop-at g).can_next l.rest;
   finite : (goal.iterator-loop-at g).is_finite l.rest;
-  value : BeginsWith (effect_of g.V.Merge.merged) l.key (get_or l.bins l.place []) l.start l.left;
+  value : BeginsWith (effect_of g.V.Merge.terms.merged) l.key (get_or l.bins l.place []) l.start l.left;
   from : AllFrom l.key l.left;
   sorted : IsSorted l.left;
-  rest : LeadsTo (effect_of g.V.Merge.merged) l.key (get_or l.bins l.place []) l.rest;
+  rest : LeadsTo (effect_of g.V.Merge.terms.merged) l.key (get_or l.bins l.place []) l.rest;
   rest_from : AllFrom l.key l.rest;
   rest_sorted : IsSorted l.rest;
 }

@@ -32,7 +32,7 @@ add_after-requires g t c =
 
 pub loop-done-preserved : goal.loop-done-preserved
 loop-done-preserved g t c =
-    let effect = effect_of g.V.Merge.merged in
+    let effect = effect_of g.V.Merge.terms.merged in
     let here = c.kind.ensures.tree ∙ ap tree_of c.in-Inner.is in
     let lie = subst (λ ps. LieBetween ps c.in-Inner.bins) (sym c.pivots-pivots.ensures.pivots) (subst IsDivided c.in-Inner.is c.kind.ensures.divided) in
     let keys = c.args.keys.now in
@@ -50,11 +50,11 @@ loop-done-preserved g t c =
 pub returns-in-Leaf : goal.returns-in-Leaf
 returns-in-Leaf g t c =
     IfOk-weaker c.found_at.result _ _ (λ values e. e
-    ∙ leaf_values (effect_of g.V.Merge.merged) (λ k. k.now) c.args.keys.now c.in-Leaf.rows c.args.node.now (c.kind.ensures.tree ∙ ap tree_of c.in-Leaf.is)) c.found_at.ensures
+    ∙ leaf_values (effect_of g.V.Merge.terms.merged) (λ k. k.now) c.args.keys.now c.in-Leaf.rows c.args.node.now (c.kind.ensures.tree ∙ ap tree_of c.in-Leaf.is)) c.found_at.ensures
 
 pub loop-done-init : goal.loop-done-init
 loop-done-init g t c = record {
-  wanted = ap (λ vs. map value_of vs ++ values_at (effect_of g.V.Merge.merged) (map (λ k. k.now) c.args.keys.now) c.args.node.now) c.in_ok-values-in-Inner.ensures.items;
+  wanted = ap (λ vs. map value_of vs ++ values_at (effect_of g.V.Merge.terms.merged) (map (λ k. k.now) c.args.keys.now) c.args.node.now) c.in_ok-values-in-Inner.ensures.items;
   within = omega arith;
 }
 

@@ -8,7 +8,7 @@ use Rattle.bt_node.proofs.lookups.+values_at.Given as goal
 -- the values so far, and those of the keys that are left
 abbrev pub invariant-loop-done : goal.invariant-loop-done
 invariant-loop-done g l =
-    let effect = effect_of g.V.Merge.merged in
+    let effect = effect_of g.V.Merge.terms.merged in
     record {
       wanted : map value_of l.values.items ++ values_at effect (map (λ k. k.now) (drop l.done l.fn.keys)) l.fn.node ≡ values_at effect (map (λ k. k.now) l.fn.keys) l.fn.node;
       within : l.done ≤ length l.fn.keys;

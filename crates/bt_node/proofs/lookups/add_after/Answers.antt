@@ -8,11 +8,11 @@ use Rattle.bt_node.proofs.lemmas.code.Together.{first_of, none_after, one_after}
 use Rattle.bt_node.proofs.lookups.add_after.Goals as goal
 
 pub after_messages-requires-clause-from : goal.after_messages-requires-clause-from
-after_messages-requires-clause-from g c = left_from (effect_of g.V.Merge.merged) c.key-item.result.now (get_or c.args.bins.now c.args.place []) c.bin_from-messages.result c.bin_from-messages.ensures.messages
+after_messages-requires-clause-from g c = left_from (effect_of g.V.Merge.terms.merged) c.key-item.result.now (get_or c.args.bins.now c.args.place []) c.bin_from-messages.result c.bin_from-messages.ensures.messages
 
 pub loop-old-preserved : goal.loop-old-preserved
 loop-old-preserved g c =
-    let effect = effect_of g.V.Merge.merged in
+    let effect = effect_of g.V.Merge.terms.merged in
     let bin = get_or c.args.bins.now c.args.place [] in
     let seen = c.loop-old.values.items in
     let left : c.loop-old.old-iterator.rest.items ≡ c.in-Some.old ∷ c.next.new.self.rest.items = search rules in
@@ -22,7 +22,7 @@ loop-old-preserved g c =
 
 pub returns : goal.returns
 returns g c =
-    let effect = effect_of g.V.Merge.merged in
+    let effect = effect_of g.V.Merge.terms.merged in
     let bin = get_or c.args.bins.now c.args.place [] in
     let left : c.loop-old.old-iterator.rest.items ≡ [] = nil_from_length c.loop-old.old-iterator.rest.items (search rules) in
     none_after effect bin (map (λ k. k.now) c.loop-old.rest.now) (map value_of c.loop-old.values.items) _

@@ -7,7 +7,7 @@ use Rattle.bt_node.proofs.lookups.add_after.Given as goal
 -- the values so far, and those of the keys that are left
 abbrev pub invariant-loop-old : goal.invariant-loop-old
 invariant-loop-old g l =
-    let effect = effect_of g.V.Merge.merged in
+    let effect = effect_of g.V.Merge.terms.merged in
     let bin = get_or l.bins l.place [] in
     map value_of l.fn.values.items ++ values_after effect bin (map (λ k. k.now) l.keys) (map value_of l.fn.below.items)
     ≡ map value_of l.values.items ++ values_after effect bin (map (λ k. k.now) l.rest) (map value_of l.old-iterator.rest.items)

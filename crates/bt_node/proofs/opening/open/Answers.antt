@@ -1,66 +1,69 @@
-use Rattle.std.proofs.Common.{◌≡◌, ◌+◌, ◌∙◌, ap, arith, drop, length, map, refl, subst, sym, take}
-use Rattle.bt_messages.specs.Bins.{LieBetween, each_with, joined, parts}
-use Rattle.bt_messages.specs.Messages.{with_messages}
+use Rattle.std.proofs.Common.{◌≡◌, ◌∙◌, ap, arith, drop, length, map, refl, replicate, rules, subst, sym, true}
+use Rattle.bt_messages.specs.Bins.{each_with}
 use Rattle.bt_messages.specs.Parts.{parted, total}
-use Rattle.bt_messages.proofs.offered.Parts.{added_lie, joined-added, length-with_messages, lie_length}
-use Rattle.bt_node.specs.Marks.{flush_marks, has_room}
-use Rattle.bt_node.specs.Trees.{inner, nodes, pivots_of}
-use Rattle.bt_node.proofs.lemmas.flushes.Divisions.{bins-length, length-first, loads-are}
+use Rattle.bt_messages.specs.Shares.{AreShares, counts, share_of}
+use Rattle.bt_messages.specs.Weights.{load, weigh_of}
+use Rattle.bt_node.specs.Fits.{IsLed}
+use Rattle.bt_node.specs.Trees.{inner, nodes}
+use Rattle.bt_node.proofs.lemmas.code.LoadLoop.{Come, after_joined, after_lie, at_pivots, bin_each, has_room-absorb, has_room-drain, marks_all, marks_planned, room_test, share_each, shares_weighed}
+use Rattle.bt_node.proofs.lemmas.code.SiblingParts.{behind-led}
 use Rattle.bt_node.proofs.opening.open.Goals as goal
-use Rattle.bt_node.proofs.opening.open.Goals.{else-len-fanout-via-then-len-fanout+else-has_room, else-len-fanout-via-else-len-fanout}
+use Rattle.bt_node.proofs.opening.open.Goals.{in-Absorb+in_ok-loads-in-Absorb+else-len-fanout+in_ok-marks-in-Absorb, else-len-fanout-via-then-len-fanout+else-are_within, else-len-fanout-via-else-len-fanout, in-Drain+in_ok-marks-in-Drain}
 
 pub shares-requires : goal.shares-requires
 shares-requires g c = c.requires.enough
+
+pub loads-requires-clause-len : goal.loads-requires-clause-len
+loads-requires-clause-len g c =
+    let e = c.in_ok-shares.ensures in
+    let come : Come (weigh_of g.V.Merge.terms) c.args.shape c.args.children c.args.bins c.args.stream.now c.args.count c.measure-measure.result c.pivots.result.now c.in_ok-shares.shares.items = record { measured = c.measure-measure.ensures; pivots = c.pivots.ensures.pivots; some = c.pivots.ensures.some; lie = c.requires.divided; each = e.each; divided = e.parts; long = e.len } in
+    ap length c.as_slice.ensures.value ∙ share_each come
+
+pub loads-requires-clause-weighed : goal.loads-requires-clause-weighed
+loads-requires-clause-weighed g c =
+    let e = c.in_ok-shares.ensures in
+    let come : Come (weigh_of g.V.Merge.terms) c.args.shape c.args.children c.args.bins c.args.stream.now c.args.count c.measure-measure.result c.pivots.result.now c.in_ok-shares.shares.items = record { measured = c.measure-measure.ensures; pivots = c.pivots.ensures.pivots; some = c.pivots.ensures.some; lie = c.requires.divided; each = e.each; divided = e.parts; long = e.len } in
+    subst (λ ss. ss ≡ map (share_of (weigh_of g.V.Merge.terms) c.measure-measure.result) (parted (counts ss) c.args.stream.now)) (sym c.as_slice.ensures.value) (shares_weighed come)
 
 pub same-bins : goal.same-bins
 same-bins g c = refl
 
 pub add_shares-requires-clause-len : goal.add_shares-requires-clause-len
 add_shares-requires-clause-len g c =
-    omega (arith, ap length c.as_slice.ensures.value, c.in_ok-shares.ensures.len, ap length c.pivots.ensures.pivots, lie_length (pivots_of c.args.children) c.args.bins c.requires.divided)
+    let e = c.in_ok-shares.ensures in
+    let come : Come (weigh_of g.V.Merge.terms) c.args.shape c.args.children c.args.bins c.args.stream.now c.args.count c.measure-measure.result c.pivots.result.now c.in_ok-shares.shares.items = record { measured = c.measure-measure.ensures; pivots = c.pivots.ensures.pivots; some = c.pivots.ensures.some; lie = c.requires.divided; each = e.each; divided = e.parts; long = e.len } in
+    ap length c.as_slice-then-are_within.ensures.value ∙ share_each come
 
-pub add_shares-requires-clause-enough : goal.add_shares-requires-clause-enough
-add_shares-requires-clause-enough g c = omega (arith, ap total c.as_slice.ensures.value, c.in_ok-shares.ensures.total, c.requires.enough)
+pub add_shares-requires-clause-shares : goal.add_shares-requires-clause-shares
+add_shares-requires-clause-shares g c = subst (AreShares (weigh_of g.V.Merge.terms) c.args.stream.now) (sym c.as_slice-then-are_within.ensures.value) c.in_ok-shares.ensures.shares
 
 pub same-children : goal.same-children
 same-children g c = refl
 
-pub same-bins-then-has_room : goal.same-bins-then-has_room
-same-bins-then-has_room g c = refl
+pub same-bins-then-are_within : goal.same-bins-then-are_within
+same-bins-then-are_within g c = refl
 
 pub inner-requires : goal.inner-requires
 inner-requires g c =
-    let ks = pivots_of c.args.children in
-    let stream = c.args.stream.now in
-    let packet = take c.args.count stream in
-    let bins = c.in_ok-add_shares.ensures.added
-    ∙ ap (λ ps. each_with ps c.args.bins) (ap (λ ns. parted ns stream) c.as_slice.ensures.value ∙ c.in_ok-shares.ensures.parts ∙ ap (λ js. parts js packet) c.pivots.ensures.pivots) in
-    subst (LieBetween ks) (sym bins) (added_lie ks packet c.args.bins c.requires.divided)
+    let e = c.in_ok-shares.ensures in
+    let come : Come (weigh_of g.V.Merge.terms) c.args.shape c.args.children c.args.bins c.args.stream.now c.args.count c.measure-measure.result c.pivots.result.now c.in_ok-shares.shares.items = record { measured = c.measure-measure.ensures; pivots = c.pivots.ensures.pivots; some = c.pivots.ensures.some; lie = c.requires.divided; each = e.each; divided = e.parts; long = e.len } in
+    after_lie come c.add_shares.new.self (c.in_ok-add_shares-in-Absorb.ensures.added ∙ ap (λ ss. each_with (parted (counts ss) c.args.stream.now) c.args.bins) c.as_slice-then-are_within.ensures.value)
 
-pub returns-then-has_room : goal.returns-then-has_room
-returns-then-has_room g c =
-    let ks = pivots_of c.args.children in
-    let stream = c.args.stream.now in
-    let packet = take c.args.count stream in
-    let bins = c.in_ok-add_shares.ensures.added
-    ∙ ap (λ ps. each_with ps c.args.bins) (ap (λ ns. parted ns stream) c.as_slice.ensures.value ∙ c.in_ok-shares.ensures.parts ∙ ap (λ js. parts js packet) c.pivots.ensures.pivots) in
-    let all : length (with_messages packet (joined c.args.bins)) ≡ c.args.count + length (joined c.args.bins) =
-    omega (arith, length-with_messages packet (joined c.args.bins), length-first c.args.count stream c.requires.enough) in (
-      c.in_ok-add_shares.ensures.left ∙ ap (λ n. drop n stream) (ap total c.as_slice.ensures.value ∙ c.in_ok-shares.ensures.total),
+pub returns-then-are_within : goal.returns-then-are_within
+returns-then-are_within g c =
+    let e = c.in_ok-shares.ensures in
+    let come : Come (weigh_of g.V.Merge.terms) c.args.shape c.args.children c.args.bins c.args.stream.now c.args.count c.measure-measure.result c.pivots.result.now c.in_ok-shares.shares.items = record { measured = c.measure-measure.ensures; pivots = c.pivots.ensures.pivots; some = c.pivots.ensures.some; lie = c.requires.divided; each = e.each; divided = e.parts; long = e.len } in
+    let bins = c.in_ok-add_shares-in-Absorb.ensures.added ∙ ap (λ ss. each_with (parted (counts ss) c.args.stream.now) c.args.bins) c.as_slice-then-are_within.ensures.value in
+    let made = c.as_slice-then-len-fanout.ensures.value ∙ c.in_ok-loads-in-Absorb.ensures
+    ∙ ap (λ ss. map (load (weigh_of g.V.Merge.terms) c.measure-measure.result) (each_with (parted (counts ss) c.args.stream.now) c.args.bins)) c.as_slice.ensures.value in (
+      c.in_ok-add_shares-in-Absorb.ensures.left ∙ ap (λ ss. drop (total (counts ss)) c.args.stream.now) c.as_slice-then-are_within.ensures.value ∙ ap (λ n. drop n c.args.stream.now) c.in_ok-shares.ensures.total,
       record {
-        node = c.inner.ensures ∙ ap (inner (nodes c.args.children)) (ap joined bins ∙ joined-added ks packet c.args.bins c.requires.divided);
+        node = c.inner.ensures ∙ ap (inner (nodes c.args.children)) (after_joined come c.add_shares.new.self bins);
         led = c.len.ensures.led;
         few = omega (arith, c.if-len-fanout.true, c.len.ensures.count, c.fanout.ensures.value);
-        room = ap (has_room c.args.mode c.args.shape) all ∙ sym c.if-has_room.ensures;
+        room = has_room-absorb c.args.mode c.args.shape _ c.in-Absorb.is (room_test come c.as_slice-then-len-fanout.result.now c.buffer.result c.are_within.result made c.buffer.ensures.value c.are_within.ensures ∙ c.if-are_within.true);
       },
     )
-
-pub flush_marks-requires-clause-len : goal.flush_marks-requires-clause-len
-flush_marks-requires-clause-len g c =
-    omega (arith, ap length c.as_slice-2.ensures.value, c.in_ok-shares.ensures.len, ap length c.pivots.ensures.pivots, lie_length (pivots_of c.args.children) c.args.bins c.requires.divided)
-
-pub flush_marks-requires-clause-enough : goal.flush_marks-requires-clause-enough
-flush_marks-requires-clause-enough g c = omega (arith, ap total c.as_slice-2.ensures.value, c.in_ok-shares.ensures.total, c.requires.enough)
 
 pub same-children-2 : goal.same-children-2
 same-children-2 g c = refl
@@ -69,32 +72,41 @@ pub same-bins-2 : goal.same-bins-2
 same-bins-2 g c = refl
 
 pub beside-requires : goal.beside-requires
-beside-requires g c = bins-length c.args.children c.args.bins c.pivots.ensures.some c.requires.divided
+beside-requires g c =
+    let e = c.in_ok-shares.ensures in
+    let come : Come (weigh_of g.V.Merge.terms) c.args.shape c.args.children c.args.bins c.args.stream.now c.args.count c.measure-measure.result c.pivots.result.now c.in_ok-shares.shares.items = record { measured = c.measure-measure.ensures; pivots = c.pivots.ensures.pivots; some = c.pivots.ensures.some; lie = c.requires.divided; each = e.each; divided = e.parts; long = e.len } in
+    bin_each come
 
 pub returns : goal.returns
 returns g c =
-    let xs = c.args.children in
-    let bins = c.args.bins in
-    let stream = c.args.stream.now in
-    let packet = take c.args.count stream in
-    let ns = c.in_ok-shares.shares.items in
-    let some = c.pivots.ensures.some in
-    let sizes = c.in_ok-shares.ensures.parts ∙ ap (λ js. parts js packet) c.pivots.ensures.pivots in
-    let same = bins-length xs bins some c.requires.divided in
-    let few : length ns ≡ length bins = omega (arith, c.in_ok-shares.ensures.len, ap length c.pivots.ensures.pivots, lie_length (pivots_of xs) bins c.requires.divided) in
-    let all : length (with_messages packet (joined bins)) ≡ c.args.count + length (joined bins) = omega (arith, length-with_messages packet (joined bins), length-first c.args.count stream c.requires.enough) in (
+    let e = c.in_ok-shares.ensures in
+    let come : Come (weigh_of g.V.Merge.terms) c.args.shape c.args.children c.args.bins c.args.stream.now c.args.count c.measure-measure.result c.pivots.result.now c.in_ok-shares.shares.items = record { measured = c.measure-measure.ensures; pivots = c.pivots.ensures.pivots; some = c.pivots.ensures.some; lie = c.requires.divided; each = e.each; divided = e.parts; long = e.len } in (
       refl,
       record {
-        led = c.len.ensures.led;
+        led = subst IsLed c.children.view_is (behind-led c.children.inside.pivots.items c.children.inside.nodes.items c.children.invariant);
         children = c.beside.ensures;
-        shares = sizes;
+        shares = at_pivots come;
         total = c.in_ok-shares.ensures.total;
-        marks = c.in_ok-marks.ensures
-            ∙ ap (λ ms. flush_marks c.args.mode c.args.shape.buffer (map length (each_with (parted ms stream) bins))) c.as_slice-2.ensures.value
-            ∙ ap (flush_marks c.args.mode c.args.shape.buffer) (loads-are xs bins ns stream packet c.requires.divided sizes same few);
-        full = λ within. elim c.else-len-fanout.branch [
-          | else-len-fanout-via-then-len-fanout+else-has_room w ↦ ap (has_room c.args.mode c.args.shape) all ∙ sym w.has_room.ensures ∙ w.if-has_room.false
-          | else-len-fanout-via-else-len-fanout w ↦ absurd (omega (arith, within, w.if-len-fanout.false, c.len.ensures.count, c.fanout.ensures.value))
+        weighed = c.in_ok-shares.ensures.shares;
+        marks = elim c.match-mode.branch [
+          | in-Absorb+in_ok-loads-in-Absorb+else-len-fanout+in_ok-marks-in-Absorb w ↦
+              let made = w.as_mut_slice.ensures.value ∙ w.in_ok-loads-in-Absorb.ensures
+              ∙ ap (λ ss. map (load (weigh_of g.V.Merge.terms) c.measure-measure.result) (each_with (parted (counts ss) c.args.stream.now) c.args.bins)) w.as_slice.ensures.value in
+              ap (λ v. v.items) w.marks-is
+              ∙ marks_planned come c.args.mode w.as_mut_slice.result.now c.buffer.result w.in_ok-marks-in-Absorb.marks.items w.in-Absorb.is made c.buffer.ensures.value w.in_ok-marks-in-Absorb.ensures
+          | in-Drain+in_ok-marks-in-Drain w ↦
+              let marked : w.in_ok-marks-in-Drain.marks.items ≡ replicate w.len-in-Drain.result true = search rules in
+              ap (λ v. v.items) w.marks-is ∙ marks_all come c.args.mode w.len-in-Drain.result w.in_ok-marks-in-Drain.marks.items w.in-Drain.is (search rules) marked
+        ];
+        full = λ within. elim c.match-mode.branch [
+          | in-Absorb+in_ok-loads-in-Absorb+else-len-fanout+in_ok-marks-in-Absorb w ↦ elim w.else-len-fanout.branch [
+            | else-len-fanout-via-then-len-fanout+else-are_within w' ↦
+                let made = w'.as_slice-then-len-fanout.ensures.value ∙ w.in_ok-loads-in-Absorb.ensures
+                ∙ ap (λ ss. map (load (weigh_of g.V.Merge.terms) c.measure-measure.result) (each_with (parted (counts ss) c.args.stream.now) c.args.bins)) w.as_slice.ensures.value in
+                has_room-absorb c.args.mode c.args.shape _ w.in-Absorb.is (room_test come w'.as_slice-then-len-fanout.result.now c.buffer.result w'.are_within.result made c.buffer.ensures.value w'.are_within.ensures ∙ w'.if-are_within.false)
+            | else-len-fanout-via-else-len-fanout w' ↦ absurd (omega (arith, within, w'.if-len-fanout.false, w.len.ensures.count, w.fanout.ensures.value))
+          ]
+          | in-Drain+in_ok-marks-in-Drain w ↦ has_room-drain c.args.mode c.args.shape _ w.in-Drain.is
         ];
       },
     )

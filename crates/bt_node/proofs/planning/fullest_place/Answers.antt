@@ -2,4 +2,4 @@ use Rattle.bt_node.proofs.lemmas.code.ChoiceLoop.{fullest_from-start}
 use Rattle.bt_node.proofs.planning.fullest_place.Goals as goal
 
 pub loop-place-init : goal.loop-place-init
-loop-place-init c = fullest_from-start c.args.counts.now
+loop-place-init c = fullest_from-start c.args.loads.now

@@ -1,57 +1,23 @@
-use Rattle.std.proofs.Common.{[], arith, rules, sym}
-use Rattle.bt_node.proofs.lemmas.code.ChoiceLoop.{Turn, planned-within, turn-below, turn-left, turn-planned, turn-some}
+use Rattle.std.proofs.Common.{rules, sym}
+use Rattle.bt_node.proofs.lemmas.code.ChoiceLoop.{none_planned, turn-below, turn-less, turn-planned, turn_taken}
 use Rattle.bt_node.proofs.planning.next_planned.Goals as goal
 
-pub returns-then-left-from-clause-found : goal.returns-then-left-from-clause-found
-returns-then-left-from-clause-found c = planned-within c.args.rest.now c.args.capacity (omega (arith, c.if-left-from.true, c.from.ensures, c.requires))
+pub returns-then-are_within-clause-found : goal.returns-then-are_within-clause-found
+returns-then-are_within-clause-found c = none_planned c.args.rest.now c.args.capacity c.are_within.result c.if-are_within.true c.are_within.ensures
 
 pub offset_bounds-rest-place : goal.offset_bounds-rest-place
 offset_bounds-rest-place c =
-    let turn : Turn c.args.rest.now c.args.capacity c.args.left.now c.fullest_place-place.result = record { over = search rules; all = search rules; place = search rules } in
-    let below = turn-below _ _ _ _ turn in
+    let below = turn-below _ _ _ (turn_taken c.args.rest.now c.args.capacity c.fullest_place-place.result c.are_within.result c.if-are_within.false c.are_within.ensures c.fullest_place-place.ensures) in
     search rules
 
 pub bounds-rest-place : goal.bounds-rest-place
-bounds-rest-place c =
-    let turn : Turn c.args.rest.now c.args.capacity c.args.left.now c.fullest_place-place.result = record { over = search rules; all = search rules; place = search rules } in
-    turn-below _ _ _ _ turn
-
-pub overflow_sub-left : goal.overflow_sub-left
-overflow_sub-left c =
-    let turn : Turn c.args.rest.now c.args.capacity c.args.left.now c.fullest_place-place.result = record { over = search rules; all = search rules; place = search rules } in
-    let less = turn-left _ _ _ _ turn c.from-2.result (search rules) in
-    omega arith
-
-pub offset_bounds-rest-place-2 : goal.offset_bounds-rest-place-2
-offset_bounds-rest-place-2 c =
-    let turn : Turn c.args.rest.now c.args.capacity c.args.left.now c.fullest_place-place.result = record { over = search rules; all = search rules; place = search rules } in
-    let below = turn-below _ _ _ _ turn in
-    search rules
-
-pub bounds-rest-place-2 : goal.bounds-rest-place-2
-bounds-rest-place-2 c =
-    let turn : Turn c.args.rest.now c.args.capacity c.args.left.now c.fullest_place-place.result = record { over = search rules; all = search rules; place = search rules } in
-    turn-below _ _ _ _ turn
+bounds-rest-place c = turn-below _ _ _ (turn_taken c.args.rest.now c.args.capacity c.fullest_place-place.result c.are_within.result c.if-are_within.false c.are_within.ensures c.fullest_place-place.ensures)
 
 pub returns-clause-found : goal.returns-clause-found
-returns-clause-found c =
-    let turn : Turn c.args.rest.now c.args.capacity c.args.left.now c.fullest_place-place.result = record { over = search rules; all = search rules; place = search rules } in
-    sym (turn-planned _ _ _ _ turn [])
+returns-clause-found c = sym (turn-planned _ _ _ (turn_taken c.args.rest.now c.args.capacity c.fullest_place-place.result c.are_within.result c.if-are_within.false c.are_within.ensures c.fullest_place-place.ensures))
 
 pub returns-clause-place : goal.returns-clause-place
-returns-clause-place c =
-    let turn : Turn c.args.rest.now c.args.capacity c.args.left.now c.fullest_place-place.result = record { over = search rules; all = search rules; place = search rules } in
-    turn-below _ _ _ _ turn
-
-pub returns-clause-left : goal.returns-clause-left
-returns-clause-left c =
-    let turn : Turn c.args.rest.now c.args.capacity c.args.left.now c.fullest_place-place.result = record { over = search rules; all = search rules; place = search rules } in
-    let less = turn-left _ _ _ _ turn c.from-2.result (search rules) in
-    omega arith
+returns-clause-place c = turn-below _ _ _ (turn_taken c.args.rest.now c.args.capacity c.fullest_place-place.result c.are_within.result c.if-are_within.false c.are_within.ensures c.fullest_place-place.ensures)
 
 pub returns-clause-fewer : goal.returns-clause-fewer
-returns-clause-fewer c =
-    let turn : Turn c.args.rest.now c.args.capacity c.args.left.now c.fullest_place-place.result = record { over = search rules; all = search rules; place = search rules } in
-    let less = turn-left _ _ _ _ turn c.from-2.result (search rules) in
-    let some = turn-some _ _ _ _ turn c.from-2.result (search rules) in
-    omega (arith, less, some, c.requires)
+returns-clause-fewer c = turn-less _ _ _ (turn_taken c.args.rest.now c.args.capacity c.fullest_place-place.result c.are_within.result c.if-are_within.false c.are_within.ensures c.fullest_place-place.ensures)

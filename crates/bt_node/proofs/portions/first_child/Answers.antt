@@ -63,7 +63,7 @@ returns-then-is_none-clause-parts g c =
     c.first_place-place.ensures.place c.first_place-place.ensures.bound c.next_pivot-next.ensures (ap option_copied chosen ∙ or_copied c.next_pivot-next.result c.portion.inside.high) c.index-nodes-place.is
     c.in_ok-above.ensures.taken c.bin_between.ensures.messages c.bin_between.ensures.sorted c.in_ok-messages.ensures in
     let none : option_copied c.next_pivot-next.result ≡ None = search rules in
-    last_child first (effect_of g.V.Merge.merged) none
+    last_child first (effect_of g.V.Merge.terms.merged) none
 
 pub invariant_of-rest : goal.invariant_of-rest
 invariant_of-rest g c =
@@ -79,7 +79,7 @@ returns-clause-parts g c =
     let first = first_child c.portion.view_is c.portion.invariant c.kind.ensures.tree c.kind.ensures.divided c.in-Inner.is c.nodes.ensures c.pivots-pivots.ensures.pivots c.pivots-pivots.ensures.some
     c.first_place-place.ensures.place c.first_place-place.ensures.bound c.next_pivot-next.ensures (ap option_copied chosen ∙ or_copied c.next_pivot-next.result c.portion.inside.high) c.index-nodes-place.is
     c.in_ok-above.ensures.taken c.bin_between.ensures.messages c.bin_between.ensures.sorted c.in_ok-messages.ensures in
-    child_and_others first c.take_before.new.self c.in_ok-above.ensures.left (present c.next_pivot-next.result (search rules)) (effect_of g.V.Merge.merged)
+    child_and_others first c.take_before.new.self c.in_ok-above.ensures.left (present c.next_pivot-next.result (search rules)) (effect_of g.V.Merge.terms.merged)
 
 pub returns-clause-fewer : goal.returns-clause-fewer
 returns-clause-fewer g c =

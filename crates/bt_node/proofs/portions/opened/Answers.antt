@@ -8,7 +8,7 @@ use Rattle.bt_node.proofs.portions.opened.Goals as goal
 
 pub returns-in_default-others : goal.returns-in_default-others
 returns-in_default-others g c =
-    let effect = effect_of g.V.Merge.merged in
+    let effect = effect_of g.V.Merge.terms.merged in
     let none : c.in_ok-child.others ≡ None = search rules in
     let more = c.push-in-loop-parts.new.self.items in
     let added = child_added effect (c.args.portion ∷ []) c.loop-parts.parts.items more c.loop-parts.rest c.in_ok-child.child (list_of c.in_ok-child.others) c.in_ok-push-2.ensures.items c.in_ok-child.ensures.parts
@@ -17,7 +17,7 @@ returns-in_default-others g c =
 
 pub loop-parts-preserved : goal.loop-parts-preserved
 loop-parts-preserved g c =
-    let effect = effect_of g.V.Merge.merged in
+    let effect = effect_of g.V.Merge.terms.merged in
     let more = c.push-in-loop-parts.new.self.items in
     let fewer = rw (c.in-Some.is) at c.in_ok-child.ensures.fewer in
     let added = child_added effect (c.args.portion ∷ []) c.loop-parts.parts.items more c.loop-parts.rest c.in_ok-child.child (list_of c.in_ok-child.others) c.in_ok-push-2.ensures.items c.in_ok-child.ensures.parts

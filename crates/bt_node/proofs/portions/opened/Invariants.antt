@@ -8,7 +8,7 @@ use Rattle.bt_node.proofs.portions.opened.Given as goal
 -- the children so far, and then what is left of the portion
 abbrev pub invariant-loop-parts : goal.invariant-loop-parts
 invariant-loop-parts g l = record {
-  divided : Divide (effect_of g.V.Merge.merged) (l.fn.portion ∷ []) (l.parts.items ++ l.rest ∷ []);
+  divided : Divide (effect_of g.V.Merge.terms.merged) (l.fn.portion ∷ []) (l.parts.items ++ l.rest ∷ []);
   inner : is_leaf l.rest.tree ≡ false;
 }
 

@@ -1,5 +1,6 @@
 use Rattle.std.proofs.Common.{arith, rules}
 use Rattle.bt_messages.specs.Effects.{effect_of}
+use Rattle.bt_messages.specs.Weights.{weigh_of}
 use Rattle.bt_node.specs.Fits.{IsRoomy}
 use Rattle.bt_node.proofs.lemmas.crowns.Levels.{stands_above}
 use Rattle.bt_node.proofs.lemmas.crowns.ShapedTrees.{crown_holds, has_room}
@@ -8,7 +9,7 @@ use Rattle.bt_node.proofs.tree.crown.Goals as goal
 pub returns-clause-rows : goal.returns-clause-rows
 returns-clause-rows g c =
     let roomy : IsRoomy c.args.shape = search (has_room, rules) in
-    crown_holds c.args.shape (effect_of g.V.Merge.merged) _ c.args.siblings roomy c.requires c.in_ok-root.ensures
+    crown_holds (weigh_of g.V.Merge.terms) c.args.shape (effect_of g.V.Merge.terms.merged) _ c.args.siblings roomy c.requires c.in_ok-root.ensures
 
 pub returns-clause-stands : goal.returns-clause-stands
 returns-clause-stands g c =

@@ -4,6 +4,7 @@ use Rattle.std.specs.declared.option.Option.TheVariants.{None}
 use Rattle.bt_keycode.specs.Keys.{key_cmp}
 use Rattle.bt_messages.specs.Effects.{effect_of}
 use Rattle.bt_messages.specs.declared.message.Message.{Message}
+use Rattle.bt_messages.specs.Weights.{weigh_of}
 use Rattle.bt_node.specs.Drains.{AreDry}
 use Rattle.bt_node.specs.Fits.{IsRoomy, SiblingsFit}
 use Rattle.bt_node.specs.Flushes.{all_hold, crown, leaves}
@@ -21,12 +22,12 @@ crown-requires g c =
     let roomy : IsRoomy c.args.shape = search (has_room, rules) in
     let is = c.in_ok-siblings.ensures ∙ ap (leaves {M = M} c.args.shape) c.from_sorted.ensures in
     let sorted = t_true (is_sorted key_cmp c.args.rows.items) c.requires in
-    (0, subst (SiblingsFit c.args.shape 0 None None) (sym is) (leaves-fit M c.args.shape c.args.rows.items roomy sorted))
+    (0, subst (SiblingsFit (weigh_of g.V.Merge.terms) c.args.shape 0 None None) (sym is) (leaves-fit (weigh_of g.V.Merge.terms) c.args.shape c.args.rows.items roomy sorted))
 
 pub returns : goal.returns
 returns g c =
     let M = Message g.row.V.Denot g.row.V-Delta.Denot in
-    let effect = effect_of g.V.Merge.merged in
+    let effect = effect_of g.V.Merge.terms.merged in
     let made = c.in_ok-crown.ensures in
     let is = c.in_ok-siblings.ensures ∙ ap (leaves {M = M} c.args.shape) c.from_sorted.ensures in
     record {

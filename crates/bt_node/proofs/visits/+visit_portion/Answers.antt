@@ -12,7 +12,7 @@ use Rattle.bt_node.proofs.visits.+visit_portion.Goals as goal
 
 pub returns-in-Leaf : goal.returns-in-Leaf
 returns-in-Leaf g t c =
-    let effect = effect_of g.V.Merge.merged in
+    let effect = effect_of g.V.Merge.terms.merged in
     let inside = c.portion.inside in
     on_ok_weaker c.visit_leaf.result
     (λ shown.
@@ -26,4 +26,4 @@ returns-in-Leaf g t c =
 pub returns-then-is_reached : goal.returns-then-is_reached
 returns-then-is_reached g t c =
     let reached : c.loop-alloc.limit ≡ Some 0 = search rules in
-    sym (c.loop-alloc.invariant.wanted ∙ none_shown g.S.Visitor.visited c.loop-alloc.visitor c.loop-alloc.limit (rows_of (effect_of g.V.Merge.merged) c.loop-alloc.rest) reached)
+    sym (c.loop-alloc.invariant.wanted ∙ none_shown g.S.Visitor.visited c.loop-alloc.visitor c.loop-alloc.limit (rows_of (effect_of g.V.Merge.terms.merged) c.loop-alloc.rest) reached)

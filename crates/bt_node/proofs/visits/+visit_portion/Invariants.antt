@@ -10,7 +10,7 @@ use Rattle.bt_node.proofs.visits.+visit_portion.Given as goal
 -- what is still to be shown, which begins with what is left of the portion
 abbrev pub invariant-loop-alloc : goal.invariant-loop-alloc
 invariant-loop-alloc g l =
-    let effect = effect_of g.V.Merge.merged in
+    let effect = effect_of g.V.Merge.terms.merged in
     let visited = limited g.S.Visitor.visited in
     record {
       wanted : fold visited (l.fn.visitor, l.fn.limit) (rows_of effect l.fn.portion) ≡ fold visited (l.visitor, l.limit) (rows_of effect l.rest);

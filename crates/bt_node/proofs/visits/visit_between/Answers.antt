@@ -12,5 +12,5 @@ returns g c =
     on_ok_weaker c.visit_portion.result
     (λ shown.
     first_rows_shown visited c.args.visitor.now c.visit_portion.new.visitor c.args.limit c.visit_portion.new.limit _
-    (shown ∙ ap (λ p. fold (limited visited) (c.args.visitor.now, c.args.limit) (rows_of (effect_of g.V.Merge.merged) p)) c.whole-whole.ensures))
+    (shown ∙ ap (λ p. fold (limited visited) (c.args.visitor.now, c.args.limit) (rows_of (effect_of g.V.Merge.terms.merged) p)) c.whole-whole.ensures))
     c.visit_portion.ensures

@@ -5,10 +5,9 @@ use Rattle.bt_plan.proofs.planning.plan.Given as goal
 -- the places so far stand before those that are planned of the rest
 abbrev pub invariant-loop-place : goal.invariant-loop-place
 invariant-loop-place l = record {
-  left : l.left ≡ total l.rest.items;
-  long : length l.rest.items ≡ length l.counts;
-  so_far : l.places.items ++ planned l.rest.items l.capacity ≡ planned l.counts l.capacity;
+  long : length l.rest.items ≡ length l.loads;
+  so_far : l.places.items ++ planned l.rest.items l.capacity ≡ planned l.loads l.capacity;
 }
 
 abbrev pub decreases-loop-place : goal.decreases-loop-place
-decreases-loop-place l = l.left
+decreases-loop-place l = total l.rest.items

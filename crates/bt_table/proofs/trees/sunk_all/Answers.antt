@@ -1,6 +1,6 @@
 use Rattle.std.proofs.Common.{◌∙◌, ap, arith, length}
 use Rattle.std.proofs.lemmas.Slice.Zip.{length-zip}
-use Rattle.bt_fanout.specs.Effects.{entry_effect}
+use Rattle.bt_fanout.specs.Effects.{entry_meaning}
 use Rattle.bt_gather.specs.Rounds.{all_sunk}
 use Rattle.bt_table.proofs.Sinks.{sunk-zip}
 use Rattle.bt_table.proofs.trees.sunk_all.Goals as goal
@@ -15,4 +15,4 @@ sink-requires-clause-few g c =
 
 pub returns-clause-entries : goal.returns-clause-entries
 returns-clause-entries g c =
-    c.in_ok-rows.ensures.entries ∙ ap (all_sunk entry_effect) c.with_packets-entries.ensures ∙ sunk-zip c.args.trees.entries.items c.args.packets.items
+    c.in_ok-rows.ensures.entries ∙ ap (all_sunk entry_meaning) c.with_packets-entries.ensures ∙ sunk-zip c.args.trees.entries.items c.args.packets.items

@@ -3,7 +3,7 @@ use Rattle.std.proofs.lemmas.List.{drop_all, drop_more}
 use Rattle.std.specs.FinMap.{find}
 use Rattle.std.specs.List.{AllByRecursion as Each}
 use Rattle.bt_gather.specs.Views.{pieces_of}
-use Rattle.bt_messages.specs.Effects.{effect_of}
+use Rattle.bt_messages.specs.Meanings.{meaning_of}
 use Rattle.bt_plan.specs.Pieces.{place_cmp}
 use Rattle.bt_plan.specs.Views.{place_of}
 use Rattle.replay_cuts.specs.Turns.{AreRun}
@@ -12,13 +12,13 @@ use Rattle.replay_cuts.proofs.odd.odd_pieces.Goals as goal
 
 pub loop-number-preserved : goal.loop-number-preserved
 loop-number-preserved g c =
-    let effect = effect_of g.V.Merge.merged in
+    let meaning = meaning_of g.V.Merge.terms in
     let left = map place_of c.in_ok-pieces.left.items in
     let place = c.child_of_root-in-loop-number.result in
     let grew : c.push.new.self.items ≡ c.loop-number.pieces.items ++ (place, c.in_ok-leaf.leaf) ∷ [] = search rules in
-    subst (λ ps. AreRun effect c.args.shape c.args.jobs.items ps left)
+    subst (λ ps. AreRun meaning c.args.shape c.args.jobs.items ps left)
     (sym (ap pieces_of grew ∙ map-last (λ p. (place_of p.0, p.1)) c.loop-number.pieces.items (place, c.in_ok-leaf.leaf)))
-    (run-more effect c.args.shape c.args.jobs.items (pieces_of c.loop-number.pieces.items) ((place_of place, c.in_ok-leaf.leaf) ∷ []) left c.loop-number.invariant)
+    (run-more meaning c.args.shape c.args.jobs.items (pieces_of c.loop-number.pieces.items) ((place_of place, c.in_ok-leaf.leaf) ∷ []) left c.loop-number.invariant)
 
 pub loop-place-preserved : goal.loop-place-preserved
 loop-place-preserved g c =
@@ -36,5 +36,5 @@ returns g c =
     let places = c.deref-place-items.result.now in
     let none = drop_all c.loop-place.place-index places (omega arith) in
     let free = c.loop-place.invariant (subst (λ ps. Each (λ p. find place_cmp p pieces ≡ None) (map place_of ps)) (sym none) tt) in
-    run-odd (effect_of g.V.Merge.merged) c.args.shape c.args.jobs.items pieces (map place_of c.in_ok-pieces.left.items) c.loop-number.invariant
+    run-odd (meaning_of g.V.Merge.terms) c.args.shape c.args.jobs.items pieces (map place_of c.in_ok-pieces.left.items) c.loop-number.invariant
     (subst (λ ps. Each (λ p. find place_cmp p pieces ≡ None) (map place_of ps)) c.deref-place-items.ensures.value free)

@@ -1,6 +1,6 @@
 use Rattle.std.proofs.Common.{◌≡◌, ◌++◌, map}
 use Rattle.bt_gather.specs.Views.{pieces_of}
-use Rattle.bt_messages.specs.Effects.{effect_of}
+use Rattle.bt_messages.specs.Meanings.{meaning_of}
 use Rattle.bt_plan.specs.Cuts.{all_done}
 use Rattle.bt_plan.specs.Views.{job_of}
 use Rattle.replay_cuts.specs.Turns.{AreInOrder}
@@ -9,6 +9,6 @@ use Rattle.replay_cuts.proofs.pieces.run_all.Given as goal
 -- what became of the jobs so far, and then of those that are left
 abbrev pub invariant-loop-job : goal.invariant-loop-job
 invariant-loop-job g l = record {
-  done : pieces_of l.pieces.items ++ all_done (effect_of g.V.Merge.merged) l.shape (map job_of l.job-iterator.rest.items) ≡ all_done (effect_of g.V.Merge.merged) l.fn.shape (map job_of l.fn.jobs.items);
+  done : pieces_of l.pieces.items ++ all_done (meaning_of g.V.Merge.terms) l.shape (map job_of l.job-iterator.rest.items) ≡ all_done (meaning_of g.V.Merge.terms) l.fn.shape (map job_of l.fn.jobs.items);
   in_order : AreInOrder l.job-iterator.rest.items;
 }

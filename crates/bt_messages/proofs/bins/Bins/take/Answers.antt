@@ -1,4 +1,4 @@
-use Rattle.std.proofs.Common.{◌<◌, ◌∙◌, length, refl}
+use Rattle.std.proofs.Common.{◌<◌, length, refl}
 use Rattle.bt_messages.proofs.Totals.{held-emptied}
 use Rattle.bt_messages.proofs.bins.Bins.take.Goals as goal
 

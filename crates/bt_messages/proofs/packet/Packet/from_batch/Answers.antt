@@ -9,8 +9,8 @@ use Rattle.bt_messages.proofs.packet.Packet.from_batch.Goals as goal
 pub returns-then-branch-clause-same_rows : goal.returns-then-branch-clause-same_rows
 returns-then-branch-clause-same_rows g c =
     IfOk-weaker c.sorted_by_first_bytes.result _ _ (λ packet e rows up.
-    ap (λ ms. rows_after (effect_of g.V.Merge.merged) ms rows) e
-    ∙ rows_after-sorted_batch (effect_of g.V.Merge.merged) c.args.batch.items rows (subst (λ b. T b) (sym up) tt)) c.sorted_by_first_bytes.ensures
+    ap (λ ms. rows_after (effect_of g.V.Merge.terms.merged) ms rows) e
+    ∙ rows_after-sorted_batch (effect_of g.V.Merge.terms.merged) c.args.batch.items rows (subst (λ b. T b) (sym up) tt)) c.sorted_by_first_bytes.ensures
 
 pub from_runs-requires : goal.from_runs-requires
 from_runs-requires g c =
@@ -22,5 +22,5 @@ returns-clause-messages g c = c.from_runs.ensures ∙ ap (λ ms. ms ++ joined c.
 
 pub returns-clause-same_rows : goal.returns-clause-same_rows
 returns-clause-same_rows g c = λ rows up.
-    ap (λ ms. rows_after (effect_of g.V.Merge.merged) ms rows) (c.from_runs.ensures ∙ ap (λ ms. ms ++ joined c.in_ok-runs.runs.items) c.new.ensures ∙ c.in_ok-runs.ensures.joined ∙ c.in_ok-sort.ensures.value)
-    ∙ rows_after-sorted_batch (effect_of g.V.Merge.merged) c.args.batch.items rows (subst (λ b. T b) (sym up) tt)
+    ap (λ ms. rows_after (effect_of g.V.Merge.terms.merged) ms rows) (c.from_runs.ensures ∙ ap (λ ms. ms ++ joined c.in_ok-runs.runs.items) c.new.ensures ∙ c.in_ok-runs.ensures.joined ∙ c.in_ok-sort.ensures.value)
+    ∙ rows_after-sorted_batch (effect_of g.V.Merge.terms.merged) c.args.batch.items rows (subst (λ b. T b) (sym up) tt)

@@ -1,24 +1,51 @@
-use Rattle.std.proofs.Common.{◌-◌, ap, arith}
-use Rattle.std.proofs.lemmas.Grind.{common_steps}
-use Rattle.std.proofs.lemmas.List.{drop_all}
-use Rattle.bt_messages.specs.Parts.{total}
-use Rattle.bt_messages.proofs.Counts.{counted_all, counted_keys, total-push}
+use Rattle.std.proofs.Common.{◌≤◌, ◌∙◌, ap, arith, length, map, subst, sym, take}
+use Rattle.bt_messages.specs.Bins.{parts}
+use Rattle.bt_messages.specs.Parts.{parted, total}
+use Rattle.bt_messages.specs.Shares.{AreShares, counts, share_of}
+use Rattle.bt_messages.specs.Weights.{weigh_of}
+use Rattle.bt_messages.specs.declared.measure.Measure.TheVariants as measures
+use Rattle.bt_messages.proofs.Weighing.{are-shares, counts-weighed, length-counts, shares-counted}
 use Rattle.bt_messages.proofs.stream.Stream.shares.Goals as goal
 
-pub loop-pivot-preserved : goal.loop-pivot-preserved
-loop-pivot-preserved g c = record {
-  parts = counted_keys c.args.pivots.now c.loop-pivot.pivot-index _ _ _ _ _ c.args.count c.args.self.now _
-      c.loop-pivot-test.true c.pivot-item.is c.loop-pivot.invariant.total c.place_within-place.ensures.low c.push_reserved.ensures.items
-      c.place_within-place.ensures.before c.place_within-place.ensures.from c.loop-pivot.invariant.parts;
-  total = omega (arith, ap total c.push_reserved.ensures.items, total-push c.loop-pivot.shares.items (c.place_within-place.result - c.loop-pivot.from), c.loop-pivot.invariant.total, c.place_within-place.ensures.low);
-  bound = c.place_within-place.ensures.high;
-  len = grind (arith, common_steps);
-}
+pub returns-in-Messages-clause-each : goal.returns-in-Messages-clause-each
+returns-in-Messages-clause-each g c =
+    let w = weigh_of g.V.Merge.terms in
+    let ns = counts c.in_ok-shares.shares.items in
+    let enough : total ns ≤ length c.args.self.now = omega (arith, c.in_ok-shares.ensures.total, c.requires) in
+    c.in_ok-shares.ensures.counted ∙ shares-counted w ns c.args.self.now enough ∙ ap (map (share_of w measures.Messages)) c.in_ok-shares.ensures.parts
+    ∙ ap (λ measure. map (share_of w measure) (parts c.args.pivots.now (take c.args.count c.args.self.now))) (sym c.in-Messages.is)
 
-pub returns-clause-parts : goal.returns-clause-parts
-returns-clause-parts g c =
-    counted_all _ _ _ c.loop-pivot.from c.args.count c.args.self.now _
-    (drop_all c.loop-pivot.pivot-index c.args.pivots.now (omega (arith, c.loop-pivot-test.false))) c.loop-pivot.invariant.total c.loop-pivot.invariant.bound c.push_reserved-2.ensures.items c.loop-pivot.invariant.parts
+pub returns-in-Messages-clause-shares : goal.returns-in-Messages-clause-shares
+returns-in-Messages-clause-shares g c =
+    let w = weigh_of g.V.Merge.terms in
+    let ns = counts c.in_ok-shares.shares.items in
+    let enough : total ns ≤ length c.args.self.now = omega (arith, c.in_ok-shares.ensures.total, c.requires) in
+    subst (AreShares w c.args.self.now) (sym (c.in_ok-shares.ensures.counted ∙ shares-counted w ns c.args.self.now enough)) (are-shares w measures.Messages ns c.args.self.now enough)
 
-pub returns-clause-total : goal.returns-clause-total
-returns-clause-total g c = omega (arith, ap total c.push_reserved-2.ensures.items, total-push c.loop-pivot.shares.items (c.args.count - c.loop-pivot.from), c.loop-pivot.invariant.total, c.loop-pivot.invariant.bound)
+pub returns-in-Bytes-clause-shares : goal.returns-in-Bytes-clause-shares
+returns-in-Bytes-clause-shares g c =
+    let w = weigh_of g.V.Merge.terms in
+    let ns = counts c.in_ok-shares.shares.items in
+    let enough : total ns ≤ length c.args.self.now = omega (arith, c.in_ok-shares.ensures.total, c.requires) in
+    subst (AreShares w c.args.self.now) (sym (c.weighed.ensures ∙ ap (λ ms. map (share_of w measures.Bytes) (parted ns ms)) c.walk.ensures))
+    (are-shares w measures.Bytes ns c.args.self.now enough)
+
+pub returns-in-Bytes-clause-parts : goal.returns-in-Bytes-clause-parts
+returns-in-Bytes-clause-parts g c =
+    let ns = counts c.in_ok-shares.shares.items in
+    let enough : total ns ≤ length c.args.self.now = omega (arith, c.in_ok-shares.ensures.total, c.requires) in
+    let same = counts-weighed (weigh_of g.V.Merge.terms) ns c.args.self.now c.walk.result c.weighed.result.items enough c.walk.ensures c.weighed.ensures in
+    ap (λ ks. parted ks c.args.self.now) same ∙ c.in_ok-shares.ensures.parts
+
+pub returns-in-Bytes-clause-total : goal.returns-in-Bytes-clause-total
+returns-in-Bytes-clause-total g c =
+    let ns = counts c.in_ok-shares.shares.items in
+    let enough : total ns ≤ length c.args.self.now = omega (arith, c.in_ok-shares.ensures.total, c.requires) in
+    ap total (counts-weighed (weigh_of g.V.Merge.terms) ns c.args.self.now c.walk.result c.weighed.result.items enough c.walk.ensures c.weighed.ensures) ∙ c.in_ok-shares.ensures.total
+
+pub returns-in-Bytes-clause-len : goal.returns-in-Bytes-clause-len
+returns-in-Bytes-clause-len g c =
+    let ns = counts c.in_ok-shares.shares.items in
+    let enough : total ns ≤ length c.args.self.now = omega (arith, c.in_ok-shares.ensures.total, c.requires) in
+    let same = counts-weighed (weigh_of g.V.Merge.terms) ns c.args.self.now c.walk.result c.weighed.result.items enough c.walk.ensures c.weighed.ensures in
+    omega (arith, length-counts c.weighed.result.items, ap length same, length-counts c.in_ok-shares.shares.items, c.in_ok-shares.ensures.len)

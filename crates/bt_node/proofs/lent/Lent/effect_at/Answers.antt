@@ -24,7 +24,7 @@ after_entries-requires-clause-sorted g c =
     rest_sorted_from c.args.key.now _ _ (sorted-prefix _ _ (subst IsSorted (sym parts) c.requires)) c.entries_from-earlier.ensures
 
 pub after_entries-requires-clause-from : goal.after_entries-requires-clause-from
-after_entries-requires-clause-from g c = left_from (effect_of g.V.Merge.merged) c.args.key.now _ _ c.entries_from-earlier.ensures
+after_entries-requires-clause-from g c = left_from (effect_of g.V.Merge.terms.merged) c.args.key.now _ _ c.entries_from-earlier.ensures
 
 pub after_entries-requires-2-clause-sorted : goal.after_entries-requires-2-clause-sorted
 after_entries-requires-2-clause-sorted g c =
@@ -32,12 +32,12 @@ after_entries-requires-2-clause-sorted g c =
     rest_sorted_from c.args.key.now _ _ (sorted-back _ _ (subst IsSorted (sym parts) c.requires)) c.entries_from-later.ensures
 
 pub after_entries-requires-2-clause-from : goal.after_entries-requires-2-clause-from
-after_entries-requires-2-clause-from g c = left_from (effect_of g.V.Merge.merged) c.args.key.now _ _ c.entries_from-later.ensures
+after_entries-requires-2-clause-from g c = left_from (effect_of g.V.Merge.terms.merged) c.args.key.now _ _ c.entries_from-later.ensures
 
 pub returns : goal.returns
 returns g c =
     let parts = in_parts (λ m. (m.key.now, m.message.now)) c.as_slices.result.0.now c.as_slices.result.1.now c.self.inside.messages.items c.args.self.now c.as_slices.ensures.items c.self.view_is in
     IfOk-weaker c.after_entries-2.result _ _
-    (λ value e. two_parts (effect_of g.V.Merge.merged) c.args.key.now _ _ c.args.self.now _ _ (value_of c.args.old) (value_of c.in_ok-value.value) (value_of value) parts c.entries_from-earlier.ensures c.entries_from-later.ensures
+    (λ value e. two_parts (effect_of g.V.Merge.terms.merged) c.args.key.now _ _ c.args.self.now _ _ (value_of c.args.old) (value_of c.in_ok-value.value) (value_of value) parts c.entries_from-earlier.ensures c.entries_from-later.ensures
     c.in_ok-value.ensures e)
     c.after_entries-2.ensures

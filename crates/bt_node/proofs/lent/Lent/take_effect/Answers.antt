@@ -8,7 +8,7 @@ use Rattle.bt_node.proofs.lent.Lent.take_effect.Goals as goal
 
 pub loop-message-preserved : goal.loop-message-preserved
 loop-message-preserved g c =
-    let effect = effect_of g.V.Merge.merged in
+    let effect = effect_of g.V.Merge.terms.merged in
     let k = c.args.key.now in
     let so_far = c.loop-message.invariant in
     let m : Key × Message g.row.V.Denot g.row.V-Delta.Denot = (c.in-Some.field-0-0.now, c.in-Some.message.now) in
@@ -22,7 +22,7 @@ loop-message-preserved g c =
 
 pub returns-clause-value : goal.returns-clause-value
 returns-clause-value g c =
-    none_applied (effect_of g.V.Merge.merged) c.args.key.now c.loop-message.self (value_of c.loop-message.value) _ c.in_default.ensures.none c.loop-message.invariant.sorted c.loop-message.invariant.value
+    none_applied (effect_of g.V.Merge.terms.merged) c.args.key.now c.loop-message.self (value_of c.loop-message.value) _ c.in_default.ensures.none c.loop-message.invariant.sorted c.loop-message.invariant.value
 
 pub returns-clause-left : goal.returns-clause-left
 returns-clause-left g c = c.in_default.ensures.first ∙ past_left c.args.key.now c.loop-message.self _ c.in_default.ensures.none c.loop-message.invariant.left

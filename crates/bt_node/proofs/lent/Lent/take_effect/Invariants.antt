@@ -9,7 +9,7 @@ use Rattle.bt_node.proofs.lent.Lent.take_effect.Given as goal
 -- what the messages that are left make of the value so far
 abbrev pub invariant-loop-message : goal.invariant-loop-message
 invariant-loop-message g l = record {
-  value : value_after (effect_of g.V.Merge.merged) l.key l.fn.self (value_of l.fn.old) ≡ value_after (effect_of g.V.Merge.merged) l.key l.self (value_of l.value);
+  value : value_after (effect_of g.V.Merge.terms.merged) l.key l.fn.self (value_of l.fn.old) ≡ value_after (effect_of g.V.Merge.terms.merged) l.key l.self (value_of l.value);
   left : messages_past l.key l.fn.self ≡ messages_past l.key l.self;
   from : AllFrom l.key l.self;
   sorted : IsSorted l.self;

@@ -12,11 +12,11 @@ pub take_effect-requires-clause-sorted : goal.take_effect-requires-clause-sorted
 take_effect-requires-clause-sorted g c = rest_sorted_from c.args.key.now c.args.self.now c.drop_before.new.self c.requires c.drop_before.ensures
 
 pub take_effect-requires-clause-from : goal.take_effect-requires-clause-from
-take_effect-requires-clause-from g c = left_from (effect_of g.V.Merge.merged) c.args.key.now c.args.self.now c.drop_before.new.self c.drop_before.ensures
+take_effect-requires-clause-from g c = left_from (effect_of g.V.Merge.terms.merged) c.args.key.now c.args.self.now c.drop_before.new.self c.drop_before.ensures
 
 pub returns-clause-value : goal.returns-clause-value
 returns-clause-value g c =
-    let effect = effect_of g.V.Merge.merged in
+    let effect = effect_of g.V.Merge.terms.merged in
     IfOk-weaker c.take_effect.result _ _ (λ value e. e ∙ sym (all_left effect c.args.key.now c.args.self.now c.drop_before.new.self (value_of c.args.old) c.drop_before.ensures)) c.take_effect.ensures.value
 
 pub returns-clause-left : goal.returns-clause-left

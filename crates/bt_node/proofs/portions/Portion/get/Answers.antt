@@ -10,7 +10,7 @@ use Rattle.bt_node.proofs.portions.Portion.get.Goals as goal
 
 pub returns : goal.returns
 returns g c =
-    let effect = effect_of g.V.Merge.merged in
+    let effect = effect_of g.V.Merge.terms.merged in
     let key = c.args.key.now in
     let node = c.self.inside.node.now in
     let newer = c.self.inside.newer in

@@ -14,7 +14,7 @@ use Rattle.bt_node.proofs.portions.Portion.values.Goals as goal
 
 pub loop-old-init : goal.loop-old-init
 loop-old-init g c =
-    let effect = effect_of g.V.Merge.merged in
+    let effect = effect_of g.V.Merge.terms.merged in
     let newer = c.self.inside.newer in
     let order = c.self.invariant.0 in
     let keys = c.args.keys.now in
@@ -33,7 +33,7 @@ loop-old-init g c =
 
 pub loop-old-preserved : goal.loop-old-preserved
 loop-old-preserved g c =
-    let effect = effect_of g.V.Merge.merged in
+    let effect = effect_of g.V.Merge.terms.merged in
     let here = first_of c.loop-old.rest.now c.key-item.result c.in-len1-up.len_at_least c.key-item.is in
     let rising = c.loop-old.invariant.rising in
     let olds : c.loop-old.old-iterator.rest.items ≡ c.in-Some.old ∷ c.next.new.self.rest.items = search rules in
@@ -47,6 +47,6 @@ loop-old-preserved g c =
 
 pub returns : goal.returns
 returns g c =
-    let effect = effect_of g.V.Merge.merged in
+    let effect = effect_of g.V.Merge.terms.merged in
     let left : c.loop-old.old-iterator.rest.items ≡ [] = nil_from_length c.loop-old.old-iterator.rest.items (search rules) in
     values_end effect c.loop-old.newer (map (λ k. k.now) c.loop-old.rest.now) (map value_of c.loop-old.old-iterator.rest.items) c.loop-old.values.items _ (ap (map value_of) left) c.loop-old.invariant.values

@@ -10,7 +10,7 @@ use Rattle.bt_node.proofs.portions.Portion.values.Given as goal
 -- the values so far, and those of the keys that are left, whose messages are all still there
 abbrev pub invariant-loop-old : goal.invariant-loop-old
 invariant-loop-old g l =
-    let effect = effect_of g.V.Merge.merged in
+    let effect = effect_of g.V.Merge.terms.merged in
     record {
       values : l.values.items ++ values_after effect l.newer (map (λ k. k.now) l.rest) (map value_of l.old-iterator.rest.items) ≡ map (λ k. value_in effect k.now l.fn.self) l.keys;
       rising : AreRising (map (λ k. k.now) l.rest);

@@ -9,7 +9,7 @@ use Rattle.bt_node.proofs.portions.Portion.visit.Goals as goal
 pub returns : goal.returns
 returns g c =
     let visited = g.S.Visitor.visited in
-    let rows = rows_of (effect_of g.V.Merge.merged) c.args.self in
+    let rows = rows_of (effect_of g.V.Merge.terms.merged) c.args.self in
     on_ok_weaker c.visit_portion.result
     (λ shown.
     first_rows_shown visited c.args.visitor.now c.visit_portion.new.visitor None c.visit_portion.new.limit rows

@@ -16,7 +16,7 @@ take_first-old-requires-clause-none_before g c = before_of c.in-Some.key c.loop.
 
 pub loop-preserved : goal.loop-preserved
 loop-preserved g c =
-    let effect = effect_of g.V.Merge.merged in
+    let effect = effect_of g.V.Merge.terms.merged in
     let message : Key × Message g.row.V.Denot g.row.V-Delta.Denot = (c.in-Some.key, c.in-Some.message) in
     let first : c.loop.stream ≡ message ∷ c.pop.new.self = search rules in
     let on = one_taken c.loop.stream c.pop.new.self message c.args.count c.loop.counter c.loop-test.true first in
@@ -47,5 +47,5 @@ invariant_of-result g c =
     let start : is_sorted key_cmp c.args.self ≡ true = rw (← c.self.view_is) c.self.invariant in
     let none : length c.loop-row.row-iterator.rest.items ≡ 0 = search rules in
     let done = at_end c.loop-row.changed.items _ _ none c.loop-row.invariant.wanted in
-    let sorted = result_sorted (effect_of g.V.Merge.merged) (take c.args.count c.args.stream.now) c.args.self c.loop-row.changed.items start done in
+    let sorted = result_sorted (effect_of g.V.Merge.terms.merged) (take c.args.count c.args.stream.now) c.args.self c.loop-row.changed.items start done in
     subst (λ rows. is_sorted key_cmp rows ≡ true) (sym c.shrink_to.ensures.items) sorted

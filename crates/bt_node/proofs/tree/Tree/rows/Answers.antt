@@ -7,5 +7,5 @@ use Rattle.bt_node.proofs.tree.Tree.rows.Goals as goal
 
 pub returns-clause-held : goal.returns-clause-held
 returns-clause-held g c =
-    let effect = effect_of g.V.Merge.merged in
+    let effect = effect_of g.V.Merge.terms.merged in
     IfOk-weaker c.rows.result _ _ (λ rows e. e ∙ between-all (holds effect c.walk.result) ∙ ap (holds effect) c.walk.ensures.root) c.rows.ensures.rows

@@ -18,4 +18,4 @@ pub returns-clause-rows : goal.returns-clause-rows
 returns-clause-rows g c =
     let has = c.apart-shape.ensures.fits in
     c.in_ok-crown.ensures.rows ∙ c.in_ok-siblings.ensures.rows has.levels None None has.fits (anywhere c.args.packet)
-    ∙ ap (λ t. rows_after (effect_of g.V.Merge.merged) c.args.packet (holds (effect_of g.V.Merge.merged) t)) c.apart-shape.ensures.root
+    ∙ ap (λ t. rows_after (effect_of g.V.Merge.terms.merged) c.args.packet (holds (effect_of g.V.Merge.terms.merged) t)) c.apart-shape.ensures.root

@@ -7,6 +7,6 @@ use Rattle.bt_node.proofs.walk.Walk.get.Goals as goal
 
 pub returns : goal.returns
 returns g c =
-    let effect = effect_of g.V.Merge.merged in
+    let effect = effect_of g.V.Merge.terms.merged in
     let order = c.requires in
     IfOk-weaker c.into_value.result _ _ (λ value e. e ∙ c.in_ok-value_at.ensures ∙ ap (value_at effect c.args.key.now) c.self.view_is ∙ value_at-held effect order.0 order.1 order.2 c.args.self.now c.args.key.now order.3) c.into_value.ensures

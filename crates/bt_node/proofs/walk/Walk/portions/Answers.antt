@@ -11,7 +11,7 @@ use Rattle.bt_node.proofs.walk.Walk.portions.Goals as goal
 
 pub returns-clause-values : goal.returns-clause-values
 returns-clause-values g c =
-    let effect = effect_of g.V.Merge.merged in
+    let effect = effect_of g.V.Merge.terms.merged in
     IfOk-weaker c.divided.result _ _
     (λ parts divided key. divided.values key (find key_cmp key (holds effect c.args.self.now)) ((λ owned. ap (λ t. find key_cmp key (holds effect t)) c.self.view_is), tt))
     c.divided.ensures
@@ -23,7 +23,7 @@ pub returns-then-is_empty_range-clause-rows : goal.returns-then-is_empty_range-c
 returns-then-is_empty_range-clause-rows g c =
     let from = option_copied c.args.from in
     let to = option_copied c.args.to in
-    ap (all_rows (effect_of g.V.Merge.merged)) c.new.ensures.items ∙ sym (none_between from to (holds (effect_of g.V.Merge.merged) c.args.self.now) (empty_range c.args.from to c.is_empty_range.result c.is_empty_range.ensures c.if-is_empty_range.true))
+    ap (all_rows (effect_of g.V.Merge.terms.merged)) c.new.ensures.items ∙ sym (none_between from to (holds (effect_of g.V.Merge.terms.merged) c.args.self.now) (empty_range c.args.from to c.is_empty_range.result c.is_empty_range.ensures c.if-is_empty_range.true))
 
 pub returns-then-is_empty_range-clause-owners : goal.returns-then-is_empty_range-clause-owners
 returns-then-is_empty_range-clause-owners g c key =
@@ -35,5 +35,5 @@ returns-then-is_empty_range-clause-chained g c key inside =
 
 pub returns-then-is_empty_range-clause-values : goal.returns-then-is_empty_range-clause-values
 returns-then-is_empty_range-clause-values g c key =
-    let effect = effect_of g.V.Merge.merged in
+    let effect = effect_of g.V.Merge.terms.merged in
     subst (HaveThere effect key (find key_cmp key (holds effect c.args.self.now))) (sym c.new.ensures.items) tt

@@ -9,4 +9,4 @@ returns-clause-rows g c = c.into_rows.ensures ∙ c.in_ok-visit.ensures ∙ copi
 
 pub returns-clause-sorted : goal.returns-clause-sorted
 returns-clause-sorted g c =
-    held_between-sorted (effect_of g.V.Merge.merged) (option_copied c.args.from) (option_copied c.args.to) c.args.self.now c.into_rows.result.items c.requires (returns-clause-rows g c)
+    held_between-sorted (effect_of g.V.Merge.terms.merged) (option_copied c.args.from) (option_copied c.args.to) c.args.self.now c.into_rows.result.items c.requires (returns-clause-rows g c)

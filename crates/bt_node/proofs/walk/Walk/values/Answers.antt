@@ -7,7 +7,7 @@ use Rattle.bt_node.proofs.walk.Walk.values.Goals as goal
 
 pub returns : goal.returns
 returns g c =
-    let effect = effect_of g.V.Merge.merged in
+    let effect = effect_of g.V.Merge.terms.merged in
     let order = c.requires in
     IfOk-weaker c.into_values.result _ _ (λ values e. e ∙ c.in_ok-values_at.ensures ∙ ap (values_at effect (map (λ k. k.now) c.args.keys.now)) c.self.view_is
     ∙ all_held effect (λ k. k.now) order.0 order.1 order.2 c.args.self.now c.args.keys.now order.3) c.into_values.ensures

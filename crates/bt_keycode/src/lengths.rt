@@ -1,0 +1,95 @@
+//! The lengths of key codes, as weights. No code is written for them, so they take no memory.
+ghost use Rattle.std.specs.Prelude.{◌≡◌, ◌≤◌, ◌+◌, ◌++◌, ◌∷◌, [], length, true};
+ghost use Rattle.bt_keycode.specs.Codes.{code_of_value, escaped};
+ghost use Rattle.bt_keycode.specs.Lengths.{byte_weight, change_code_length, code_length};
+ghost use Rattle.bt_rowtype.specs.Texts.{is_text};
+ghost use Rattle.bt_rowtype.specs.Values.{HasText};
+ghost use Rattle.bt_rowtype.specs.Views.{shown};
+
+use bt_rowtype::{Change, Row, Value, ValueRef, Values};
+
+/// The most that anything weighs, in bytes: the greatest number of 24 bits.
+pub const MOST_WEIGHT: u64 = 16_777_215;
+
+// The bytes of an operation beside its argument: one for what it does, one for its column.
+const OP_BYTES: u64 = 2;
+
+// A weight and so many bytes more.
+fn weight_sum(weight: u64, bytes: u64) -> u64
+    ensures { result ≡ byte_weight (weight + bytes) }
+{
+    weight.saturating_add(bytes).min(MOST_WEIGHT)
+}
+
+// How many bytes the code of a text has for one of its bytes.
+fn byte_len(byte: u8) -> u64
+    ensures len { result ≡ length (escaped (byte ∷ [])) }
+    ensures bound { result ≤ 2 }
+{
+    if byte == 0 { 2 } else { 1 }
+}
+
+// The length of the code of a text.
+fn text_len(text: &[u8]) -> u64
+    requires { is_text text.now ≡ true }
+    ensures { result ≡ length (escaped text.now ++ (0 ∷ 1 ∷ [])) }
+{
+    let mut len = 2;
+    for byte in text {
+        len += byte_len(*byte);
+    }
+    len
+}
+
+// The length of the code of a value. The longest is that of a text of 255 zero bytes.
+#[tactic(auto, using(crate::proofs::CodeLengths::length_int, crate::proofs::CodeLengths::short_code))]
+fn value_len(value: ValueRef<'_>) -> u64
+    requires { HasText (shown value) }
+    ensures len { result ≡ length (code_of_value (shown value.entry)) }
+    ensures bound { result ≤ 512 }
+{
+    match value {
+        ValueRef::Int(_) => 8,
+        ValueRef::Text(text) => text_len(text),
+        ValueRef::Flag(_) => 1,
+    }
+}
+
+// The length of the code of values, wherever they lie.
+fn values_len(values: Values<'_>) -> u64
+    ensures { result ≡ code_length values.entry }
+{
+    let mut rest = values;
+    let mut weight = 0;
+    while let Some(value) = rest.next() {
+        weight = weight_sum(weight, value_len(value));
+    }
+    weight
+}
+
+/// The length of the key code of the values, or [`MOST_WEIGHT`] where that is less.
+pub fn code_len(values: &[Value]) -> u64
+    ensures { result ≡ code_length values.now }
+{
+    values_len(Values::of(values))
+}
+
+/// The length of the key code of the values of a row, or [`MOST_WEIGHT`] where that is less.
+pub fn row_code_len(row: &Row) -> u64
+    ensures { result ≡ code_length row.now }
+{
+    values_len(row.values())
+}
+
+/// The bytes of the operations of a change, or [`MOST_WEIGHT`] where that is less: of each the key code of its argument, an int
+/// where it adds, and two more.
+pub fn change_code_len(change: &Change) -> u64
+    ensures { result ≡ change_code_length change.now }
+{
+    let mut rest = change.arguments();
+    let mut weight = 0;
+    while let Some(argument) = rest.next() {
+        weight = weight_sum(weight, OP_BYTES + value_len(argument));
+    }
+    weight
+}
