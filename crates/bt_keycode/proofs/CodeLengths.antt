@@ -1,13 +1,14 @@
 -- The lengths of codes: of an int's, and the most of a text's and of any value's, for `text_len` and `value_len`.
-use Rattle.std.proofs.Common.{◌≡◌, ◌≤◌, ◌*◌, ◌∷◌, ◌∙◌, [], ℕ, zero, suc, ℤ, List, ap, arith, length, refl, true}
+use Rattle.std.proofs.Common.{◌≡◌, ◌≤◌, ◌+◌, ◌*◌, ◌∷◌, ◌++◌, ◌∙◌, [], ℕ, zero, suc, ℤ, List, ap, arith, false, length, nat_eq, refl, true}
 use Rattle.std.proofs.lemmas.List.{length-append}
+use Rattle.std.specs.List.{list_any}
 use Rattle.bt_rowtype.specs.Texts.{is_text}
 use Rattle.bt_rowtype.specs.Values.{HasText}
 use Rattle.bt_rowtype.specs.declared.value.Value.{Value}
 use Rattle.bt_rowtype.specs.declared.value.Value.TheVariants as value
 use Rattle.bt_rowtype.proofs.offered.Texts.{text_length}
 use Rattle.bt_keycode.specs.Codes.{code_of_value, eight_bytes, escaped, raised}
-use Rattle.bt_keycode.proofs.Escapes.{escaped-first, escaped-kept}
+use Rattle.bt_keycode.proofs.Escapes.{escaped-first, escaped-kept, escaped_parts}
 
 -- ---- texts
 
@@ -23,6 +24,10 @@ escaped-bound (b ∷ bs) = omega (arith, ap length (escaped-first b bs) ∙ leng
 -- a text of a column has at most 510
 pub short_escaped : (text : List ℕ) → is_text text ≡ true → length (escaped text) ≤ 510
 short_escaped text is = omega (arith, escaped-bound text, text_length text is)
+
+-- the first part of a text and the zero byte behind it, and what is left
+pub one_part : (rest part behind : List ℕ) → rest ≡ part ++ 0 ∷ behind → list_any (λ b. nat_eq b 0) part ≡ false → length (escaped rest) ≡ length part + 2 + length (escaped behind)
+one_part rest part behind whole none = omega (arith, ap length (escaped_parts rest part behind whole none), length-append part (0 ∷ 255 ∷ escaped behind))
 
 -- ---- values
 

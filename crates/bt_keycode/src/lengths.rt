@@ -6,6 +6,7 @@ ghost use Rattle.bt_rowtype.specs.Texts.{is_text};
 ghost use Rattle.bt_rowtype.specs.Values.{HasText};
 ghost use Rattle.bt_rowtype.specs.Views.{shown};
 
+use crate::zeros::split_at_zero;
 use bt_rowtype::{Change, Row, Value, ValueRef, Values};
 
 /// The most that anything weighs, in bytes: the greatest number of 24 bits.
@@ -21,24 +22,18 @@ fn weight_sum(weight: u64, bytes: u64) -> u64
     weight.saturating_add(bytes).min(MOST_WEIGHT)
 }
 
-// How many bytes the code of a text has for one of its bytes.
-fn byte_len(byte: u8) -> u64
-    ensures len { result ≡ length (escaped (byte ∷ [])) }
-    ensures bound { result ≤ 2 }
-{
-    if byte == 0 { 2 } else { 1 }
-}
-
-// The length of the code of a text.
+// The length of the code of a text, part by part between its zero bytes.
 fn text_len(text: &[u8]) -> u64
     requires { is_text text.now ≡ true }
     ensures { result ≡ length (escaped text.now ++ (0 ∷ 1 ∷ [])) }
 {
     let mut len = 2;
-    for byte in text {
-        len += byte_len(*byte);
+    let mut rest = text;
+    while let Some((part, behind)) = split_at_zero(rest) {
+        len += part.len() as u64 + 2;
+        rest = behind;
     }
-    len
+    len + rest.len() as u64
 }
 
 // The length of the code of a value. The longest is that of a text of 255 zero bytes.

@@ -1,7 +1,10 @@
-use Rattle.std.proofs.Common.{◌≡◌, ◌+◌, drop, length}
+use Rattle.std.proofs.Common.{◌≡◌, ◌+◌, length}
 use Rattle.bt_keycode.specs.Codes.{escaped}
 use Rattle.bt_keycode.proofs.lengths.text_len.Given as goal
 
 -- what was counted, and the code of the bytes that are left
-abbrev pub invariant-loop-byte : goal.invariant-loop-byte
-invariant-loop-byte l = l.len + length (escaped (drop l.byte-index l.text)) ≡ 2 + length (escaped l.text)
+abbrev pub invariant-loop-part : goal.invariant-loop-part
+invariant-loop-part l = l.len + length (escaped l.rest) ≡ 2 + length (escaped l.text)
+
+abbrev pub decreases-loop-part : goal.decreases-loop-part
+decreases-loop-part l = length l.rest
