@@ -1,5 +1,5 @@
 -- Sums that are kept, and shares that are weighed, for the steps of `gain`, `weigh_next` and `weighed`.
-use Rattle.std.proofs.Common.{◌≡◌, ℕ, zero, suc, ◌<◌, ◌≤◌, ◌+◌, List, [], ◌∷◌, ◌++◌, Option, None, Some, IfSome, append_assoc, drop, get_or, length, map, set, take, refl, sym, ap, subst, ◌∙◌, arith}
+use Rattle.std.proofs.Common.{◌≡◌, ℕ, zero, suc, ◌<◌, ◌≤◌, ◌+◌, ◌-◌, List, [], ◌∷◌, ◌++◌, Option, None, Some, IfSome, append_assoc, drop, get_or, length, map, set, take, refl, sym, ap, subst, ◌∙◌, arith}
 use Rattle.std.proofs.lemmas.List.{append-nil, drop-drop, drop-map, drop-set-lt, drop_all, drop_more, get_or-map, length-drop, length-take-le, take_all, take_more_set}
 use Rattle.bt_keycode.specs.Keys.{Key}
 use Rattle.bt_messages.specs.Messages.{Messages, with_messages}
@@ -56,6 +56,27 @@ sum-small terms ms sum k e l h = let is : k ≡ weight (weigh_of terms) ms = sub
 -- ---- shares
 
 module _ {X : Type 0} (weigh : X → ℕ) where
+  weight-none : (n : ℕ) → weight weigh (take n []) ≡ 0
+  weight-none zero = refl
+  weight-none (suc n) = refl
+
+  -- what the first of some items weigh, and what those behind them do
+  weight-split : (k n : ℕ) (xs : List X) → k ≤ n → weight weigh (take n xs) ≡ weight weigh (take k xs) + weight weigh (take (n - k) (drop k xs))
+  weight-split zero n xs l = let e : n - 0 ≡ n = omega arith in omega (arith, ap (λ i. weight weigh (take i xs)) e)
+  weight-split (suc k) zero xs l = absurd (omega (arith, l))
+  weight-split (suc k) (suc n) [] l = omega (arith, weight-none (suc n - suc k))
+  weight-split (suc k) (suc n) (x ∷ xs) l =
+      let e : suc n - suc k ≡ n - k = omega arith in
+      omega (arith, weight-split k n xs (omega (arith, l)), ap (λ i. weight weigh (take i (drop k xs))) e)
+
+  -- the items up to `n` are gone through, `k` of them next
+  module _ (k n : ℕ) (xs ys : List X) (l : k ≤ n) (later : ys ≡ drop k xs) where
+    pub weight-next : weight weigh (take n xs) ≡ weight weigh (take k xs) + weight weigh (take (n - k) ys)
+    weight-next = weight-split k n xs l ∙ sym (ap (λ zs. weight weigh (take k xs) + weight weigh (take (n - k) zs)) later)
+
+    pub left-next : drop (n - k) ys ≡ drop n xs
+    left-next = let e : k + (n - k) ≡ n = omega (arith, l) in ap (drop (n - k)) later ∙ drop-drop (n - k) k xs ∙ ap (λ i. drop i xs) e
+
   -- counted shares are those of messages that are counted
   pub shares-counted : (ns : List ℕ) (ms : List X) → total ns ≤ length ms → map counted ns ≡ map (share_of weigh measures.Messages) (parted ns ms)
   shares-counted [] ms l = refl

@@ -213,7 +213,8 @@ impl<V: Merge> Bins<V> {
         ensures err { OnErr result (self.new ≡ self.old) }
     {
         let mut stream = packet.into_stream();
-        let shares = stream.shares(alloc, Measure::Messages, stream.len(), pivots)?;
+        let count = stream.len();
+        let shares = stream.shares(alloc, Measure::Messages, count, pivots)?;
         self.add_shares(alloc, &mut stream, shares.as_slice())
     }
 

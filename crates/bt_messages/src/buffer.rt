@@ -84,6 +84,13 @@ impl<V: Merge> Buffer<V> {
         }
     }
 
+    // Weighs the messages, where it isn't kept what they weigh, and keeps it.
+    pub(crate) fn keep_weight(&mut self)
+        ensures { self.new ≡ self.old }
+    {
+        self.sum = Some(self.weight());
+    }
+
     /// How much room the messages take.
     pub fn load(&self, measure: Measure) -> u128
         ensures load { result ≡ load (weigh_of V.terms) measure self.now }

@@ -1,5 +1,5 @@
 //! The messages of several buffers, gone through one buffer after the other.
-ghost use Rattle.std.specs.Prelude.{◌≡◌, ◌++◌, [], length};
+ghost use Rattle.std.specs.Prelude.{◌≡◌, ◌<◌, ◌≤◌, ◌++◌, [], MatchOption, length, true};
 ghost use Rattle.std.specs.Iterator.{YieldsFirstBy, item_count};
 ghost use Rattle.bt_messages.specs.Bins.{joined};
 
@@ -45,6 +45,28 @@ impl<'a, V: Merge> Joined<'a, V> {
             first: Messages::none(),
             others: buffers,
         }
+    }
+
+    // Whether no message is left.
+    pub(crate) fn is_done(&self) -> bool
+        ensures { result ≡ true → self.now ≡ [] }
+    {
+        self.first.count_left() == 0 && self.others.is_empty()
+    }
+
+    // Takes off the next buffer, where none of its messages is gone through yet and it has no more than so many, but some.
+    pub(crate) fn next_whole(&mut self, most: usize) -> Option<&'a Buffer<V>>
+        ensures { MatchOption result (self.new ≡ self.old) (λ buffer. (self.old ≡ buffer.now ++ self.new) × (0 < length buffer.now) × (length buffer.now ≤ most)) }
+    {
+        if self.first.count_left() > 0 {
+            return None;
+        }
+        let (buffer, others) = self.others.split_first()?;
+        if buffer.is_empty() || buffer.count() > most {
+            return None;
+        }
+        self.others = others;
+        Some(buffer)
     }
 
     // These messages, and those of the buffers behind them.

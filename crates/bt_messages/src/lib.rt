@@ -8,8 +8,9 @@
 //! room of each is given back when it is gone through, so that it is used again while it is near.
 //!
 //! The room that messages take is counted in messages or in bytes ([`Measure`]): a message weighs one, the bytes of its key and those
-//! that a put or an upsert carries, and no more than 16,777,215. A [`Share`] of a stream may tell what its messages weigh; a buffer
-//! keeps the sum as long as it is told, and adds up where it isn't. Where messages are counted nothing is weighed.
+//! that a put or an upsert carries, and no more than 16,777,215. A message is weighed when it joins a buffer, as one of a [`Share`] of
+//! a stream, which tells what its messages weigh; a buffer keeps the sum as long as it is told, and adds up where it isn't. A run that
+//! lies whole in a share keeps its sum too, and is not weighed again further down. Where messages are counted nothing is weighed.
 //!
 //! ```text
 //! let mut batch = Vec::new(alloc);

@@ -98,6 +98,29 @@ fn refill<V: Merge>(
     }
 }
 
+// A place between the runs of a stream: so many runs are before it, and the first message behind it is at `start` of the stream.
+#[derive(Drop)]
+struct RunPlace {
+    run: usize,
+    start: usize,
+}
+
+// Goes past the runs that begin before a message, and weighs those that end by then: they keep what they weigh.
+fn keep_before<V: Merge>(runs: &mut VecDeque<Buffer<V>>, place: &mut RunPlace, end: usize)
+    ensures { runs.new.items ≡ runs.old.items }
+{
+    for run in place.run..runs.len() {
+        if place.start >= end {
+            return;
+        }
+        place.start = runs[run].count().saturating_add(place.start);
+        place.run = run + 1;
+        if place.start <= end {
+            runs[run].keep_weight();
+        }
+    }
+}
+
 impl<V: Merge> Stream<V> {
     // So many messages: those of the first list, and of the others behind it.
     pub(crate) fn from_runs(first: Buffer<V>, rest: Vec<Buffer<V>>, count: usize) -> Self
@@ -188,26 +211,47 @@ impl<V: Merge> Stream<V> {
         Ok(shares)
     }
 
+    // Weighs each run that lies whole in one of these shares, so that it keeps what it weighs on its way down.
+    fn keep_weights(&mut self, shares: &[Share])
+        ensures { self.new ≡ self.old }
+    {
+        let mut place = RunPlace {
+            run: 0,
+            start: self.first.len(),
+        };
+        let mut end = 0;
+        for share in shares {
+            end = share.count.saturating_add(end);
+            keep_before(&mut self.rest, &mut place, end);
+        }
+    }
+
     /// Of the first messages, those that lie before the first pivot, those from it on and before the next, and so on: one share more
-    /// than pivots, their numbers found by halving. Where bytes are measured the messages are gone through once, and weighed.
+    /// than pivots, their numbers found by halving. Where bytes are measured the messages are weighed, but for runs that keep what
+    /// they weigh; those that lie whole in a share do from then on. The messages stay.
     pub fn shares(
-        &self,
+        &mut self,
         alloc: Global,
         measure: Measure,
         count: usize,
         pivots: &[Key],
     ) -> Result<Vec<Share>, AllocError>
-        requires { count ≤ length self.now }
-        ensures each { IfOk result (λ shares. shares.items ≡ map (share_of (weigh_of V.terms) measure) (parts pivots.now (take count self.now))) }
-        ensures shares { IfOk result (λ shares. AreShares (weigh_of V.terms) self.now shares.items) }
-        ensures parts { IfOk result (λ shares. parted (counts shares.items) self.now ≡ parts pivots.now (take count self.now)) }
+        requires { count ≤ length self.old }
+        ensures same { self.new ≡ self.old }
+        ensures each { IfOk result (λ shares. shares.items ≡ map (share_of (weigh_of V.terms) measure) (parts pivots.now (take count self.old))) }
+        ensures shares { IfOk result (λ shares. AreShares (weigh_of V.terms) self.old shares.items) }
+        ensures parts { IfOk result (λ shares. parted (counts shares.items) self.old ≡ parts pivots.now (take count self.old)) }
         ensures total { IfOk result (λ shares. total (counts shares.items) ≡ count) }
         ensures len { IfOk result (λ shares. length shares.items ≡ length pivots.now + 1) }
     {
         let shares = self.counted_shares(alloc, count, pivots)?;
         match measure {
             Measure::Messages => Ok(shares),
-            Measure::Bytes => Ok(self.walk().weighed(shares)),
+            Measure::Bytes => {
+                let _bound = self.len();
+                self.keep_weights(shares.as_slice());
+                Ok(self.walk().weighed(shares))
+            }
         }
     }
 

@@ -100,7 +100,8 @@ fn divided(alloc: Global, measure: Measure) -> Result<Bins<Row>, AllocError> {
     let pivots = [key(alloc, 2)?];
     let mut bins = Bins::new(alloc, 2)?;
     let mut stream = Packet::from_batch(alloc, four_messages(alloc)?)?.into_stream();
-    let shares = stream.shares(alloc, measure, stream.len(), &pivots)?;
+    let count = stream.len();
+    let shares = stream.shares(alloc, measure, count, &pivots)?;
     bins.add_shares(alloc, &mut stream, shares.as_slice())?;
     Ok(bins)
 }

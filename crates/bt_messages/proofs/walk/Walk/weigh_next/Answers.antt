@@ -1,19 +1,28 @@
-use Rattle.std.proofs.Common.{◌≡◌, ◌∷◌, ◌∙◌, ap, arith, length, sym}
-use Rattle.bt_messages.specs.Weights.{weigh_of, weight}
-use Rattle.bt_messages.proofs.offered.Fronts.{one_taken}
+use Rattle.std.proofs.Common.{◌∙◌, ap, arith, length, take}
+use Rattle.std.proofs.lemmas.List.{length-drop, length-take}
+use Rattle.bt_messages.specs.Weights.{weigh_of}
+use Rattle.bt_messages.proofs.Weighing.{left-next, weight-next}
+use Rattle.bt_messages.proofs.offered.Loads.{weight-small}
 use Rattle.bt_messages.proofs.walk.Walk.weigh_next.Goals as goal
-use Rattle.bt_messages.proofs.walk.Walk.weigh_next.Goals.{in-Some, in_default}
 
-pub loop-preserved : goal.loop-preserved
-loop-preserved g c = elim c.match-next.branch [
-  | in-Some w ↦
-      let e : c.loop.self ≡ (w.in-Some.key.now, w.in-Some.message.now) ∷ c.next.new.self = w.in-Some.ensures in
-      let first = one_taken c.loop.self c.next.new.self (w.in-Some.key.now, w.in-Some.message.now) c.args.count c.loop.counter c.loop-test.true e in
-      record {
-        sum = omega (arith, c.loop.invariant.sum, ap (weight (weigh_of g.V.Merge.terms)) first.0, w.sum-is, w.from-sum.ensures, w.weight.ensures.weight);
-        left = sym first.1 ∙ c.loop.invariant.left;
-        len = omega (arith, ap length e, c.loop.invariant.len);
-        bound = omega (arith, c.loop.invariant.bound, w.sum-is, w.from-sum.ensures, w.weight.ensures.most);
-      }
-  | in_default w ↦ absurd (omega (arith, ap length w.in_default.ensures.0, c.loop.invariant.len, c.requires, c.loop-test.true))
-]
+pub overflow_add-sum : goal.overflow_add-sum
+overflow_add-sum g c =
+    let some = c.weigh_some-messages.ensures in
+    let all = take c.args.count c.args.self.now in
+    omega (
+      arith,
+      c.loop-left.invariant.sum,
+      some.weight,
+      weight-next (weigh_of g.V.Merge.terms) _ c.loop-left.left c.loop-left.self _ some.most some.left,
+      weight-small g.V.Merge.terms all (omega (arith, length-take c.args.count c.args.self.now, c.requires.bound)),
+    )
+
+pub loop-left-preserved : goal.loop-left-preserved
+loop-left-preserved g c =
+    let some = c.weigh_some-messages.ensures in
+    let w = weigh_of g.V.Merge.terms in
+    record {
+      sum = omega (arith, c.loop-left.invariant.sum, some.weight, weight-next w _ c.loop-left.left c.loop-left.self _ some.most some.left);
+      left = left-next w _ c.loop-left.left c.loop-left.self _ some.most some.left ∙ c.loop-left.invariant.left;
+      enough = omega (arith, c.loop-left.invariant.enough, ap length some.left, length-drop c.weigh_some-messages.result.0 c.loop-left.self);
+    }

@@ -1,14 +1,18 @@
 use Rattle.std.proofs.Common.{◌≡◌, ◌<◌, Some, ap, arith, length, length-set, refl, take}
+use Rattle.std.proofs.lemmas.List.{length-drop}
 use Rattle.bt_messages.specs.Weights.{weigh_of, weight}
 use Rattle.bt_messages.specs.declared.share.Share.{Share}
 use Rattle.bt_messages.proofs.Weighing.{weighed-all, weighed-done, weighed-enough, weighed-rest, weighed-within}
 use Rattle.bt_messages.proofs.walk.Walk.weighed.Goals as goal
 
 pub loop-place-init : goal.loop-place-init
-loop-place-init g c = record { done = refl; rest = refl; len = refl; enough = c.requires }
+loop-place-init g c = record { done = refl; rest = refl; len = refl; enough = c.requires.enough; bound = c.requires.bound }
 
-pub weigh_next-sum-requires : goal.weigh_next-sum-requires
-weigh_next-sum-requires g c =
+pub weigh_next-sum-requires-clause-bound : goal.weigh_next-sum-requires-clause-bound
+weigh_next-sum-requires-clause-bound g c = c.loop-place.invariant.bound
+
+pub weigh_next-sum-requires-clause-count : goal.weigh_next-sum-requires-clause-count
+weigh_next-sum-requires-clause-count g c =
     let items = c.loop-place.shares.items in
     let within : c.loop-place.place < length items = omega (arith, c.loop-place-test.true, c.len-place-end.ensures, c.args.shares.ok.0, c.loop-place.invariant.len) in
     weighed-within (weigh_of g.V.Merge.terms) c.args.shares.items items c.loop-place.place c.index.result.now c.loop-place.left within c.index.ensures c.loop-place.invariant.rest c.loop-place.invariant.enough
@@ -34,6 +38,7 @@ loop-place-preserved g c =
       rest = weighed-rest w ss items i s left within here same enough t left' fresh later;
       len = omega (arith, length-set items i t, c.loop-place.invariant.len);
       enough = weighed-enough w ss items i s left within here same enough t left' fresh later;
+      bound = omega (arith, c.loop-place.invariant.bound, ap length later, length-drop s.count left);
     }
 
 pub returns : goal.returns

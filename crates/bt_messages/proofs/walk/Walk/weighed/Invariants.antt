@@ -1,4 +1,4 @@
-use Rattle.std.proofs.Common.{◌≡◌, ◌≤◌, ◌++◌, drop, length, map, take}
+use Rattle.std.proofs.Common.{◌≡◌, ◌<◌, ◌≤◌, ◌++◌, ◌^◌, drop, length, map, take}
 use Rattle.bt_messages.specs.Parts.{parted, total}
 use Rattle.bt_messages.specs.Shares.{counts, share_of}
 use Rattle.bt_messages.specs.Weights.{weigh_of}
@@ -14,4 +14,5 @@ invariant-loop-place g l =
       rest : drop l.place l.shares.items ≡ drop l.place l.fn.shares.items;
       len : length l.shares.items ≡ length l.fn.shares.items;
       enough : total (drop l.place all) ≤ length l.left;
+      bound : length l.left < 2 ^ 63;
     }
