@@ -1,0 +1,443 @@
+"""Why a command of a script is refused: each fault of it, with its line, its column and the reason in a few words."""
+
+import re
+from itertools import chain
+
+from forms import head_faults, no_block_word, record_reasons, spelled, words_of
+from language import (
+    BLOCK_WORDS, BUFFERS, BUFFERS_IN_BYTES, FANOUTS, FIELD, FORMS, KINDS, LEAVES, Line, MARK, MOST_COLUMNS, MOST_INCLUDED, MOST_INDEXES, MOST_KEY_COLUMNS,
+    MOST_MESSAGES, MOST_ON, MOST_OPERATIONS, OPERATIONS, PRIMARY, RECORD, counted, fields, index_of, printed_field, record_of_line, spans, visible,
+)  # fmt: skip
+
+
+class Fault:
+    """A fault of a command: the reason, the place within a line, the line or None for the head line, and the bytes round it."""
+
+    def __init__(self, reason, place="", line=None, around=None, at=0):
+        self.reason, self.place, self.line, self.around, self.at = reason, place, line, around, at
+
+    def where(self):
+        line = [] if self.line is None else [f"line {self.line}"]
+        return ", ".join(line + [self.place] if self.place else line)
+
+    def what(self):
+        """The reason, and behind it the bytes round the fault, where the reason does not show them itself."""
+        if self.around is None:
+            return self.reason
+        end = "¶" if self.at >= len(self.around) else ""
+        return f"{self.reason}: {visible(self.around, 60, self.at)}{end}"
+
+
+def column_place(columns, place):
+    name, kind = columns[place]
+    return f"column {place + 1} '{name.decode()}' ({kind.decode()})"
+
+
+# ---- fields ----
+
+
+def length_fault(raw, count, wanted, line, around, at, most=None):
+    """A fault of the number of fields, with what may be the reason. Where there are more than `most`, a text may have lost its quotes."""
+    other = next((mark for mark in (b";", b"\t", b"|") if mark in raw and b"," not in raw), None)
+    hint = f"; fields are divided by commas, and not by '{visible(other)}'" if other else ""
+    if most is not None and count > most:
+        hint = "; a text with a comma stands in double quotes"
+    return Fault(f"{counted(count, 'field')}, and {wanted}{hint}", line=line, around=around, at=at)
+
+
+def most_of(columns):
+    """The number of columns where a text is among them."""
+    return len(columns) if b"text" in dict(columns).values() else None
+
+
+def field_faults(raw, columns, line, around, offset, place=""):
+    """The fields of a record that are no values of their columns."""
+    values = fields(raw)
+    reasons = [KINDS[kind].fault(value) for value, (_, kind) in zip(values, columns)]
+    if not any(reasons):
+        return []
+    begins = [start for start, _ in spans(raw)]
+    return [
+        Fault(reason, place + column_place(columns, number), line, None if "'" in reason or values[number] else around, offset + begins[number])
+        for number, reason in enumerate(reasons)
+        if reason
+    ]
+
+
+class MessageFaults:
+    """The faults of the lines of a batch, by a table or by none."""
+
+    def __init__(self, table):
+        self.table = table
+        self.key = table.key if table else []
+
+    def of(self, line):
+        if line.word not in BLOCK_WORDS[b"batch"]:
+            return [Fault(no_block_word(line, b"batch"), line=line.number)]
+        if line.rest is None:
+            return [Fault(f"no record stands behind '{line.word.decode()}'", line=line.number)]
+        record, reason = record_of_line(line.rest)
+        if reason:
+            return [Fault(reason, line=line.number, around=line.text, at=len(line.word) + 1)]
+        if not self.table:
+            return []
+        offset = len(line.text) - len(record)
+        if line.word == b"ups":
+            return self.of_upsert(line, record, offset)
+        columns = self.table.columns if line.word == b"put" else self.key
+        count = len(fields(record))
+        if count != len(columns):
+            wanted = f"a {line.word.decode()} has {len(columns)} ({spelled(name for name, _ in columns)})"
+            return [length_fault(record, count, wanted, line.number, line.text, offset, most_of(columns))]
+        return field_faults(record, columns, line.number, line.text, offset)
+
+    def of_upsert(self, line, record, offset):
+        values = fields(record)
+        count, rest = divmod(len(values) - len(self.key), 3)
+        if rest or not 1 <= count <= MOST_OPERATIONS:
+            key = f"an ups has {len(self.key)} for the key ({spelled(name for name, _ in self.key)})"
+            wanted = f"{key} and then 3 for each operation, of which there are 1 to {MOST_OPERATIONS}"
+            return [length_fault(record, len(values), wanted, line.number, line.text, offset)]
+        found = field_faults(record, self.key, line.number, line.text, offset)
+        begins = [offset + start for start, _ in spans(record)]
+        for number in range(count):
+            start = len(self.key) + 3 * number
+            part, place, reason = self.operation_fault(f"operation {number + 1}", *values[start : start + 3])
+            if reason:
+                is_shown = part == 2 and values[start + 2]
+                found.append(Fault(reason, place, line.number, None if is_shown else line.text, begins[start + part]))
+        return found
+
+    def operation_fault(self, place, word, name, argument):
+        """The first fault of an operation: which of its three fields it is, the place, and the reason, or None."""
+        columns = dict(self.table.columns)
+        if word not in OPERATIONS:
+            return 0, place, f"'{visible(word, 40)}' is neither set nor add"
+        if name not in columns:
+            return 1, place, f"'{visible(name, 40)}' is no column ({spelled(columns)})"
+        if name in dict(self.key):
+            return 1, place, f"'{name.decode()}' is a column of the key, which no operation changes"
+        kind = columns[name]
+        if word == b"add" and kind != b"int":
+            return 1, place, f"'{name.decode()}' is {kind.decode()}, and only ints are added"
+        return 2, f"{place}, {column_place(self.table.columns, self.table.names.index(name))}", KINDS[kind].fault(argument)
+
+
+# ---- blocks ----
+
+INT = rb'(?:-?[0-9]{1,18}|"-?[0-9]{1,18}")'
+FLAG = rb'(?:(?i:true|false)|"(?i:true|false)")'
+
+
+def text_pattern(block, breaks):
+    """A pattern of texts: of a block that is UTF-8 any bytes make one, and else only those of ASCII. `breaks` are not in quotes."""
+    try:
+        block.decode("utf-8")
+        high = b""
+    except UnicodeDecodeError:
+        high = rb"\x80-\xff"
+    return rb'(?:"[^"%b%b]{0,255}"|(?!")[^,\r\n%b]{0,255})' % (breaks, high, high)
+
+
+class SurePatterns:
+    """Patterns of what is surely without a fault, so that of a great block only the rest is looked into."""
+
+    def __init__(self, table, block, breaks=b""):
+        self.table, self.kinds = table, {b"int": INT, b"flag": FLAG, b"text": text_pattern(block, breaks)}
+
+    def values(self, columns):
+        return b",".join(self.kinds[kind] for _, kind in columns)
+
+    def operations(self):
+        columns = self.table.columns[self.table.key_length :]
+        forms = [b"set,%b,%b" % (name, self.kinds[kind]) for name, kind in columns]
+        forms += [b"add,%b,%b" % (name, INT) for name, kind in columns if kind == b"int"]
+        return b"(?:,(?:%b)){1,16}" % b"|".join(forms) if forms else rb"(?!)"
+
+    def messages(self):
+        """Lines of a batch that have no fault, with blank ones between them, as many as there are."""
+        columns, key = self.values(self.table.columns), self.values(self.table.key)
+        record = rb"(?=... (?![\r\n]|%b))(?:put %b|del %b|ups %b%b)" % (MARK, columns, key, key, self.operations())
+        return re.compile(rb"(?:(?> *(?:%b)?\r?)\n)*+" % record)
+
+    def records(self):
+        """Records of a load that have no fault, as many as there are."""
+        return re.compile(rb"(?:(?>%b)[\r\n]++)*+" % self.record())
+
+    def record(self):
+        return rb"(?=[^\r\n])%b" % self.values(self.table.columns)
+
+
+LINE_FEED, LINE_BREAKS = 10, rb"\r\n"
+MESSAGE = re.compile(rb"^(?> *)(?!\r?$)[^\n]+", re.MULTILINE)
+LINE = re.compile(rb"[^\n]*")
+
+
+def doubtful(block, number, at, sure, one):
+    """What is not surely without a fault in a block that has this line number at this place, as (line number, bytes)."""
+    while True:
+        start = sure.match(block, at).end()
+        number += block.count(b"\n", at, start)
+        if start >= len(block):
+            return
+        found = one.match(block, start)
+        if found is None:
+            # A line break behind what was looked into before.
+            number, at = number + (block[start] == LINE_FEED), start + 1
+            continue
+        yield number, found[0]
+        number, at = number + found[0].count(b"\n"), found.end()
+
+
+def batch_faults(command, table):
+    """The faults of a batch's lines, in order."""
+    faults, block = MessageFaults(table), command.block
+    sure = SurePatterns(table, block, LINE_BREAKS).messages() if table else re.compile(rb"(?: *\r?\n)*+")
+    for number, raw in doubtful(block, command.head.number + 1, 0, sure, LINE):
+        line = Line(number, raw)
+        if line.text:
+            yield from faults.of(line)
+
+
+def number_faults(command):
+    """Why a batch has too many messages: the first one that is over the limit."""
+    if command.block.count(b"\n") < MOST_MESSAGES:
+        return
+    starts = [found.start() for found in MESSAGE.finditer(command.block)]
+    if len(starts) > MOST_MESSAGES:
+        line = command.head.number + 1 + command.block.count(b"\n", 0, starts[MOST_MESSAGES])
+        yield Fault(f"message {MOST_MESSAGES + 1:,} of {len(starts):,}, and a batch has at most {MOST_MESSAGES:,}", line=line)
+
+
+def load_faults(command, table):
+    """The faults of the records of a load, behind its header."""
+    block, columns, names = command.block, table.columns, spelled(table.names)
+    header = RECORD.search(block, len(MARK) if block.startswith(MARK) else 0)
+    if header is None:
+        return
+    number = command.head.number + 1 + block.count(b"\n", 0, header.end())
+    for number, raw in doubtful(block, number, header.end(), SurePatterns(table, block).records(), RECORD):
+        count = len(fields(raw))
+        if count != len(columns):
+            yield record_length_fault(raw, count, columns, names, number)
+        else:
+            yield from field_faults(raw, columns, number, raw, 0)
+
+
+def record_length_fault(raw, count, columns, names, number):
+    if raw.strip(b" \t") == b".":
+        return Fault(f"'{visible(raw, 20)}' does not close the block: a closing line is '.' exactly", line=number)
+    return length_fault(raw, count, f"a record has {len(columns)} ({names})", number, raw, 0, most_of(columns))
+
+
+def header_faults(command, table):
+    """Why the header of a load is none."""
+    number, raw = next(command.records(), (None, b""))
+    if number is None:
+        return [Fault("the block has no header")]
+    names = fields(raw)
+    if raw.startswith(MARK):
+        return [Fault("a second byte order mark stands before the header", line=number, around=raw)]
+    if len(names) != len(table.names):
+        return [length_fault(raw, len(names), f"the table has {counted(len(table.names), 'column')}", number, raw, 0)]
+    return [
+        Fault(f"the header has '{visible(name, 40)}' there", f"column {place} '{wanted.decode()}'", number)
+        for place, (name, wanted) in enumerate(zip(names, table.names), 1)
+        if name != wanted
+    ]
+
+
+# Values as they are printed, for which no two spellings are the same value.
+AS_PRINTED = {b"int": rb"(?:0|-?[1-9][0-9]{0,17})", b"flag": rb"(?:true|false)", b"text": rb'[^",\r\n]*'}
+
+
+def key_pattern(key):
+    """A pattern of a record, with its key as a group where the key stands as it is printed."""
+    printed, field = b",".join(AS_PRINTED[kind] for _, kind in key), FIELD.pattern
+    rest = rb'(?:,[^"\r\n]*(?=[\r\n]|\Z)|(?:,%b)*)' % field
+    return re.compile(rb"(?=[^\r\n])(?:(%b)(?=[,\r\n]|\Z)%b|%b(?:,%b)*)" % (printed, rest, field, field))
+
+
+def printed_key(raw, key):
+    return b",".join([printed_field(KINDS[kind].printed(field)) for (_, kind), field in zip(key, fields(raw))])
+
+
+def key_faults(command, table):
+    """The records of a load, whose fields have no fault, whose keys earlier ones have, with their items."""
+    block, pattern = command.block, key_pattern(table.key)
+    at = len(MARK) if block.startswith(MARK) else 0
+    keys = pattern.findall(block, at)
+    if b"" in keys[1:]:
+        keys = [found[1] or item and printed_key(found[0], table.key) for item, found in enumerate(pattern.finditer(block, at))]
+    keys[0], distinct, again = None, set(), set()
+    for key in keys:
+        (again if key in distinct else distinct).add(key)
+    first, number, at = {}, command.head.number + 1, 0
+    for item, found in enumerate(pattern.finditer(block, at) if again else ()):
+        if keys[item] in again:
+            number, at = number + block.count(b"\n", at, found.start()), found.start()
+            line = first.setdefault(keys[item], (item, number))
+            if line[0] != item:
+                yield Fault(f"key {visible(keys[item])} in line {number} is that of line {line[1]} too", f"14 DuplicateKey {item}")
+
+
+def bound_faults(command, state):
+    """The faults of the bounds of a scan or of sums."""
+    words, numbers = BLOCK_WORDS[command.head.word], {}
+    tree = (words_of(command.head)[1:2] or [b""])[0]
+    for line in command.messages():
+        if line.word not in words:
+            yield Fault(no_block_word(line, command.head.word), line=line.number)
+        elif line.word in numbers:
+            yield Fault(f"a second '{line.word.decode()}', and each bound stands at most once", line=line.number, around=line.text)
+        elif line.word == b"from" and b"to" in numbers:
+            yield Fault(f"'from' stands behind the 'to' of line {numbers[b'to']}: the order is from, then to", line=line.number, around=line.text)
+        elif reasons := record_reasons(line):
+            yield Fault(reasons[0], line=line.number, around=line.text, at=len(line.word) + 1)
+        elif state.table and state.table.has_tree(tree):
+            yield from bound_field_faults(line, state.table.key_of(tree), tree.decode())
+        numbers.setdefault(line.word, line.number)
+
+
+def bound_field_faults(line, columns, tree):
+    record, _ = record_of_line(line.rest)
+    count, offset = len(fields(record)), len(line.text) - len(record)
+    if count > len(columns):
+        wanted = f"a bound of {tree} has at most {len(columns)} ({spelled(name for name, _ in columns)})"
+        return [length_fault(record, count, wanted, line.number, line.text, offset)]
+    return field_faults(record, columns, line.number, line.text, offset)
+
+
+# ---- refusals of one line ----
+
+
+def get_faults(command, table):
+    head = command.head
+    record, _ = record_of_line(head.rest)
+    count, offset = len(fields(record)), len(head.text) - len(record)
+    if count != len(table.key):
+        wanted = f"a get has {len(table.key)} ({spelled(name for name, _ in table.key)})"
+        return [length_fault(record, count, wanted, None, head.text, offset)]
+    return field_faults(record, table.key, None, head.text, offset)
+
+
+def sums_faults(command, state):
+    """Why the columns of sums are none of the tree."""
+    _, tree, count, name = words_of(command.head)
+    if not state.table or not state.table.has_tree(tree):
+        return
+    key, columns = state.table.key_of(tree), dict(state.table.columns_of(tree))
+    if not 1 <= int(count) <= len(key):
+        yield Fault(f"G is {int(count)}, and from 1 to {len(key)}: the key of {tree.decode()} is {spelled(name for name, _ in key)}")
+    if name not in columns:
+        yield Fault(f"'{name.decode()}' is no column of {tree.decode()}: {spelled(columns)}")
+    elif columns[name] != b"int":
+        yield Fault(f"'{name.decode()}' is {columns[name].decode()}, and only ints are added")
+
+
+def index_faults(command, table):
+    """Why an index can not be made."""
+    index, name = index_of(command.head), words_of(command.head)[1]
+    if name == PRIMARY or name in table.indexes:
+        owner = "the tree of rows" if name == PRIMARY else f"the index of line {table.indexes[name].line.number}"
+        yield Fault(f"'{name.decode()}' is the name of {owner}. Choose another, or drop that index first")
+    for names, most, part in ((index.on, MOST_ON, "on"), (index.included, MOST_INCLUDED, "include")):
+        if len(names) > most:
+            yield Fault(f"{len(names)} columns behind '{part}', and at most {most} can stand there")
+    if len(table.indexes) == MOST_INDEXES:
+        yield Fault(f"there are {MOST_INDEXES} indexes, the most that a table has: {spelled(table.indexes)}")
+    condition = index.condition
+    for name in dict.fromkeys([*index.on, *index.included, *([condition[0]] if condition else [])]):
+        if name not in table.names:
+            yield Fault(f"'{name.decode()}' is no column: {spelled(table.names)}")
+    if condition and condition[0] in table.names:
+        place = table.names.index(condition[0])
+        if reason := KINDS[table.kinds[place]].fault(condition[2]):
+            yield Fault(reason, column_place(table.columns, place))
+
+
+def table_faults(command):
+    """Why a table can not have these columns, or this shape."""
+    words = words_of(command.head)
+    names, key = [word.split(b":")[0] for word in words[5:]], int(words[4])
+    if len(names) > MOST_COLUMNS:
+        yield Fault(f"{len(names)} columns, and a table has at most {MOST_COLUMNS}")
+    if not 1 <= key <= MOST_KEY_COLUMNS:
+        yield Fault(f"{key} key columns, and a table has 1 to {MOST_KEY_COLUMNS}")
+    elif key > len(names):
+        yield Fault(f"{key} key columns, and there are only {counted(len(names), 'column')}")
+    for name in dict.fromkeys(name for name in names if names.count(name) > 1):
+        yield Fault(f"{names.count(name)} columns are named '{name.decode()}'")
+    is_in_bytes = words[2].endswith(b"b")
+    sizes = (("fanout", FANOUTS, ""), ("buffer", BUFFERS_IN_BYTES if is_in_bytes else BUFFERS, " bytes" if is_in_bytes else " messages"), ("leaf", LEAVES, ""))
+    for word, (name, sizes_there, unit) in zip(words[1:4], sizes):
+        if int(word.removesuffix(b"b")) not in sizes_there:
+            yield Fault(f"the {name} is {word.decode()}, and from {sizes_there[0]} to {sizes_there[-1]}{unit}")
+
+
+def tree_faults(command, state):
+    """Why a tree is not there, or not complete."""
+    table, name = state.table, words_of(command.head)[1]
+    text = f"'{name.decode()}'"
+    if name == PRIMARY:
+        yield Fault(f"{text} is the tree of rows, which is not built or dropped")
+    elif name in table.indexes:
+        index = table.indexes[name]
+        yield Fault(f"{text} of line {index.line.number} is {'complete, and has nothing left to build' if index.is_complete else 'building'}")
+    else:
+        lost = f"; {text} was dropped in line {table.dropped[name].number}" if name in table.dropped else ""
+        lost = lost or (f"; the index of line {state.refused[name].number} was refused" if name in state.refused else "")
+        yield Fault(f"no tree is named {text}: there {'are' if table.indexes else 'is'} {spelled([PRIMARY, *table.indexes])}{lost}")
+
+
+# ---- refusals ----
+
+
+def block_faults(command, state):
+    """The faults of the lines of a block, in order."""
+    if command.head.word == b"batch":
+        return batch_faults(command, state.table)
+    return bound_faults(command, state) if command.closing == b"go" else []
+
+
+def faults_of_refusal(command, number, state):
+    """The faults of a refused command, in order; none where the meaning of the refusal says all."""
+    word, table = command.head.word, state.table
+    if number in (1, 2):
+        return chain(map(Fault, head_faults(command.head)), block_faults(command, state))
+    # A program of another language may have commands of other forms.
+    if head_faults(command.head):
+        return []
+    if word == b"table":
+        return table_faults(command) if number in (5, 20) else []
+    if not table:
+        return []
+    if number == 14:
+        return key_faults(command, table)
+    if number in (8, 12) or (number == 11 and word != b"load"):
+        return tree_faults(command, state)
+    if number == 11:
+        return [Fault(f"'{name.decode()}' of line {index.line.number} is building") for name, index in table.indexes.items() if not index.is_complete]
+    if word == b"load":
+        return header_faults(command, table) if number == 5 else load_faults(command, table) if number in (6, 7) else []
+    if word == b"get":
+        return get_faults(command, table)
+    if word == b"index":
+        return index_faults(command, table)
+    too_many = number_faults(command) if word == b"batch" else []
+    return chain(too_many, block_faults(command, state), sums_faults(command, state) if word == b"sums" else [])
+
+
+COMMAND_LINE = re.compile(rb"\n( *(?:%b)(?:[ \r][^\n]*)?)$" % b"|".join(FORMS), re.MULTILINE)
+
+
+def swallowed_line(command, table):
+    """The first line of a block that looks like a command, and of a load is no record of the table."""
+    text, number, at = b"\n" + command.block, command.head.number, 0
+    sure = re.compile(SurePatterns(table, command.block).record()) if table and command.head.word == b"load" else None
+    for found in COMMAND_LINE.finditer(text):
+        number, at = number + text.count(b"\n", at, found.start(1)), found.start(1)
+        line = Line(number, found[1])
+        if line.begins_command() and not (sure and sure.fullmatch(line.raw.removesuffix(b"\r"))):
+            return line
+    return None

@@ -1,0 +1,216 @@
+"""Why a line has not the form of a command, or of a line of a block: reasons in a few words."""
+
+import re
+from difflib import get_close_matches
+
+from language import BLOCK_WORDS, BUFFER, CLOSING, FORMS, KINDS, MARK, MOST_DIGITS, MOST_NAME_BYTES, NAME, NUMBER, OPERATORS, fields, record_of_line, visible
+
+TAB = b"\t"
+
+
+def spelled(names):
+    return ", ".join(name.decode() for name in names)
+
+
+# ---- words ----
+
+
+def name_fault(word):
+    """Why a word is no name, or None."""
+    text = f"'{visible(word, 40)}'"
+    if NAME.fullmatch(word):
+        return None
+    if NAME.fullmatch(word.lower()):
+        return f"{text} is no name: names are in small letters, as '{word.lower().decode()}'"
+    if len(word) > MOST_NAME_BYTES and re.fullmatch(rb"[a-z][a-z0-9_]*", word):
+        return f"{text} has {len(word):,} bytes, and a name has at most {MOST_NAME_BYTES}"
+    if not word:
+        return "a name is empty"
+    if re.fullmatch(rb"[a-z0-9_]+", word):
+        return f"{text} is no name: the first letter is one of a to z"
+    return f"{text} is no name: a name has only a to z, 0 to 9 and _"
+
+
+def number_fault(word, name):
+    """Why a word is no number, or None."""
+    if NUMBER.fullmatch(word):
+        return None
+    if re.fullmatch(rb"[0-9]+", word):
+        return f"'{visible(word, 40)}' has {len(word)} digits, and {name} has at most {MOST_DIGITS}"
+    return f"'{visible(word, 40)}' is no number: {name} has 1 to {MOST_DIGITS} digits"
+
+
+# The words behind the first one, of the commands that have a fixed number of them.
+FIXED_WORDS = {
+    b"load": (), b"batch": (), b"scan": ("NAME",), b"image": ("NAME",), b"drop": ("NAME",), b"drain": ("NAME",), b"rebuild": ("NAME",),
+    b"build": ("NAME", "N"), b"sums": ("NAME", "G", "COLUMN"),
+}  # fmt: skip
+
+
+def words_of(line):
+    return [word for word in line.text.split(b" ") if word]
+
+
+def head_faults(line):
+    """Why a line is no command, in reasons."""
+    if line.word not in FORMS:
+        return [no_command(line)]
+    if line.word == b"table":
+        return table_word_faults(words_of(line)[1:])
+    if line.word == b"index":
+        return index_word_faults(line)
+    if line.word == b"get":
+        return record_reasons(line)
+    return fixed_word_faults(line)
+
+
+def record_reasons(line):
+    if line.rest is None:
+        return [f"no record stands behind '{line.word.decode()}'"]
+    _, reason = record_of_line(line.rest)
+    return [reason] if reason else []
+
+
+def fixed_word_faults(line):
+    names, words = FIXED_WORDS[line.word], words_of(line)[1:]
+    found = [number_fault(word, name) if name in ("N", "G") else name_fault(word) for name, word in zip(names, words)]
+    found += [f"{name} is missing" for name in names[len(words) :]]
+    found += [f"'{visible(word, 40)}' is a word too many" for word in words[len(names) : len(names) + 1]]
+    return [reason for reason in found if reason]
+
+
+def no_command(line):
+    """Why the first word of a line is none of a command."""
+    word = line.word
+    shown, plain = visible(word, 20), re.split(rb"[\t\v\f\r\xa0]", word)[0].removeprefix(MARK)
+    openers = [head.decode() for head, closing in CLOSING.items() if closing == word]
+    blocks = [head.decode() for head, block_words in BLOCK_WORDS.items() if word in block_words]
+    if openers:
+        return f"'{shown}' closes the block of a {' or '.join(openers)}, and no block is open here"
+    if blocks:
+        return f"'{shown}' stands in the block of a {' or '.join(blocks)}, and no block is open here"
+    if word.startswith(MARK) and plain in FORMS:
+        return "a byte order mark stands before the command"
+    if word.lower() in FORMS:
+        return f"commands are in small letters: '{word.lower().decode()}'"
+    if plain in FORMS:
+        return f"behind '{plain.decode()}' stands {'a tab' if word[len(plain):].startswith(TAB) else 'another byte'}, and a space is wanted"
+    if word.startswith((b"#", b"//", b"--")):
+        return "a script has no comments"
+    near = get_close_matches(word.lower().decode("utf-8", "replace")[:40], [name.decode() for name in FORMS], 1)
+    return f"'{shown}' is the name of no command" + (f": is '{near[0]}' meant?" if near else ". The commands are " + spelled(FORMS))
+
+
+SIZES = {"fanout": NUMBER, "buffer": BUFFER, "leaf": NUMBER, "number of key columns": NUMBER}
+
+
+def table_word_faults(words):
+    """Why the words of a table are none: its sizes, and its columns."""
+    found, columns = [], words[len(SIZES) :]
+    for word, (name, form) in zip(words, SIZES.items()):
+        if b":" in word:
+            found.append(f"'{visible(word, 40)}' is no {name}: F, C, L and K stand before the columns")
+            columns = words[words.index(word) :]
+            break
+        if not form.fullmatch(word):
+            unit = ", those of a buffer in bytes with a 'b' behind them" if name == "buffer" else ""
+            found.append(f"'{visible(word, 40)}' is no {name}: write 1 to 9 digits{unit}.")
+    if len(words) < len(SIZES) and not found:
+        return [f"the {list(SIZES)[len(words)]} is missing"]
+    found += [reason for word in columns if (reason := column_fault(word))]
+    return found if columns else [*found, "no column stands behind the number of key columns"]
+
+
+def column_fault(word):
+    """Why a word is no column of a table, or None."""
+    text = f"'{visible(word, 40)}'"
+    name, colon, kind = word.partition(b":")
+    if b"," in word:
+        return f"{text}: columns are divided by spaces alone"
+    if not colon:
+        return f"{text} is no column, which has a name, a colon and a kind"
+    if reason := name_fault(name):
+        return reason if name else f"{text} has no name before the colon"
+    return None if kind in KINDS else f"{text}: a kind is int, text or flag"
+
+
+# ---- index ----
+
+
+def index_word_faults(line):
+    """Why the words of an index are none: each part in turn, up to the first that is missing."""
+    words = words_of(line)[1:]
+    if not words:
+        return ["NAME is missing"]
+    found = [name_fault(words[0])]
+    if words[1:2] != [b"on"]:
+        instead = f", and not '{visible(words[1], 40)}'" if len(words) > 1 else ""
+        return [reason for reason in found if reason] + [f"'on' is wanted behind the name{instead}"]
+    place = 1
+    for part in (b"on", b"include"):
+        if words[place : place + 1] == [part]:
+            reasons = list_faults(words[place + 1 : place + 3], part)
+            found += reasons
+            place += 2
+            if any("blank" in reason or "missing" in reason for reason in reasons):
+                return [reason for reason in found if reason]
+    if words[place : place + 1] == [b"where"]:
+        found += where_faults(line, words[place + 1 :])
+    elif len(words) > place:
+        found.append(f"'{visible(words[place], 40)}' stands where 'include' or 'where' may follow")
+    return [reason for reason in found if reason]
+
+
+def list_faults(words, part):
+    """Why the first of these words is no list of names, where the second one may show that a blank stands in it."""
+    if not words:
+        return [f"the list behind '{part.decode()}' is missing"]
+    if words[0].endswith(b",") or words[1:2] and words[1].startswith(b","):
+        return [f"a list has no blanks: '{visible(b' '.join(words), 40)}'"]
+    return [reason for name in words[0].split(b",") if (reason := name_fault(name))]
+
+
+def where_faults(line, words):
+    """Why the condition of an index is none. A record stands behind exactly one space."""
+    if not words:
+        return ["COLUMN is missing behind 'where'"]
+    if operator := re.search(rb"[=<>!]+", words[0]):
+        return [f"'{visible(words[0], 40)}': spaces stand around the operator '{operator[0].decode()}'"]
+    found = [name_fault(words[0])]
+    if len(words) == 1:
+        return [*found, "OP and the record are missing: an operator is =, < or >="]
+    if words[1] not in OPERATORS:
+        return [*found, f"'{visible(words[1], 40)}' is no operator: =, < or >="]
+    constant = re.search(rb" where +\S+ +(?:=|<|>=)( ?)(.*)", line.text, re.DOTALL)
+    return [*found, constant_fault(words[1].decode(), constant[1], constant[2])]
+
+
+def constant_fault(operator, space, rest):
+    """Why what stands behind an operator is no record of one field, or None."""
+    record, reason = record_of_line(rest)
+    if not space or not rest:
+        return f"no record stands behind '{operator}'; the empty text is \"\""
+    if reason:
+        return reason
+    count = len(fields(record))
+    if count == 1:
+        return None
+    if record.lstrip(b" ").startswith(b'"'):
+        return f"a second space behind '{operator}' belongs to the field, so that its quotes are bytes like others: '{visible(record, 40)}'"
+    return f"{count} fields, and a constant has one; a text with a comma stands in double quotes: '{visible(record, 40)}'"
+
+
+# ---- lines of a block ----
+
+
+def no_block_word(line, head):
+    """Why a line of a block begins with none of its words."""
+    words, closing = BLOCK_WORDS[head], CLOSING[head]
+    raw = line.raw.removesuffix(b"\r")
+    if raw.strip(b" \t\r;").lower() == closing:
+        return f"'{visible(raw, 20)}' does not close the block: a closing line is '{closing.decode()}' exactly"
+    if line.word.lower() in words:
+        return f"words are in small letters: '{line.word.lower().decode()}'"
+    if any(line.word.startswith(word + b"\t") for word in words):
+        return f"a tab stands where a space is wanted: '{visible(line.text, 40)}'"
+    return f"a line of a {head.decode()} begins with {' or '.join(word.decode() for word in words)}: '{visible(line.text, 40)}'"

@@ -1,0 +1,511 @@
+"""The script language as the tools know it. docs/SCRIPT.md describes it; here is one place for what tools have to know of it.
+
+Bytes stay bytes: a script, a line, a name, a kind and a field are bytes, and what is said about them is text.
+
+    for command in commands(script):             # the commands of a script, with their lines and blocks
+        answer = reply(command.head.word, lines) # the lines that answer it, of lines = logical_lines(replies)
+        state.take(command, answer)              # the table and its indexes, as far as they were answered
+    state.table.columns_of(b"by_city")           # the names and kinds of what a scan of this tree prints
+"""
+
+import re
+from functools import cached_property
+
+# ---- commands ----
+
+# Each command with its form. A block follows those that have a closing line.
+FORMS = {
+    b"table": "table F C L K name:kind ..",
+    b"load": "load",
+    b"batch": "batch",
+    b"get": "get record",
+    b"scan": "scan NAME",
+    b"sums": "sums NAME G COLUMN",
+    b"image": "image NAME",
+    b"index": "index NAME on LIST [include LIST] [where COLUMN OP record]",
+    b"build": "build NAME N",
+    b"drop": "drop NAME",
+    b"drain": "drain NAME",
+    b"rebuild": "rebuild NAME",
+}
+
+# The closing line of each block.
+CLOSING = {b"batch": b"end", b"scan": b"go", b"sums": b"go", b"load": b"."}
+
+# The words with which a line of a block begins; of bounds each stands at most once, in this order.
+BLOCK_WORDS = {b"batch": (b"put", b"del", b"ups"), b"scan": (b"from", b"to"), b"sums": (b"from", b"to")}
+
+# The words of an upsert's operations, and the operators of `where`.
+OPERATIONS = (b"set", b"add")
+OPERATORS = (b"=", b"<", b">=")
+
+# How many words a line of each command has: at least, and at most.
+WORDS = {
+    b"table": (6, 21), b"batch": (1, 1), b"get": (2, 99), b"scan": (2, 2), b"image": (2, 2), b"load": (1, 1),
+    b"index": (4, 99), b"build": (3, 3), b"drop": (2, 2), b"sums": (4, 4), b"drain": (2, 2), b"rebuild": (2, 2),
+}  # fmt: skip
+
+NAME = re.compile(rb"[a-z][a-z0-9_]{0,31}")
+NUMBER = re.compile(rb"[0-9]{1,9}")
+BUFFER = re.compile(rb"[0-9]{1,9}b?")
+INDEX = re.compile(rb"index +\S+ +on +(\S+)(?: +include +(\S+))?(?: +where +(\S+) +(=|<|>=) (.*))? *", re.DOTALL)
+
+# ---- limits ----
+
+MOST_SCRIPT_BYTES = 67_108_864
+MOST_MESSAGES = 65_536  # of a batch
+MOST_COLUMNS, MOST_KEY_COLUMNS = 16, 4
+MOST_INDEXES, MOST_ON, MOST_INCLUDED = 8, 4, 8
+MOST_OPERATIONS = 16  # of an upsert
+MOST_TEXT_BYTES, MOST_NAME_BYTES, MOST_DIGITS = 255, 32, 9
+LEAST_INT, GREATEST_INT = -(2**63), 2**63 - 1
+FANOUTS, LEAVES = range(4, 65), range(2, 1025)
+BUFFERS, BUFFERS_IN_BYTES = range(1, 4097), range(1, 1_048_577)
+
+PRIMARY = b"primary"  # the name of the tree of rows
+MARK = b"\xef\xbb\xbf"  # is dropped once at the start of a record of a line, and of the text of a load
+
+# ---- bytes for the eye ----
+
+
+def visible(raw, room=60, at=0):
+    """Bytes as a text of about so many letters round the byte `at`, with `…` where it is cut, and with its blanks made visible.
+
+    A tab is →, a space at the start or the end is ·, a byte order mark is named, and what cannot be printed is \\x and its number.
+    """
+    start = 0 if len(raw) <= room else max(0, min(at - room // 2, len(raw) - room))
+    end = len(raw) if len(raw) <= start + room + 4 else start + room
+    # Not inside of a letter.
+    start, end = outside_letter(raw, start), outside_letter(raw, end)
+    text = raw[start:end].decode("utf-8", "backslashreplace")
+    text = with_visible_ends(text, start == 0, end == len(raw)).replace("\t", "→").replace("\ufeff", "(byte order mark)")
+    text = printable(text)
+    # Bytes that cannot be printed take more letters.
+    is_long = start == 0 and len(text) > room + 4
+    return "…" * (start > 0) + (text[:room] if is_long else text) + "…" * (is_long or end < len(raw))
+
+
+def outside_letter(raw, at):
+    """The place, or the nearest one before it where no letter of UTF-8 is divided."""
+    return next((place for place in range(at, max(0, at - 4), -1) if place >= len(raw) or raw[place] & 0xC0 != 0x80), at)
+
+
+def with_visible_ends(text, is_start, is_end):
+    """A text whose spaces at its start and at its end, also those before or behind a tab there, are ·."""
+    inside = text.lstrip(" \t") if is_start else text
+    text = text[: len(text) - len(inside)].replace(" ", "·") + inside
+    inside = text.rstrip(" \t") if is_end else text
+    return inside + text[len(inside) :].replace(" ", "·")
+
+
+def printable(text):
+    if text.isprintable():
+        return text
+    return "".join(c if c.isprintable() else f"\\x{ord(c):02x}" for c in text)
+
+
+def counted(number, one, many=None):
+    """A number with what it counts: `1 field`, `2,000 fields`."""
+    return f"{number:,} {one if number == 1 else many or one + 's'}"
+
+
+# ---- kinds ----
+
+
+def fault_of_int(field):
+    """Why a field is no int, or None."""
+    digits = field.removeprefix(b"-")
+    if not (digits.isdigit() and digits.isascii()):
+        return reason_for_no_number(field)
+    is_negative = field.startswith(b"-")
+    # Thirty digits are too many in any case, and a field may have millions.
+    size = int(digits.lstrip(b"0")[:30] or b"0")
+    if size <= (-LEAST_INT if is_negative else GREATEST_INT):
+        return None
+    limit = f"below the least int, {LEAST_INT}" if is_negative else f"over the greatest int, {GREATEST_INT}"
+    return f"'{visible(field, 40)}' is {limit}"
+
+
+def reason_for_no_number(field):
+    if not field:
+        return "the field is empty, and an int has a digit at least"
+    text = f"'{visible(field, 40)}'"
+    inside = field.removeprefix(MARK).strip(b" \t\xc2\xa0")
+    if inside != field and fault_of_int(inside) is None:
+        return f"{text} has {blanks_named(field, inside)}, and nothing is trimmed"
+    if field.startswith(b"+") and fault_of_int(field[1:]) is None:
+        return f"{text} has a '+', which an int has not"
+    return f"{text} is no whole number"
+
+
+def blanks_named(field, inside):
+    """What stands around the inside of a field."""
+    names = ((MARK, "a byte order mark"), (b" ", "a space"), (b"\t", "a tab"), (b"\xa0", "a space that does not break"))
+    around = field.replace(inside, b"", 1)
+    return " and ".join(name for blank, name in names if blank in around) + (" before it" if field.endswith(inside) else " behind it")
+
+
+def fault_of_text(field):
+    """Why a field is no text, or None."""
+    if len(field) > MOST_TEXT_BYTES:
+        return f"{len(field):,} bytes, and a text has at most {MOST_TEXT_BYTES}: '{visible(field, 40)}'"
+    try:
+        field.decode("utf-8")
+    except UnicodeDecodeError as fault:
+        return f"byte {fault.start + 1} of '{visible(field, 40, fault.start)}' is {field[fault.start]:02X}, which is no UTF-8 there"
+    return None
+
+
+def fault_of_flag(field):
+    """Why a field is no flag, or None."""
+    if field.lower() in (b"true", b"false"):
+        return None
+    if not field:
+        return "the field is empty, and a flag is true or false"
+    return f"'{visible(field, 40)}' is neither true nor false"
+
+
+class Kind:
+    """A kind of a column: its name, `fault` (the reason why a field is no value of it, or None), and how values are printed."""
+
+    def __init__(self, name, fault, printed):
+        self.name, self.fault, self.printed = name, fault, printed
+
+
+KINDS = {
+    b"int": Kind("int", fault_of_int, lambda field: b"%d" % int(field)),
+    b"text": Kind("text", fault_of_text, lambda field: field),
+    b"flag": Kind("flag", fault_of_flag, lambda field: field.lower()),
+}
+
+
+def printed_field(value):
+    """A value as it stands in a record, in quotes where it has to."""
+    if b"," in value or b'"' in value or b"\r" in value or b"\n" in value:
+        return b'"' + value.replace(b'"', b'""') + b'"'
+    return value
+
+
+def printed_record(values):
+    return b'""' if list(values) == [b""] else b",".join(printed_field(value) for value in values)
+
+
+# ---- records and fields ----
+
+QUOTED = rb'"[^"]*(?:""[^"]*)*'
+FIELD = re.compile(rb'(?:%b(?:"[^,\r\n]*)?|[^,\r\n]*)' % QUOTED)
+RECORD = re.compile(rb"(?=[^\r\n])%b(?:,%b)*" % (FIELD.pattern, FIELD.pattern))
+# What has no quote that looks broken: of a CSV text, and of the lines of a batch.
+SOUND_QUOTE = rb'"[^"]*+(?:""[^"]*+)*+"(?![^,\r\n])'
+SOUND_TEXT = re.compile(rb'(?:[^"]++|(?<![^,\r\n])%b|(?<=[^,\r\n])")*+' % SOUND_QUOTE)
+SOUND_FIELD = rb'(?:%b|(?!")[^,\n]*+)' % SOUND_QUOTE.replace(rb'[^"]', rb'[^"\n]')
+SOUND_LINES = re.compile(rb'(?:[^"\n]*+\n| *+(?:put|del|ups) (?:%b)?+%b(?:,%b)*+\r?\n)*+' % (MARK, SOUND_FIELD, SOUND_FIELD))
+QUOTED_FIELD = re.compile(rb'(?<![^,\r\n])(%b)("?)([^,\r\n]*)' % QUOTED)
+
+
+class Record:
+    """A record: the number of the line in which it begins, and its bytes as they stand."""
+
+    def __init__(self, number, raw):
+        self.number, self.raw = number, raw
+
+    @cached_property
+    def spans(self):
+        """Where each field begins and ends, with its quotes."""
+        return spans(self.raw)
+
+    @cached_property
+    def fields(self):
+        return fields(self.raw)
+
+
+def spans(raw):
+    """Where each field of a record begins and ends, with its quotes."""
+    found, start = [], 0
+    while True:
+        end = FIELD.match(raw, start).end()
+        found.append((start, end))
+        if end >= len(raw):
+            return found
+        start = end + 1
+
+
+def fields(raw):
+    """The fields of a record, without the quotes around them."""
+    if b'"' not in raw:
+        return raw.split(b",")
+    return [unquoted(raw[start:end]) for start, end in spans(raw)]
+
+
+def unquoted(field):
+    """A field without its quotes. What stands behind the closing quote joins it."""
+    if not field.startswith(b'"'):
+        return field
+    end = re.match(QUOTED, field).end()
+    return field[1:end].replace(b'""', b'"') + field[end + 1 :]
+
+
+def records(text, number=1):
+    """The records of a CSV text whose first line has this number, as (line, bytes), the header first."""
+    at = len(MARK) if text.startswith(MARK) else 0
+    for found in RECORD.finditer(text, at):
+        number += text.count(b"\n", at, found.start())
+        at = found.start()
+        yield number, found[0]
+
+
+def record_of_line(rest):
+    """The record that ends a line of a command, and why it makes the line wrong, or None."""
+    record = rest.removeprefix(MARK)
+    if not record:
+        return record, "the record is empty"
+    if b"\r" in record:
+        return record, "the record holds a carriage return"
+    if record.startswith(MARK):
+        return record, "the record begins with a second byte order mark"
+    return record, None
+
+
+class BrokenQuote:
+    """A quoted field that looks broken: the line in which it begins, that of its closing quote or of its end, and whether it is closed."""
+
+    def __init__(self, first, last, is_closed):
+        self.first, self.last, self.is_closed = first, last, is_closed
+
+    def __str__(self):
+        breaks = self.last - self.first
+        held = f" (it holds {counted(breaks, 'line break')})" if breaks else ""
+        if self.is_closed:
+            where = f" in line {self.last}" if breaks else ""
+            return f"the quoted field that begins in line {self.first} goes on behind its closing quote{where}: was a quote forgotten?{held}"
+        on = f", and goes on to line {self.last}" if breaks else ""
+        return f"the quoted field that begins in line {self.first} is not closed{on}: was a quote forgotten?{held}"
+
+
+def broken_quotes(text, number=1):
+    """The quoted fields of a CSV text, whose first line has this number, that go on behind their closing quotes, or are never closed."""
+    text = text.removeprefix(MARK)
+    at = 0
+    while (start := SOUND_TEXT.match(text, at).end()) < len(text):
+        found = QUOTED_FIELD.match(text, start)
+        number += text.count(b"\n", at, start)
+        inside = found[1] if found[2] else found[1].removesuffix(b"\n")
+        yield BrokenQuote(number, number + inside.count(b"\n"), bool(found[2]))
+        number, at = number + found[0].count(b"\n"), found.end()
+
+
+def broken_quotes_of_lines(block, number=1):
+    """Those of the records of a batch's lines."""
+    at = 0
+    while (start := SOUND_LINES.match(block, at).end()) < len(block):
+        number += block.count(b"\n", at, start)
+        end = block.find(b"\n", start)
+        end = len(block) if end < 0 else end
+        line = Line(number, block[start:end])
+        yield from broken_quotes((line.rest or b"").removesuffix(b"\r"), number)
+        number, at = number + 1, end + 1
+
+
+# ---- lines and commands ----
+
+
+class Line:
+    """A line of the script, without its line break."""
+
+    def __init__(self, number, raw):
+        self.number, self.raw = number, raw
+        self.text = raw.removesuffix(b"\r").lstrip(b" ")
+        self.word = self.text.partition(b" ")[0]
+
+    def begins_command(self):
+        """Whether it has the first word of a command, and as many words."""
+        least, most = WORDS.get(self.word, (1, 0))
+        return least <= sum(1 for word in self.text.split(b" ", 100) if word) <= most
+
+    @property
+    def rest(self):
+        """What stands behind the first word and one space, or None where no space stands there."""
+        _, space, rest = self.text.partition(b" ")
+        return rest if space else None
+
+
+class Command:
+    """A command of the script: its head line, the bytes of its block as they stand, and whether that is closed."""
+
+    def __init__(self, head, closing=None, block=b"", is_closed=False):
+        self.head, self.closing, self.block, self.is_closed = head, closing, block, is_closed
+
+    @cached_property
+    def lines(self):
+        """The lines of the block."""
+        pieces = self.block.removesuffix(b"\n").split(b"\n") if self.block else []
+        return [Line(number, raw) for number, raw in enumerate(pieces, self.head.number + 1)]
+
+    def messages(self):
+        """The lines of the block that are not blank."""
+        return [line for line in self.lines if line.text]
+
+    def records(self):
+        """The records of the block of a load, as (line, bytes), the header first."""
+        return records(self.block, self.head.number + 1)
+
+    def broken_quotes(self):
+        """What looks broken among the quotes of a load's block, or of the lines of a batch."""
+        if b'"' not in self.block or self.closing == b"go":
+            return ()
+        find = broken_quotes if self.head.word == b"load" else broken_quotes_of_lines
+        return find(self.block, self.head.number + 1)
+
+
+def commands(script, closing=CLOSING):
+    """The commands of a script, one after the other. `closing` has the closing lines of the blocks that its reader knows."""
+    start, number = 0, 0
+    while start < len(script):
+        end = script.find(b"\n", start)
+        end = len(script) if end < 0 else end
+        number += 1
+        head = Line(number, script[start:end])
+        start = end + 1
+        if head.word in closing:
+            last, behind, is_closed = end_of_block(script, start, closing[head.word])
+            block = script[start:last]
+            yield Command(head, closing[head.word], block, is_closed)
+            number += script.count(b"\n", start, behind)
+            start = behind
+        elif head.word:
+            yield Command(head)
+
+
+def end_of_block(script, start, closing):
+    """Where the closing line begins, where the line behind it begins, and whether there is one."""
+    place = start - 1
+    while 0 <= (place := script.find(b"\n" + closing, place)):
+        behind = place + 1 + len(closing)
+        behind += script.startswith(b"\r", behind)
+        if behind >= len(script) or script.startswith(b"\n", behind):
+            return place + 1, min(behind + 1, len(script)), True
+        place += 1
+    return max(start, len(script)), len(script), False
+
+
+# ---- the table and its indexes ----
+
+
+class Index:
+    """An index: the line that made it, the columns that it is on, those that it includes, and its condition or None."""
+
+    def __init__(self, line, on, included, condition):
+        self.line, self.on, self.included, self.condition = line, on, included, condition
+        self.is_complete = False
+
+
+class Table:
+    """The table that a script has made so far, with the line that made it."""
+
+    def __init__(self, line):
+        words = line.text.split()
+        self.line, self.key_length = line, int(words[4])
+        self.columns = [tuple(word.split(b":")) for word in words[5:]]
+        self.indexes, self.dropped = {}, {}  # by their names; of those that were dropped the lines that did it
+
+    @property
+    def names(self):
+        return [name for name, _ in self.columns]
+
+    @property
+    def kinds(self):
+        return [kind for _, kind in self.columns]
+
+    @property
+    def key(self):
+        """The names and kinds of its key."""
+        return self.columns[: self.key_length]
+
+    def has_tree(self, name):
+        return name == PRIMARY or name in self.indexes
+
+    def key_of(self, tree):
+        """The names and kinds of the columns of a tree's key."""
+        return self.key if tree == PRIMARY else [*self.named(self.indexes[tree].on), *self.key]
+
+    def columns_of(self, tree):
+        """The names and kinds of the rows that a scan of a tree prints."""
+        return self.columns if tree == PRIMARY else [*self.key_of(tree), *self.named(self.indexes[tree].included)]
+
+    def named(self, names):
+        kinds = dict(self.columns)
+        return [(name, kinds[name]) for name in names]
+
+
+# The commands that change what there is, and how their replies begin.
+ANSWERS = {b"table": b"table ", b"index": b"index ", b"build": b"build ", b"drop": b"dropped "}
+
+
+class State:
+    """What a script has made by its commands that were answered."""
+
+    def __init__(self):
+        self.table = None
+        self.refused = {}  # of a table, and of indexes by their names, the last line that was refused
+
+    def take(self, command, answer):
+        """Goes on by a command and the lines that answer it."""
+        word = command.head.word
+        if word not in ANSWERS or not answer or not answer[0].startswith((ANSWERS[word], b"refused ")):
+            return
+        words = command.head.text.split()
+        name = (words[1:2] or [b""])[0]
+        if answer[0].startswith(b"refused "):
+            if word in (b"table", b"index"):
+                self.refused[name if word == b"index" else None] = command.head
+        elif word == b"table" and answer[0] == b"table %d\n" % (len(words) - 5):
+            self.table = Table(command.head)
+        elif not self.table:
+            return
+        elif word == b"index" and answer[0] == b"index %b\n" % name:
+            self.table.indexes[name] = index_of(command.head)
+        elif word == b"drop":
+            self.table.dropped[name] = command.head
+            self.table.indexes.pop(name, None)
+        elif name in self.table.indexes:
+            self.table.indexes[name].is_complete = answer[0].endswith(b" complete\n")
+
+
+def index_of(line):
+    """The index that a line makes which was answered."""
+    on, included, column, operator, constant = INDEX.fullmatch(line.text).groups()
+    condition = (column, operator, fields(constant.removeprefix(MARK))[0]) if operator else None
+    return Index(line, on.split(b","), included.split(b",") if included else [], condition)
+
+
+# ---- replies ----
+
+
+# How the last line of a reply begins that has more lines than one.
+LAST_LINES = {b"scan": b"rows ", b"sums": b"sums ", b"image": b"end\n"}
+
+
+def logical_lines(replies):
+    """The lines of the replies. One whose text holds a line break in quotes is one line."""
+    replies = iter(replies)
+    for line in replies:
+        while line.count(b'"') % 2 == 1:
+            rest = next(replies, b"")
+            if not rest:
+                break
+            line += rest
+        yield line
+
+
+def reply(word, lines):
+    """The lines that answer one command, of the replies that are left."""
+    first = next(lines, None)
+    found = [] if first is None else [first]
+    if word in LAST_LINES and first is not None and not first.startswith(b"refused "):
+        last = LAST_LINES[word]
+        while not found[-1].startswith(last):
+            line = next(lines, None)
+            if line is None:
+                break
+            found.append(line)
+    return found

@@ -1,0 +1,101 @@
+"""What the tests share: running the tools, and comparing what they print."""
+
+import subprocess
+import sys
+import tempfile
+import xml.etree.ElementTree as xml
+from importlib.machinery import SourceFileLoader
+from importlib.util import module_from_spec, spec_from_loader
+from pathlib import Path
+
+TOP = Path(__file__).resolve().parents[2]
+SVG = "{http://www.w3.org/2000/svg}"
+TABLE = "table 4 3 2 1 id:int city:text qty:int"
+
+
+class Failure(Exception):
+    """What a test found, and what it was to find."""
+
+
+def expect(found, expected):
+    if found != expected:
+        raise Failure(f"found {found!r} and not {expected!r}")
+
+
+def expect_within(part, whole):
+    if part not in whole:
+        raise Failure(f"no {part!r} in {whole!r}")
+
+
+def run(*words, given=b"", folder=TOP, seconds=50):
+    """The status, the standard output and the standard error of a command of the repository."""
+    ended = subprocess.run([TOP / words[0], *words[1:]], input=given, capture_output=True, cwd=folder, timeout=seconds)
+    return ended.returncode, ended.stdout.decode(), ended.stderr.decode()
+
+
+def replies(script):
+    status, text, errors = run("bin/betable", given=script.encode())
+    expect((status, errors), (0, ""))
+    return text
+
+
+def explained(script, *words):
+    """The status and the lines of tools/explain on a script."""
+    with tempfile.TemporaryDirectory() as folder:
+        path = Path(folder) / "script"
+        path.write_bytes(script if isinstance(script, bytes) else script.encode())
+        status, text, errors = run("tools/explain", *words, str(path))
+    expect(errors, "")
+    return status, text.splitlines()
+
+
+def drawn(images, *words):
+    """The picture of tools/draw for these replies."""
+    status, text, errors = run("tools/draw", *words, given=images.encode())
+    expect((status, errors), (0, ""))
+    return xml.fromstring(text)
+
+
+def boxes(picture, kind):
+    return [group for group in picture.iter(SVG + "g") if group.get("class") == kind]
+
+
+def texts(element, *kinds):
+    """The texts of these kinds, each without the longer one that it may show on a touch."""
+    return [text.text for text in element.iter(SVG + "text") if text.get("class") in kinds]
+
+
+def structure(element):
+    """An element without its places on the page."""
+    kept = element.get("class"), element.tag, (element.text or "").strip()
+    return (*kept, [structure(child) for child in element])
+
+
+def tree_of_height(height):
+    """The replies of an image of this height in which each inner node has four children."""
+    lines, count = [f"image primary height {height}"], [0]
+
+    def add(depth):
+        if depth == height - 1:
+            lines.append(" " * 2 * depth + "leaf 1")
+            lines.append(" " * (2 * depth + 2) + f"= {2**63 + count[0]:016x} {count[0]},x")
+            count[0] += 1
+            return
+        lines.append(" " * 2 * depth + "inner 4 0")
+        for child in range(4):
+            if child:
+                lines.append(" " * (2 * depth + 2) + f"| {2**63 + count[0]:016x}")
+            add(depth + 1)
+
+    add(0)
+    return "\n".join([*lines, "end"]) + "\n", count[0]
+
+
+def imported(path):
+    """A program of the repository as a module."""
+    sys.dont_write_bytecode = True
+    name = Path(path).stem
+    loader = SourceFileLoader(name, str(TOP / path))
+    module = module_from_spec(spec_from_loader(name, loader))
+    loader.exec_module(module)
+    return module

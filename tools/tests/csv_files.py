@@ -1,0 +1,500 @@
+"""Tests of tools/from_csv and tools/to_csv."""
+
+import csv
+import io
+import os
+import pty
+import shutil
+import subprocess
+import sys
+import tempfile
+from pathlib import Path
+
+from common import expect, expect_within, imported, run, TOP
+
+FILES = TOP / "tools/tests/files"
+SHAPE = "table 16 1024 256"
+sys.path.append(str(TOP / "tools"))
+FROM_CSV = imported("tools/from_csv")
+
+
+def from_csv(given, *words):
+    """The status of tools/from_csv on these bytes, the script, and its sentences."""
+    with tempfile.TemporaryDirectory() as folder:
+        path = Path(folder) / "given.csv"
+        path.write_bytes(given if isinstance(given, bytes) else given.encode())
+        status, text, errors = in_process(FROM_CSV, str(path), *words)
+    return status, text, [line.strip() for line in errors.splitlines()]
+
+
+def in_process(tool, *words):
+    """The status of a tool that is a module, and what it printed on standard output and standard error."""
+    before = sys.argv, sys.stdout, sys.stderr
+    sys.argv, sys.stdout, sys.stderr = ["tool", *words], io.TextIOWrapper(io.BytesIO()), io.StringIO()
+    try:
+        try:
+            status = tool.run(tool.words_given())
+        except tool.Faulty as fault:
+            status = print(fault, file=sys.stderr) or 2
+        except SystemExit as ended:
+            status = ended.code
+        return status, sys.stdout.buffer.getvalue().decode(), sys.stderr.getvalue()
+    finally:
+        sys.argv, sys.stdout, sys.stderr = before
+
+
+def to_csv(script, *words):
+    return run("tools/to_csv", "-", *words, given=script if isinstance(script, bytes) else script.encode())
+
+
+def read(text, separator=","):
+    """The records of a CSV as Python reads them."""
+    return list(csv.reader(io.StringIO(text, newline=""), delimiter=separator))
+
+
+def there_and_back(given, *words):
+    """The rows of a CSV text that went through from_csv, the program and to_csv, the header first."""
+    status, script, sentences = from_csv(given, *words)
+    expect((status, sentences[-1].startswith("refused")), (0, False))
+    status, text, errors = to_csv(script + "scan primary\ngo\n")
+    expect((status, errors), (0, ""))
+    return read(text)
+
+
+# What is found in a file: its bytes, the words, the columns of the table, the records of the script, and sentences.
+FOUND = (
+    ("b;a\n1;x\n", "--key a", "1 a:text b:int", "a,b\nx,1\n", ["1 record, 2 columns, divided by ';'"]),
+    ("a\tb\r\n1\t-2,5\r\n", "--key a", "1 a:int b:text", 'a,b\n1,"-2,5"\n', ["divided by '\\t'", "b: decimals, kept as text; --scale b=1 makes"]),
+    ("a|b\r1|x,y\r2|z\r", "--key b,a", "2 b:text a:int", 'b,a\n"x,y",1\nz,2\n', ["2 records, 2 columns, divided by '|'", "its lines end with CR"]),
+    ("a,b\n1,x;y;z\n2,x;y;z\n", "--key a", "1 a:int b:text", "a,b\n1,x;y;z\n2,x;y;z\n", ["divided by ','"]),
+    ("a\n.\nb\n\n\n", "--key a", "1 a:text", 'a\n"."\n"b"\n', ["2 records, 1 column"]),
+    ("\ufeffid,on\n1,TRUE\n2,false", "--key id", "1 id:int on:flag", "id,on\n1,TRUE\n2,false\n", ["the byte order mark at the start is left out"]),
+    ("a,b\n1,caf\u00e9\n".encode("utf-16"), "--key a", "1 a:int b:text", "a,b\n1,caf\u00e9\n", ["read as utf-16"]),
+    (b"a,b\n1,caf\xe9\n", "--key a --encoding latin-1", "1 a:int b:text", "a,b\n1,caf\u00e9\n", ["read as iso8859-1"]),
+    ("id,zip\n1,0150\n2,7\n", "--key id", "1 id:int zip:text", "id,zip\n1,0150\n2,7\n", ["zip: digits as '0150', of which an int would lose the zeros"]),
+    ("id,zip\n1,0150\n2,7\n", "--key id --kind zip=int", "1 id:int zip:int", "id,zip\n1,0150\n2,7\n", []),
+    ("id,n\n1,9223372036854775807\n2,-9223372036854775808\n", "--key id", "1 id:int n:int", None, []),
+    ("id,n\n1,9223372036854775808\n2,5\n", "--key id", "1 id:int n:text", None, ["n: numbers as '9223372036854775808', which do not fit 64 bits"]),
+    ("id,n\n1,5\n2,n/a\n3,6\n", "--key id", "1 id:int n:text", None, ["n: text, as record 2 (line 3) has 'n/a', which is neither"]),
+    ('id,n\n1, "5"\n2, 6\n', "--key id --trim", "1 id:int n:int", "id,n\n1,5\n2,6\n", []),
+    ("id,n\n1, 5\n2, 6\n", "--key id", "1 id:int n:text", None, ["--trim drops spaces"]),
+    ("id,n\n1,5\n2,\n\n3,\n", "--key id", "1 id:int n:text", None, ["n: ints, but 2 fields are empty, the first in record 2 (line 3): kept as text"]),
+    ("id,n\n1,5\n2,\n", "--key id --empty n=-7", "1 id:int n:int", "id,n\n1,5\n2,-7\n", ["n: 1 empty field is -7"]),
+    ("id,n\n1,\n2,\n", "--key id", "1 id:int n:text", None, ["n: all fields are empty, kept as text"]),
+    ("1,x\n2,y\n", "--key id --names id,n", "1 id:int n:text", "id,n\n1,x\n2,y\n", ["2 records, 2 columns"]),
+    ("1,x\n2,y\n", "--key x", "1 x:text column_1:int", "x,column_1\ny,2\n", ["--names NAMES gives them", "'1' is named column_1"]),
+    ("a,b\n1\n2,x,\n", "--key a --fit", "1 a:int b:text", "a,b\n1,\n2,x\n", ["2 records of another length"]),
+    ("a,b,c\n1,x,y\n", "--key a --columns c", "1 a:int c:text", "a,c\n1,y\n", ["left out: b"]),
+    ('a,b\n1,"x\r\ny"\n2,5" nail\n', "--key a", "1 a:int b:text", None, []),
+    ("a,b\n", "--key b", "1 b:text a:text", "b,a\n", ["0 records"]),
+    ("a,b\n1,12.500\n2,-0.05\n3,7\n", "--key a --scale b=2", "1 a:int b:int", "a,b\n1,1250\n2,-5\n3,700\n", ["b: decimals, as ints times 100"]),
+    ("a,b\n1,-0.05\n2,100.00\n", "--key a --scale b=2", "1 a:int b:int", "a,b\n1,-5\n2,10000\n", []),
+    ('a,b\n1,"5\n6"\n2,7\n', "--key a", "1 a:int b:text", 'a,b\n1,"5\n6"\n2,7\n', []),
+    (f"a,b\n1,x{'é' * 130}\n", "--key a --cut b", "1 a:int b:text", f"a,b\n1,x{'é' * 127}\n", ["b: 1 text is cut to 255 bytes"]),
+    (f"a,b\n1,{'é' * 130}\n", "--key a --cut b", "1 a:int b:text", f"a,b\n1,{'é' * 127}\n", []),
+)
+
+
+def from_csv_finds_what_a_file_is():
+    for given, words, columns, records, wanted in FOUND:
+        status, script, sentences = from_csv(given, *words.split())
+        expect((status, sentences[1]), (0, f"{SHAPE} {columns}"))
+        if records is not None:
+            expect(script, f"{SHAPE} {columns}\nload\n{records}.\n")
+        for part in wanted:
+            expect_within(part, "\n".join(sentences))
+
+
+def from_csv_makes_names_of_titles():
+    titles = ["Id", "id", "ID", "Store #", "2020", "", "Ørsted/Åse", "n" * 40, "n" * 41, "é", "_x", "a__b"]
+    names = imported("tools/csv_source.py").legal_names(titles)
+    wanted = ["id_2", "id", "id_3", "store", "column_2020", "column_6", "orsted_ase", "n" * 32, "n" * 30 + "_2", "e", "x", "a__b"]
+    expect(names, wanted)
+
+
+def from_csv_says_what_became_of_the_sales():
+    """A file with a mark, semicolons, CR LF, decimal commas, empty fields and titles that are no names."""
+    words = ["--key", "Date,Store #", "--scale", "revenue=2", "--empty", "visitors=0"]
+    status, script, errors = run("tools/from_csv", str(FILES / "sales.csv"), *words)
+    table = f"{SHAPE} 2 date:text store:int revenue:int visitors:int open:flag comment:text"
+    expect(
+        errors.splitlines(),
+        [
+            "6 records, 6 columns, divided by ';'",
+            f"  {table}",
+            "  the byte order mark at the start is left out",
+            "  its lines end with CR LF, and those of the script with LF; inside of fields they stay",
+            "  'Date' is named date, 'Store #' store, 'Revenue €' revenue, 'Open?' open",
+            "  revenue: decimals, as ints times 100",
+            "  visitors: 2 empty fields are 0",
+        ],
+    )
+    expect((status, script.splitlines()[:4]), (0, [table, "load", "date,store,revenue,visitors,open,comment", "2026-11-02,1,120450,35,TRUE,"]))
+    revenues = [record[2] for record in read(script.split("load\n")[1])[1:-1]]
+    expect(revenues, ["120450", "-1205", "98000", "99", "100000001", "750"])
+
+
+LONG = "é" * 128
+
+# What is refused: the bytes, the words, and the sentences of it.
+REFUSED = (
+    (f"a,b\n1,x\n2,{LONG}\n", "", ["b of record 2 (line 3) has 256 bytes, the most are 255 (--cut b cuts such)"]),
+    ('a,b\n1,"x\ny"\n2,"x\n.\ny"\n', "", ["b of record 2 (line 4) has a line that is '.' alone, which would close the load (--mend-points "]),
+    ("a,b\n1,x\n2\n3,x,y\n", "", ["record 2 (line 3) has 1 field, and the header 2", "record 3 (line 4) has 3 fields, and the header 2"]),
+    ("a,b\n1,x\n2,x,y\n", "--fit", ["record 2 (line 3) has 3 fields, and the header 2"]),
+    ("a,b\n1,x\n2,x\n1,y\n", "", ["record 3 (line 4) has the key of record 1 (line 2)"]),
+    ("a,b\n1,x\n01,x\n", "--kind a=int", ["record 2 (line 3) has the key of record 1 (line 2)"]),
+    ("a,b\ntrue,x\nTRUE,x\n", "", ["record 2 (line 3) has the key of record 1 (line 2)"]),
+    ("a,b\n1,x\n2,\n", "--kind b=int", ["b of record 1 (line 2) is no int: 'x' is no whole number", "b of record 2 (line 3) is no int: the field is empty"]),
+    ('a,b\n1,"5\n6"\n', "--kind b=int", ["b of record 1 (line 2) is no int"]),
+    ("a,b\n1,0.125\n2,x\n3,\n", "--scale b=2", ["record 1 (line 2) is '0.125', with more than 2", "record 2 (line 3) is 'x', and no decimal", "(--empty b=0"]),
+    ('a,b\n1,"1.00\n2.00"\n2,5.00\n', "--scale b=2", ["record 1 (line 2) is '1.00\\n2.00', and no decimal number"]),
+    ("a,b\n1,92233720368547758.08\n", "--scale b=2", ["'92233720368547758.08', and 9223372036854775808 as an int, which does not fit 64 bits"]),
+    ("a,b\n" + "".join(f"{n},{LONG}\n" for n in range(9)), "", ["b of record 3 (line 4) has 256 bytes", "b of 6 other records too"]),
+)
+
+
+def from_csv_refuses_what_cannot_be_loaded():
+    """With record and line, all in one run, and without a script."""
+    for given, words, wanted in REFUSED:
+        status, script, sentences = from_csv(given, "--key", "a", *words.split())
+        expect((status, script, sentences[-1]), (2, "", "no script is written"))
+        refusals = [sentence for sentence in sentences if sentence.startswith("refused: ")]
+        for part in wanted:
+            expect_within(part, "\n".join(refusals))
+    everything = f"a,b,c\n1,{LONG},\n1,x\n"
+    expect(len([sentence for sentence in from_csv(everything, "--key", "a")[2] if sentence.startswith("refused: ")]), 3)
+
+
+def from_csv_wants_right_words():
+    with tempfile.TemporaryDirectory() as folder:
+        path = Path(folder) / "a.csv"
+        path.write_text("id,City name\n1,Oslo\n")
+        wide = Path(folder) / "wide.csv"
+        wide.write_text(",".join(f"c{place}" for place in range(17)) + "\n")
+        bad = Path(folder) / "bad.csv"
+        bad.write_bytes(b"id,city\n1,ok\n2,\xff\n")
+        for words, wanted in (
+            ([path], "--key COLUMNS names the column, or up to four columns, by which each record is found; the columns are: id, city_name"),
+            ([path, "--key", "town"], "no column 'town'; its columns are: id, 'City name' or city_name"),
+            ([path, "--key", ","], "--key names no column"),
+            ([path, "--key", "id,id"], "a column is named twice"),
+            ([wide, "--key", "c0"], "17 columns, and a table has at most 16: --columns takes some of them"),
+            ([wide, "--key", "c0,c1,c2,c3,c4"], "5 key columns, and a table has at most 4"),
+            ([path, "--key", "id", "--shape", "3 4 4"], "--shape wants"),
+            ([path, "--key", "id", "--shape", "4 0b 4"], "--shape wants"),
+            ([path, "--key", "id", "--kind", "id=float"], "--kind wants int, text or flag and not 'float'"),
+            ([path, "--key", "id", "--scale", "id=x"], "--scale wants the number of digits"),
+            ([path, "--key", "id", "--empty", "id"], "--empty wants COLUMN=VALUE"),
+            ([path, "--key", "id", "--index", "by", "on town"], "index by: there is no column 'town'"),
+            ([path, "--key", "id", "--index", "primary", "on id"], "the name primary of an index is taken"),
+            ([path, "--key", "id", "--index", "by", "id"], "--index wants NAME and 'on LIST"),
+            ([path, "--key", "id", "--index", "by", "on id where id = x"], "'x' is no whole number"),
+            ([path, "--key", "id", "--separator", "ab"], "is no separator"),
+            ([path, "--key", "id", "--encoding", "what"], "is no encoding"),
+            ([path, "--key", "id", "--encoding", "base64"], "is no encoding"),
+            ([bad, "--key", "id"], "line 3 is no UTF-8, as of byte 3, which is FF; --encoding latin-1"),
+            ([Path(folder) / "none", "--key", "id"], "No such file"),
+            ([folder, "--key", "id"], "Is a directory"),
+            (["/dev/null", "--key", "id"], "has no record"),
+            ([], "the following arguments are required: FILE"),
+        ):
+            status, text, errors = in_process(FROM_CSV, *map(str, words))
+            expect((status, text), (2, ""))
+            expect_within(wanted, errors)
+        for words in ([], [bad, "--key", "id"], [path, "--key", "town"], [folder, "--key", "id"]):
+            status, text, errors = run("tools/from_csv", *map(str, words))
+            expect((status, text, "Traceback" in errors, errors.splitlines()[-1].startswith("from_csv: ")), (2, "", False, True))
+
+
+def from_csv_takes_one_record_of_each_key():
+    """Over several chunks: of 2,500 records each key comes twice, the second time at the same distance, and once a third time."""
+    records = [f'{n % 1200},"{n}\r\n"' for n in range(2400)] + ["7,end"]
+    given = "a,b\n" + "\n".join(records) + "\n"
+    first, last = ([row for row in there_and_back(given, "--key", "a", word)[1:]] for word in ("--first", "--last"))
+    expect(first, [[str(n), f"{n}\r\n"] for n in range(1200)])
+    expect(last, [[str(n), "end" if n == 7 else f"{n + 1200}\r\n"] for n in range(1200)])
+    sentences = from_csv(given, "--key", "a", "--last")[2]
+    expect_within("left out: 1,201 records with the key of a later one, first record 1 (line 2), which has that of record 1201 (line 2402)", sentences)
+
+
+def from_csv_warns_of_quotes_that_look_broken():
+    status, script, errors = run("tools/from_csv", str(FILES / "forgotten_quote.csv"), "--key", "id")
+    goes_on = "the quoted field that begins in line 28 goes on behind its closing quote in line 29: was a quote forgotten? (it holds 1 line break)"
+    expect((status, script.count("\n"), errors.splitlines()[2:]), (0, 33, [f"  warning: {goes_on}"]))
+    expect_within('\n27,"city,5\n28,city""",5\n29,city,5\n.\n', script)
+    status, script, sentences = from_csv('a;b\n1;"x"y\n2;"z\n3;z\n', "--key", "a")
+    expect_within("warning: the quoted field that begins in line 2 goes on behind its closing quote: was a quote forgotten?", sentences)
+    expect_within("warning: the quoted field that begins in line 3 is not closed, and goes on to line 4", sentences[-1])
+    expect((status, read(script)[2:-1]), (0, [["a", "b"], ["1", "xy"], ["2", "z\n3;z\n"]]))
+    for whole in ('a,b\n1,"x ""y"""\n', 'a,b\n1,x "y\n', 'a,b\n1,"x"', 'a,b\n"1",""\n'):
+        expect([sentence for sentence in from_csv(whole, "--key", "a")[2] if "warning" in sentence], [])
+
+
+def from_csv_makes_scripts_of_64_mebibytes_and_no_byte_more():
+    """With a lesser limit in its place, to the byte; and of a great file it names the record with which the script is full."""
+    tool = imported("tools/from_csv")
+    with tempfile.TemporaryDirectory() as folder:
+        path = Path(folder) / "a.csv"
+        path.write_text("a,b\n" + "".join(f"{n},xyz\n" for n in range(2500)))
+        size = len(run("tools/from_csv", str(path), "--key", "a")[1])
+        for most, status, said in ((size, 0, ""), (size - 1, 2, f"the script would have {size:,} bytes"), (9000, 2, "it is full at record 2000 (line 2001)")):
+            tool.MOST_SCRIPT = most
+            found = in_process(tool, str(path), "--key", "a")
+            expect(found[0], status)
+            expect_within(said, found[2])
+
+
+def from_csv_shows_progress_at_a_terminal_only():
+    near, far = pty.openpty()
+    before = sys.stderr
+    try:
+        with os.fdopen(far, "w") as terminal:
+            sys.stderr = terminal
+            progress = FROM_CSV.Progress()
+            progress.show(5)
+            progress.due -= 1
+            progress.show(1234567)
+            progress.end()
+            terminal.flush()
+            shown = os.read(near, 1000).decode()
+        sys.stderr = io.StringIO()
+        expect(FROM_CSV.Progress().due, None)
+    finally:
+        sys.stderr = before
+        os.close(near)
+    expect((shown.startswith("\r1,234,567 records so far\r"), "\r5 " in shown, shown.endswith(" \r")), (True, False, True))
+
+
+# A table with an index, and its replies.
+STOCK = """table 4 3 2 2 city:text day:int sold:int note:text
+batch
+put Oslo,1,12,"row, 1"
+put Oslo,2,7,
+end
+index by_sold on sold,city include note
+build by_sold 9
+scan by_sold
+go
+get Oslo,2
+get Oslo,3
+sums primary 1 day
+go
+sums by_sold 3 sold
+go
+drop by_sold
+scan by_sold
+go
+"""
+STOCK_REPLIES = '''table 4
+batch 2
+index by_sold
+build by_sold 2 complete
+row 7,Oslo,Oslo,2,
+row 12,Oslo,Oslo,1,"row, 1
+rows 9
+row ""x"""
+rows 2
+row Oslo,2,7,
+none
+sum 2 3 Oslo
+sums 1
+sum 1 7 7,Oslo,Oslo
+sum 1 12 12,Oslo,Oslo
+sums 2
+dropped by_sold
+refused 8 NoSuchTree
+'''
+
+
+def to_csv_takes_replies_from_a_file():
+    """Names that come again, line breaks that look like replies, a get of no row, a refusal, and what has no rows."""
+    with tempfile.TemporaryDirectory() as folder:
+        script, given = Path(folder) / "script", Path(folder) / "replies"
+        script.write_text(STOCK)
+        given.write_text(STOCK_REPLIES)
+
+        def of(number):
+            return run("tools/to_csv", str(script), "--replies", str(given), *(["--reply", str(number)] if number is not None else []))
+
+        expect(of(5), (0, 'sold,city,city_2,day,note\n7,Oslo,Oslo,2,\n12,Oslo,Oslo,1,"row, 1\nrows 9\nrow ""x"""\n', ""))
+        expect(of(6), (0, "city,day,sold,note\nOslo,2,7,\n", ""))
+        expect(of(7), (0, "city,day,sold,note\n", "to_csv: command 7 (line 11: get Oslo,3) found no row\n"))
+        expect(of(8), (0, "city,count,day\nOslo,2,3\n", ""))
+        expect(of(9), (0, "sold,city,city_2,count,sold_2\n7,Oslo,Oslo,1,7\n12,Oslo,Oslo,1,12\n", ""))
+        for number in (11, None):
+            expect(of(number), (1, "", "to_csv: command 11 (line 17: scan by_sold) is refused, 8 NoSuchTree: tools/explain says why\n"))
+        expect(of(2)[:2] + of(12)[:2] + of(0)[:2], (2, "", 2, "", 2, ""))
+        expect_within("the script has 11 commands", of(12)[2])
+        listed = run("tools/to_csv", str(script), "--list")[1].splitlines()
+        expect(listed, [f"command {number} (line {line})" for number, line in LISTED])
+
+
+LISTED = (
+    (5, "8: scan by_sold"), (6, "10: get Oslo,2"), (7, "11: get Oslo,3"), (8, "12: sums primary 1 day"), (9, "14: sums by_sold 3 sold"),
+    (11, "17: scan by_sold"),
+)  # fmt: skip
+
+
+def to_csv_names_no_two_columns_alike():
+    """A column that comes again is never named as another one that is there."""
+    script = """table 4 3 2 1 a:int a_2:int count:int
+index i on a_2,a include a,count
+build i 1
+scan i
+go
+sums i 2 count
+go
+index j on a include a_2
+build j 1
+scan j
+go
+"""
+    with tempfile.TemporaryDirectory() as folder:
+        path = Path(folder) / "replies"
+        path.write_text("table 3\nindex i\nbuild i 0 complete\nrows 0\nsums 0\nindex j\nbuild j 0 complete\nrows 0\n")
+        expect(to_csv(script, "--replies", str(path), "--reply", "4"), (0, "a_2,a,a_3,a_4,count\n", ""))
+        expect(to_csv(script, "--replies", str(path), "--reply", "5"), (0, "a_2,a,count,count_2\n", ""))
+        expect(to_csv(script, "--replies", str(path)), (0, "a,a_3,a_2\n", ""))
+
+
+def to_csv_finds_replies_that_are_not_those_of_the_script():
+    with tempfile.TemporaryDirectory() as folder:
+        script, given = Path(folder) / "script", Path(folder) / "replies"
+        script.write_text(STOCK)
+        lines = STOCK_REPLIES.splitlines(keepends=True)
+        for replies, wanted in (
+            ("", "the replies end before that to command 1 (line 1: "),
+            ("".join(lines[:5]), "the replies end within that to command 5 (line 8: scan by_sold)"),
+            ("".join(lines[:9]), "the replies end before that to command 6"),
+            ("".join(lines[1:]), "the replies are not those of this script: command 1"),
+            ("".join([*lines, "none\n"]), "1 line of them more than it has commands"),
+            ("".join(["refused 5 BadSchema\n", *lines[1:]]), "command 5 (line 8: scan by_sold) could not be answered"),
+            (STOCK_REPLIES.replace("index by_sold", "refused 9 NameTaken"), "command 5 (line 8: scan by_sold) could not be answered"),
+            (STOCK_REPLIES.replace("rows 2\n", "rows 3\n"), "the replies end within that to command 5"),
+        ):
+            given.write_text(replies)
+            status, text, errors = run("tools/to_csv", str(script), "--replies", str(given), "--reply", "5")
+            expect((status, text, "Traceback" in errors), (2, "", False))
+            expect_within(wanted, errors)
+
+
+def to_csv_wants_right_words():
+    for words, wanted in (
+        ([], "required: SCRIPT"),
+        (["no/such/file"], "No such file"),
+        (["examples"], "Is a directory"),
+        (["examples/flush"], "the script has no scan and no sums"),
+        (["examples/first_steps", "--replies", "no/such/file"], "No such file"),
+        (["-", "--replies", "-"], "standard input is the script or the replies"),
+    ):
+        status, text, errors = run("tools/to_csv", *words)
+        expect((status, text, "Traceback" in errors), (2, "", False))
+        expect_within(wanted, errors)
+    status, _, errors = run("tools/to_csv", "examples/first_steps", "--program", "no/such/program")
+    expect((status, "no/such/program: No such file" in errors), (3, True))
+    expect(run("tools/to_csv", "examples/ranges_and_sums", "--program", "/bin/false")[0], 3)
+
+
+# Behind it the program runs.
+
+
+def csv_comes_back_as_it_was():
+    """Quotes, line breaks, empty fields, points, commas, spaces and texts of 255 bytes, written by Python with each separator and line end."""
+    texts = ['the "old" town', "two\nlines", "two\r\nlines", "a\rb", "", ".", ".\n. \n..", "a,b;c\td|e", " 'x' ", '"', "rows 7\nrow 1", "é" * 127 + "x"]
+    rows = [[str(n - 5), text, ["0.5", "-3.25", ""][n % 3], ["true", "false"][n % 2], str((-1) ** n * 9**n)] for n, text in enumerate(texts)]
+    for separator, line_end in ((",", "\n"), (";", "\r\n"), ("\t", "\r"), ("|", "\r\n")):
+        for mark in ("", "\ufeff"):
+            text = io.StringIO(newline="")
+            csv.writer(text, delimiter=separator, lineterminator=line_end, quoting=csv.QUOTE_ALL).writerows([["n", "t", "d", "f", "i"], *rows])
+            expect(there_and_back(mark + text.getvalue(), "--key", "n"), [["n", "t", "d", "f", "i"], *rows])
+
+
+def csv_of_sqlite3_comes_back():
+    """The file that is stored is what sqlite3 writes here, where there is one."""
+    stored = (FILES / "sqlite3.csv").read_bytes()
+    if shutil.which("sqlite3"):
+        text = subprocess.run(["sqlite3", ":memory:"], input=(FILES / "sqlite3.sql").read_bytes(), capture_output=True).stdout
+        expect(read(text.decode()), read(stored.decode()))
+    rows = read(stored.decode())
+    expect(there_and_back(stored, "--key", "id"), rows)
+    # By another key, which comes first.
+    order = [2, 0, 1, 3, 4]
+    wanted = [[row[place] for place in order] for row in rows]
+    expect(there_and_back(stored, "--key", "note"), [wanted[0], *sorted(wanted[1:])])
+
+
+def csv_with_lines_of_a_point_comes_back_mended():
+    rows = [["1", "a\n.\nb"], ["2", "\n.\r\n.\n"], ["3", "."], ["4", ".\n"], ["5", "x" * 254 + "\n.\ny"]]
+    text = io.StringIO(newline="")
+    csv.writer(text, lineterminator="\r\n").writerows([["a", "b"], *rows])
+    mended = [["1", "a\n. \nb"], ["2", "\n. \r\n. \n"], *rows[2:4], ["5", "x" * 254 + "\n"]]
+    expect(there_and_back(text.getvalue(), "--key", "a", "--mend-points", "--cut", "b"), [["a", "b"], *mended])
+
+
+def csv_sums_are_exact():
+    """Decimals as ints of hundredths: their sum is that of the decimals."""
+    given = "day,price\n" + "".join(f"{n},{n // 7 - 40}.{n % 100:02}\n" for n in range(1500))
+    status, script, _ = from_csv(given, "--key", "day", "--scale", "price=2", "--index", "all", "on price include price")
+    expect(status, 0)
+    total = sum((abs(n // 7 - 40) * 100 + n % 100) * (-1 if n // 7 - 40 < 0 else 1) for n in range(1500))
+    status, text, _ = to_csv(script + "sums all 1 price\ngo\n")
+    rows = read(text)
+    expect((status, rows[0]), (0, ["price", "count", "price_2"]))
+    expect((sum(int(row[2]) for row in rows[1:]), sum(int(row[1]) for row in rows[1:])), (total, 1500))
+
+
+def help_of_from_csv_can_be_followed():
+    """The lines of its help, in a folder with examples/cities.csv."""
+    lines = run("tools/from_csv", "--help")[1].split("the answer:\n")[1].split("\nThe separator")[0]
+    with tempfile.TemporaryDirectory() as folder:
+        for name in ("bin", "tools", "crates", "crates.txt", "examples/cities.csv"):
+            (Path(folder) / Path(name).name).symlink_to(TOP / name)
+        ended = subprocess.run(["sh", "-ec", lines], cwd=folder, capture_output=True, text=True, timeout=50)
+    expect((ended.returncode, ended.stderr.count("id:int city:text qty:int")), (0, 2))
+    cities = read((TOP / "examples/cities.csv").read_text())
+    sums = [f"sum 1 {row[2]} {row[0]}" for row in cities[1:]]
+    expect(ended.stdout.split("loaded 12\n")[1].split("id,city,qty\n")[0].splitlines(), [*sums, "sums 12"])
+    expect(read("id,city,qty\n" + ended.stdout.split("id,city,qty\n")[1]), cities)
+
+
+def csv_tools_end_quietly_where_the_reader_goes_away():
+    """More than a pipe holds, of which the first line is read."""
+    given = "a,b\n" + "".join(f"{n},{'x' * 200}\n" for n in range(3000))
+    with tempfile.TemporaryDirectory() as folder:
+        path, script = Path(folder) / "a.csv", Path(folder) / "script"
+        path.write_text(given)
+        script.write_text(run("tools/from_csv", str(path), "--key", "a")[1] + "scan primary\ngo\n")
+        for words in (["tools/from_csv", str(path), "--key", "a"], ["tools/to_csv", str(script)]):
+            with subprocess.Popen([TOP / words[0], *words[1:]], stdout=subprocess.PIPE, stderr=subprocess.PIPE) as process:
+                process.stdout.readline()
+                process.stdout.close()
+                errors = process.stderr.read().decode()
+            expect("BrokenPipe" in errors or "Traceback" in errors, False)
+
+
+# Those that ask for no program.
+TESTS_OF_TEXTS = [
+    from_csv_finds_what_a_file_is,
+    from_csv_makes_names_of_titles,
+    from_csv_says_what_became_of_the_sales,
+    from_csv_refuses_what_cannot_be_loaded,
+    from_csv_wants_right_words,
+    from_csv_warns_of_quotes_that_look_broken,
+    from_csv_makes_scripts_of_64_mebibytes_and_no_byte_more,
+    from_csv_shows_progress_at_a_terminal_only,
+    to_csv_takes_replies_from_a_file,
+    to_csv_names_no_two_columns_alike,
+    to_csv_finds_replies_that_are_not_those_of_the_script,
+]
+
+TESTS = [
+    to_csv_wants_right_words,
+    from_csv_takes_one_record_of_each_key,
+    csv_comes_back_as_it_was,
+    csv_of_sqlite3_comes_back,
+    csv_with_lines_of_a_point_comes_back_mended,
+    csv_sums_are_exact,
+    help_of_from_csv_can_be_followed,
+    csv_tools_end_quietly_where_the_reader_goes_away,
+]

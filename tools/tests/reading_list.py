@@ -1,0 +1,248 @@
+"""Tests of tools/reading_list."""
+
+import tempfile
+from pathlib import Path
+
+from common import expect, expect_within, run, TOP
+
+
+# Two crates, and a function `answer` with the clauses from which the list begins. No definition named `unused` counts.
+LISTED = {
+    "crates.txt": "# Two crates.\nupper: lower\nlower: csv\n",
+    "docs/PROOFS.md": "Before.\n\n<!-- reading list -->\nold\n<!-- end of the reading list -->\n\nBehind.\n",
+    "crates/upper/src/run.rt": """ghost use Rattle.std.specs.Prelude.{◌≡◌, IfOk};
+ghost use Rattle.upper.specs.Answers.{answer_of, unused};
+ghost use Rattle.lower.specs.Weights as spec;
+
+use lower::{LIMIT, Merge};
+use std::io::Read;
+
+fn helper(step: u8) -> bool
+    ensures { unused step ≡ 1 }
+{
+    true
+}
+
+pub fn answer<R: Read, V: Merge>(
+    reader: &mut R,
+    unused: V,
+) -> Result<u64, Refusal>
+    requires { spec.weight_of unused ≡ LIMIT } // spec.unused
+    ensures found { IfOk result (λ more. more ≡ answer_of V.merged (R.remaining reader.old)) }
+{
+    Ok(0)
+}
+""",
+    "crates/upper/specs/Answers.antt": """use Rattle.std.specs.Prelude.{ℕ, zero, List, [], ◌∷◌, ◌+◌, if◌then◌else◌, Bool, true, codes}
+use Rattle.lower.specs.Shown.{weight_of as weight}
+use Rattle.lower.specs.declared.item.Kind.{Kind}
+use Rattle.lower.specs.declared.item.Kind.TheVariants as kind
+use Rattle.upper.specs.Holds.{Held, with_step}
+
+module _ {X : Type 0} (entry : X → ℕ)
+    (base : Held) where
+  -- an answer, and not `unused`
+  abbrev pub answer_of : List X → ℕ
+  answer_of [] = (with_step base).unused
+  answer_of (unused ∷ rest) = if check unused then entry unused + answer_of rest else total rest
+    where
+      check : X → Bool
+      check step = is_light (entry step)
+
+  abbrev pub total : List X → ℕ
+  total xs = zero {- unused -}
+
+abbrev pub is_light : ℕ → Bool
+is_light n = elim (weight n) [ zero ↦ is_kind kind.Light (codes "unused") | unused ↦ is_kind kind.Heavy unused ]
+
+abbrev pub is_kind : Kind → ℕ → Bool
+is_kind kind.Light n = true
+is_kind kind.Heavy n = let unused = is_light n in unused
+
+abbrev pub unused : ℕ → ℕ
+unused n = n
+""",
+    "crates/upper/specs/Holds.antt": """use Rattle.std.specs.Prelude.{ℕ, zero, ◌≡◌}
+use Rattle.lower.specs.Shown.{Row}
+use Rattle.lower.specs.declared.item.TheConstants.{MOST}
+
+pub record Held : Type 0 where
+  pub row : Row
+  pub unused : ℕ
+  pub same : unused ≡ MOST
+
+abbrev pub with_step : Held → Held
+with_step held = record held { unused = (λ unused. unused) held.unused }
+
+abbrev pub unused : ℕ
+unused = zero
+""",
+    "crates/lower/specs/Shown.antt": "pub use Rattle.lower.specs.Weights.{Row, weight_of}\n",
+    "crates/lower/specs/Weights.antt": """use Rattle.std.specs.Prelude.{ℕ, suc}
+use Rattle.csv.specs.Reading.{records}
+
+abbrev mutual
+  pub weight_of : ℕ → ℕ
+  weight_of n = more n
+
+  pub more : ℕ → ℕ
+  more n = suc (total n)
+
+pub data Row : Type 0 where
+  Short : Cell → Row
+  Long : (unused : ℕ) → Row
+
+pub data Side : Type 0 where
+  Left : Side
+
+abbrev pub Cell : Type 0
+Cell = records
+
+abbrev pub total : ℕ → ℕ
+total unused = unused
+
+abbrev pub unused : ℕ
+unused = suc 0
+""",
+    "crates/lower/specs/Texts.antt": "use Rattle.std.specs.Prelude.{ℕ}\nabbrev pub Letters : Type 0\nLetters = ℕ\n",
+    "crates/lower/src/lib.rt": "pub use item::{Kind, LIMIT};\npub use merge::{Merge, Ordered};\n",
+    "crates/lower/src/merge.rt": "pub trait Merge {\n    type Delta;\n    ghost merged: { Self → Self.Delta };\n}\npub trait Ordered: Merge + Drop {\n    ghost unused: { Self };\n}\n",
+    "crates/lower/src/item.rt": """use crate::text::Text;
+pub const LIMIT: u64 = 4; // Unused
+pub const MOST: u64 = 5;
+pub enum Kind { Light, Heavy(Text, u8), Unused { text: Text } }
+pub struct Unused;
+""",
+    "crates/lower/src/text.rt": """pub struct Text { bytes: Unused }
+impl Model for Text {
+    ghost use Rattle.lower.specs.Texts.{Letters};
+    ghost Value = { Letters };
+}
+pub struct Unused;
+""",
+}
+
+LIST = """12 definitions in 4 files, as `tools/reading_list` finds them from the clauses of `answer`, in reading order:
+
+- `lower/specs/Texts`: `Letters`
+- `lower/specs/Weights`: `weight_of`, `more`, `Row`, `Cell`, `total`
+- `upper/specs/Holds`: `Held`, `with_step`
+- `upper/specs/Answers`: `answer_of`, `total`, `is_light`, `is_kind`
+
+Types and constants of the program that these name, or that their fields have:
+
+- `lower/src/item`: `Kind`, `LIMIT`, `MOST`
+- `lower/src/merge`: `Merge`
+- `lower/src/text`: `Text`
+
+Of the libraries:
+
+- `csv`, Reading: `records`
+- `std`, Prelude: `Bool`, `IfOk`, `List`, `[]`, `codes`, `if◌then◌else◌`, `suc`, `true`, `zero`, `ℕ`, `◌+◌`, `◌∷◌`, `◌≡◌`
+- `std`, io: `Read.remaining`
+"""
+
+
+def reading_list(*words, file="crates.txt", old="", new=""):
+    """The status, output and errors of tools/reading_list on the two crates, with a text of a file changed, and the document then."""
+    with tempfile.TemporaryDirectory() as folder:
+        for name, text in LISTED.items():
+            path = Path(folder) / name
+            path.parent.mkdir(parents=True, exist_ok=True)
+            path.write_text(text)
+        expect_within(old, LISTED[file])
+        (Path(folder) / file).write_text(LISTED[file].replace(old, new))
+        ended = run("tools/reading_list", "--top", folder, *words, "upper/src/run.rt:answer")
+        return *ended, (Path(folder) / "docs/PROOFS.md").read_text()
+
+
+def listed_in_proofs():
+    """The list in docs/PROOFS.md."""
+    return (TOP / "docs/PROOFS.md").read_text().split("<!-- reading list -->\n")[1].split("<!-- end of the reading list -->")[0]
+
+
+def reading_list_is_that_of_the_document():
+    status, text, errors = run("tools/reading_list")
+    expect((status, errors), (0, ""))
+    expect(listed_in_proofs().strip().splitlines(), text.strip().splitlines())
+
+
+def lines_of_the_reading_list_are_at_most_160_letters_long():
+    expect([line for line in listed_in_proofs().splitlines() if len(line) > 160], [])
+
+
+def reading_list_follows_each_form_of_a_name():
+    """Fields, constructors, blocks, helpers, names passed on, renamed or behind a module, ghost members, models; and no bound name."""
+    status, text, errors, _ = reading_list()
+    expect((status, errors), (0, ""))
+    expect(text.strip().splitlines(), LIST.strip().splitlines())
+
+
+def reading_list_finds_a_changed_definition():
+    """Each of these changes one name, and with it the list."""
+    answers, weights = "crates/upper/specs/Answers.antt", "crates/lower/specs/Weights.antt"
+    listed = "- `lower/specs/Weights`: `weight_of`, `more`, `Row`, `Cell`, `total`\n"
+    for file, old, new, expected in (
+        ("crates/upper/src/run.rt", "≡ LIMIT", "≡ spec.unused", listed.replace("\n", ", `unused`\n")),
+        ("crates/upper/src/run.rt", "spec.weight_of unused ≡ LIMIT", "unused ≡ spec.total", listed),
+        ("crates/upper/specs/Holds.antt", "pub row : Row", "pub row : ℕ", listed.replace(" `Row`, `Cell`,", "")),
+        ("crates/lower/src/text.rt", "Value = { Letters }", "Value = { Letters × Texts }", None),
+        ("crates/lower/specs/Shown.antt", ", weight_of}", "}", None),
+        (answers, "total xs = zero", "total xs = unused (λ unused. weight)", "`is_kind`, `unused`\n"),
+        (answers, "total xs = zero", "total xs = (λ unused. zero, unused)", "`is_kind`, `unused`\n"),
+        (answers, "check step = is_light (entry step)", "check step = true", "- `upper/specs/Answers`: `answer_of`, `total`\n"),
+        (answers, "else total rest", "else totals rest", None),
+        (weights, "suc (total n)", "suc n", listed.replace(", `total`", "")),
+        (weights, "suc (total n)", "unused", listed.replace("total", "unused")),
+        (weights, "suc (total n)", "Left", "`Row`, `Side`, `Cell`\n"),
+        (weights, "  more n", "  unfolding unused\n  more n", listed.replace("\n", ", `unused`\n")),
+        (weights, "Short : Cell", "Short : Row", listed.replace("`Cell`, ", "")),
+        (weights, "Cell = records", "Cell = (unused : Row) × weight_of unused", listed),
+    ):
+        status, text, errors, _ = reading_list(file=file, old=old, new=new)
+        expect(status, 0 if expected else 1)
+        expect_within(expected or "reading_list: ", text + errors)
+
+
+def reading_list_follows_a_member_to_the_trait_above():
+    run_file = "crates/upper/src/run.rt"
+    source = LISTED[run_file]
+    changed = source.replace("V: Merge", "V: Ordered").replace("{LIMIT, Merge}", "{LIMIT, Ordered}")
+    status, text, errors, _ = reading_list(file=run_file, old=source, new=changed)
+    expect((status, errors), (0, ""))
+    expect(text.strip().splitlines(), LIST.strip().splitlines())
+
+
+def reading_list_names_what_nothing_explains():
+    status, text, errors, _ = reading_list(file="crates/lower/specs/Weights.antt", old="suc (total n)", new="suc (totals n)")
+    expect((status, text, errors), (1, "", "reading_list: lower/specs/Weights: more: nothing explains totals\n"))
+
+
+def reading_list_names_two_definitions_of_one_name():
+    status, text, errors, _ = reading_list("--doubles")
+    expect((status, errors, text.splitlines()[0]), (1, "", "total: lower/specs/Weights, upper/specs/Answers"))
+    status, text, errors, _ = reading_list("--doubles", file="crates/lower/specs/Weights.antt", old="total", new="count")
+    expect((status, text.splitlines()), (0, ["0 names stand for two definitions"]))
+
+
+def reading_list_is_put_between_its_two_lines():
+    status, text, errors, document = reading_list("--write")
+    expect((status, text, errors), (0, "", ""))
+    expect(document, f"Before.\n\n<!-- reading list -->\n\n{LIST}\n<!-- end of the reading list -->\n\nBehind.\n")
+    status, text, errors, document = reading_list("--write", file="docs/PROOFS.md", old="<!-- end", new="<!-- the end")
+    expect((status, "old" in document), (1, True))
+
+
+# Those that ask for no program.
+TESTS_OF_TEXTS = [
+    reading_list_is_that_of_the_document,
+    lines_of_the_reading_list_are_at_most_160_letters_long,
+    reading_list_follows_each_form_of_a_name,
+    reading_list_finds_a_changed_definition,
+    reading_list_follows_a_member_to_the_trait_above,
+    reading_list_names_what_nothing_explains,
+    reading_list_names_two_definitions_of_one_name,
+    reading_list_is_put_between_its_two_lines,
+]
+
+TESTS = []
