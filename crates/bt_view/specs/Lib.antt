@@ -1,4 +1,6 @@
 pub mod inside
 pub mod Groups
 pub mod Images
+pub mod Lists
 pub mod Ranges
+pub mod RecordTexts

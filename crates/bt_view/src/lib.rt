@@ -10,8 +10,10 @@ mod range;
 mod shown;
 mod tree_image;
 mod view;
+mod visitors;
 
 pub use groups::Sum;
 pub use number::write_number;
 pub use range::KeyRange;
 pub use view::{image, scan, scan_alone, sums, sums_alone};
+pub use visitors::{RecordText, RowList};

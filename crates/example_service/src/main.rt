@@ -1,0 +1,169 @@
+//! A service on the library: it counts hits of pages by batches of upserts, builds an index of them in steps between the batches, and reads both trees.
+#![tactic(auto)]
+
+use anyhow::Result;
+use bt_fanout::IndexDef;
+use bt_gang::{Crew, NoGate};
+use bt_node::Shape;
+use bt_rowtype::{
+    Column, Columns, Item, Kind, RecordLine, Refusal, Row, Schema, Text, Texts, ValueRef,
+};
+use bt_table::{Reply, Table};
+use bt_view::{RecordText, RowList, scan};
+use std::alloc::{AllocError, Global};
+use std::sync::Wait;
+use std::thread::Threads;
+use thiserror::Error;
+
+// Hits of pages in the order in which they came, each as the record of its key: a page and a day.
+const FIRST: &[&str] = &["home,1", "shop,1", "home,1", "about,2"];
+
+const SECOND: &[&str] = &["shop,1", "home,1", "home,2", "shop,1"];
+
+const THIRD: &[&str] = &["about,2", "docs,3"];
+
+/// Why the service gives up.
+#[derive(Debug, Drop, Error)]
+enum Fault {
+    #[error("refused {} {}", .0.number(), .0.name())]
+    Refused(#[from] Refusal),
+    #[error("a line in which no record stands")]
+    NoRecord,
+    #[error(transparent)]
+    Memory(#[from(alloc)] AllocError),
+}
+
+/// A table of hits with an index, and who works on it.
+#[derive(Drop)]
+struct Service {
+    alloc: Global,
+    crew: Crew<NoGate>,
+    table: Table,
+    rows: Text,
+    index: Text,
+}
+
+// An empty table, whose key is a page and a day.
+fn new_table(alloc: Global) -> Result<Table, Fault> {
+    let mut columns = Columns::new(alloc);
+    for (name, kind) in [
+        ("page", Kind::Text),
+        ("day", Kind::Int),
+        ("hits", Kind::Int),
+    ] {
+        let name = Text::new(alloc, name)?;
+        columns.push(Column { name, kind })?;
+    }
+    let schema = Schema::new(columns, 2)?;
+    Ok(Table::new(alloc, schema, Shape::new(16, 1024, 256)?))
+}
+
+fn record(line: &str) -> Result<RecordLine<'_>, Fault> {
+    RecordLine::new(line.as_bytes()).ok_or(Fault::NoRecord)
+}
+
+// The hits in a row of the table, its third value.
+fn hits_in(row: &Row) -> i64 {
+    if row.len() < 3 {
+        return 0;
+    }
+    match row.get(2) {
+        ValueRef::Int(hits) => hits,
+        _ => 0,
+    }
+}
+
+impl Service {
+    fn new(alloc: Global) -> Result<Self, Fault> {
+        Ok(Service {
+            alloc,
+            crew: Crew::new(2, 2, 64, NoGate)?,
+            table: new_table(alloc)?,
+            rows: Text::new(alloc, "primary")?,
+            index: Text::new(alloc, "by_hits")?,
+        })
+    }
+
+    // Applies one batch, in which each event adds one to the hits of its key.
+    fn count<R: Threads + Wait + Sync>(&mut self, rt: &R, events: &[&str]) -> Result<(), Fault> {
+        let alloc = self.alloc;
+        let mut lines = Vec::new(alloc);
+        for event in events {
+            lines.push(format!(in alloc; "{event},add,hits,1")?)?;
+        }
+        let mut items = Vec::new(alloc);
+        for line in &lines {
+            items.push(Item::Ups(record(line.as_str())?))?;
+        }
+        self.table.apply(rt, alloc, items.as_slice(), &self.crew)?;
+        Ok(())
+    }
+
+    // Creates the index, which covers no row yet.
+    fn create_index(&mut self) -> Result<(), Fault> {
+        let alloc = self.alloc;
+        let mut on = Texts::new(alloc);
+        on.push("hits")?;
+        let include = Texts::new(alloc);
+        let def = IndexDef::new(alloc, self.table.schema()?, &on, &include, None)?;
+        let name = self.index.copy(alloc)?;
+        self.table.create_index(alloc, name, def)?;
+        Ok(())
+    }
+
+    // One step of building: reads the next two rows, where a service would take thousands, and says whether the index is complete.
+    fn build_more<R: Threads + Wait + Sync>(&mut self, rt: &R) -> Result<bool, Fault> {
+        let (index, crew) = (&self.index, &self.crew);
+        let reply = self.table.build_step(rt, self.alloc, index, 2, crew)?;
+        Ok(matches!(reply, Reply::Built { complete: true, .. }))
+    }
+
+    // The hits of a page on a day.
+    fn hits(&self, key: &str) -> Result<i64, Fault> {
+        match self.table.get(self.alloc, &record(key)?)? {
+            Reply::Row(Some(row)) => Ok(hits_in(&row)),
+            _ => Ok(0),
+        }
+    }
+
+    // The records of the index from so many hits on: the hits, the page and the day.
+    fn busiest<R: Threads + Wait + Sync>(&self, rt: &R, from: &str) -> Result<RecordText, Fault> {
+        let (alloc, table, index, crew) = (self.alloc, &self.table, &self.index, &self.crew);
+        let from = record(from)?;
+        let text = RecordText::new(alloc);
+        Ok(scan(rt, alloc, table, index, Some(&from), None, text, crew)?)
+    }
+
+    // All rows.
+    fn all<R: Threads + Wait + Sync>(&self, rt: &R) -> Result<RowList, Fault> {
+        let (alloc, table, rows, crew) = (self.alloc, &self.table, &self.rows, &self.crew);
+        let list = RowList::new(alloc);
+        Ok(scan(rt, alloc, table, rows, None, None, list, crew)?)
+    }
+}
+
+fn serve<R: Print + AllocGlobal + Threads + Wait + Sync>(rt: &R) -> Result<()> {
+    let alloc = rt.alloc();
+    let mut service = Service::new(alloc)?;
+    service.count(rt, FIRST)?;
+    service.create_index()?;
+    for events in [SECOND, THIRD] {
+        println!(rt; "index complete: {}", service.build_more(rt)?)?;
+        service.count(rt, events)?;
+    }
+    println!(rt; "index complete: {}", service.build_more(rt)?)?;
+    println!(rt; "hits of home on day 1: {}", service.hits("home,1")?)?;
+    let text = service.busiest(rt, "2")?;
+    print!(rt; "{}", String::from_utf8_lossy(alloc, text.as_bytes())?)?;
+    let list = service.all(rt)?;
+    let mut total: i64 = 0;
+    for row in list.as_slice() {
+        total = total.saturating_add(hits_in(row));
+    }
+    println!(rt; "{} rows, {total} hits", list.as_slice().len())?;
+    Ok(())
+}
+
+fn main(rt: HostRuntime) -> Result<()> {
+    serve(&rt)
+}
