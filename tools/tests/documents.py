@@ -1,0 +1,403 @@
+"""Tests of the documents: their lines, links, names and numbers, the scripts and shell lines in them, and the pictures of docs/TOUR.md."""
+
+import re
+import shutil
+import subprocess
+import tempfile
+import xml.etree.ElementTree as xml
+from functools import cache
+from pathlib import Path
+
+from common import expect, expect_within, imported, replies, run, structure, TOP
+
+PAGES = [Path("README.md"), *sorted(path.relative_to(TOP) for folder in ("docs", "bench") for path in (TOP / folder).glob("*.md")), Path("examples/README.md")]
+MEASURES = Path("bench/RESULTS.md")
+
+
+def text_of(page):
+    return (TOP / page).read_text()
+
+
+def prose_of(page):
+    """A page without its blocks of code."""
+    return "".join(text_of(page).split("```")[::2])
+
+
+def section(page, title):
+    """What stands below a heading, up to the next one of its level or a higher one."""
+    level = title.split(" ")[0]
+    behind = text_of(page).split(f"\n{title}\n", 1)[1]
+    return re.split(rf"^#{{1,{len(level)}}} ", behind, maxsplit=1, flags=re.MULTILINE)[0]
+
+
+def rows(text):
+    """The cells of each row of the tables of a text, without their heads. An empty first cell is that of the row above."""
+    found = []
+    for line in re.sub(r"^\|.*\n\|[-|]+\|$", "", text, flags=re.MULTILINE).splitlines():
+        if line.startswith("|"):
+            cells = [cell.strip() for cell in re.split(r"(?<!\\)\|", line)[1:-1]]
+            found.append([cells[0] or found[-1][0], *cells[1:]])
+    return found
+
+
+def quoted(text):
+    """What stands in backticks, also over the end of a line."""
+    return [" ".join(name.split()) for name in re.findall(r"`([^`]+)`", text)]
+
+
+# ---- lines and paragraphs ----
+
+
+def lines_of_the_documents_are_at_most_160_letters_long():
+    expect([f"{page}:{number}" for page in PAGES for number, line in enumerate(text_of(page).splitlines(), 1) if len(line) > 160], [])
+
+
+def paragraphs(text):
+    """The paragraphs of a text, each a list of its lines: no tables, no blocks, and each item of a list its own."""
+    outside = "".join(text.split("```")[::2])
+    for part in re.split(r"\n\s*\n|\n(?= *(?:- |\d+\. ))", outside):
+        lines = [line for line in part.splitlines() if line and not line.startswith(("|", "#"))]
+        if lines:
+            yield lines
+
+
+def paragraphs_of_the_documents_have_at_most_eight_lines():
+    """But those of the measures, which are as they were told."""
+    expect([f"{page}: {lines[0]}" for page in PAGES if page != MEASURES for lines in paragraphs(text_of(page)) if len(lines) > 8], [])
+
+
+def a_paragraph_ends_where_the_next_one_begins():
+    given = "# Title\na\nb\n\n- c\n  d\n- e\n1. f\n| g |\n```text\nh\n```\ni\n"
+    expect(list(paragraphs(given)), [["a", "b"], ["- c", "  d"], ["- e"], ["1. f"], ["i"]])
+
+
+def decisions_are_numbered():
+    parts = list(paragraphs(text_of("docs/DECISIONS.md")))[1:]
+    numbers = [re.match(r"\*\*(\d+)\. \S", lines[0]) for lines in parts]
+    expect([lines[0] for lines, number in zip(parts, numbers) if number is None], [])
+    expect(sorted(int(number[1]) for number in numbers), list(range(1, len(parts) + 1)))
+
+
+# ---- links and names ----
+
+
+def anchors(page):
+    """The fragments by which the headings of a page are linked."""
+    titles = re.findall(r"^#+ (.*)$", prose_of(page), re.MULTILINE)
+    return ["#" + re.sub(r"[^\w -]", "", title.lower()).replace(" ", "-") for title in titles]
+
+
+def faulty_links(page, text):
+    """The links of a page that lead to no file, or to no heading of a page."""
+    faults = []
+    for link in re.findall(r"\]\(([^)\s]+)\)", text):
+        path, _, heading = link.partition("#")
+        target = (TOP / page).parent / path if path else TOP / page
+        if not target.exists() or (heading and "#" + heading not in anchors(target)):
+            faults.append(f"{page}: {link}")
+    return faults
+
+
+def links_of_the_documents_lead_to_what_is_there():
+    expect([fault for page in PAGES for fault in faulty_links(page, prose_of(page))], [])
+
+
+def faulty_links_are_found():
+    good = "[a](SCRIPT.md#buffers-in-bytes) [b](../bench/RESULTS.md) [c](#tour) [d](../examples) ![e](flush.svg)"
+    expect(faulty_links("docs/SCRIPT.md", good.replace("#tour", "#limits")), [])
+    faulty = ["SCRIPT.md#buffers", "RESULTS.md", "#tour", "../examples/none"]
+    expect(faulty_links("docs/SCRIPT.md", " ".join(f"[x]({link})" for link in faulty)), [f"docs/SCRIPT.md: {link}" for link in faulty])
+
+
+def each_page_is_linked_from_the_readme():
+    linked = {path for _, path in re.findall(r"\[([^\]]+)\]\(([^)#]+)\)", section("README.md", "## Where to go from here"))}
+    expect([str(page) for page in PAGES if page.parent == Path("docs") and str(page) not in linked], [])
+
+
+# Folders of the repository, and those of a crate.
+FOLDERS = ("bench", "bin", "crates", "docs", "examples", "tools")
+PARTS = ("src", "specs", "proofs", "must-fail")
+# Of what is in these folders the repository has nothing.
+MADE = ("out", "out/betable")
+
+
+@cache
+def is_there(path):
+    """A path from the top, or one of a crate, whose files may stand without their endings. NAME is any name."""
+    if path.split("/", 2)[-1] in MADE:
+        return True
+    pattern = path.replace("NAME", "*").rstrip("/")
+    places = [pattern, f"crates/{pattern}", f"crates/*/{pattern}"] if not pattern.startswith(FOLDERS) else [pattern]
+    return any(any(TOP.glob(place + ending)) for place in places for ending in ("", ".rt", ".antt"))
+
+
+def paths(text):
+    """The words in backticks that begin as a path of the repository or of a crate, and paths of crates that stand without backticks."""
+    words = [word.strip("'\",;:()") for name in quoted(text) for word in name.split()]
+    begin = tuple(f"{folder}/" for folder in (*FOLDERS, *PARTS)) + ("bt_",)
+    marked = [word for word in words if "/" in word and word.startswith(begin)]
+    return marked + re.findall(r"\bbt_\w+/(?:src|specs|proofs)(?:/\w+)*(?:\.rt)?", text) + re.findall(r"(?<![\w/])(?:specs|proofs)/[A-Z]\w+", text)
+
+
+def paths_in_the_documents_are_there():
+    expect([f"{page}: {path}" for page in PAGES for path in paths(prose_of(page)) if not is_there(path)], [])
+    expect([is_there(path) for path in ("tools/none", "bt_node/src/none.rt", "specs/None", "crates/*/must-not", "examples/NAME.none")], [False] * 5)
+    expect(len([path for page in PAGES for path in paths(prose_of(page))]) > 200, True)
+
+
+def functions_stand_in_the_files_that_are_named_behind_them():
+    """As `name` (crate, file.rt), or `name` (file.rt) of some crate."""
+    found, faults = 0, []
+    for page in PAGES:
+        for name, crate, file in re.findall(r"`([\w:]+)`\s\((?:(bt_\w+),\s)?(\w+\.rt)\)", prose_of(page)):
+            word = re.compile(rf"\b{name.split('::')[-1]}\b")
+            files = list(TOP.glob(f"crates/{crate or '*'}/src/{file}"))
+            found += 1
+            faults += [f"{page}: {name} ({file})"] if not any(word.search(path.read_text()) for path in files) else []
+    expect((faults, found > 40), ([], True))
+
+
+# ---- ARCHITECTURE ----
+
+
+def file_of(crate, name):
+    return TOP / name if crate == "none" else TOP / "crates" / crate.strip("`") / (name + (".antt" if name.startswith("specs/") else ""))
+
+
+def what_to_change_stands_in_its_files():
+    """Each file of a row has a name of the row, each name stands in a file of it, and a row has at most three files."""
+    table = rows(section("docs/ARCHITECTURE.md", "## Where to change what"))
+    expect(len(table) > 40, True)
+    for crate, change, files in table:
+        names = [name for part in re.findall(r"\(([^)]*)\)", change) for name in quoted(part)]
+        texts = [file_of(crate, name).read_text() for name in quoted(files)]
+        found = [[bool(re.search(rf"\b{name}\b", text)) for name in names] for text in texts]
+        expect((change, 1 <= len(texts) <= 3, bool(names)), (change, True, True))
+        expect((change, [any(row) for row in found]), (change, [True] * len(texts)))
+        expect((change, [any(column) for column in zip(*found)]), (change, [True] * len(names)))
+
+
+def crates_below():
+    """Of each crate of the program those right below it: on which it stands, and none of the others of these does."""
+    lines = [line for line in (TOP / "crates.txt").read_text().splitlines() if not line.startswith("#")]
+    below = {crate: {name for name in names.split() if name.startswith("bt_")} for crate, names in (line.split(":") for line in lines)}
+    below = {crate: names for crate, names in below.items() if crate.startswith("bt_") or crate == "betable"}
+
+    def reached(crate):
+        return set().union(*({name} | reached(name) for name in below[crate]))
+
+    return {crate: {name for name in names if not any(name in reached(other) for other in names)} for crate, names in below.items()}
+
+
+def crates_stand_as_the_architecture_says():
+    text, below = text_of("docs/ARCHITECTURE.md"), crates_below()
+    table = rows(text.split("\n## ")[0])
+    expect({quoted(crate)[0]: set(quoted(over)) for crate, over, _ in table}, below)
+    graph = text.split("```text\n")[1].split("```")[0]
+    expect(set(re.findall(r"\w+", graph)), set(below))
+    arrows = re.findall(r"(?=\b(\w+) (?:─*→|→) (\w+))", graph)
+    expect([pair for pair in arrows if pair[1] not in below[pair[0]]], [])
+
+
+# ---- what stands on two pages, or in a page and in the repository ----
+
+
+def the_sentence_is_the_same_on_both_pages():
+    sentences = [" ".join(re.findall(r"^> (.*)$", text_of(page), re.MULTILINE)) for page in ("README.md", "docs/VERIFYING.md")]
+    expect(sentences[0].split(), sentences[1].split())
+    expect_within("the bytes written are those of the plain table's run", sentences[0])
+
+
+def the_measures_of_the_readme_are_those_of_the_results():
+    told = {quoted(row[0])[0]: row[1:] for row in rows(section("README.md", "## Measures"))}
+    measured = {}
+    for row in rows(section(MEASURES, "## Beside other programs")):
+        measured.setdefault(quoted(row[0])[0], row[4:7])
+    expect(told, {name: measured[name] for name in told})
+    expect(len(told) >= 6, True)
+
+
+def definitions_stand_where_the_page_says():
+    found = 0
+    for lines in paragraphs(section("docs/PROOFS.md", "## Where the definitions stand")):
+        crate, *names = quoted(" ".join(lines))
+        for name in names:
+            if crate.startswith("bt_") and re.fullmatch(r"[A-Z][a-z]+", name):
+                expect((crate, name, (TOP / f"crates/{crate}/specs/{name}.antt").exists()), (crate, name, True))
+                found += 1
+    expect(found > 40, True)
+
+
+def recipes_are_listed():
+    text = text_of("docs/HOW_TO.md")
+    expect(re.findall(r"^\| .*\]\((#.*)\) \|$", text.split("## ")[0], re.MULTILINE), anchors("docs/HOW_TO.md")[1:])
+
+
+def limits_of_the_document_are_those_of_the_model():
+    model = imported("tools/fuzz/model.py")
+    table = rows(section("docs/SCRIPT.md", "## Limits"))
+    number = lambda cell: int(re.match(r"-?[\d,]+", cell)[0].replace(",", ""))
+    found = {row[0]: (number(row[1]), number(row[2])) for row in table if len(row) == 3 and re.match(r"-?\d", row[1])}
+    ranges = {
+        "columns of a table": model.COLUMNS, "key columns, K": model.KEY_COLUMNS, "fanout of a tree, F": model.FANOUTS, "buffer, C, in messages": model.BUFFERS,
+        "buffer, C with a `b` behind it, in bytes": model.BUFFERS_IN_BYTES, "leaf of a tree, L, in rows": model.LEAVES,
+        "an `int`, which has 64 bits with a sign": range(model.LEAST_INT, model.GREATEST_INT + 1),
+        "bytes of a `text`, which is UTF-8": range(model.MOST_TEXT_BYTES + 1),
+        "messages of a batch": range(model.MOST_MESSAGES + 1), "operations of an upsert": range(1, model.MOST_OPERATIONS + 1),
+        "indexes of a table": range(model.MOST_INDEXES + 1), "columns of an index behind `on`": range(1, model.MOST_ON + 1),
+        "columns of an index behind `include`": range(1, model.MOST_INCLUDED + 1),
+    }  # fmt: skip
+    expect({name: found.get(name) for name in ranges}, {name: (values[0], values[-1]) for name, values in ranges.items()})
+    expect(found["bytes of a script"], (0, imported("tools/explain_words").MOST_BYTES))
+
+
+# ---- scripts ----
+
+
+def blocks(text):
+    return [part.split("```")[0] for part in text.split("```text\n")[1:]]
+
+
+def scripts(text):
+    """The scripts of a text, each with its replies in the block behind it."""
+    found = blocks(text)
+    return [(block, found[place + 1]) for place, block in enumerate(found) if re.match(r"table .*\w+:\w+\n", block)]
+
+
+def scripts_of_the_documents_give_their_replies():
+    shown = {str(page): scripts(text_of(page)) for page in PAGES}
+    expect([page for page in ("docs/SCRIPT.md", "docs/HOW_TO.md") if len(shown[page]) < 5] + [page for page in ("docs/TOUR.md",) if not shown[page]], [])
+    for page, pairs in shown.items():
+        for script, answer in pairs:
+            expect((page, replies(script)), (page, answer))
+
+
+TREES_OF_THE_TOUR = ("primary", "by_city")
+
+
+def steps_of_the_tour():
+    """Of each step of docs/TOUR.md its lines, its replies, and its picture with the trees that it shows."""
+    for step in text_of("docs/TOUR.md").split("\n## ")[1:]:
+        lines, answer = blocks(step)
+        picture = re.search(r"!\[The trees? (\w+)(?: and (\w+))?[^\]]*\]\((.*)\)", step)
+        yield lines, answer, picture[3] if picture else None, [name for name in picture.groups()[:2] if name] if picture else []
+
+
+def the_tour_gives_its_replies():
+    """All steps in one run, with the images of both trees behind each: a tree is shown behind each step that changes it."""
+    steps = list(steps_of_the_tour())
+    text = replies("".join(lines + "".join(f"image {name}\n" for name in TREES_OF_THE_TOUR) for lines, *_ in steps))
+    before = dict.fromkeys(TREES_OF_THE_TOUR)
+    for lines, answer, _, shown in steps:
+        expect((lines, text[: len(answer)]), (lines, answer))
+        text, now = text[len(answer) :], {}
+        for name in TREES_OF_THE_TOUR:
+            image = re.match(r"refused .*\n|image .*\n(?:.*\n)*?end\n", text)[0]
+            text, now[name] = text[len(image) :], image
+        expect((lines, shown), (lines, [name for name in now if now[name] != before[name] and now[name].startswith("image ")]))
+        before = now
+    expect(text, "")
+
+
+def pictures_of_the_tour_are_those_of_today():
+    script, shown = "", []
+    for lines, _, picture, trees in steps_of_the_tour():
+        script += lines
+        if picture:
+            with tempfile.TemporaryDirectory() as folder:
+                path = Path(folder) / "script"
+                path.write_text(script + "".join(f"image {name}\n" for name in trees))
+                status, text, errors = run("tools/draw", "--script", str(path))
+            expect((status, errors), (0, ""))
+            expect((picture, structure(xml.parse(TOP / "docs" / picture).getroot())), (picture, structure(xml.fromstring(text))))
+            shown.append(picture)
+    expect(sorted(shown), sorted(path.name for path in (TOP / "docs").glob("tour_*.svg")))
+
+
+def linked_repository(folder):
+    """The tools, the program and the CSV file of the examples below another folder, in which lines of a document leave their files."""
+    for name in ("bin", "tools", "crates", "crates.txt"):
+        (folder / name).symlink_to(TOP / name)
+    (folder / "examples").mkdir()
+    shutil.copy(TOP / "examples/cities.csv", folder / "examples")
+
+
+def shell_lines(page):
+    """The shell lines of a page, each with the replies that stand behind it before the next heading, if some do."""
+    for lines, behind in [part.split("```", 1) for part in text_of(page).split("```sh\n")[1:]]:
+        yield lines, next(iter(blocks(behind.split("\n## ")[0].split("```sh\n")[0])), None)
+
+
+def shell_lines_of_the_documents_do_what_they_say():
+    """Lines with replies behind them give these; those of the CSV file give its rows again, and the two commands of the README are not run."""
+    with_replies = 0
+    for page in ("README.md", "docs/HOW_TO.md"):
+        for lines, answer in shell_lines(page):
+            if answer is None and "bin/test" in lines:
+                continue
+            with tempfile.TemporaryDirectory() as folder:
+                linked_repository(Path(folder))
+                ended = subprocess.run(["sh", "-c", lines], cwd=folder, capture_output=True, text=True, timeout=50)
+                expect((ended.returncode, ended.stdout), (0, answer or ""))
+                if answer is None:
+                    expect((Path(folder) / "again.csv").read_text(), (TOP / "examples/cities.csv").read_text())
+                # What tools/from_csv chose.
+                told = [line for line in ended.stderr.splitlines() if not re.match(r"\d+ records, |  table ", line)]
+                expect((told, "from_csv" in lines or ended.stderr == ""), ([], True))
+                with_replies += answer is not None
+    expect(with_replies, 4)
+
+
+def a_csv_file_is_loaded():
+    """The lines of docs/HOW_TO.md: fields with quotes and line breaks, a last line without one, and 100,000 records."""
+    lines = section("docs/HOW_TO.md", "## A CSV file by hand").split("```sh\n")[1].split("```")[0]
+    with tempfile.TemporaryDirectory() as folder:
+        path = Path(folder)
+        linked_repository(path)
+
+        def loaded(records=None):
+            if records is not None:
+                (path / "examples/cities.csv").write_bytes(records)
+            return subprocess.run(["sh", "-c", lines], cwd=folder, capture_output=True, text=True, timeout=50).stdout
+
+        # That of the repository, by the rows that it has.
+        records = (TOP / "examples/cities.csv").read_text().splitlines()[1:]
+        expect((len(records) >= 12, any('"' in record for record in records)), (True, True))
+        expect_within("".join(f"  > row {record}\n" for record in records) + f"  > rows {len(records)}\n", loaded())
+        text = loaded(b'\xef\xbb\xbfid,city,qty\r\n3,"Oslo, west",30\r\n1,"the ""old"" town",10\r\n2,"line\nbreak",2')
+        seen = '  > row 1,"the ""old"" town",10\n  > row 2,"line\\x0abreak",2\n  > row 3,"Oslo, west",30\n  > rows 3\n'
+        expect_within("  > loaded 3\n", text)
+        expect_within(seen, text)
+        text = loaded(b"id,city,qty\n" + b"".join(b"%d,x,1\n" % (key * 7919 % 100_003) for key in range(100_000)))
+        expect_within("  > loaded 100000\n", text)
+        expect_within("  > rows 100000\n", text)
+        expect_within("14 DuplicateKey 2", loaded(b"id,city,qty\n1,x,1\n1,y,1\n"))
+
+
+# Those that ask for no program.
+TESTS_OF_TEXTS = [
+    lines_of_the_documents_are_at_most_160_letters_long,
+    paragraphs_of_the_documents_have_at_most_eight_lines,
+    a_paragraph_ends_where_the_next_one_begins,
+    decisions_are_numbered,
+    links_of_the_documents_lead_to_what_is_there,
+    faulty_links_are_found,
+    each_page_is_linked_from_the_readme,
+    paths_in_the_documents_are_there,
+    functions_stand_in_the_files_that_are_named_behind_them,
+    what_to_change_stands_in_its_files,
+    crates_stand_as_the_architecture_says,
+    the_sentence_is_the_same_on_both_pages,
+    the_measures_of_the_readme_are_those_of_the_results,
+    definitions_stand_where_the_page_says,
+    recipes_are_listed,
+    limits_of_the_document_are_those_of_the_model,
+]
+
+TESTS = [
+    scripts_of_the_documents_give_their_replies,
+    the_tour_gives_its_replies,
+    pictures_of_the_tour_are_those_of_today,
+    shell_lines_of_the_documents_do_what_they_say,
+    a_csv_file_is_loaded,
+]
