@@ -251,6 +251,11 @@ def limits_of_the_document_are_those_of_the_model():
     expect(found["bytes of a script"], (0, imported("tools/explain_words").MOST_BYTES))
 
 
+def workloads_of_the_benchmark_are_told():
+    told = {quoted(row[0])[0]: row[1] for row in rows(section("bench/README.md", "## Workloads"))}
+    expect(list(told), list(imported("bench/compare").WORKLOADS))
+
+
 # ---- scripts ----
 
 
@@ -392,6 +397,7 @@ TESTS_OF_TEXTS = [
     definitions_stand_where_the_page_says,
     recipes_are_listed,
     limits_of_the_document_are_those_of_the_model,
+    workloads_of_the_benchmark_are_told,
 ]
 
 TESTS = [
