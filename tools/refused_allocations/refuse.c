@@ -16,6 +16,7 @@
  *   NOTE_FILE          the file that gets a line wherever the program sets a mark for it: the bytes in use, and the numbers of
  *                      requests and starts so far; with this variable those are counted and refused only where the program
  *                      says so
+ *   ORDER_FILES        the numbers of two open files: at mark 0 orders are read from the first, and answered on the second
  *
  * A mark is a request for 2^62 bytes and the number of the mark, which is refused in any case:
  *
@@ -23,6 +24,11 @@
  *   1   from here on none is counted or refused; once one was refused, no later stretch has one refused
  *   2   from here on each request is refused, and counted apart: COUNT_FILE gets their number behind that of the starts
  *   3   a line is noted
+ *
+ * An order is three unsigned longs: a way to refuse (0 to 3, of the first four variables in their order), the number of what
+ * is refused, counted from the mark, and seconds. A program that has come to mark 0 writes an int, 0. For each order it forks a
+ * child, which goes on with that refused and is ended when the seconds are over, and writes the status of the child, an int. At
+ * an order of number 0, or where no more come, it goes on itself. So what stands before a mark is run once for all orders at it.
  */
 #define _GNU_SOURCE
 #include <dlfcn.h>
@@ -38,6 +44,7 @@
 #include <stdio.h>
 #include <stdlib.h>
 #include <sys/mman.h>
+#include <sys/wait.h>
 #include <unistd.h>
 
 /* The C library's own functions, by names that this file does not define. */
@@ -62,12 +69,21 @@ struct counts {
 /* What becomes of requests and starts. */
 enum stretch { COUNTED, LET_GO, REFUSED };
 
+/* What a child has refused: in which way, which, and within how many seconds it has to end. */
+struct order {
+    unsigned long way;
+    unsigned long number;
+    unsigned long seconds;
+};
+
 static struct counts own_counts;
 static struct counts *counts = &own_counts;
 static struct refusal of_requests = {ULONG_MAX, ULONG_MAX};
 static struct refusal of_starts = {ULONG_MAX, ULONG_MAX};
 static bool has_started;
 static int notes = -1;
+static int orders = -1;
+static int ends = -1;
 static atomic_int stretch = COUNTED;
 static atomic_bool has_refused;
 static atomic_long in_use;
@@ -107,6 +123,9 @@ __attribute__((constructor)) static void start(void)
             _exit(70);
         stretch = LET_GO;
     }
+    path = getenv("ORDER_FILES");
+    if (path != NULL && sscanf(path, "%d %d", &orders, &ends) != 2)
+        _exit(70);
     of_requests.at = number_in("REFUSE_AT");
     of_requests.from = number_in("REFUSE_FROM");
     of_starts.at = number_in("REFUSE_START_AT");
@@ -140,10 +159,35 @@ static void note(void)
         _exit(70);
 }
 
+/* Has a child refused what each order says, and waits for it. Returns in each child, and where no more are wanted here. */
+static void obey_orders(void)
+{
+    unsigned long *refused[] = {&of_requests.at, &of_requests.from, &of_starts.at, &of_starts.from};
+    struct order order;
+    int status = 0;
+    for (;;) {
+        if (write(ends, &status, sizeof status) != sizeof status)
+            _exit(70);
+        if (read(orders, &order, sizeof order) != sizeof order || order.number == 0)
+            return;
+        pid_t child = fork();
+        if (child == 0) {
+            orders = -1;
+            alarm((unsigned)order.seconds);
+            *refused[order.way] = (order.way < 2 ? counts->requests : counts->starts) + order.number;
+            return;
+        }
+        if (child < 0 || waitpid(child, &status, 0) != child)
+            _exit(70);
+    }
+}
+
 /* Does what a mark says. Once a stretch has ended in which something was refused, nothing more is. */
 static void obey(size_t mark)
 {
     if (mark == 0) {
+        if (orders >= 0)
+            obey_orders();
         stretch = COUNTED;
     } else if (mark == 1) {
         stretch = LET_GO;

@@ -1,14 +1,22 @@
 """What the tests share: running the tools, and comparing what they print."""
 
+import os
+import signal
 import subprocess
 import sys
 import tempfile
+import traceback
 import xml.etree.ElementTree as xml
+from functools import cache
 from importlib.machinery import SourceFileLoader
 from importlib.util import module_from_spec, spec_from_loader
 from pathlib import Path
 
 TOP = Path(__file__).resolve().parents[2]
+# What bin/betable runs once it is built. Where a test is of replies, or of what a tool says of them, it is started without bin/betable.
+PROGRAM = TOP / "crates/betable/out/betable"
+SECONDS = 200  # within which what is started has to end, also beside other tests
+sys.path.append(str(TOP / "tools"))
 SVG = "{http://www.w3.org/2000/svg}"
 TABLE = "table 4 3 2 1 id:int city:text qty:int"
 
@@ -27,16 +35,64 @@ def expect_within(part, whole):
         raise Failure(f"no {part!r} in {whole!r}")
 
 
-def run(*words, given=b"", folder=TOP, seconds=50):
+def run(*words, given=b"", folder=TOP, seconds=SECONDS):
     """The status, the standard output and the standard error of a command of the repository."""
     ended = subprocess.run([TOP / words[0], *words[1:]], input=given, capture_output=True, cwd=folder, timeout=seconds)
     return ended.returncode, ended.stdout.decode(), ended.stderr.decode()
 
 
+def run_forked(tool, *words, given=b""):
+    """What `run` gives of a tool in Python, from a child of this process, which has the tool's modules: to start Python would cost many times as much."""
+    code = code_of(tool)
+    with tempfile.TemporaryFile() as script, tempfile.TemporaryFile() as text, tempfile.TemporaryFile() as errors:
+        script.write(given)
+        script.seek(0)
+        child = os.fork()
+        if child == 0:
+            status = 1
+            try:
+                status = status_of(code, words, (script, text, errors))
+            finally:
+                os._exit(status)
+        status = os.waitstatus_to_exitcode(os.waitpid(child, 0)[1])
+        for file in (text, errors):
+            file.seek(0)
+        return status, text.read().decode(), errors.read().decode()
+
+
+@cache
+def code_of(tool):
+    """The code of a tool, whose modules are loaded with it."""
+    imported(tool)
+    return compile((TOP / tool).read_bytes(), TOP / tool, "exec")
+
+
+def status_of(code, words, streams):
+    """The status with which a tool ends in this process, on these words and streams, as if Python had been started on it."""
+    signal.alarm(SECONDS)
+    os.chdir(TOP)
+    for place, stream in enumerate(streams):
+        os.dup2(stream.fileno(), place)
+    sys.stdin, sys.stdout, sys.stderr = open(0), open(1, "w"), open(2, "w", errors="backslashreplace")
+    sys.argv = [code.co_filename, *map(str, words)]
+    status = 0
+    try:
+        exec(code, {"__name__": "__main__", "__file__": code.co_filename})
+    except SystemExit as ended:
+        status = ended.code
+    except BaseException:
+        traceback.print_exc()
+        status = 1
+    sys.stdout.flush()
+    sys.stderr.flush()
+    return status
+
+
 def replies(script):
-    status, text, errors = run("bin/betable", given=script.encode())
-    expect((status, errors), (0, ""))
-    return text
+    """Those of the program by itself, since there are many of them."""
+    ended = subprocess.run([PROGRAM], input=script.encode(), capture_output=True, timeout=SECONDS)
+    expect((ended.returncode, ended.stderr), (0, b""))
+    return ended.stdout.decode()
 
 
 def explained(script, *words):
@@ -44,14 +100,14 @@ def explained(script, *words):
     with tempfile.TemporaryDirectory() as folder:
         path = Path(folder) / "script"
         path.write_bytes(script if isinstance(script, bytes) else script.encode())
-        status, text, errors = run("tools/explain", *words, str(path))
+        status, text, errors = run_forked("tools/explain", "--program", PROGRAM, *words, path)
     expect(errors, "")
     return status, text.splitlines()
 
 
 def drawn(images, *words):
     """The picture of tools/draw for these replies."""
-    status, text, errors = run("tools/draw", *words, given=images.encode())
+    status, text, errors = run_forked("tools/draw", *words, given=images.encode())
     expect((status, errors), (0, ""))
     return xml.fromstring(text)
 

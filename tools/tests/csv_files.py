@@ -10,11 +10,10 @@ import sys
 import tempfile
 from pathlib import Path
 
-from common import expect, expect_within, imported, run, TOP
+from common import expect, expect_within, imported, PROGRAM, run, run_forked, SECONDS, TOP
 
 FILES = TOP / "tools/tests/files"
 SHAPE = "table 16 1024 256"
-sys.path.append(str(TOP / "tools"))
 FROM_CSV = imported("tools/from_csv")
 
 
@@ -44,7 +43,7 @@ def in_process(tool, *words):
 
 
 def to_csv(script, *words):
-    return run("tools/to_csv", "-", *words, given=script if isinstance(script, bytes) else script.encode())
+    return run_forked("tools/to_csv", "--program", PROGRAM, "-", *words, given=script if isinstance(script, bytes) else script.encode())
 
 
 def read(text, separator=","):
@@ -315,7 +314,7 @@ def to_csv_takes_replies_from_a_file():
         given.write_text(STOCK_REPLIES)
 
         def of(number):
-            return run("tools/to_csv", str(script), "--replies", str(given), *(["--reply", str(number)] if number is not None else []))
+            return run_forked("tools/to_csv", script, "--replies", given, *(["--reply", number] if number is not None else []))
 
         expect(of(5), (0, 'sold,city,city_2,day,note\n7,Oslo,Oslo,2,\n12,Oslo,Oslo,1,"row, 1\nrows 9\nrow ""x"""\n', ""))
         expect(of(6), (0, "city,day,sold,note\nOslo,2,7,\n", ""))
@@ -374,7 +373,7 @@ def to_csv_finds_replies_that_are_not_those_of_the_script():
             (STOCK_REPLIES.replace("rows 2\n", "rows 3\n"), "the replies end within that to command 5"),
         ):
             given.write_text(replies)
-            status, text, errors = run("tools/to_csv", str(script), "--replies", str(given), "--reply", "5")
+            status, text, errors = run_forked("tools/to_csv", script, "--replies", given, "--reply", 5)
             expect((status, text, "Traceback" in errors), (2, "", False))
             expect_within(wanted, errors)
 
@@ -388,7 +387,7 @@ def to_csv_wants_right_words():
         (["examples/first_steps", "--replies", "no/such/file"], "No such file"),
         (["-", "--replies", "-"], "standard input is the script or the replies"),
     ):
-        status, text, errors = run("tools/to_csv", *words)
+        status, text, errors = run_forked("tools/to_csv", *words)
         expect((status, text, "Traceback" in errors), (2, "", False))
         expect_within(wanted, errors)
     status, _, errors = run("tools/to_csv", "examples/first_steps", "--program", "no/such/program")
@@ -450,7 +449,7 @@ def help_of_from_csv_can_be_followed():
     with tempfile.TemporaryDirectory() as folder:
         for name in ("bin", "tools", "crates", "crates.txt", "examples/cities.csv"):
             (Path(folder) / Path(name).name).symlink_to(TOP / name)
-        ended = subprocess.run(["sh", "-ec", lines], cwd=folder, capture_output=True, text=True, timeout=50)
+        ended = subprocess.run(["sh", "-ec", lines], cwd=folder, capture_output=True, text=True, timeout=SECONDS)
     expect((ended.returncode, ended.stderr.count("id:int city:text qty:int")), (0, 2))
     cities = read((TOP / "examples/cities.csv").read_text())
     sums = [f"sum 1 {row[2]} {row[0]}" for row in cities[1:]]

@@ -8,7 +8,7 @@ import xml.etree.ElementTree as xml
 from functools import cache
 from pathlib import Path
 
-from common import expect, expect_within, imported, replies, run, structure, TOP
+from common import expect, expect_within, imported, replies, run_forked, SECONDS, structure, TOP
 
 PAGES = [Path("README.md"), *sorted(path.relative_to(TOP) for folder in ("docs", "bench") for path in (TOP / folder).glob("*.md")), Path("examples/README.md")]
 MEASURES = Path("bench/RESULTS.md")
@@ -312,7 +312,7 @@ def pictures_of_the_tour_are_those_of_today():
             with tempfile.TemporaryDirectory() as folder:
                 path = Path(folder) / "script"
                 path.write_text(script + "".join(f"image {name}\n" for name in trees))
-                status, text, errors = run("tools/draw", "--script", str(path))
+                status, text, errors = run_forked("tools/draw", "--script", path)
             expect((status, errors), (0, ""))
             expect((picture, structure(xml.parse(TOP / "docs" / picture).getroot())), (picture, structure(xml.fromstring(text))))
             shown.append(picture)
@@ -342,7 +342,7 @@ def shell_lines_of_the_documents_do_what_they_say():
                 continue
             with tempfile.TemporaryDirectory() as folder:
                 linked_repository(Path(folder))
-                ended = subprocess.run(["sh", "-c", lines], cwd=folder, capture_output=True, text=True, timeout=50)
+                ended = subprocess.run(["sh", "-c", lines], cwd=folder, capture_output=True, text=True, timeout=SECONDS)
                 expect((ended.returncode, ended.stdout), (0, answer or ""))
                 if answer is None:
                     expect((Path(folder) / "again.csv").read_text(), (TOP / "examples/cities.csv").read_text())
@@ -363,7 +363,7 @@ def a_csv_file_is_loaded():
         def loaded(records=None):
             if records is not None:
                 (path / "examples/cities.csv").write_bytes(records)
-            return subprocess.run(["sh", "-c", lines], cwd=folder, capture_output=True, text=True, timeout=50).stdout
+            return subprocess.run(["sh", "-c", lines], cwd=folder, capture_output=True, text=True, timeout=SECONDS).stdout
 
         # That of the repository, by the rows that it has.
         records = (TOP / "examples/cities.csv").read_text().splitlines()[1:]

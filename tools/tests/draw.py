@@ -7,7 +7,7 @@ import tempfile
 import xml.etree.ElementTree as xml
 from pathlib import Path
 
-from common import boxes, drawn, expect, expect_within, replies, run, structure, SVG, texts, TOP, tree_of_height
+from common import boxes, drawn, expect, expect_within, PROGRAM, replies, run, run_forked, SECONDS, structure, SVG, texts, TOP, tree_of_height
 
 
 TWO_LEVELS = """batch 5
@@ -91,7 +91,7 @@ BROKEN = [
 
 def draw_says_how_an_image_is_broken():
     for given, fault in BROKEN:
-        status, text, errors = run("tools/draw", given=given.encode())
+        status, text, errors = run_forked("tools/draw", given=given.encode())
         expect((status, text, errors.count("\n")), (1, "", 1))
         expect_within(fault, errors)
 
@@ -99,7 +99,7 @@ def draw_says_how_an_image_is_broken():
 def draw_wants_words_that_fit_together():
     flush = "examples/flush"
     for words in (["--page"], ["--every"], ["no/such"], ["--script", "no/such"], ["--script", flush, flush], ["--script", flush, "--lines", "0"]):
-        status, text, errors = run("tools/draw", *words)
+        status, text, errors = run_forked("tools/draw", *words)
         expect((status, text, "Traceback" in errors), (2, "", False))
     for program in ("/no/such", "/bin/false", "/bin/true"):
         status, text, errors = run("tools/draw", "--script", flush, "--program", program)
@@ -145,7 +145,7 @@ def of_script(script, *words):
     with tempfile.TemporaryDirectory() as folder:
         path = Path(folder) / "example.script"
         path.write_bytes(script if isinstance(script, bytes) else script.encode())
-        return run("tools/draw", "--script", str(path), *words)
+        return run_forked("tools/draw", "--program", PROGRAM, "--script", path, *words)
 
 
 def picture_of_script(script, *words):
@@ -369,7 +369,7 @@ def seen_in_browser(script, fragment, size):
         page = Path(folder) / "page.html"
         page.write_text(of_script(script, "--page")[1].replace("</body>", PRESSED + "</body>"))
         words = ["--headless", "--no-sandbox", "--disable-gpu", f"--user-data-dir={folder}/user", f"--window-size={size}", "--dump-dom"]
-        ended = subprocess.run([browser(), *words, f"file://{page}{fragment}"], capture_output=True, timeout=50)
+        ended = subprocess.run([browser(), *words, f"file://{page}{fragment}"], capture_output=True, timeout=SECONDS)
     return re.search('data-seen="([^"]*)"', ended.stdout.decode())[1].split("|")
 
 

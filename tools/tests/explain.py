@@ -3,14 +3,11 @@
 import random
 import re
 import subprocess
-import sys
 import tempfile
 from pathlib import Path
 
-from common import expect, expect_within, explained, imported, run, TABLE, TOP
+from common import expect, expect_within, explained, imported, run, run_forked, SECONDS, TABLE, TOP
 from mistakes import MISTAKES
-
-sys.path.append(str(TOP / "tools"))
 
 
 def explain_counts_what_was_answered():
@@ -24,7 +21,7 @@ def explain_wants_a_script():
         (["--what", "x"], "--what"),
         (["--program", "no/such", "-"], "no/such is no program"),
     ):
-        status, text, errors = run("tools/explain", *words)
+        status, text, errors = run_forked("tools/explain", *words)
         expect((status, text, said in errors, "Traceback" in errors), (2, "", True, False))
 
 
@@ -38,7 +35,7 @@ def explain_reads_pipes_and_standard_input():
         status, text, errors = run("tools/explain", *words, given=script.encode())
         expect((status, text.splitlines(), errors), (1, lines, ""))
     words = ["bash", "-c", 'tools/explain <(printf "%s\\n" "$@")', "bash", TABLE, "get x"]
-    ended = subprocess.run(words, cwd=TOP, capture_output=True, text=True, timeout=50)
+    ended = subprocess.run(words, cwd=TOP, capture_output=True, text=True, timeout=SECONDS)
     expect((ended.returncode, ended.stdout.splitlines(), ended.stderr), (1, lines, ""))
 
 
@@ -47,7 +44,7 @@ def explain_says_that_a_script_is_too_long():
         path = Path(folder) / "script"
         with open(path, "wb") as script:
             script.truncate(67_108_865)
-        status, text, errors = run("tools/explain", str(path))
+        status, text, errors = run_forked("tools/explain", path)
         expect((status, text), (2, ""))
         expect_within(f"{path} has 67,108,865 bytes, and a script has at most 67,108,864", errors)
         status, text, errors = run("tools/explain", given=path.read_bytes())
@@ -57,7 +54,7 @@ def explain_says_that_a_script_is_too_long():
 def explain_ends_quietly_where_its_reader_goes():
     rows = "".join(f"put {row},x,1\n" for row in range(2000))
     script = f"{TABLE}\nbatch\n{rows}end\n" + "scan primary\ngo\n" * 6
-    ended = subprocess.run(["sh", "-c", "tools/explain --replies - | head -2"], input=script.encode(), cwd=TOP, capture_output=True, timeout=50)
+    ended = subprocess.run(["sh", "-c", "tools/explain --replies - | head -2"], input=script.encode(), cwd=TOP, capture_output=True, timeout=SECONDS)
     expect((ended.stdout.decode().splitlines(), ended.stderr), ([f"line 1: {TABLE}", "  > table 3"], b""))
 
 
@@ -303,14 +300,14 @@ esac
         path.write_text(script)
         program.write_text(older)
         program.chmod(0o755)
-        status, text, errors = run("tools/explain", "--program", str(program), str(path))
+        status, text, errors = run_forked("tools/explain", "--program", program, path)
         expect((status, errors, text.splitlines()[0]), (1, "", "line 2: load"))
         expect(text.splitlines()[-2], "5 commands: 2 answered, 3 refused")
         program.write_text(fails)
-        expect(run("tools/explain", "--program", str(program), str(path))[0], 3)
+        expect(run_forked("tools/explain", "--program", program, path)[0], 3)
         # One that answers nothing, and one that says what it is given.
         for words, said in (("/bin/true", "the program ended before it answered line 1"), ("/bin/cat", "")):
-            status, text, errors = run("tools/explain", "--program", words, str(path))
+            status, text, errors = run_forked("tools/explain", "--program", words, path)
             expect((status, said in errors, "Traceback" in errors), (3 if said else 0, True, False))
     status, lines = explained("build x\nput 1\n")
     expect((status, lines[-2]), (1, "2 commands: 0 answered, 2 refused"))

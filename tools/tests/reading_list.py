@@ -3,7 +3,7 @@
 import tempfile
 from pathlib import Path
 
-from common import expect, expect_within, run, TOP
+from common import expect, expect_within, run, run_forked, TOP
 
 
 # Two crates, and a function `answer` with the clauses from which the list begins. No definition named `unused` counts.
@@ -152,7 +152,7 @@ def reading_list(*words, file="crates.txt", old="", new=""):
             path.write_text(text)
         expect_within(old, LISTED[file])
         (Path(folder) / file).write_text(LISTED[file].replace(old, new))
-        ended = run("tools/reading_list", "--top", folder, *words, "upper/src/run.rt:answer")
+        ended = run_forked("tools/reading_list", "--top", folder, *words, "upper/src/run.rt:answer")
         return *ended, (Path(folder) / "docs/PROOFS.md").read_text()
 
 
