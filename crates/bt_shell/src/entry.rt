@@ -3,7 +3,7 @@ ghost use Rattle.std.specs.Prelude.{◌≡◌, ◌≤◌, ◌+◌, ◌≢◌, �
 ghost use Rattle.bt_script.specs.Options.{AreWithinLimits, AsksHelp, IsFaulty, IsToReadInput, MustBeRefused};
 ghost use Rattle.bt_script.specs.Streams.{FailsToGive, GaveAtMost, GivesWithin, Took, count_of, has_failed, has_unflushed, source_of};
 ghost use Rattle.bt_shell.specs.Programs.{AnswersPrefix, AnswersReplies, AnswersScript, AreHealthy, HasCause, IsToRun, LeavesInput};
-ghost use Rattle.bt_shell.specs.Runs.{WritesPrefix, WritesReplies, WritesRun, state_after_commands};
+ghost use Rattle.bt_shell.specs.Runs.{Runs, WritesPrefix, WritesReplies, WritesRun, state_after_commands};
 ghost use Rattle.bt_shell.specs.Statuses.{TookLine, line_of, status_of};
 ghost use Rattle.bt_shell.specs.declared.entry.ProgramFault.{ProgramFault};
 ghost use Rattle.bt_table.specs.Standing.{CompleteIndexesHold, IsSound};
@@ -109,6 +109,7 @@ fn run_file<R: Files + AllocGlobal + Threads + Wait + Sync, W: Write>(
 // The crew that words ask for.
 fn crew_of(words: &Words) -> Crew<NoGate>
     requires { AreWithinLimits words.now.workers words.now.cut words.now.grain }
+    ensures sizes { (result.workers ≡ words.now.workers) × (result.cut ≡ words.now.cut) × (result.grain ≡ words.now.grain) }
 {
     match Crew::new(words.workers, words.cut, words.grain, NoGate) {
         Ok(crew) => crew,
@@ -127,6 +128,7 @@ fn run_words<R: Files + AllocGlobal + Threads + Wait + Sync, I: Read, W: Write>(
     requires reads { has_failed input.old ≡ false }
     requires writes { has_failed output.old ≡ false }
     ensures ok { OnOk result (AnswersScript I.remaining W.contents words.now input.old output.old output.new) }
+    ensures input { OnOk result (IsToReadInput words.now → Runs I.remaining W.contents input.old input.new output.old output.new) }
     ensures err { OnErr result (AnswersPrefix I.remaining W.contents words.now input.old output.old output.new) }
     ensures healthy { OnOk result (AreHealthy input.new output.new) }
     ensures words { OnOk result (IsToRun words.now ⊎ AsksHelp words.now) }
@@ -181,6 +183,7 @@ fn answer<R: Files + AllocGlobal + Threads + Wait + Sync, I: Read, W: Write>(
     requires reads { has_failed input.old ≡ false }
     requires writes { has_failed output.old ≡ false }
     ensures ok { OnOk result (AnswersScript I.remaining W.contents words.now input.old output.old output.new) }
+    ensures input { OnOk result (IsToReadInput words.now → Runs I.remaining W.contents input.old input.new output.old output.new) }
     ensures err { OnErr result (AnswersPrefix I.remaining W.contents words.now input.old output.old output.new) }
     ensures healthy { OnOk result (AreHealthy input.new output.new) }
     ensures flushed { OnOk result (has_unflushed output.new ≡ false) }
@@ -228,6 +231,7 @@ pub fn program<R: Files + AllocGlobal + Threads + Wait + Sync, I: Read, W: Write
 
     // What the words name is the script: the input, or a file, whose bytes no contract knows.
     ensures ok { result ≡ 0 → AnswersScript I.remaining W.contents words.now input.old output.old output.new }
+    ensures input { result ≡ 0 → IsToReadInput words.now → Runs I.remaining W.contents input.old input.new output.old output.new }
     ensures prefix { AnswersPrefix I.remaining W.contents words.now input.old output.old output.new }
 
     // What each status says.
