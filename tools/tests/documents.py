@@ -115,10 +115,10 @@ def each_page_is_linked_from_the_readme():
 
 
 # Folders of the repository, and those of a crate.
-FOLDERS = ("bench", "bin", "crates", "docs", "examples", "tools")
+FOLDERS = ("bench", "bin", "clients", "crates", "docs", "examples", "include", "tools")
 PARTS = ("src", "specs", "proofs", "must-fail")
 # Of what is in these folders the repository has nothing.
-MADE = ("out", "out/betable")
+MADE = ("out", "out/betable", "out/c_calls")
 
 
 @cache
@@ -180,7 +180,8 @@ def what_to_change_stands_in_its_files():
 def crates_below():
     """Of each crate of the program those right below it: on which it stands, and none of the others of these does."""
     lines = [line for line in (TOP / "crates.txt").read_text().splitlines() if not line.startswith("#")]
-    below = {crate: {name for name in names.split() if name.startswith("bt_")} for crate, names in (line.split(":") for line in lines)}
+    # Behind the name of a crate may stand what it is built as.
+    below = {crate.split()[0]: {name for name in names.split() if name.startswith("bt_")} for crate, names in (line.split(":") for line in lines)}
     below = {crate: names for crate, names in below.items() if crate.startswith("bt_") or crate == "betable"}
 
     def reached(crate):

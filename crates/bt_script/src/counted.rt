@@ -47,6 +47,14 @@ impl<T> Counted<T> {
         self.unflushed
     }
 
+    /// The reader or writer within.
+    pub fn into_inner(self) -> T
+        ensures { result ≡ source_of self }
+    {
+        let Counted { inner, .. } = self;
+        inner
+    }
+
     /// How many bytes were read from it or written to it. The count holds at the greatest `u64`.
     pub fn count(&self) -> u64
         ensures { result ≡ count_of self.now }

@@ -4,3 +4,4 @@ pub mod Sound
 pub mod Turns
 pub mod WorkedRows
 pub mod Written
+pub mod offered

@@ -1,5 +1,5 @@
 -- What commands in turn are answered and leave: for the loop of a run.
-use Rattle.std.proofs.Common.{ℕ, List, [], ◌∷◌, ◌++◌, ◌≡◌, ◌∙◌, refl, sym, ap, subst, append_assoc, append-nil, length, take, arith, Option, None, Some, Result, Ok, Err, OnErr}
+use Rattle.std.proofs.Common.{ℕ, Bool, ◌+◌, List, [], ◌∷◌, ◌++◌, ◌≡◌, ◌∙◌, refl, sym, ap, subst, append_assoc, append-nil, length, take, arith, Option, None, Some, Result, Ok, Err, OnErr}
 use Rattle.std.proofs.lemmas.List.{take_at}
 use Rattle.bt_script.specs.Commands.{Answer, commands}
 use Rattle.std.specs.Io.KnownBytes.{Keeps}
@@ -7,8 +7,8 @@ use Rattle.bt_script.specs.Streams.{Took, TookPrefix, count_of, source_of}
 use Rattle.bt_script.specs.declared.counted.Counted.{Counted}
 use Rattle.bt_script.proofs.offered.Streams.{prefix-all, prefix-done, prefix-more, Took-kept, Took-nil, Took-trans}
 use Rattle.bt_shell.specs.inside.Turns.{IsTurn}
-use Rattle.bt_shell.specs.Runs.{IsScriptOf, TookReplies, WritesPrefix, WritesReplies, WritesRun, after_commands, replies, run}
-use Rattle.bt_shell.specs.Steps.{State, turn}
+use Rattle.bt_shell.specs.Runs.{IsScriptOf, TookReplies, WritesPrefix, WritesReplies, WritesRun, after_commands, one_where, refused_count, replies, run}
+use Rattle.bt_shell.specs.Steps.{State, is_refused, turn}
 
 pub replies-append : (state : State) (done more : List Answer) → replies state (done ++ more) ≡ replies state done ++ replies (after_commands state done) more
 unfolding replies after_commands
@@ -34,64 +34,93 @@ after-one : (state : State) (answer : Answer) → after_commands state (answer �
 unfolding after_commands
 after-one state answer = refl
 
--- What a run has done: some commands are answered, and the others stand from a place of the script on.
-pub record HasRun {W : Type 0} (contents : W → Option (List ℕ)) (old new : Counted W) (table : State) (all others : List Answer) : Type 0 where
+-- What a run has done from a table on: some commands are answered, and the others stand from a place of the script on.
+pub record HasRun {W : Type 0} (contents : W → Option (List ℕ)) (old new : Counted W) (begin table : State) (all others : List Answer) : Type 0 where
   pub done : List Answer
   pub split : all ≡ done ++ others
-  pub left : table ≡ after_commands None done
-  pub took : Took contents old new (replies None done)
+  pub left : table ≡ after_commands begin done
+  pub took : Took contents old new (replies begin done)
 
-module _ {W : Type 0} (contents : W → Option (List ℕ)) (old : Counted W) where
+module _ {W : Type 0} (contents : W → Option (List ℕ)) (old : Counted W) (begin : State) where
   -- before the first command
-  pub run_begins : (all : List Answer) → Took contents old old [] → HasRun contents old old None all all
+  pub run_begins : (all : List Answer) → Took contents old old [] → HasRun contents old old begin begin all all
   unfolding replies after_commands
   run_begins all nothing = record { done = []; split = refl; left = refl; took = nothing }
 
   -- all that is answered, by what was done
-  whole : (new : Counted W) (table : State) (all others : List Answer) (so_far : HasRun contents old new table all others) → replies None all ≡ replies None so_far.done ++ replies table others
+  whole : (new : Counted W) (table : State) (all others : List Answer) (so_far : HasRun contents old new begin table all others) → replies begin all ≡ replies begin so_far.done ++ replies table others
   whole new table all others so_far =
-      ap (replies None) so_far.split ∙ replies-append None so_far.done others ∙ ap (λ (state : State). replies None so_far.done ++ replies state others) (sym so_far.left)
+      ap (replies begin) so_far.split ∙ replies-append begin so_far.done others ∙ ap (λ (state : State). replies begin so_far.done ++ replies state others) (sym so_far.left)
 
-  pub run_prefix : (new : Counted W) (table : State) (all others : List Answer) → HasRun contents old new table all others → TookPrefix contents old new (replies None all)
-  run_prefix new table all others so_far = prefix-done contents old new (replies None all) (replies None so_far.done) (replies table others) so_far.took (whole new table all others so_far)
+  pub run_prefix : (new : Counted W) (table : State) (all others : List Answer) → HasRun contents old new begin table all others → TookPrefix contents old new (replies begin all)
+  run_prefix new table all others so_far = prefix-done contents old new (replies begin all) (replies begin so_far.done) (replies table others) so_far.took (whole new table all others so_far)
 
   -- the whole replies to the commands so far
-  pub run_replies : (new : Counted W) (table : State) (script : List ℕ) (others : List Answer) → HasRun contents old new table (commands script) others → TookReplies contents old new script
+  pub run_replies : (new : Counted W) (table : State) (script : List ℕ) (others : List Answer) → HasRun contents old new begin table (commands script) others → TookReplies contents begin old new script
   run_replies new table script others so_far =
       let first : take (length so_far.done) (commands script) ≡ so_far.done = ap (take (length so_far.done)) so_far.split ∙ take_at so_far.done others (length so_far.done) refl in
-      (length so_far.done, subst (λ (answers : List Answer). Took contents old new (replies None answers)) (sym first) so_far.took)
+      (length so_far.done, subst (λ (answers : List Answer). Took contents old new (replies begin answers)) (sym first) so_far.took)
 
   -- a prefix of the reply to the next one
-  pub run_breaks : (mid new : Counted W) (table after : State) (all others more : List Answer) (text : List ℕ) → HasRun contents old mid table all others → IsTurn table after others more text
-      → TookPrefix contents mid new text → TookPrefix contents old new (replies None all)
+  pub run_breaks : (mid new : Counted W) (table after : State) (all others more : List Answer) (text : List ℕ) {refused : Bool} → HasRun contents old mid begin table all others → IsTurn table after others more text refused
+      → TookPrefix contents mid new text → TookPrefix contents old new (replies begin all)
   run_breaks mid new table after all others more text so_far next prefix =
       let said : replies table others ≡ text ++ replies (turn table next.answer).0 more =
       ap (replies table) next.first ∙ replies-one table next.answer more ∙ ap (λ (l : List ℕ). l ++ replies (turn table next.answer).0 more) (sym next.said) in
-      prefix-more contents old mid new (replies None all) (replies None so_far.done) text (replies (turn table next.answer).0 more) so_far.took
-      (whole mid table all others so_far ∙ ap (λ (l : List ℕ). replies None so_far.done ++ l) said) prefix
+      prefix-more contents old mid new (replies begin all) (replies begin so_far.done) text (replies (turn table next.answer).0 more) so_far.took
+      (whole mid table all others so_far ∙ ap (λ (l : List ℕ). replies begin so_far.done ++ l) said) prefix
 
   -- the reply to the next one
-  pub run_goes_on : (mid new : Counted W) (table after : State) (all others more : List Answer) (text : List ℕ) → HasRun contents old mid table all others → IsTurn table after others more text
-      → Took contents mid new text → HasRun contents old new after all more
+  pub run_goes_on : (mid new : Counted W) (table after : State) (all others more : List Answer) (text : List ℕ) {refused : Bool} → HasRun contents old mid begin table all others → IsTurn table after others more text refused
+      → Took contents mid new text → HasRun contents old new begin after all more
   run_goes_on mid new table after all others more text so_far next took =
       let done = so_far.done ++ next.answer ∷ [] in
-      let said : replies None done ≡ replies None so_far.done ++ text =
-      replies-append None so_far.done (next.answer ∷ [])
-      ∙ ap (λ (state : State). replies None so_far.done ++ replies state (next.answer ∷ [])) (sym so_far.left)
-      ∙ ap (λ (l : List ℕ). replies None so_far.done ++ l)
+      let said : replies begin done ≡ replies begin so_far.done ++ text =
+      replies-append begin so_far.done (next.answer ∷ [])
+      ∙ ap (λ (state : State). replies begin so_far.done ++ replies state (next.answer ∷ [])) (sym so_far.left)
+      ∙ ap (λ (l : List ℕ). replies begin so_far.done ++ l)
       (replies-one table next.answer [] ∙ ap (λ (l : List ℕ). (turn table next.answer).1 ++ l) (replies-none (turn table next.answer).0) ∙ append-nil (turn table next.answer).1 ∙ sym next.said) in
       record {
         done = done;
         split = so_far.split ∙ ap (λ (l : List Answer). so_far.done ++ l) next.first ∙ sym (append_assoc so_far.done (next.answer ∷ []) more);
-        left = next.left ∙ ap (λ (state : State). (turn state next.answer).0) so_far.left ∙ sym (after_commands-append None so_far.done (next.answer ∷ []) ∙ after-one (after_commands None so_far.done) next.answer);
-        took = subst (λ (l : List ℕ). Took contents old new l) (sym said) (Took-trans contents old mid new (replies None so_far.done) text so_far.took took);
+        left = next.left ∙ ap (λ (state : State). (turn state next.answer).0) so_far.left ∙ sym (after_commands-append begin so_far.done (next.answer ∷ []) ∙ after-one (after_commands begin so_far.done) next.answer);
+        took = subst (λ (l : List ℕ). Took contents old new l) (sym said) (Took-trans contents old mid new (replies begin so_far.done) text so_far.took took);
       }
 
   -- no command is left
-  pub run_ends : (new : Counted W) (table : State) (all others : List Answer) → HasRun contents old new table all others → others ≡ [] → Took contents old new (replies None all)
+  pub run_ends : (new : Counted W) (table : State) (all others : List Answer) → HasRun contents old new begin table all others → others ≡ [] → Took contents old new (replies begin all)
   run_ends new table all others so_far none =
       let all_done : all ≡ so_far.done = so_far.split ∙ ap (λ (l : List Answer). so_far.done ++ l) none ∙ append-nil so_far.done in
-      subst (λ (answers : List Answer). Took contents old new (replies None answers)) (sym all_done) so_far.took
+      subst (λ (answers : List Answer). Took contents old new (replies begin answers)) (sym all_done) so_far.took
+
+  -- and what it leaves
+  pub run_leaves : (new : Counted W) (table : State) (all others : List Answer) → HasRun contents old new begin table all others → others ≡ [] → table ≡ after_commands begin all
+  run_leaves new table all others so_far none =
+      let all_done : all ≡ so_far.done = so_far.split ∙ ap (λ (l : List Answer). so_far.done ++ l) none ∙ append-nil so_far.done in
+      so_far.left ∙ ap (after_commands begin) (sym all_done)
+
+count-one : (state : State) (answer : Answer) (more : List Answer) → refused_count state (answer ∷ more) ≡ one_where (is_refused state answer) + refused_count (turn state answer).0 more
+unfolding refused_count
+count-one state answer more = refl
+
+count-none : (state : State) → refused_count state [] ≡ 0
+unfolding refused_count
+count-none state = refl
+
+-- of all commands so many are refused as of those so far and of the others
+pub count_goes_on : (begin table after : State) (all others more : List Answer) (text : List ℕ) (refused : Bool) (count : ℕ) → IsTurn table after others more text refused
+    → refused_count begin all ≡ count + refused_count table others → refused_count begin all ≡ count + one_where refused + refused_count after more
+count_goes_on begin table after all others more text refused count next so_far =
+    let rest : refused_count table others ≡ one_where refused + refused_count after more =
+    ap (refused_count table) next.first ∙ count-one table next.answer more
+    ∙ ap (λ (b : Bool). one_where b + refused_count (turn table next.answer).0 more) (sym next.judged)
+    ∙ ap (λ (state : State). one_where refused + refused_count state more) (sym next.left) in
+    omega (arith, so_far, rest)
+
+pub count_ends : (begin table : State) (all others : List Answer) (count : ℕ) → refused_count begin all ≡ count + refused_count table others → others ≡ [] → refused_count begin all ≡ count
+count_ends begin table all others count so_far none =
+    let rest : refused_count table others ≡ 0 = ap (refused_count table) none ∙ count-none table in
+    omega (arith, so_far, rest)
 
 -- some script that the reader may have had
 pub some_script : (known : Option (List ℕ)) → (script : List ℕ) × IsScriptOf known script

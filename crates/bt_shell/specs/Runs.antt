@@ -1,9 +1,10 @@
 -- What a script writes, what its commands leave, and what a run wrote of it.
-use Rattle.std.specs.Prelude.{ℕ, ◌≡◌, List, [], ◌∷◌, ◌++◌, take, Option, None, IfSome}
-use Rattle.bt_script.specs.Commands.{Answer, commands}
+use Rattle.std.specs.Prelude.{ℕ, ◌≡◌, ◌==◌, ◌+◌, Bool, true, if◌then◌else◌, List, [], ◌∷◌, ◌++◌, take, Option, None, IfSome}
+use Rattle.bt_script.specs.Commands.{Answer, Outside, Place, commands, line_step}
+use Rattle.bt_script.specs.Lines.{lines}
 use Rattle.bt_script.specs.Streams.{Gave, Took, TookPrefix, source_of}
 use Rattle.bt_script.specs.declared.counted.Counted.{Counted}
-use Rattle.bt_shell.specs.Steps.{State, turn}
+use Rattle.bt_shell.specs.Steps.{State, is_refused, turn}
 
 -- what is written for commands in turn, from a table on
 unfoldable pub replies : State → List Answer → List ℕ
@@ -15,6 +16,15 @@ unfoldable pub after_commands : State → List Answer → State
 after_commands state [] = state
 after_commands state (answer ∷ more) = after_commands (turn state answer).0 more
 
+-- one, where something applies
+abbrev pub one_where : Bool → ℕ
+one_where applies = if applies then 1 else 0
+
+-- how many of commands in turn are refused
+unfoldable pub refused_count : State → List Answer → ℕ
+refused_count state [] = 0
+refused_count state (answer ∷ more) = one_where (is_refused state answer) + refused_count (turn state answer).0 more
+
 -- what a script writes: the replies to its commands, which begin with no table
 abbrev pub run : List ℕ → List ℕ
 run script = replies None (commands script)
@@ -23,14 +33,35 @@ run script = replies None (commands script)
 abbrev pub state_after_commands : List ℕ → ℕ → State
 state_after_commands script n = after_commands None (take n (commands script))
 
+-- whether a line feed ends a script, where it has bytes
+abbrev pub ends_with_line : List ℕ → Bool
+ends_with_line [] = true
+ends_with_line (b ∷ []) = b == 10
+ends_with_line (b ∷ c ∷ more) = ends_with_line (c ∷ more)
+
+-- where the next line stands behind some lines: outside of blocks, or in one
+unfoldable pub place_behind : Place → List (List ℕ) → Place
+place_behind place [] = place
+place_behind place (line ∷ more) = place_behind (line_step place line).0 more
+
+-- a script that ends between two commands: with a whole line, behind which no block is open
+abbrev pub EndsBetweenCommands : List ℕ → Type 0
+EndsBetweenCommands script = (ends_with_line script ≡ true) × (place_behind Outside (lines script) ≡ Outside)
+
+-- two scripts one after the other, from a table on, are answered as the script of both, and leave the same
+abbrev pub AreOneRun : State → List ℕ → List ℕ → Type 0
+AreOneRun state first second =
+    (replies state (commands (first ++ second)) ≡ replies state (commands first) ++ replies (after_commands state (commands first)) (commands second))
+    × (after_commands state (commands (first ++ second)) ≡ after_commands (after_commands state (commands first)) (commands second))
+
 -- a script that a reader may have had: its bytes, where they are known
 abbrev pub IsScriptOf : Option (List ℕ) → List ℕ → Type 0
 IsScriptOf known script = IfSome known (λ bytes. bytes ≡ script)
 
 module _ {W : Type 0} (contents : W → Option (List ℕ)) where
-  -- a writer took the whole replies to some of the commands of a script, the first ones
-  abbrev pub TookReplies : Counted W → Counted W → List ℕ → Type 0
-  TookReplies old new script = (n : ℕ) × Took contents old new (replies None (take n (commands script)))
+  -- a writer took the whole replies to some of the commands of a script, the first ones, from a table on
+  abbrev pub TookReplies : State → Counted W → Counted W → List ℕ → Type 0
+  TookReplies state old new script = (n : ℕ) × Took contents old new (replies state (take n (commands script)))
 
   -- a writer took all that a script is answered, a prefix of it, or whole replies of it; the script is one that the reader may have had
   abbrev pub WritesRun : Option (List ℕ) → Counted W → Counted W → Type 0
@@ -40,7 +71,7 @@ module _ {W : Type 0} (contents : W → Option (List ℕ)) where
   WritesPrefix known old new = (script : List ℕ) × IsScriptOf known script × TookPrefix contents old new (run script)
 
   abbrev pub WritesReplies : Option (List ℕ) → Counted W → Counted W → Type 0
-  WritesReplies known old new = (script : List ℕ) × IsScriptOf known script × TookReplies old new script
+  WritesReplies known old new = (script : List ℕ) × IsScriptOf known script × TookReplies None old new script
 
 -- a reader gave a script, all that it had, and a writer took all that it is answered
 abbrev pub Runs : {R W : Type 0} → (R → Option (List ℕ)) → (W → Option (List ℕ)) → Counted R → Counted R → Counted W → Counted W → Type 0

@@ -1,5 +1,5 @@
 -- What a command does to the table, what it is answered, and why it is refused.
-use Rattle.std.specs.Prelude.{ℕ, not, Bool, List, ◌++◌, length, Option, Some, None, is_some, Result, Ok, Err, codes}
+use Rattle.std.specs.Prelude.{ℕ, not, Bool, true, List, ◌++◌, length, Option, Some, None, is_err, is_some, Result, Ok, Err, codes}
 use Rattle.bt_rowtype.specs.Refusals.{least, lesser}
 use Rattle.bt_rowtype.specs.Schemas.{is_schema}
 use Rattle.bt_rowtype.specs.declared.refusal.Refusal.{Refusal}
@@ -104,3 +104,8 @@ done_or_refused state (Err refusal) = (state, refused_text refusal)
 abbrev pub turn : State → Answer → Done
 turn state (Err refusal) = (state, refused_text refusal)
 turn state (Ok command) = done_or_refused state (outcome state command)
+
+-- whether it is refused
+abbrev pub is_refused : State → Answer → Bool
+is_refused state (Err refusal) = true
+is_refused state (Ok command) = is_err (outcome state command)

@@ -11,6 +11,8 @@
 //! let crew = Crew::new(4, 2, 64, NoGate)?;
 //! run_script(&rt, alloc, &mut reader, &mut writer, &crew)?;        // table 2, batch 1
 //! ```
+//!
+//! A table that lives on takes script after script by [`run_commands`]; two of them are one where the first ends between two commands.
 #![tactic(auto)]
 
 mod context;
@@ -29,5 +31,5 @@ pub use bt_script::{
 pub use bt_table::{Alone, Workforce};
 pub use entry::{ProgramFault, program};
 pub use reply::Lines;
-pub use run::run_script;
+pub use run::{run_commands, run_script};
 pub use workforce::ScriptWorkforce;

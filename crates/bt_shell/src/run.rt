@@ -1,8 +1,10 @@
 //! The run of a script.
-ghost use Rattle.std.specs.Prelude.{◌≡◌, ◌+◌, false, true, IfSome, IsErrOf, OnErr, OnOk, ℕ, List};
+ghost use Rattle.std.specs.Prelude.{◌≡◌, ◌+◌, ◌<◌, ◌^◌, false, true, IfOk, IfSome, IsErrOf, OnErr, OnOk, ℕ, List};
 ghost use Rattle.std.specs.Io.KnownBytes.{Keeps};
+ghost use Rattle.bt_script.specs.Commands.{commands};
 ghost use Rattle.bt_script.specs.Streams.{FailsToGive, GaveAtMost, GivesWithin, Took, TookPrefix, count_of, has_failed, has_unflushed, source_of};
-ghost use Rattle.bt_shell.specs.Runs.{Runs, TookReplies, WritesPrefix, WritesReplies, run, state_after_commands};
+ghost use Rattle.bt_shell.specs.Runs.{AreOneRun, EndsBetweenCommands, Runs, TookReplies, WritesPrefix, WritesReplies, after_commands, one_where, refused_count, replies, state_after_commands};
+ghost use Rattle.bt_shell.specs.Steps.{State};
 ghost use Rattle.bt_table.specs.Standing.{CompleteIndexesHold, IsSound};
 
 use crate::context::Context;
@@ -27,32 +29,55 @@ pub(crate) fn flush<W: Write>(writer: &mut Counted<W>) -> Result<(), RunFault>
     Ok(())
 }
 
-// Writes the replies to the commands of a script, and flushes them. The commands begin with no table.
-fn write_replies<W: Write, T, C: ScriptWorkforce<T>>(
-    context: &Context<'_, T, C>,
+// How many commands are refused, with one more that may be.
+fn count_with(count: usize, refused: bool) -> usize
+    requires { count + 1 < 2 ^ 64 }
+    ensures { result ≡ count + one_where refused }
+{
+    if refused { count + 1 } else { count }
+}
+
+/// Carries out the commands of a script on a table that lives on, or on none so far, writes the reply to each of them and flushes these.
+/// Answers how many of the commands were refused.
+///
+/// What is written is what the commands are answered from that table on, by the definition `replies`, and after a fault a prefix of it; what
+/// is left is what they leave of that table. So the run of one script and then of another is the run of both as one, where the first ends
+/// between two commands. `Write`: the writer failed. `OutOfMemory`: a request for memory was refused; the command at hand has written
+/// nothing, and those before it are carried out.
+pub fn run_commands<W: Write, T, C: ScriptWorkforce<T>>(
+    rt: &T,
+    alloc: Global,
     script: &[u8],
     table: &mut Option<Table>,
     writer: &mut Counted<W>,
-) -> Result<(), RunFault>
-    requires ready { C.accepts context.now.crew.now }
-    ensures ok { OnOk result (Took W.contents writer.old writer.new (run script.now)) }
+    crew: &C,
+) -> Result<usize, RunFault>
+    requires ready { C.accepts crew.now }
+    ensures ok { OnOk result (Took W.contents writer.old writer.new (replies table.old (commands script.now))) }
+    ensures state { OnOk result (table.new ≡ after_commands table.old (commands script.now)) }
+    ensures refused { IfOk result (λ count. count ≡ refused_count table.old (commands script.now)) }
     ensures healthy { OnOk result (has_failed writer.new ≡ has_failed writer.old) }
     ensures flushed { OnOk result (has_unflushed writer.new ≡ false) }
-    ensures err { OnErr result (TookPrefix W.contents writer.old writer.new (run script.now)) }
+    ensures err { OnErr result (TookPrefix W.contents writer.old writer.new (replies table.old (commands script.now))) }
     ensures no_read { IsErrOf result RunFault.Read → ⊥ }
     ensures write { IsErrOf result RunFault.Write → has_failed writer.new ≡ true }
-    ensures memory { IsErrOf result RunFault.OutOfMemory → (has_failed writer.new ≡ has_failed writer.old) × TookReplies W.contents writer.old writer.new script.now }
+    ensures memory { IsErrOf result RunFault.OutOfMemory → (has_failed writer.new ≡ has_failed writer.old) × TookReplies W.contents table.old writer.old writer.new script.now }
+
+    // This script behind any that ends between two commands is the rest of one script.
+    ensures one_run { (first : List ℕ) (before : State) → EndsBetweenCommands first → AreOneRun before first script.now }
 {
-    *table = None;
+    let context = Context { rt, alloc, crew };
     let mut at = 0;
-    let mut room = Vec::new(context.alloc);
-    'commands: while let Some(step) = next_reply(context, script, table, at, room)? {
+    let mut refused = 0;
+    let mut room = Vec::new(alloc);
+    'commands: while let Some(step) = next_reply(&context, script, table, at, room)? {
         step.text.write_to(writer)?;
+        refused = count_with(refused, step.refused);
         at = step.next;
         room = step.text.into_room();
     }
     flush(writer)?;
-    Ok(())
+    Ok(refused)
 }
 
 /// What a run has in memory between commands: the script, and the table where there is one. The caller says what becomes of
@@ -95,8 +120,18 @@ impl Session {
         ensures replies { IsErrOf result RunFault.OutOfMemory → WritesReplies W.contents (R.remaining (source_of reader.old)) writer.old writer.new }
         ensures at_most { GaveAtMost R.remaining reader.old reader.new (SCRIPT_LIMIT + 1) }
     {
-        self.script = read_script(context.alloc, reader)?;
-        write_replies(context, self.script.as_slice(), &mut self.table, writer)
+        let Context { rt, alloc, crew } = *context;
+        self.script = read_script(alloc, reader)?;
+        self.table = None;
+        run_commands(
+            rt,
+            alloc,
+            self.script.as_slice(),
+            &mut self.table,
+            writer,
+            crew,
+        )?;
+        Ok(())
     }
 }
 

@@ -321,28 +321,46 @@ fn answer<T, C: ScriptWorkforce<T>>(
     }
 }
 
+// What a command is answered.
+#[derive(Drop)]
+struct Answered {
+    text: ReplyText,
+    refused: bool,
+}
+
 // The reply to a command, and what the command does. An `Err` is for want of memory.
 fn take_turn<T, C: ScriptWorkforce<T>>(
     context: &Context<'_, T, C>,
     table: &mut Option<Table>,
     command: Command<'_>,
     room: Vec<u8>,
-) -> Result<ReplyText, AllocError>
+) -> Result<Answered, AllocError>
     requires ready { C.accepts context.now.crew.now }
-    ensures text { IfOk result (λ text. text ≡ (step.turn table.old (Ok command.entry)).1) }
+    ensures text { IfOk result (λ answered. answered.text ≡ (step.turn table.old (Ok command.entry)).1) }
+    ensures refused { IfOk result (λ answered. answered.refused ≡ step.is_refused table.old (Ok command.entry)) }
     ensures state { OnOk result (table.new ≡ (step.turn table.old (Ok command.entry)).0) }
 {
     match answer(context, table, command, room) {
-        Ok(text) => Ok(text),
+        Ok(text) => Ok(Answered {
+            text,
+            refused: false,
+        }),
         Err(Refusal::OutOfMemory) => Err(AllocError),
-        Err(refusal) => refusal_reply(context.alloc, refusal),
+        Err(refusal) => {
+            let text = refusal_reply(context.alloc, refusal)?;
+            Ok(Answered {
+                text,
+                refused: true,
+            })
+        }
     }
 }
 
-/// A reply, and the place behind its command.
+/// A reply, whether it is a refusal, and the place behind its command.
 #[derive(Drop)]
 pub struct Step {
     pub text: ReplyText,
+    pub refused: bool,
     pub next: usize,
 }
 
@@ -357,19 +375,28 @@ pub(crate) fn next_reply<T, C: ScriptWorkforce<T>>(
     room: Vec<u8>,
 ) -> Result<Option<Step>, AllocError>
     requires ready { C.accepts context.now.crew.now }
-    ensures step { IfOk result (λ found. IfSome found (λ step. IsTurn table.old table.new (commands (drop at script.now)) (commands (drop step.next script.now)) step.text)) }
+    ensures step { IfOk result (λ found. IfSome found (λ step. IsTurn table.old table.new (commands (drop at script.now)) (commands (drop step.next script.now)) step.text step.refused)) }
     ensures end { IfOk result (λ found. IfNone found (commands (drop at script.now) ≡ [])) }
+    ensures kept { IfOk result (λ found. IfNone found (table.new ≡ table.old)) }
     ensures past { IfOk result (λ found. IfSome found (λ step. (at < step.next) × (step.next ≤ length script.now))) }
 {
     match parse_command(context.alloc, script, at)? {
         Parsed::End => Ok(None),
         Parsed::Bad { refusal, next } => {
             let text = refusal_reply(context.alloc, refusal)?;
-            Ok(Some(Step { text, next }))
+            Ok(Some(Step {
+                text,
+                refused: true,
+                next,
+            }))
         }
         Parsed::Good { command, next } => {
-            let text = take_turn(context, table, command, room)?;
-            Ok(Some(Step { text, next }))
+            let Answered { text, refused } = take_turn(context, table, command, room)?;
+            Ok(Some(Step {
+                text,
+                refused,
+                next,
+            }))
         }
     }
 }

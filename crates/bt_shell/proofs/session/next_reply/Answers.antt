@@ -7,6 +7,7 @@ returns-in_ok-text-in-Bad-clause-step g c = record {
   first = rw c.in-Bad.is at c.in_ok-parse_command.ensures.found;
   said = c.in_ok-text-in-Bad.ensures;
   left = refl;
+  judged = refl;
 }
 
 pub returns-in_ok-text-in-Good-clause-step : goal.returns-in_ok-text-in-Good-clause-step
@@ -15,4 +16,5 @@ returns-in_ok-text-in-Good-clause-step g c = record {
   first = rw c.in-Good.is at c.in_ok-parse_command.ensures.found;
   said = c.in_ok-text-in-Good.ensures.text;
   left = c.in_ok-text-in-Good.ensures.state;
+  judged = c.in_ok-text-in-Good.ensures.refused;
 }

@@ -1,0 +1,264 @@
+//! betable from Rust: a table that lives between scripts.
+//!
+//! ```text
+//! let mut session = Session::new()?;
+//! session.run(b"table 16 1024 256 1 id:int city:text\nbatch\nput 1,Oslo\nend\n")?;
+//! for reply in session.run(b"scan primary\ngo\n")?.iter() {
+//!     match reply {
+//!         Reply::Rows(rows) => println!("{rows:?}"),               // [["1", "Oslo"]]
+//!         Reply::Refused(refusal) => println!("{refusal}"),
+//!         other => println!("{other:?}"),
+//!     }
+//! }
+//! ```
+//!
+//! A session is used by one call at a time, since a call takes it by `&mut`, and by the thread that has it, since it is not `Send`. It is closed when it is
+//! dropped. clients/rust/build compiles this crate, by rustc alone, with the libbt_c.a of the folder that BETABLE_LIBRARY names.
+
+use std::error::Error;
+use std::fmt;
+use std::ptr::null_mut;
+
+#[repr(C)]
+struct Handle {
+    at: *mut u8,
+    is_open: bool,
+}
+
+#[link(name = "bt_c", kind = "static")]
+unsafe extern "C" {
+    fn betable_open(session: *mut Handle) -> u32;
+    fn betable_run(session: *mut Handle, script: *const u8, length: usize) -> u32;
+    fn betable_replies_length(session: *mut Handle) -> usize;
+    fn betable_copy_replies(session: *mut Handle, from: usize, out: *mut u8, room: usize) -> usize;
+    fn betable_refused_count(session: *mut Handle) -> usize;
+    fn betable_is_lost(session: *mut Handle) -> bool;
+    fn betable_close(session: *mut Handle) -> u32;
+}
+
+const DONE: u32 = 0;
+const REPLY_CUT: u32 = 2;
+
+/// The library was refused memory.
+#[derive(Debug)]
+pub struct OutOfMemory {
+    /// The replies of the first commands, which were carried out.
+    pub replies: Replies,
+    /// Whether the last of them is not whole.
+    pub is_cut: bool,
+    /// Whether the table is lost: then each command on it is refused.
+    pub is_lost: bool,
+}
+
+impl fmt::Display for OutOfMemory {
+    fn fmt(&self, out: &mut fmt::Formatter<'_>) -> fmt::Result {
+        out.write_str(if self.is_lost { "out of memory, and the table is lost" } else { "out of memory" })
+    }
+}
+
+impl Error for OutOfMemory {}
+
+/// A table, or none so far, which lives from script to script.
+pub struct Session(Handle);
+
+impl Session {
+    pub fn new() -> Result<Session, OutOfMemory> {
+        let mut handle = Handle { at: null_mut(), is_open: false };
+        if unsafe { betable_open(&mut handle) } != DONE {
+            return Err(OutOfMemory { replies: Replies::default(), is_cut: false, is_lost: false });
+        }
+        Ok(Session(handle))
+    }
+
+    /// Carries out the commands of a script, and gives the replies to them.
+    pub fn run(&mut self, script: &[u8]) -> Result<Replies, OutOfMemory> {
+        let status = unsafe { betable_run(&mut self.0, script.as_ptr(), script.len()) };
+        let mut bytes = vec![0; unsafe { betable_replies_length(&mut self.0) }];
+        let count = unsafe { betable_copy_replies(&mut self.0, 0, bytes.as_mut_ptr(), bytes.len()) };
+        bytes.truncate(count);
+        let replies = Replies { bytes, refused_count: unsafe { betable_refused_count(&mut self.0) } };
+        if status != DONE {
+            return Err(OutOfMemory { replies, is_cut: status == REPLY_CUT, is_lost: self.is_lost() });
+        }
+        Ok(replies)
+    }
+
+    /// Whether the table was lost for want of memory.
+    pub fn is_lost(&mut self) -> bool {
+        unsafe { betable_is_lost(&mut self.0) }
+    }
+}
+
+impl Drop for Session {
+    fn drop(&mut self) {
+        unsafe { betable_close(&mut self.0) };
+    }
+}
+
+/// The replies to a script.
+#[derive(Debug, Default)]
+pub struct Replies {
+    bytes: Vec<u8>,
+    refused_count: usize,
+}
+
+impl Replies {
+    /// As they are written.
+    pub fn as_bytes(&self) -> &[u8] {
+        &self.bytes
+    }
+
+    /// How many of the commands were refused.
+    pub fn refused_count(&self) -> usize {
+        self.refused_count
+    }
+
+    /// One after the other, in the order of the commands.
+    pub fn iter(&self) -> impl Iterator<Item = Reply> {
+        replies_of(&lines(&String::from_utf8_lossy(&self.bytes))).into_iter()
+    }
+}
+
+/// The reply to a command.
+#[derive(Clone, Debug, PartialEq)]
+pub enum Reply {
+    /// The row of a key.
+    Row(Vec<String>),
+    /// A key has no row.
+    None,
+    /// The rows of a scan.
+    Rows(Vec<Vec<String>>),
+    /// The groups of `sums`.
+    Sums(Vec<Sum>),
+    /// The lines of an image.
+    Image(Vec<String>),
+    Refused(Refusal),
+    /// The line of any other command, as `batch 2`.
+    Line(String),
+}
+
+/// A group of rows.
+#[derive(Clone, Debug, PartialEq)]
+pub struct Sum {
+    pub count: u64,
+    /// As it is written, since a sum of ints may have more than 64 bits.
+    pub total: String,
+    pub group: Vec<String>,
+}
+
+/// Why a command was refused.
+#[derive(Clone, Debug, PartialEq)]
+pub struct Refusal {
+    pub number: u32,
+    pub name: String,
+    /// Which message of a batch, or which record of a load, is the first that is refused.
+    pub item: Option<u64>,
+}
+
+impl fmt::Display for Refusal {
+    fn fmt(&self, out: &mut fmt::Formatter<'_>) -> fmt::Result {
+        write!(out, "refused {} {}", self.number, self.name)?;
+        self.item.map_or(Ok(()), |item| write!(out, " {item}"))
+    }
+}
+
+impl Error for Refusal {}
+
+// A text with line breaks stands in quotes, so that a line goes on while its quotes are odd.
+fn lines(text: &str) -> Vec<String> {
+    let mut lines: Vec<String> = Vec::new();
+    let mut is_open = false;
+    for part in text.split_inclusive('\n') {
+        match lines.last_mut() {
+            Some(line) if is_open => line.push_str(part),
+            _ => lines.push(part.to_string()),
+        }
+        is_open ^= part.matches('"').count() % 2 == 1;
+    }
+    lines.iter_mut().for_each(|line| line.truncate(line.len() - usize::from(line.ends_with('\n'))));
+    lines
+}
+
+// The number of rows stands behind them, so a row that it does not count is the reply to a get.
+fn replies_of(lines: &[String]) -> Vec<Reply> {
+    let mut replies = Vec::new();
+    let mut image: Option<Vec<String>> = None;
+    for line in lines {
+        let (word, rest) = line.split_once(' ').unwrap_or((line.as_str(), ""));
+        if let Some(mut drawn) = image.take() {
+            drawn.push(line.clone());
+            if line == "end" {
+                replies.push(Reply::Image(drawn));
+            } else {
+                image = Some(drawn);
+            }
+            continue;
+        }
+        match word {
+            "row" => replies.push(Reply::Row(fields(rest))),
+            "none" => replies.push(Reply::None),
+            "sum" => replies.push(Reply::Sums(sum(rest).into_iter().collect())),
+            "rows" => {
+                let rows = replies.split_off(replies.len().saturating_sub(rest.parse().unwrap_or(0)));
+                replies.push(Reply::Rows(rows.into_iter().flat_map(row).collect()));
+            }
+            "sums" => {
+                let sums = replies.split_off(replies.len().saturating_sub(rest.parse().unwrap_or(0)));
+                replies.push(Reply::Sums(sums.into_iter().flat_map(groups).collect()));
+            }
+            "image" => image = Some(vec![line.clone()]),
+            "refused" => replies.push(refusal(rest).map_or_else(|| Reply::Line(line.clone()), Reply::Refused)),
+            _ => replies.push(Reply::Line(line.clone())),
+        }
+    }
+    replies
+}
+
+fn row(reply: Reply) -> Option<Vec<String>> {
+    match reply {
+        Reply::Row(fields) => Some(fields),
+        _ => None,
+    }
+}
+
+fn groups(reply: Reply) -> Vec<Sum> {
+    match reply {
+        Reply::Sums(sums) => sums,
+        _ => Vec::new(),
+    }
+}
+
+fn sum(text: &str) -> Option<Sum> {
+    let mut words = text.splitn(3, ' ');
+    let count = words.next()?.parse().ok()?;
+    let total = words.next()?.to_string();
+    Some(Sum { count, total, group: fields(words.next()?) })
+}
+
+fn refusal(text: &str) -> Option<Refusal> {
+    let mut words = text.split(' ');
+    let number = words.next()?.parse().ok()?;
+    let name = words.next()?.to_string();
+    Some(Refusal { number, name, item: words.next().and_then(|word| word.parse().ok()) })
+}
+
+/// The fields of a record as a reply has it.
+pub fn fields(record: &str) -> Vec<String> {
+    let mut fields = vec![String::new()];
+    let mut letters = record.chars().peekable();
+    let mut is_quoted = false;
+    while let Some(letter) = letters.next() {
+        match letter {
+            '"' if is_quoted && letters.peek() == Some(&'"') => fields.last_mut().unwrap().extend(letters.next()),
+            '"' => is_quoted = !is_quoted,
+            ',' if !is_quoted => fields.push(String::new()),
+            _ => fields.last_mut().unwrap().push(letter),
+        }
+    }
+    fields
+}
+
+/// A text as a field of a record, in quotes.
+pub fn quoted(text: &str) -> String {
+    format!("\"{}\"", text.replace('"', "\"\""))
+}

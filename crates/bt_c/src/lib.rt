@@ -1,0 +1,164 @@
+//! A table for programs in C and other languages: a session is opened, sent script after script, asked for the replies, and closed.
+//!
+//! C begins with a handle of zeros, and passes it by its address to one call at a time. A handle that has no session is answered so, by each call. What
+//! else C owes stands in `include/betable.h`, which has the calls and the codes of [`Status`] by name.
+//!
+//! ```text
+//! betable_session session = {0};
+//! betable_open(&session);
+//! betable_run(&session, script, length);          // table 2, batch 1
+//! betable_copy_replies(&session, 0, out, sizeof out);
+//! betable_close(&session);
+//! ```
+#![tactic(auto)]
+
+ghost use Rattle.std.specs.Prelude.{◌≡◌, ◌≢◌, ◌⊎◌, ◌-◌, [], IfSome, List, None, ℕ, drop, is_some, length, min, take, true, false};
+ghost use Rattle.std.specs.Option.{MatchOption};
+ghost use Rattle.bt_script.specs.Commands.{commands};
+ghost use Rattle.bt_shell.specs.Runs.{AreOneRun, EndsBetweenCommands, after_commands, refused_count, replies};
+ghost use Rattle.bt_shell.specs.Steps.{State};
+ghost use Rattle.bt_c.specs.Sessions.{StaysOpen, code_of, is_lost, session_of};
+ghost use Rattle.bt_c.specs.declared.status.Status.TheVariants as status;
+
+mod handle;
+mod parts;
+mod session;
+mod slot;
+mod status;
+
+use bt_script::RunFault;
+pub use handle::Handle;
+pub use session::Session;
+pub use status::Status;
+use std::alloc::Global;
+
+/// Opens a session that has no table. A handle that has a session keeps it.
+#[unsafe(no_mangle)]
+pub extern "C" fn betable_open(alloc: Global, handle: &mut Handle) -> u32
+    ensures opened { result ≡ code_of status.Done → MatchOption (session_of handle.new) ⊥ (λ session. (session.table ≡ None) × (session.text.items ≡ []) × (session.refused ≡ 0)) }
+    ensures closed { result ≡ code_of status.OutOfMemory → session_of handle.new ≡ None }
+    ensures ends { session_of handle.old ≡ None → (result ≡ code_of status.Done) ⊎ (result ≡ code_of status.OutOfMemory) }
+    ensures refused { is_some (session_of handle.old) ≡ true → (result ≡ code_of status.AlreadyOpen) × (session_of handle.new ≡ session_of handle.old) }
+{
+    if handle.is_open() {
+        return Status::AlreadyOpen.code();
+    }
+    let Ok(session) = Box::new(alloc, Session::new(alloc)) else {
+        return Status::OutOfMemory.code();
+    };
+    *handle = Handle::of(session);
+    Status::Done.code()
+}
+
+/// Carries out the commands of a script on the session's table. Their replies are kept until the next run.
+///
+/// `Done`: each command has its reply, and the table is what they leave. `OutOfMemory`: the replies of the first commands are there, whole; the command
+/// behind them changed nothing, or is carried out and memory was wanting for its reply, or the table is lost. `ReplyCut`: memory was wanting for the list of
+/// replies; the command of the last one is carried out, and the reply is not whole.
+#[unsafe(no_mangle)]
+pub extern "C" fn betable_run(alloc: Global, handle: &mut Handle, script: &[u8]) -> u32
+    ensures closed { session_of handle.old ≡ None → (result ≡ code_of status.NotOpen) × (session_of handle.new ≡ None) }
+    ensures open { is_some (session_of handle.new) ≡ is_some (session_of handle.old) }
+    ensures ends { is_some (session_of handle.old) ≡ true → (result ≡ code_of status.Done) ⊎ (result ≡ code_of status.OutOfMemory) ⊎ (result ≡ code_of status.ReplyCut) }
+    ensures written { result ≡ code_of status.Done → StaysOpen handle.old handle.new (λ old new. new.text.items ≡ replies old.table (commands script.now)) }
+    ensures state { result ≡ code_of status.Done → StaysOpen handle.old handle.new (λ old new. new.table ≡ after_commands old.table (commands script.now)) }
+    ensures refused { result ≡ code_of status.Done → StaysOpen handle.old handle.new (λ old new. new.refused ≡ refused_count old.table (commands script.now)) }
+    ensures memory { result ≡ code_of status.OutOfMemory → StaysOpen handle.old handle.new (λ old new. (n : ℕ) × (new.text.items ≡ replies old.table (take n (commands script.now)))) }
+    ensures cut { result ≡ code_of status.ReplyCut → StaysOpen handle.old handle.new (λ old new. (n : ℕ) × (new.text.items ≡ take n (replies old.table (commands script.now)))) }
+    ensures uncounted { result ≢ code_of status.Done → IfSome (session_of handle.new) (λ session. session.refused ≡ 0) }
+
+    // This script behind any that ends between two commands is the rest of one script.
+    ensures one_run { (first : List ℕ) (before : State) → EndsBetweenCommands first → AreOneRun before first script.now }
+{
+    let Some(mut session) = handle.take(alloc) else {
+        return Status::NotOpen.code();
+    };
+    let ended = session.run(alloc, script);
+    *handle = Handle::of(session);
+    match ended {
+        Ok(()) => Status::Done.code(),
+        Err(RunFault::OutOfMemory) => Status::OutOfMemory.code(),
+        Err(RunFault::Write) => Status::ReplyCut.code(),
+        // A run reads no stream.
+        Err(RunFault::Read) => unreachable!(),
+    }
+}
+
+/// How many bytes the replies to the last script have: none, where there is no session.
+#[unsafe(no_mangle)]
+pub extern "C" fn betable_replies_length(alloc: Global, handle: &mut Handle) -> usize
+    ensures count { MatchOption (session_of handle.old) (result ≡ 0) (λ session. result ≡ length session.text.items) }
+    ensures kept { session_of handle.new ≡ session_of handle.old }
+{
+    let Some(session) = handle.take(alloc) else {
+        return 0;
+    };
+    let count = session.text.len();
+    *handle = Handle::of(session);
+    count
+}
+
+/// Copies the bytes of the replies to the last script from a place on, as many as there are and as there is room for, and answers how many.
+#[unsafe(no_mangle)]
+pub extern "C" fn betable_copy_replies(
+    alloc: Global,
+    handle: &mut Handle,
+    from: usize,
+    out: &mut [u8],
+) -> usize
+    ensures bytes { MatchOption (session_of handle.old) (result ≡ 0) (λ session. take result out.new ≡ take result (drop from session.text.items)) }
+    ensures rest { drop result out.new ≡ drop result out.old }
+    ensures count { MatchOption (session_of handle.old) (result ≡ 0) (λ session. result ≡ min (length session.text.items - from) (length out.old)) }
+    ensures kept { session_of handle.new ≡ session_of handle.old }
+{
+    let Some(session) = handle.take(alloc) else {
+        return 0;
+    };
+    let count = session.copy(from, out);
+    *handle = Handle::of(session);
+    count
+}
+
+/// How many commands of the last script were refused. After a script that was not carried out to its end it is 0.
+#[unsafe(no_mangle)]
+pub extern "C" fn betable_refused_count(alloc: Global, handle: &mut Handle) -> usize
+    ensures count { MatchOption (session_of handle.old) (result ≡ 0) (λ session. result ≡ session.refused) }
+    ensures kept { session_of handle.new ≡ session_of handle.old }
+{
+    let Some(session) = handle.take(alloc) else {
+        return 0;
+    };
+    let count = session.refused;
+    *handle = Handle::of(session);
+    count
+}
+
+/// Whether the table was lost for want of memory: then each command on it is refused.
+#[unsafe(no_mangle)]
+pub extern "C" fn betable_is_lost(alloc: Global, handle: &mut Handle) -> bool
+    ensures lost { MatchOption (session_of handle.old) (result ≡ false) (λ session. result ≡ is_lost session.table) }
+    ensures kept { session_of handle.new ≡ session_of handle.old }
+{
+    let Some(session) = handle.take(alloc) else {
+        return false;
+    };
+    let is_lost = session.is_lost();
+    *handle = Handle::of(session);
+    is_lost
+}
+
+/// Closes the session, and gives its memory back. The handle has none afterwards.
+#[unsafe(no_mangle)]
+pub extern "C" fn betable_close(alloc: Global, handle: &mut Handle) -> u32
+    ensures closed { session_of handle.new ≡ None }
+    ensures open { is_some (session_of handle.old) ≡ true → result ≡ code_of status.Done }
+    ensures not_open { session_of handle.old ≡ None → result ≡ code_of status.NotOpen }
+{
+    match handle.take(alloc) {
+        None => Status::NotOpen.code(),
+        Some(session) => {
+            drop(session);
+            Status::Done.code()
+        }
+    }
+}

@@ -1,0 +1,2 @@
+-- What the crates above cite of the proofs of this one.
+pub mod Joins

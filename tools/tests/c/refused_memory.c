@@ -1,0 +1,218 @@
+/* Refuses each request for memory of a session in turn, alone and with all that follow it, and checks what the library answers and leaves.
+ *
+ *     refused_memory SCRIPT PROBE PLACE ..
+ *
+ * Linked with -Wl,--wrap=malloc,--wrap=realloc,--wrap=free. PLACE .. are where the commands of SCRIPT begin, and its end; replies to PROBE tell the state of
+ * a table. A run of SCRIPT ends with DONE, all replies and the state behind it; with OUT_OF_MEMORY, the replies of the first commands, and the state behind
+ * these, or behind one more, or a lost table; or with REPLY_CUT, those of the first commands and a part of one more, and the state behind that one. Then the
+ * session is closed, and has given all memory back. Prints how many requests were refused, and how the runs ended. */
+#include "betable.h"
+
+#include <stdio.h>
+#include <stdlib.h>
+#include <string.h>
+
+void *__real_malloc(size_t size);
+void *__real_realloc(void *block, size_t size);
+void __real_free(void *block);
+
+/* How many requests are to be granted first: none is refused where it is negative. Whether those behind the one that is refused are granted. */
+static long granted = -1;
+static int is_one = 0;
+static long blocks = 0;
+
+static int is_refused(void) {
+    if (granted < 0) {
+        return 0;
+    }
+    if (granted > 0) {
+        granted--;
+        return 0;
+    }
+    if (is_one) {
+        granted = -1;
+    }
+    return 1;
+}
+
+void *__wrap_malloc(size_t size) {
+    void *block = is_refused() ? NULL : __real_malloc(size);
+    blocks += block != NULL;
+    return block;
+}
+
+void *__wrap_realloc(void *block, size_t size) {
+    void *larger = is_refused() ? NULL : __real_realloc(block, size);
+    blocks += block == NULL && larger != NULL;
+    return larger;
+}
+
+void __wrap_free(void *block) {
+    blocks -= block != NULL;
+    __real_free(block);
+}
+
+typedef struct {
+    unsigned char *at;
+    size_t length;
+} bytes;
+
+/* The state of a table, and how long the replies are up to there. */
+typedef struct {
+    bytes state;
+    size_t length;
+} moment;
+
+static bytes script, probe, wanted;
+static moment *moments;
+static size_t command_count;
+static unsigned char found[1 << 20];
+static long lost = 0, between = 0, cut = 0;
+
+static int fail(const char *what, long request) {
+    printf("%s at request %ld\n", what, request);
+    return 1;
+}
+
+static bytes file_bytes(const char *path) {
+    FILE *file = fopen(path, "rb");
+    if (file == NULL || fseek(file, 0, SEEK_END) != 0) {
+        exit(3);
+    }
+    bytes whole = {NULL, (size_t)ftell(file)};
+    rewind(file);
+    whole.at = malloc(whole.length + 1);
+    if (fread(whole.at, 1, whole.length, file) != whole.length) {
+        exit(3);
+    }
+    fclose(file);
+    return whole;
+}
+
+/* The replies to a script, in a block of their own. */
+static bytes replies(betable_session *session, const unsigned char *given, size_t length) {
+    if (betable_run(session, given, length) != BETABLE_DONE) {
+        exit(4);
+    }
+    bytes text = {NULL, betable_replies_length(session)};
+    text.at = malloc(text.length + 1);
+    if (betable_copy_replies(session, 0, text.at, text.length) != text.length) {
+        exit(4);
+    }
+    return text;
+}
+
+static int is_same(bytes one, bytes other) { return one.length == other.length && memcmp(one.at, other.at, one.length) == 0; }
+
+/* The state after each number of commands, and the replies up to there. */
+static void note_moments(char **places) {
+    moments = malloc((command_count + 1) * sizeof *moments);
+    for (size_t count = 0; count <= command_count; count++) {
+        betable_session session = BETABLE_CLOSED;
+        if (betable_open(&session) != BETABLE_DONE) {
+            exit(4);
+        }
+        bytes text = replies(&session, script.at, strtoul(places[count], NULL, 10));
+        moments[count] = (moment){replies(&session, probe.at, probe.length), text.length};
+        betable_close(&session);
+        wanted = text;
+        if (count < command_count) {
+            free(text.at);
+        }
+    }
+}
+
+/* Whether the table of a session is lost, by what it answers, when memory is there. */
+static int is_lost_by_reply(betable_session *session) {
+    static const unsigned char get[] = "get 1\n";
+    bytes text = replies(session, get, sizeof get - 1);
+    int is_lost = text.length >= 17 && memcmp(text.at, "refused 18 Failed", 17) == 0;
+    free(text.at);
+    return is_lost;
+}
+
+/* Whether the session has the state behind so many commands. */
+static int has_state(betable_session *session, size_t count) {
+    bytes state = replies(session, probe.at, probe.length);
+    int has = count <= command_count && is_same(state, moments[count].state);
+    free(state.at);
+    return has;
+}
+
+/* What a run left that ended so with so many bytes of replies. */
+static int check(betable_session *session, betable_status status, size_t length, long request) {
+    size_t whole = 0;
+    while (whole < command_count && moments[whole + 1].length <= length) {
+        whole++;
+    }
+    int is_lost = betable_is_lost(session);
+    if (is_lost != is_lost_by_reply(session)) {
+        return fail("a table that is lost or not", request);
+    }
+    switch (status) {
+    case BETABLE_DONE:
+        return whole == command_count && has_state(session, whole) ? 0 : fail("replies or a state that is not the last", request);
+    case BETABLE_OUT_OF_MEMORY:
+        if (moments[whole].length != length) {
+            return fail("a reply that is cut", request);
+        }
+        lost += is_lost;
+        between += !is_lost && !has_state(session, whole);
+        return is_lost || has_state(session, whole) || has_state(session, whole + 1) ? 0 : fail("a state that is not the next", request);
+    case BETABLE_REPLY_CUT:
+        cut++;
+        return has_state(session, whole + 1) ? 0 : fail("a state that is not that of the cut reply", request);
+    default:
+        return fail("another status", request);
+    }
+}
+
+/* One session with a request that is refused. 2: the request was not reached. */
+static int one(long request) {
+    long before = blocks;
+    betable_session session = BETABLE_CLOSED;
+    granted = request;
+    betable_status status = betable_open(&session);
+    if (status == BETABLE_OUT_OF_MEMORY) {
+        granted = -1;
+        return betable_close(&session) == BETABLE_NOT_OPEN && blocks == before ? 0 : fail("open after a session that is not closed", request);
+    }
+    status = betable_run(&session, script.at, script.length);
+    int is_reached = granted == 0 || (is_one && granted < 0);
+    granted = -1;
+    size_t length = betable_copy_replies(&session, 0, found, sizeof found);
+    if (length > wanted.length || memcmp(found, wanted.at, length) != 0 || length != betable_replies_length(&session)) {
+        return fail("other replies", request);
+    }
+    if (status != BETABLE_DONE && betable_refused_count(&session) != 0) {
+        return fail("a count of refused commands", request);
+    }
+    if (check(&session, status, length, request) != 0) {
+        return 1;
+    }
+    if (betable_close(&session) != BETABLE_DONE || session.at != NULL || blocks != before) {
+        return fail("memory that is not given back", request);
+    }
+    return is_reached ? 0 : 2;
+}
+
+int main(int count, char **words) {
+    if (count < 4) {
+        return 3;
+    }
+    script = file_bytes(words[1]), probe = file_bytes(words[2]);
+    command_count = (size_t)count - 4;
+    note_moments(words + 3);
+    long requests[2] = {0, 0};
+    for (is_one = 0; is_one < 2; is_one++) {
+        int ended;
+        while ((ended = one(requests[is_one])) == 0) {
+            requests[is_one]++;
+        }
+        if (ended == 1) {
+            return 1;
+        }
+    }
+    printf("%ld and %ld requests refused: %ld tables lost, %ld commands without a reply, %ld replies cut\n", requests[0], requests[1], lost, between, cut);
+    return requests[0] > 0 && requests[1] > 0 ? 0 : 5;
+}

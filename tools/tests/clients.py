@@ -1,0 +1,317 @@
+"""Tests of the library for C, by its clients in C, Python and Rust: worked scripts in parts, sessions side by side, rows and refusals, wrong use, refused
+memory, valgrind, and the programs of docs/C.md. The library is that of BETABLE_LIBRARY, or bin/build_c builds it. Where valgrind or rustc is not installed
+a line says so, and what needs it passes without a look."""
+
+import os
+import re
+import shutil
+import subprocess
+import sys
+import tempfile
+import threading
+from functools import cache
+from pathlib import Path
+
+from common import expect, expect_within, TOP
+
+WORKED = TOP / "crates/replay/data"
+HERE = Path(__file__).resolve().parent
+RUST_EXAMPLE = TOP / "clients/rust/example.rs"
+TEXTS = ["", "Oslo", "Bergen, west", '"', 'a"b', " ", " x ", ".", "\ufeff", "\ufeffx", "end", "æøå", "a,b,", '","', "\0", "go", "refused 1 Syntax"]
+LONG_TEXTS = ["a\nb", '\r\n"', "\n", "row 1\nrefused 6 BadField 1\n", "end\nend\n"]
+
+
+@cache
+def library():
+    """The folder of the library."""
+    folder = os.environ.get("BETABLE_LIBRARY")
+    if folder is None:
+        folder = str(TOP / "out")
+        built = subprocess.run([TOP / "bin/build_c", folder], capture_output=True)
+        expect((built.returncode, built.stderr), (0, b""))
+    os.environ["BETABLE_LIBRARY"] = folder
+    return folder
+
+
+@cache
+def betable():
+    """The Python client, as a module."""
+    library()
+    sys.path.insert(0, str(TOP / "clients/python"))
+    return __import__("betable")
+
+
+@cache
+def programs():
+    """A folder that goes with the process."""
+    return tempfile.TemporaryDirectory()
+
+
+def c_program(source, *options):
+    path = Path(programs().name) / source.stem
+    if not path.exists():
+        words = ["cc", "-std=c11", "-O1", "-g", "-Wall", "-Wextra", "-Werror", f"-I{TOP}/include", source, *options, f"{library()}/libbt_c.a", "-o", path]
+        compiled = subprocess.run(words, capture_output=True, text=True)
+        expect((compiled.returncode, compiled.stderr), (0, ""))
+    return path
+
+
+def is_installed(tool, what):
+    """Whether a tool is installed. Where it is not, a line says what is not tested."""
+    if shutil.which(tool) is None:
+        print(f"{tool} is not installed: {what} not tested")
+        return False
+    return True
+
+
+def compiled_by_rust(source):
+    """How clients/rust/build ended on a program, and the path of that."""
+    library()
+    path = Path(programs().name) / f"rust_{source.stem}"
+    return subprocess.run([TOP / "clients/rust/build", path, source], capture_output=True, text=True), path
+
+
+@cache
+def rust_program(source):
+    compiled, path = compiled_by_rust(source)
+    expect((compiled.returncode, compiled.stderr), (0, ""))
+    return path
+
+
+@cache
+def worked_scripts():
+    """Each worked script with its replies and the places where it may be cut."""
+    found = []
+    for wanted in sorted(WORKED.glob("*.stdout")):
+        script = wanted.with_suffix("")
+        found.append((script, wanted, places_between(script.read_bytes())))
+    expect(len(found) > 50, True)
+    return found
+
+
+def places_between(script):
+    """Where commands begin, and the end: by the lines that the Python client finds, whose replies the library is to give."""
+    starts = [0]
+    for line in script.split(b"\n")[:-1]:
+        starts.append(starts[-1] + len(line) + 1)
+    places = {starts[number - 1] for number, _ in betable()._commands(script)}
+    return sorted(places | {0, len(script)})
+
+
+# Each test of cuts takes all pairs of places, with a second session alive beside the first, which takes the script in two parts.
+
+
+def cut_scripts_answer_as_whole_ones_in_c():
+    program = c_program(HERE / "c/cuts.c")
+    for script, wanted, places in worked_scripts():
+        ended = subprocess.run([program, script, wanted, "1", *map(str, places)], capture_output=True, timeout=60)
+        expect((script.name, ended.returncode), (script.name, 0))
+
+
+def cut_scripts_answer_as_whole_ones_in_python():
+    session = betable().Session
+    for script, wanted, places in worked_scripts():
+        text, wanted = script.read_bytes(), wanted.read_bytes()
+        for high in places:
+            with session() as two:
+                of_two = [two.replies(text[:high])]
+                for low in places[: places.index(high) + 1]:
+                    with session() as three:
+                        found = b"".join(three.replies(part) for part in (text[:low], text[low:high], text[high:]))
+                    if found != wanted:
+                        expect((script.name, low, high), "equal replies")
+                of_two.append(two.replies(text[high:]))
+            expect((script.name, high, b"".join(of_two)), (script.name, high, wanted))
+
+
+def cut_scripts_answer_as_whole_ones_in_rust():
+    if is_installed("rustc", "clients/rust is"):
+        words = [word for script, wanted, places in worked_scripts() for word in ("--", script, wanted, *map(str, places))]
+        ended = subprocess.run([rust_program(HERE / "rust/cuts.rs"), *words[1:]], capture_output=True, text=True, timeout=60)
+        expect((ended.returncode, ended.stdout, ended.stderr), (0, "", ""))
+
+
+def examples_run_files_on_one_table():
+    """The example programs of C and Rust, which take parts of a script as files."""
+    programs_of_files = [c_program(TOP / "clients/c/example.c")] + ([rust_program(RUST_EXAMPLE)] if is_installed("rustc", "clients/rust is") else [])
+    with tempfile.TemporaryDirectory() as folder:
+        paths = [Path(folder) / str(number) for number in range(3)]
+        for script, wanted, places in worked_scripts()[::5]:
+            text, middle = script.read_bytes(), places[len(places) // 2]
+            for path, part in zip(paths, (text[:middle], b"", text[middle:])):
+                path.write_bytes(part)
+            for program in programs_of_files:
+                ended = subprocess.run([program, *paths], capture_output=True, timeout=60)
+                status = 2 if re.search(rb"^refused ", ended.stdout, re.MULTILINE) else 0
+                expect((script.name, ended.stdout, ended.returncode, ended.stderr), (script.name, wanted.read_bytes(), status, b""))
+
+
+def sessions_of_two_threads_do_not_meet():
+    """Each with a session of its own, on scripts of its own, at the same time: Python lets go of its lock during a call."""
+    client, faults = betable(), []
+
+    def work(scripts):
+        try:
+            for script, wanted, _ in scripts:
+                with client.Session() as session:
+                    expect(session.replies(script.read_bytes()), wanted.read_bytes())
+        except Exception as fault:
+            faults.append(fault)
+
+    threads = [threading.Thread(target=work, args=[worked_scripts()[first::2]]) for first in range(2)]
+    for thread in threads:
+        thread.start()
+    for thread in threads:
+        thread.join()
+    expect(faults, [])
+
+
+def programs_of_the_document_print_what_they_say():
+    """Those of docs/C.md, by the lines that stand behind them."""
+    page = (TOP / "docs/C.md").read_text()
+    for language, ending in (("c", ".c"), ("python", ".py"), ("rust", ".rs")):
+        code, behind = page.split(f"```{language}\n")[1].split("```\n", 1)
+        source, wanted = Path(programs().name) / f"ten_lines{ending}", behind.split("```text\n")[1].split("```")[0]
+        source.write_text(code)
+        if language == "rust" and not is_installed("rustc", "clients/rust is"):
+            continue
+        words = {"c": lambda: [c_program(source)], "python": lambda: [sys.executable, source], "rust": lambda: [rust_program(source)]}[language]()
+        library()
+        ended = subprocess.run(words, capture_output=True, text=True, env={**os.environ, "PYTHONPATH": str(TOP / "clients/python")})
+        expect((language, ended.returncode, ended.stdout, ended.stderr), (language, 0, wanted, ""))
+
+
+def examples_print_their_rows():
+    ended = subprocess.run([c_program(TOP / "clients/c/example.c")], capture_output=True, text=True)
+    expect((ended.returncode, ended.stdout, ended.stderr), (0, 'table 3\nbatch 2\nrow 2,"Bergen, west",10\n', ""))
+    if is_installed("rustc", "clients/rust is"):
+        ended = subprocess.run([rust_program(RUST_EXAMPLE)], capture_output=True, text=True)
+        expect((ended.returncode, ended.stdout, ended.stderr), (2, '["1", "Oslo", "30"]\n["2", "Bergen, west", "10"]\nrefused 7 BadLength 1\n', ""))
+
+
+def rows_come_as_they_went():
+    """Each text in quotes where it wants them, and each value by its kind."""
+    client = betable()
+    with client.Session() as session:
+        session.run("table 16 64 16 1 id:int name:text ok:flag\n")
+        rows = [(number - 3, text, number % 2 == 0) for number, text in enumerate(TEXTS)]
+        expect(session.put(iter(rows), most=5), len(rows))
+        expect(session.scan(), rows)
+        expect([session.get(row[0]) for row in rows], rows)
+        expect(session.get(1_000), None)
+        expect(session.scan("primary", (0,), (2,)), rows[3:5])
+        session.run("index by_name on name include ok\nbuild by_name 100\n")
+        expect(session.scan("by_name", ("Oslo",), ("Oslo", 1)), [("Oslo", -2, False)])
+        session.batch([client.upsert(0, set={"name": 'x,"y"', "ok": False}), client.delete(1)])
+        expect((session.get(0), session.get(1)), ((0, 'x,"y"', False), None))
+        expect(session.sums("primary", 1, "id", (5,), (6,)), [(1, 5, 5)])
+    with client.Session() as session:
+        session.run("table 16 64 16 1 id:text name:text\n")
+        rows = sorted((text, text) for text in TEXTS + LONG_TEXTS)
+        expect(session.load(rows), len(rows))
+        expect(session.scan(), rows)
+
+
+def texts_that_no_line_has_are_told():
+    client = betable()
+    with client.Session() as session:
+        session.run("table 16 64 16 1 id:text name:text\n")
+        for call in (lambda: session.put([("a", "b\nc")]), lambda: session.get("\r"), lambda: session.load([("a", "b\n.\nc")])):
+            expect(fault_of(call), ValueError)
+        expect(session.scan(), [])
+
+
+def refusals_have_line_and_name():
+    client = betable()
+    with client.Session() as session:
+        session.run("table 16 64 16 1 id:int name:text\n")
+        try:
+            session.run("get 1\n\nbatch\nput 1,a\nput x,b\nend\nscan primary\ngo\nnothing\n")
+        except client.Refused as refused:
+            found = refused.line, refused.number, refused.name, refused.item, [reply[0] for reply in refused.replies]
+            expect(found, (3, 6, "BadField", 2, ["none", "refused 6 BadField 2", "rows 0", "refused 1 Syntax"]))
+            expect_within("line 3: refused 6 BadField 2", str(refused))
+        else:
+            expect("no fault", "Refused")
+        expect(fault_of(lambda: session.put([(1, "a"), (2,)])), client.Refused)
+        expect(session.scan(), [])
+
+
+def fault_of(call):
+    """The type of what a call raises."""
+    try:
+        call()
+    except Exception as fault:
+        return type(fault)
+    return None
+
+
+def wrong_use_is_answered():
+    ended = subprocess.run([c_program(HERE / "c/wrong_use.c")], capture_output=True)
+    expect(ended.returncode, 0)
+    session = betable().Session()
+    faults = []
+    other = threading.Thread(target=lambda: faults.append(fault_of(lambda: session.run("get 1\n"))))
+    other.start()
+    other.join()
+    expect(faults, [RuntimeError])
+    session.close()
+    session.close()
+    expect([fault_of(lambda: session.run("get 1\n")), fault_of(lambda: session.is_lost)], [ValueError, ValueError])
+
+
+def rust_sessions_stay_on_their_thread():
+    if is_installed("rustc", "clients/rust is"):
+        source = Path(programs().name) / "sent.rs"
+        source.write_text("fn main() {\n    let session = betable::Session::new().unwrap();\n    std::thread::spawn(move || drop(session));\n}\n")
+        compiled, _ = compiled_by_rust(source)
+        expect(compiled.returncode != 0, True)
+        expect_within("cannot be sent between threads safely", compiled.stderr)
+
+
+def refused_memory_is_answered():
+    """Each request, alone and with those behind it: what is answered, what state is left, and that all memory is given back."""
+    program = c_program(HERE / "c/refused_memory.c", "-Wl,--wrap=malloc,--wrap=realloc,--wrap=free")
+    for script in (TOP / "tools/refused_allocations/all_commands.script", WORKED / "building_index"):
+        text = script.read_bytes()
+        names = ["primary", *sorted(set(re.findall(r"^index (\w+)", text.decode(), re.MULTILINE)))]
+        probe = Path(programs().name) / "probe"
+        probe.write_text("".join(f"image {name}\n" for name in names))
+        ended = subprocess.run([program, script, probe, *map(str, places_between(text))], capture_output=True, text=True, timeout=60)
+        expect((script.name, ended.returncode, ended.stderr), (script.name, 0, ""))
+
+
+def valgrind_finds_nothing():
+    if not is_installed("valgrind", "what valgrind finds is"):
+        return
+    words = ["valgrind", "-q", "--leak-check=full", "--errors-for-leak-kinds=all", "--error-exitcode=9"]
+    ended = subprocess.run([*words, c_program(HERE / "c/wrong_use.c")], capture_output=True, text=True)
+    expect((ended.returncode, ended.stderr), (0, ""))
+    script = WORKED / "building_index"
+    places = places_between(script.read_bytes())
+    step = max(1, len(places) * (len(places) + 1) // 2 // 5)
+    program = c_program(HERE / "c/cuts.c")
+    ended = subprocess.run([*words, program, script, f"{script}.stdout", str(step), *map(str, places)], capture_output=True, text=True)
+    expect((ended.returncode, ended.stderr), (0, ""))
+
+
+# Before the tests meet, which all want it.
+BUILDS = [library]
+
+TESTS_OF_TEXTS = [
+    cut_scripts_answer_as_whole_ones_in_c,
+    cut_scripts_answer_as_whole_ones_in_python,
+    cut_scripts_answer_as_whole_ones_in_rust,
+    examples_run_files_on_one_table,
+    sessions_of_two_threads_do_not_meet,
+    programs_of_the_document_print_what_they_say,
+    examples_print_their_rows,
+    rows_come_as_they_went,
+    texts_that_no_line_has_are_told,
+    refusals_have_line_and_name,
+    wrong_use_is_answered,
+    rust_sessions_stay_on_their_thread,
+    refused_memory_is_answered,
+    valgrind_finds_nothing,
+]
+TESTS = []
