@@ -42,7 +42,7 @@ typedef struct {
 } betable_session;
 
 /* A session that is not open. */
-#define BETABLE_CLOSED {0}
+#define BETABLE_CLOSED {NULL, false}
 
 /* How a call ended. */
 typedef enum {

@@ -12,7 +12,7 @@ import threading
 from functools import cache
 from pathlib import Path
 
-from common import expect, expect_within, TOP
+from common import expect, expect_within, SECONDS, TOP
 
 WORKED = TOP / "crates/replay/data"
 HERE = Path(__file__).resolve().parent
@@ -56,6 +56,16 @@ def c_program(source, *options):
     return path
 
 
+def what_tests_share_is_built():
+    """The library, and the programs that more than one test runs, before tests run side by side."""
+    library()
+    worked_scripts()
+    for source in (TOP / "clients/c/example.c", HERE / "c/cuts.c", HERE / "c/wrong_use.c"):
+        c_program(source)
+    if shutil.which("rustc"):
+        rust_program(RUST_EXAMPLE)
+
+
 def is_installed(tool, what):
     """Whether a tool is installed. Where it is not, a line says what is not tested."""
     if shutil.which(tool) is None:
@@ -65,9 +75,10 @@ def is_installed(tool, what):
 
 
 def compiled_by_rust(source):
-    """How clients/rust/build ended on a program, and the path of that."""
+    """How clients/rust/build ended on a program, and the path of that, in a folder of its own, since the crate is put beside it."""
     library()
-    path = Path(programs().name) / f"rust_{source.stem}"
+    path = Path(programs().name) / f"rust_{source.stem}" / source.stem
+    path.parent.mkdir(exist_ok=True)
     return subprocess.run([TOP / "clients/rust/build", path, source], capture_output=True, text=True), path
 
 
@@ -104,7 +115,7 @@ def places_between(script):
 def cut_scripts_answer_as_whole_ones_in_c():
     program = c_program(HERE / "c/cuts.c")
     for script, wanted, places in worked_scripts():
-        ended = subprocess.run([program, script, wanted, "1", *map(str, places)], capture_output=True, timeout=60)
+        ended = subprocess.run([program, script, wanted, "1", *map(str, places)], capture_output=True, timeout=SECONDS)
         expect((script.name, ended.returncode), (script.name, 0))
 
 
@@ -127,7 +138,7 @@ def cut_scripts_answer_as_whole_ones_in_python():
 def cut_scripts_answer_as_whole_ones_in_rust():
     if is_installed("rustc", "clients/rust is"):
         words = [word for script, wanted, places in worked_scripts() for word in ("--", script, wanted, *map(str, places))]
-        ended = subprocess.run([rust_program(HERE / "rust/cuts.rs"), *words[1:]], capture_output=True, text=True, timeout=60)
+        ended = subprocess.run([rust_program(HERE / "rust/cuts.rs"), *words[1:]], capture_output=True, text=True, timeout=SECONDS)
         expect((ended.returncode, ended.stdout, ended.stderr), (0, "", ""))
 
 
@@ -141,7 +152,7 @@ def examples_run_files_on_one_table():
             for path, part in zip(paths, (text[:middle], b"", text[middle:])):
                 path.write_bytes(part)
             for program in programs_of_files:
-                ended = subprocess.run([program, *paths], capture_output=True, timeout=60)
+                ended = subprocess.run([program, *paths], capture_output=True, timeout=SECONDS)
                 status = 2 if re.search(rb"^refused ", ended.stdout, re.MULTILINE) else 0
                 expect((script.name, ended.stdout, ended.returncode, ended.stderr), (script.name, wanted.read_bytes(), status, b""))
 
@@ -277,7 +288,7 @@ def refused_memory_is_answered():
         names = ["primary", *sorted(set(re.findall(r"^index (\w+)", text.decode(), re.MULTILINE)))]
         probe = Path(programs().name) / "probe"
         probe.write_text("".join(f"image {name}\n" for name in names))
-        ended = subprocess.run([program, script, probe, *map(str, places_between(text))], capture_output=True, text=True, timeout=60)
+        ended = subprocess.run([program, script, probe, *map(str, places_between(text))], capture_output=True, text=True, timeout=SECONDS)
         expect((script.name, ended.returncode, ended.stderr), (script.name, 0, ""))
 
 
@@ -294,9 +305,6 @@ def valgrind_finds_nothing():
     ended = subprocess.run([*words, program, script, f"{script}.stdout", str(step), *map(str, places)], capture_output=True, text=True)
     expect((ended.returncode, ended.stderr), (0, ""))
 
-
-# Before the tests meet, which all want it.
-BUILDS = [library]
 
 TESTS_OF_TEXTS = [
     cut_scripts_answer_as_whole_ones_in_c,
@@ -315,3 +323,4 @@ TESTS_OF_TEXTS = [
     valgrind_finds_nothing,
 ]
 TESTS = []
+BUILDS = [what_tests_share_is_built]

@@ -118,7 +118,7 @@ def each_page_is_linked_from_the_readme():
 FOLDERS = ("bench", "bin", "clients", "crates", "docs", "examples", "include", "tools")
 PARTS = ("src", "specs", "proofs", "must-fail")
 # Of what is in these folders the repository has nothing.
-MADE = ("out", "out/betable", "out/c_calls")
+MADE = ("out", "out/betable", "c_calls")
 
 
 @cache
