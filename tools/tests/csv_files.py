@@ -244,6 +244,19 @@ def from_csv_makes_scripts_of_64_mebibytes_and_no_byte_more():
             expect_within(said, found[2])
 
 
+def all_of_terminal(near):
+    """What was written to the far end of a terminal, which is closed. It may come in parts."""
+    text = b""
+    while True:
+        try:
+            part = os.read(near, 1000)
+        except OSError:
+            return text
+        if not part:
+            return text
+        text += part
+
+
 def from_csv_shows_progress_at_a_terminal_only():
     near, far = pty.openpty()
     before = sys.stderr
@@ -255,9 +268,8 @@ def from_csv_shows_progress_at_a_terminal_only():
             progress.due -= 1
             progress.show(1234567)
             progress.end()
-            terminal.flush()
-            shown = os.read(near, 1000).decode()
         sys.stderr = io.StringIO()
+        shown = all_of_terminal(near).decode()
         expect(FROM_CSV.Progress().due, None)
     finally:
         sys.stderr = before
