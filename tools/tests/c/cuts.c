@@ -4,30 +4,11 @@
  *
  * Every STEP-th pair is taken. Meanwhile a second session has the script in two parts, cut at the second place. The status is 1 at the first difference. */
 #include "betable.h"
+#include "files.h"
 
 #include <stdio.h>
 #include <stdlib.h>
 #include <string.h>
-
-typedef struct {
-    unsigned char *at;
-    size_t length;
-} bytes;
-
-static bytes file_bytes(const char *path) {
-    FILE *file = fopen(path, "rb");
-    if (file == NULL || fseek(file, 0, SEEK_END) != 0) {
-        exit(3);
-    }
-    bytes whole = {NULL, (size_t)ftell(file)};
-    rewind(file);
-    whole.at = malloc(whole.length + 1);
-    if (fread(whole.at, 1, whole.length, file) != whole.length) {
-        exit(3);
-    }
-    fclose(file);
-    return whole;
-}
 
 /* Runs a part, and puts its replies behind those that there are. */
 static void run(betable_session *session, bytes script, size_t from, size_t to, bytes *replies, size_t room) {

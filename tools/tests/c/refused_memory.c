@@ -7,6 +7,7 @@
  * these, or behind one more, or a lost table; or with REPLY_CUT, those of the first commands and a part of one more, and the state behind that one. Then the
  * session is closed, and has given all memory back. Prints how many requests were refused, and how the runs ended. */
 #include "betable.h"
+#include "files.h"
 
 #include <stdio.h>
 #include <stdlib.h>
@@ -52,11 +53,6 @@ void __wrap_free(void *block) {
     __real_free(block);
 }
 
-typedef struct {
-    unsigned char *at;
-    size_t length;
-} bytes;
-
 /* The state of a table, and how long the replies are up to there. */
 typedef struct {
     bytes state;
@@ -72,21 +68,6 @@ static long lost = 0, between = 0, cut = 0;
 static int fail(const char *what, long request) {
     printf("%s at request %ld\n", what, request);
     return 1;
-}
-
-static bytes file_bytes(const char *path) {
-    FILE *file = fopen(path, "rb");
-    if (file == NULL || fseek(file, 0, SEEK_END) != 0) {
-        exit(3);
-    }
-    bytes whole = {NULL, (size_t)ftell(file)};
-    rewind(file);
-    whole.at = malloc(whole.length + 1);
-    if (fread(whole.at, 1, whole.length, file) != whole.length) {
-        exit(3);
-    }
-    fclose(file);
-    return whole;
 }
 
 /* The replies to a script, in a block of their own. */
