@@ -68,7 +68,7 @@ class Column:
         """Decimals as ints, each with so many digits behind the point; what is none stays as it is."""
         digits, results = self.digits, []
         joined = "\n".join(values) + "\n"
-        if digits and re.fullmatch(rf"(?:-?[0-9]{{1,{18 - digits}}}\.[0-9]{{{digits}}}\n)*+", joined) and joined.count("\n") == len(values):
+        if digits and re.fullmatch(rf"(?>-?[0-9]{{1,{18 - digits}}}\.[0-9]{{{digits}}}\n)*+", joined) and joined.count("\n") == len(values):
             return list(map(str, map(int, joined.replace(".", "").split())))
         for record, value in enumerate(values, first):
             whole, _, part = (value.replace(",", ".") if self.has_decimal_commas else value).partition(".")

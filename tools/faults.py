@@ -158,11 +158,11 @@ class SurePatterns:
         """Lines of a batch that have no fault, with blank ones between them, as many as there are."""
         columns, key = self.values(self.table.columns), self.values(self.table.key)
         record = rb"(?=... (?![\r\n]|%b))(?:put %b|del %b|ups %b%b)" % (MARK, columns, key, key, self.operations())
-        return re.compile(rb"(?:(?> *(?:%b)?\r?)\n)*+" % record)
+        return re.compile(rb"(?>(?> *(?:%b)?\r?)\n)*+" % record)
 
     def records(self):
         """Records of a load that have no fault, as many as there are."""
-        return re.compile(rb"(?:(?>%b)[\r\n]++)*+" % self.record())
+        return re.compile(rb"(?>(?>%b)[\r\n]++)*+" % self.record())
 
     def record(self):
         return rb"(?=[^\r\n])%b" % self.values(self.table.columns)
@@ -192,7 +192,7 @@ def doubtful(block, number, at, sure, one):
 def batch_faults(command, table):
     """The faults of a batch's lines, in order."""
     faults, block = MessageFaults(table), command.block
-    sure = SurePatterns(table, block, LINE_BREAKS).messages() if table else re.compile(rb"(?: *\r?\n)*+")
+    sure = SurePatterns(table, block, LINE_BREAKS).messages() if table else re.compile(rb"(?> *\r?\n)*+")
     for number, raw in doubtful(block, command.head.number + 1, 0, sure, LINE):
         line = Line(number, raw)
         if line.text:

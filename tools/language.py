@@ -195,11 +195,12 @@ def printed_record(values):
 QUOTED = rb'"[^"]*(?:""[^"]*)*'
 FIELD = re.compile(rb'(?:%b(?:"[^,\r\n]*)?|[^,\r\n]*)' % QUOTED)
 RECORD = re.compile(rb"(?=[^\r\n])%b(?:,%b)*" % (FIELD.pattern, FIELD.pattern))
-# What has no quote that looks broken: of a CSV text, and of the lines of a batch.
-SOUND_QUOTE = rb'"[^"]*+(?:""[^"]*+)*+"(?![^,\r\n])'
-SOUND_TEXT = re.compile(rb'(?:[^"]++|(?<![^,\r\n])%b|(?<=[^,\r\n])")*+' % SOUND_QUOTE)
+# What has no quote that looks broken: of a CSV text, and of the lines of a batch. What is repeated as a whole is atomic by itself too, here and elsewhere,
+# since Python 3.11.2 goes wrong where it is not.
+SOUND_QUOTE = rb'"[^"]*+(?>""[^"]*+)*+"(?![^,\r\n])'
+SOUND_TEXT = re.compile(rb'(?>[^"]++|(?<![^,\r\n])%b|(?<=[^,\r\n])")*+' % SOUND_QUOTE)
 SOUND_FIELD = rb'(?:%b|(?!")[^,\n]*+)' % SOUND_QUOTE.replace(rb'[^"]', rb'[^"\n]')
-SOUND_LINES = re.compile(rb'(?:[^"\n]*+\n| *+(?:put|del|ups) (?:%b)?+%b(?:,%b)*+\r?\n)*+' % (MARK, SOUND_FIELD, SOUND_FIELD))
+SOUND_LINES = re.compile(rb'(?>[^"\n]*+\n| *+(?:put|del|ups) (?>%b)?+%b(?>,%b)*+\r?\n)*+' % (MARK, SOUND_FIELD, SOUND_FIELD))
 QUOTED_FIELD = re.compile(rb'(?<![^,\r\n])(%b)("?)([^,\r\n]*)' % QUOTED)
 
 
