@@ -90,7 +90,7 @@ class Column:
         if "\n.\n" in joined or "\n.\r\n" in joined:
             values = self.without_points(values, first)
         longest = max(map(len, values))
-        if longest > MOST_TEXT or (longest > MOST_TEXT // 4 and not joined.isascii()):
+        if longest > self.most_bytes() or (longest > MOST_TEXT // 4 and not joined.isascii()):
             values = self.short(values, first)
         return values
 
@@ -106,16 +106,20 @@ class Column:
             results.append(value)
         return results
 
+    def most_bytes(self):
+        """How long a field may be: bytes have two digits each."""
+        return 2 * MOST_TEXT if self.wanted == "bytes" else MOST_TEXT
+
     def short(self, values, first):
         """The values with no more bytes than a text has, where they are to be cut."""
-        results = []
+        results, most = [], self.most_bytes()
         for record, value in enumerate(values, first):
             size = len(value.encode())
-            if size > MOST_TEXT and self.is_cut:
-                value = value.encode()[:MOST_TEXT].decode("utf-8", "ignore")
+            if size > most and self.is_cut:
+                value = value.encode()[:most].decode("utf-8", "ignore")
                 self.cut += 1
-            elif size > MOST_TEXT:
-                self.fault(record, f"has {size:,} bytes, the most are {MOST_TEXT} (--cut {self.name} cuts such)")
+            elif size > most:
+                self.fault(record, f"has {size:,} bytes, the most are {most} (--cut {self.name} cuts such)")
             results.append(value)
         return results
 
@@ -125,6 +129,8 @@ class Column:
             form, are_lines = DIGITS if self.wanted == "int" else FLAGS, joined.count("\n") == len(values)
             if "" in values or not are_lines or not form.fullmatch(joined) or max(map(len, values)) > 18:
                 self.check(values, first)
+        elif self.wanted == "bytes":
+            self.check(values, first)
         elif self.could_be and self.digits is None:
             before = self.could_be
             self.could_be = self.kinds_of(values, joined) if joined.count("\n") == len(values) else set()

@@ -5,8 +5,9 @@ from itertools import chain
 
 from forms import head_faults, no_block_word, record_reasons, spelled, words_of
 from language import (
-    BLOCK_WORDS, BUFFERS, BUFFERS_IN_BYTES, FANOUTS, FIELD, FORMS, KINDS, LEAVES, Line, MARK, MOST_COLUMNS, MOST_INCLUDED, MOST_INDEXES, MOST_KEY_COLUMNS,
-    MOST_MESSAGES, MOST_ON, MOST_OPERATIONS, OPERATIONS, PRIMARY, RECORD, counted, fields, index_of, printed_field, record_of_line, spans, visible,
+    BLOCK_WORDS, BUFFERS, BUFFERS_IN_BYTES, FANOUTS, FIELD, FORMS, INT_OPERATIONS, KINDS, LEAVES, Line, MARK, MOST_COLUMNS, MOST_INCLUDED, MOST_INDEXES,
+    MOST_KEY_COLUMNS, MOST_MESSAGES, MOST_ON, MOST_OPERATIONS, OPERATIONS, PRIMARY, RECORD, any_of, counted, fields, index_of, printed_field,
+    record_of_line, spans, text_pattern, visible,
 )  # fmt: skip
 
 
@@ -112,38 +113,24 @@ class MessageFaults:
         """The first fault of an operation: which of its three fields it is, the place, and the reason, or None."""
         columns = dict(self.table.columns)
         if word not in OPERATIONS:
-            return 0, place, f"'{visible(word, 40)}' is neither set nor add"
+            return 0, place, f"'{visible(word, 40)}' is not {any_of(OPERATIONS)}"
         if name not in columns:
             return 1, place, f"'{visible(name, 40)}' is no column ({spelled(columns)})"
         if name in dict(self.key):
             return 1, place, f"'{name.decode()}' is a column of the key, which no operation changes"
         kind = columns[name]
-        if word == b"add" and kind != b"int":
-            return 1, place, f"'{name.decode()}' is {kind.decode()}, and only ints are added"
+        if word in INT_OPERATIONS and kind != b"int":
+            return 1, place, f"'{name.decode()}' is {kind.decode()}, and {word.decode()} wants an int"
         return 2, f"{place}, {column_place(self.table.columns, self.table.names.index(name))}", KINDS[kind].fault(argument)
 
 
 # ---- blocks ----
 
-INT = rb'(?:-?[0-9]{1,18}|"-?[0-9]{1,18}")'
-FLAG = rb'(?:(?i:true|false)|"(?i:true|false)")'
-
-
-def text_pattern(block, breaks):
-    """A pattern of texts: of a block that is UTF-8 any bytes make one, and else only those of ASCII. `breaks` are not in quotes."""
-    try:
-        block.decode("utf-8")
-        high = b""
-    except UnicodeDecodeError:
-        high = rb"\x80-\xff"
-    return rb'(?:"[^"%b%b]{0,255}"|(?!")[^,\r\n%b]{0,255})' % (breaks, high, high)
-
-
 class SurePatterns:
     """Patterns of what is surely without a fault, so that of a great block only the rest is looked into."""
 
     def __init__(self, table, block, breaks=b""):
-        self.table, self.kinds = table, {b"int": INT, b"flag": FLAG, b"text": text_pattern(block, breaks)}
+        self.table, self.kinds = table, {word: kind.spelled for word, kind in KINDS.items()} | {b"text": text_pattern(block, breaks)}
 
     def values(self, columns):
         return b",".join(self.kinds[kind] for _, kind in columns)
@@ -151,7 +138,7 @@ class SurePatterns:
     def operations(self):
         columns = self.table.columns[self.table.key_length :]
         forms = [b"set,%b,%b" % (name, self.kinds[kind]) for name, kind in columns]
-        forms += [b"add,%b,%b" % (name, INT) for name, kind in columns if kind == b"int"]
+        forms += [b"(?:%b),%b,%b" % (b"|".join(INT_OPERATIONS), name, self.kinds[kind]) for name, kind in columns if kind == b"int"]
         return b"(?:,(?:%b)){1,16}" % b"|".join(forms) if forms else rb"(?!)"
 
     def messages(self):
@@ -247,13 +234,9 @@ def header_faults(command, table):
     ]
 
 
-# Values as they are printed, for which no two spellings are the same value.
-AS_PRINTED = {b"int": rb"(?:0|-?[1-9][0-9]{0,17})", b"flag": rb"(?:true|false)", b"text": rb'[^",\r\n]*'}
-
-
 def key_pattern(key):
-    """A pattern of a record, with its key as a group where the key stands as it is printed."""
-    printed, field = b",".join(AS_PRINTED[kind] for _, kind in key), FIELD.pattern
+    """A pattern of a record, with its key as a group where the key stands as it is printed, so that no two spell the same."""
+    printed, field = b",".join(KINDS[kind].as_printed for _, kind in key), FIELD.pattern
     rest = rb'(?:,[^"\r\n]*(?=[\r\n]|\Z)|(?:,%b)*)' % field
     return re.compile(rb"(?=[^\r\n])(?:(%b)(?=[,\r\n]|\Z)%b|%b(?:,%b)*)" % (printed, rest, field, field))
 

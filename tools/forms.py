@@ -3,7 +3,9 @@
 import re
 from difflib import get_close_matches
 
-from language import BLOCK_WORDS, BUFFER, CLOSING, FORMS, KINDS, MARK, MOST_DIGITS, MOST_NAME_BYTES, NAME, NUMBER, OPERATORS, fields, record_of_line, visible
+from language import (
+    BLOCK_WORDS, BUFFER, CLOSING, FORMS, KINDS, MARK, MOST_DIGITS, MOST_NAME_BYTES, NAME, NUMBER, OPERATORS, any_of, fields, record_of_line, visible,
+)  # fmt: skip
 
 TAB = b"\t"
 
@@ -131,7 +133,7 @@ def column_fault(word):
         return f"{text} is no column, which has a name, a colon and a kind"
     if reason := name_fault(name):
         return reason if name else f"{text} has no name before the colon"
-    return None if kind in KINDS else f"{text}: a kind is int, text or flag"
+    return None if kind in KINDS else f"{text}: a kind is {any_of(KINDS)}"
 
 
 # ---- index ----

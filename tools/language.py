@@ -35,8 +35,9 @@ CLOSING = {b"batch": b"end", b"scan": b"go", b"sums": b"go", b"load": b"."}
 # The words with which a line of a block begins; of bounds each stands at most once, in this order.
 BLOCK_WORDS = {b"batch": (b"put", b"del", b"ups"), b"scan": (b"from", b"to"), b"sums": (b"from", b"to")}
 
-# The words of an upsert's operations, and the operators of `where`.
-OPERATIONS = (b"set", b"add")
+# The words of an upsert's operations, those of them that only an int takes, and the operators of `where`.
+OPERATIONS = (b"set", b"add", b"max", b"min")
+INT_OPERATIONS = OPERATIONS[1:]
 OPERATORS = (b"=", b"<", b">=")
 
 # How many words a line of each command has: at least, and at most.
@@ -55,7 +56,7 @@ INDEX = re.compile(rb"index +\S+ +on +(\S+)(?: +include +(\S+))?(?: +where +(\S+
 MOST_SCRIPT_BYTES = 67_108_864
 MOST_MESSAGES = 65_536  # of a batch
 MOST_COLUMNS, MOST_KEY_COLUMNS = 16, 4
-MOST_INDEXES, MOST_ON, MOST_INCLUDED = 8, 4, 8
+MOST_INDEXES, MOST_ON, MOST_INCLUDED = 16, 4, 8
 MOST_OPERATIONS = 16  # of an upsert
 MOST_TEXT_BYTES, MOST_NAME_BYTES, MOST_DIGITS = 255, 32, 9
 LEAST_INT, GREATEST_INT = -(2**63), 2**63 - 1
@@ -165,18 +166,56 @@ def fault_of_flag(field):
     return f"'{visible(field, 40)}' is neither true nor false"
 
 
+def fault_of_bytes(field):
+    """Why a field is no bytes, or None."""
+    wrong = next((place for place, byte in enumerate(field) if byte not in HEXADECIMAL), None)
+    if wrong is not None:
+        return f"letter {wrong + 1} of '{visible(field, 40, wrong)}' is no hexadecimal digit"
+    if len(field) % 2:
+        return f"'{visible(field, 40)}' has {counted(len(field), 'digit')}, and bytes have two each"
+    if len(field) > 2 * MOST_TEXT_BYTES:
+        return f"{len(field) // 2:,} bytes, and a value has at most {MOST_TEXT_BYTES}: '{visible(field, 40)}'"
+    return None
+
+
+HEXADECIMAL = b"0123456789abcdefABCDEF"
+
+
 class Kind:
-    """A kind of a column: its name, `fault` (the reason why a field is no value of it, or None), and how values are printed."""
+    """A kind of a column.
 
-    def __init__(self, name, fault, printed):
-        self.name, self.fault, self.printed = name, fault, printed
+    `fault` gives the reason why a field is no value of it, or None, `printed` a field as it is printed. `spelled` is a pattern of
+    fields that are surely values of it, with or without quotes, and `as_printed` one of fields that are printed as they stand.
+    """
+
+    def __init__(self, name, fault, printed, spelled, as_printed):
+        self.name, self.fault, self.printed, self.as_printed = name, fault, printed, as_printed
+        self.spelled = rb'(?:%b|"%b")' % (spelled, spelled)
 
 
+# Bytes of a text need not be UTF-8: `text_pattern` says of a block which are surely texts.
 KINDS = {
-    b"int": Kind("int", fault_of_int, lambda field: b"%d" % int(field)),
-    b"text": Kind("text", fault_of_text, lambda field: field),
-    b"flag": Kind("flag", fault_of_flag, lambda field: field.lower()),
+    b"int": Kind("int", fault_of_int, lambda field: b"%d" % int(field), rb"-?[0-9]{1,18}", rb"(?:0|-?[1-9][0-9]{0,17})"),
+    b"text": Kind("text", fault_of_text, lambda field: field, rb"[a-z]{0,255}", rb'[^",\r\n]*'),
+    b"flag": Kind("flag", fault_of_flag, lambda field: field.lower(), rb"(?i:true|false)", rb"(?:true|false)"),
+    b"bytes": Kind("bytes", fault_of_bytes, lambda field: field.lower(), rb"(?:[0-9a-fA-F]{2}){0,255}", rb"(?:[0-9a-f]{2})*"),
 }
+
+
+def text_pattern(block, breaks):
+    """A pattern of texts: of a block that is UTF-8 any bytes make one, and else only those of ASCII. `breaks` are not in quotes."""
+    try:
+        block.decode("utf-8")
+        high = b""
+    except UnicodeDecodeError:
+        high = rb"\x80-\xff"
+    return rb'(?:"[^"%b%b]{0,255}"|(?!")[^,\r\n%b]{0,255})' % (breaks, high, high)
+
+
+def any_of(names):
+    """Names as a list of words: `int, text or flag`."""
+    *others, last = [name.decode() for name in names]
+    return ", ".join(others) + " or " + last
 
 
 def printed_field(value):

@@ -22,7 +22,7 @@ NAMED_WITH_ITEM = ("BadField", "BadLength", "DuplicateKey")
 FANOUTS, LEAVES = range(4, 65), range(2, 1025)
 BUFFERS, BUFFERS_IN_BYTES = range(1, 4097), range(1, 1_048_577)
 COLUMNS, KEY_COLUMNS = range(1, 17), range(1, 5)
-MOST_MESSAGES, MOST_OPERATIONS, MOST_INDEXES, MOST_ON, MOST_INCLUDED = 65_536, 16, 8, 4, 8
+MOST_MESSAGES, MOST_OPERATIONS, MOST_INDEXES, MOST_ON, MOST_INCLUDED = 65_536, 16, 16, 4, 8
 LEAST_INT, GREATEST_INT = -(2**63), 2**63 - 1
 MOST_TEXT_BYTES = 255
 PRIMARY = b"primary"
@@ -134,18 +134,33 @@ def flag_of(field):
     return {b"true": True, b"false": False}.get(field.lower())
 
 
-READ = {b"int": int_of, b"text": text_of, b"flag": flag_of}
-DEFAULT = {b"int": 0, b"text": b"", b"flag": False}
+def bytes_of(field):
+    if len(field) % 2 or len(field) > 2 * MOST_TEXT_BYTES or field.strip(b"0123456789abcdefABCDEF"):
+        return None
+    return bytes.fromhex(field.decode())
+
+
+def code_of_bytes(value):
+    return value.replace(b"\0", b"\0\xff") + b"\0\1"
+
+
+READ = {b"int": int_of, b"text": text_of, b"flag": flag_of, b"bytes": bytes_of}
+DEFAULT = {b"int": 0, b"text": b"", b"flag": False, b"bytes": b""}
 PRINT = {
     b"int": lambda number: b"%d" % number,
     b"text": lambda text: text,
     b"flag": lambda flag: b"true" if flag else b"false",
+    b"bytes": lambda value: value.hex().encode(),
 }
 CODE = {
     b"int": lambda number: (number + 2**63).to_bytes(8, "big"),
-    b"text": lambda text: text.replace(b"\0", b"\0\xff") + b"\0\1",
+    b"text": code_of_bytes,
     b"flag": lambda flag: b"\1" if flag else b"\0",
+    b"bytes": code_of_bytes,
 }
+
+# What an operation makes of an int and a number.
+MADE = {b"add": lambda old, number: max(LEAST_INT, min(GREATEST_INT, old + number)), b"max": max, b"min": min}
 
 
 def values_of(kinds, fields):
@@ -193,10 +208,7 @@ def row_after(row, message):
     operations, default_row = content
     values = list(default_row if row is None else row)
     for word, column, argument in operations:
-        if word == b"set":
-            values[column] = argument
-        else:
-            values[column] = max(LEAST_INT, min(GREATEST_INT, values[column] + argument))
+        values[column] = argument if word == b"set" else MADE[word](values[column], argument)
     return tuple(values)
 
 
@@ -502,12 +514,12 @@ class Table:
         return self.key_of(key), UPSERT, (operations, (*key, *defaults))
 
     def operation_of(self, word, name, argument):
-        if word not in (b"set", b"add"):
+        if word != b"set" and word not in MADE:
             raise Refused("BadField")
         if name not in self.names or self.names.index(name) < self.key_length:
             raise Refused("NoSuchColumn")
         column = self.names.index(name)
-        if word == b"add" and self.kinds[column] != b"int":
+        if word in MADE and self.kinds[column] != b"int":
             raise Refused("NotInt")
         value = READ[self.kinds[column]](argument)
         if value is None:
@@ -560,7 +572,7 @@ def form(pattern):
 # How the line of each command is spelled; a space stands for one or more, and \x20 for exactly one. The record of a `get` and
 # the constant of an `index` stand behind exactly one, and go up to the end of the line.
 FORMS = {
-    b"table": form(rb"table (%b) (%b)(b?) (%b) (%b)((?: %b:(?:int|text|flag))+)" % (NUMBER, NUMBER, NUMBER, NUMBER, NAME)),
+    b"table": form(rb"table (%b) (%b)(b?) (%b) (%b)((?: %b:(?:%b))+)" % (NUMBER, NUMBER, NUMBER, NUMBER, NAME, b"|".join(READ))),
     b"load": form(b"load"),
     b"batch": form(b"batch"),
     b"get": form(rb"get\x20(.*)"),

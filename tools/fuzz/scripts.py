@@ -15,10 +15,12 @@ from pathlib import Path
 TOP = Path(__file__).resolve().parents[2]
 STORED_FOLDERS = ["crates/replay/data", "examples"]
 LARGEST_CHANGED = 6_000
+MOST_INDEXES = 16
 
 MARK = b"\xef\xbb\xbf"
 GREATEST_INT = 2**63 - 1
-KINDS = [b"int", b"text", b"flag"]
+KINDS = [b"int", b"text", b"flag", b"bytes"]
+INT_WORDS = [b"add", b"max", b"min"]
 NAMES = [b"a", b"b", b"c", b"id", b"city", b"sold", b"on", b"where", b"include", b"primary", b"end", b"x_1", b"z" * 32]
 TEXTS = [
     b"", b"a", b"aa", b"ab", b"b", b"ba", b" a", b"a ", b"x,y", b'q"q', b'"', b".", b"end", b"go", b"true", b"0", b"a\0", b"\0",
@@ -27,6 +29,8 @@ TEXTS = [
 BROKEN_TEXTS = [b"line\nbreak", b"\r", b"a\r\nb", b"\n"]
 WRONG_TEXTS = [b"\xff", b"a\xc3", b"\xed\xa0\x80", b"\xc0\x80", b"t" * 256, "å".encode() * 128]
 WRONG_INTS = [b"", b"-", b"+1", b" 1", b"1 ", b"x", b"1.0", b"9223372036854775808", b"-9223372036854775809", b"9" * 30, b"--1"]
+BYTES = [b"", b"00", b"0001", b"ff", b"FF", b"fF", b"00ff", b"0a", b"61", b"6100", b"0" * 508, b"aB" * 255]
+WRONG_BYTES = [b"0", b"0x", b"g0", b"0 ", b" 00", b"000", b"0" * 511, b"0" * 512, b"\xff\xff"]
 WRONG_FLAGS = [b"", b"yes", b"1", b"true ", b"TRU"]
 INTS = [b"-0", b"007", b"-1", b"%d" % GREATEST_INT, b"%d" % -GREATEST_INT, b"-9223372036854775808", b"0" * 30 + b"5"]
 WRONG_SHAPES = [
@@ -36,7 +40,7 @@ WRONG_SHAPES = [
 TOKENS = [
     b"table", b"4", b"2", b"1", b"id:int", b"a:text", b"b:flag", b"load", b"batch", b"put", b"del", b"ups", b"end", b"get",
     b"scan", b"primary", b"from", b"to", b"go", b"sums", b"image", b"index", b"on", b"include", b"where", b"=", b"<", b">=",
-    b"build", b"drop", b"drain", b"rebuild", b".", b"1,2", b"1,set,a,x", b"1,add,id,2", b"i", b"id", b"id,a", b"0", b"65",
+    b"build", b"drop", b"drain", b"rebuild", b".", b"1,2", b"1,set,a,x", b"1,add,id,2", b"1,min,id,2", b"c:bytes", b"0A", b"i", b"id", b"id,a", b"0", b"65",
     b"999999999", b"1234567890", b"60b", b"60B", b"1048577b", b"b",
 ]  # fmt: skip
 PIECES = [
@@ -78,6 +82,8 @@ class Maker:
             if self.is_faulty():
                 return self.dice.choice(WRONG_FLAGS)
             return self.dice.choice([b"true", b"false", b"True", b"FALSE"])
+        if kind == b"bytes":
+            return self.dice.choice(WRONG_BYTES if self.is_faulty() else BYTES[: 3 + self.span])
         if self.is_faulty():
             return self.dice.choice(WRONG_TEXTS)
         if is_load and self.happens(0.1):
@@ -183,9 +189,9 @@ class Maker:
         name, kind = self.dice.choice(self.columns[self.key_length :] or self.columns)
         if self.is_faulty():
             name = self.name()
-        word = b"add" if kind == b"int" and self.happens(0.6) else b"set"
+        word = self.dice.choice(INT_WORDS) if kind == b"int" and self.happens(0.6) else b"set"
         if self.is_faulty():
-            word = self.dice.choice([b"add", b"Set", b"put", b""])
+            word = self.dice.choice([b"add", b"max", b"Min", b"Set", b"put", b""])
         return [word, name, self.field(kind)]
 
     def message(self):
@@ -278,7 +284,7 @@ class Maker:
         self.add(line)
         known = {column for column, _ in self.columns}
         is_valid = name != b"primary" and set(on.split(b",")) <= known and on.count(b",") < 4
-        if is_valid and len(self.indexes) < 8 and name not in self.indexes:
+        if is_valid and len(self.indexes) < MOST_INDEXES and name not in self.indexes:
             self.indexes[name] = on.split(b",")
 
     def build(self):

@@ -182,7 +182,7 @@ def from_csv_wants_right_words():
             ([wide, "--key", "c0,c1,c2,c3,c4"], "5 key columns, and a table has at most 4"),
             ([path, "--key", "id", "--shape", "3 4 4"], "--shape wants"),
             ([path, "--key", "id", "--shape", "4 0b 4"], "--shape wants"),
-            ([path, "--key", "id", "--kind", "id=float"], "--kind wants int, text or flag and not 'float'"),
+            ([path, "--key", "id", "--kind", "id=float"], "--kind wants int, text, flag or bytes and not 'float'"),
             ([path, "--key", "id", "--scale", "id=x"], "--scale wants the number of digits"),
             ([path, "--key", "id", "--empty", "id"], "--empty wants COLUMN=VALUE"),
             ([path, "--key", "id", "--index", "by", "on town"], "index by: there is no column 'town'"),

@@ -161,7 +161,8 @@ def functions_stand_in_the_files_that_are_named_behind_them():
 
 
 def file_of(crate, name):
-    return TOP / name if crate == "none" else TOP / "crates" / crate.strip("`") / (name + (".antt" if name.startswith("specs/") else ""))
+    ending = ".antt" if name.startswith(("specs/", "proofs/")) else ""
+    return TOP / name if crate == "none" else TOP / "crates" / crate.strip("`") / (name + ending)
 
 
 def what_to_change_stands_in_its_files():
@@ -175,6 +176,16 @@ def what_to_change_stands_in_its_files():
         expect((change, 1 <= len(texts) <= 3, bool(names)), (change, True, True))
         expect((change, [any(row) for row in found]), (change, [True] * len(texts)))
         expect((change, [any(column) for column in zip(*found)]), (change, [True] * len(names)))
+
+
+def the_newest_kind_and_operation_stand_in_the_files_of_their_rows():
+    """And beside these in worked rows alone."""
+    table = rows(section("docs/ARCHITECTURE.md", "## Where to change what"))
+    sources = [path for folder in ("src", "specs", "proofs") for path in (TOP / "crates").glob(f"bt_*/{folder}/**/*") if path.suffix in (".rt", ".antt")]
+    for change, pattern in (("a kind of values", r"\b(?:Kind|Value|ValueRef|kind|value)(?:::|\.)Bytes\b"), ("what is done with a number", r"\bMin\b")):
+        [files] = [{file_of(crate, name) for name in quoted(files)} for crate, about, files in table if about.startswith(change)]
+        named = {path for path in sources if not path.name.startswith("Worked") and re.search(pattern, path.read_text())}
+        expect((change, sorted(map(str, named))), (change, sorted(map(str, files))))
 
 
 def crates_below():
@@ -243,7 +254,7 @@ def limits_of_the_document_are_those_of_the_model():
         "columns of a table": model.COLUMNS, "key columns, K": model.KEY_COLUMNS, "fanout of a tree, F": model.FANOUTS, "buffer, C, in messages": model.BUFFERS,
         "buffer, C with a `b` behind it, in bytes": model.BUFFERS_IN_BYTES, "leaf of a tree, L, in rows": model.LEAVES,
         "an `int`, which has 64 bits with a sign": range(model.LEAST_INT, model.GREATEST_INT + 1),
-        "bytes of a `text`, which is UTF-8": range(model.MOST_TEXT_BYTES + 1),
+        "bytes of a `text`, which is UTF-8": range(model.MOST_TEXT_BYTES + 1), "bytes of a `bytes`": range(model.MOST_TEXT_BYTES + 1),
         "messages of a batch": range(model.MOST_MESSAGES + 1), "operations of an upsert": range(1, model.MOST_OPERATIONS + 1),
         "indexes of a table": range(model.MOST_INDEXES + 1), "columns of an index behind `on`": range(1, model.MOST_ON + 1),
         "columns of an index behind `include`": range(1, model.MOST_INCLUDED + 1),
@@ -255,6 +266,24 @@ def limits_of_the_document_are_those_of_the_model():
 def workloads_of_the_benchmark_are_told():
     told = {quoted(row[0])[0]: row[1] for row in rows(section("bench/README.md", "## Workloads"))}
     expect(list(told), list(imported("bench/compare").WORKLOADS))
+
+
+def constant(path, name):
+    """A whole number that a file of code names."""
+    return int(re.search(rf"pub const {name}: usize = ([\d_]+);", text_of(path))[1])
+
+
+def limits_of_the_command_line_are_those_of_the_code():
+    table = rows(section("docs/SCRIPT.md", "## The command line"))
+    found = {row[1].strip("`").split(" ")[0]: int(row[3].replace(",", "")) for row in table if row[1].startswith("`--")}
+    names = {"--workers": "MOST_WORKERS", "--cut": "DEEPEST_CUT", "--grain": "LARGEST_GRAIN"}
+    expect(found, {option: constant("crates/bt_gang/src/crew.rt", name) for option, name in names.items()})
+    expect(found, {option: most for option, most in imported("tools/explain_words").OPTIONS.items() if most})
+    checked = re.findall(r"^ +(--\w+)\) is_number_up_to (\d+) ", text_of("bin/betable"), re.MULTILINE)
+    expect(found, {option: int(most) for option, most in checked})
+    expect(int(re.search(r"^DEEPEST_CUT = (\d+)$", text_of("tools/fuzz/run"), re.MULTILINE)[1]), found["--cut"])
+    indexes = constant("crates/bt_table/src/table.rt", "MOST_INDEXES")
+    expect([imported(f"tools/{name}.py").MOST_INDEXES for name in ("language", "fuzz/model", "fuzz/scripts")], [indexes] * 3)
 
 
 # ---- scripts ----
@@ -392,6 +421,7 @@ TESTS_OF_TEXTS = [
     paths_in_the_documents_are_there,
     functions_stand_in_the_files_that_are_named_behind_them,
     what_to_change_stands_in_its_files,
+    the_newest_kind_and_operation_stand_in_the_files_of_their_rows,
     crates_stand_as_the_architecture_says,
     the_sentence_is_the_same_on_both_pages,
     the_measures_of_the_readme_are_those_of_the_results,
@@ -399,6 +429,9 @@ TESTS_OF_TEXTS = [
     recipes_are_listed,
     limits_of_the_document_are_those_of_the_model,
     workloads_of_the_benchmark_are_told,
+
+
+    limits_of_the_command_line_are_those_of_the_code,
 ]
 
 TESTS = [

@@ -337,7 +337,7 @@ def explain_says_why():
 def explain_names_the_message_that_is_too_many():
     status, lines = explained(f"{TABLE}\nbatch\n\n" + "del 1\n" * 65_537 + "ups 1,add,city,1\nend\n")
     expect((status, lines[1]), (1, "  line 65540: message 65,537 of 65,538, and a batch has at most 65,536"))
-    expect(lines[2], "  line 65541, operation 1: 'city' is text, and only ints are added: ups 1,add,city,1")
+    expect(lines[2], "  line 65541, operation 1: 'city' is text, and add wants an int: ups 1,add,city,1")
     expect(lines[3:], ["2 commands: 1 answered, 1 refused", "  1 times 10 TooMany"])
 
 
@@ -345,7 +345,7 @@ def explain_finds_one_upsert_of_60000():
     upserts = [f"ups {number},add,qty,1" for number in range(60_000)]
     upserts[40_000] = "ups 40000,add,city,1"
     status, lines = explained("\n".join([TABLE, "batch", *upserts, "end"]) + "\n")
-    expect((status, lines[:2]), (1, ["line 2: batch", "  line 40003, operation 1: 'city' is text, and only ints are added: ups 40000,add,city,1"]))
+    expect((status, lines[:2]), (1, ["line 2: batch", "  line 40003, operation 1: 'city' is text, and add wants an int: ups 40000,add,city,1"]))
 
 
 # ---- beside the model of the language ----

@@ -1,23 +1,21 @@
 -- Names of columns, and the definition that they make.
-use Rattle.std.proofs.Common.{◌≡◌, ℕ, suc, ◌+◌, ◌<◌, ◌≤◌, ◌==◌, ◌&&◌, Bool, true, false, nat_le, List, [], ◌∷◌, ◌++◌, append_assoc, get_or, length, refl, sym, ap, subst, ◌∙◌, Option, Some, None, is_some, option_map, Result, Ok, Err, ℤ, arith, if◌then◌else◌}
+use Rattle.std.proofs.Common.{◌≡◌, ℕ, suc, ◌+◌, ◌<◌, ◌≤◌, ◌==◌, ◌&&◌, Bool, true, false, nat_le, List, [], ◌∷◌, ◌++◌, append_assoc, get_or, length, refl, sym, ap, subst, ◌∙◌, Option, Some, None, is_some, option_map, Result, Ok, Err, arith, if◌then◌else◌}
 use Rattle.std.specs.Prelude.{option_and_then}
 use Rattle.std.specs.List.{All}
 use Rattle.std.specs.Cmp.Lexicographic.{pointwise}
 use Rattle.std.specs.Option.{is_none}
 use Rattle.std.specs.Result.{IfErr, result_err, result_map_both}
 use Rattle.std.proofs.lemmas.List.{length-map}
-use Rattle.bt_rowtype.specs.Ints.{int_of}
 use Rattle.bt_rowtype.specs.Ops.{at_column, both_read, named_from}
 use Rattle.bt_rowtype.specs.Refusals.{lesser}
-use Rattle.bt_rowtype.specs.Texts.{is_text}
-use Rattle.bt_rowtype.specs.Values.{flag_of, or_refused, value_of}
+use Rattle.bt_rowtype.specs.Values.{or_refused, value_of}
 use Rattle.bt_rowtype.specs.declared.refusal.Refusal.{Refusal}
 use Rattle.bt_rowtype.specs.declared.refusal.Refusal.TheVariants.{BadField, NoSuchColumn, TooMany}
 use Rattle.bt_rowtype.specs.declared.schema.Column.{Column}
 use Rattle.bt_rowtype.specs.declared.value.Kind.{Kind}
 use Rattle.bt_rowtype.specs.declared.value.Kind.TheVariants as kind
 use Rattle.bt_rowtype.specs.declared.value.Value.{Value}
-use Rattle.bt_rowtype.specs.declared.value.Value.TheVariants as value
+use Rattle.bt_rowtype.proofs.offered.Kinds.{fits_kind_of, value_fits}
 use Rattle.bt_keycode.specs.Codes.{kind_of}
 use Rattle.bt_fanout.specs.Definitions.{chosen, condition_at, condition_in, kinds_of, most_included, most_on, places_of}
 use Rattle.bt_fanout.specs.Entries.{HasKind, HasPlace, SuitsKinds}
@@ -62,23 +60,9 @@ is_there start name (column ∷ columns) c e = by_test (pointwise ◌==◌ colum
         let later = others f in
         (suc later.0, (omega (arith, later.1.0), (omega (arith, later.1.1.0), later.1.1.1)))
 
-int_kind : (o : Option ℤ) (v : Value) → option_map value.Int o ≡ Some v → kind_of v ≡ kind.Int
-int_kind None v e = cc
-int_kind (Some n) v e = let same : value.Int n ≡ v = cc in ap kind_of (sym same)
-
-text_kind : (b : Bool) (bytes : List ℕ) (v : Value) → (if b then Some (value.Text bytes) else None) ≡ Some v → kind_of v ≡ kind.Text
-text_kind true bytes v e = let same : value.Text bytes ≡ v = cc in ap kind_of (sym same)
-text_kind false bytes v e = cc
-
-flag_kind : (o : Option Bool) (v : Value) → option_map value.Flag o ≡ Some v → kind_of v ≡ kind.Flag
-flag_kind None v e = cc
-flag_kind (Some flag) v e = let same : value.Flag flag ≡ v = cc in ap kind_of (sym same)
-
 -- a value that a field spells is of the kind
 value_kind : (k : Kind) (field : List ℕ) (v : Value) → value_of k field ≡ Some v → kind_of v ≡ k
-value_kind kind.Int field v e = int_kind (int_of field) v e
-value_kind kind.Text field v e = text_kind (is_text field) field v e
-value_kind kind.Flag field v e = flag_kind (flag_of field) v e
+value_kind k field v e = fits_kind_of k v (value_fits k field v e)
 
 abbrev Fits : List Column → Option Condition → Type 0
 Fits columns condition = HasPlace condition (length (kinds_of columns)) × HasKind condition (kinds_of columns)

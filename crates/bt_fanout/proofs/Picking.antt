@@ -2,17 +2,11 @@
 use Rattle.std.proofs.Common.{◌≡◌, ◌<◌, ◌+◌, ◌++◌, ℕ, false, List, [], ◌∷◌, ap, append_assoc, sym, ◌∙◌, drop, get_or, length, slice_get, Some}
 use Rattle.std.proofs.lemmas.List.{drop_more}
 use Rattle.std.proofs.lemmas.Option.{get_or_from_slice_get}
-use Rattle.bt_rowtype.specs.Values.{HasText, IsInRange}
 use Rattle.bt_rowtype.specs.declared.value.Value.{Value}
 use Rattle.bt_rowtype.specs.declared.value.Value.TheVariants as value
+pub use Rattle.bt_rowtype.proofs.offered.Kinds.{has_bytes}
 use Rattle.bt_keycode.specs.Codes.{code_of, code_of_value}
 use Rattle.bt_fanout.specs.Entries.{picked, value_in}
-
--- a value in the range of its kind has a text, if it is one
-pub has_text : (v : Value) → IsInRange v → HasText v
-has_text (value.Int n) h = tt
-has_text (value.Text bytes) h = h
-has_text (value.Flag flag) h = tt
 
 -- the value that is found at a place
 pub value_seen : (row : List Value) (place : ℕ) (v : Value) → slice_get row place ≡ Some v → value_in row place ≡ v

@@ -1,20 +1,18 @@
 //! The entry of a row.
 ghost use Rattle.std.specs.Prelude.{◌≡◌, ◌<◌, ◌++◌, IfOk, OnOk, length, take};
 ghost use Rattle.std.specs.List.{All};
-ghost use Rattle.bt_rowtype.specs.Values.{value_cmp};
-ghost use Rattle.bt_rowtype.specs.Views.{shown};
 ghost use Rattle.bt_keycode.specs.Codes.{code_of};
 ghost use Rattle.bt_fanout.specs.Entries.{HasPlace, IsWithin, entry_of, key_of, meets, passes, picked};
 
 use crate::definition::{Condition, IndexDef};
 use bt_keycode::{CodeBuilder, Key};
 use bt_messages::Entry;
-use bt_rowtype::{Row, Test, ValueRef};
+use bt_rowtype::{Row, Test, compare_values};
 use std::alloc::{AllocError, Global};
 use std::cmp::Ordering;
 
 // Adds the values of a row at places.
-#[tactic(auto, using(crate::proofs::Picking::has_text, crate::proofs::Picking::value_seen))]
+#[tactic(auto, using(crate::proofs::Picking::has_bytes, crate::proofs::Picking::value_seen))]
 fn add_picked(
     alloc: Global,
     values: &mut Row,
@@ -41,18 +39,6 @@ pub fn add_first(alloc: Global, values: &mut Row, row: &Row, count: usize) -> Re
     Ok(())
 }
 
-// The order of two values of a kind.
-fn compare(left: ValueRef<'_>, right: ValueRef<'_>) -> Ordering
-    ensures { result ≡ value_cmp (shown left.entry) (shown right.entry) }
-{
-    match (left, right) {
-        (ValueRef::Int(a), ValueRef::Int(b)) => a.cmp(&b),
-        (ValueRef::Text(a), ValueRef::Text(b)) => a.cmp(b),
-        (ValueRef::Flag(a), ValueRef::Flag(b)) => a.cmp(&b),
-        _ => Ordering::Equal,
-    }
-}
-
 fn meets_test(test: Test, order: Ordering) -> bool
     ensures { result ≡ meets test order }
 {
@@ -72,14 +58,14 @@ fn meets_condition(condition: &Option<Condition>, row: &Row) -> bool
     match condition {
         None => true,
         Some(condition) => {
-            let order = compare(row.get(condition.place), condition.constant.as_ref());
+            let order = compare_values(row.get(condition.place), condition.constant.as_ref());
             meets_test(condition.test, order)
         }
     }
 }
 
 // Adds the codes of the values of a row at places.
-#[tactic(auto, using(crate::proofs::Picking::has_text, crate::proofs::Picking::value_seen))]
+#[tactic(auto, using(crate::proofs::Picking::has_bytes, crate::proofs::Picking::value_seen))]
 fn add_picked_codes(code: &mut CodeBuilder, row: &Row, places: &[usize]) -> Result<(), AllocError>
     requires { All (λ place. place < length row.now) places.now }
     ensures { OnOk result (code.new ≡ code.old ++ code_of (picked places.now row.now)) }

@@ -1,6 +1,6 @@
 -- From the answers that came in to what a run of all jobs promises.
-use Rattle.std.proofs.Common.{◌≡◌, ◌≢◌, ℕ, zero, suc, ◌+◌, ◌<◌, ◌≤◌, List, [], ◌∷◌, ◌++◌, length, set, map, get_or, replicate, Vec, Global, Option, Some, None, IfSome, Result, Ok, Err, sym, refl, ap, ◌∙◌, subst, ⊎_elim, append_assoc, append-nil, arith}
-use Rattle.std.proofs.lemmas.List.{length-set, length-replicate, get_or-replicate, map-append, replicate_more}
+use Rattle.std.proofs.Common.{◌≡◌, ◌≢◌, ℕ, zero, suc, ◌+◌, ◌<◌, ◌≤◌, List, [], ◌∷◌, ◌++◌, length, set, map, get_or, replicate, Option, Some, None, IfSome, Result, Ok, Err, sym, refl, ap, ◌∙◌, subst, ⊎_elim, append_assoc, append-nil, arith}
+use Rattle.std.proofs.lemmas.List.{length-set, length-replicate, get_or-replicate, replicate_more}
 use Rattle.std.proofs.lemmas.Bool.Decides.{nat_tests}
 use mathlib.Core.Option.{some, some-ne-none, some-injective}
 use lib.ListN.{get_elem?}
@@ -8,7 +8,7 @@ use Rattle.crossbeam_queue.proofs.Lists.{at_set}
 use Rattle.bt_gang.specs.declared.answers.Answer.{Answer}
 use Rattle.bt_gang.specs.declared.answers.Answers.{Answers}
 use Rattle.bt_gang.specs.Numbers.{is_it, joined, times, once_below}
-use Rattle.bt_gang.specs.Numbered.{numbered}
+use Rattle.bt_gang.specs.Numbered.{numbered, present}
 use Rattle.bt_gang.specs.Answers.{MayAnswer, AllMay}
 use Rattle.bt_gang.specs.inside.Places.{AllBelow, Filled, IsFaultAmong, IsFull, puts, ok_slots, answers_in, numbers_in}
 use Rattle.bt_gang.specs.inside.Workers.{AllFrom, HasServed, out_of}
@@ -18,7 +18,7 @@ use Rattle.bt_gang.specs.declared.run.GangFault.{GangFault}
 use Rattle.bt_gang.specs.declared.run.GangFault.TheVariants.{OutOfMemory, Job}
 use Rattle.bt_gang.specs.Board.{start}
 use Rattle.bt_gang.specs.declared.crew.TheConstants.{MOST_WORKERS}
-use Rattle.bt_gang.specs.Run.{Answered, AreAllTaken, AreValues, EachOnce, HasAnswers, IsLeast, number_lists}
+use Rattle.bt_gang.specs.Run.{Answered, AreAllTaken, AreValues, EachOnce, HasAnswers, IsLeast}
 use Rattle.bt_gang.proofs.Numbers.{total-append, times-below, at_below}
 use Rattle.bt_gang.proofs.Rules.{at_most_once, below_once, empty_list}
 use Rattle.bt_gang.proofs.Serving.{numbered-append, may-append, read_at}
@@ -88,11 +88,11 @@ module _ {J D F : Type 0} (allows : J → Result D F → Type 0) where
   below_all jobs n (x ∷ xs) e all = (let l = at_below jobs x.number all.0.0 all.0.1 in omega arith, below_all jobs n xs e all.1)
 
   -- each of the answers that came back is one that its job may give
-  pub may_back : (jobs : Jobs J) (all : List J) (first : ℕ) (workers : List (Option (Worker J D F))) → AllFrom (λ number w. IfSome w (HasServed allows jobs all [] number)) first workers
+  pub may_back : (jobs : Jobs J D F) (all : List J) (first : ℕ) (workers : List (Option (Worker J D F))) → AllFrom (λ number w. IfSome w (HasServed allows jobs all [] number)) first workers
       → AllMay allows all (joined (map answers_in (map out_of workers)))
   may_back jobs all first [] served = tt
   may_back jobs all first (None ∷ ws) served = may_back jobs all (suc first) ws served.1
-  may_back jobs all first (Some w ∷ ws) served = may-append allows all w.out.list.items (joined (map answers_in (map out_of ws))) served.0.may (may_back jobs all (suc first) ws served.1)
+  may_back jobs all first (Some w ∷ ws) served = may-append allows all (present w.out.list) (joined (map answers_in (map out_of ws))) served.0.may (may_back jobs all (suc first) ws served.1)
 
   filled_put : (jobs : List J) (slots : List (Option (Result D F))) (came : List ℕ) (n : ℕ) (v : Result D F) → Filled allows jobs slots came → MayAnswer allows jobs n v → Filled allows jobs (set slots n (Some v)) (came ++ n ∷ [])
   filled_put jobs slots came n v f may = record {
@@ -199,8 +199,8 @@ module _ {J D F : Type 0} (allows : J → Result D F → Type 0) (value : J → 
       let rest : ds ≡ map value js = values_are js ds ((let l = a.0 in omega arith), λ i x e. a.1 (suc i) x e) in
       (λ i. head i ∷ rest i)
 
-pub lists-more : (vs ws : List (Vec ℕ Global)) (x : Vec ℕ Global) (ns : List ℕ) → ws ≡ vs ++ x ∷ [] → x.items ≡ ns → number_lists ws ≡ number_lists vs ++ ns ∷ []
-lists-more vs ws x ns e f = ap number_lists e ∙ (map-append (λ (v : Vec ℕ Global). v.items) vs (x ∷ []) ∙ ap (λ l. number_lists vs ++ l ∷ []) f)
+pub lists-more : (vs ws : List (List ℕ)) (x ns : List ℕ) → ws ≡ vs ++ x ∷ [] → x ≡ ns → ws ≡ vs ++ ns ∷ []
+lists-more vs ws x ns e f = e ∙ ap (λ l. vs ++ l ∷ []) f
 
 module _ {D F : Type 0} where
   -- one more worker's answers were placed
@@ -219,11 +219,11 @@ module _ {D F : Type 0} where
       (below-back (length old) (answers_in o) (joined (map answers_in rest)) (subst (λ l. AllBelow (length old) (joined (map answers_in l))) e all))
 
   -- one more worker's list
-  pub listed_more : (vs ws : List (Vec ℕ Global)) (x : Vec ℕ Global) (all : List (List ℕ)) (o : Option (Answers D F)) (left rest : List (Option (Answers D F)))
-      → left ≡ o ∷ rest → ws ≡ vs ++ x ∷ [] → x.items ≡ numbers_in o → number_lists vs ++ map numbers_in left ≡ all → number_lists ws ++ map numbers_in rest ≡ all
+  pub listed_more : (vs ws : List (List ℕ)) (x : List ℕ) (all : List (List ℕ)) (o : Option (Answers D F)) (left rest : List (Option (Answers D F)))
+      → left ≡ o ∷ rest → ws ≡ vs ++ x ∷ [] → x ≡ numbers_in o → vs ++ map numbers_in left ≡ all → ws ++ map numbers_in rest ≡ all
   listed_more vs ws x all o left rest e f n g =
       ap (λ l. l ++ map numbers_in rest) (lists-more vs ws x (numbers_in o) f n)
-      ∙ (append_assoc (number_lists vs) (numbers_in o ∷ []) (map numbers_in rest) ∙ (ap (λ l. number_lists vs ++ map numbers_in l) (sym e) ∙ g))
+      ∙ (append_assoc vs (numbers_in o ∷ []) (map numbers_in rest) ∙ (ap (λ l. vs ++ map numbers_in l) (sym e) ∙ g))
 
 module _ {J D F : Type 0} (allows : J → Result D F → Type 0) where
   pub values_stand : (jobs : List J) (ds : List D) → Answered allows jobs ds → AreValues allows jobs ds
@@ -241,10 +241,10 @@ none_joined : (workers : ℕ) → joined {X = ℕ} (replicate workers []) ≡ []
 none_joined zero = refl
 none_joined (suc workers) = none_joined workers
 
-pub none_listed : (n workers : ℕ) (vs : List (Vec ℕ Global)) → n ≡ 0 → number_lists vs ≡ replicate workers [] → EachOnce n vs
+pub none_listed : (n workers : ℕ) (vs : List (List ℕ)) → n ≡ 0 → vs ≡ replicate workers [] → EachOnce n vs
 none_listed n workers vs none e x = ap (λ ls. times x (joined ls)) e ∙ (ap (times x) (none_joined workers) ∙ (times-below x 0 ∙ ap (once_below x) (sym none)))
 
-pub none_taken : (n workers : ℕ) (vs : List (Vec ℕ Global)) → n ≡ 0 → number_lists vs ≡ replicate workers [] → AreAllTaken n (number_lists vs)
+pub none_taken : (n workers : ℕ) (vs : List (List ℕ)) → n ≡ 0 → vs ≡ replicate workers [] → AreAllTaken n vs
 none_taken n workers vs none e = record {
   board = start MOST_WORKERS;
   reached = ([], refl);
@@ -253,5 +253,5 @@ none_taken n workers vs none e = record {
   taken = λ w. empty_list MOST_WORKERS w ∙ (sym (empty_list workers w) ∙ ap (λ ls. get_or ls w []) (sym e));
 }
 
-pub one_empty : (counter : ℕ) (vs ws : List (Vec ℕ Global)) (x : Vec ℕ Global) → ws ≡ vs ++ x ∷ [] → x.items ≡ [] → number_lists vs ≡ replicate counter [] → number_lists ws ≡ replicate (counter + 1) []
+pub one_empty : (counter : ℕ) (vs ws : List (List ℕ)) (x : List ℕ) → ws ≡ vs ++ x ∷ [] → x ≡ [] → vs ≡ replicate counter [] → ws ≡ replicate (counter + 1) []
 one_empty counter vs ws x e f k = lists-more vs ws x [] e f ∙ (ap (λ l. l ++ [] ∷ []) k ∙ replicate_more counter [])

@@ -1,5 +1,5 @@
 -- What the answers of all workers are, once all passes that can be had came back.
-use Rattle.std.proofs.Common.{◌≡◌, ℕ, suc, ◌+◌, ◌<◌, ◌≤◌, List, [], ◌∷◌, ◌++◌, All, length, length-append, map, get_or, replicate, Vec, Global, Option, None, IfSome, IsSome, Result, sym, ap, ◌∙◌, subst, arith}
+use Rattle.std.proofs.Common.{◌≡◌, ℕ, suc, ◌+◌, ◌<◌, ◌≤◌, List, [], ◌∷◌, ◌++◌, All, length, length-append, map, get_or, replicate, Option, None, IfSome, IsSome, Result, sym, ap, ◌∙◌, subst, arith}
 use Rattle.std.proofs.lemmas.List.{length-map, length-replicate}
 use Rattle.crossbeam_queue.specs.Passes.{view}
 use Rattle.bt_gang.specs.declared.answers.Answer.{Answer}
@@ -10,11 +10,11 @@ use Rattle.bt_gang.specs.declared.run.GangFault.{GangFault}
 use Rattle.bt_gang.specs.declared.run.GangFault.TheVariants.{OutOfMemory}
 use Rattle.bt_gang.specs.declared.workers.Worker.{Worker}
 use Rattle.bt_gang.specs.Numbers.{joined, times, below, once_below}
-use Rattle.bt_gang.specs.Numbered.{numbered}
+use Rattle.bt_gang.specs.Numbered.{numbered, present}
 use Rattle.bt_gang.specs.declared.crew.TheConstants.{MOST_WORKERS}
 use Rattle.bt_gang.specs.Queue.{NothingWaits, gained, known, numbers_of, taken_list}
 use Rattle.bt_gang.specs.Answers.{AllMay, FoundNothing, Gains}
-use Rattle.bt_gang.specs.Run.{AreAllTaken, EachOnce, number_lists}
+use Rattle.bt_gang.specs.Run.{AreAllTaken, EachOnce}
 use Rattle.bt_gang.specs.inside.Places.{AllBelow, Filled, IsFaultAmong, IsFull, answers_in, numbers_in, puts}
 use Rattle.bt_gang.specs.inside.Workers.{AllFrom, AreEmptyWhereAbsent, AreListsOf, HasServed, HasServedCaller, TookIn, lists_back, lists_left, out_of}
 use Rattle.bt_gang.proofs.Numbers.{length-below, same_total, times-below, total-length}
@@ -32,32 +32,32 @@ module _ {J D F : Type 0} (allows : J → Result D F → Type 0) where
     pub settled : NothingWaits v
     pub last : FoundNothing v
 
-  took_all : (jobs : Jobs J) (all : List J) (k : ℕ) (mine : Worker J D F) (outs : List (Option (Answers D F))) (w : Known J) → HasServedCaller allows jobs all k mine → TookIn (view mine.pass) w outs
-      → w ≡ known all (taken_list 0 (numbered mine.out.list.items) ∷ (lists_left MOST_WORKERS (suc k) ++ lists_back 1 outs))
+  took_all : (jobs : Jobs J D F) (all : List J) (k : ℕ) (mine : Worker J D F) (outs : List (Option (Answers D F))) (w : Known J) → HasServedCaller allows jobs all k mine → TookIn (view mine.pass) w outs
+      → w ≡ known all (taken_list 0 (numbered (present mine.out.list)) ∷ (lists_left MOST_WORKERS (suc k) ++ lists_back 1 outs))
   took_all jobs all k mine outs w h t = t ∙ ap (λ (y : Known J). known y.jobs (y.lists ++ lists_back 1 outs)) h.served.knows
 
-  pub jobs_last : (jobs : Jobs J) (all : List J) (k : ℕ) (mine : Worker J D F) (outs : List (Option (Answers D F))) (w : Known J) → HasServedCaller allows jobs all k mine → TookIn (view mine.pass) w outs → w.jobs ≡ all
+  pub jobs_last : (jobs : Jobs J D F) (all : List J) (k : ℕ) (mine : Worker J D F) (outs : List (Option (Answers D F))) (w : Known J) → HasServedCaller allows jobs all k mine → TookIn (view mine.pass) w outs → w.jobs ≡ all
   jobs_last jobs all k mine outs w h t = ap (λ (y : Known J). y.jobs) (took_all jobs all k mine outs w h t)
 
-  pub room_last : (jobs : Jobs J) (all : List J) (k : ℕ) (mine : Worker J D F) (outs : List (Option (Answers D F))) (w : Known J) → HasServedCaller allows jobs all k mine → TookIn (view mine.pass) w outs
+  pub room_last : (jobs : Jobs J D F) (all : List J) (k : ℕ) (mine : Worker J D F) (outs : List (Option (Answers D F))) (w : Known J) → HasServedCaller allows jobs all k mine → TookIn (view mine.pass) w outs
       → length w.jobs ≤ mine.out.spare + length (numbers_of w.lists)
   room_last jobs all k mine outs w h t =
       let e = took_all jobs all k mine outs w h t in
-      let own = numbered mine.out.list.items in
+      let own = numbered (present mine.out.list) in
       let others = lists_left MOST_WORKERS (suc k) ++ lists_back 1 outs in
       let j : length w.jobs ≡ length all = ap (λ (y : Known J). length y.jobs) e in
       let n : length (numbers_of w.lists) ≡ length (own ++ numbers_of others) = ap (λ (y : Known J). length (numbers_of y.lists)) e in
       let l = length-append own (numbers_of others) in
-      let m = length-map mine.out.list.items (λ (a : Answer D F). a.number) in
+      let m = length-map (present mine.out.list) (λ (a : Answer D F). a.number) in
       let s = h.spare in
       omega arith
 
-  pub have_come : (jobs : Jobs J) (all : List J) (k : ℕ) (mine : Worker J D F) (others : List (Option (Worker J D F))) (outs : List (Option (Answers D F))) (w v : Known J) (out : Answers D F)
+  pub have_come : (jobs : Jobs J D F) (all : List J) (k : ℕ) (mine : Worker J D F) (others : List (Option (Worker J D F))) (outs : List (Option (Answers D F))) (w v : Known J) (out : Answers D F)
       → HasServedCaller allows jobs all k mine → k ≡ length others → AllFrom (λ number o. IfSome o (HasServed allows jobs all [] number)) 1 others → outs ≡ map out_of others → TookIn (view mine.pass) w outs
-      → Gains allows w v mine.out out → FoundNothing v → NothingWaits v → HaveCome all k v out.list.items outs
+      → Gains allows w v mine.out out → FoundNothing v → NothingWaits v → HaveCome all k v (present out.list) outs
   have_come jobs all k mine others outs w v out h len served is t g last settled =
-      let own = mine.out.list.items in
-      let here : numbered out.list.items ≡ numbered own ++ numbered g.added = ap numbered g.list ∙ numbered-append own g.added in
+      let own = present mine.out.list in
+      let here : numbered (present out.list) ≡ numbered own ++ numbered g.added = ap numbered g.list ∙ numbered-append own g.added in
       let added : AllMay allows all g.added = subst (λ js. AllMay allows js g.added) (jobs_last jobs all k mine outs w h t) g.may in
       let back : AllMay allows all (joined (map answers_in outs)) = subst (λ os. AllMay allows all (joined (map answers_in os))) (sym is) (may_back allows jobs all 1 others served) in
       record {
@@ -65,7 +65,7 @@ module _ {J D F : Type 0} (allows : J → Result D F → Type 0) where
             ∙ ap (λ ns. known all (taken_list 0 ns ∷ (lists_left MOST_WORKERS (suc k) ++ lists_back 1 outs))) (sym here));
         few = h.few;
         back = ap length is ∙ (length-map others (λ (o : Option (Worker J D F)). out_of o) ∙ sym len);
-        may = may-append allows all out.list.items (joined (map answers_in outs)) (subst (AllMay allows all) (sym g.list) (may-append allows all own g.added h.served.may added)) back;
+        may = may-append allows all (present out.list) (joined (map answers_in outs)) (subst (AllMay allows all) (sym g.list) (may-append allows all own g.added h.served.may added)) back;
         settled = settled;
         last = last;
       }
@@ -121,14 +121,14 @@ module _ {J D F : Type 0} (allows : J → Result D F → Type 0) (all : List J) 
       let empty = subst (IsFaultAmong slots) wanted among in
       none_empty allows all slots (numbered (own ++ joined (map answers_in outs))) f (each_come others is some) empty.0 empty.1
 
-  module _ (vs : List (Vec ℕ Global)) (lists : number_lists vs ≡ numbered own ∷ map numbers_in outs) where
+  module _ (vs : List (List ℕ)) (lists : vs ≡ numbered own ∷ map numbers_in outs) where
     -- one that was not started has an empty list
-    pub are_empty : (others : List (Option (Worker J D F))) → outs ≡ map out_of others → AreEmptyWhereAbsent others (number_lists vs)
+    pub are_empty : (others : List (Option (Worker J D F))) → outs ≡ map out_of others → AreEmptyWhereAbsent others vs
     are_empty others is place absent =
         ap (λ ls. get_or ls (suc place) []) lists ∙ (ap (λ os. get_or (map numbers_in os) place []) is ∙ no_numbers_back others place absent)
 
     -- the lists of numbers are those of the pass
-    pub are_lists : AreListsOf v (number_lists vs)
+    pub are_lists : AreListsOf v vs
     are_lists = subst (AreListsOf v) (sym lists) (lists_stand MOST_WORKERS k v (numbered own) outs come.back come.few (ap (λ (y : Known J). y.lists) come.knows))
 
     module _ (slots : List (Option (Result D F))) (f : Filled allows all slots (numbered (own ++ joined (map answers_in outs)))) (full : IsFull slots) where
@@ -141,7 +141,7 @@ module _ {J D F : Type 0} (allows : J → Result D F → Type 0) (all : List J) 
           ∙ (ap (times x) ((λ i. numbered own ++ sym (numbers_joined outs) i) ∙ sym (numbered-append own (joined (map answers_in outs)))) ∙ came_once x)
 
       -- the board that the last pop showed
-      pub all_taken : AreAllTaken (length all) (number_lists vs)
+      pub all_taken : AreAllTaken (length all) vs
       all_taken =
           let one : ℕ → ℕ = λ _. 1 in
           let n = length all in
@@ -163,6 +163,6 @@ module _ {J D F : Type 0} (allows : J → Result D F → Type 0) (all : List J) 
 
 module _ {D F : Type 0} where
   -- the caller's list, and then those of the others
-  pub lists_placed : (own : List (Answer D F)) (outs : List (Option (Answers D F))) (ws was vs : List (Vec ℕ Global)) (x : Vec ℕ Global)
-      → was ≡ [] → vs ≡ was ++ x ∷ [] → x.items ≡ numbered own → number_lists ws ≡ number_lists vs ++ map numbers_in outs → number_lists ws ≡ numbered own ∷ map numbers_in outs
-  lists_placed own outs ws was vs x none e f k = k ∙ ap (λ l. l ++ map numbers_in outs) (lists-more was vs x (numbered own) e f ∙ ap (λ l. number_lists l ++ numbered own ∷ []) none)
+  pub lists_placed : (own : List (Answer D F)) (outs : List (Option (Answers D F))) (ws was vs : List (List ℕ)) (x : List ℕ)
+      → was ≡ [] → vs ≡ was ++ x ∷ [] → x ≡ numbered own → ws ≡ vs ++ map numbers_in outs → ws ≡ numbered own ∷ map numbers_in outs
+  lists_placed own outs ws was vs x none e f k = k ∙ ap (λ l. l ++ map numbers_in outs) (lists-more was vs x (numbered own) e f ∙ ap (λ l. l ++ numbered own ∷ []) none)

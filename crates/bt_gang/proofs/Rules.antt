@@ -91,10 +91,6 @@ workers_none [] = refl
 workers_none (w ∷ ws) = ap (λ l. w ∷ l) (workers_none ws)
 
 module _ {J : Type 0} where
-  stand-snoc : (jobs more : List J) (items : List (NumberedJob J)) (x : NumberedJob J) → Stand jobs items → get_elem? (jobs ++ more) x.number ≡ some x.job → Stand (jobs ++ more) (items ++ x ∷ [])
-  stand-snoc jobs more [] x all at = (at, tt)
-  stand-snoc jobs more (t ∷ ts) x all at = (at_more jobs more t.number t.job all.0, stand-snoc jobs more ts x all.1 at)
-
   each_set : (P : Known J → Type 0) (views : List (Known J)) (port : ℕ) (w : Known J) → P w → ((j : ℕ) (u : Known J) → j ≢ port → get_elem? views j ≡ some u → P u) → EachPass P (set views port w)
   each_set P views port w new old j u e = ⊎_elim (λ (x : (j ≡ port) × (w ≡ u)). subst P x.1 new) (λ (x : (j ≢ port) × (get_elem? views j ≡ some u)). old j u x.0 x.1) (at_set views port j w u e)
 
@@ -105,7 +101,36 @@ module _ {J : Type 0} where
   each_one P w new zero u e = subst P (some-injective w u e) new
   each_one P w new (suc j) u e = absurd (some-ne-none u (sym e))
 
-  pub begins : (n : ℕ) → IsBoard {J = J} n [] (known [] (no_lists n) ∷ [])
+  weigh_workers : (h : ℕ → ℕ) (views : List (Known J)) → total h (joined (map (λ (v : Known J). workers_of v.lists) views)) ≡ total (λ (v : Known J). total h (workers_of v.lists)) views
+  weigh_workers h views = total-joined h (map (λ (v : Known J). workers_of v.lists) views) ∙ total-map (λ l. total h l) (λ (v : Known J). workers_of v.lists) views
+
+  -- what a pass learns: of the jobs that it knows, each is in one of its lists, in the queue, or in a list that it has not
+  pub weighed : (n : ℕ) (v : Known J) (left : List ℕ) (b : IsBoardOf n v left)
+      → (others : List ℕ) × ((h : ℕ → ℕ) → total h (workers_of v.lists) + total h others ≡ total h (below n))
+      × ((h : ℕ → ℕ) → total h (numbers_of v.lists) + total (λ w. total h (get_or b.board.taken w [])) others + total h left ≡ total h (below (length v.jobs)))
+  weighed n v left b =
+      let r = besides (workers_of v.lists) (below n) (λ w. let l = b.apart w in let e = times-below w n in omega arith) in
+      let a = accounted n b.board b.reached in (
+        r.0,
+        r.1,
+        (λ h.
+            let weight : ℕ → ℕ = λ w. total h (get_or b.board.taken w []) in
+            let p = a.all h in
+            let q = a.lists h in
+            let w = ap (total h) b.waiting in
+            let e = r.1 weight in
+            let m = weigh_lists h b.board.taken v.lists b.taken in
+            let t = total-places (λ t. total h t) [] b.board.taken n a.taken ∙ sym (total-joined h b.board.taken) in
+            let k : total h (below (length v.jobs)) ≡ total h (below b.board.put) = ap (λ i. total h (below i)) (sym b.put) in
+            omega (arith, p, q, w, e, m, t, k)),
+      )
+
+module _ {J P : Type 0} where
+  stand-snoc : (jobs more : List J) (items : List (NumberedJob J P)) (x : NumberedJob J P) → Stand jobs items → get_elem? (jobs ++ more) x.number ≡ some x.job → Stand (jobs ++ more) (items ++ x ∷ [])
+  stand-snoc jobs more [] x all at = (at, tt)
+  stand-snoc jobs more (t ∷ ts) x all at = (at_more jobs more t.number t.job all.0, stand-snoc jobs more ts x all.1 at)
+
+  pub begins : (n : ℕ) → IsBoard {J = J} {P = P} n [] (known [] (no_lists n) ∷ [])
   begins n = record {
     jobs = [];
     board = start n;
@@ -118,16 +143,13 @@ module _ {J : Type 0} where
     know = each_one (λ v. HasList v → v.jobs ≡ []) (known [] (no_lists n)) (λ _. refl);
   }
 
-  weigh_workers : (h : ℕ → ℕ) (views : List (Known J)) → total h (joined (map (λ (v : Known J). workers_of v.lists) views)) ≡ total (λ (v : Known J). total h (workers_of v.lists)) views
-  weigh_workers h views = total-joined h (map (λ (v : Known J). workers_of v.lists) views) ∙ total-map (λ l. total h l) (λ (v : Known J). workers_of v.lists) views
-
   -- however the workers are weighed
-  apart_weighed : (n : ℕ) (items : List (NumberedJob J)) (views : List (Known J)) → IsBoard n items views → (h : ℕ → ℕ) → total (λ (v : Known J). total h (workers_of v.lists)) views ≡ total h (below n)
+  apart_weighed : (n : ℕ) (items : List (NumberedJob J P)) (views : List (Known J)) → IsBoard n items views → (h : ℕ → ℕ) → total (λ (v : Known J). total h (workers_of v.lists)) views ≡ total h (below n)
   apart_weighed n items views b h =
       sym (weigh_workers h views)
       ∙ same_total (joined (map (λ (v : Known J). workers_of v.lists) views)) (below n) (λ w. weigh_workers (is_it w) views ∙ (b.apart w ∙ sym (times-below w n))) h
 
-  pub pushes : (n room port : ℕ) (v : Known J) (x : NumberedJob J) → length v.lists ≡ n → 0 < n → x.number ≡ length v.jobs → Pushes (IsBoard n) room port v x (Pushed v x)
+  pub pushes : (n room port : ℕ) (v : Known J) (x : NumberedJob J P) → length v.lists ≡ n → 0 < n → x.number ≡ length v.jobs → Pushes (IsBoard n) room port v x (Pushed v x)
   pushes n room port v x every some_worker next items views free b at =
       let w : Known J = known (v.jobs ++ x.job ∷ []) v.lists in
       let same : v.jobs ≡ b.jobs = b.know port v at (omega arith) in
@@ -140,7 +162,7 @@ module _ {J : Type 0} where
           board = after_put b.board;
           reached = (Put ∷ b.reached.0, (b.board, b.reached.1, refl));
           put = let p = b.put in let a = length-append b.jobs (x.job ∷ []) in let g : suc b.board.put ≡ length new = omega arith in g;
-          waiting = ap (λ l. l ++ b.board.put ∷ []) b.waiting ∙ (ap (λ k. queued items ++ k ∷ []) (b.put ∙ sym here) ∙ sym (map-append (λ (item : NumberedJob J). item.number) items (x ∷ [])));
+          waiting = ap (λ l. l ++ b.board.put ∷ []) b.waiting ∙ (ap (λ k. queued items ++ k ∷ []) (b.put ∙ sym here) ∙ sym (map-append (λ (item : NumberedJob J P). item.number) items (x ∷ [])));
           stand = stand-snoc b.jobs (x.job ∷ []) items x b.stand (subst (λ k. get_elem? new k ≡ some x.job) (sym here) (at_end b.jobs x.job));
           taken = each_set (λ u. AreTaken b.board.taken u.lists) views port w (b.taken port v at) (λ j u _ e. b.taken j u e);
           apart = λ worker. let t = total-set (λ (u : Known J). times worker (workers_of u.lists)) views port v w at in let p = b.apart worker in omega arith;
@@ -158,7 +180,7 @@ module _ {J : Type 0} where
       )
 
   -- a worker's list is in one pass, once
-  only_here : (n port : ℕ) (items : List (NumberedJob J)) (views : List (Known J)) (jobs : List J) (l : TakenList) (rest : List TakenList)
+  only_here : (n port : ℕ) (items : List (NumberedJob J P)) (views : List (Known J)) (jobs : List J) (l : TakenList) (rest : List TakenList)
       → IsBoard n items views → get_elem? views port ≡ some (known jobs (l ∷ rest)) → (l.worker < n) × (times l.worker (workers_of rest) ≡ 0)
   only_here n port items views jobs l rest b at =
       let w : ℕ = l.worker in
@@ -169,7 +191,7 @@ module _ {J : Type 0} where
       let s = once_itself w in
       (below_once w n (omega arith), omega arith)
 
-  not_there : (n port j : ℕ) (items : List (NumberedJob J)) (views : List (Known J)) (jobs : List J) (l : TakenList) (rest : List TakenList) (u : Known J)
+  not_there : (n port j : ℕ) (items : List (NumberedJob J P)) (views : List (Known J)) (jobs : List J) (l : TakenList) (rest : List TakenList) (u : Known J)
       → IsBoard n items views → get_elem? views port ≡ some (known jobs (l ∷ rest)) → j ≢ port → get_elem? views j ≡ some u → times l.worker (workers_of u.lists) ≡ 0
   not_there n port j items views jobs l rest u b at ne at' =
       let w : ℕ = l.worker in
@@ -180,28 +202,7 @@ module _ {J : Type 0} where
       let s = once_itself w in
       omega arith
 
-  -- what a pass learns: of the jobs that it knows, each is in one of its lists, in the queue, or in a list that it has not
-  pub weighed : (n : ℕ) (v : Known J) (items : List (NumberedJob J)) (b : IsBoardOf n v items)
-      → (others : List ℕ) × ((h : ℕ → ℕ) → total h (workers_of v.lists) + total h others ≡ total h (below n))
-      × ((h : ℕ → ℕ) → total h (numbers_of v.lists) + total (λ w. total h (get_or b.board.taken w [])) others + total h (queued items) ≡ total h (below (length v.jobs)))
-  weighed n v items b =
-      let r = besides (workers_of v.lists) (below n) (λ w. let l = b.apart w in let e = times-below w n in omega arith) in
-      let a = accounted n b.board b.reached in (
-        r.0,
-        r.1,
-        (λ h.
-            let weight : ℕ → ℕ = λ w. total h (get_or b.board.taken w []) in
-            let p = a.all h in
-            let q = a.lists h in
-            let w = ap (total h) b.waiting in
-            let e = r.1 weight in
-            let m = weigh_lists h b.board.taken v.lists b.taken in
-            let t = total-places (λ t. total h t) [] b.board.taken n a.taken ∙ sym (total-joined h b.board.taken) in
-            let k : total h (below (length v.jobs)) ≡ total h (below b.board.put) = ap (λ i. total h (below i)) (sym b.put) in
-            omega (arith, p, q, w, e, m, t, k)),
-      )
-
-  pub learns : (n port : ℕ) (v : Known J) → HasList v → Learns (IsBoard n) port v (IsBoardOf n v)
+  pub learns : (n port : ℕ) (v : Known J) → HasList v → Learns (IsBoard {J = J} {P = P} n) port v (λ items. IsBoardOf n v (queued items))
   learns n port v some_list items views b at = record {
     board = b.board;
     reached = b.reached;
@@ -211,7 +212,7 @@ module _ {J : Type 0} where
     apart = λ w. let l = total-one (λ (u : Known J). times w (workers_of u.lists)) views port v at in let e = b.apart w in omega arith;
   }
 
-  pops_from : (n port : ℕ) (jobs : List J) (l : TakenList) (rest : List TakenList) → Pops (IsBoard n) port (known jobs (l ∷ rest)) (Popped (known jobs (l ∷ rest)))
+  pops_from : (n port : ℕ) (jobs : List J) (l : TakenList) (rest : List TakenList) → Pops (IsBoard {J = J} {P = P} n) port (known jobs (l ∷ rest)) (Popped (known jobs (l ∷ rest)))
   pops_from n port jobs l rest x items views b at =
       let v : Known J = known jobs (l ∷ rest) in
       let w : Known J = known jobs (taken_list l.worker (l.numbers ++ x.number ∷ []) ∷ rest) in
@@ -244,18 +245,18 @@ module _ {J : Type 0} where
           refl,
           subst (λ js. get_elem? js x.number ≡ some x.job) (sym same) b.stand.0,
           (let one : ℕ → ℕ = λ _. 1 in
-              let e = (weighed n v (x ∷ items) (learns n port v (omega arith) (x ∷ items) views b at)).2 one in
+              let e = (weighed n v (queued (x ∷ items)) (learns n port v (omega arith) (x ∷ items) views b at)).2 one in
               let c = total-length (numbers_of (l ∷ rest)) in
               let d = total-length (below (length jobs)) ∙ length-below (length jobs) in
               omega (arith, c, d, e)),
         ),
       )
 
-  pub pops : (n port : ℕ) (v : Known J) (lists : List TakenList) → v.lists ≡ lists → HasList v → Pops (IsBoard n) port v (Popped v)
+  pub pops : (n port : ℕ) (v : Known J) (lists : List TakenList) → v.lists ≡ lists → HasList v → Pops (IsBoard {J = J} {P = P} n) port v (Popped v)
   pops n port v [] is some_list = absurd (let e = ap length is in omega arith)
-  pops n port v (l ∷ rest) is some_list = subst (λ ls. Pops (IsBoard n) port (known v.jobs ls) (Popped (known v.jobs ls))) (sym is) (pops_from n port v.jobs l rest)
+  pops n port v (l ∷ rest) is some_list = subst (λ ls. Pops (IsBoard {J = J} {P = P} n) port (known v.jobs ls) (Popped (known v.jobs ls))) (sym is) (pops_from n port v.jobs l rest)
 
-  pub forks : (n port : ℕ) (v : Known J) → Forks (IsBoard n) port v (known v.jobs (kept v.lists)) (known v.jobs (given v.lists))
+  pub forks : (n port : ℕ) (v : Known J) → Forks (IsBoard {J = J} {P = P} n) port v (known v.jobs (kept v.lists)) (known v.jobs (given v.lists))
   forks n port v items views b at =
       let l : Known J = known v.jobs (kept v.lists) in
       let r : Known J = known v.jobs (given v.lists) in
@@ -280,7 +281,7 @@ module _ {J : Type 0} where
             (each_set (λ u. HasList u → u.jobs ≡ b.jobs) views port l (λ some. b.know port v at (kept_some v.lists some)) (λ j u _ e. b.know j u e));
       }
 
-  pub merges : (n port : ℕ) (v : Known J) (other : ℕ) (u : Known J) → HasList v → Merges (IsBoard n) port v other u (known v.jobs (v.lists ++ u.lists)) (known [] [])
+  pub merges : (n port : ℕ) (v : Known J) (other : ℕ) (u : Known J) → HasList v → Merges (IsBoard {J = J} {P = P} n) port v other u (known v.jobs (v.lists ++ u.lists)) (known [] [])
   merges n port v other u some_list items views b at two at' =
       let both : Known J = known v.jobs (v.lists ++ u.lists) in
       let spent : Known J = known [] [] in

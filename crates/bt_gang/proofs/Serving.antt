@@ -1,5 +1,5 @@
 -- What one more job adds to the list of a pass and to the answers.
-use Rattle.std.proofs.Common.{◌≡◌, ℕ, zero, suc, ◌+◌, ◌<◌, ◌≤◌, List, [], ◌∷◌, ◌++◌, All, length, length-append, map, get_or, Result, sym, refl, ap, ◌∙◌, subst, append_assoc, append-nil, arith}
+use Rattle.std.proofs.Common.{◌≡◌, ℕ, zero, suc, ◌+◌, ◌<◌, ◌≤◌, List, [], ◌∷◌, ◌++◌, All, length, length-append, map, get_or, Option, Some, None, Result, sym, refl, ap, ◌∙◌, subst, append_assoc, append-nil, arith}
 use Rattle.std.proofs.lemmas.List.{map-append, length-map, nil_from_length}
 use mathlib.Core.Option.{some, some-injective}
 use lib.ListN.{get_elem?}
@@ -11,7 +11,7 @@ use Rattle.bt_gang.specs.declared.rule.TakenList.{TakenList}
 use Rattle.bt_gang.specs.Numbers.{total, is_it, below}
 use Rattle.bt_gang.specs.declared.crew.TheConstants.{MOST_WORKERS}
 use Rattle.bt_gang.specs.Queue.{taken_list, no_lists, grown, numbers_of, known, gained, HasList, IsBoardOf, Popped, queued}
-use Rattle.bt_gang.specs.Numbered.{numbered}
+use Rattle.bt_gang.specs.Numbered.{numbered, present}
 use Rattle.bt_gang.specs.Answers.{AllMay, Gains, FoundNothing}
 use Rattle.bt_gang.proofs.Numbers.{times-below, total-length, length-below, at_below}
 use Rattle.bt_gang.proofs.Rules.{count_lists, weighed}
@@ -19,6 +19,15 @@ use Rattle.bt_gang.proofs.Rules.{count_lists, weighed}
 module _ {D F : Type 0} where
   pub numbered-append : (xs ys : List (Answer D F)) → numbered (xs ++ ys) ≡ numbered xs ++ numbered ys
   numbered-append xs ys = map-append (λ (a : Answer D F). a.number) xs ys
+
+  pub present-append : (xs ys : List (Option (Answer D F))) → present (xs ++ ys) ≡ present xs ++ present ys
+  present-append [] ys = refl
+  present-append (None ∷ xs) ys = present-append xs ys
+  present-append (Some a ∷ xs) ys = ap (λ l. a ∷ l) (present-append xs ys)
+
+  -- the places after one more answer
+  pub present-more : (old new : List (Option (Answer D F))) (a : Answer D F) → new ≡ old ++ Some a ∷ [] → present new ≡ present old ++ a ∷ []
+  present-more old new a e = ap present e ∙ present-append old (Some a ∷ [])
 
   pub same_more : (out new : List (Answer D F)) (a : Answer D F) (ns ns' : List ℕ) → ns ≡ numbered out → ns' ≡ ns ++ a.number ∷ [] → new ≡ out ++ a ∷ [] → ns' ≡ numbered new
   same_more out new a ns ns' e f k = f ∙ (ap (λ l. l ++ a.number ∷ []) e ∙ (sym (numbered-append out (a ∷ [])) ∙ ap numbered (sym k)))
@@ -64,30 +73,30 @@ module _ {J D F : Type 0} (allows : J → Result D F → Type 0) where
   pub gains_none : (v : Known J) (out : Answers D F) → Gains allows v v out out
   gains_none v out = record {
     added = [];
-    list = sym (append-nil out.list.items);
+    list = sym (append-nil (present out.list));
     pass = sym (λ i. known v.jobs (grown_nothing v.lists i));
     may = tt;
     spare = omega arith;
   }
 
   -- the pass took one more job, and its answer was added
-  pub gains_more : (before v w : Known J) (old out new : Answers D F) (item : NumberedJob J) (value : Result D F)
+  pub gains_more : {P : Type 0} (before v w : Known J) (old out new : Answers D F) (item : NumberedJob J P) (value : Result D F)
       → Gains allows before v old out → Popped v item w → allows item.job value
-      → new.list.items ≡ out.list.items ++ record { number = item.number; value = value } ∷ [] → new.spare + 1 ≡ out.spare → Gains allows before w old new
+      → present new.list ≡ present out.list ++ record { number = item.number; value = value } ∷ [] → new.spare + 1 ≡ out.spare → Gains allows before w old new
   gains_more before v w old out new item value g popped may list spare =
       let a : Answer D F = record { number = item.number; value = value } in
       let jobs : v.jobs ≡ before.jobs = ap (λ (y : Known J). y.jobs) g.pass in
       let ns : numbered (g.added ++ a ∷ []) ≡ numbered g.added ++ item.number ∷ [] = numbered-append g.added (a ∷ []) in
       record {
         added = g.added ++ a ∷ [];
-        list = list ∙ (ap (λ l. l ++ a ∷ []) g.list ∙ append_assoc old.list.items g.added (a ∷ []));
+        list = list ∙ (ap (λ l. l ++ a ∷ []) g.list ∙ append_assoc (present old.list) g.added (a ∷ []));
         pass = popped.0 ∙ (ap (λ y. gained y (item.number ∷ [])) g.pass ∙ ((λ i. known before.jobs (grown_more (numbered g.added) (item.number ∷ []) before.lists i)) ∙ ap (gained before) (sym ns)));
         may = may-append allows before.jobs g.added (a ∷ []) g.may ((item.job, subst (λ js. get_elem? js item.number ≡ some item.job) jobs popped.1, may), tt);
         spare = let p = g.spare in let l = length-append g.added (a ∷ []) in omega arith;
       }
 
   -- there is room for one more
-  pub spare_left : (before v w : Known J) (old out : Answers D F) (item : NumberedJob J)
+  pub spare_left : {P : Type 0} (before v w : Known J) (old out : Answers D F) (item : NumberedJob J P)
       → Gains allows before v old out → Popped v item w → HasList before → length before.jobs ≤ old.spare + length (numbers_of before.lists) → 0 < out.spare
   spare_left before v w old out item g popped some_list room =
       let p = g.spare in
@@ -107,9 +116,9 @@ none_taken (w ∷ ws) h = none_taken ws h
 
 module _ {J : Type 0} where
   -- where a pass has the lists of all workers, each job is in one of them or in the queue
-  all_weighed : (n : ℕ) (v : Known J) (items : List (NumberedJob J)) → IsBoardOf n v items → length v.lists ≡ n → (h : ℕ → ℕ) → total h (numbers_of v.lists) + total h (queued items) ≡ total h (below (length v.jobs))
-  all_weighed n v items b all h =
-      let r = weighed n v items b in
+  all_weighed : (n : ℕ) (v : Known J) (left : List ℕ) → IsBoardOf n v left → length v.lists ≡ n → (h : ℕ → ℕ) → total h (numbers_of v.lists) + total h left ≡ total h (below (length v.jobs))
+  all_weighed n v left b all h =
+      let r = weighed n v left b in
       let one : ℕ → ℕ = λ _. 1 in
       let e = r.1 one in
       let a = count_lists v.lists in
@@ -128,19 +137,20 @@ module _ {J : Type 0} where
         (λ all. let k = all_weighed n v [] b (all ∙ sym most) (is_it job) in omega arith),
       )
 
-  -- nothing waited at the last pop
-  pub nothing_waits : (n : ℕ) (v w : Known J) → w ≡ v → (items : List (NumberedJob J)) × (length items ≡ 0) × IsBoardOf n v items → IsBoardOf n w []
-  nothing_waits n v w e (items, none, b) = subst (λ u. IsBoardOf n u []) (sym e) (subst (IsBoardOf n v) (nil_from_length items none) b)
-
   pub lists_length : (n : ℕ) (v : Known J) (jobs : List J) → v ≡ known jobs (no_lists n) → length v.lists ≡ n
   lists_length n v jobs e = ap (λ (y : Known J). length y.lists) e ∙ length-none n
 
+module _ {J P : Type 0} where
+  -- nothing waited at the last pop
+  pub nothing_waits : (n : ℕ) (v w : Known J) → w ≡ v → (items : List (NumberedJob J P)) × (length items ≡ 0) × IsBoardOf n v (queued items) → IsBoardOf n w []
+  nothing_waits n v w e (items, none, b) = subst (λ u. IsBoardOf n u []) (sym e) (subst (λ left. IsBoardOf n v (queued left)) (nil_from_length items none) b)
+
   -- a queue that has as many places as jobs is not full before the last
-  pub never_full : (n : ℕ) (v : Known J) (jobs : List J) (places : ℕ) → v ≡ known jobs (no_lists n) → (items : List (NumberedJob J)) × (length items ≡ places) × IsBoardOf n v items → places ≡ length jobs
+  pub never_full : (n : ℕ) (v : Known J) (jobs : List J) (places : ℕ) → v ≡ known jobs (no_lists n) → (items : List (NumberedJob J P)) × (length items ≡ places) × IsBoardOf n v (queued items) → places ≡ length jobs
   never_full n v jobs places e (items, full, b) =
       let one : ℕ → ℕ = λ _. 1 in
-      let p = all_weighed n v items b (lists_length n v jobs e) one in
-      let q = total-length (queued items) ∙ length-map items (λ (item : NumberedJob J). item.number) in
+      let p = all_weighed n v (queued items) b (lists_length n v jobs e) one in
+      let q = total-length (queued items) ∙ length-map items (λ (item : NumberedJob J P). item.number) in
       let r = ap (λ (y : Known J). total one (numbers_of y.lists)) e ∙ none_taken (below n) one in
       let s = total-length (below (length v.jobs)) ∙ length-below (length v.jobs) in
       let t = ap (λ (y : Known J). length y.jobs) e in

@@ -13,7 +13,7 @@ use Rattle.bt_gang.specs.declared.rule.Known.{Known}
 use Rattle.bt_gang.specs.declared.rule.TakenList.{TakenList}
 use Rattle.bt_gang.specs.declared.workers.Worker.{Worker}
 use Rattle.bt_gang.specs.Numbers.{total, joined, is_it, times, below, once_below}
-use Rattle.bt_gang.specs.Numbered.{numbered}
+use Rattle.bt_gang.specs.Numbered.{numbered, present}
 use Rattle.bt_gang.specs.Queue.{taken_list, workers_of, numbers_of, AreTaken, IsBoardOf}
 use Rattle.bt_gang.specs.inside.Places.{numbers_in}
 use Rattle.bt_gang.specs.inside.Workers.{TakenLists, list_of, AreListsOf, lists_back, lists_left, out_of}
@@ -117,27 +117,27 @@ module _ {D F : Type 0} where
   back_behind w first (None ∷ outs) l = back_behind w (suc first) outs (omega arith)
   back_behind w first (Some out ∷ outs) l =
       let ne : first ≢ w = (λ same. absurd (omega arith)) in
-      list_behind w (taken_list first (numbered out.list.items)) (lists_back (suc first) outs) ne ∙ back_behind w (suc first) outs (omega arith)
+      list_behind w (taken_list first (numbered (present out.list))) (lists_back (suc first) outs) ne ∙ back_behind w (suc first) outs (omega arith)
 
   -- the list of a worker is that of its answers
   list_back : (first j w : ℕ) (outs : List (Option (Answers D F))) → w ≡ first + j → list_of w (lists_back first outs) ≡ get_or (map numbers_in outs) j []
   list_back first j w [] e = refl
   list_back first zero w (None ∷ outs) e = back_behind w (suc first) outs (omega arith)
   list_back first (suc j) w (None ∷ outs) e = list_back (suc first) j w outs (omega arith)
-  list_back first zero w (Some out ∷ outs) e = list_here w (taken_list first (numbered out.list.items)) (lists_back (suc first) outs) (omega arith)
+  list_back first zero w (Some out ∷ outs) e = list_here w (taken_list first (numbered (present out.list))) (lists_back (suc first) outs) (omega arith)
   list_back first (suc j) w (Some out ∷ outs) e =
       let ne : first ≢ w = (λ same. absurd (omega arith)) in
-      list_behind w (taken_list first (numbered out.list.items)) (lists_back (suc first) outs) ne ∙ list_back (suc first) j w outs (omega arith)
+      list_behind w (taken_list first (numbered (present out.list))) (lists_back (suc first) outs) ne ∙ list_back (suc first) j w outs (omega arith)
 
   pub numbers-back : (first : ℕ) (outs : List (Option (Answers D F))) → numbers_of (lists_back first outs) ≡ joined (map numbers_in outs)
   numbers-back first [] = refl
   numbers-back first (None ∷ outs) = numbers-back (suc first) outs
-  numbers-back first (Some out ∷ outs) = ap (λ l. numbered out.list.items ++ l) (numbers-back (suc first) outs)
+  numbers-back first (Some out ∷ outs) = ap (λ l. numbered (present out.list) ++ l) (numbers-back (suc first) outs)
 
   pub back_more : (first next : ℕ) (outs : List (Option (Answers D F))) (out : Option (Answers D F)) → next ≡ first + length outs → lists_back first (outs ++ out ∷ []) ≡ lists_back first outs ++ lists_back next (out ∷ [])
   back_more first next [] out e = let k : first ≡ next = omega arith in ap (λ i. lists_back i (out ∷ [])) k
   back_more first next (None ∷ outs) out e = back_more (suc first) next outs out (omega arith)
-  back_more first next (Some o ∷ outs) out e = ap (λ ls. taken_list first (numbered o.list.items) ∷ ls) (back_more (suc first) next outs out (omega arith))
+  back_more first next (Some o ∷ outs) out e = ap (λ ls. taken_list first (numbered (present o.list)) ∷ ls) (back_more (suc first) next outs out (omega arith))
 
   -- the lists of the caller's pass, once it took in those that came back
   pub lists_stand : {J : Type 0} (n k : ℕ) (v : Known J) (own : List ℕ) (outs : List (Option (Answers D F))) → length outs ≡ k → k < n

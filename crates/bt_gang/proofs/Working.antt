@@ -9,7 +9,7 @@ use Rattle.bt_gang.specs.declared.workers.GivesBack.{GivesBack}
 use Rattle.bt_gang.specs.declared.workers.Worker.{Worker}
 use Rattle.bt_gang.specs.declared.crew.TheConstants.{MOST_WORKERS}
 use Rattle.bt_gang.specs.Queue.{taken_list, no_lists, given, kept, numbers_of, known, gained, HasList}
-use Rattle.bt_gang.specs.Numbered.{numbered}
+use Rattle.bt_gang.specs.Numbered.{numbered, present}
 use Rattle.bt_gang.specs.Answers.{AllMay, Gains}
 use Rattle.bt_gang.specs.inside.Workers.{TakenLists, AllFrom, IsReady, IsReadyCaller, HasServed, HasServedCaller, IsCaller, IsPromise, TookIn, lists_back, lists_left}
 use Rattle.bt_gang.proofs.WorkerLists.{back_more, left_more}
@@ -61,9 +61,9 @@ module _ {J D F : Type 0} where
 
   -- one more pass came back
   pub took_more : (before v w u : Known J) (all : List J) (outs : List (Option (Answers D F))) (out : Answers D F) (number : ℕ)
-      → TookIn before v outs → u ≡ known all (taken_list number (numbered out.list.items) ∷ []) → number ≡ 1 + length outs → w ≡ known v.jobs (v.lists ++ u.lists) → TookIn before w (outs ++ Some out ∷ [])
+      → TookIn before v outs → u ≡ known all (taken_list number (numbered (present out.list)) ∷ []) → number ≡ 1 + length outs → w ≡ known v.jobs (v.lists ++ u.lists) → TookIn before w (outs ++ Some out ∷ [])
   took_more before v w u all outs out number t e n f =
-      let one : TakenLists = taken_list number (numbered out.list.items) ∷ [] in
+      let one : TakenLists = taken_list number (numbered (present out.list)) ∷ [] in
       let g : known v.jobs (v.lists ++ u.lists) ≡ known before.jobs ((before.lists ++ lists_back 1 outs) ++ one) =
       (λ i. known (t i).jobs ((t i).lists ++ (e i).lists)) in
       f ∙ (g ∙ (λ i. known before.jobs (append_assoc before.lists (lists_back 1 outs) one i)) ∙ ap (λ ls. known before.jobs (before.lists ++ ls)) (sym (back_more 1 number outs (Some out) n)))
@@ -74,10 +74,10 @@ module _ {J D F : Type 0} where
 
 module _ {J D F : Type 0} (allows : J → Result D F → Type 0) where
   -- a worker that had taken nothing has the answers that were added
-  pub served : (jobs : Jobs J) (all : List J) (others : TakenLists) (number : ℕ) (old new : Worker J D F) → IsReady jobs all others number old → new.number ≡ old.number → IsPassOf jobs.queue new.pass
+  pub served : (jobs : Jobs J D F) (all : List J) (others : TakenLists) (number : ℕ) (old new : Worker J D F) → IsReady jobs all others number old → new.number ≡ old.number → IsPassOf jobs.queue new.pass
       → Gains allows (view old.pass) (view new.pass) old.out new.out → HasServed allows jobs all others number new
   served jobs all others number old new r same p g =
-      let added : new.out.list.items ≡ g.added = g.list ∙ ap (λ l. l ++ g.added) r.list in
+      let added : present new.out.list ≡ g.added = g.list ∙ ap (λ l. l ++ g.added) r.list in
       record {
         is = same ∙ r.is;
         pass = p;
@@ -85,21 +85,21 @@ module _ {J D F : Type 0} (allows : J → Result D F → Type 0) where
         may = subst (AllMay allows all) (sym added) (subst (λ js. AllMay allows js g.added) (ap (λ (y : Known J). y.jobs) r.knows) g.may);
       }
 
-  pub ready_spare : (jobs : Jobs J) (all : List J) (others : TakenLists) (number : ℕ) (w : Worker J D F) → IsReady jobs all others number w → length (view w.pass).jobs ≤ w.out.spare + length (numbers_of (view w.pass).lists)
+  pub ready_spare : (jobs : Jobs J D F) (all : List J) (others : TakenLists) (number : ℕ) (w : Worker J D F) → IsReady jobs all others number w → length (view w.pass).jobs ≤ w.out.spare + length (numbers_of (view w.pass).lists)
   ready_spare jobs all others number w r = let l = ap (λ (y : Known J). length y.jobs) r.knows in let s = r.spare in omega arith
 
   -- the caller has the answers that were added
-  pub served_caller : (jobs : Jobs J) (all : List J) (k : ℕ) (old new : Worker J D F) → IsReadyCaller jobs all k old → new.number ≡ old.number → IsPassOf jobs.queue new.pass
+  pub served_caller : (jobs : Jobs J D F) (all : List J) (k : ℕ) (old new : Worker J D F) → IsReadyCaller jobs all k old → new.number ≡ old.number → IsPassOf jobs.queue new.pass
       → Gains allows (view old.pass) (view new.pass) old.out new.out → HasServedCaller allows jobs all k new
   served_caller jobs all k old new r same p g = record {
     served = served jobs all (lists_left MOST_WORKERS (suc k)) 0 old new r.ready same p g;
     few = r.few;
-    spare = let l = ap length g.list in let m = length-append old.out.list.items g.added in let n = ap length r.ready.list in let s = g.spare in let t = r.ready.spare in omega arith;
+    spare = let l = ap length g.list in let m = length-append (present old.out.list) g.added in let n = ap length r.ready.list in let s = g.spare in let t = r.ready.spare in omega arith;
   }
 
 module _ {W J D F : Type 0} (allows_of : W → J → Result D F → Type 0) where
   -- what a promise of this work, these jobs and this worker says
-  pub promised : (work : W) (jobs : Jobs J) (all : List J) (number : ℕ) (p : GivesBack W J D F) (w : Worker J D F)
+  pub promised : (work : W) (jobs : Jobs J D F) (all : List J) (number : ℕ) (p : GivesBack W J D F) (w : Worker J D F)
       → IsPromise work jobs all number p → HasServed (allows_of p.work.value) p.jobs.value p.all.value.value.items [] p.number w → HasServed (allows_of work) jobs all [] number w
   promised work jobs all number p w is h =
       subst (λ a. HasServed (allows_of a) jobs all [] number w) is.work_is

@@ -5,7 +5,7 @@ use lib.ListN.{get_elem?}
 use Rattle.bt_gang.specs.declared.answers.Answer.{Answer}
 use Rattle.bt_gang.specs.declared.answers.Answers.{Answers}
 use Rattle.bt_gang.specs.declared.rule.Known.{Known}
-use Rattle.bt_gang.specs.Numbered.{numbered}
+use Rattle.bt_gang.specs.Numbered.{numbered, present}
 use Rattle.bt_gang.specs.Numbers.{times, once_below}
 use Rattle.bt_gang.specs.Queue.{gained, numbers_of, HasAll}
 
@@ -21,7 +21,7 @@ module _ {J D F : Type 0} (allows : J → Result D F → Type 0) where
   -- the answers gained just the numbers that the list of the pass gained, in that order, each with an answer that its job may give; the spare room fell by one with each
   pub record Gains (before after : Known J) (old new : Answers D F) : Type 0 where
     pub added : List (Answer D F)
-    pub list : new.list.items ≡ old.list.items ++ added
+    pub list : present new.list ≡ present old.list ++ added
     pub pass : after ≡ gained before (numbered added)
     pub may : AllMay before.jobs added
     pub spare : new.spare + length added ≡ old.spare

@@ -62,21 +62,36 @@ module _ {J : Type 0} where
   abbrev pub HasAll : Known J → Type 0
   HasAll v = length v.lists ≡ MOST_WORKERS
 
-  -- the numbers of the jobs in the queue
-  abbrev pub queued : List (NumberedJob J) → List ℕ
-  queued items = map (λ (item : NumberedJob J). item.number) items
-
-  -- each job in the queue is the one of its number
-  abbrev pub Stand : List J → List (NumberedJob J) → Type 0
-  Stand jobs [] = ⊤
-  Stand jobs (item ∷ items) = (get_elem? jobs item.number ≡ some item.job) × Stand jobs items
-
   -- P of what each pass knows
   abbrev pub EachPass : (Known J → Type 0) → List (Known J) → Type 0
   EachPass P views = (port : ℕ) (v : Known J) → get_elem? views port ≡ some v → P v
 
+  -- what one pass learns of the board: a run leads to a state in which as many jobs were put as the pass knows, those of these numbers wait, and each list of the pass is what its worker took; no worker has two lists in the pass
+  pub record IsBoardOf (workers : ℕ) (v : Known J) (left : List ℕ) : Type 0 where
+    pub board : State
+    pub reached : IsReached workers board
+    pub put : board.put ≡ length v.jobs
+    pub waiting : board.waiting ≡ left
+    pub taken : AreTaken board.taken v.lists
+    pub apart : (worker : ℕ) → times worker (workers_of v.lists) ≤ once_below worker workers
+
+  -- the board of a pass, with no job waiting
+  abbrev pub NothingWaits : Known J → Type 0
+  NothingWaits v = IsBoardOf MOST_WORKERS v []
+
+-- jobs with their numbers, and with room of some kind, of which the rule says nothing
+module _ {J P : Type 0} where
+  -- the numbers of the jobs in the queue
+  abbrev pub queued : List (NumberedJob J P) → List ℕ
+  queued items = map (λ (item : NumberedJob J P). item.number) items
+
+  -- each job in the queue is the one of its number
+  abbrev pub Stand : List J → List (NumberedJob J P) → Type 0
+  Stand jobs [] = ⊤
+  Stand jobs (item ∷ items) = (get_elem? jobs item.number ≡ some item.job) × Stand jobs items
+
   -- a run of the board leads to a state with these queued jobs and taken lists; each worker's list is in one pass, once; and a pass with a list knows the jobs
-  pub record IsBoard (workers : ℕ) (items : List (NumberedJob J)) (views : List (Known J)) : Type 0 where
+  pub record IsBoard (workers : ℕ) (items : List (NumberedJob J P)) (views : List (Known J)) : Type 0 where
     pub jobs : List J
     pub board : State
     pub reached : IsReached workers board
@@ -87,26 +102,13 @@ module _ {J : Type 0} where
     pub apart : (worker : ℕ) → total (λ (v : Known J). times worker (workers_of v.lists)) views ≡ once_below worker workers
     pub know : EachPass (λ v. HasList v → v.jobs ≡ jobs) views
 
-  abbrev pub IsQueue : List (NumberedJob J) → List (Known J) → Type 0
+  abbrev pub IsQueue : List (NumberedJob J P) → List (Known J) → Type 0
   IsQueue items views = IsBoard MOST_WORKERS items views
 
   -- the job joined at the back
-  abbrev pub Pushed : Known J → NumberedJob J → Known J → Type 0
+  abbrev pub Pushed : Known J → NumberedJob J P → Known J → Type 0
   Pushed v item w = w ≡ known (v.jobs ++ item.job ∷ []) v.lists
 
   -- the pass took the item, which is the job of its number; there were jobs that its lists had not
-  abbrev pub Popped : Known J → NumberedJob J → Known J → Type 0
+  abbrev pub Popped : Known J → NumberedJob J P → Known J → Type 0
   Popped v item w = (w ≡ gained v (item.number ∷ [])) × (get_elem? v.jobs item.number ≡ some item.job) × (length (numbers_of v.lists) < length v.jobs)
-
-  -- what one pass learns of the board: a run leads to a state in which as many jobs were put as the pass knows, these wait, and each list of the pass is what its worker took; no worker has two lists in the pass
-  pub record IsBoardOf (workers : ℕ) (v : Known J) (items : List (NumberedJob J)) : Type 0 where
-    pub board : State
-    pub reached : IsReached workers board
-    pub put : board.put ≡ length v.jobs
-    pub waiting : board.waiting ≡ queued items
-    pub taken : AreTaken board.taken v.lists
-    pub apart : (worker : ℕ) → times worker (workers_of v.lists) ≤ once_below worker workers
-
-  -- the board of a pass, with no job waiting
-  abbrev pub NothingWaits : Known J → Type 0
-  NothingWaits v = IsBoardOf MOST_WORKERS v []

@@ -1,6 +1,5 @@
 -- What a run of all jobs promises.
-use Rattle.std.specs.Prelude.{◌≡◌, ℕ, ◌<◌, List, [], length, map, get_or, Result, Ok, Err, Vec}
-use Rattle.std.specs.Global.{Global}
+use Rattle.std.specs.Prelude.{◌≡◌, ℕ, ◌<◌, List, [], length, map, get_or, Result, Ok, Err}
 use mathlib.Core.Option.{some}
 use lib.ListN.{get_elem?}
 use Rattle.bt_gang.specs.declared.run.GangFault.{GangFault}
@@ -10,17 +9,9 @@ use Rattle.bt_gang.specs.Board.{State, IsReached}
 use Rattle.bt_gang.specs.declared.crew.TheConstants.{MOST_WORKERS}
 use Rattle.bt_gang.specs.Answers.{MayAnswer}
 
--- the lists of these numbers
-abbrev pub number_lists : List (Vec ℕ Global) → List (List ℕ)
-number_lists vs = map (λ (v : Vec ℕ Global). v.items) vs
-
--- the numbers in these lists, one list after the other
-abbrev pub listed : List (Vec ℕ Global) → List ℕ
-listed vs = joined (number_lists vs)
-
 -- each number below n stands in one of the lists, once, and no other does
-abbrev pub EachOnce : ℕ → List (Vec ℕ Global) → Type 0
-EachOnce n lists = (number : ℕ) → times number (listed lists) ≡ once_below number n
+abbrev pub EachOnce : ℕ → List (List ℕ) → Type 0
+EachOnce n lists = (number : ℕ) → times number (joined lists) ≡ once_below number n
 
 -- a run of the board leads to a state in which so many jobs were put, none of them waits, and each worker took its list; one that has no list took nothing
 pub record AreAllTaken (n : ℕ) (lists : List (List ℕ)) : Type 0 where

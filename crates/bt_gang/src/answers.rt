@@ -1,8 +1,9 @@
 //! The answers of one worker.
-ghost use Rattle.std.specs.Prelude.{◌≡◌, ◌+◌, ◌<◌, ◌≤◌, [], ◌++◌, ◌∷◌, IfOk, vec_capacity, vec_len};
-ghost use Rattle.bt_gang.specs.Numbered.{numbered};
+ghost use Rattle.std.specs.Prelude.{◌≡◌, ◌+◌, ◌^◌, ◌<◌, [], ◌++◌, ◌∷◌, IfOk, length, vec_len};
+ghost use Rattle.bt_gang.specs.Numbered.{numbered, present};
 
 use std::alloc::{AllocError, Global};
+use std::collections::LinkedList;
 
 /// The answer of a job, with the job's number.
 #[derive(Drop)]
@@ -11,39 +12,116 @@ pub struct Answer<D, F> {
     pub value: Result<D, F>,
 }
 
-/// The answers of one worker in the order of its runs, and their numbers once more; there is room for `spare` more of each.
+/// Room for the answer of one job, and for its number once more. It goes with the job, and then into the list of the worker that ran it: so a run asks for
+/// room once for each job, however many workers there are.
+#[derive(Drop)]
+pub struct AnswerRoom<D, F> {
+    answer: LinkedList<Option<Answer<D, F>>>,
+    number: LinkedList<usize>,
+    ghost one_answer: { length answer ≡ 1 },
+    ghost one_number: { length number ≡ 1 },
+}
+
+// A list of one value.
+fn list_of_one<T: Drop>(alloc: Global, value: T) -> Result<LinkedList<T>, AllocError>
+    ensures { IfOk result (λ list. list ≡ value ∷ []) }
+{
+    let mut list = LinkedList::new(alloc);
+    match list.push_back(value) {
+        Ok(()) => Ok(list),
+        Err(_) => Err(AllocError),
+    }
+}
+
+// Puts a value in place of the only one.
+fn put_first<T: Drop>(list: &mut LinkedList<T>, value: T)
+    requires { length list.old ≡ 1 }
+    ensures { list.new ≡ value ∷ [] }
+{
+    match list.front_mut() {
+        Some(place) => *place = value,
+        None => unreachable!(),
+    }
+}
+
+// Moves one list to the end of another.
+fn join<T: Drop>(list: &mut LinkedList<T>, more: LinkedList<T>)
+    requires { length list.old + length more < 2 ^ 63 }
+    ensures { list.new ≡ list.old ++ more }
+{
+    let mut more = more;
+    match list.append(&mut more) {
+        Ok(()) => {}
+        Err(_) => unreachable!(),
+    }
+}
+
+impl<D: Drop, F: Drop> AnswerRoom<D, F> {
+    // Room in which nothing stands.
+    fn new(alloc: Global) -> Result<AnswerRoom<D, F>, AllocError> {
+        let answer = list_of_one(alloc, None)?;
+        let number = list_of_one(alloc, 0)?;
+        Ok(AnswerRoom { answer, number })
+    }
+}
+
+/// Room for so many answers.
+pub(crate) fn answer_rooms<D: Drop, F: Drop>(
+    alloc: Global,
+    n: usize,
+) -> Result<Vec<AnswerRoom<D, F>>, AllocError>
+    ensures { IfOk result (λ rooms. vec_len rooms ≡ n) }
+{
+    let mut rooms = Vec::with_capacity(alloc, n)?;
+    for _ in 0..n {
+        rooms.push_reserved(AnswerRoom::new(alloc)?);
+    }
+    Ok(rooms)
+}
+
+/// One more than the most answers of a worker, which is more than any memory holds.
+const LIMIT: usize = 1 << 63;
+
+/// The answers of one worker in the order of its runs, and their numbers once more; `spare` more of each may come, with the room of their jobs.
 #[derive(Drop)]
 pub struct Answers<D, F> {
-    pub list: Vec<Answer<D, F>>,
-    pub numbers: Vec<usize>,
+    pub list: LinkedList<Option<Answer<D, F>>>,
+    pub numbers: LinkedList<usize>,
     pub spare: usize,
-    ghost room: { vec_len list + spare ≤ vec_capacity list },
-    ghost space: { vec_len numbers + spare ≤ vec_capacity numbers },
-    ghost same: { numbers.items ≡ numbered list.items },
+    ghost room: { length list + spare < 2 ^ 63 },
+    ghost space: { length numbers + spare < 2 ^ 63 },
+    ghost same: { numbers ≡ numbered (present list) },
 }
 
 impl<D: Drop, F: Drop> Answers<D, F> {
-    /// No answer, and room for so many.
+    /// No answer, and so many to come. It takes no memory, and an `Err` comes of a number alone that no list reaches.
     pub fn new(alloc: Global, n: usize) -> Result<Answers<D, F>, AllocError>
-        ensures { IfOk result (λ a. (a.list.items ≡ []) × (a.spare ≡ n)) }
+        ensures { IfOk result (λ a. (present a.list ≡ []) × (a.spare ≡ n)) }
     {
-        let list = Vec::with_capacity(alloc, n)?;
-        let numbers = Vec::with_capacity(alloc, n)?;
+        if n >= LIMIT {
+            return Err(AllocError);
+        }
         Ok(Answers {
-            list,
-            numbers,
+            list: LinkedList::new(alloc),
+            numbers: LinkedList::new(alloc),
             spare: n,
         })
     }
 
-    /// One more answer, at the end.
-    pub fn add(&mut self, number: usize, value: Result<D, F>)
+    /// One more answer, at the end, in the room of its job.
+    pub fn add(&mut self, room: AnswerRoom<D, F>, number: usize, value: Result<D, F>)
         requires { 0 < self.old.spare }
         ensures spare { self.new.spare + 1 ≡ self.old.spare }
-        ensures list { self.new.list.items ≡ self.old.list.items ++ record { number = number; value = value } ∷ [] }
+        ensures list { present self.new.list ≡ present self.old.list ++ record { number = number; value = value } ∷ [] }
     {
+        let AnswerRoom {
+            mut answer,
+            number: mut own_number,
+        } = room;
+        put_first(&mut answer, Some(Answer { number, value }));
+        put_first(&mut own_number, number);
         self.spare -= 1;
-        self.numbers.push_reserved(number);
-        self.list.push_reserved(Answer { number, value });
+        join(&mut self.numbers, own_number);
+        join(&mut self.list, answer);
     }
 }

@@ -8,7 +8,7 @@ use bt_rowtype::Refusal;
 /// The most workers of a crew.
 pub const MOST_WORKERS: usize = 64;
 /// The deepest cut of a tree into jobs.
-pub const DEEPEST_CUT: usize = 3;
+pub const DEEPEST_CUT: usize = 6;
 /// The largest packet that may be worked without jobs.
 pub const LARGEST_GRAIN: usize = 65_536;
 
@@ -62,7 +62,7 @@ pub struct Crew<G> {
 }
 
 impl<G: Drop> Crew<G> {
-    /// 1 to 64 workers, a cut of 1 to 3 and a grain of 1 to 65,536, else `BadCrew`.
+    /// 1 to 64 workers, a cut of 1 to 6 and a grain of 1 to 65,536, else `BadCrew`.
     pub fn new(workers: usize, cut: usize, grain: usize, gate: G) -> Result<Crew<G>, Refusal>
         ensures ok { IfOk result (λ crew. (crew.workers ≡ workers) × (crew.cut ≡ cut) × (crew.grain ≡ grain) × (crew.gate ≡ gate)) }
         ensures refused { IfErr result (λ e. (e ≡ BadCrew) × ¬ (IsCrew workers cut grain)) }

@@ -5,6 +5,9 @@
 //! the board reaches ([`rule`]). A worker runs [`serve`] with its pass: it adds an answer for each job that it took, and
 //! ends only after a pop that found nothing.
 //!
+//! Room for an answer goes with its job through the queue to the worker that runs it. So a run asks for room for each job and
+//! for each worker, and not for the product of both.
+//!
 //! ```text
 //! let (jobs, mut pass) = Jobs::new(&rt, alloc, numbers)?;
 //! let mut out = Answers::new(alloc, 3)?;
@@ -26,7 +29,7 @@ mod work;
 mod worker_loop;
 mod workers;
 
-pub use answers::{Answer, Answers};
+pub use answers::{Answer, AnswerRoom, Answers};
 pub use board::Board;
 pub use crew::{Crew, DEEPEST_CUT, Gate, LARGEST_GRAIN, MOST_WORKERS, NoGate};
 pub use jobs::{JobPass, Jobs};

@@ -1,5 +1,6 @@
 //! The room of a run.
 ghost use Rattle.std.specs.Prelude.{◌≡◌, ◌+◌, ◌<◌, ◌≤◌, [], All, IfOk, None, replicate, vec_capacity, vec_len};
+ghost use Rattle.bt_gang.specs.Numbered.{present};
 
 use crate::answers::Answers;
 use crate::places::empty_places;
@@ -7,13 +8,15 @@ use crate::slots::Slots;
 use crate::work::Work;
 use crate::workers::{Child, WorkerOf};
 use std::alloc::{AllocError, Global};
+use std::collections::LinkedList;
 
-/// All room of a run, made before the first push.
+/// All room of a run but that for single answers, which goes with the jobs. It is made before the first push, and grows with the jobs and with the workers,
+/// but not with their product.
 #[derive(Drop)]
 pub(crate) struct Room<W: Work> {
     pub slots: Slots<W::Done, W::Fault>,
     pub done: Vec<W::Done>,
-    pub taken: Vec<Vec<usize>>,
+    pub taken: Vec<LinkedList<usize>>,
     pub out: Answers<W::Done, W::Fault>,
     pub outs: Vec<Answers<W::Done, W::Fault>>,
     pub workers: Vec<WorkerOf<W>>,
@@ -28,7 +31,7 @@ fn empty_answers<D: Drop, F: Drop>(
     k: usize,
     n: usize,
 ) -> Result<Vec<Answers<D, F>>, AllocError>
-    ensures each { IfOk result (λ v. All (λ a. (a.list.items ≡ []) × (a.spare ≡ n)) v.items) }
+    ensures each { IfOk result (λ v. All (λ a. (present a.list ≡ []) × (a.spare ≡ n)) v.items) }
     ensures len { IfOk result (λ v. vec_len v ≡ k) }
 {
     let mut made = Vec::with_capacity(alloc, k)?;
@@ -44,8 +47,8 @@ impl<W: Work> Room<W> {
         ensures slots { IfOk result (λ r. r.slots.items ≡ replicate n None) }
         ensures done { IfOk result (λ r. (r.done.items ≡ []) × (n ≤ vec_capacity r.done)) }
         ensures taken { IfOk result (λ r. (r.taken.items ≡ []) × (workers ≤ vec_capacity r.taken)) }
-        ensures out { IfOk result (λ r. (r.out.list.items ≡ []) × (r.out.spare ≡ n)) }
-        ensures outs { IfOk result (λ r. All (λ a. (a.list.items ≡ []) × (a.spare ≡ n)) r.outs.items × (vec_len r.outs + 1 ≡ workers)) }
+        ensures out { IfOk result (λ r. (present r.out.list ≡ []) × (r.out.spare ≡ n)) }
+        ensures outs { IfOk result (λ r. All (λ a. (present a.list ≡ []) × (a.spare ≡ n)) r.outs.items × (vec_len r.outs + 1 ≡ workers)) }
         ensures workers { IfOk result (λ r. (r.workers.items ≡ []) × (workers ≤ vec_capacity r.workers + 1)) }
         ensures children { IfOk result (λ r. (r.children.items ≡ []) × (workers ≤ vec_capacity r.children + 1)) }
         ensures back { IfOk result (λ r. (r.back.items ≡ []) × (workers ≤ vec_capacity r.back + 1)) }

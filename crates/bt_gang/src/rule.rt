@@ -3,11 +3,12 @@ use crossbeam_queue::RuledArrayQueue;
 use crossbeam_queue::protocol::{Join, Lesson, Outcome, Protocol, Split};
 use std::collections::LinkedList;
 
-/// A job with its number.
+/// A job with its number, and room for its answer. The rule says nothing of the room.
 #[derive(Drop)]
-pub struct NumberedJob<J> {
+pub struct NumberedJob<J, P> {
     pub number: usize,
     pub job: J,
+    pub room: P,
 }
 
 /// The numbers that a worker took, in order. No value of it is made.
@@ -26,7 +27,7 @@ pub struct Known<J> {
 /// The queue and the passes are in a state of the board. The first pass has the lists of all workers.
 pub struct JobRule;
 
-impl<J> Protocol<NumberedJob<J>, Known<J>> for JobRule {
+impl<J, P> Protocol<NumberedJob<J, P>, Known<J>> for JobRule {
     ghost use Rattle.std.specs.Prelude.{[]};
     ghost use Rattle.bt_gang.specs.declared.crew.TheConstants.{MOST_WORKERS};
     ghost use Rattle.bt_gang.specs.Queue.{IsQueue, known, no_lists};
@@ -59,33 +60,33 @@ impl<J> Join<Known<J>> for WorkerPass {
 /// A push by the caller. The queue's trait asks what a pass learns where the queue is full, which never comes.
 pub struct Push;
 
-impl<J> Outcome<NumberedJob<J>, Known<J>> for Push {
+impl<J, P> Outcome<NumberedJob<J, P>, Known<J>> for Push {
     ghost use Rattle.bt_gang.specs.Queue.{Pushed};
 
     ghost then = { Pushed };
 }
 
-impl<J> Lesson<NumberedJob<J>, Known<J>> for Push {
+impl<J, P> Lesson<NumberedJob<J, P>, Known<J>> for Push {
     ghost use Rattle.bt_gang.specs.declared.crew.TheConstants.{MOST_WORKERS};
-    ghost use Rattle.bt_gang.specs.Queue.{IsBoardOf};
+    ghost use Rattle.bt_gang.specs.Queue.{IsBoardOf, queued};
 
-    ghost fact = { IsBoardOf MOST_WORKERS };
+    ghost fact = { λ v items. IsBoardOf MOST_WORKERS v (queued items) };
 }
 
 /// A pop that takes the front, or one that finds nothing, by which the pass learns that no job waits.
 pub struct Pop;
 
-impl<J> Outcome<NumberedJob<J>, Known<J>> for Pop {
+impl<J, P> Outcome<NumberedJob<J, P>, Known<J>> for Pop {
     ghost use Rattle.bt_gang.specs.Queue.{Popped};
 
     ghost then = { Popped };
 }
 
-impl<J> Lesson<NumberedJob<J>, Known<J>> for Pop {
+impl<J, P> Lesson<NumberedJob<J, P>, Known<J>> for Pop {
     ghost use Rattle.bt_gang.specs.declared.crew.TheConstants.{MOST_WORKERS};
-    ghost use Rattle.bt_gang.specs.Queue.{IsBoardOf};
+    ghost use Rattle.bt_gang.specs.Queue.{IsBoardOf, queued};
 
-    ghost fact = { IsBoardOf MOST_WORKERS };
+    ghost fact = { λ v items. IsBoardOf MOST_WORKERS v (queued items) };
 }
 
-pub type JobQueue<J> = RuledArrayQueue<NumberedJob<J>, Known<J>, JobRule>;
+pub type JobQueue<J, P> = RuledArrayQueue<NumberedJob<J, P>, Known<J>, JobRule>;

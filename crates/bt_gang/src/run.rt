@@ -4,7 +4,7 @@ ghost use Rattle.crossbeam_queue.specs.Passes.{IsPassOf, view};
 ghost use Rattle.bt_gang.specs.Numbers.{joined};
 ghost use Rattle.bt_gang.specs.Queue.{NothingWaits};
 ghost use Rattle.bt_gang.specs.declared.run.GangFault.TheVariants.{OutOfMemory};
-ghost use Rattle.bt_gang.specs.Run.{Answered, AreAllTaken, AreValues, EachOnce, IsLeast, number_lists};
+ghost use Rattle.bt_gang.specs.Run.{Answered, AreAllTaken, AreValues, EachOnce, IsLeast};
 ghost use Rattle.bt_gang.specs.inside.Places.{AllBelow, IsFaultAmong, answers_in, numbers_in, ok_slots, puts};
 ghost use Rattle.bt_gang.specs.inside.Workers.{AllFrom, AreEmptyWhereAbsent, AreListsOf, HasServed, HasServedCaller, IsReady, IsReadyCaller};
 
@@ -17,6 +17,7 @@ use crate::work::Work;
 use crate::worker_loop::serve;
 use crate::workers::{Child, Worker, WorkerOf, join_all, split, start, take_in};
 use std::alloc::Global;
+use std::collections::LinkedList;
 use std::snapshot::Snapshot;
 use std::sync::Wait;
 use std::thread;
@@ -27,7 +28,7 @@ use std::thread::{Scope, Threads};
 #[derive(Drop)]
 pub struct Ran<D> {
     pub done: Vec<D>,
-    pub taken: Vec<Vec<usize>>,
+    pub taken: Vec<LinkedList<usize>>,
 }
 
 /// Why a run gives no values: room was refused, or jobs faulted, of which the least number is answered.
@@ -39,7 +40,7 @@ pub enum GangFault<F> {
 
 /// The caller and the other workers, after their loops.
 #[derive(Drop)]
-struct Served<J: Drop, D, F> {
+struct Served<J: Drop, D: Drop, F: Drop> {
     mine: Worker<J, D, F>,
     others: Vec<Option<Worker<J, D, F>>>,
 }
@@ -50,7 +51,7 @@ fn serve_all<'s, E, W: Work + Sync, G: Gate + Sync, R: Threads + Wait + Sync>(
     rt: &'s R,
     alloc: Global,
     work: &'s W,
-    jobs: &'s Jobs<W::Job>,
+    jobs: &'s Jobs<W::Job, W::Done, W::Fault>,
     all: &'s Snapshot<Vec<W::Job>>,
     crew: &'s Crew<G>,
     mut mine: WorkerOf<W>,
@@ -78,7 +79,7 @@ fn serve_threads<W: Work + Sync, G: Gate + Sync, R: Threads + Wait + Sync>(
     rt: &R,
     alloc: Global,
     work: &W,
-    jobs: &Jobs<W::Job>,
+    jobs: &Jobs<W::Job, W::Done, W::Fault>,
     all: &Snapshot<Vec<W::Job>>,
     crew: &Crew<G>,
     mine: WorkerOf<W>,
@@ -120,14 +121,14 @@ fn place_some<D: Drop, F: Drop>(
     alloc: Global,
     out: Option<Answers<D, F>>,
     slots: &mut Slots<D, F>,
-) -> Vec<usize>
+) -> LinkedList<usize>
     requires { AllBelow (length slots.old.items) (answers_in out) }
     ensures slots { slots.new.items ≡ puts slots.old.items (answers_in out) }
-    ensures numbers { result.items ≡ numbers_in out }
+    ensures numbers { result ≡ numbers_in out }
 {
     match out {
         Some(out) => place(out, slots),
-        None => Vec::new(alloc),
+        None => LinkedList::new(alloc),
     }
 }
 
@@ -136,12 +137,12 @@ fn place_all<D: Drop, F: Drop>(
     alloc: Global,
     outs: Vec<Option<Answers<D, F>>>,
     slots: &mut Slots<D, F>,
-    mut taken: Vec<Vec<usize>>,
-) -> Vec<Vec<usize>>
+    mut taken: Vec<LinkedList<usize>>,
+) -> Vec<LinkedList<usize>>
     requires numbers { AllBelow (length slots.old.items) (joined (map answers_in outs.items)) }
     requires room { vec_len taken + vec_len outs ≤ vec_capacity taken }
     ensures slots { slots.new.items ≡ puts slots.old.items (joined (map answers_in outs.items)) }
-    ensures numbers { number_lists result.items ≡ number_lists taken.items ++ map numbers_in outs.items }
+    ensures numbers { result.items ≡ taken.items ++ map numbers_in outs.items }
     ensures len { vec_len result ≡ vec_len taken + vec_len outs }
 {
     for out in outs {
@@ -174,15 +175,15 @@ fn finish<W: Work, G: Gate, R: Wait>(
     rt: &R,
     alloc: Global,
     work: &W,
-    jobs: &Jobs<W::Job>,
+    jobs: &Jobs<W::Job, W::Done, W::Fault>,
     all: &Snapshot<Vec<W::Job>>,
     crew: &Crew<G>,
     served: Served<W::Job, W::Done, W::Fault>,
     came: Vec<Option<Answers<W::Done, W::Fault>>>,
     mut slots: Slots<W::Done, W::Fault>,
-    mut taken: Vec<Vec<usize>>,
+    mut taken: Vec<LinkedList<usize>>,
     done: Vec<W::Done>,
-) -> Result<(Ran<W::Done>, JobPass<W::Job>), GangFault<W::Fault>>
+) -> Result<(Ran<W::Done>, JobPass<W::Job, W::Done, W::Fault>), GangFault<W::Fault>>
     requires mine { HasServedCaller (W.allows work.now) jobs.now all.now.value.items (vec_len served.others) served.mine }
     requires others { AllFrom (λ number w. IfSome w (HasServed (W.allows work.now) jobs.now all.now.value.items [] number)) 1 served.others.items }
     requires came { (came.items ≡ []) × (vec_len served.others ≤ vec_capacity came) }
@@ -193,10 +194,10 @@ fn finish<W: Work, G: Gate, R: Wait>(
     ensures pass { IfOk result (λ r. IsPassOf jobs.now.queue r.1) }
     ensures lists { IfOk result (λ r. vec_len r.0.taken ≡ vec_len served.others + 1) }
     ensures jobs { IfOk result (λ r. (view r.1).jobs ≡ all.now.value.items) }
-    ensures taken { IfOk result (λ r. AreListsOf (view r.1) (number_lists r.0.taken.items)) }
-    ensures absent { IfOk result (λ r. AreEmptyWhereAbsent served.others.items (number_lists r.0.taken.items)) }
+    ensures taken { IfOk result (λ r. AreListsOf (view r.1) r.0.taken.items) }
+    ensures absent { IfOk result (λ r. AreEmptyWhereAbsent served.others.items r.0.taken.items) }
     ensures settled { IfOk result (λ r. NothingWaits (view r.1)) }
-    ensures board { IfOk result (λ r. AreAllTaken (length all.now.value.items) (number_lists r.0.taken.items)) }
+    ensures board { IfOk result (λ r. AreAllTaken (length all.now.value.items) r.0.taken.items) }
     ensures once { IfOk result (λ r. EachOnce (length all.now.value.items) r.0.taken.items) }
     ensures done { IfOk result (λ r. Answered (W.allows work.now) all.now.value.items r.0.done.items) }
     ensures fault { IfErr result (IsLeast (W.allows work.now) all.now.value.items) }
@@ -222,14 +223,14 @@ fn finish<W: Work, G: Gate, R: Wait>(
 fn ran_nothing<D: Drop, F: Drop>(alloc: Global, workers: usize) -> Result<Ran<D>, GangFault<F>>
     ensures done { IfOk result (λ r. r.done.items ≡ []) }
     ensures len { IfOk result (λ r. vec_len r.taken ≡ workers) }
-    ensures taken { IfOk result (λ r. number_lists r.taken.items ≡ replicate workers []) }
+    ensures taken { IfOk result (λ r. r.taken.items ≡ replicate workers []) }
     ensures refused { IfErr result (λ fault. fault ≡ OutOfMemory) }
 {
     let Ok(mut taken) = Vec::with_capacity(alloc, workers) else {
         return Err(GangFault::OutOfMemory);
     };
     for _ in 0..workers {
-        taken.push_reserved(Vec::new(alloc));
+        taken.push_reserved(LinkedList::new(alloc));
     }
     Ok(Ran {
         done: Vec::new(alloc),
@@ -247,7 +248,7 @@ pub fn run_jobs<W: Work + Sync, G: Gate + Sync, R: Threads + Wait + Sync>(
 ) -> Result<Ran<W::Done>, GangFault<W::Fault>>
     requires accepts { All (λ job. W.accepts work.now job) jobs.items }
     ensures lists { IfOk result (λ r. vec_len r.taken ≡ crew.now.workers) }
-    ensures taken { IfOk result (λ r. AreAllTaken (length jobs.items) (number_lists r.taken.items)) }
+    ensures taken { IfOk result (λ r. AreAllTaken (length jobs.items) r.taken.items) }
     ensures once { IfOk result (λ r. EachOnce (length jobs.items) r.taken.items) }
     ensures done { IfOk result (λ r. Answered (W.allows work.now) jobs.items r.done.items) }
     ensures values { IfOk result (λ r. AreValues (W.allows work.now) jobs.items r.done.items) }

@@ -2,10 +2,11 @@
 ghost use Rattle.std.specs.Prelude.{◌≡◌, ◌<◌, ◌≤◌, ℕ, List, [], ◌∷◌, ◌++◌, length, vec_capacity, vec_len, Err, IfErr, IfOk, IsTrue, IsFalse, None, Option, Result, Some, set};
 ghost use lib.ListN.{get_elem?};
 ghost use mathlib.Core.Option.{some};
-ghost use Rattle.bt_gang.specs.Numbered.{numbered};
+ghost use Rattle.bt_gang.specs.Numbered.{numbered, present};
 ghost use Rattle.bt_gang.specs.inside.Places.{AllBelow, IsFull, ok_slots, puts};
 
-use crate::answers::Answers;
+use crate::answers::{Answer, Answers};
+use std::collections::LinkedList;
 
 /// A place for each job's answer.
 pub(crate) type Slots<D, F> = Vec<Option<Result<D, F>>>;
@@ -18,14 +19,27 @@ fn put<D: Drop, F: Drop>(slots: &mut Slots<D, F>, number: usize, value: Result<D
     slots[number] = Some(value);
 }
 
+// An answer into its place, where there is one.
+fn put_some<D: Drop, F: Drop>(slots: &mut Slots<D, F>, answer: Option<Answer<D, F>>)
+    requires { AllBelow (length slots.old.items) (present (answer ∷ [])) }
+    ensures { slots.new.items ≡ puts slots.old.items (present (answer ∷ [])) }
+{
+    if let Some(Answer { number, value }) = answer {
+        put(slots, number, value);
+    }
+}
+
 /// A worker's answers into their places. Gives their numbers.
-pub(crate) fn place<D: Drop, F: Drop>(out: Answers<D, F>, slots: &mut Slots<D, F>) -> Vec<usize>
-    requires numbers { AllBelow (length slots.old.items) out.list.items }
-    ensures slots { slots.new.items ≡ puts slots.old.items out.list.items }
-    ensures numbers { result.items ≡ numbered out.list.items }
+pub(crate) fn place<D: Drop, F: Drop>(
+    out: Answers<D, F>,
+    slots: &mut Slots<D, F>,
+) -> LinkedList<usize>
+    requires numbers { AllBelow (length slots.old.items) (present out.list) }
+    ensures slots { slots.new.items ≡ puts slots.old.items (present out.list) }
+    ensures numbers { result ≡ numbered (present out.list) }
 {
     for answer in out.list {
-        put(slots, answer.number, answer.value);
+        put_some(slots, answer);
     }
     out.numbers
 }

@@ -7,19 +7,19 @@ ghost use Rattle.bt_gang.specs.Answers.{FoundNothing, Gains};
 use crate::answers::Answers;
 use crate::crew::{Crew, Gate};
 use crate::jobs::{JobPass, Jobs};
-use crate::rule::Pop;
+use crate::rule::{NumberedJob, Pop};
 use crate::work::Work;
 use std::alloc::Global;
 use std::sync::Wait;
 
-/// Pops jobs with this pass until none waits, runs each, and adds its number and its answer. Only the runs take memory, and
-/// the fault of a run is its answer.
+/// Pops jobs with this pass until none waits, runs each, and adds its number and its answer, in the room that came with it.
+/// Only the runs take memory, and the fault of a run is its answer.
 pub fn serve<W: Work, G: Gate, R: Wait>(
     rt: &R,
     alloc: Global,
     work: &W,
-    jobs: &Jobs<W::Job>,
-    pass: &mut JobPass<W::Job>,
+    jobs: &Jobs<W::Job, W::Done, W::Fault>,
+    pass: &mut JobPass<W::Job, W::Done, W::Fault>,
     crew: &Crew<G>,
     out: &mut Answers<W::Done, W::Fault>,
 )
@@ -34,11 +34,11 @@ pub fn serve<W: Work, G: Gate, R: Wait>(
     for _ in rt.forever() {
         match jobs.queue.pop_as::<Pop, R>(rt, pass) {
             Some(item) => {
-                let number = item.number;
+                let NumberedJob { number, job, room } = item;
                 crew.gate.enter(number);
-                let value = work.run(alloc, item.job);
+                let value = work.run(alloc, job);
                 crew.gate.leave(number);
-                out.add(number, value);
+                out.add(room, number, value);
             }
             None => return,
         }

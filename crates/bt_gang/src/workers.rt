@@ -2,6 +2,7 @@
 ghost use Rattle.std.specs.Prelude.{◌≡◌, ◌+◌, ◌<◌, ◌≤◌, List, [], All, IfSome, length, map, vec_capacity, vec_len};
 ghost use Rattle.crossbeam_queue.specs.Passes.{IsPassOf, view};
 ghost use Rattle.bt_gang.specs.declared.crew.TheConstants.{MOST_WORKERS};
+ghost use Rattle.bt_gang.specs.Numbered.{present};
 ghost use Rattle.bt_gang.specs.Queue.{HasList, known, no_lists};
 ghost use Rattle.bt_gang.specs.inside.Workers.{AllFrom, HasServed, IsCaller, IsPromise, IsReady, TookIn, out_of};
 
@@ -23,9 +24,9 @@ const WORKER_STACK: usize = 1 << 20;
 
 /// A worker's number, its pass and its answers. The caller is worker 0.
 #[derive(Drop)]
-pub(crate) struct Worker<J: Drop, D, F> {
+pub(crate) struct Worker<J: Drop, D: Drop, F: Drop> {
     pub number: usize,
-    pub pass: JobPass<J>,
+    pub pass: JobPass<J, D, F>,
     pub out: Answers<D, F>,
 }
 
@@ -37,7 +38,7 @@ pub(crate) type WorkerOf<W> = Worker<<W as Work>::Job, <W as Work>::Done, <W as 
 pub(crate) struct GivesBack<W: Work> {
     number: usize,
     work: Snapshot<W>,
-    jobs: Snapshot<Jobs<W::Job>>,
+    jobs: Snapshot<Jobs<W::Job, W::Done, W::Fault>>,
     all: Snapshot<Snapshot<Vec<W::Job>>>,
 }
 
@@ -50,14 +51,14 @@ pub(crate) type Child<W> = Option<PromisedHandle<WorkerOf<W>, GivesBack<W>>>;
 
 /// A worker for each list of answers, with the numbers from 1 on: its pass gets the list of the worker with its number.
 pub(crate) fn split<J: Drop, D: Drop, F: Drop>(
-    jobs: &Jobs<J>,
+    jobs: &Jobs<J, D, F>,
     all: &Snapshot<Vec<J>>,
-    pass: &mut JobPass<J>,
+    pass: &mut JobPass<J, D, F>,
     outs: Vec<Answers<D, F>>,
     mut workers: Vec<Worker<J, D, F>>,
 ) -> Vec<Worker<J, D, F>>
     requires pass { IsPassOf jobs.now.queue pass.old × (view pass.old ≡ known all.now.value.items (no_lists MOST_WORKERS)) }
-    requires outs { All (λ a. (a.list.items ≡ []) × (a.spare ≡ length all.now.value.items)) outs.items }
+    requires outs { All (λ a. (present a.list ≡ []) × (a.spare ≡ length all.now.value.items)) outs.items }
     requires room { (workers.items ≡ []) × (vec_len outs < MOST_WORKERS) × (vec_len outs ≤ vec_capacity workers) }
     ensures pass { IsPassOf jobs.now.queue pass.new × IsCaller all.now.value.items (vec_len outs) (view pass.new) }
     ensures each { AllFrom (IsReady jobs.now all.now.value.items []) 1 result.items }
@@ -80,7 +81,7 @@ fn served<W: Work, G: Gate, R: Wait>(
     rt: &R,
     alloc: Global,
     work: &W,
-    jobs: &Jobs<W::Job>,
+    jobs: &Jobs<W::Job, W::Done, W::Fault>,
     all: &Snapshot<Vec<W::Job>>,
     crew: &Crew<G>,
     worker: WorkerOf<W>,
@@ -104,7 +105,7 @@ pub(crate) fn start<'s, E, W: Work + Sync, G: Gate + Sync, R: Threads + Wait + S
     rt: &'s R,
     alloc: Global,
     work: &'s W,
-    jobs: &'s Jobs<W::Job>,
+    jobs: &'s Jobs<W::Job, W::Done, W::Fault>,
     all: &'s Snapshot<Vec<W::Job>>,
     crew: &'s Crew<G>,
     workers: Vec<WorkerOf<W>>,
@@ -141,7 +142,7 @@ pub(crate) fn start<'s, E, W: Work + Sync, G: Gate + Sync, R: Threads + Wait + S
 pub(crate) fn join_all<W: Work, R: Threads>(
     rt: &R,
     work: &W,
-    jobs: &Jobs<W::Job>,
+    jobs: &Jobs<W::Job, W::Done, W::Fault>,
     all: &Snapshot<Vec<W::Job>>,
     children: Vec<Child<W>>,
     mut back: Vec<Option<WorkerOf<W>>>,
@@ -163,9 +164,9 @@ pub(crate) fn join_all<W: Work, R: Threads>(
 /// Takes in the passes of those that were started. Gives the answers of each worker.
 pub(crate) fn take_in<W: Work>(
     work: &W,
-    jobs: &Jobs<W::Job>,
+    jobs: &Jobs<W::Job, W::Done, W::Fault>,
     all: &Snapshot<Vec<W::Job>>,
-    pass: &mut JobPass<W::Job>,
+    pass: &mut JobPass<W::Job, W::Done, W::Fault>,
     workers: Vec<Option<WorkerOf<W>>>,
     mut outs: Vec<Option<Answers<W::Done, W::Fault>>>,
 ) -> Vec<Option<Answers<W::Done, W::Fault>>>

@@ -1,18 +1,20 @@
--- The lengths of codes: of an int's, and the most of a text's and of any value's, for `text_len` and `value_len`.
-use Rattle.std.proofs.Common.{◌≡◌, ◌≤◌, ◌+◌, ◌*◌, ◌∷◌, ◌++◌, ◌∙◌, [], ℕ, zero, suc, ℤ, List, ap, arith, false, length, nat_eq, refl, true}
+-- The lengths of codes: of an int's, and the most of those of bytes and of any value, for `bytes_len` and `value_len`.
+use Rattle.std.proofs.Common.{◌≡◌, ◌≤◌, ◌+◌, ◌*◌, ◌∷◌, ◌++◌, ◌∙◌, [], ℕ, zero, suc, ℤ, List, ap, arith, false, length, nat_eq, refl}
 use Rattle.std.proofs.lemmas.List.{length-append}
 use Rattle.std.specs.List.{list_any}
-use Rattle.bt_rowtype.specs.Texts.{is_text}
-use Rattle.bt_rowtype.specs.Values.{HasText}
+use Rattle.bt_rowtype.specs.Kinds.{Content, Number, Bytes, Bit, content_of, kind_of}
+use Rattle.bt_rowtype.specs.Values.{AreTaken, HasBytes}
+use Rattle.bt_rowtype.specs.declared.value.Kind.{Kind}
 use Rattle.bt_rowtype.specs.declared.value.Value.{Value}
-use Rattle.bt_rowtype.specs.declared.value.Value.TheVariants as value
-use Rattle.bt_rowtype.proofs.offered.Texts.{text_length}
-use Rattle.bt_keycode.specs.Codes.{code_of_value, eight_bytes, escaped, raised}
+pub use Rattle.bt_rowtype.proofs.offered.Kinds.{bytes_length}
+use Rattle.bt_rowtype.proofs.offered.Kinds.{taken_length}
+use Rattle.bt_keycode.specs.Codes.{code_of_content, code_of_value, eight_bytes, escaped, raised}
+use Rattle.bt_keycode.specs.inside.Decoding.{IsShort}
 use Rattle.bt_keycode.proofs.Escapes.{escaped-first, escaped-kept, escaped_parts}
 
--- ---- texts
+-- ---- bytes
 
--- a byte of a text has at most two
+-- a byte has at most two
 length-byte : (b : ℕ) → length (escaped (b ∷ [])) ≤ 2
 length-byte zero = omega arith
 length-byte (suc n) = omega (arith, ap length (escaped-kept n []))
@@ -21,9 +23,9 @@ escaped-bound : (bs : List ℕ) → length (escaped bs) ≤ 2 * length bs
 escaped-bound [] = omega arith
 escaped-bound (b ∷ bs) = omega (arith, ap length (escaped-first b bs) ∙ length-append (escaped (b ∷ [])) (escaped bs), length-byte b, escaped-bound bs)
 
--- a text of a column has at most 510
-pub short_escaped : (text : List ℕ) → is_text text ≡ true → length (escaped text) ≤ 510
-short_escaped text is = omega (arith, escaped-bound text, text_length text is)
+-- 255 bytes have at most 510
+pub short_escaped : (bytes : List ℕ) → length bytes ≤ 255 → length (escaped bytes) ≤ 510
+short_escaped bytes few = omega (arith, escaped-bound bytes, few)
 
 -- the first part of a text and the zero byte behind it, and what is left
 pub one_part : (rest part behind : List ℕ) → rest ≡ part ++ 0 ∷ behind → list_any (λ b. nat_eq b 0) part ≡ false → length (escaped rest) ≡ length part + 2 + length (escaped behind)
@@ -36,8 +38,20 @@ pub length_int : (n : ℤ) → length (eight_bytes (raised n)) ≡ 8
 unfolding eight_bytes
 length_int n = refl
 
--- a value has at most 512
-pub short_code : (v : Value) → HasText v → length (code_of_value v) ≤ 512
-short_code (value.Int n) text = omega (arith, length_int n)
-short_code (value.Text bytes) text = omega (arith, length-append (escaped bytes) (0 ∷ 1 ∷ []), short_escaped bytes text)
-short_code (value.Flag flag) text = omega arith
+-- a value has at most 255 bytes
+few_taken : (k : Kind) (c : Content) → AreTaken k c → IsShort c
+few_taken k (Number n) taken = tt
+few_taken k (Bytes bytes) taken = taken_length k bytes taken
+few_taken k (Bit bit) taken = tt
+
+pub is_short : (v : Value) → HasBytes v → IsShort (content_of v)
+is_short v taken = few_taken (kind_of v) (content_of v) taken
+
+-- and its code has at most 512
+short_content : (c : Content) → IsShort c → length (code_of_content c) ≤ 512
+short_content (Number n) short = omega (arith, length_int n)
+short_content (Bytes bytes) short = omega (arith, length-append (escaped bytes) (0 ∷ 1 ∷ []), short_escaped bytes short)
+short_content (Bit bit) short = omega arith
+
+pub short_code : (v : Value) → HasBytes v → length (code_of_value v) ≤ 512
+short_code v taken = short_content (content_of v) (is_short v taken)

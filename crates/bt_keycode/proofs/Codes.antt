@@ -8,13 +8,17 @@ use Rattle.std.specs.Ordering.{bool_cmp, int_cmp, nat_cmp, ordering_then, MatchO
 use Rattle.std.specs.declared.cmp.Ordering.{Ordering}
 use Rattle.std.specs.declared.cmp.Ordering.TheVariants.{Less, Equal, Greater}
 use Rattle.std.proofs.lemmas.Int.{ints}
+use Rattle.bt_rowtype.specs.Kinds.{Content, Number, Bytes, Bit, content_of, form_in, form_of}
+use Rattle.bt_rowtype.specs.Values.{IsInRange, LiesInRange, content_cmp, value_cmp}
+use Rattle.bt_rowtype.specs.declared.value.Kind.{Kind}
 use Rattle.bt_rowtype.specs.declared.value.Value.{Value}
-use Rattle.bt_rowtype.specs.declared.value.Value.TheVariants as value
-use Rattle.bt_keycode.specs.Codes.{HaveSameKinds, code_of, code_of_value, eight_bytes, escaped, kind_of, raised}
+use Rattle.bt_rowtype.proofs.offered.Kinds.{form_held}
+use Rattle.bt_keycode.specs.Codes.{HaveSameKinds, code_of, code_of_content, code_of_value, eight_bytes, escaped, kind_of, raised}
+use Rattle.bt_keycode.specs.inside.Decoding.{HasBits}
 use Rattle.bt_keycode.proofs.Escapes.{escaped_compare, escaped_unique, then_assoc, then_equal}
 use Rattle.bt_keycode.proofs.Numbers.{slice_cmp-eight_bytes}
 
--- ---- ints
+-- ---- numbers
 
 raised_ranks : (a b : ℤ) → FitsSigned w64 a → FitsSigned w64 b → (o : Ordering) → MatchOrdering o (a <ℤ b) (a ≡ b) (b <ℤ a) → MatchOrdering o (raised a < raised b) (raised a ≡ raised b) (raised b < raised a)
 raised_ranks a b f g Equal h = ap raised h
@@ -32,23 +36,45 @@ raised-below (pos a) f = omega (arith, f.sfits)
 raised-below (negsuc a) f = omega (arith, f.sfits)
 
 -- the bytes of ints are ordered as the ints
-pub ints_compare : (a b : ℤ) → FitsSigned w64 a → FitsSigned w64 b → slice_cmp nat_cmp (eight_bytes (raised a)) (eight_bytes (raised b)) ≡ int_cmp a b
+ints_compare : (a b : ℤ) → FitsSigned w64 a → FitsSigned w64 b → slice_cmp nat_cmp (eight_bytes (raised a)) (eight_bytes (raised b)) ≡ int_cmp a b
 ints_compare a b f g =
     slice_cmp-eight_bytes (raised a) (raised b) (raised-below a f) (raised-below b g)
     ∙ sym (nat_cmp_is (raised a) (raised b) (int_cmp a b) (raised_ranks a b f g (int_cmp a b) (int_ranks a b)))
 
--- ---- values
+-- ---- what values hold
 
--- the codes of flags are ordered as the flags
-pub flags_compare : (a b : Bool) → slice_cmp nat_cmp (code_of_value (value.Flag a)) (code_of_value (value.Flag b)) ≡ bool_cmp a b
-flags_compare false false = refl
-flags_compare false true = refl
-flags_compare true false = refl
-flags_compare true true = refl
+-- the codes of bits are ordered as the bits
+bits_compare : (a b : Bool) → slice_cmp nat_cmp (code_of_content (Bit a)) (code_of_content (Bit b)) ≡ bool_cmp a b
+bits_compare false false = refl
+bits_compare false true = refl
+bits_compare true false = refl
+bits_compare true true = refl
 
--- the codes of texts are ordered as their bytes
-pub texts_compare : (a b : List ℕ) → slice_cmp nat_cmp (escaped a ++ (0 ∷ 1 ∷ [])) (escaped b ++ (0 ∷ 1 ∷ [])) ≡ slice_cmp nat_cmp a b
-texts_compare a b = escaped_compare a b [] [] ∙ then_equal (slice_cmp nat_cmp a b)
+-- the codes of bytes are ordered as these
+bytes_compare : (a b : List ℕ) → slice_cmp nat_cmp (escaped a ++ (0 ∷ 1 ∷ [])) (escaped b ++ (0 ∷ 1 ∷ [])) ≡ slice_cmp nat_cmp a b
+bytes_compare a b = escaped_compare a b [] [] ∙ then_equal (slice_cmp nat_cmp a b)
+
+content_ordered : (c d : Content) → form_in c ≡ form_in d → HasBits c → HasBits d → slice_cmp nat_cmp (code_of_content c) (code_of_content d) ≡ content_cmp c d
+content_ordered (Number m) (Number n) same f g = ints_compare m n f g
+content_ordered (Bytes a) (Bytes b) same f g = bytes_compare a b
+content_ordered (Bit a) (Bit b) same f g = bits_compare a b
+content_ordered c d same f g = cc
+
+-- two values of a kind have one form
+pub same_form : (v w : Value) → kind_of v ≡ kind_of w → form_in (content_of v) ≡ form_in (content_of w)
+same_form v w same = form_held v ∙ ap form_of same ∙ sym (form_held w)
+
+has_bits_in : (k : Kind) (c : Content) → LiesInRange k c → HasBits c
+has_bits_in k (Number n) fits = fits
+has_bits_in k (Bytes bytes) fits = tt
+has_bits_in k (Bit bit) fits = tt
+
+pub has_bits : (v : Value) → IsInRange v → HasBits (content_of v)
+has_bits v fits = has_bits_in (kind_of v) (content_of v) fits
+
+-- the codes of two values of a kind are ordered as these
+pub value_ordered : (v w : Value) → kind_of v ≡ kind_of w → IsInRange v → IsInRange w → slice_cmp nat_cmp (code_of_value v) (code_of_value w) ≡ value_cmp v w
+value_ordered v w same f g = content_ordered (content_of v) (content_of w) (same_form v w same) (has_bits v f) (has_bits w g)
 
 slice_cmp-append : (xs ys ps qs : List ℕ) → length xs ≡ length ys →
     slice_cmp nat_cmp (xs ++ ps) (ys ++ qs) ≡ ordering_then (slice_cmp nat_cmp xs ys) (slice_cmp nat_cmp ps qs)
@@ -59,28 +85,36 @@ slice_cmp-append (x ∷ xs) (y ∷ ys) ps qs e =
     let same : length xs ≡ length ys = omega arith in
     ap (ordering_then (nat_cmp x y)) (slice_cmp-append xs ys ps qs same) ∙ then_assoc (nat_cmp x y) (slice_cmp nat_cmp xs ys) (slice_cmp nat_cmp ps qs)
 
--- the codes of two values of a kind decide, and else what is behind them
-pub codes_compare : (v w : Value) → kind_of v ≡ kind_of w → (xs ys : List ℕ) →
-    slice_cmp nat_cmp (code_of_value v ++ xs) (code_of_value w ++ ys) ≡ ordering_then (slice_cmp nat_cmp (code_of_value v) (code_of_value w)) (slice_cmp nat_cmp xs ys)
+-- the codes of two contents of a form decide, and else what is behind them
+contents_compare : (c d : Content) → form_in c ≡ form_in d → (xs ys : List ℕ) →
+    slice_cmp nat_cmp (code_of_content c ++ xs) (code_of_content d ++ ys) ≡ ordering_then (slice_cmp nat_cmp (code_of_content c) (code_of_content d)) (slice_cmp nat_cmp xs ys)
 unfolding eight_bytes
-codes_compare (value.Int m) (value.Int n) same xs ys = slice_cmp-append (eight_bytes (raised m)) (eight_bytes (raised n)) xs ys refl
-codes_compare (value.Text a) (value.Text b) same xs ys =
+contents_compare (Number m) (Number n) same xs ys = slice_cmp-append (eight_bytes (raised m)) (eight_bytes (raised n)) xs ys refl
+contents_compare (Bytes a) (Bytes b) same xs ys =
     ap (λ cs. slice_cmp nat_cmp cs ((escaped b ++ 0 ∷ 1 ∷ []) ++ ys)) (append_assoc (escaped a) (0 ∷ 1 ∷ []) xs)
     ∙ ap (λ cs. slice_cmp nat_cmp (escaped a ++ 0 ∷ 1 ∷ xs) cs) (append_assoc (escaped b) (0 ∷ 1 ∷ []) ys)
     ∙ escaped_compare a b xs ys
-    ∙ ap (λ o. ordering_then o (slice_cmp nat_cmp xs ys)) (sym (texts_compare a b))
-codes_compare (value.Flag a) (value.Flag b) same xs ys = slice_cmp-append (code_of_value (value.Flag a)) (code_of_value (value.Flag b)) xs ys refl
-codes_compare v w same xs ys = cc
+    ∙ ap (λ o. ordering_then o (slice_cmp nat_cmp xs ys)) (sym (bytes_compare a b))
+contents_compare (Bit a) (Bit b) same xs ys = slice_cmp-append (code_of_content (Bit a)) (code_of_content (Bit b)) xs ys refl
+contents_compare c d same xs ys = cc
 
--- where two codes of a kind have something behind them and are the same with it, what is behind is the same
-pub behind_codes : (v w : Value) → kind_of v ≡ kind_of w → (xs ys : List ℕ) → code_of_value v ++ xs ≡ code_of_value w ++ ys → xs ≡ ys
+-- the codes of two values of a kind decide, and else what is behind them
+pub codes_compare : (v w : Value) → kind_of v ≡ kind_of w → (xs ys : List ℕ) →
+    slice_cmp nat_cmp (code_of_value v ++ xs) (code_of_value w ++ ys) ≡ ordering_then (slice_cmp nat_cmp (code_of_value v) (code_of_value w)) (slice_cmp nat_cmp xs ys)
+codes_compare v w same xs ys = contents_compare (content_of v) (content_of w) (same_form v w same) xs ys
+
+-- where two codes of a form have something behind them and are the same with it, what is behind is the same
+behind_contents : (c d : Content) → form_in c ≡ form_in d → (xs ys : List ℕ) → code_of_content c ++ xs ≡ code_of_content d ++ ys → xs ≡ ys
 unfolding eight_bytes
-behind_codes (value.Int m) (value.Int n) same xs ys e = cc
-behind_codes (value.Text a) (value.Text b) same xs ys e =
+behind_contents (Number m) (Number n) same xs ys e = cc
+behind_contents (Bytes a) (Bytes b) same xs ys e =
     let both = escaped_unique a b xs ys (sym (append_assoc (escaped a) (0 ∷ 1 ∷ []) xs) ∙ e ∙ append_assoc (escaped b) (0 ∷ 1 ∷ []) ys) in
     both.1
-behind_codes (value.Flag a) (value.Flag b) same xs ys e = cc
-behind_codes v w same xs ys e = cc
+behind_contents (Bit a) (Bit b) same xs ys e = cc
+behind_contents c d same xs ys e = cc
+
+pub behind_codes : (v w : Value) → kind_of v ≡ kind_of w → (xs ys : List ℕ) → code_of_value v ++ xs ≡ code_of_value w ++ ys → xs ≡ ys
+behind_codes v w same xs ys e = behind_contents (content_of v) (content_of w) (same_form v w same) xs ys e
 
 -- ---- lists of values
 

@@ -1,42 +1,48 @@
 -- One code stands for one list of values of given kinds: what `decode` stands on.
 use Rattle.std.proofs.Common.{◌≡◌, ℕ, List, [], ◌∷◌, ◌++◌, map, take, drop, length, ◌-◌, ◌<◌, ◌≤◌, append_assoc, append-nil, get_or, ◌+◌, refl, sym, ap, subst, ◌∙◌, Bool, true, false, Some, ℤ, SFits, w64, to_z, of_z, arith}
+use Rattle.bt_rowtype.specs.Kinds.{Content, Number, Bytes, Bit, content_of, form_in, form_of, value_with}
+use Rattle.bt_rowtype.specs.Values.{AreInRange, IsInRange, LiesInRange, takes_content}
+use Rattle.bt_rowtype.specs.declared.value.Form.TheVariants as form
 use Rattle.bt_rowtype.specs.declared.value.Kind.{Kind}
-use Rattle.bt_rowtype.specs.declared.value.Kind.TheVariants as kind
 use Rattle.bt_rowtype.specs.declared.value.Value.{Value}
-use Rattle.bt_rowtype.specs.declared.value.Value.TheVariants as value
-use Rattle.bt_rowtype.specs.Values.{AreInRange, IsInRange}
-use Rattle.bt_keycode.specs.Codes.{IsCode, IsCodeOf, IsNoCode, code_of, code_of_value, eight_bytes, escaped, kind_of, raised}
+use Rattle.bt_rowtype.proofs.offered.Kinds.{content_with, form_held, has_bytes, kind_with, with_content}
+use Rattle.bt_keycode.specs.Codes.{IsCode, IsCodeOf, IsNoCode, code_of, code_of_content, code_of_value, eight_bytes, escaped, kind_of, raised}
 use Rattle.bt_keycode.specs.Prefixes.{first_eight}
-use Rattle.bt_rowtype.specs.Texts.{is_text}
-use Rattle.bt_rowtype.proofs.offered.Texts.{long_text}
+use Rattle.bt_keycode.proofs.CodeLengths.{is_short}
+use Rattle.bt_keycode.proofs.Codes.{has_bits, same_form}
 use Rattle.std.proofs.lemmas.Int.{to_z-of_z}
 use Rattle.std.proofs.Math.Seq.{take-length}
 use Rattle.std.proofs.lemmas.List.{map-append, take-append-drop, take_more}
-use Rattle.bt_keycode.specs.inside.Decoding.{BeginsWith, BeginsWithAll, BeginsWithNo, BeginsWithNone, unescaped}
+use Rattle.bt_keycode.specs.inside.Decoding.{BeginsWith, BeginsWithAll, BeginsWithContent, BeginsWithNo, BeginsWithNoContent, BeginsWithNone, HasBits, unescaped}
 use Rattle.bt_keycode.proofs.DecodingInts.{eight_and_others, eight_long, same_int}
 use Rattle.bt_keycode.proofs.DecodingTexts.{both_read, read_again, spelled, split_end}
 
-same_text : (s t q r : List ℕ) → (escaped s ++ (0 ∷ 1 ∷ [])) ++ q ≡ (escaped t ++ (0 ∷ 1 ∷ [])) ++ r → (s ≡ t) × (q ≡ r)
-same_text s t q r e = both_read s q t r (sym (read_again s q) ∙ ap unescaped (sym (split_end s q) ∙ e ∙ split_end t r) ∙ read_again t r)
+same_bytes : (s t q r : List ℕ) → (escaped s ++ (0 ∷ 1 ∷ [])) ++ q ≡ (escaped t ++ (0 ∷ 1 ∷ [])) ++ r → (s ≡ t) × (q ≡ r)
+same_bytes s t q r e = both_read s q t r (sym (read_again s q) ∙ ap unescaped (sym (split_end s q) ∙ e ∙ split_end t r) ∙ read_again t r)
 
-same_flag : (a b : Bool) (q r : List ℕ) → code_of_value (value.Flag a) ++ q ≡ code_of_value (value.Flag b) ++ r → (a ≡ b) × (q ≡ r)
-same_flag true true q r e = (refl, (cc))
-same_flag true false q r e = cc
-same_flag false true q r e = cc
-same_flag false false q r e = (refl, (cc))
+same_bit : (a b : Bool) (q r : List ℕ) → code_of_content (Bit a) ++ q ≡ code_of_content (Bit b) ++ r → (a ≡ b) × (q ≡ r)
+same_bit true true q r e = (refl, (cc))
+same_bit true false q r e = cc
+same_bit false true q r e = cc
+same_bit false false q r e = (refl, (cc))
+
+-- what two values of one form hold, and what comes after the codes
+same_content : (c d : Content) (q r : List ℕ) → form_in c ≡ form_in d → HasBits c → HasBits d → code_of_content c ++ q ≡ code_of_content d ++ r → (c ≡ d) × (q ≡ r)
+same_content (Number a) (Number b) q r k f g e = let both = same_int a b q r f g e in (ap Number both.0, both.1)
+same_content (Bytes s) (Bytes t) q r k f g e = let both = same_bytes s t q r e in (ap Bytes both.0, both.1)
+same_content (Bit a) (Bit b) q r k f g e = let both = same_bit a b q r e in (ap Bit both.0, both.1)
+same_content (Number a) (Bytes t) q r k f g e = cc
+same_content (Number a) (Bit b) q r k f g e = cc
+same_content (Bytes s) (Number b) q r k f g e = cc
+same_content (Bytes s) (Bit b) q r k f g e = cc
+same_content (Bit a) (Number b) q r k f g e = cc
+same_content (Bit a) (Bytes t) q r k f g e = cc
 
 -- two values of one kind, and what comes after their codes
-same_value : (v w : Value) (q r : List ℕ) → kind_of v ≡ kind_of w → IsInRange v → IsInRange w →
-    code_of_value v ++ q ≡ code_of_value w ++ r → (v ≡ w) × (q ≡ r)
-same_value (value.Int a) (value.Int b) q r k f g e = let both = same_int a b q r f g e in (ap value.Int both.0, both.1)
-same_value (value.Text s) (value.Text t) q r k f g e = let both = same_text s t q r e in (ap value.Text both.0, both.1)
-same_value (value.Flag a) (value.Flag b) q r k f g e = let both = same_flag a b q r e in (ap value.Flag both.0, both.1)
-same_value (value.Int a) (value.Text t) q r k f g e = cc
-same_value (value.Int a) (value.Flag b) q r k f g e = cc
-same_value (value.Text s) (value.Int b) q r k f g e = cc
-same_value (value.Text s) (value.Flag b) q r k f g e = cc
-same_value (value.Flag a) (value.Int b) q r k f g e = cc
-same_value (value.Flag a) (value.Text t) q r k f g e = cc
+same_value : (v w : Value) (q r : List ℕ) → kind_of v ≡ kind_of w → IsInRange v → IsInRange w → code_of_value v ++ q ≡ code_of_value w ++ r → (v ≡ w) × (q ≡ r)
+same_value v w q r k f g e =
+    let both = same_content (content_of v) (content_of w) q r (same_form v w k) (has_bits v f) (has_bits w g) e in
+    (sym (with_content v) ∙ ap (λ j. value_with j (content_of v)) k ∙ ap (value_with (kind_of w)) both.0 ∙ with_content w, both.1)
 
 first_of_both : {A : Type 0} {x y : A} {xs ys : List A} → x ∷ xs ≡ y ∷ ys → (x ≡ y) × (xs ≡ ys)
 first_of_both e = ((cc), (cc))
@@ -75,60 +81,83 @@ same_values (v ∷ values) (w ∷ others) rest more f g k e =
     let tail = same_values values others rest more f.1 g.1 both.1 same.1 in
     (cc, tail.1)
 
--- ---- ints
+-- ---- numbers
 
--- fewer than eight bytes begin with no int
-pub no_int : (bytes : List ℕ) (other : Value) (rest : List ℕ) → length bytes < 8 → BeginsWith kind.Int bytes other rest → ⊥
-no_int bytes (value.Int n) rest short b =
+-- fewer than eight bytes begin with no number
+pub no_number : (bytes : List ℕ) (other : Content) (rest : List ℕ) → length bytes < 8 → BeginsWithContent form.Number bytes other rest → ⊥
+no_number bytes (Number n) rest short b =
     let long = eight_long (raised n) rest in
     let same : length (eight_bytes (raised n) ++ rest) ≡ length bytes = ap length b.code in
     omega arith
-no_int bytes (value.Text text) rest short b = let k = b.of_kind in cc
-no_int bytes (value.Flag flag) rest short b = let k = b.of_kind in cc
+no_number bytes (Bytes text) rest short b = let k = b.of_form in cc
+no_number bytes (Bit bit) rest short b = let k = b.of_form in cc
 
--- eight bytes or more begin with the int of the first eight
-int_begins : (z : ℤ) (number : ℕ) (bytes : List ℕ) → SFits w64 z → raised z ≡ number → eight_bytes number ≡ first_eight bytes → 8 ≤ length bytes →
-    BeginsWith kind.Int bytes (value.Int z) (take (length bytes - 8) (drop 8 bytes))
-int_begins z number bytes fits up same long = record {
-  of_kind = refl;
-  in_range = fits;
+-- eight bytes or more begin with the number of the first eight
+number_begins : (z : ℤ) (number : ℕ) (bytes : List ℕ) → SFits w64 z → raised z ≡ number → eight_bytes number ≡ first_eight bytes → 8 ≤ length bytes →
+    BeginsWithContent form.Number bytes (Number z) (take (length bytes - 8) (drop 8 bytes))
+number_begins z number bytes fits up same long = record {
+  of_form = refl;
+  bits = fits;
   code = ap (λ n. eight_bytes n ++ take (length bytes - 8) (drop 8 bytes)) up ∙ eight_and_others number bytes same long;
 }
 
-pub int_found : (z : ℤ) (number : ℕ) (bytes : List ℕ) → SFits w64 z → raised z ≡ number → eight_bytes number ≡ first_eight bytes → 8 ≤ length bytes →
-    BeginsWith kind.Int bytes (value.Int (to_z w64 (of_z w64 z))) (take (length bytes - 8) (drop 8 bytes))
-int_found z number bytes fits up same long = rw (to_z-of_z w64 z fits) (int_begins z number bytes fits up same long)
+pub number_found : (z : ℤ) (number : ℕ) (bytes : List ℕ) → SFits w64 z → raised z ≡ number → eight_bytes number ≡ first_eight bytes → 8 ≤ length bytes →
+    BeginsWithContent form.Number bytes (Number (to_z w64 (of_z w64 z))) (take (length bytes - 8) (drop 8 bytes))
+number_found z number bytes fits up same long = rw (to_z-of_z w64 z fits) (number_begins z number bytes fits up same long)
 
--- ---- texts
+-- ---- bytes
 
--- what is read as a text within range is one
-pub text_found : (bytes text rest : List ℕ) → unescaped bytes ≡ Some (text, rest) → is_text text ≡ true → BeginsWith kind.Text bytes (value.Text text) rest
-text_found bytes text rest read fits = record {
-  of_kind = refl;
-  in_range = fits;
-  code = split_end text rest ∙ spelled bytes text rest read;
+pub bytes_found : (bytes found rest : List ℕ) → unescaped bytes ≡ Some (found, rest) → BeginsWithContent form.Bytes bytes (Bytes found) rest
+bytes_found bytes found rest read = record { of_form = refl; bits = tt; code = split_end found rest ∙ spelled bytes found rest read }
+
+-- where no more than 255 bytes are read, none are there
+pub no_bytes : (bytes : List ℕ) → ((found rest : List ℕ) → unescaped bytes ≡ Some (found, rest) → 255 < length found) → BeginsWithNoContent form.Bytes bytes
+no_bytes bytes long (Bytes found) rest b short =
+    let read : unescaped bytes ≡ Some (found, rest) = ap unescaped (sym b.code ∙ split_end found rest) ∙ read_again found rest in
+    let past : 255 < length found = long found rest read in
+    omega (arith, past, short)
+no_bytes bytes long (Number n) rest b short = let k = b.of_form in cc
+no_bytes bytes long (Bit bit) rest b short = let k = b.of_form in cc
+
+-- ---- values of a kind
+
+in_range_with : (k : Kind) (c : Content) → form_in c ≡ form_of k → LiesInRange k c → IsInRange (value_with k c)
+in_range_with k c same fits = subst (λ j. LiesInRange j (content_of (value_with k c))) (sym (kind_with k c)) (subst (LiesInRange k) (sym (content_with k c same)) fits)
+
+lies_in_range : (k : Kind) (c : Content) → HasBits c → takes_content k c ≡ true → LiesInRange k c
+lies_in_range k (Number n) bits taken = bits
+lies_in_range k (Bytes bytes) bits taken = taken
+lies_in_range k (Bit bit) bits taken = tt
+
+-- what a kind takes is a value of it
+pub value_found : (k : Kind) (bytes : List ℕ) (c : Content) (rest : List ℕ) → BeginsWithContent (form_of k) bytes c rest → takes_content k c ≡ true → BeginsWith k bytes (value_with k c) rest
+value_found k bytes c rest b taken = record {
+  of_kind = kind_with k c;
+  in_range = in_range_with k c b.of_form (lies_in_range k c b.bits taken);
+  code = ap (λ d. code_of_content d ++ rest) (content_with k c b.of_form) ∙ b.code;
 }
 
-text_read : (bytes text rest : List ℕ) → BeginsWith kind.Text bytes (value.Text text) rest → unescaped bytes ≡ Some (text, rest)
-text_read bytes text rest b = ap unescaped (sym b.code ∙ split_end text rest) ∙ read_again text rest
+-- what a value of a kind holds
+held_in : (k : Kind) (bytes : List ℕ) (v : Value) (rest : List ℕ) → BeginsWith k bytes v rest → BeginsWithContent (form_of k) bytes (content_of v) rest
+held_in k bytes v rest b = record { of_form = form_held v ∙ ap form_of b.of_kind; bits = has_bits v b.in_range; code = b.code }
 
--- where no text of at most 255 bytes is read, none is there, nor where what is read is out of range
-pub no_code : (bytes : List ℕ) → ((text rest : List ℕ) → unescaped bytes ≡ Some (text, rest) → 255 < length text) → BeginsWithNo kind.Text bytes
-no_code bytes long (value.Text text) rest b =
-    let fits : is_text text ≡ true = b.in_range in
-    let past : is_text text ≡ false = long_text text (long text rest (text_read bytes text rest b)) in
-    cc
-no_code bytes long (value.Int n) rest b = let k = b.of_kind in cc
-no_code bytes long (value.Flag flag) rest b = let k = b.of_kind in cc
+taken_in : (k : Kind) (c : Content) → LiesInRange k c → takes_content k c ≡ true
+taken_in k (Number n) fits = refl
+taken_in k (Bytes bytes) fits = fits
+taken_in k (Bit bit) fits = refl
 
-pub no_text_code : (bytes text rest : List ℕ) → unescaped bytes ≡ Some (text, rest) → is_text text ≡ false → BeginsWithNo kind.Text bytes
-no_text_code bytes text rest read long (value.Text s) more b =
-    let both = both_read text rest s more (sym read ∙ text_read bytes s more b) in
-    let fits : is_text s ≡ true = b.in_range in
-    let same : is_text text ≡ is_text s = ap is_text both.0 in
+-- where nothing of its form begins, no value of a kind does
+pub no_value : (k : Kind) (bytes : List ℕ) → BeginsWithNoContent (form_of k) bytes → BeginsWithNo k bytes
+no_value k bytes none v rest b = none (content_of v) rest (held_in k bytes v rest b) (is_short v (has_bytes v b.in_range))
+
+-- nor where the kind does not take it
+pub not_taken : (k : Kind) (bytes : List ℕ) (c : Content) (rest : List ℕ) → BeginsWithContent (form_of k) bytes c rest → takes_content k c ≡ false → BeginsWithNo k bytes
+not_taken k bytes c rest found other v more b =
+    let held = held_in k bytes v more b in
+    let both = same_content c (content_of v) rest more (found.of_form ∙ sym held.of_form) found.bits held.bits (found.code ∙ sym held.code) in
+    let taken : takes_content k (content_of v) ≡ true = taken_in k (content_of v) (subst (λ j. LiesInRange j (content_of v)) b.of_kind b.in_range) in
+    let same : takes_content k c ≡ takes_content k (content_of v) = ap (takes_content k) both.0 in
     cc
-no_text_code bytes text rest read long (value.Int n) more b = let k = b.of_kind in cc
-no_text_code bytes text rest read long (value.Flag flag) more b = let k = b.of_kind in cc
 
 -- ---- lists
 

@@ -3,7 +3,7 @@ use Rattle.std.proofs.Common.{◌≡◌, true, false, [], ◌∷◌, pos, negsuc
 use Rattle.bt_rowtype.specs.declared.op.Op.TheVariants.{Add, Set}
 use Rattle.bt_rowtype.specs.declared.value.Value.TheVariants as value
 use Rattle.bt_keycode.specs.Codes.{code_of, eight_bytes}
-use Rattle.bt_keycode.specs.Hex.{hex_text}
+use Rattle.bt_rowtype.specs.Hex.{hex_text}
 use Rattle.bt_keycode.specs.Lengths.{byte_weight, change_code_length, code_length}
 
 -- of 3
@@ -35,6 +35,10 @@ zero_byte_and_zero = refl
 empty_and_least : hex_text (code_of (value.Text [] ∷ value.Int (negsuc 9223372036854775807) ∷ [])) ≡ codes "00010000000000000000"
 unfolding eight_bytes
 empty_and_least = refl
+
+-- of bytes, as of a text
+bytes : hex_text (code_of (value.Bytes [] ∷ value.Bytes (0 ∷ []) ∷ value.Bytes (0 ∷ 1 ∷ []) ∷ value.Bytes (255 ∷ []) ∷ [])) ≡ codes "000100ff000100ff010001ff0001"
+bytes = refl
 
 -- of flags and texts
 false_and_empty : hex_text (code_of (value.Flag false ∷ value.Text [] ∷ [])) ≡ codes "000001"

@@ -2,10 +2,10 @@
 use Rattle.std.specs.Int.{bytes_high_first}
 use Rattle.std.specs.Prelude.{ℕ, suc, ◌≡◌, ◌==◌, ◌+◌, ◌-◌, ◌^◌, ◌++◌, List, [], ◌∷◌, map, if◌then◌else◌, ℤ, pos, negsuc}
 use Rattle.bt_rowtype.specs.Values.{AreInRange}
+use Rattle.bt_rowtype.specs.Kinds.{Content, Number, Bytes, Bit, content_of}
+pub use Rattle.bt_rowtype.specs.Kinds.{kind_of}
 use Rattle.bt_rowtype.specs.declared.value.Kind.{Kind}
-use Rattle.bt_rowtype.specs.declared.value.Kind.TheVariants as kind
 use Rattle.bt_rowtype.specs.declared.value.Value.{Value}
-use Rattle.bt_rowtype.specs.declared.value.Value.TheVariants as value
 
 -- an int moved up by 2^63, which inverts the sign bit of its 64 bits
 abbrev pub raised : ℤ → ℕ
@@ -16,28 +16,26 @@ raised (negsuc n) = 2 ^ 63 - suc n
 unfoldable pub eight_bytes : ℕ → List ℕ
 eight_bytes n = bytes_high_first 8 n
 
--- the bytes of a text with 255 behind each zero byte
+-- bytes with 255 behind each zero byte
 abbrev pub escaped : List ℕ → List ℕ
 escaped [] = []
 escaped (b ∷ bs) = if b == 0 then 0 ∷ 255 ∷ escaped bs else b ∷ escaped bs
 
--- the code of a value: of an int eight bytes, big endian, with the sign bit inverted; of a text its bytes, with 255 behind each zero byte, and 0 and 1 at
--- the end; of a flag one byte
+-- the code of what a value holds: of a number eight bytes, big endian, with the sign bit inverted; of bytes these, with 255 behind each zero byte, and 0 and
+-- 1 at the end; of a bit one byte
+abbrev pub code_of_content : Content → List ℕ
+code_of_content (Number n) = eight_bytes (raised n)
+code_of_content (Bytes bytes) = escaped bytes ++ (0 ∷ 1 ∷ [])
+code_of_content (Bit bit) = (if bit then 1 else 0) ∷ []
+
+-- the code of a value
 abbrev pub code_of_value : Value → List ℕ
-code_of_value (value.Int n) = eight_bytes (raised n)
-code_of_value (value.Text bytes) = escaped bytes ++ (0 ∷ 1 ∷ [])
-code_of_value (value.Flag flag) = (if flag then 1 else 0) ∷ []
+code_of_value v = code_of_content (content_of v)
 
 -- the code of a list of values: the codes of the values, one after the other
 abbrev pub code_of : List Value → List ℕ
 code_of [] = []
 code_of (v ∷ vs) = code_of_value v ++ code_of vs
-
--- the kind that a value is of
-abbrev pub kind_of : Value → Kind
-kind_of (value.Int n) = kind.Int
-kind_of (value.Text bytes) = kind.Text
-kind_of (value.Flag flag) = kind.Flag
 
 -- two lists of values have the same kinds, place by place
 abbrev pub HaveSameKinds : List Value → List Value → Type 0

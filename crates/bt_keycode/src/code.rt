@@ -1,13 +1,12 @@
 //! The key code of values.
-ghost use Rattle.std.specs.Prelude.{◌≡◌, ◌≤◌, ◌++◌, ◌∷◌, [], IfOk, length, take};
-ghost use Rattle.std.specs.Ordering.{int_cmp};
+ghost use Rattle.std.specs.Prelude.{◌≡◌, ◌≤◌, IfOk, length, take};
 ghost use Rattle.bt_rowtype.specs.Values.{value_cmp, values_cmp};
-ghost use Rattle.bt_keycode.specs.Codes.{HaveSameKinds, IsNoProperPrefix, code_of, code_of_value, eight_bytes, escaped, kind_of, raised};
+ghost use Rattle.bt_keycode.specs.Codes.{HaveSameKinds, IsNoProperPrefix, code_of, code_of_value, eight_bytes, kind_of, raised};
 ghost use Rattle.bt_keycode.specs.Keys.{key_cmp};
 
 use crate::code_builder::{CodeBuilder, bytes_of_int};
 use crate::key::Key;
-use bt_rowtype::{Row, Value, ValueRef, Values};
+use bt_rowtype::{Content, Row, Value, Values, compare_values};
 use std::alloc::{AllocError, Global};
 use std::cmp::Ordering;
 
@@ -36,7 +35,8 @@ fn encode_values(alloc: Global, values: Values<'_>) -> Result<Key, AllocError>
     ensures { IfOk result (λ key. key ≡ code_of values.entry) }
 {
     let mut rest = values.copy();
-    if let Some(ValueRef::Int(number)) = rest.next()
+    if let Some(value) = rest.next()
+        && let Content::Number(number) = value.content()
         && rest.is_empty()
     {
         return encode_int(alloc, number);
@@ -66,35 +66,14 @@ pub fn encode_row(alloc: Global, row: &Row, count: usize) -> Result<Key, AllocEr
     encode_values(alloc, row.first_values(count))
 }
 
-#[tactic(auto, using(crate::proofs::Codes::ints_compare))]
-fn cmp_ints(left: i64, right: i64) -> Ordering
-    ensures values { result ≡ int_cmp left right }
-    ensures codes { result ≡ key_cmp (eight_bytes (raised left)) (eight_bytes (raised right)) }
-{
-    left.cmp(&right)
-}
-
-#[tactic(auto, using(crate::proofs::Codes::texts_compare))]
-fn cmp_texts(left: &[u8], right: &[u8]) -> Ordering
-    ensures values { result ≡ key_cmp left.now right.now }
-    ensures codes { result ≡ key_cmp (escaped left.now ++ (0 ∷ 1 ∷ [])) (escaped right.now ++ (0 ∷ 1 ∷ [])) }
-{
-    left.cmp(right)
-}
-
 // The order of two values of a kind, which is that of their codes.
-#[tactic(auto, using(crate::proofs::Codes::flags_compare))]
+#[tactic(auto, using(crate::proofs::Codes::value_ordered))]
 fn cmp_values(left: &Value, right: &Value) -> Ordering
     requires { kind_of left.now ≡ kind_of right.now }
     ensures values { result ≡ value_cmp left.now right.now }
     ensures codes { result ≡ key_cmp (code_of_value left.now) (code_of_value right.now) }
 {
-    match (left, right) {
-        (Value::Int(a), Value::Int(b)) => cmp_ints(*a, *b),
-        (Value::Text(a), Value::Text(b)) => cmp_texts(a.as_bytes(), b.as_bytes()),
-        (Value::Flag(a), Value::Flag(b)) => a.cmp(b),
-        _ => Ordering::Equal,
-    }
+    compare_values(left.as_ref(), right.as_ref())
 }
 
 /// The order of two lists of values of the same kinds, which is that of their codes. No such code is the beginning of another.

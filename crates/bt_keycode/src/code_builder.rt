@@ -6,7 +6,7 @@ ghost use Rattle.bt_rowtype.specs.Views.{shown};
 use crate::key::Key;
 use crate::zeros::split_at_zero;
 use arrayvec::ArrayVec;
-use bt_rowtype::ValueRef;
+use bt_rowtype::{Content, ValueRef};
 use std::alloc::{AllocError, Global};
 use std::marker::Model;
 
@@ -114,11 +114,11 @@ impl CodeBuilder {
         }
     }
 
-    // Adds the code of a text, part by part between its zero bytes.
-    fn add_text(&mut self, text: &[u8]) -> Result<(), AllocError>
-        ensures { OnOk result (self.new ≡ self.old ++ (escaped text.now ++ (0 ∷ 1 ∷ []))) }
+    // Adds the code of bytes, part by part between the zero bytes.
+    fn add_bytes(&mut self, bytes: &[u8]) -> Result<(), AllocError>
+        ensures { OnOk result (self.new ≡ self.old ++ (escaped bytes.now ++ (0 ∷ 1 ∷ []))) }
     {
-        let mut rest = text;
+        let mut rest = bytes;
         while let Some((part, behind)) = split_at_zero(rest) {
             self.push(part, &[0, 255])?;
             rest = behind;
@@ -131,11 +131,11 @@ impl CodeBuilder {
     pub fn add(&mut self, value: ValueRef<'_>) -> Result<(), AllocError>
         ensures { OnOk result (self.new ≡ self.old ++ code_of_value (shown value.entry)) }
     {
-        match value {
-            ValueRef::Int(number) => self.push(&bytes_of_int(number), &[]),
-            ValueRef::Text(text) => self.add_text(text),
-            ValueRef::Flag(true) => self.push(&[1], &[]),
-            ValueRef::Flag(false) => self.push(&[0], &[]),
+        match value.content() {
+            Content::Number(number) => self.push(&bytes_of_int(number), &[]),
+            Content::Bytes(bytes) => self.add_bytes(bytes),
+            Content::Bit(true) => self.push(&[1], &[]),
+            Content::Bit(false) => self.push(&[0], &[]),
         }
     }
 

@@ -1,16 +1,14 @@
 //! Values from their key code.
 ghost use Rattle.std.specs.Prelude.{◌≡◌, ◌<◌, ◌≤◌, ◌++◌, ◌∷◌, [], IfOk, IfSome, IfNone, IsErrOf, List, None, OnOk, Some, false, true, length, take, ℕ};
 ghost use Rattle.bt_keycode.specs.Codes.{IsCode, IsCodeOf, IsNoCode, raised};
-ghost use Rattle.bt_keycode.specs.inside.Decoding.{BeginsWith, BeginsWithNo, after_bytes, ended, unescaped};
-ghost use Rattle.bt_rowtype.specs.Texts.{is_text};
-ghost use Rattle.bt_rowtype.specs.Views.{shown};
+ghost use Rattle.bt_keycode.specs.inside.Decoding.{BeginsWith, BeginsWithContent, BeginsWithNo, BeginsWithNoContent, after_bytes, ended, unescaped};
+ghost use Rattle.bt_rowtype.specs.Views.{held, shown};
 ghost use Rattle.bt_rowtype.specs.declared.value.Value.{Value as value};
 
 use crate::key::prefix_of;
 use crate::zeros::split_at_zero;
-use bt_rowtype::{Kind, LONGEST_TEXT, Row, ValueRef};
+use bt_rowtype::{Content, Form, Kind, LONGEST_TEXT, Row, ValueRef};
 use std::alloc::{AllocError, Global};
-use std::str;
 
 /// Why bytes are not decoded.
 #[derive(Clone, Copy, Debug, PartialEq, Eq)]
@@ -39,30 +37,30 @@ fn lower(number: u64) -> i64
     i64::MIN.wrapping_add_unsigned(number)
 }
 
-// The int whose code the bytes begin with, and what comes after it.
-fn first_int(bytes: &[u8]) -> Option<(ValueRef<'_>, &[u8])>
-    ensures found { IfSome result (λ read. BeginsWith Kind.Int bytes.now (shown read.0) read.1.now) }
-    ensures none { IfNone result (BeginsWithNo Kind.Int bytes.now) }
+// The number whose code the bytes begin with, and what comes after it.
+fn first_number(bytes: &[u8]) -> Option<(Content<'_>, &[u8])>
+    ensures found { IfSome result (λ read. BeginsWithContent Form.Number bytes.now (held read.0) read.1.now) }
+    ensures none { IfNone result (BeginsWithNoContent Form.Number bytes.now) }
 {
     if bytes.len() < 8 {
         return None;
     }
-    Some((ValueRef::Int(lower(prefix_of(bytes))), &bytes[8..]))
+    Some((Content::Number(lower(prefix_of(bytes))), &bytes[8..]))
 }
 
-// The flag whose code the bytes begin with, and what comes after it.
-fn first_flag(bytes: &[u8]) -> Option<(ValueRef<'_>, &[u8])>
-    ensures found { IfSome result (λ read. BeginsWith Kind.Flag bytes.now (shown read.0) read.1.now) }
-    ensures none { IfNone result (BeginsWithNo Kind.Flag bytes.now) }
+// The bit whose code the bytes begin with, and what comes after it.
+fn first_bit(bytes: &[u8]) -> Option<(Content<'_>, &[u8])>
+    ensures found { IfSome result (λ read. BeginsWithContent Form.Bit bytes.now (held read.0) read.1.now) }
+    ensures none { IfNone result (BeginsWithNoContent Form.Bit bytes.now) }
 {
     match bytes {
-        [0, rest @ ..] => Some((ValueRef::Flag(false), rest)),
-        [1, rest @ ..] => Some((ValueRef::Flag(true), rest)),
+        [0, rest @ ..] => Some((Content::Bit(false), rest)),
+        [1, rest @ ..] => Some((Content::Bit(true), rest)),
         _ => None,
     }
 }
 
-// The first byte of a text from its code, unless that ends or breaks off here, and what comes after it.
+// The first of bytes from their code, unless that ends or breaks off here, and what comes after it.
 #[tactic(auto, unfolding(crate::specs::inside::Decoding::unescaped))]
 fn next_byte(code: &[u8]) -> Option<(u8, &[u8])>
     ensures byte { IfSome result (λ read. unescaped code.now ≡ after_bytes (read.0 ∷ []) (unescaped read.1.now)) }
@@ -76,11 +74,11 @@ fn next_byte(code: &[u8]) -> Option<(u8, &[u8])>
     }
 }
 
-// The bytes of the text whose code the bytes begin with: how many they are, and what comes after the code. They are written
-// into `text`, so that no memory is asked for. There are none where the code breaks off, or where the text is too long.
-fn unescape<'a>(bytes: &'a [u8], text: &mut [u8; LONGEST_TEXT]) -> Option<(usize, &'a [u8])>
+// The bytes whose code the bytes begin with: how many they are, and what comes after the code. They are written into `room`, so
+// that no memory is asked for. There are none where the code breaks off, or where they are too many.
+fn unescape<'a>(bytes: &'a [u8], room: &mut [u8; LONGEST_TEXT]) -> Option<(usize, &'a [u8])>
     ensures bound { IfSome result (λ read. read.0 ≤ LONGEST_TEXT) }
-    ensures found { IfSome result (λ read. unescaped bytes.now ≡ Some (take read.0 text.new, read.1.now)) }
+    ensures found { IfSome result (λ read. unescaped bytes.now ≡ Some (take read.0 room.new, read.1.now)) }
     ensures none { IfNone result ((other rest : List ℕ) → unescaped bytes.now ≡ Some (other, rest) → LONGEST_TEXT < length other) }
 {
     let mut len = 0;
@@ -89,7 +87,7 @@ fn unescape<'a>(bytes: &'a [u8], text: &mut [u8; LONGEST_TEXT]) -> Option<(usize
         if len == LONGEST_TEXT {
             return None;
         }
-        text[len] = byte;
+        room[len] = byte;
         len += 1;
         code = rest;
     }
@@ -99,61 +97,65 @@ fn unescape<'a>(bytes: &'a [u8], text: &mut [u8; LONGEST_TEXT]) -> Option<(usize
     }
 }
 
-// The text without a zero byte whose code the bytes begin with, and what comes after it.
-fn plain_text(bytes: &[u8]) -> Option<(&[u8], &[u8])>
+// The bytes without a zero byte whose code the bytes begin with, and what comes after it.
+fn plain_bytes(bytes: &[u8]) -> Option<(&[u8], &[u8])>
     ensures { IfSome result (λ read. unescaped bytes.now ≡ Some (read.0.now, read.1.now)) }
 {
-    let (text, behind) = split_at_zero(bytes)?;
+    let (plain, behind) = split_at_zero(bytes)?;
     match behind {
-        [1, rest @ ..] => Some((text, rest)),
+        [1, rest @ ..] => Some((plain, rest)),
         _ => None,
     }
 }
 
-// The bytes of the text whose code the bytes begin with, and what comes after the code. They are lent from the code, or from
-// `room` where the text has a zero byte. There are none where the code breaks off, or where the text is too long.
-fn first_bytes<'a: 'b, 'b>(
+// The bytes whose code the bytes begin with, and what comes after the code. They are lent from the code, or from `room` where
+// one of them is zero. There are none where the code breaks off, or where they are too many.
+fn unescaped_bytes<'a: 'b, 'b>(
     bytes: &'a [u8],
     room: &'b mut [u8; LONGEST_TEXT],
 ) -> Option<(&'b [u8], &'a [u8])>
     ensures found { IfSome result (λ read. unescaped bytes.now ≡ Some (read.0.now, read.1.now)) }
     ensures none { IfNone result ((other rest : List ℕ) → unescaped bytes.now ≡ Some (other, rest) → LONGEST_TEXT < length other) }
 {
-    if let Some(read) = plain_text(bytes) {
+    if let Some(read) = plain_bytes(bytes) {
         return Some(read);
     }
     let (len, rest) = unescape(bytes, room)?;
     Some((&room[..len], rest))
 }
 
-// Whether bytes are a text of a column.
-fn is_text(bytes: &[u8]) -> bool
-    ensures { result ≡ is_text bytes.now }
-{
-    match str::from_utf8(bytes) {
-        Ok(_) => bytes.len() <= LONGEST_TEXT,
-        Err(_) => false,
-    }
-}
-
-// The text whose code the bytes begin with, and what comes after it.
-fn first_text<'a: 'b, 'b>(
+// The bytes whose code the bytes begin with, as what a value holds, and what comes after it.
+#[tactic(auto, using(crate::proofs::Decoding::bytes_found))]
+fn first_bytes<'a: 'b, 'b>(
     bytes: &'a [u8],
     room: &'b mut [u8; LONGEST_TEXT],
-) -> Option<(ValueRef<'b>, &'a [u8])>
-    ensures found { IfSome result (λ read. BeginsWith Kind.Text bytes.now (shown read.0) read.1.now) }
-    ensures none { IfNone result (BeginsWithNo Kind.Text bytes.now) }
+) -> Option<(Content<'b>, &'a [u8])>
+    ensures found { IfSome result (λ read. BeginsWithContent Form.Bytes bytes.now (held read.0) read.1.now) }
+    ensures none { IfNone result (BeginsWithNoContent Form.Bytes bytes.now) }
 {
-    let (text, rest) = first_bytes(bytes, room)?;
-    if is_text(text) {
-        Some((ValueRef::Text(text), rest))
-    } else {
-        None
+    let (found, rest) = unescaped_bytes(bytes, room)?;
+    Some((Content::Bytes(found), rest))
+}
+
+// What a value of this form holds whose code the bytes begin with, and what comes after it.
+#[inline(always)]
+fn first_content<'a: 'b, 'b>(
+    form: Form,
+    bytes: &'a [u8],
+    room: &'b mut [u8; LONGEST_TEXT],
+) -> Option<(Content<'b>, &'a [u8])>
+    ensures found { IfSome result (λ read. BeginsWithContent form bytes.now (held read.0) read.1.now) }
+    ensures none { IfNone result (BeginsWithNoContent form bytes.now) }
+{
+    match form {
+        Form::Number => first_number(bytes),
+        Form::Bytes => first_bytes(bytes, room),
+        Form::Bit => first_bit(bytes),
     }
 }
 
-// The value of this kind whose code the bytes begin with, and what comes after it. A text is lent from the code, or from `room`
-// where it has a zero byte.
+// The value of this kind whose code the bytes begin with, and what comes after it. Its bytes are lent from the code, or from
+// `room` where one of them is zero.
 fn first_value<'a: 'b, 'b>(
     kind: Kind,
     bytes: &'a [u8],
@@ -162,10 +164,11 @@ fn first_value<'a: 'b, 'b>(
     ensures found { IfSome result (λ read. BeginsWith kind bytes.now (shown read.0) read.1.now) }
     ensures none { IfNone result (BeginsWithNo kind bytes.now) }
 {
-    match kind {
-        Kind::Int => first_int(bytes),
-        Kind::Text => first_text(bytes, room),
-        Kind::Flag => first_flag(bytes),
+    let (content, rest) = first_content(kind.form(), bytes, room)?;
+    if kind.takes(content) {
+        Some((ValueRef::with(kind, content), rest))
+    } else {
+        None
     }
 }
 

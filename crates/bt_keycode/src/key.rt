@@ -1,12 +1,11 @@
 //! Keys: lists of bytes in the order of bytes.
 ghost use Rattle.std.specs.Prelude.{◌≡◌, ◌++◌, ◌≤◌, [], IfOk, OnOk, OnErr, drop, length};
-ghost use Rattle.bt_keycode.specs.Hex.{hex_text};
+ghost use Rattle.bt_rowtype.specs.Hex.{hex_text};
 ghost use Rattle.bt_keycode.specs.Keys.{key_cmp};
 ghost use Rattle.bt_keycode.specs.Codes.{eight_bytes};
 ghost use Rattle.bt_keycode.specs.Prefixes.{first_eight};
 
-use crate::hex;
-use bt_rowtype::Bytes;
+use bt_rowtype::{Bytes, write_hex};
 use std::alloc::{AllocError, Global};
 use std::cmp::Ordering;
 use std::marker::Model;
@@ -161,6 +160,6 @@ impl Key {
         ensures ok { OnOk result (out.new.items ≡ out.old.items ++ hex_text self.now) }
         ensures err { OnErr result (out.new.items ≡ out.old.items) }
     {
-        hex::write_hex(out, self.as_slice())
+        write_hex(out, self.as_slice())
     }
 }

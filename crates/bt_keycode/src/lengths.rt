@@ -1,13 +1,12 @@
 //! The lengths of key codes, as weights. No code is written for them, so they take no memory.
-ghost use Rattle.std.specs.Prelude.{◌≡◌, ◌≤◌, ◌+◌, ◌++◌, ◌∷◌, [], length, true};
+ghost use Rattle.std.specs.Prelude.{◌≡◌, ◌≤◌, ◌+◌, ◌++◌, ◌∷◌, [], length};
 ghost use Rattle.bt_keycode.specs.Codes.{code_of_value, escaped};
 ghost use Rattle.bt_keycode.specs.Lengths.{byte_weight, change_code_length, code_length};
-ghost use Rattle.bt_rowtype.specs.Texts.{is_text};
-ghost use Rattle.bt_rowtype.specs.Values.{HasText};
+ghost use Rattle.bt_rowtype.specs.Values.{HasBytes};
 ghost use Rattle.bt_rowtype.specs.Views.{shown};
 
 use crate::zeros::split_at_zero;
-use bt_rowtype::{Change, Row, Value, ValueRef, Values};
+use bt_rowtype::{Change, Content, Row, Value, ValueRef, Values};
 
 /// The most that anything weighs, in bytes: the greatest number of 24 bits.
 pub const MOST_WEIGHT: u64 = 16_777_215;
@@ -22,13 +21,13 @@ fn weight_sum(weight: u64, bytes: u64) -> u64
     weight.saturating_add(bytes).min(MOST_WEIGHT)
 }
 
-// The length of the code of a text, part by part between its zero bytes.
-fn text_len(text: &[u8]) -> u64
-    requires { is_text text.now ≡ true }
-    ensures { result ≡ length (escaped text.now ++ (0 ∷ 1 ∷ [])) }
+// The length of the code of bytes, part by part between the zero bytes.
+fn bytes_len(bytes: &[u8]) -> u64
+    requires { length bytes.now ≤ 255 }
+    ensures { result ≡ length (escaped bytes.now ++ (0 ∷ 1 ∷ [])) }
 {
     let mut len = 2;
-    let mut rest = text;
+    let mut rest = bytes;
     while let Some((part, behind)) = split_at_zero(rest) {
         len += part.len() as u64 + 2;
         rest = behind;
@@ -36,17 +35,17 @@ fn text_len(text: &[u8]) -> u64
     len + rest.len() as u64
 }
 
-// The length of the code of a value. The longest is that of a text of 255 zero bytes.
-#[tactic(auto, using(crate::proofs::CodeLengths::length_int, crate::proofs::CodeLengths::short_code))]
+// The length of the code of a value. The longest is that of 255 zero bytes.
+#[tactic(auto, using(crate::proofs::CodeLengths::length_int, crate::proofs::CodeLengths::short_code, crate::proofs::CodeLengths::bytes_length))]
 fn value_len(value: ValueRef<'_>) -> u64
-    requires { HasText (shown value) }
+    requires { HasBytes (shown value) }
     ensures len { result ≡ length (code_of_value (shown value.entry)) }
     ensures bound { result ≤ 512 }
 {
-    match value {
-        ValueRef::Int(_) => 8,
-        ValueRef::Text(text) => text_len(text),
-        ValueRef::Flag(_) => 1,
+    match value.content() {
+        Content::Number(_) => 8,
+        Content::Bytes(bytes) => bytes_len(bytes),
+        Content::Bit(_) => 1,
     }
 }
 
@@ -77,7 +76,7 @@ pub fn row_code_len(row: &Row) -> u64
 }
 
 /// The bytes of the operations of a change, or [`MOST_WEIGHT`] where that is less: of each the key code of its argument, an int
-/// where it adds, and two more.
+/// where it makes a number, and two more.
 pub fn change_code_len(change: &Change) -> u64
     ensures { result ≡ change_code_length change.now }
 {

@@ -1,8 +1,8 @@
 //! Keys as bytes: the code of a list of values, whose order byte by byte is the order of the lists.
 //!
 //! A tree compares keys and never looks into them, so the values of a key become one [`Key`]. The code of an int is eight
-//! bytes, big endian, with the sign bit inverted. That of a text is its bytes, with 255 behind each zero byte, and 0 and 1 at
-//! the end; that of a flag is one byte, 0 or 1. A list has the codes of its values one after the other. No code is the
+//! bytes, big endian, with the sign bit inverted. That of a text, or of bytes, has 255 behind each zero byte, and 0 and 1 at the
+//! end; that of a flag is one byte, 0 or 1. A list has the codes of its values one after the other. No code is the
 //! beginning of another one of the same kinds. How long a code is can be had without writing it, as a weight ([`code_len`]).
 //!
 //! ```text
@@ -20,7 +20,6 @@
 mod code;
 mod code_builder;
 mod decoder;
-mod hex;
 mod key;
 mod lengths;
 mod zeros;

@@ -3,7 +3,7 @@ ghost use Rattle.std.specs.Prelude.{◌≡◌, ◌≤◌, ◌+◌, IfOk, drop, l
 ghost use Rattle.bt_load.specs.Steps.{AreRowsOrNone, IsRowOrNone};
 ghost use Rattle.bt_load.specs.inside.Typed.{HaveValues, IsReadingOf};
 
-use bt_rowtype::{Reading, RecordLine, RecordReader, Row, Schema};
+use bt_rowtype::{Collected, RecordLine, RecordReader, Row, Schema};
 use std::alloc::{AllocError, Global};
 
 /// What records spell, the first of them as item 1, one after the other.
@@ -11,11 +11,11 @@ pub(crate) fn type_in_turn(
     alloc: Global,
     schema: &Schema,
     records: &[RecordLine<'_>],
-) -> Result<Reading<Row>, AllocError>
+) -> Result<Collected<Row>, AllocError>
     ensures { IfOk result (λ read. IsReadingOf schema.now.columns 1 records.now read) }
 {
     let mut reader = RecordReader::new(alloc);
-    let mut reading = Reading::with_capacity(alloc, records.len())?;
+    let mut reading = Collected::with_capacity(alloc, records.len())?;
     for (place, record) in records.iter().enumerate() {
         let read = reader.read_row(alloc, schema, 1 + place as u64, record);
         reading.add(read)?;

@@ -186,6 +186,29 @@ no_job = refl
 no_job_filled : together shape three_leaves (puts 1 11 ∷ []) 1 Absorb ≡ absorb meaning shape three_leaves (puts 1 11 ∷ [])
 no_job_filled = refl
 
+-- ---- seven levels, of which the messages go down the left: at depth 6 the path of a job has six numbers
+
+abbrev below_left : Tree ℤ Change → Tree ℤ Change
+below_left t = inner (node [] t (node (k 9) (leaf (entry 9 90 ∷ [])) none)) []
+
+abbrev four_high : Tree ℤ Change
+four_high = below_left (below_left (below_left (two 1 10 2 20)))
+
+abbrev seven_high : Tree ℤ Change
+seven_high = below_left (below_left (below_left four_high))
+
+abbrev four_down : Messages Change
+four_down = puts 1 11 ∷ dels 1 ∷ puts 2 21 ∷ dels 2 ∷ []
+
+seven_levels_cut_3 : (cut_of shape seven_high four_down 3 Absorb).jobs ≡ job (0 ∷ 0 ∷ 0 ∷ []) Absorb four_high four_down ∷ []
+seven_levels_cut_3 = refl
+
+seven_levels_cut_6 : (cut_of shape seven_high four_down 6 Absorb).jobs ≡ job (0 ∷ 0 ∷ 0 ∷ 0 ∷ 0 ∷ 0 ∷ []) Absorb (two 1 10 2 20) four_down ∷ []
+seven_levels_cut_6 = refl
+
+seven_levels_filled_6 : together shape seven_high four_down 6 Absorb ≡ absorb meaning shape seven_high four_down
+seven_levels_filled_6 = refl
+
 -- ---- a buffer of 60 bytes, where a put weighs 25 and a del 9
 
 abbrev weighed : Shape

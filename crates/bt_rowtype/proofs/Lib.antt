@@ -19,5 +19,6 @@ pub mod RecordsOf
 pub mod Replacements
 pub mod Returns
 pub mod RowFits
+pub mod Spelling
 pub mod Walks
 pub mod WorkedOps

@@ -1,14 +1,19 @@
 -- Bytes of values, and the values of bytes.
-use Rattle.std.proofs.Common.{◌≡◌, ℕ, zero, suc, ◌+◌, ◌<◌, ◌≤◌, ◌^◌, true, false, List, [], ◌∷◌, ◌++◌, length, length-append, append_assoc, take, drop, refl, sym, ap, subst, ◌∙◌, ℤ, pos, negsuc, SFits, w64, arith}
+use Rattle.std.proofs.Common.{◌≡◌, ℕ, zero, suc, ◌+◌, ◌<◌, ◌≤◌, ◌^◌, ◌==◌, true, false, List, [], ◌∷◌, ◌++◌, length, length-append, append_assoc, take, drop, refl, sym, ap, subst, ◌∙◌, ℤ, pos, negsuc, SFits, w64, arith}
+use Rattle.std.proofs.lemmas.Bool.{eq-eqb, ne_eqb}
 use Rattle.std.proofs.lemmas.Int.{ints}
 use Rattle.std.proofs.lemmas.List.{take-append-drop}
 use Rattle.std.proofs.lemmas.Nat.{from_le_bytes-to_le_bytes_8}
 use Rattle.std.specs.Int.{cast_signed, cast_unsigned}
 use Rattle.std.proofs.Math.Seq.{drop-append_seam, take-append_seam}
+use Rattle.bt_rowtype.specs.Kinds.{Content, Number, Bytes, Bit, content_of, form_in, form_of, kind_of, kind_of_tag, tag_of, value_with}
+use Rattle.bt_rowtype.specs.Values.{AreInRange, IsInRange, LiesInRange}
+use Rattle.bt_rowtype.specs.declared.value.Form.{Form}
+use Rattle.bt_rowtype.specs.declared.value.Form.TheVariants as form
+use Rattle.bt_rowtype.specs.declared.value.Kind.{Kind}
 use Rattle.bt_rowtype.specs.declared.value.Value.{Value}
-use Rattle.bt_rowtype.specs.declared.value.Value.TheVariants as value
-use Rattle.bt_rowtype.specs.Values.{AreInRange, IsInRange}
-use Rattle.bt_rowtype.specs.inside.Packing.{IsPacked, first_of, int_bytes, int_from, packed, offset_of, packed_value, unpacked, unpacked_by, width_of, HasFirst, IsAt}
+use Rattle.bt_rowtype.specs.inside.Packing.{IsPacked, content_at, first_of, int_bytes, int_from, packed, packed_content, offset_of, packed_value, unpacked, unpacked_by, value_tagged, width_in, width_of, HasFirst, IsAt}
+use Rattle.bt_rowtype.proofs.offered.Kinds.{form_held, tagged, tagged_next, with_content}
 
 pub length_int_bytes : (n : ℤ) → length (int_bytes n) ≡ 8
 unfolding int_bytes
@@ -26,24 +31,44 @@ pub int_from-int_bytes : (n : ℤ) (more : List ℕ) → SFits w64 n → int_fro
 unfolding int_bytes int_from
 int_from-int_bytes n more fits = ap (cast_signed w64) (from_le_bytes-to_le_bytes_8 (cast_unsigned w64 n) (low_bits n fits)) ∙ same_int n fits
 
--- the first of packed values, and its width
+-- ---- the first of packed values, and its width, by the form of what it holds
+
+-- the value of bytes that begin with a tag of a kind
+as_tagged : (k : Kind) (f : Form) (tag : ℕ) (bytes : List ℕ) → kind_of_tag tag ≡ k → form_of k ≡ f → first_of (tag ∷ bytes) ≡ value_with k (content_at f (tag == tag_of k + 1) bytes)
+as_tagged k f tag bytes is of_form = ap (λ j. value_tagged j tag bytes) is ∙ ap (λ g. value_with k (content_at g (tag == tag_of k + 1) bytes)) of_form
+
+as_wide : (k : Kind) (f : Form) (tag : ℕ) (bytes : List ℕ) → kind_of_tag tag ≡ k → form_of k ≡ f → width_of (tag ∷ bytes) ≡ width_in f bytes
+as_wide k f tag bytes is of_form = ap (λ j. width_in (form_of j) bytes) is ∙ ap (λ g. width_in g bytes) of_form
+
+first-content : (k : Kind) (c : Content) (more : List ℕ) → form_in c ≡ form_of k → LiesInRange k c → first_of (packed_content (tag_of k) c ++ more) ≡ value_with k c
+first-content k (Number n) more same fits =
+    as_tagged k form.Number (tag_of k) (int_bytes n ++ more) (tagged k) (sym same) ∙ ap (λ z. value_with k (Number z)) (int_from-int_bytes n more fits)
+first-content k (Bytes bytes) more same fits =
+    as_tagged k form.Bytes (tag_of k) (length bytes ∷ bytes ++ more) (tagged k) (sym same) ∙ ap (λ z. value_with k (Bytes z)) (take-append_seam bytes more)
+first-content k (Bit true) more same fits =
+    as_tagged k form.Bit (tag_of k + 1) more (tagged_next k (sym same)) (sym same) ∙ ap (λ z. value_with k (Bit z)) (eq-eqb (tag_of k + 1) (tag_of k + 1) refl)
+first-content k (Bit false) more same fits =
+    as_tagged k form.Bit (tag_of k) more (tagged k) (sym same) ∙ ap (λ z. value_with k (Bit z)) (ne_eqb (tag_of k) (tag_of k + 1) (λ (e : tag_of k ≡ tag_of k + 1). omega (arith, e)))
+
 pub first-packed : (v : Value) (more : List ℕ) → IsInRange v → first_of (packed_value v ++ more) ≡ v
-first-packed (value.Int n) more fits = ap value.Int (int_from-int_bytes n more fits)
-first-packed (value.Text bytes) more fits = ap value.Text (take-append_seam bytes more)
-first-packed (value.Flag true) more fits = refl
-first-packed (value.Flag false) more fits = refl
+first-packed v more fits = first-content (kind_of v) (content_of v) more (form_held v) fits ∙ with_content v
+
+width-content : (k : Kind) (c : Content) (more : List ℕ) → form_in c ≡ form_of k → width_of (packed_content (tag_of k) c ++ more) ≡ length (packed_content (tag_of k) c)
+width-content k (Number n) more same = as_wide k form.Number (tag_of k) (int_bytes n ++ more) (tagged k) (sym same) ∙ sym (ap suc (length_int_bytes n))
+width-content k (Bytes bytes) more same = as_wide k form.Bytes (tag_of k) (length bytes ∷ bytes ++ more) (tagged k) (sym same) ∙ omega arith
+width-content k (Bit true) more same = as_wide k form.Bit (tag_of k + 1) more (tagged_next k (sym same)) (sym same)
+width-content k (Bit false) more same = as_wide k form.Bit (tag_of k) more (tagged k) (sym same)
 
 pub width-packed : (v : Value) (more : List ℕ) → width_of (packed_value v ++ more) ≡ length (packed_value v)
-width-packed (value.Int n) more = sym (ap suc (length_int_bytes n))
-width-packed (value.Text bytes) more = omega arith
-width-packed (value.Flag true) more = refl
-width-packed (value.Flag false) more = refl
+width-packed v more = width-content (kind_of v) (content_of v) more (form_held v)
+
+some_content : (tag : ℕ) (c : Content) → 0 < length (packed_content tag c)
+some_content tag (Number n) = omega arith
+some_content tag (Bytes bytes) = omega arith
+some_content tag (Bit bit) = omega arith
 
 pub some_width : (v : Value) → 0 < length (packed_value v)
-some_width (value.Int n) = omega arith
-some_width (value.Text bytes) = omega arith
-some_width (value.Flag true) = omega arith
-some_width (value.Flag false) = omega arith
+some_width v = some_content (tag_of (kind_of v)) (content_of v)
 
 -- one step of the reading, with the first value in front
 one_more : (most : ℕ) (bytes : List ℕ) → 0 < length bytes → unpacked_by (suc most) bytes ≡ first_of bytes ∷ unpacked_by most (drop (width_of bytes) bytes)

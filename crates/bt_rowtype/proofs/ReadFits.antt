@@ -1,5 +1,5 @@
 -- What fields spell fits its column: values, and operations one by one. Serves offered/Fits.
-use Rattle.std.proofs.Common.{ℕ, zero, suc, ◌+◌, ◌≤◌, Bool, List, [], ◌∷◌, ◌≡◌, ◌&&◌, ◌==◌, ◌∙◌, refl, sym, ap, subst, true, false, arith, codes, drop, slice_get, Option, Some, None, Result, Ok, Err, ℤ, if◌then◌else◌}
+use Rattle.std.proofs.Common.{ℕ, zero, suc, ◌+◌, ◌≤◌, Bool, List, [], ◌∷◌, ◌≡◌, ◌&&◌, ◌==◌, ◌∙◌, refl, sym, ap, subst, true, false, arith, codes, drop, slice_get, Option, Some, None, Result, Ok, Err, if◌then◌else◌}
 use Rattle.std.proofs.lemmas.Bool.{le-leb}
 use Rattle.std.specs.Cmp.Lexicographic.{pointwise}
 use Rattle.std.specs.List.{filter_map}
@@ -7,40 +7,22 @@ use Rattle.std.specs.Prelude.{option_map}
 use Rattle.std.specs.Result.{result_ok}
 use Rattle.bt_rowtype.proofs.Columnwise.{some_read}
 use Rattle.bt_rowtype.specs.Ints.{int_of}
-use Rattle.bt_rowtype.specs.Ops.{add_of, add_of_kind, at_column, both_read, named_from, op_of, open_column, open_kind, ops_of, set_of, unless}
+use Rattle.bt_rowtype.specs.Arithmetic.{arithmetic_of_word, op_making}
+use Rattle.bt_rowtype.specs.Ops.{action_fault, at_column, both_read, making_of, making_of_kind, named_from, number_fault, number_op_of, op_of, open_column, open_kind, ops_of, set_of, unless}
 use Rattle.bt_rowtype.specs.inside.Fits.{OpFits, OpsFit}
 use Rattle.bt_rowtype.specs.Schemas.{Schema, fit_columns, fits_kind}
-use Rattle.bt_rowtype.specs.Texts.{is_text}
-use Rattle.bt_rowtype.specs.Values.{flag_of, value_of, with_first}
+use Rattle.bt_rowtype.specs.Values.{value_of, with_first}
+use Rattle.bt_rowtype.specs.declared.op.Arithmetic.{Arithmetic}
 use Rattle.bt_rowtype.specs.declared.op.Op.{Op}
-use Rattle.bt_rowtype.specs.declared.op.Op.TheVariants.{Set, Add}
+use Rattle.bt_rowtype.specs.declared.op.Op.TheVariants.{Set}
 use Rattle.bt_rowtype.specs.declared.refusal.Refusal.{Refusal}
 use Rattle.bt_rowtype.specs.declared.refusal.Refusal.TheVariants.{BadField}
 use Rattle.bt_rowtype.specs.declared.schema.Column.{Column}
 use Rattle.bt_rowtype.specs.declared.value.Kind.{Kind}
 use Rattle.bt_rowtype.specs.declared.value.Kind.TheVariants as kind
 use Rattle.bt_rowtype.specs.declared.value.Value.{Value}
-use Rattle.bt_rowtype.specs.declared.value.Value.TheVariants as value
-
--- ---- values that are read
-
-int_fits : (o : Option ℤ) (v : Value) → option_map value.Int o ≡ Some v → fits_kind kind.Int v ≡ true
-int_fits None v is = absurd cc
-int_fits (Some n) v is = let e : value.Int n ≡ v = cc in rw (← e) refl
-
-flag_fits : (o : Option Bool) (v : Value) → option_map value.Flag o ≡ Some v → fits_kind kind.Flag v ≡ true
-flag_fits None v is = absurd cc
-flag_fits (Some n) v is = let e : value.Flag n ≡ v = cc in rw (← e) refl
-
-text_fits : (field : List ℕ) (v : Value) (b : Bool) → is_text field ≡ b → (if b then Some (value.Text field) else None) ≡ Some v → fits_kind kind.Text v ≡ true
-text_fits field v true test is = let e : value.Text field ≡ v = cc in rw (← e) test
-text_fits field v false test is = absurd cc
-
--- the value that a field spells is of the kind
-pub value_fits : (k : Kind) (field : List ℕ) (v : Value) → value_of k field ≡ Some v → fits_kind k v ≡ true
-value_fits kind.Int field v is = int_fits (int_of field) v is
-value_fits kind.Text field v is = text_fits field v (is_text field) refl is
-value_fits kind.Flag field v is = flag_fits (flag_of field) v is
+use Rattle.bt_rowtype.proofs.offered.Actions.{action_making}
+use Rattle.bt_rowtype.proofs.offered.Kinds.{value_fits}
 
 pub both_true : (a b : Bool) → a ≡ true → b ≡ true → (a && b) ≡ true
 both_true a b p q = rw (p, q) refl
@@ -102,25 +84,24 @@ set_fits schema item argument column op at is =
     let fits : fits_kind column.1 spelled.0 ≡ true = value_fits column.1 argument spelled.0 spelled.1 in
     subst (OpFits schema) spelled.2 (λ other. rw (at, fits) refl)
 
-add_fits : (schema : Schema) (item : ℕ) (argument : List ℕ) (place : ℕ) (k : Kind) (op : Op) → open_kind schema place ≡ Some k → add_of_kind item argument place k ≡ Ok op → OpFits schema op
-add_fits schema item argument place kind.Int op at is =
-    let spelled = option_some (Add place) (int_of argument) op (some_read (BadField item) (option_map (Add place) (int_of argument)) op is) in
-    subst (OpFits schema) spelled.2 (λ other. rw at refl)
-add_fits schema item argument place kind.Text op at is = absurd cc
-add_fits schema item argument place kind.Flag op at is = absurd cc
+making_fits : (schema : Schema) (arithmetic : Arithmetic) (item : ℕ) (argument : List ℕ) (place : ℕ) (k : Kind) (op : Op) → open_kind schema place ≡ Some k → making_of_kind arithmetic item argument place k ≡ Ok op → OpFits schema op
+making_fits schema arithmetic item argument place kind.Int op at is =
+    let spelled = option_some (op_making arithmetic place) (int_of argument) op (some_read (BadField item) (option_map (op_making arithmetic place) (int_of argument)) op is) in
+    subst (OpFits schema) spelled.2 (λ other. ap (action_fault schema other) (action_making arithmetic place spelled.0) ∙ ap number_fault at)
+making_fits schema arithmetic item argument place other op at is = absurd cc
 
 op_fits : (schema : Schema) (item : ℕ) (word name argument : List ℕ) (op : Op) → op_of schema item word name argument ≡ Ok op → OpFits schema op
-op_fits schema item word name argument op is = by_word (pointwise ◌==◌ word (codes "set")) (pointwise ◌==◌ word (codes "add")) is
+op_fits schema item word name argument op is = by_word (pointwise ◌==◌ word (codes "set")) (arithmetic_of_word word) is
   where
-    by_word : (sets adds : Bool) → (if sets then at_column (set_of item argument) (open_column schema name) else (if adds then at_column (add_of item argument) (open_column schema name) else Err (BadField item))) ≡ Ok op
+    by_word : (sets : Bool) (named : Option Arithmetic) → (if sets then at_column (set_of item argument) (open_column schema name) else number_op_of item argument (open_column schema name) named) ≡ Ok op
         → OpFits schema op
-    by_word true adds is =
+    by_word true named is =
         let column = column_read (set_of item argument) (open_column schema name) op is in
         set_fits schema item argument column.0 op (open_kind_at schema name column.0 column.1) column.2
-    by_word false true is =
-        let column = column_read (add_of item argument) (open_column schema name) op is in
-        add_fits schema item argument column.0.0 column.0.1 op (open_kind_at schema name column.0 column.1) column.2
-    by_word false false is = absurd cc
+    by_word false (Some arithmetic) is =
+        let column = column_read (making_of arithmetic item argument) (open_column schema name) op is in
+        making_fits schema arithmetic item argument column.0.0 column.0.1 op (open_kind_at schema name column.0 column.1) column.2
+    by_word false None is = absurd cc
 
 one_fits : (schema : Schema) (read : Result Op Refusal) (others : List (Result Op Refusal)) → ((op : Op) → read ≡ Ok op → OpFits schema op) → OpsFit schema (filter_map result_ok others) → OpsFit schema (filter_map result_ok (read ∷ others))
 one_fits schema (Ok op) others fits rest = (fits op refl, rest)

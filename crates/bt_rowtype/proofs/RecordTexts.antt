@@ -1,5 +1,5 @@
 -- The text of a record, field by field. Serves writing a record.
-use Rattle.std.proofs.Common.{ℕ, ℤ, pos, negsuc, List, [], ◌∷◌, ◌++◌, ◌+◌, ◌^◌, ◌<◌, ◌≤◌, ◌≡◌, ◌∙◌, refl, sym, ap, false, ◌==◌, length, length-drop, take, take_all, drop, get_or, map, arith, zero, suc, ◌≢◌, length-append, append_assoc}
+use Rattle.std.proofs.Common.{ℕ, ℤ, pos, negsuc, List, [], ◌∷◌, ◌++◌, ◌+◌, ◌^◌, ◌<◌, ◌≤◌, ◌≡◌, ◌∙◌, refl, sym, ap, false, ◌==◌, length, length-drop, take, take_all, drop, get_or, map, arith, zero, suc, ◌≢◌, length-append, append_assoc, Bool, true, if◌then◌else◌, nat_lt, ◌/◌, ◌%◌}
 use Rattle.std.proofs.lemmas.Bool.Decides.{nat_tests}
 use Rattle.std.proofs.lemmas.Fmt.{decimal_is_IsNumeral}
 use Rattle.std.proofs.lemmas.Bool.{ne_eqb}
@@ -12,6 +12,7 @@ use Rattle.csv.specs.Quoting.{needs_byte}
 use Rattle.csv.specs.Writing.{default_writer, field_text, fields_text, is_blank, needs_quotes, next_sep, row_body}
 use Rattle.csv.proofs.WriteFacts.{row-step}
 use lib.Signed.{mag}
+use Rattle.bt_rowtype.specs.Hex.{hex_digit, hex_text}
 use Rattle.bt_rowtype.specs.Values.{text_of}
 use Rattle.bt_rowtype.specs.declared.value.Value.{Value}
 
@@ -31,6 +32,24 @@ int_plain (negsuc n) small = digits_plain (decimal (suc n)) (decimal_is_IsNumera
 
 pub int_field : (n : ℤ) → mag n < 2 ^ 63 → field_text default_writer (signed_decimal n) ≡ signed_decimal n
 int_field n small = rw (int_plain n small) refl
+
+-- nor do hexadecimal digits
+large_plain : (d : ℕ) → 48 ≤ d → needs_byte default_writer d ≡ false
+large_plain d low = grind (arith, nat_tests)
+
+hex_digit_large : (n : ℕ) → 48 ≤ hex_digit n
+hex_digit_large n = by_test (nat_lt n 10)
+  where
+    by_test : (b : Bool) → 48 ≤ (if b then 48 + n else 87 + n)
+    by_test true = omega arith
+    by_test false = omega arith
+
+hex_plain : (bytes : List ℕ) → needs_quotes default_writer (hex_text bytes) ≡ false
+hex_plain [] = refl
+hex_plain (b ∷ bs) = rw (large_plain (hex_digit (b / 16)) (hex_digit_large (b / 16)), large_plain (hex_digit (b % 16)) (hex_digit_large (b % 16))) (hex_plain bs)
+
+pub hex_field : (bytes : List ℕ) → field_text default_writer (hex_text bytes) ≡ hex_text bytes
+hex_field bytes = rw (hex_plain bytes) refl
 
 -- one more field
 pub one_more : (values : List Value) (i : ℕ) (v : Value) → i < length values → v ≡ get_or values i v

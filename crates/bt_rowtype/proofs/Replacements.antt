@@ -1,15 +1,17 @@
 -- One value of the bytes of values is replaced by another.
-use Rattle.std.proofs.Common.{◌≡◌, ℕ, zero, suc, ◌+◌, ◌-◌, ◌<◌, ◌≤◌, ◌==◌, Bool, true, false, if◌then◌else◌, List, [], ◌∷◌, ◌++◌, length, length-drop, append_assoc, take, drop, get_or, set, Some, None, refl, sym, ap, subst, ◌∙◌, ℤ, pos, negsuc, SFits, w64, ◌+ℤ◌, arith}
-use Rattle.std.proofs.lemmas.Bool.Decides.{nat_tests}
+use Rattle.std.proofs.Common.{◌≡◌, ℕ, zero, suc, ◌+◌, ◌-◌, ◌<◌, ◌≤◌, ◌==◌, List, [], ◌∷◌, ◌++◌, length, length-drop, append_assoc, take, drop, get_or, set, Option, Some, None, refl, sym, ap, subst, ◌∙◌, ℤ, pos, SFits, w64, arith}
 use Rattle.std.proofs.lemmas.List.{drop-drop, drop_all}
-use Rattle.std.specs.Int.{saturate_to_bits}
-use Rattle.bt_rowtype.specs.Ops.{added, after_op}
-use Rattle.bt_rowtype.specs.declared.op.Op.TheVariants.{Add}
+use Rattle.bt_rowtype.specs.Arithmetic.{Makes, new_number, new_value}
+use Rattle.bt_rowtype.specs.Kinds.{form_of, kind_of, kind_of_tag, tag_of}
+use Rattle.bt_rowtype.specs.Ops.{after_action}
+use Rattle.bt_rowtype.specs.declared.op.Arithmetic.{Arithmetic}
+use Rattle.bt_rowtype.specs.declared.value.Kind.TheVariants as kind
 use Rattle.bt_rowtype.specs.declared.value.Value.{Value}
 use Rattle.bt_rowtype.specs.declared.value.Value.TheVariants as value
-use Rattle.bt_rowtype.specs.inside.Additions.{number_of}
+use Rattle.bt_rowtype.specs.inside.Numbers.{number_of}
 use Rattle.bt_rowtype.specs.Values.{AreInRange, IsInRange}
-use Rattle.bt_rowtype.specs.inside.Packing.{IsAt, IsPacked, first_of, int_bytes, packed, packed_value, unpacked, width_of}
+use Rattle.bt_rowtype.specs.inside.Packing.{IsAt, IsPacked, content_at, first_of, int_bytes, packed, packed_value, unpacked, width_in, width_of}
+use Rattle.bt_rowtype.proofs.offered.Kinds.{int_tag, kind_with, number_kind}
 use Rattle.bt_rowtype.proofs.Packing.{are_packed, has_first, in_range-append, in_range-take, packed-append, unpacked-packed}
 use Rattle.bt_rowtype.proofs.Walks.{take_one_more, unpacked_none}
 
@@ -60,34 +62,33 @@ set_past_end bytes place at v here past =
     past_last zero (u ∷ vs) w e = absurd cc
     past_last (suc n) (u ∷ vs) w e = ap (λ z. u ∷ z) (past_last n vs w e)
 
--- ---- an int with a number added
+-- ---- an int and a number make another
 
 -- bytes from a place on begin with no more than there is
 pub width_fits : (bytes : List ℕ) → IsPacked bytes → width_of bytes ≤ length bytes
 width_fits [] h = omega arith
 width_fits (b ∷ bs) h = (has_first (b ∷ bs) h (omega arith)).within
 
-none_is_none : (n : ℤ) → None ≡ Some n → ⊥
-none_is_none n e = (cc)
-
-no_int : (b flag : Bool) (text : List ℕ) (n : ℤ) → number_of (if b then value.Text text else value.Flag flag) ≡ Some n → ⊥
-no_int true flag text n e = none_is_none n e
-no_int false flag text n e = none_is_none n e
-
 int_first : (bytes : List ℕ) (n : ℤ) → number_of (first_of bytes) ≡ Some n → (first_of bytes ≡ value.Int n) × (width_of bytes ≡ 9) × (bytes ≡ 0 ∷ drop 1 bytes)
 int_first [] n e = absurd (cc)
-int_first (zero ∷ bs) n e = ((cc), refl, refl)
-int_first (suc t ∷ bs) n e = let other : (suc t == 0) ≡ false = grind (arith, nat_tests) in absurd (no_int (suc t == 1) _ _ n (rw other at e))
+int_first (tag ∷ bs) n e =
+    let first = number_kind (first_of (tag ∷ bs)) n e in
+    let k : kind_of_tag tag ≡ kind.Int = sym (kind_with (kind_of_tag tag) (content_at (form_of (kind_of_tag tag)) (tag == tag_of (kind_of_tag tag) + 1) bs)) ∙ ap kind_of first in
+    (first, ap (λ j. width_in (form_of j) bs) k, ap (λ t. t ∷ bs) (int_tag tag k))
+
+-- what begins with another tag is no int
+pub no_number : (tag : ℕ) (bs : List ℕ) → (tag ≡ 0 → ⊥) → None ≡ number_of (first_of (tag ∷ bs))
+no_number tag bs other = by_number (number_of (first_of (tag ∷ bs))) refl
+  where
+    by_number : (o : Option ℤ) → number_of (first_of (tag ∷ bs)) ≡ o → None ≡ o
+    by_number None e = refl
+    by_number (Some n) e = absurd (other (let is = (int_first (tag ∷ bs) n e).2 in cc))
 
 get_dropped : (n : ℕ) (vs : List Value) (v d : Value) (rest : List Value) → drop n vs ≡ v ∷ rest → get_or vs n d ≡ v
 get_dropped zero [] v d rest e = (cc)
 get_dropped zero (u ∷ vs) v d rest e = (cc)
 get_dropped (suc n) [] v d rest e = (cc)
 get_dropped (suc n) (u ∷ vs) v d rest e = get_dropped n vs v d rest e
-
-saturated : (z : ℤ) → SFits w64 (saturate_to_bits 63 z)
-saturated (pos n) = record { sfits = search arith }
-saturated (negsuc n) = record { sfits = search arith }
 
 -- what is at the byte where an int begins
 pub record HasInt (bytes : List ℕ) (place at : ℕ) (m : ℤ) : Type 0 where
@@ -118,15 +119,15 @@ written old new place at m k has e = record {
       ∙ ap (λ w. take at old ++ (0 ∷ (int_bytes k ++ drop (at + w) old))) (sym has.width);
 }
 
-pub added_packed : (old new : List ℕ) (place at : ℕ) (m n k : ℤ) → IsPacked old → IsAt old place at → number_of (first_of (drop at old)) ≡ Some m → k ≡ saturate_to_bits 63 (m +ℤ n) →
+pub made_packed : (old new : List ℕ) (place at : ℕ) (m k : ℤ) → IsPacked old → IsAt old place at → number_of (first_of (drop at old)) ≡ Some m → SFits w64 k →
     new ≡ take (at + 1) old ++ (int_bytes k ++ drop (at + 9) old) → IsPacked new
-added_packed old new place at m n k h here e sum r =
+made_packed old new place at m k h here e fits r =
     let has = has_int old place at m here e in
-    replaced_packed old new place at (value.Int k) h here has.more (subst (SFits w64) (sym sum) (saturated (m +ℤ n))) (written old new place at m k has r)
+    replaced_packed old new place at (value.Int k) h here has.more fits (written old new place at m k has r)
 
-pub added_values : (old new : List ℕ) (place at : ℕ) (m n k : ℤ) → IsPacked old → IsAt old place at → number_of (first_of (drop at old)) ≡ Some m → k ≡ saturate_to_bits 63 (m +ℤ n) →
-    new ≡ take (at + 1) old ++ (int_bytes k ++ drop (at + 9) old) → unpacked new ≡ after_op (unpacked old) (Add place n)
-added_values old new place at m n k h here e sum r =
+pub made_values : (old new : List ℕ) (arithmetic : Arithmetic) (place at : ℕ) (m n k : ℤ) → IsPacked old → IsAt old place at → number_of (first_of (drop at old)) ≡ Some m → SFits w64 k →
+    k ≡ new_number arithmetic m n → new ≡ take (at + 1) old ++ (int_bytes k ++ drop (at + 9) old) → unpacked new ≡ after_action (unpacked old) (Makes arithmetic place n)
+made_values old new arithmetic place at m n k h here e fits is r =
     let has = has_int old place at m here e in
-    replaced old new place at (value.Int k) h here has.more (subst (SFits w64) (sym sum) (saturated (m +ℤ n))) (written old new place at m k has r)
-    ∙ ap (λ z. set (unpacked old) place (value.Int z)) sum ∙ sym (ap (λ z. set (unpacked old) place (added n z)) (has.old (value.Int (pos 0))))
+    replaced old new place at (value.Int k) h here has.more fits (written old new place at m k has r)
+    ∙ ap (λ z. set (unpacked old) place (value.Int z)) is ∙ sym (ap (λ z. set (unpacked old) place (new_value arithmetic n z)) (has.old (value.Int (pos 0))))

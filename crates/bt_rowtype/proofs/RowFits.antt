@@ -2,14 +2,14 @@
 use Rattle.std.proofs.Common.{ℕ, zero, suc, ◌≤◌, Bool, List, [], ◌∷◌, ◌++◌, ◌≡◌, ◌&&◌, refl, true, false, arith, nat_le, take, drop, get_or, set, slice_get, Option, Some, None, ℤ, pos, if◌then◌else◌}
 use Rattle.std.proofs.lemmas.Bool.Decides.{nat_tests}
 use Rattle.std.proofs.lemmas.List.{take-set-le}
-use Rattle.std.proofs.lemmas.Str.{IsUtf8-nil, is_utf8-from_IsUtf8}
 use Rattle.std.specs.Prelude.{map, option_map}
-use Rattle.bt_rowtype.specs.Ops.{add_fault, added, after_op, open_kind, set_fault}
+use Rattle.bt_rowtype.specs.Arithmetic.{Action, Makes, Sets, action_of, new_value}
+use Rattle.bt_rowtype.specs.Ops.{action_fault, after_action, after_op, number_fault, open_kind, set_fault}
 use Rattle.bt_rowtype.specs.inside.Fits.{OpFits}
 use Rattle.bt_rowtype.specs.Schemas.{Schema, fit_columns, fits_kind}
 use Rattle.bt_rowtype.specs.Values.{default_of}
+use Rattle.bt_rowtype.specs.declared.op.Arithmetic.{Arithmetic}
 use Rattle.bt_rowtype.specs.declared.op.Op.{Op}
-use Rattle.bt_rowtype.specs.declared.op.Op.TheVariants.{Set, Add}
 use Rattle.bt_rowtype.specs.declared.refusal.Refusal.TheVariants.{BadField}
 use Rattle.bt_rowtype.specs.declared.schema.Column.{Column}
 use Rattle.bt_rowtype.specs.declared.value.Kind.{Kind}
@@ -17,6 +17,7 @@ use Rattle.bt_rowtype.specs.declared.value.Kind.TheVariants as kind
 use Rattle.bt_rowtype.specs.declared.value.Value.{Value}
 use Rattle.bt_rowtype.specs.declared.value.Value.TheVariants as value
 use Rattle.bt_rowtype.proofs.ReadFits.{both_true}
+use Rattle.bt_rowtype.proofs.offered.Kinds.{default_fits}
 
 pub first_true : (a b : Bool) → (a && b) ≡ true → a ≡ true
 first_true true b e = refl
@@ -46,10 +47,9 @@ value_at_fits (c ∷ columns) [] place k d fit at = absurd cc
 value_at_fits (c ∷ columns) (r ∷ row) zero k d fit at = let e : c.kind ≡ k = cc in rw (← e) (first_true (fits_kind c.kind r) (fit_columns columns row) fit)
 value_at_fits (c ∷ columns) (r ∷ row) (suc place) k d fit at = value_at_fits columns row place k d (second_true (fits_kind c.kind r) (fit_columns columns row) fit) at
 
-added_fits : (n : ℤ) (v : Value) → fits_kind kind.Int v ≡ true → fits_kind kind.Int (added n v) ≡ true
-added_fits n (value.Int old) fits = refl
-added_fits n (value.Text bytes) fits = fits
-added_fits n (value.Flag flag) fits = fits
+made_fits : (arithmetic : Arithmetic) (n : ℤ) (v : Value) → fits_kind kind.Int v ≡ true → fits_kind kind.Int (new_value arithmetic n v) ≡ true
+made_fits arithmetic n (value.Int old) fits = refl
+made_fits arithmetic n other fits = fits
 
 behind_key : (schema : Schema) (place : ℕ) (k : Kind) → open_kind schema place ≡ Some k → (schema.keys ≤ place) × (option_map (λ c. c.kind) (slice_get schema.columns place) ≡ Some k)
 behind_key schema place k is = by_place (nat_le schema.keys place) refl is
@@ -66,30 +66,30 @@ set_kind item v (Some k) is = (k, refl, by_fit (fits_kind k v) is)
     by_fit true is = refl
     by_fit false is = absurd cc
 
-add_kind : (o : Option Kind) → add_fault o ≡ None → o ≡ Some kind.Int
-add_kind None is = absurd cc
-add_kind (Some kind.Int) is = refl
-add_kind (Some kind.Text) is = absurd cc
-add_kind (Some kind.Flag) is = absurd cc
+number_kind : (o : Option Kind) → number_fault o ≡ None → o ≡ Some kind.Int
+number_kind None is = absurd cc
+number_kind (Some kind.Int) is = refl
+number_kind (Some other) is = absurd cc
 
--- a row after an operation that fits still fits, and its key stays
-pub op_keeps : (schema : Schema) (op : Op) (row : List Value) → OpFits schema op → fit_columns schema.columns row ≡ true → (fit_columns schema.columns (after_op row op) ≡ true) × (take schema.keys (after_op row op) ≡ take schema.keys row)
-op_keeps schema (Set place v) row fits fit =
+-- a row after what an operation does that fits still fits, and its key stays
+action_keeps : (schema : Schema) (action : Action) (row : List Value) → ((item : ℕ) → action_fault schema item action ≡ None) → fit_columns schema.columns row ≡ true
+    → (fit_columns schema.columns (after_action row action) ≡ true) × (take schema.keys (after_action row action) ≡ take schema.keys row)
+action_keeps schema (Sets place v) row fits fit =
     let found = set_kind 1 v (open_kind schema place) (fits 1) in
     let behind = behind_key schema place found.0 found.1 in
     (set_value_fits schema.columns row place found.0 v fit behind.1 found.2, take-set-le schema.keys row place v behind.0)
-op_keeps schema (Add place n) row fits fit =
-    let behind = behind_key schema place kind.Int (add_kind (open_kind schema place) (fits 1)) in
+action_keeps schema (Makes arithmetic place n) row fits fit =
+    let behind = behind_key schema place kind.Int (number_kind (open_kind schema place) (fits 1)) in
     let old = get_or row place (value.Int (pos 0)) in
-    let is_int : fits_kind kind.Int old ≡ true = value_at_fits schema.columns row place kind.Int (value.Int (pos 0)) fit behind.1 in
-    (set_value_fits schema.columns row place kind.Int (added n old) fit behind.1 (added_fits n old is_int), take-set-le schema.keys row place (added n old) behind.0)
+    let is_int : fits_kind kind.Int old ≡ true = value_at_fits schema.columns row place kind.Int (value.Int (pos 0)) fit behind.1 in (
+      set_value_fits schema.columns row place kind.Int (new_value arithmetic n old) fit behind.1 (made_fits arithmetic n old is_int),
+      take-set-le schema.keys row place (new_value arithmetic n old) behind.0,
+    )
+
+pub op_keeps : (schema : Schema) (op : Op) (row : List Value) → OpFits schema op → fit_columns schema.columns row ≡ true → (fit_columns schema.columns (after_op row op) ≡ true) × (take schema.keys (after_op row op) ≡ take schema.keys row)
+op_keeps schema op row fits fit = action_keeps schema (action_of op) row fits fit
 
 -- ---- the row of a key where there is none
-
-default_fits : (k : Kind) → fits_kind k (default_of k) ≡ true
-default_fits kind.Int = refl
-default_fits kind.Text = is_utf8-from_IsUtf8 [] IsUtf8-nil
-default_fits kind.Flag = refl
 
 pub defaults_fit : (columns : List Column) → fit_columns columns (map (λ c. default_of c.kind) columns) ≡ true
 defaults_fit [] = refl

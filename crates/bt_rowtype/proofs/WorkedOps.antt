@@ -1,9 +1,10 @@
 -- Operations, computed. Serves whoever reads their definitions.
 use Rattle.std.proofs.Common.{◌≡◌, List, ℕ, [], ◌∷◌, pos, negsuc, refl, codes, true, false, Ok, Err, Some, None}
 use Rattle.bt_rowtype.proofs.offered.OnLiterals.{rowtype_on_literals}
+use Rattle.bt_rowtype.specs.Kinds.{text_of, value_of}
 use Rattle.bt_rowtype.specs.Ops.{after_ops, checked_ops, default_row, merged, ops_as, upsert_as}
 use Rattle.bt_rowtype.specs.Schemas.{Schema}
-use Rattle.bt_rowtype.specs.declared.op.Op.TheVariants.{Set, Add}
+use Rattle.bt_rowtype.specs.declared.op.Op.TheVariants.{Add, Max, Min, Set}
 use Rattle.bt_rowtype.specs.declared.refusal.Refusal.TheVariants.{BadField, BadLength, NoSuchColumn, NotInt}
 use Rattle.bt_rowtype.specs.declared.schema.Column.{Column}
 use Rattle.bt_rowtype.specs.declared.value.Kind.{Kind}
@@ -40,6 +41,22 @@ least = refl
 held_between : after_ops (Add 0 (pos 2) ∷ Add 0 (negsuc 2) ∷ []) (value.Int (pos 9223372036854775806) ∷ []) ≡ value.Int (pos 9223372036854775804) ∷ []
 held_between = refl
 
+-- the greater and the less, of the default too
+greater : after_ops (Max 1 (pos 8) ∷ Max 1 (negsuc 8) ∷ []) (value.Int (pos 9) ∷ value.Int (pos 5) ∷ []) ≡ value.Int (pos 9) ∷ value.Int (pos 8) ∷ []
+greater = refl
+
+less : after_ops (Min 1 (pos 6) ∷ Min 1 (pos 7) ∷ []) (value.Int (pos 9) ∷ value.Int (pos 8) ∷ []) ≡ value.Int (pos 9) ∷ value.Int (pos 6) ∷ []
+less = refl
+
+less_than_default : merged None (record { base = value.Int (pos 9) ∷ value.Int (pos 0) ∷ []; ops = Min 1 (negsuc 2) ∷ [] }) ≡ value.Int (pos 9) ∷ value.Int (negsuc 2) ∷ []
+less_than_default = refl
+
+default_is_less : merged None (record { base = value.Int (pos 9) ∷ value.Int (pos 0) ∷ []; ops = Min 1 (pos 3) ∷ [] }) ≡ value.Int (pos 9) ∷ value.Int (pos 0) ∷ []
+default_is_less = refl
+
+texts_and_bytes_stay : after_ops (Max 0 (pos 1) ∷ Min 1 (pos 1) ∷ []) (value.Text (codes "a") ∷ value.Bytes (7 ∷ []) ∷ []) ≡ value.Text (codes "a") ∷ value.Bytes (7 ∷ []) ∷ []
+texts_and_bytes_stay = refl
+
 -- an addition to a flag, and a place past the row
 nothing_done : after_ops (Add 0 (pos 1) ∷ Set 2 (value.Int (pos 7)) ∷ Add 2 (pos 7) ∷ []) (value.Flag true ∷ value.Int (pos 1) ∷ []) ≡ value.Flag true ∷ value.Int (pos 1) ∷ []
 nothing_done = refl
@@ -51,12 +68,42 @@ on_a_row = refl
 on_no_row : merged None (record { base = value.Int (pos 9) ∷ value.Int (pos 0) ∷ []; ops = Add 1 (pos 1) ∷ [] }) ≡ value.Int (pos 9) ∷ value.Int (pos 1) ∷ []
 on_no_row = refl
 
--- ---- how records spell them
+-- ---- how fields spell bytes, and how these are printed
+
+two_digits_each : value_of kind.Bytes (codes "00fFA0") ≡ Some (value.Bytes (0 ∷ 255 ∷ 160 ∷ []))
+unfolding rowtype_on_literals
+two_digits_each = refl
+
+no_bytes : value_of kind.Bytes [] ≡ Some (value.Bytes [])
+unfolding rowtype_on_literals
+no_bytes = refl
+
+odd_digits : value_of kind.Bytes (codes "000") ≡ None
+unfolding rowtype_on_literals
+odd_digits = refl
+
+no_digit : value_of kind.Bytes (codes "0g") ≡ None
+unfolding rowtype_on_literals
+no_digit = refl
+
+in_lower_case : text_of (value.Bytes (0 ∷ 255 ∷ 160 ∷ [])) ≡ codes "00ffa0"
+in_lower_case = refl
+
+-- ---- how records spell operations
 
 two_operations : upsert_as stock 4 (codes "9" ∷ codes "set" ∷ codes "qty" ∷ codes "5" ∷ codes "add" ∷ codes "qty" ∷ codes "-2" ∷ [])
     ≡ Ok (value.Int (pos 9) ∷ [], Set 1 (value.Int (pos 5)) ∷ Add 1 (negsuc 1) ∷ [])
 unfolding rowtype_on_literals
 two_operations = refl
+
+least_and_greatest : upsert_as stock 4 (codes "9" ∷ codes "max" ∷ codes "qty" ∷ codes "5" ∷ codes "min" ∷ codes "qty" ∷ codes "-2" ∷ [])
+    ≡ Ok (value.Int (pos 9) ∷ [], Max 1 (pos 5) ∷ Min 1 (negsuc 1) ∷ [])
+unfolding rowtype_on_literals
+least_and_greatest = refl
+
+max_of_text : ops_as shops 4 (codes "1" ∷ codes "max" ∷ codes "city" ∷ codes "x" ∷ []) ≡ Err NotInt
+unfolding rowtype_on_literals
+max_of_text = refl
 
 add_to_text : ops_as shops 4 (codes "1" ∷ codes "add" ∷ codes "city" ∷ codes "x" ∷ []) ≡ Err NotInt
 unfolding rowtype_on_literals

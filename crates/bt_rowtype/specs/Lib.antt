@@ -1,6 +1,9 @@
 pub mod inside
 pub mod Answers
+pub mod Arithmetic
+pub mod Hex
 pub mod Ints
+pub mod Kinds
 pub mod Loads
 pub mod Ops
 pub mod Paddings

@@ -1,15 +1,16 @@
 -- The operations of an upsert, and what they make of a row.
-use Rattle.std.specs.Prelude.{ℕ, suc, ◌+◌, ◌-◌, ◌*◌, ◌%◌, ◌==◌, ◌&&◌, Bool, List, [], ◌∷◌, ◌++◌, codes, drop, take, length, map, get_or, set, slice_get, nat_le, Option, Some, None, option_map, Result, Ok, Err, if◌then◌else◌, ℤ, pos, ◌+ℤ◌}
+use Rattle.std.specs.Prelude.{ℕ, suc, ◌+◌, ◌-◌, ◌*◌, ◌%◌, ◌==◌, ◌&&◌, Bool, List, [], ◌∷◌, ◌++◌, codes, drop, take, length, map, get_or, set, slice_get, nat_le, Option, Some, None, option_map, Result, Ok, Err, if◌then◌else◌, pos}
 use Rattle.std.specs.Cmp.Lexicographic.{pointwise}
-use Rattle.std.specs.Int.{saturate_to_bits}
 use Rattle.std.specs.List.{filter_map}
 use Rattle.std.specs.Result.{result_err, result_ok}
+use Rattle.bt_rowtype.specs.Arithmetic.{Action, Makes, Sets, action_of, arithmetic_of_word, op_making, new_value, word_of}
 use Rattle.bt_rowtype.specs.Ints.{int_of}
 use Rattle.bt_rowtype.specs.Refusals.{least, lesser}
 use Rattle.bt_rowtype.specs.Schemas.{Schema, fits_kind}
 use Rattle.bt_rowtype.specs.Values.{default_of, or_refused, value_of, values_of}
+use Rattle.bt_rowtype.specs.declared.op.Arithmetic.{Arithmetic}
 use Rattle.bt_rowtype.specs.declared.op.Op.{Op}
-use Rattle.bt_rowtype.specs.declared.op.Op.TheVariants.{Set, Add}
+use Rattle.bt_rowtype.specs.declared.op.Op.TheVariants.{Set}
 use Rattle.bt_rowtype.specs.declared.refusal.Refusal.{Refusal}
 use Rattle.bt_rowtype.specs.declared.refusal.Refusal.TheVariants.{BadField, BadLength, NoSuchColumn, NotInt}
 use Rattle.bt_rowtype.specs.declared.schema.Column.{Column}
@@ -24,25 +25,34 @@ use Rattle.bt_rowtype.specs.declared.value.Value.TheVariants as value
 abbrev pub default_row : Schema → List Value → List Value
 default_row schema key = key ++ map (λ c. default_of c.kind) (drop schema.keys schema.columns)
 
--- an int with a number added, held at the least and the greatest int of 64 bits; any other value stays
-abbrev pub added : ℤ → Value → Value
-added n (value.Int old) = value.Int (saturate_to_bits 63 (old +ℤ n))
-added n other = other
-
 -- a row after one operation; a place that the row hasn't stays as it is
+abbrev pub after_action : List Value → Action → List Value
+after_action row (Sets place new) = set row place new
+after_action row (Makes arithmetic place n) = set row place (new_value arithmetic n (get_or row place (value.Int (pos 0))))
+
 abbrev pub after_op : List Value → Op → List Value
-after_op row (Set place new) = set row place new
-after_op row (Add place n) = set row place (added n (get_or row place (value.Int (pos 0))))
+after_op row op = after_action row (action_of op)
 
 -- a row after operations in turn
 abbrev pub after_ops : List Op → List Value → List Value
 after_ops [] row = row
 after_ops (op ∷ ops) row = after_ops ops (after_op row op)
 
--- the argument of an operation: the value that it sets, or the number that it adds
+-- the word of an operation, its place, and its argument: the value that it sets, or its number
+abbrev pub word_in : Action → List ℕ
+word_in (Sets place new) = codes "set"
+word_in (Makes arithmetic place n) = word_of arithmetic
+
+abbrev pub place_in : Action → ℕ
+place_in (Sets place new) = place
+place_in (Makes arithmetic place n) = place
+
+abbrev pub argument_in : Action → Value
+argument_in (Sets place new) = new
+argument_in (Makes arithmetic place n) = value.Int n
+
 abbrev pub argument_of : Op → Value
-argument_of (Set place new) = new
-argument_of (Add place n) = value.Int n
+argument_of op = argument_in (action_of op)
 
 -- what an upsert does to the row of its key: operations in turn, and a row to begin with where the key has none
 pub record Change : Type 0 where
@@ -69,24 +79,29 @@ open_column schema name = named_from schema.keys name (drop schema.keys schema.c
 abbrev pub set_of : ℕ → List ℕ → ℕ × Kind → Result Op Refusal
 set_of item argument column = or_refused (BadField item) (option_map (Set column.0) (value_of column.1 argument))
 
--- add with this argument, at a column, which has to be int
-abbrev pub add_of_kind : ℕ → List ℕ → ℕ → Kind → Result Op Refusal
-add_of_kind item argument place kind.Int = or_refused (BadField item) (option_map (Add place) (int_of argument))
-add_of_kind item argument place other = Err NotInt
+-- an operation with this number, at a column, which has to be int
+abbrev pub making_of_kind : Arithmetic → ℕ → List ℕ → ℕ → Kind → Result Op Refusal
+making_of_kind arithmetic item argument place kind.Int = or_refused (BadField item) (option_map (op_making arithmetic place) (int_of argument))
+making_of_kind arithmetic item argument place other = Err NotInt
 
-abbrev pub add_of : ℕ → List ℕ → ℕ × Kind → Result Op Refusal
-add_of item argument column = add_of_kind item argument column.0 column.1
+abbrev pub making_of : Arithmetic → ℕ → List ℕ → ℕ × Kind → Result Op Refusal
+making_of arithmetic item argument column = making_of_kind arithmetic item argument column.0 column.1
 
 -- what is read at a column that is there
 abbrev pub at_column : {T : Type 0} → (ℕ × Kind → Result T Refusal) → Option (ℕ × Kind) → Result T Refusal
 at_column read None = Err NoSuchColumn
 at_column read (Some column) = read column
 
--- the operation of a word, a column's name and an argument, or its one fault: of the word, the column, the kind for add, the argument
+-- the operation of what is done with a number, if that is known, at a column
+abbrev pub number_op_of : ℕ → List ℕ → Option (ℕ × Kind) → Option Arithmetic → Result Op Refusal
+number_op_of item argument column None = Err (BadField item)
+number_op_of item argument column (Some arithmetic) = at_column (making_of arithmetic item argument) column
+
+-- the operation of a word, a column's name and an argument, or its one fault: of the word, the column, the kind for a number, the argument
 abbrev pub op_of : Schema → ℕ → List ℕ → List ℕ → List ℕ → Result Op Refusal
 op_of schema item word name argument =
     if pointwise ◌==◌ word (codes "set") then at_column (set_of item argument) (open_column schema name)
-    else (if pointwise ◌==◌ word (codes "add") then at_column (add_of item argument) (open_column schema name) else Err (BadField item))
+    else number_op_of item argument (open_column schema name) (arithmetic_of_word word)
 
 -- the operations of fields in groups of three
 abbrev pub ops_of : Schema → ℕ → List (List ℕ) → List (Result Op Refusal)
@@ -144,14 +159,17 @@ abbrev pub set_fault : ℕ → Value → Option Kind → Option Refusal
 set_fault item new None = Some NoSuchColumn
 set_fault item new (Some kind) = if fits_kind kind new then None else Some (BadField item)
 
-abbrev pub add_fault : Option Kind → Option Refusal
-add_fault None = Some NoSuchColumn
-add_fault (Some kind.Int) = None
-add_fault (Some other) = Some NotInt
+abbrev pub number_fault : Option Kind → Option Refusal
+number_fault None = Some NoSuchColumn
+number_fault (Some kind.Int) = None
+number_fault (Some other) = Some NotInt
+
+abbrev pub action_fault : Schema → ℕ → Action → Option Refusal
+action_fault schema item (Sets place new) = set_fault item new (open_kind schema place)
+action_fault schema item (Makes arithmetic place n) = number_fault (open_kind schema place)
 
 abbrev pub fault_of : Schema → ℕ → Op → Option Refusal
-fault_of schema item (Set place new) = set_fault item new (open_kind schema place)
-fault_of schema item (Add place n) = add_fault (open_kind schema place)
+fault_of schema item op = action_fault schema item (action_of op)
 
 -- whether these are 1 to 16 operations of a schema, or their least refusal as this item
 abbrev pub checked_ops : Schema → ℕ → List Op → Result (Unit {0}) Refusal

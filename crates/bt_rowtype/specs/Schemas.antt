@@ -1,15 +1,14 @@
 -- The columns of a table.
-use Rattle.std.specs.Prelude.{ℕ, ◌==◌, ◌&&◌, not, Bool, true, false, List, [], ◌∷◌, length, nat_le, Result, Ok, Err, if◌then◌else◌}
+use Rattle.std.specs.Prelude.{ℕ, ◌==◌, ◌&&◌, not, Bool, true, List, [], ◌∷◌, length, nat_le, Result, Ok, Err, if◌then◌else◌}
 use Rattle.std.specs.List.{list_any}
 use Rattle.std.specs.Cmp.Lexicographic.{pointwise}
 use Rattle.bt_rowtype.specs.declared.refusal.Refusal.{Refusal}
 use Rattle.bt_rowtype.specs.declared.refusal.Refusal.TheVariants.{BadField, BadLength}
 use Rattle.bt_rowtype.specs.declared.schema.Column.{Column}
 use Rattle.bt_rowtype.specs.declared.value.Kind.{Kind}
-use Rattle.bt_rowtype.specs.declared.value.Kind.TheVariants as kind
 use Rattle.bt_rowtype.specs.declared.value.Value.{Value}
-use Rattle.bt_rowtype.specs.declared.value.Value.TheVariants as value
-use Rattle.bt_rowtype.specs.Texts.{is_text}
+use Rattle.bt_rowtype.specs.Kinds.{content_of, kind_of}
+use Rattle.bt_rowtype.specs.Values.{same_kind, takes_content}
 
 -- what a contract sees of a schema: its columns, of which the first `keys` are the key
 pub record Schema : Type 0 where
@@ -39,10 +38,7 @@ is_schema columns keys = (nat_le 1 (length columns) && nat_le (length columns) m
 
 -- whether a value is one of a kind
 abbrev pub fits_kind : Kind → Value → Bool
-fits_kind kind.Int (value.Int n) = true
-fits_kind kind.Text (value.Text bytes) = is_text bytes
-fits_kind kind.Flag (value.Flag flag) = true
-fits_kind kind value = false
+fits_kind kind value = same_kind (kind_of value) kind && takes_content kind (content_of value)
 
 -- whether values are of the kinds of their columns, one for each
 abbrev pub fit_columns : List Column → List Value → Bool

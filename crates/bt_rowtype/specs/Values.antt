@@ -1,34 +1,20 @@
--- Values, how fields spell them, their range, and their order.
-use Rattle.std.specs.Prelude.{ℕ, ◌≡◌, ◌==◌, ◌&&◌, Bool, true, false, List, [], ◌∷◌, codes, length, nat_le, nat_lt, take, Option, Some, None, option_map, option_and_then, Result, Ok, Err, if◌then◌else◌, FitsSigned, pos}
+-- Values: their range, their order, and how records spell them.
+use Rattle.std.specs.Prelude.{ℕ, ◌≡◌, ◌==◌, ◌&&◌, Bool, true, false, List, [], ◌∷◌, length, nat_le, nat_lt, take, Option, Some, None, option_map, option_and_then, Result, Ok, Err, if◌then◌else◌, FitsSigned}
 use Rattle.std.specs.Bool.{beq}
-use Rattle.std.specs.Fmt.{signed_decimal}
 use Rattle.std.specs.Ordering.{bool_cmp, int_cmp, int_eq, nat_cmp}
-use Rattle.std.specs.Str.{str_eq_ignore_ascii_case}
 use Rattle.std.specs.declared.cmp.Ordering.{Ordering}
 use Rattle.std.specs.declared.cmp.Ordering.TheVariants.{Equal}
 use Rattle.std.specs.Cmp.Lexicographic.{pointwise, slice_cmp}
 use Rattle.std.specs.Int.{w64}
-use Rattle.bt_rowtype.specs.Ints.{int_of}
-use Rattle.bt_rowtype.specs.Texts.{is_text}
+use Rattle.bt_rowtype.specs.Kinds.{Content, Number, Bytes, Bit, content_of, kind_of, tag_of, takes}
+pub use Rattle.bt_rowtype.specs.Kinds.{default_of, flag_of, text_of, value_of}
 use Rattle.bt_rowtype.specs.declared.refusal.Refusal.{Refusal}
 use Rattle.bt_rowtype.specs.declared.refusal.Refusal.TheVariants.{BadField, BadLength}
 use Rattle.bt_rowtype.specs.declared.schema.Column.{Column}
 use Rattle.bt_rowtype.specs.declared.value.Kind.{Kind}
-use Rattle.bt_rowtype.specs.declared.value.Kind.TheVariants as kind
 use Rattle.bt_rowtype.specs.declared.value.Value.{Value}
-use Rattle.bt_rowtype.specs.declared.value.Value.TheVariants as value
 
--- the flag that a field spells: true or false, in letters of either case
-abbrev pub flag_of : List ℕ → Option Bool
-flag_of field =
-    if str_eq_ignore_ascii_case field (codes "true") then Some true
-    else (if str_eq_ignore_ascii_case field (codes "false") then Some false else None)
-
--- the value that a field spells in a column of a kind
-abbrev pub value_of : Kind → List ℕ → Option Value
-value_of kind.Int field = option_map value.Int (int_of field)
-value_of kind.Text field = if is_text field then Some (value.Text field) else None
-value_of kind.Flag field = option_map value.Flag (flag_of field)
+-- ---- how records spell values
 
 -- a value before the others, where all are there
 abbrev pub with_first : Option Value → Option (List Value) → Option (List Value)
@@ -54,50 +40,65 @@ abbrev pub prefix_as : List Column → ℕ → List (List ℕ) → Result (List 
 prefix_as columns item fields =
     if nat_lt 0 (length fields) && nat_le (length fields) (length columns) then or_refused (BadField item) (values_of (take (length fields) columns) fields) else Err (BadLength item)
 
--- the text of a value
-abbrev pub text_of : Value → List ℕ
-text_of (value.Int n) = signed_decimal n
-text_of (value.Text bytes) = bytes
-text_of (value.Flag flag) = if flag then codes "true" else codes "false"
+-- ---- order and range, by the form of a value
 
--- the value of a column that nothing was set in: 0, the empty text or false
-abbrev pub default_of : Kind → Value
-default_of kind.Int = value.Int (pos 0)
-default_of kind.Text = value.Text []
-default_of kind.Flag = value.Flag false
+-- the order of what two values of a kind hold: numbers by size, bytes byte by byte, false before true; two forms have none
+abbrev pub content_cmp : Content → Content → Ordering
+content_cmp (Number a) (Number b) = int_cmp a b
+content_cmp (Bytes a) (Bytes b) = slice_cmp nat_cmp a b
+content_cmp (Bit a) (Bit b) = bool_cmp a b
+content_cmp a b = Equal
 
--- the order of two values of a kind: ints by size, texts by their bytes, false before true; values of two kinds have none
+-- the order of two values of a kind
 abbrev pub value_cmp : Value → Value → Ordering
-value_cmp (value.Int a) (value.Int b) = int_cmp a b
-value_cmp (value.Text a) (value.Text b) = slice_cmp nat_cmp a b
-value_cmp (value.Flag a) (value.Flag b) = bool_cmp a b
-value_cmp a b = Equal
+value_cmp a b = content_cmp (content_of a) (content_of b)
 
 -- the order of lists of values, value by value
 abbrev pub values_cmp : List Value → List Value → Ordering
 values_cmp = slice_cmp value_cmp
 
+-- whether two values hold the same
+abbrev pub same_content : Content → Content → Bool
+same_content (Number a) (Number b) = int_eq a b
+same_content (Bytes a) (Bytes b) = pointwise ◌==◌ a b
+same_content (Bit a) (Bit b) = beq a b
+same_content a b = false
+
+-- whether two kinds are the same
+abbrev pub same_kind : Kind → Kind → Bool
+same_kind a b = tag_of a == tag_of b
+
 -- whether two values, and whether two lists of values, are the same
 abbrev pub same_value : Value → Value → Bool
-same_value (value.Int a) (value.Int b) = int_eq a b
-same_value (value.Text a) (value.Text b) = pointwise ◌==◌ a b
-same_value (value.Flag a) (value.Flag b) = beq a b
-same_value a b = false
+same_value a b = same_kind (kind_of a) (kind_of b) && same_content (content_of a) (content_of b)
 
 abbrev pub same_values : List Value → List Value → Bool
 same_values = pointwise same_value
 
--- if a value is a text, its bytes are one
-abbrev pub HasText : Value → Type 0
-HasText (value.Int n) = Unit {0}
-HasText (value.Text bytes) = is_text bytes ≡ true
-HasText (value.Flag flag) = Unit {0}
+-- whether a kind takes what a value of its form holds
+abbrev pub takes_content : Kind → Content → Bool
+takes_content kind (Number n) = true
+takes_content kind (Bytes bytes) = takes kind bytes
+takes_content kind (Bit bit) = true
 
--- a value is within the range of its kind: an int has 64 bits, a text is UTF-8 of at most 255 bytes
+-- if a value has bytes, its kind takes them
+abbrev pub AreTaken : Kind → Content → Type 0
+AreTaken kind (Number n) = Unit {0}
+AreTaken kind (Bytes bytes) = takes kind bytes ≡ true
+AreTaken kind (Bit bit) = Unit {0}
+
+abbrev pub HasBytes : Value → Type 0
+HasBytes v = AreTaken (kind_of v) (content_of v)
+
+-- what a value holds is within range: a number has 64 bits, bytes are ones that the kind takes
+abbrev pub LiesInRange : Kind → Content → Type 0
+LiesInRange kind (Number n) = FitsSigned w64 n
+LiesInRange kind (Bytes bytes) = takes kind bytes ≡ true
+LiesInRange kind (Bit bit) = Unit {0}
+
+-- a value is within the range of its kind
 abbrev pub IsInRange : Value → Type 0
-IsInRange (value.Int n) = FitsSigned w64 n
-IsInRange (value.Text bytes) = is_text bytes ≡ true
-IsInRange (value.Flag flag) = Unit {0}
+IsInRange v = LiesInRange (kind_of v) (content_of v)
 
 -- each of them
 abbrev pub AreInRange : List Value → Type 0

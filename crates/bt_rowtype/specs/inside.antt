@@ -1,8 +1,8 @@
 -- Definitions that only private clauses cite: how the code's values are seen, and the steps of its loops.
-pub mod Additions
 pub mod Arguments
 pub mod Changes
 pub mod Fits
+pub mod Numbers
 pub mod Packing
 pub mod Pieces
 pub mod Reader

@@ -1,20 +1,20 @@
-//! Going through what the operations of a change set and add.
+//! Going through the arguments of the operations of a change.
 ghost use Rattle.std.specs.Prelude.{◌≡◌, ◌∷◌, [], IfSome, IfNone, map};
 ghost use Rattle.bt_rowtype.specs.Ops.{argument_of};
-ghost use Rattle.bt_rowtype.specs.Values.{HasText};
+ghost use Rattle.bt_rowtype.specs.Values.{HasBytes};
 ghost use Rattle.bt_rowtype.specs.Views.{shown};
 ghost use Rattle.bt_rowtype.specs.declared.value.Value.TheVariants as value;
 
 use crate::op::Op;
-use crate::value_ref::ValueRef;
+use crate::value::ValueRef;
 use std::marker::Model;
 
-/// The arguments of operations that are left: of each the value that it sets, or the number that it adds. A contract sees the
+/// The arguments of operations that are left: of each the value that it sets, or its number. A contract sees the
 /// list of them.
 #[derive(Drop)]
 pub struct Arguments<'a> {
-    // the number of one addition, before the operations
-    addition: Option<i64>,
+    // the number of one operation, before the operations
+    number: Option<i64>,
     ops: &'a [Op],
 }
 
@@ -25,16 +25,16 @@ impl<'a> Model for Arguments<'a> {
 
     ghost Value = { List value };
 
-    ghost view = { λ a. arguments_left a.addition a.ops.now };
+    ghost view = { λ a. arguments_left a.number a.ops.now };
 }
 
 impl<'a> Arguments<'a> {
-    // The argument of one addition.
-    pub(crate) fn of_addition(number: i64) -> Self
+    // The argument of one operation that makes a number.
+    pub(crate) fn of_number(number: i64) -> Self
         ensures { result ≡ value.Int number ∷ [] }
     {
         Arguments {
-            addition: Some(number),
+            number: Some(number),
             ops: &[],
         }
     }
@@ -43,20 +43,17 @@ impl<'a> Arguments<'a> {
     pub(crate) fn of(ops: &'a [Op]) -> Self
         ensures { result ≡ map argument_of ops.now }
     {
-        Arguments {
-            addition: None,
-            ops,
-        }
+        Arguments { number: None, ops }
     }
 
     /// The next argument, if one is left.
     pub fn next(&mut self) -> Option<ValueRef<'a>>
         ensures some { IfSome result (λ argument. self.old ≡ shown argument ∷ self.new) }
-        ensures text { IfSome result (λ argument. HasText (shown argument)) }
+        ensures text { IfSome result (λ argument. HasBytes (shown argument)) }
         ensures none { IfNone result ((self.old ≡ []) × (self.new ≡ [])) }
     {
-        if let Some(number) = self.addition {
-            self.addition = None;
+        if let Some(number) = self.number {
+            self.number = None;
             return Some(ValueRef::Int(number));
         }
         let [op, rest @ ..] = self.ops else {

@@ -103,6 +103,7 @@ impl Bytes {
     pub fn padded(&self) -> &[u8]
         ensures bytes { result.now ≡ padded_to (length result.now) self.now }
         ensures room { SHORT ≤ length result.now }
+        ensures whole { length self.now ≤ length result.now }
     {
         match &self.kept {
             Kept::Short(_, bytes) => bytes.as_slice(),

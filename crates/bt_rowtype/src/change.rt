@@ -1,20 +1,22 @@
 //! What an upsert does to the row of its key.
 ghost use Rattle.std.specs.Prelude.{◌≡◌, ◌∷◌, [], IfOk, map};
+ghost use Rattle.bt_rowtype.specs.Arithmetic.{op_making};
 ghost use Rattle.bt_rowtype.specs.inside.Changes.{ops_of};
 ghost use Rattle.bt_rowtype.specs.Ops as spec;
 
+use crate::apply::apply_ops;
 use crate::arguments::Arguments;
 use crate::copies::clone_all;
-use crate::op::{Op, Ops, apply_ops};
-use crate::packed_row::{Row, copy_row};
+use crate::op::{Action, Arithmetic, Op, Ops};
+use crate::row::{Row, copy_row};
 use crate::sequence::Sequence;
 use std::alloc::{AllocError, Global};
 use std::marker::Model;
 
 #[derive(Debug, Drop)]
 enum Work {
-    // one number is added at one place
-    Addition(u16, i64),
+    // one operation that makes a number
+    One(Arithmetic, u16, i64),
     // any other operations
     List(Box<Ops>),
 }
@@ -22,7 +24,7 @@ enum Work {
 /// What an upsert does to the row of its key: operations in turn, and the row to begin with where the key has none, which is
 /// the key's values and the default of each other column. A contract sees `base` and `ops`.
 ///
-/// One addition stands in the change itself, and takes no memory of its own.
+/// One operation that makes a number stands in the change itself, and takes no memory of its own.
 #[derive(Debug, Drop)]
 pub struct Change {
     base: Row,
@@ -41,13 +43,15 @@ impl Model for Change {
 }
 
 // The operations, in the form in which a change keeps them.
+#[tactic(auto, using(crate::proofs::offered::Actions::making_action))]
 fn work_of(alloc: Global, ops: Ops) -> Result<Work, AllocError>
     ensures { IfOk result (λ work. ops_of work ≡ ops) }
 {
-    if let [Op::Add(place, number)] = ops.as_slice() {
-        if *place <= u16::MAX as usize {
-            return Ok(Work::Addition(*place as u16, *number));
-        }
+    if let [op] = ops.as_slice()
+        && let Action::Make(arithmetic, place, number) = op.action()
+        && place <= u16::MAX as usize
+    {
+        return Ok(Work::One(arithmetic, place as u16, number));
     }
     Ok(Work::List(Box::new(alloc, ops)?))
 }
@@ -64,17 +68,17 @@ fn copy_work(alloc: Global, work: &Work) -> Result<Work, AllocError>
     ensures { IfOk result (λ copy. ops_of copy ≡ ops_of work.now) }
 {
     match work {
-        Work::Addition(place, number) => Ok(Work::Addition(*place, *number)),
+        Work::One(arithmetic, place, number) => Ok(Work::One(*arithmetic, *place, *number)),
         Work::List(ops) => Ok(Work::List(Box::new(alloc, copy_ops(alloc, ops)?)?)),
     }
 }
 
-// The one operation that is an addition.
-fn addition(alloc: Global, place: u16, number: i64) -> Result<Ops, AllocError>
-    ensures { IfOk result (λ ops. ops ≡ Op.Add place number ∷ []) }
+// The one operation that makes a number.
+fn one_op(alloc: Global, arithmetic: Arithmetic, place: u16, number: i64) -> Result<Ops, AllocError>
+    ensures { IfOk result (λ ops. ops ≡ op_making arithmetic place number ∷ []) }
 {
     let mut ops = Ops::with_capacity(alloc, 1)?;
-    ops.push(Op::Add(place as usize, number))?;
+    ops.push(Op::making(arithmetic, place as usize, number))?;
     Ok(ops)
 }
 
@@ -83,9 +87,9 @@ fn after(alloc: Global, row: Row, work: &Work) -> Result<Row, AllocError>
     ensures { IfOk result (λ after. after ≡ spec.after_ops (ops_of work.now) row) }
 {
     match work {
-        Work::Addition(place, number) => {
+        Work::One(arithmetic, place, number) => {
             let mut row = row;
-            row.add(*place as usize, *number);
+            row.make(*arithmetic, *place as usize, *number);
             Ok(row)
         }
         Work::List(ops) => apply_ops(alloc, row, ops.as_slice()),
@@ -116,7 +120,7 @@ impl Change {
         ensures { IfOk result (λ ops. ops ≡ self.now.ops) }
     {
         match &self.work {
-            Work::Addition(place, number) => addition(alloc, *place, *number),
+            Work::One(arithmetic, place, number) => one_op(alloc, *arithmetic, *place, *number),
             Work::List(ops) => copy_ops(alloc, ops),
         }
     }
@@ -126,13 +130,13 @@ impl Change {
         ensures { result ≡ map spec.argument_of self.now.ops }
     {
         match &self.work {
-            Work::Addition(_, number) => Arguments::of_addition(*number),
+            Work::One(_, _, number) => Arguments::of_number(*number),
             Work::List(ops) => Arguments::of(ops.as_slice()),
         }
     }
 
-    /// The row after the change, or what it makes of the row to begin with where there is none. One addition is written in
-    /// place.
+    /// The row after the change, or what it makes of the row to begin with where there is none. One number that is made is
+    /// written in place.
     pub fn apply(&self, alloc: Global, old: Option<Row>) -> Result<Row, AllocError>
         ensures { IfOk result (λ new. new ≡ spec.merged old self.now) }
     {

@@ -33,12 +33,12 @@ fn piece<'a>(bytes: &'a [u8], places: &[Place], place: usize) -> &'a [u8]
 
 /// The fields of one record, in order, lent. A contract sees the bytes of each.
 #[derive(Debug, Drop)]
-pub(crate) struct Record<'a> {
+pub(crate) struct FieldsRef<'a> {
     bytes: &'a [u8],
     places: &'a [Place],
 }
 
-impl<'a> Model for Record<'a> {
+impl<'a> Model for FieldsRef<'a> {
     ghost use Rattle.std.specs.Prelude.{List, ℕ, length};
     ghost use Rattle.bt_rowtype.specs.inside.Pieces.{LieWithin, pieces};
 
@@ -49,13 +49,13 @@ impl<'a> Model for Record<'a> {
     ghost invariant = { λ a. LieWithin (length a.bytes.now) a.places.now };
 }
 
-impl<'a> Record<'a> {
+impl<'a> FieldsRef<'a> {
     // The parts of bytes at places.
     pub(crate) fn new(bytes: &'a [u8], places: &'a [Place]) -> Self
         requires { LieWithin (length bytes.now) places.now }
         ensures { result ≡ pieces bytes.now places.now }
     {
-        Record { bytes, places }
+        FieldsRef { bytes, places }
     }
 
     #[tactic(auto, using(crate::proofs::Pieces::length_pieces))]
@@ -122,10 +122,10 @@ impl Fields {
     }
 
     // The fields, lent.
-    pub(crate) fn as_record(&self) -> Record<'_>
+    pub(crate) fn as_ref(&self) -> FieldsRef<'_>
         ensures { result ≡ self.now }
     {
-        Record::new(self.bytes.as_slice(), self.places.as_slice())
+        FieldsRef::new(self.bytes.as_slice(), self.places.as_slice())
     }
 
     #[tactic(auto, using(crate::proofs::Pieces::length_pieces))]
@@ -162,6 +162,6 @@ impl Fields {
         requires { place < length self.now }
         ensures { slice_get self.now place ≡ Some result.now }
     {
-        self.as_record().get(place)
+        self.as_ref().get(place)
     }
 }

@@ -3,7 +3,7 @@ ghost use Rattle.std.specs.Prelude.{◌≡◌, ◌==◌};
 ghost use Rattle.std.specs.Cmp.Lexicographic.{pointwise};
 ghost use Rattle.bt_rowtype.specs.Loads.{is_header};
 
-use crate::fields::Record;
+use crate::fields::FieldsRef;
 use crate::schema::Column;
 
 fn is_named(column: &Column, name: &[u8]) -> bool
@@ -13,7 +13,7 @@ fn is_named(column: &Column, name: &[u8]) -> bool
 }
 
 /// Whether fields are the names of the columns, in order.
-pub(crate) fn are_names(columns: &[Column], names: &Record<'_>) -> bool
+pub(crate) fn are_names(columns: &[Column], names: &FieldsRef<'_>) -> bool
     ensures { result ≡ is_header columns.now names.now }
 {
     if names.len() != columns.len() {

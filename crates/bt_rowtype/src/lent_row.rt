@@ -1,14 +1,14 @@
 //! The values of a row while operations change them.
 ghost use Rattle.std.specs.Prelude.{◌≡◌, IfOk, set};
-ghost use Rattle.bt_rowtype.specs.Ops.{added as added_to, after_op};
-ghost use Rattle.bt_rowtype.specs.Values.{HasText};
+ghost use Rattle.bt_rowtype.specs.Arithmetic.{new_value};
+ghost use Rattle.bt_rowtype.specs.Ops.{after_op};
+ghost use Rattle.bt_rowtype.specs.Values.{HasBytes};
 ghost use Rattle.bt_rowtype.specs.Views.{shown};
 
-use crate::addition::sum;
-use crate::op::Op;
-use crate::packed_row::{Row, width_of_value};
+use crate::op::{Action, Arithmetic, Op};
+use crate::row::{Row, width_of_value};
 use crate::schema::MOST_COLUMNS;
-use crate::value_ref::ValueRef;
+use crate::value::ValueRef;
 use std::alloc::{AllocError, Global};
 use std::marker::Model;
 
@@ -21,7 +21,7 @@ pub(crate) struct LentRow<'a> {
 impl<'a> Model for LentRow<'a> {
     ghost use Rattle.std.specs.Prelude.{List, map};
     ghost use Rattle.std.specs.List.{All};
-    ghost use Rattle.bt_rowtype.specs.Values.{HasText};
+    ghost use Rattle.bt_rowtype.specs.Values.{HasBytes};
     ghost use Rattle.bt_rowtype.specs.Views.{shown};
     ghost use Rattle.bt_rowtype.specs.declared.value.Value.{Value as value};
 
@@ -29,16 +29,16 @@ impl<'a> Model for LentRow<'a> {
 
     ghost view = { λ a. map shown a.values.items };
 
-    ghost invariant = { λ a. All HasText (map shown a.values.items) };
+    ghost invariant = { λ a. All HasBytes (map shown a.values.items) };
 }
 
-// An int with a number added. Any other value stays.
-fn added(value: ValueRef<'_>, number: i64) -> ValueRef<'_>
-    ensures value { shown result ≡ added_to number (shown value.entry) }
-    ensures text { HasText (shown value.entry) → HasText (shown result) }
+// What an int and a number make. Any other value stays.
+fn made(arithmetic: Arithmetic, number: i64, value: ValueRef<'_>) -> ValueRef<'_>
+    ensures value { shown result ≡ new_value arithmetic number (shown value.entry) }
+    ensures bytes { HasBytes (shown value.entry) → HasBytes (shown result) }
 {
     match value {
-        ValueRef::Int(old) => ValueRef::Int(sum(old, number)),
+        ValueRef::Int(old) => ValueRef::Int(arithmetic.make(old, number)),
         other => other,
     }
 }
@@ -58,7 +58,7 @@ impl<'a> LentRow<'a> {
 
     // Sets the value at a place, where there is one.
     fn set(&mut self, place: usize, value: ValueRef<'a>)
-        requires { HasText (shown value) }
+        requires { HasBytes (shown value) }
         ensures { self.new ≡ set self.old place (shown value.entry) }
     {
         if place < self.values.len() {
@@ -70,12 +70,12 @@ impl<'a> LentRow<'a> {
     pub(crate) fn apply(&mut self, op: &'a Op)
         ensures { self.new ≡ after_op self.old op.now }
     {
-        match op {
-            Op::Set(place, value) => self.set(*place, value.as_ref()),
-            Op::Add(place, number) => {
-                if *place < self.values.len() {
-                    let old = self.values[*place];
-                    self.set(*place, added(old, *number));
+        match op.action() {
+            Action::Set(place, value) => self.set(place, value.as_ref()),
+            Action::Make(arithmetic, place, number) => {
+                if place < self.values.len() {
+                    let old = self.values[place];
+                    self.set(place, made(arithmetic, number, old));
                 }
             }
         }

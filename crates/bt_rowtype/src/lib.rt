@@ -1,9 +1,12 @@
 //! Typed rows: kinds and values, the columns of a table, and the refusals that every layer answers.
 //!
-//! A field of a record is read by the kind of its column and becomes a [`Value`]: an int, a text or a flag. A record becomes a
-//! [`Row`], or is refused with a number, a name and the item at fault. A row is printed as one record. The record of an
-//! upsert becomes a key and operations ([`Op`]), which change single columns of a row. The records of a CSV text are lent one
-//! after the other ([`Records`]).
+//! A field of a record is read by the kind of its column and becomes a [`Value`]: an int, a text, a flag or bytes. A record
+//! becomes a [`Row`], or is refused with a number, a name and the item at fault. A row is printed as one record. The record of
+//! an upsert becomes a key and operations ([`Op`]), which change single columns of a row. The records of a CSV text are lent
+//! one after the other ([`Records`]).
+//!
+//! A kind has a form ([`Form`]): its values are kept, ordered and coded as a number, as bytes or as a bit ([`Content`]). What is
+//! said of single kinds stands in one file, `value.rt`, and of single operations in `op.rt`.
 //!
 //! ```text
 //! let mut columns = Columns::new(alloc);
@@ -27,62 +30,71 @@
 //! ```
 #![tactic(auto)]
 
-mod addition;
-mod arguments;
+// Values with their bytes.
+mod binary;
 mod bytes;
-mod change;
 mod copies;
-mod cut;
 mod field;
-mod fields;
-mod filter;
-mod header;
+mod hex;
 mod int;
-mod item;
-mod lent_row;
-mod line;
-mod op;
-mod op_faults;
 mod packed;
-mod packed_row;
-mod reader;
-mod reading;
-mod record;
-mod record_reader;
-mod records;
-mod refusal;
 mod row;
 mod row_bytes;
-mod schema;
 mod sequence;
 mod text;
-mod upsert;
 mod value;
-mod value_ref;
 mod values;
 
+// Records, over csv.
+mod cut;
+mod fields;
+mod line;
+mod reader;
+mod record_writer;
+mod records;
+
+// Schemas, operations and refusals, and reading records by these.
+mod apply;
+mod arguments;
+mod arithmetic;
+mod change;
+mod collected;
+mod filter;
+mod header;
+mod item;
+mod lent_row;
+mod op;
+mod op_faults;
+mod record_reader;
+mod refusal;
+mod row_reader;
+mod schema;
+mod upsert;
+
+pub use apply::{apply_ops, default_row};
 pub use arguments::Arguments;
+pub use binary::Binary;
 pub use bytes::Bytes;
 pub use change::{Change, copy_change};
+pub use collected::Collected;
 pub use copies::{TryClone, clone_all};
 pub use field::read_field;
 pub use fields::Fields;
 pub use filter::{Filter, Test};
+pub use hex::write_hex;
 pub use item::Item;
-pub use line::RecordLine;
-pub use op::{MOST_OPS, Op, Ops, apply_ops, default_row};
+pub use line::{RecordLine, read_record};
+pub use op::{Action, Arithmetic, MOST_OPS, Op, Ops};
 pub use op_faults::check_ops;
-pub use packed_row::{Row, copy_row};
-pub use reading::Reading;
-pub use record::{read_record, write_record, write_row};
 pub use record_reader::RecordReader;
+pub use record_writer::{write_record, write_row};
 pub use records::Records;
 pub use refusal::{Refusal, least_with};
-pub use row::{read_key, read_row};
+pub use row::{Row, copy_row};
+pub use row_reader::{read_key, read_row};
 pub use schema::{Column, Columns, MOST_COLUMNS, MOST_KEYS, Schema, find_column};
 pub use sequence::Sequence;
 pub use text::{LONGEST_TEXT, Text, Texts};
 pub use upsert::{Upsert, read_ops, read_upsert};
-pub use value::{Kind, Value};
-pub use value_ref::ValueRef;
-pub use values::{Values, same_values};
+pub use value::{Content, Form, Kind, Value, ValueRef};
+pub use values::{Values, compare_values, same_values};

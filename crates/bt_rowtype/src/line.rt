@@ -103,3 +103,13 @@ impl<'a> RecordLine<'a> {
         unreachable!()
     }
 }
+
+/// The fields of the record that stands in a line, or `None` where none does, as [`RecordLine::new`] says.
+pub fn read_record(alloc: Global, line: &[u8]) -> Result<Option<Fields>, AllocError>
+    ensures { IfOk result (λ fields. fields ≡ record_of line.now) }
+{
+    match RecordLine::new(line) {
+        Some(line) => Ok(Some(line.fields(alloc)?)),
+        None => Ok(None),
+    }
+}

@@ -1,16 +1,13 @@
-//! Operations on single columns, and what they do to a row.
-ghost use Rattle.std.specs.Prelude.{◌≡◌, IfOk, OnOk, drop};
+//! Operations on single columns. All that is said of single ones is said here; everything else goes by what an operation does.
+ghost use Rattle.std.specs.Prelude.{◌≡◌, ◌≤◌, length};
+ghost use Rattle.bt_rowtype.specs.Arithmetic.{action_of, arithmetic_of_word, new_number, op_making, word_of};
 ghost use Rattle.bt_rowtype.specs.Ops as spec;
-ghost use Rattle.bt_rowtype.specs.Values.{HasText, default_of};
-ghost use Rattle.bt_rowtype.specs.Views.{shown};
+ghost use Rattle.bt_rowtype.specs.Values.{HasBytes};
+ghost use Rattle.bt_rowtype.specs.Views.{done, shown};
 
 use crate::copies::TryClone;
-use crate::lent_row::LentRow;
-use crate::packed_row::{Row, width_of_value};
-use crate::schema::{Column, Schema};
 use crate::sequence::Sequence;
-use crate::value::{Kind, Value};
-use crate::value_ref::ValueRef;
+use crate::value::{Value, ValueRef};
 use std::alloc::{AllocError, Global};
 
 /// The most operations of an upsert.
@@ -23,135 +20,140 @@ pub enum Op {
     Set(usize, Value),
     /// The number is added to an int, which holds at the least and the greatest of 64 bits.
     Add(usize, i64),
+    /// An int becomes the number, where that is greater.
+    Max(usize, i64),
+    /// An int becomes the number, where that is less.
+    Min(usize, i64),
 }
 
-impl Op {
-    // The value that is set, or the number that is added.
-    pub(crate) fn argument(&self) -> ValueRef<'_>
-        ensures value { shown result ≡ spec.argument_of self.now }
-        ensures text { HasText (shown result) }
-    {
-        match self {
-            Op::Set(_, value) => value.as_ref(),
-            Op::Add(_, number) => ValueRef::Int(*number),
-        }
-    }
+/// What an operation does at a place.
+#[derive(Clone, Copy, Debug)]
+pub enum Action<'a> {
+    /// It sets this value.
+    Set(usize, &'a Value),
+    /// It makes a number of the one that is there and of this one.
+    Make(Arithmetic, usize, i64),
 }
 
 /// Operations in order.
 pub type Ops = Sequence<Op>;
 
-// The columns behind the key.
-fn open_columns(schema: &Schema) -> &[Column]
-    ensures { result.now ≡ drop schema.now.keys schema.now.columns }
-{
-    &schema.columns()[schema.keys()..]
+/// What an operation does with an int and its number.
+#[derive(Clone, Copy, Debug, PartialEq, Eq)]
+pub enum Arithmetic {
+    /// Their sum, held at the least and the greatest of 64 bits.
+    Add,
+    /// The greater of them.
+    Max,
+    /// The less of them.
+    Min,
 }
 
-// The value of a column in which nothing was set.
-fn default_value<'a>(kind: Kind) -> ValueRef<'a>
-    ensures value { shown result ≡ default_of kind }
-    ensures text { HasText (shown result) }
-{
-    match kind {
-        Kind::Int => ValueRef::Int(0),
-        Kind::Text => ValueRef::Text(&[]),
-        Kind::Flag => ValueRef::Flag(false),
+impl Arithmetic {
+    /// The one of a word of the language.
+    pub fn from_word(word: &[u8]) -> Option<Self>
+        ensures { result ≡ arithmetic_of_word word.now }
+    {
+        if word == b"add".as_slice() {
+            return Some(Arithmetic::Add);
+        }
+        if word == b"max".as_slice() {
+            return Some(Arithmetic::Max);
+        }
+        if word == b"min".as_slice() {
+            return Some(Arithmetic::Min);
+        }
+        None
     }
-}
 
-// The bytes that the defaults of these columns take.
-fn room_for_defaults(columns: &[Column]) -> usize {
-    let mut room: usize = 0;
-    for column in columns {
-        room = room.saturating_add(width_of_value(default_value(column.kind)));
+    /// The word.
+    pub fn word(self) -> &'static str
+        ensures value { result.now ≡ word_of self }
+        ensures short { length result.now ≤ 3 }
+    {
+        match self {
+            Arithmetic::Add => "add",
+            Arithmetic::Max => "max",
+            Arithmetic::Min => "min",
+        }
     }
-    room
-}
 
-/// The row of a key where there is none: the key's values, then 0, the empty text or `false` in each other column.
-pub fn default_row(alloc: Global, schema: &Schema, key: Row) -> Result<Row, AllocError>
-    ensures { IfOk result (λ row. row ≡ spec.default_row schema.now key) }
-{
-    let columns = open_columns(schema);
-    let mut row = key.widened(alloc, room_for_defaults(columns))?;
-    for column in columns {
-        row.push(alloc, default_value(column.kind))?;
-    }
-    Ok(row)
-}
-
-// Does one operation to a row.
-fn apply_op(alloc: Global, row: &mut Row, op: &Op) -> Result<(), AllocError>
-    ensures { OnOk result (row.new ≡ spec.after_op row.old op.now) }
-{
-    match op {
-        Op::Set(place, value) => row.set(alloc, *place, value.as_ref()),
-        Op::Add(place, number) => {
-            row.add(*place, *number);
-            Ok(())
+    // The number that an old one and this one make.
+    pub(crate) fn make(self, old: i64, number: i64) -> i64
+        ensures { result ≡ new_number self old number }
+    {
+        match self {
+            Arithmetic::Add => old.saturating_add(number),
+            Arithmetic::Max => old.max(number),
+            Arithmetic::Min => old.min(number),
         }
     }
 }
 
-// The row after operations in turn, each of which writes it.
-fn after_each(alloc: Global, row: Row, ops: &[Op]) -> Result<Row, AllocError>
-    ensures { IfOk result (λ after. after ≡ spec.after_ops ops.now row) }
-{
-    let mut after = row;
-    for op in ops {
-        apply_op(alloc, &mut after, op)?;
-    }
-    Ok(after)
-}
-
-// The row after operations in turn, which is written once.
-fn after_all(alloc: Global, row: &Row, ops: &[Op]) -> Result<Row, AllocError>
-    ensures { IfOk result (λ after. after ≡ spec.after_ops ops.now row.now) }
-{
-    let mut values = LentRow::of(alloc, row)?;
-    for op in ops {
-        values.apply(op);
-    }
-    values.pack(alloc)
-}
-
-// How many operations set a value.
-fn sets(ops: &[Op]) -> usize {
-    let mut sets: usize = 0;
-    for op in ops {
-        if let Op::Set(_, _) = op {
-            sets = sets.saturating_add(1);
+impl Op {
+    /// What it does.
+    #[inline(always)]
+    pub fn action(&self) -> Action<'_>
+        ensures { done result ≡ action_of self.now }
+    {
+        match self {
+            Op::Set(place, value) => Action::Set(*place, value),
+            Op::Add(place, number) => Action::Make(Arithmetic::Add, *place, *number),
+            Op::Max(place, number) => Action::Make(Arithmetic::Max, *place, *number),
+            Op::Min(place, number) => Action::Make(Arithmetic::Min, *place, *number),
         }
     }
-    sets
-}
 
-// Whether so many values are set that it takes less time to go through all values and to write the row once.
-fn sets_many(row: &Row, ops: &[Op]) -> bool {
-    let sets = sets(ops);
-    sets > 1 && sets > row.len() / 4
-}
+    /// The operation that makes a number at a place.
+    pub fn making(arithmetic: Arithmetic, place: usize, number: i64) -> Self
+        ensures { result ≡ op_making arithmetic place number }
+    {
+        match arithmetic {
+            Arithmetic::Add => Op::Add(place, number),
+            Arithmetic::Max => Op::Max(place, number),
+            Arithmetic::Min => Op::Min(place, number),
+        }
+    }
 
-/// The row after operations in turn. An operation on a place that the row hasn't, or an addition to what is no int, does
-/// nothing.
-///
-/// Additions alone are written in place, and take no memory.
-pub fn apply_ops(alloc: Global, row: Row, ops: &[Op]) -> Result<Row, AllocError>
-    ensures { IfOk result (λ after. after ≡ spec.after_ops ops.now row) }
-{
-    if sets_many(&row, ops) {
-        after_all(alloc, &row, ops)
-    } else {
-        after_each(alloc, row, ops)
+    /// The place of its column.
+    pub fn place(&self) -> usize
+        ensures { result ≡ spec.place_in (action_of self.now) }
+    {
+        match self.action() {
+            Action::Set(place, _) => place,
+            Action::Make(_, place, _) => place,
+        }
+    }
+
+    /// Its word.
+    pub fn word(&self) -> &'static str
+        ensures value { result.now ≡ spec.word_in (action_of self.now) }
+        ensures short { length result.now ≤ 3 }
+    {
+        match self.action() {
+            Action::Set(_, _) => "set",
+            Action::Make(arithmetic, _, _) => arithmetic.word(),
+        }
+    }
+
+    /// The value that it sets, or its number.
+    pub fn argument(&self) -> ValueRef<'_>
+        ensures value { shown result ≡ spec.argument_of self.now }
+        ensures bytes { HasBytes (shown result) }
+    {
+        match self.action() {
+            Action::Set(_, value) => value.as_ref(),
+            Action::Make(_, _, number) => ValueRef::Int(number),
+        }
     }
 }
 
 impl TryClone for Op {
+    #[tactic(auto, using(crate::proofs::offered::Actions::making_action, crate::proofs::offered::Actions::set_action))]
     fn try_clone(&self, alloc: Global) -> Result<Self, AllocError> {
-        match self {
-            Op::Set(place, value) => Ok(Op::Set(*place, value.try_clone(alloc)?)),
-            Op::Add(place, number) => Ok(Op::Add(*place, *number)),
+        match self.action() {
+            Action::Set(place, value) => Ok(Op::Set(place, value.try_clone(alloc)?)),
+            Action::Make(arithmetic, place, number) => Ok(Op::making(arithmetic, place, number)),
         }
     }
 }

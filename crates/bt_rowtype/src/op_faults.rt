@@ -5,7 +5,7 @@ ghost use Rattle.std.specs.Option.{option_to_list};
 ghost use Rattle.bt_rowtype.specs.Ops as spec;
 ghost use Rattle.bt_rowtype.specs.Refusals.{least, least_from};
 
-use crate::op::{MOST_OPS, Op};
+use crate::op::{Action, MOST_OPS, Op};
 use crate::refusal::{Refusal, least_with};
 use crate::schema::{Schema, is_of_kind};
 use crate::value::{Kind, Value};
@@ -33,8 +33,8 @@ fn set_fault(item: u64, value: &Value, kind: Option<Kind>) -> Option<Refusal>
     Some(Refusal::BadField(item))
 }
 
-fn add_fault(kind: Option<Kind>) -> Option<Refusal>
-    ensures { result ≡ spec.add_fault kind }
+fn number_fault(kind: Option<Kind>) -> Option<Refusal>
+    ensures { result ≡ spec.number_fault kind }
 {
     match kind {
         None => Some(Refusal::NoSuchColumn),
@@ -47,9 +47,9 @@ fn add_fault(kind: Option<Kind>) -> Option<Refusal>
 fn fault_of(schema: &Schema, item: u64, op: &Op) -> Option<Refusal>
     ensures { result ≡ spec.fault_of schema.now item op.now }
 {
-    match op {
-        Op::Set(place, value) => set_fault(item, value, open_kind(schema, *place)),
-        Op::Add(place, _) => add_fault(open_kind(schema, *place)),
+    match op.action() {
+        Action::Set(place, value) => set_fault(item, value, open_kind(schema, place)),
+        Action::Make(_, place, _) => number_fault(open_kind(schema, place)),
     }
 }
 
@@ -74,8 +74,8 @@ fn least_fault(schema: &Schema, item: u64, ops: &[Op]) -> Option<Refusal>
     found
 }
 
-/// Whether these are 1 to 16 operations on columns behind the key of this schema, each with a value of its column, `add` with
-/// an int. They are refused as in [`read_ops`]. Takes no memory.
+/// Whether these are 1 to 16 operations on columns behind the key of this schema, each with a value of its column, or on an
+/// int where it makes a number. They are refused as in [`read_ops`]. Takes no memory.
 pub fn check_ops(schema: &Schema, item: u64, ops: &[Op]) -> Result<(), Refusal>
     ensures { result ≡ spec.checked_ops schema.now item ops.now }
 {

@@ -1,9 +1,9 @@
 //! Reading values in a string of bytes.
 ghost use Rattle.std.specs.Prelude.{◌≡◌, ◌≤◌, ◌<◌, drop, length, take};
-ghost use Rattle.bt_rowtype.specs.inside.Packing.{IsAt, IsPacked, first_of, int_from, unpacked, width_of};
-ghost use Rattle.bt_rowtype.specs.Views.{shown};
+ghost use Rattle.bt_rowtype.specs.inside.Packing.{IsAt, IsPacked, content_at as content_of_form, first_of, int_from, unpacked, width_in as width_of_form, width_of};
+ghost use Rattle.bt_rowtype.specs.Views.{held, shown};
 
-use crate::value_ref::ValueRef;
+use crate::value::{Content, Form, Kind, ValueRef};
 
 // The bytes from a place on.
 pub(crate) fn tail<'a>(bytes: &'a [u8], at: usize) -> &'a [u8]
@@ -33,16 +33,42 @@ pub(crate) fn int_at(bytes: &[u8]) -> i64
     .cast_signed()
 }
 
+// How many bytes a value of a form takes, of which these stand behind the tag.
+#[inline(always)]
+fn width_in(form: Form, behind: &[u8]) -> usize
+    ensures { result ≡ width_of_form form behind.now }
+{
+    match form {
+        Form::Number => 9,
+        Form::Bytes => match behind {
+            [len, ..] => *len as usize + 2,
+            [] => 2,
+        },
+        Form::Bit => 1,
+    }
+}
+
 // How many bytes the first value takes.
 pub(crate) fn width(bytes: &[u8]) -> usize
     ensures { result ≡ width_of bytes.now }
 {
     match bytes {
+        [tag, behind @ ..] => width_in(Kind::from_tag(*tag).form(), behind),
         [] => 0,
-        [0, ..] => 9,
-        [1, len, ..] => *len as usize + 2,
-        [1] => 2,
-        _ => 1,
+    }
+}
+
+// What a value of a form holds, with whose tag the bytes begin; a bit is set or not.
+#[inline(always)]
+fn content_at<'a>(form: Form, is_set: bool, bytes: &'a [u8]) -> Content<'a>
+    requires some { 0 < length bytes.now }
+    requires within { width_of_form form (drop 1 bytes.now) ≤ length bytes.now }
+    ensures { held result ≡ content_of_form form is_set (drop 1 bytes.now) }
+{
+    match form {
+        Form::Number => Content::Number(int_at(bytes)),
+        Form::Bytes => Content::Bytes(&bytes[2..bytes[1] as usize + 2]),
+        Form::Bit => Content::Bit(is_set),
     }
 }
 
@@ -52,11 +78,9 @@ pub(crate) fn first<'a>(bytes: &'a [u8]) -> ValueRef<'a>
     requires within { width_of bytes.now ≤ length bytes.now }
     ensures { shown result ≡ first_of bytes.now }
 {
-    match bytes[0] {
-        0 => ValueRef::Int(int_at(bytes)),
-        1 => ValueRef::Text(&bytes[2..bytes[1] as usize + 2]),
-        tag => ValueRef::Flag(tag == 3),
-    }
+    let tag = bytes[0];
+    let kind = Kind::from_tag(tag);
+    ValueRef::with(kind, content_at(kind.form(), tag == kind.tag() + 1, bytes))
 }
 
 // How many bytes the value takes that begins here.

@@ -9,14 +9,14 @@ ghost use Rattle.bt_rowtype.specs.inside.RecordParts.{fields_in};
 ghost use Rattle.bt_rowtype.specs.Values.{prefix_as, read_as};
 
 use crate::cut::cut_plain;
-use crate::fields::{Place, Record};
+use crate::fields::{FieldsRef, Place};
 use crate::header::are_names;
 use crate::line::RecordLine;
 use crate::op::MOST_OPS;
-use crate::packed_row::Row;
 use crate::reader::unescape;
 use crate::refusal::Refusal;
-use crate::row::{read_prefix, read_values};
+use crate::row::Row;
+use crate::row_reader::{read_prefix, read_values};
 use crate::schema::{Column, Schema};
 use crate::upsert::{Upsert, read_upsert_record};
 use std::alloc::{AllocError, Global};
@@ -42,16 +42,20 @@ impl RecordReader {
     //
     // A text without quotes lends its own bytes, and is cut at its commas; any other, which is dearer, is read byte by byte, by
     // the states of csv's reader.
-    fn read<'a>(&'a mut self, text: &'a [u8], most: usize) -> Result<Option<Record<'a>>, AllocError>
+    fn read<'a>(
+        &'a mut self,
+        text: &'a [u8],
+        most: usize,
+    ) -> Result<Option<FieldsRef<'a>>, AllocError>
         requires { is_some (csv_record text.now) ≡ true }
         ensures few { IfOk result (λ found. IfSome found (λ fields. fields ≡ fields_in text.now)) }
         ensures many { IfOk result (λ found. IfNone found (most < length (fields_in text.now))) }
     {
         if cut_plain(&mut self.places, text, most)? {
-            return Ok(Some(Record::new(text, self.places.as_slice())));
+            return Ok(Some(FieldsRef::new(text, self.places.as_slice())));
         }
         if unescape(&mut self.bytes, &mut self.places, text, most)? {
-            return Ok(Some(Record::new(self.bytes.as_slice(), self.places.as_slice())));
+            return Ok(Some(FieldsRef::new(self.bytes.as_slice(), self.places.as_slice())));
         }
         Ok(None)
     }

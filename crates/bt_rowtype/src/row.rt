@@ -1,111 +1,279 @@
-//! Reading a record as a row or as a key.
-ghost use Rattle.std.specs.Prelude.{◌≡◌, ◌≢◌, ◌≤◌, Err, IfOk, length, take};
-ghost use Rattle.std.specs.Result.{result_map_both};
-ghost use Rattle.bt_rowtype.specs.Answers.{Answers};
-ghost use Rattle.bt_rowtype.specs.Values.{HasText, or_refused, prefix_as, read_as, value_of, values_of};
+//! Rows.
+ghost use Rattle.std.specs.Prelude.{◌≡◌, ◌≤◌, ◌<◌, ◌++◌, ◌∷◌, [], IfOk, OnOk, OnErr, Some, drop, length, slice_get, take};
+ghost use Rattle.bt_rowtype.specs.Arithmetic.{Makes, Sets};
+ghost use Rattle.bt_rowtype.specs.Kinds.{Number, Bytes, Bit};
+ghost use Rattle.bt_rowtype.specs.Ops.{after_action};
+ghost use Rattle.bt_rowtype.specs.Values.{HasBytes, IsInRange};
+ghost use Rattle.bt_rowtype.specs.inside.Packing.{IsPacked, int_bytes, packed, packed_content, packed_value, unpacked};
 ghost use Rattle.bt_rowtype.specs.Views.{shown};
 
-use crate::field::read_value;
-use crate::fields::{Fields, Record};
-use crate::packed_row::Row;
-use crate::refusal::Refusal;
-use crate::schema::{Column, Schema};
-use crate::value::Kind;
-use crate::value_ref::ValueRef;
-use std::alloc::Global;
+use crate::op::Arithmetic;
+use crate::packed::{count, front, offset, tail, value_at, width_at};
+use crate::row_bytes::RowBytes;
+use crate::value::{Content, Value, ValueRef};
+use crate::values::Values;
+use std::alloc::{AllocError, Global};
+use std::marker::Model;
 
-// The value that a field spells, or its refusal as this item.
-pub(crate) fn read_at(kind: Kind, item: u64, field: &[u8]) -> Result<ValueRef<'_>, Refusal>
-    ensures value { result_map_both shown (λ e. e) result ≡ or_refused (Refusal.BadField item) (value_of kind field.now) }
-    ensures text { IfOk result (λ value. HasText (shown value)) }
+/// The values of a row, column by column. A contract sees the list of them.
+///
+/// They lie one after another in one string of bytes: of each the tag of its kind, and behind it the eight bytes of a number, or
+/// the length of bytes and these; a bit is added to the tag. Up to 30 bytes are kept in the row itself, and take no memory of their
+/// own. A row has the size of four words.
+#[derive(Debug, Drop)]
+pub struct Row {
+    bytes: RowBytes,
+}
+
+const _: () = prove!(size_of::<Row>() == 32);
+
+const _: () = prove!(size_of::<Option<Row>>() == 40);
+
+impl Model for Row {
+    ghost use Rattle.std.specs.Prelude.{List};
+    ghost use Rattle.bt_rowtype.specs.declared.value.Value.{Value as value};
+    ghost use Rattle.bt_rowtype.specs.inside.Packing.{IsPacked, unpacked};
+
+    ghost Value = { List value };
+
+    ghost view = { λ a. unpacked a.bytes };
+
+    ghost invariant = { λ a. IsPacked a.bytes };
+}
+
+// The eight bytes of an int.
+#[tactic(auto, unfolding(crate::specs::inside::Packing::int_bytes))]
+fn bytes_of_int(number: i64) -> [u8; 8]
+    ensures { result ≡ int_bytes number }
 {
-    match read_value(kind, field) {
-        Some(value) => Ok(value),
-        None => Err(Refusal::BadField(item)),
+    number.cast_unsigned().to_le_bytes()
+}
+
+// Adds the bytes of a number behind a tag. An `Err` changes nothing.
+#[inline(always)]
+fn add_number(bytes: &mut RowBytes, alloc: Global, tag: u8, number: i64) -> Result<(), AllocError>
+    ensures ok { OnOk result (bytes.new ≡ bytes.old ++ packed_content tag (Number number)) }
+    ensures err { OnErr result (bytes.new ≡ bytes.old) }
+{
+    bytes.push(alloc, &[tag], &bytes_of_int(number))
+}
+
+// Adds bytes behind a tag and their length. An `Err` changes nothing.
+#[inline(always)]
+fn add_bytes(bytes: &mut RowBytes, alloc: Global, tag: u8, more: &[u8]) -> Result<(), AllocError>
+    requires { length more.now ≤ 255 }
+    ensures ok { OnOk result (bytes.new ≡ bytes.old ++ packed_content tag (Bytes more.now)) }
+    ensures err { OnErr result (bytes.new ≡ bytes.old) }
+{
+    bytes.push(alloc, &[tag, more.len() as u8], more)
+}
+
+// Adds the byte of a bit. An `Err` changes nothing.
+#[inline(always)]
+fn add_bit(bytes: &mut RowBytes, alloc: Global, tag: u8, bit: bool) -> Result<(), AllocError>
+    requires { tag < 255 }
+    ensures ok { OnOk result (bytes.new ≡ bytes.old ++ packed_content tag (Bit bit)) }
+    ensures err { OnErr result (bytes.new ≡ bytes.old) }
+{
+    let byte = if bit { tag + 1 } else { tag };
+    bytes.push(alloc, &[byte], &[])
+}
+
+// Adds the bytes of a value. An `Err` changes nothing.
+#[tactic(auto, using(crate::proofs::offered::Kinds::bytes_length, crate::proofs::offered::Kinds::low_tag))]
+fn add_value(bytes: &mut RowBytes, alloc: Global, value: ValueRef<'_>) -> Result<(), AllocError>
+    requires { HasBytes (shown value) }
+    ensures ok { OnOk result (bytes.new ≡ bytes.old ++ packed_value (shown value.entry)) }
+    ensures err { OnErr result (bytes.new ≡ bytes.old) }
+    ensures in_range { IsInRange (shown value.entry) }
+{
+    let tag = value.kind().tag();
+    match value.content() {
+        Content::Number(number) => add_number(bytes, alloc, tag, number),
+        Content::Bytes(more) => add_bytes(bytes, alloc, tag, more),
+        Content::Bit(bit) => add_bit(bytes, alloc, tag, bit),
     }
 }
 
-// The bytes that a value of a kind takes, of which a text has the bytes of its field.
-fn room_of(kind: Kind, field: &[u8]) -> usize {
-    match kind {
-        Kind::Int => 9,
-        Kind::Text => field.len().saturating_add(2),
-        Kind::Flag => 1,
+// How many bytes a value takes.
+#[tactic(auto, using(crate::proofs::Packing::length_int_bytes))]
+pub(crate) fn width_of_value(value: ValueRef<'_>) -> usize
+    ensures { result ≤ length (packed_value (shown value.entry)) }
+{
+    match value.content() {
+        Content::Number(_) => 9,
+        Content::Bytes(bytes) => bytes.len().saturating_add(2),
+        Content::Bit(_) => 1,
     }
 }
 
-// The bytes that values of these columns take.
-fn room_for(columns: &[Column], fields: &Record<'_>) -> usize
-    requires { length columns.now ≤ length fields.now }
+// The bytes with those of a value in place of what stands between two places.
+fn replaced(
+    alloc: Global,
+    bytes: &[u8],
+    at: usize,
+    end: usize,
+    value: ValueRef<'_>,
+) -> Result<RowBytes, AllocError>
+    requires order { at ≤ end }
+    requires within { end ≤ length bytes.now }
+    requires text { HasBytes (shown value) }
+    ensures bytes { IfOk result (λ new. new ≡ take at bytes.now ++ (packed_value (shown value.entry) ++ drop end bytes.now)) }
+    ensures in_range { IfOk result (λ _. IsInRange (shown value.entry)) }
+{
+    let rest = tail(bytes, end);
+    let room = width_of_value(value)
+        .saturating_add(at)
+        .saturating_add(rest.len());
+    let mut new = RowBytes::with_room(alloc, room)?;
+    new.push(alloc, front(bytes, at), &[])?;
+    add_value(&mut new, alloc, value)?;
+    new.push(alloc, rest, &[])?;
+    Ok(new)
+}
+
+impl Row {
+    /// The row of no value.
+    #[tactic(auto, using(crate::proofs::Walks::unpacked_none, crate::proofs::Walks::none_packed))]
+    pub fn new() -> Self
+        ensures { result ≡ [] }
+    {
+        Row {
+            bytes: RowBytes::new(),
+        }
+    }
+
+    // The row of no value, with room for so many bytes.
+    #[tactic(auto, using(crate::proofs::Walks::unpacked_none, crate::proofs::Walks::none_packed))]
+    pub(crate) fn with_room(alloc: Global, room: usize) -> Result<Self, AllocError>
+        ensures { IfOk result (λ row. row ≡ []) }
+    {
+        Ok(Row {
+            bytes: RowBytes::with_room(alloc, room)?,
+        })
+    }
+
+    /// The row of these values.
+    pub fn from_values(alloc: Global, values: &[Value]) -> Result<Self, AllocError>
+        ensures { IfOk result (λ row. row ≡ values.now) }
+    {
+        let mut row = Row::with_room(alloc, room_for(values))?;
+        for value in values {
+            row.push(alloc, value.as_ref())?;
+        }
+        Ok(row)
+    }
+
+    /// Adds a value at the end. An `Err` changes nothing.
+    pub fn push(&mut self, alloc: Global, value: ValueRef<'_>) -> Result<(), AllocError>
+        requires { HasBytes (shown value) }
+        ensures ok { OnOk result (self.new ≡ self.old ++ shown value.entry ∷ []) }
+        ensures err { OnErr result (self.new ≡ self.old) }
+    {
+        add_value(&mut self.bytes, alloc, value)?;
+        Ok(())
+    }
+
+    // The same row, with room for so many bytes more.
+    pub(crate) fn widened(self, alloc: Global, room: usize) -> Result<Self, AllocError>
+        ensures { IfOk result (λ row. row ≡ self) }
+    {
+        let bytes = self.bytes.as_slice();
+        let mut wider = RowBytes::with_room(alloc, bytes.len().saturating_add(room))?;
+        wider.push(alloc, bytes, &[])?;
+        Ok(Row { bytes: wider })
+    }
+
+    // The bytes of the values.
+    pub(crate) fn as_bytes(&self) -> &[u8]
+        ensures packed { IsPacked result.now }
+        ensures values { unpacked result.now ≡ self.now }
+    {
+        self.bytes.as_slice()
+    }
+
+    /// How many values the row has.
+    pub fn len(&self) -> usize
+        ensures { result ≡ length self.now }
+    {
+        count(self.as_bytes())
+    }
+
+    /// The value at a place, counted from 0.
+    pub fn get(&self, place: usize) -> ValueRef<'_>
+        requires { place < length self.now }
+        ensures value { slice_get self.now place ≡ Some (shown result) }
+        ensures in_range { IsInRange (shown result) }
+    {
+        let bytes = self.as_bytes();
+        let at = offset(bytes, place);
+        value_at(bytes, at)
+    }
+
+    /// The values, to go through.
+    pub fn values(&self) -> Values<'_>
+        ensures { result ≡ self.now }
+    {
+        Values::of_bytes(self.as_bytes())
+    }
+
+    /// The first values, or all where there are fewer, to go through.
+    #[tactic(auto, using(crate::proofs::Walks::are_first, crate::proofs::Walks::are_first_packed))]
+    pub fn first_values(&self, count: usize) -> Values<'_>
+        ensures { result ≡ take count self.now }
+    {
+        let bytes = self.as_bytes();
+        let end = offset(bytes, count);
+        Values::of_bytes(front(bytes, end))
+    }
+
+    /// Sets the value at a place, where the row has it. An `Err` changes nothing.
+    pub(crate) fn set(
+        &mut self,
+        alloc: Global,
+        place: usize,
+        value: ValueRef<'_>,
+    ) -> Result<(), AllocError>
+        requires { HasBytes (shown value) }
+        ensures ok { OnOk result (self.new ≡ after_action self.old (Sets place (shown value.entry))) }
+        ensures err { OnErr result (self.new ≡ self.old) }
+    {
+        let bytes = self.bytes.as_slice();
+        let at = offset(bytes, place);
+        if at == bytes.len() {
+            return Ok(());
+        }
+        let end = at + width_at(bytes, at);
+        let new = replaced(alloc, bytes, at, end, value)?;
+        self.bytes = new;
+        Ok(())
+    }
+
+    /// Writes what the int at a place and a number make over it. Any other value stays, and so does a row without that place.
+    pub(crate) fn make(&mut self, arithmetic: Arithmetic, place: usize, number: i64)
+        ensures { self.new ≡ after_action self.old (Makes arithmetic place number) }
+    {
+        self.bytes.make_at(arithmetic, place, number);
+    }
+}
+
+// The bytes that values take.
+#[tactic(auto, using(crate::proofs::Packing::length_packed))]
+fn room_for(values: &[Value]) -> usize
+    ensures { result ≤ length (packed values.now) }
 {
     let mut room: usize = 0;
-    for (place, column) in columns.iter().enumerate() {
-        room = room.saturating_add(room_of(column.kind, fields.get(place)));
+    for value in values {
+        room = room.saturating_add(width_of_value(value.as_ref()));
     }
     room
 }
 
-// The values that the first fields spell, one for each column.
-pub(crate) fn read_fields(
-    alloc: Global,
-    columns: &[Column],
-    item: u64,
-    fields: &Record<'_>,
-) -> Result<Row, Refusal>
-    requires { length columns.now ≤ length fields.now }
-    ensures { Answers (or_refused (Refusal.BadField item) (values_of columns.now (take (length columns.now) fields.now))) result }
+/// A copy of the row.
+pub fn copy_row(alloc: Global, row: &Row) -> Result<Row, AllocError>
+    ensures { IfOk result (λ copy. copy ≡ row.now) }
 {
-    let mut row = Row::with_room(alloc, room_for(columns, fields))?;
-    for (place, column) in columns.iter().enumerate() {
-        row.push(alloc, read_at(column.kind, item, fields.get(place))?)?;
-    }
-    Ok(row)
-}
-
-// The values that fields spell, one for each column.
-pub(crate) fn read_values(
-    alloc: Global,
-    columns: &[Column],
-    item: u64,
-    fields: &Record<'_>,
-) -> Result<Row, Refusal>
-    ensures answer { Answers (read_as columns.now item fields.now) result }
-    ensures certain { length fields.now ≢ length columns.now → result ≡ Err (Refusal.BadLength item) }
-{
-    if fields.len() != columns.len() {
-        return Err(Refusal::BadLength(item));
-    }
-    read_fields(alloc, columns, item, fields)
-}
-
-// The values that fields spell, each by one of the first columns.
-pub(crate) fn read_prefix(
-    alloc: Global,
-    columns: &[Column],
-    item: u64,
-    fields: &Record<'_>,
-) -> Result<Row, Refusal>
-    ensures { Answers (prefix_as columns.now item fields.now) result }
-{
-    if fields.len() == 0 || fields.len() > columns.len() {
-        return Err(Refusal::BadLength(item));
-    }
-    read_fields(alloc, &columns[..fields.len()], item, fields)
-}
-
-/// The row that a record spells, one field for each column. `BadLength` where their number differs, else `BadField` where a
-/// field is no value of its column, both with this item.
-pub fn read_row(alloc: Global, schema: &Schema, item: u64, fields: &Fields) -> Result<Row, Refusal>
-    ensures answer { Answers (read_as schema.now.columns item fields.now) result }
-    ensures certain { length fields.now ≢ length schema.now.columns → result ≡ Err (Refusal.BadLength item) }
-{
-    read_values(alloc, schema.columns(), item, &fields.as_record())
-}
-
-/// The values of the key that a record spells, one field for each key column, refused as in [`read_row`].
-pub fn read_key(alloc: Global, schema: &Schema, item: u64, fields: &Fields) -> Result<Row, Refusal>
-    ensures answer { Answers (read_as (take schema.now.keys schema.now.columns) item fields.now) result }
-    ensures certain { length fields.now ≢ schema.now.keys → result ≡ Err (Refusal.BadLength item) }
-{
-    read_values(alloc, schema.key_columns(), item, &fields.as_record())
+    Ok(Row {
+        bytes: row.bytes.copy(alloc)?,
+    })
 }

@@ -1,11 +1,12 @@
 //! The bytes of a row, of which a few take no memory of their own.
 ghost use Rattle.std.specs.Prelude.{◌≡◌, ◌≤◌, ◌+◌, ◌++◌, [], IfOk, OnOk, OnErr, length, nat_le, take};
-ghost use Rattle.bt_rowtype.specs.Ops.{after_op};
+ghost use Rattle.bt_rowtype.specs.Arithmetic.{Makes};
+ghost use Rattle.bt_rowtype.specs.Ops.{after_action};
 ghost use Rattle.bt_rowtype.specs.inside.Packing.{IsPacked, unpacked};
 ghost use Rattle.bt_rowtype.specs.inside.RowBytes.{FitsInside, bytes_of};
-ghost use Rattle.bt_rowtype.specs.declared.op.Op.TheVariants.{Add};
 
-use crate::addition::add_at;
+use crate::arithmetic::make_at;
+use crate::op::Arithmetic;
 use std::alloc::{AllocError, Global};
 use std::marker::Model;
 
@@ -178,19 +179,19 @@ impl RowBytes {
         }
     }
 
-    /// Adds a number to the int at a place of the values that the bytes are. Any other value stays, and so do values that
-    /// have no such place.
-    pub(crate) fn add_at(&mut self, place: usize, number: i64)
+    /// Writes what the int at a place of the values that the bytes are and a number make over it. Any other value stays, and so
+    /// do values that have no such place.
+    pub(crate) fn make_at(&mut self, arithmetic: Arithmetic, place: usize, number: i64)
         requires { IsPacked self.old }
         ensures packed { IsPacked self.new }
-        ensures values { unpacked self.new ≡ after_op (unpacked self.old) (Add place number) }
+        ensures values { unpacked self.new ≡ after_action (unpacked self.old) (Makes arithmetic place number) }
     {
         match &mut self.kept {
             Kept::Short(short) => {
                 let len = short.len as usize;
-                add_at(&mut short.bytes[..len], place, number)
+                make_at(&mut short.bytes[..len], arithmetic, place, number)
             }
-            Kept::Long(bytes) => add_at(bytes.as_mut_slice(), place, number),
+            Kept::Long(bytes) => make_at(bytes.as_mut_slice(), arithmetic, place, number),
         }
     }
 }

@@ -4,13 +4,11 @@ ghost use Rattle.bt_rowtype.specs.Ops.{named_from};
 ghost use Rattle.bt_rowtype.specs.Schemas.{are_apart, checked_as, fit_columns, fits_kind, has_column as has_column_named, is_schema};
 ghost use Rattle.bt_rowtype.specs.Views.{shown};
 
-use crate::field::is_text;
-use crate::packed_row::Row;
 use crate::refusal::Refusal;
+use crate::row::Row;
 use crate::sequence::Sequence;
 use crate::text::Text;
-use crate::value::Kind;
-use crate::value_ref::ValueRef;
+use crate::value::{Kind, ValueRef};
 use crate::values::Values;
 use std::marker::Model;
 
@@ -132,12 +130,7 @@ fn are_of_columns(columns: &[Column], values: Values<'_>) -> bool
 pub(crate) fn is_of_kind(kind: Kind, value: ValueRef<'_>) -> bool
     ensures { result ≡ fits_kind kind (shown value.entry) }
 {
-    match (kind, value) {
-        (Kind::Int, ValueRef::Int(_)) => true,
-        (Kind::Text, ValueRef::Text(text)) => is_text(text),
-        (Kind::Flag, ValueRef::Flag(_)) => true,
-        _ => false,
-    }
+    value.kind().tag() == kind.tag() && kind.takes(value.content())
 }
 
 fn is_schema_of(columns: &[Column], keys: usize) -> bool

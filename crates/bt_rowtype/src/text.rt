@@ -1,12 +1,13 @@
 //! Texts that contracts see as their bytes, and lists of them.
 ghost use Rattle.std.specs.Prelude.{◌≡◌, ◌≤◌, ◌++◌, ◌∷◌, [], IfOk, OnOk, OnErr, length, map, string_bytes, true};
-ghost use Rattle.bt_rowtype.specs.Texts.{is_text};
+ghost use Rattle.bt_rowtype.specs.Texts.{is_text as is_text_of};
 
 use crate::bytes::Bytes;
 use std::alloc::{AllocError, Global};
 use std::marker::Model;
+use std::str;
 
-/// The most bytes of a text.
+/// The most bytes of a text, and of any value.
 pub const LONGEST_TEXT: usize = 255;
 
 /// A text of at most 255 bytes, as a value, or the name of a column or of a tree. A contract sees its bytes, which are UTF-8.
@@ -38,7 +39,7 @@ impl Text {
 
     /// A copy of the text of these bytes.
     pub fn from_bytes(alloc: Global, bytes: &[u8]) -> Result<Self, AllocError>
-        requires { is_text bytes.now ≡ true }
+        requires { is_text_of bytes.now ≡ true }
         ensures { IfOk result (λ copy. copy ≡ bytes.now) }
     {
         Ok(Text {
@@ -67,9 +68,19 @@ impl Text {
     /// The bytes.
     pub fn as_bytes(&self) -> &[u8]
         ensures value { result.now ≡ self.now }
-        ensures text { is_text self.now ≡ true }
+        ensures text { is_text_of self.now ≡ true }
     {
         self.bytes.as_slice()
+    }
+}
+
+// Whether bytes are a text of a column.
+pub(crate) fn is_text(bytes: &[u8]) -> bool
+    ensures { result ≡ is_text_of bytes.now }
+{
+    match str::from_utf8(bytes) {
+        Ok(_) => bytes.len() <= LONGEST_TEXT,
+        Err(_) => false,
     }
 }
 

@@ -9,14 +9,15 @@ ghost use Rattle.bt_rowtype.specs.Refusals.{least};
 ghost use Rattle.bt_rowtype.specs.Values.{or_refused};
 ghost use Rattle.bt_rowtype.specs.declared.value.Value.{Value};
 
-use crate::fields::{Fields, Record};
+use crate::collected::Collected;
+use crate::fields::{Fields, FieldsRef};
 use crate::int::read_int;
-use crate::op::{MOST_OPS, Op, Ops};
-use crate::packed_row::Row;
-use crate::reading::Reading;
+use crate::op::{Arithmetic, MOST_OPS, Op, Ops};
 use crate::refusal::Refusal;
-use crate::row::{read_at, read_fields};
+use crate::row::Row;
+use crate::row_reader::{read_at, read_fields};
 use crate::schema::{Schema, find_column};
+use crate::text::LONGEST_TEXT;
 use crate::value::Kind;
 use std::alloc::{AllocError, Global};
 
@@ -60,12 +61,20 @@ fn read_set(
     let Some((place, kind)) = find_open_column(schema, name) else {
         return Err(Refusal::NoSuchColumn);
     };
-    Ok(Op::Set(place, read_at(kind, item, argument)?.to_value(alloc)?))
+    let mut room = [0; LONGEST_TEXT];
+    let value = read_at(kind, item, argument, &mut room)?;
+    Ok(Op::Set(place, value.to_value(alloc)?))
 }
 
-// The operation `add` with a column's name and an argument, or its refusal.
-fn read_add(schema: &Schema, item: u64, name: &[u8], argument: &[u8]) -> Result<Op, Refusal>
-    ensures { result ≡ spec.at_column (spec.add_of item argument.now) (spec.open_column schema.now name.now) }
+// The operation that makes a number, with a column's name and an argument, or its refusal.
+fn read_making(
+    arithmetic: Arithmetic,
+    schema: &Schema,
+    item: u64,
+    name: &[u8],
+    argument: &[u8],
+) -> Result<Op, Refusal>
+    ensures { result ≡ spec.at_column (spec.making_of arithmetic item argument.now) (spec.open_column schema.now name.now) }
 {
     let Some((place, kind)) = find_open_column(schema, name) else {
         return Err(Refusal::NoSuchColumn);
@@ -73,7 +82,7 @@ fn read_add(schema: &Schema, item: u64, name: &[u8], argument: &[u8]) -> Result<
     if kind != Kind::Int {
         return Err(Refusal::NotInt);
     }
-    Ok(Op::Add(place, read_number(item, argument)?))
+    Ok(Op::making(arithmetic, place, read_number(item, argument)?))
 }
 
 // The operation of a word, a column's name and an argument, or its one fault.
@@ -91,10 +100,10 @@ fn read_op(
     if word == b"set".as_slice() {
         return read_set(alloc, schema, item, name, argument);
     }
-    if word == b"add".as_slice() {
-        return read_add(schema, item, name, argument);
+    match Arithmetic::from_word(word) {
+        Some(arithmetic) => read_making(arithmetic, schema, item, name, argument),
+        None => Err(Refusal::BadField(item)),
     }
-    Err(Refusal::BadField(item))
 }
 
 // Whether a record has the fields of a key and of 1 to 16 operations.
@@ -113,15 +122,15 @@ fn read_groups(
     alloc: Global,
     schema: &Schema,
     item: u64,
-    fields: &Record<'_>,
-) -> Result<Reading<Op>, AllocError>
+    fields: &FieldsRef<'_>,
+) -> Result<Collected<Op>, AllocError>
     requires { schema.now.keys ≤ length fields.now }
     ensures values { IfOk result (λ read. read.values ≡ filter_map result_ok (spec.ops_of schema.now item (drop schema.now.keys fields.now))) }
     ensures refusal { IfOk result (λ read. read.refusal ≡ least (filter_map result_err (spec.ops_of schema.now item (drop schema.now.keys fields.now)))) }
 {
     let keys = schema.keys();
     let groups = (fields.len() - keys) / 3;
-    let mut reading = Reading::with_capacity(alloc, groups)?;
+    let mut reading = Collected::with_capacity(alloc, groups)?;
     for group in 0..groups {
         let place = keys + 3 * group;
         let (word, name, argument) = (
@@ -140,7 +149,7 @@ fn read_ops_record(
     alloc: Global,
     schema: &Schema,
     item: u64,
-    fields: &Record<'_>,
+    fields: &FieldsRef<'_>,
 ) -> Result<Ops, Refusal>
     ensures answer { Answers (spec.ops_as schema.now item fields.now) result }
     ensures certain { spec.is_upsert schema.now.keys (length fields.now) ≡ false → result ≡ Err (Refusal.BadLength item) }
@@ -152,17 +161,17 @@ fn read_ops_record(
     reading.finish()
 }
 
-/// The operations that the record of an upsert spells: the fields of the key, then 1 to 16 groups of a word, `set` or `add`, the
-/// name of a column and an argument.
+/// The operations that the record of an upsert spells: the fields of the key, then 1 to 16 groups of a word, the name of a column
+/// and an argument. The words are `set`, and `add`, `max` and `min`.
 ///
 /// `BadLength` where the number of fields is another. An operation's one fault is the first of: the word (`BadField`), a column
-/// that is not there or is one of the key (`NoSuchColumn`), `add` to a column that is not int (`NotInt`), the argument
-/// (`BadField`). Of several operations the least is answered.
+/// that is not there or is one of the key (`NoSuchColumn`), a word of a number at a column that is not int (`NotInt`), the
+/// argument (`BadField`). Of several operations the least is answered.
 pub fn read_ops(alloc: Global, schema: &Schema, item: u64, fields: &Fields) -> Result<Ops, Refusal>
     ensures answer { Answers (spec.ops_as schema.now item fields.now) result }
     ensures certain { spec.is_upsert schema.now.keys (length fields.now) ≡ false → result ≡ Err (Refusal.BadLength item) }
 {
-    read_ops_record(alloc, schema, item, &fields.as_record())
+    read_ops_record(alloc, schema, item, &fields.as_ref())
 }
 
 // The values of the key that the first fields spell, or their refusal as this item.
@@ -170,7 +179,7 @@ fn read_key_fields(
     alloc: Global,
     schema: &Schema,
     item: u64,
-    fields: &Record<'_>,
+    fields: &FieldsRef<'_>,
 ) -> Result<Row, Refusal>
     requires { schema.now.keys ≤ length fields.now }
     ensures { Answers (spec.key_as schema.now item fields.now) result }
@@ -183,7 +192,7 @@ fn refusal_with_ops(
     alloc: Global,
     schema: &Schema,
     item: u64,
-    fields: &Record<'_>,
+    fields: &FieldsRef<'_>,
     refusal: Refusal,
 ) -> Refusal
     ensures { result ≢ Refusal.OutOfMemory → spec.both_read {S = List Value} (Err refusal) (spec.ops_as schema.now item fields.now) ≡ Err result }
@@ -200,7 +209,7 @@ pub(crate) fn read_upsert_record(
     alloc: Global,
     schema: &Schema,
     item: u64,
-    fields: &Record<'_>,
+    fields: &FieldsRef<'_>,
 ) -> Result<Upsert, Refusal>
     ensures answer { Answers (spec.upsert_as schema.now item fields.now) (result_map_both (λ upsert. (upsert.key, upsert.ops)) (λ e. e) result) }
     ensures certain { spec.is_upsert schema.now.keys (length fields.now) ≡ false → result ≡ Err (Refusal.BadLength item) }
@@ -229,5 +238,5 @@ pub fn read_upsert(
     ensures answer { Answers (spec.upsert_as schema.now item fields.now) (result_map_both (λ upsert. (upsert.key, upsert.ops)) (λ e. e) result) }
     ensures certain { spec.is_upsert schema.now.keys (length fields.now) ≡ false → result ≡ Err (Refusal.BadLength item) }
 {
-    read_upsert_record(alloc, schema, item, &fields.as_record())
+    read_upsert_record(alloc, schema, item, &fields.as_ref())
 }

@@ -1,6 +1,17 @@
-//! Kinds and values.
+//! Kinds and values. All that is done for single kinds is done here: their forms, their words, the bytes that they take, how a
+//! field of each is read and printed, and their defaults. Everything else goes by the form of a value.
+ghost use Rattle.std.specs.Prelude.{◌≡◌, ◌++◌, IfOk, IfSome, OnOk, OnErr, option_map, true};
+ghost use Rattle.csv.specs.Writing.{default_writer, field_text};
+ghost use Rattle.bt_rowtype.specs.Kinds.{content_of, default_of, form_of, kind_of_word, kind_of, kind_of_tag, tag_of, takes, text_of, value_of, value_with};
+ghost use Rattle.bt_rowtype.specs.Values.{HasBytes, IsInRange, takes_content};
+ghost use Rattle.bt_rowtype.specs.Views.{held, shown};
+
+use crate::binary::{Binary, is_binary, read_binary};
 use crate::copies::TryClone;
-use crate::text::Text;
+use crate::field::{read_flag, read_text};
+use crate::int::read_int;
+use crate::record_writer::{write_binary, write_flag, write_int, write_text};
+use crate::text::{LONGEST_TEXT, Text, is_text};
 use std::alloc::{AllocError, Global};
 
 /// What the values of a column are.
@@ -12,6 +23,19 @@ pub enum Kind {
     Text,
     /// `true` or `false`.
     Flag,
+    /// At most 255 bytes, which a field spells in hexadecimal digits.
+    Bytes,
+}
+
+/// How values of a kind are kept, ordered and coded.
+#[derive(Clone, Copy, Debug, PartialEq, Eq)]
+pub enum Form {
+    /// As a number of 64 bits.
+    Number,
+    /// As bytes, of which there are at most 255.
+    Bytes,
+    /// As a bit.
+    Bit,
 }
 
 /// A value of a column.
@@ -23,6 +47,158 @@ pub enum Value {
     Text(Text),
     /// `true` or `false`.
     Flag(bool),
+    /// At most 255 bytes.
+    Bytes(Binary),
+}
+
+/// A value, whose bytes stay where they are.
+#[derive(Clone, Copy, Debug, Drop)]
+pub enum ValueRef<'a> {
+    /// A whole number of 64 bits with a sign.
+    Int(i64),
+    /// A text: UTF-8 of at most 255 bytes.
+    Text(&'a [u8]),
+    /// `true` or `false`.
+    Flag(bool),
+    /// At most 255 bytes.
+    Bytes(&'a [u8]),
+}
+
+/// What a value holds, in the form of its kind. Its bytes stay where they are.
+#[derive(Clone, Copy, Debug, Drop)]
+pub enum Content<'a> {
+    Number(i64),
+    Bytes(&'a [u8]),
+    Bit(bool),
+}
+
+impl Kind {
+    /// The kind of a word of the language.
+    pub fn from_word(word: &[u8]) -> Option<Self>
+        ensures { result ≡ kind_of_word word.now }
+    {
+        if word == b"int".as_slice() {
+            return Some(Kind::Int);
+        }
+        if word == b"text".as_slice() {
+            return Some(Kind::Text);
+        }
+        if word == b"flag".as_slice() {
+            return Some(Kind::Flag);
+        }
+        if word == b"bytes".as_slice() {
+            return Some(Kind::Bytes);
+        }
+        None
+    }
+
+    /// The form of its values.
+    #[inline(always)]
+    pub fn form(self) -> Form
+        ensures { result ≡ form_of self }
+    {
+        match self {
+            Kind::Int => Form::Number,
+            Kind::Text => Form::Bytes,
+            Kind::Flag => Form::Bit,
+            Kind::Bytes => Form::Bytes,
+        }
+    }
+
+    // The number by which a row keeps it.
+    #[inline(always)]
+    pub(crate) fn tag(self) -> u8
+        ensures { result ≡ tag_of self }
+    {
+        match self {
+            Kind::Int => 0,
+            Kind::Text => 1,
+            Kind::Flag => 2,
+            Kind::Bytes => 4,
+        }
+    }
+
+    // The kind of such a number.
+    #[inline(always)]
+    pub(crate) fn from_tag(tag: u8) -> Self
+        ensures { result ≡ kind_of_tag tag }
+    {
+        match tag {
+            0 => Kind::Int,
+            1 => Kind::Text,
+            4 => Kind::Bytes,
+            _ => Kind::Flag,
+        }
+    }
+
+    // Whether it takes these bytes.
+    fn takes_bytes(self, bytes: &[u8]) -> bool
+        ensures { result ≡ takes self bytes.now }
+    {
+        match self {
+            Kind::Text => is_text(bytes),
+            Kind::Bytes => is_binary(bytes),
+            Kind::Int | Kind::Flag => false,
+        }
+    }
+
+    /// Whether it takes what a value of its form holds: any number, any bit, and of bytes those that are a value of it.
+    pub fn takes(self, content: Content<'_>) -> bool
+        ensures { result ≡ takes_content self (held content.entry) }
+    {
+        match content {
+            Content::Bytes(bytes) => self.takes_bytes(bytes),
+            Content::Number(_) | Content::Bit(_) => true,
+        }
+    }
+
+    // The value of a column in which nothing was set.
+    #[tactic(auto, using(crate::proofs::offered::Texts::no_bytes))]
+    pub(crate) fn default_value<'a>(self) -> ValueRef<'a>
+        ensures value { shown result ≡ default_of self }
+        ensures bytes { HasBytes (shown result) }
+    {
+        match self {
+            Kind::Int => ValueRef::Int(0),
+            Kind::Text => ValueRef::Text(&[]),
+            Kind::Flag => ValueRef::Flag(false),
+            Kind::Bytes => ValueRef::Bytes(&[]),
+        }
+    }
+
+    // The value that a field spells in a column of this kind. Its bytes are lent from the field, or from `room` where the field
+    // spells them.
+    pub(crate) fn read<'a: 'b, 'b>(
+        self,
+        field: &'a [u8],
+        room: &'b mut [u8; LONGEST_TEXT],
+    ) -> Option<ValueRef<'b>>
+        ensures value { option_map shown result ≡ value_of self field.now }
+        ensures bytes { IfSome result (λ value. HasBytes (shown value)) }
+    {
+        match self {
+            Kind::Int => Some(ValueRef::Int(read_int(field)?)),
+            Kind::Text => Some(ValueRef::Text(read_text(field)?)),
+            Kind::Flag => Some(ValueRef::Flag(read_flag(field)?)),
+            Kind::Bytes => Some(ValueRef::Bytes(read_binary(field, room)?)),
+        }
+    }
+}
+
+impl Value {
+    /// The value where it lies.
+    pub fn as_ref(&self) -> ValueRef<'_>
+        ensures value { shown result ≡ self.now }
+        ensures bytes { HasBytes self.now }
+        ensures in_range { IsInRange self.now }
+    {
+        match self {
+            Value::Int(number) => ValueRef::Int(*number),
+            Value::Text(text) => ValueRef::Text(text.as_bytes()),
+            Value::Flag(flag) => ValueRef::Flag(*flag),
+            Value::Bytes(bytes) => ValueRef::Bytes(bytes.as_bytes()),
+        }
+    }
 }
 
 impl TryClone for Value {
@@ -31,6 +207,75 @@ impl TryClone for Value {
             Value::Int(number) => Ok(Value::Int(*number)),
             Value::Text(text) => Ok(Value::Text(text.copy(alloc)?)),
             Value::Flag(flag) => Ok(Value::Flag(*flag)),
+            Value::Bytes(bytes) => Ok(Value::Bytes(bytes.copy(alloc)?)),
+        }
+    }
+}
+
+impl<'a> ValueRef<'a> {
+    /// The value of a kind that holds this, or its default where the kind has another form.
+    #[inline(always)]
+    pub fn with(kind: Kind, content: Content<'a>) -> Self
+        ensures { shown result ≡ value_with kind (held content.entry) }
+    {
+        match (kind, content) {
+            (Kind::Int, Content::Number(number)) => ValueRef::Int(number),
+            (Kind::Text, Content::Bytes(bytes)) => ValueRef::Text(bytes),
+            (Kind::Flag, Content::Bit(flag)) => ValueRef::Flag(flag),
+            (Kind::Bytes, Content::Bytes(bytes)) => ValueRef::Bytes(bytes),
+            (other, _) => other.default_value(),
+        }
+    }
+
+    /// The kind that it is of.
+    #[inline(always)]
+    pub fn kind(self) -> Kind
+        ensures { result ≡ kind_of (shown self.entry) }
+    {
+        match self {
+            ValueRef::Int(_) => Kind::Int,
+            ValueRef::Text(_) => Kind::Text,
+            ValueRef::Flag(_) => Kind::Flag,
+            ValueRef::Bytes(_) => Kind::Bytes,
+        }
+    }
+
+    /// What it holds.
+    #[inline(always)]
+    pub fn content(self) -> Content<'a>
+        ensures { held result ≡ content_of (shown self.entry) }
+    {
+        match self {
+            ValueRef::Int(number) => Content::Number(number),
+            ValueRef::Text(bytes) => Content::Bytes(bytes),
+            ValueRef::Flag(flag) => Content::Bit(flag),
+            ValueRef::Bytes(bytes) => Content::Bytes(bytes),
+        }
+    }
+
+    /// A copy of the value.
+    pub fn to_value(self, alloc: Global) -> Result<Value, AllocError>
+        requires { HasBytes (shown self) }
+        ensures { IfOk result (λ value. value ≡ shown self.entry) }
+    {
+        match self {
+            ValueRef::Int(number) => Ok(Value::Int(number)),
+            ValueRef::Text(text) => Ok(Value::Text(Text::from_bytes(alloc, text)?)),
+            ValueRef::Flag(flag) => Ok(Value::Flag(flag)),
+            ValueRef::Bytes(bytes) => Ok(Value::Bytes(Binary::from_bytes(alloc, bytes)?)),
+        }
+    }
+
+    // Adds the text of the value, as a field of a record.
+    pub(crate) fn write(self, out: &mut Vec<u8>) -> Result<(), AllocError>
+        ensures ok { OnOk result (out.new.items ≡ out.old.items ++ field_text default_writer (text_of (shown self.entry))) }
+        ensures err { OnErr result (out.new.items ≡ out.old.items) }
+    {
+        match self {
+            ValueRef::Int(number) => write_int(out, number),
+            ValueRef::Text(text) => write_text(out, text),
+            ValueRef::Flag(flag) => write_flag(out, flag),
+            ValueRef::Bytes(bytes) => write_binary(out, bytes),
         }
     }
 }

@@ -1,14 +1,14 @@
 //! Going through values, in a list of them or in a row.
 ghost use Rattle.std.specs.Prelude.{◌≡◌, ◌∷◌, ◌==◌, [], Some, IfSome, IfNone, length};
-ghost use Rattle.bt_rowtype.specs.Values.{HasText, IsInRange};
-ghost use Rattle.bt_rowtype.specs.inside.Packing.{IsPacked, first_of, unpacked, width_of};
+ghost use Rattle.bt_rowtype.specs.Values.{HasBytes, IsInRange};
+ghost use Rattle.bt_rowtype.specs.inside.Packing.{IsPacked, unpacked};
 ghost use Rattle.bt_rowtype.specs.inside.Sources.{IsSource, left};
 ghost use Rattle.bt_rowtype.specs.Values as spec;
-ghost use Rattle.bt_rowtype.specs.Views.{shown};
+ghost use Rattle.bt_rowtype.specs.Views.{held, shown};
 
 use crate::packed::{first, tail, width};
-use crate::value::Value;
-use crate::value_ref::ValueRef;
+use crate::value::{Content, Value, ValueRef};
+use std::cmp::Ordering;
 use std::marker::Model;
 
 // Where the values lie.
@@ -59,15 +59,41 @@ fn holds_none(bytes: &[u8]) -> bool
     bytes.is_empty()
 }
 
+// Whether two values hold the same.
+fn same_content(left: Content<'_>, right: Content<'_>) -> bool
+    ensures { result ≡ spec.same_content (held left.entry) (held right.entry) }
+{
+    match (left, right) {
+        (Content::Number(a), Content::Number(b)) => a == b,
+        (Content::Bytes(a), Content::Bytes(b)) => a == b,
+        (Content::Bit(a), Content::Bit(b)) => a == b,
+        _ => false,
+    }
+}
+
 fn same_value(left: ValueRef<'_>, right: ValueRef<'_>) -> bool
     ensures { result ≡ spec.same_value (shown left.entry) (shown right.entry) }
 {
+    left.kind().tag() == right.kind().tag() && same_content(left.content(), right.content())
+}
+
+// The order of what two values of a kind hold.
+fn compare_contents(left: Content<'_>, right: Content<'_>) -> Ordering
+    ensures { result ≡ spec.content_cmp (held left.entry) (held right.entry) }
+{
     match (left, right) {
-        (ValueRef::Int(a), ValueRef::Int(b)) => a == b,
-        (ValueRef::Text(a), ValueRef::Text(b)) => a == b,
-        (ValueRef::Flag(a), ValueRef::Flag(b)) => a == b,
-        _ => false,
+        (Content::Number(a), Content::Number(b)) => a.cmp(&b),
+        (Content::Bytes(a), Content::Bytes(b)) => a.cmp(b),
+        (Content::Bit(a), Content::Bit(b)) => a.cmp(&b),
+        _ => Ordering::Equal,
     }
+}
+
+/// The order of two values of a kind: ints by size, texts and bytes byte by byte, `false` before `true`.
+pub fn compare_values(left: ValueRef<'_>, right: ValueRef<'_>) -> Ordering
+    ensures { result ≡ spec.value_cmp (shown left.entry) (shown right.entry) }
+{
+    compare_contents(left.content(), right.content())
 }
 
 /// Whether values are the same, one by one.
@@ -128,7 +154,7 @@ impl<'a> Values<'a> {
     /// The next value, if one is left.
     pub fn next(&mut self) -> Option<ValueRef<'a>>
         ensures some { IfSome result (λ value. self.old ≡ shown value ∷ self.new) }
-        ensures text { IfSome result (λ value. HasText (shown value)) }
+        ensures text { IfSome result (λ value. HasBytes (shown value)) }
         ensures none { IfNone result ((self.old ≡ []) × (self.new ≡ [])) }
     {
         match self.source {

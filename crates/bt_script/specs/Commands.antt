@@ -2,6 +2,7 @@
 use Rattle.std.specs.Prelude.{ℕ, ◌≡◌, ◌==◌, ◌&&◌, ◌<◌, ◌≤◌, ◌+◌, ◌-◌, not, Bool, List, [], ◌∷◌, ◌++◌, length, map, filter, take, drop, get_or, nat_le, Option, Some, None, Result, Ok, Err, if◌then◌else◌, codes, option_and_then, option_map, is_some, is_none, fold, ⊤}
 use Rattle.std.specs.List.{slice_split}
 use Rattle.std.specs.Cmp.Lexicographic.{pointwise}
+use Rattle.bt_rowtype.specs.Kinds.{kind_of_word}
 use Rattle.bt_rowtype.specs.Records.{record_of}
 use Rattle.bt_rowtype.specs.declared.filter.Filter.{Filter}
 use Rattle.bt_rowtype.specs.declared.filter.Test.{Test}
@@ -9,8 +10,6 @@ use Rattle.bt_rowtype.specs.declared.filter.Test.TheVariants as test
 use Rattle.bt_rowtype.specs.declared.refusal.Refusal.{Refusal}
 use Rattle.bt_rowtype.specs.declared.refusal.Refusal.TheVariants.{Syntax, Unfinished}
 use Rattle.bt_rowtype.specs.declared.schema.Column.{Column}
-use Rattle.bt_rowtype.specs.declared.value.Kind.{Kind}
-use Rattle.bt_rowtype.specs.declared.value.Kind.TheVariants as kind
 use Rattle.bt_script.specs.Lines.{behind_words, is_blank, is_name, lines, name_of_word, number_of_word, text_of_lines, without_return, without_spaces, words}
 use Rattle.bt_script.specs.declared.command.Capacity.{Capacity}
 use Rattle.bt_script.specs.declared.command.Capacity.TheVariants.{Bytes, Messages}
@@ -60,12 +59,6 @@ is_blank_line line = is_blank (without_return line)
 -- the messages of a batch: one of each line that is not blank
 unfoldable pub items_of : List (List ℕ) → Option (List Item)
 items_of block = all_some (map item_of_line (filter (λ line. not (is_blank_line line)) block))
-
--- the kind that a word names
-abbrev pub kind_of_word : List ℕ → Option Kind
-kind_of_word word =
-    if is_word word (codes "int") then Some kind.Int
-    else (if is_word word (codes "text") then Some kind.Text else (if is_word word (codes "flag") then Some kind.Flag else None))
 
 -- a column: its name, a colon and its kind
 abbrev pub column_from : List (List ℕ) → Option Column

@@ -35,7 +35,7 @@ rows_of_words words = matches_of betable words
 abbrev pub number_given : Text → ℕ → List Text → ℕ
 number_given name default words = unwrap_or (option_map (λ text. digits_value 10 (without_leading_plus text)) (first_of name (rows_of_words words))) default
 
--- sizes that a crew may have: 1 to 64 workers, a cut of 1 to 3, a grain of 1 to 65,536
+-- sizes that a crew may have: 1 to 64 workers, a cut of 1 to 6, a grain of 1 to 65,536
 abbrev pub AreWithinLimits : ℕ → ℕ → ℕ → Type 0
 AreWithinLimits workers cut grain = IsCrew workers cut grain
 

@@ -13,21 +13,6 @@ use crate::load::BlockText;
 use bt_rowtype::{Bytes, Column, Columns, Filter, Kind, Test, Text, Texts};
 use std::alloc::{AllocError, Global};
 
-fn parse_kind(word: &[u8]) -> Option<Kind>
-    ensures { result ≡ spec.kind_of_word word.now }
-{
-    if is_word(word, b"int") {
-        return Some(Kind::Int);
-    }
-    if is_word(word, b"text") {
-        return Some(Kind::Text);
-    }
-    if is_word(word, b"flag") {
-        return Some(Kind::Flag);
-    }
-    None
-}
-
 // A column: its name, a colon and its kind.
 #[tactic(auto, unfolding(crate::specs::Commands::column_of))]
 fn parse_column(alloc: Global, word: &[u8]) -> Result<Option<Column>, AllocError>
@@ -37,7 +22,7 @@ fn parse_column(alloc: Global, word: &[u8]) -> Result<Option<Column>, AllocError
     if parts.len() != 2 {
         return Ok(None);
     }
-    let Some(kind) = parse_kind(word_at(&parts, 1)) else {
+    let Some(kind) = Kind::from_word(word_at(&parts, 1)) else {
         return Ok(None);
     };
     match parse_name(alloc, word_at(&parts, 0))? {

@@ -62,7 +62,7 @@ const WORKERS_HELP: &str =
     "Works in N threads, 1 to 64 (default 4); take 1 for scripts of small batches";
 
 const CUT_HELP: &str =
-    "Cuts trees into jobs at depth D, 1 to 3 (default 2); take 3 for more, smaller jobs; changes no reply";
+    "Cuts trees into jobs at depth D, 1 to 6 (default 2); take more for more, smaller jobs; changes no reply";
 
 const GRAIN_HELP: &str =
     "Works packets of fewer than G messages in one thread, 1 to 65536 (default 64); changes no reply";

@@ -1,21 +1,22 @@
 -- Worked calls, computed by the definitions themselves. Serves as a test of the definitions.
 use Rattle.std.proofs.Common.{ℕ, List, [], ◌∷◌, ◌≡◌, true, false, refl, codes}
-use Rattle.std.specs.Prelude.{Result, Ok, Err, Some, None, pos}
+use Rattle.std.specs.Prelude.{Result, Ok, Err, Some, None, map, pos, ◌+◌}
 use Rattle.bt_rowtype.specs.Schemas.{Schema}
 use Rattle.bt_rowtype.specs.declared.refusal.Refusal.{Refusal}
-use Rattle.bt_rowtype.specs.declared.refusal.Refusal.TheVariants.{AlreadyComplete, BadField, BadLength, Building, Failed, NoSuchTree}
+use Rattle.bt_rowtype.specs.declared.refusal.Refusal.TheVariants.{AlreadyComplete, BadField, BadLength, Building, Failed, NoSuchTree, TooMany}
 use Rattle.bt_rowtype.specs.declared.value.Kind.TheVariants as kind
 use Rattle.bt_rowtype.specs.declared.value.Value.TheVariants as value
 use Rattle.bt_rowtype.proofs.offered.OnLiterals.{rowtype_on_literals}
 use Rattle.bt_keycode.specs.Codes.{eight_bytes}
 use Rattle.bt_messages.specs.declared.measure.Measure.TheVariants as measures
 use Rattle.bt_rowtype.specs.declared.item.Item.TheVariants.{Put, Del, Ups}
+use Rattle.bt_gang.specs.Numbers.{below}
 use Rattle.bt_table.specs.Batches.{made}
 use Rattle.bt_fanout.specs.Entries.{Definition}
 use Rattle.bt_table.specs.Calls.{Call, Apply, BuildStep, CreateIndex, Get, Load, step, tree_named}
 use Rattle.bt_table.specs.Tables.{TableState, Intact, Lost, empty_table}
 use Rattle.bt_table.specs.declared.reply.Reply.{Reply}
-use Rattle.bt_table.specs.declared.reply.Reply.TheVariants.{Batch, Built, Row}
+use Rattle.bt_table.specs.declared.reply.Reply.TheVariants.{Batch, Built, Created, Row}
 
 -- a key, and a number of each
 abbrev stock : Schema
@@ -133,3 +134,17 @@ by_cover = refl
 pub load_beside : answered [] (Load (codes "id,qty\n")) ≡ Err Building
 unfolding eight_bytes rowtype_on_literals
 load_beside = refl
+
+-- ---- the limit of indexes
+
+-- so many indexes, each named by a letter
+abbrev creations : ℕ → List Call
+creations n = map (λ letter. CreateIndex ((97 + letter) ∷ []) numbers) (below n)
+
+pub sixteenth_index : reply_of (after empty (creations 15)) (CreateIndex q numbers) ≡ Ok (Created q)
+unfolding eight_bytes rowtype_on_literals
+sixteenth_index = refl
+
+pub seventeenth_index : reply_of (after empty (creations 16)) (CreateIndex q numbers) ≡ Err TooMany
+unfolding eight_bytes rowtype_on_literals
+seventeenth_index = refl

@@ -11,7 +11,7 @@ ghost use Rattle.bt_rowtype.specs.declared.item.Item.TheVariants as line;
 use bt_keycode::{Key, encode_row};
 use bt_messages::Message;
 use bt_rowtype::{
-    Change, Item, Reading, RecordLine, RecordReader, Refusal, Row, Schema, Upsert, default_row,
+    Change, Collected, Item, RecordLine, RecordReader, Refusal, Row, Schema, Upsert, default_row,
     least_with,
 };
 use std::alloc::{AllocError, Global};
@@ -94,12 +94,12 @@ fn read_batch(
     alloc: Global,
     schema: &Schema,
     items: &[Item<'_>],
-) -> Result<Reading<(Key, Message<Row>)>, AllocError>
+) -> Result<Collected<(Key, Message<Row>)>, AllocError>
     ensures messages { IfOk result (λ read. read.values ≡ spec.messages_of schema.now items.now) }
     ensures refusal { IfOk result (λ read. read.refusal ≡ least (filter_map result_err (spec.read_batch schema.now 1 items.now))) }
 {
     let mut reader = RecordReader::new(alloc);
-    let mut reading = Reading::new(alloc);
+    let mut reading = Collected::new(alloc);
     for (place, line) in items.iter().enumerate() {
         reading.add(read_message(alloc, &mut reader, schema, place as u64 + 1, line))?;
     }
@@ -154,7 +154,7 @@ pub fn read_messages(
     if items.len() > MOST_MESSAGES {
         return Err(refuse_many(alloc, schema, items)?);
     }
-    let Reading { values, refusal } = read_batch(alloc, schema, items)?;
+    let Collected { values, refusal } = read_batch(alloc, schema, items)?;
     match refusal {
         Some(refusal) => Err(refusal),
         None => Ok(values.into_vec()),

@@ -28,7 +28,7 @@ use std::marker::Model;
 use std::thread::Threads;
 
 /// The most indexes of a table.
-pub const MOST_INDEXES: usize = 8;
+pub const MOST_INDEXES: usize = 16;
 
 /// Rows of a schema in a tree, under the codes of their keys, and secondary indexes of them; or no trees, once they were lost when
 /// memory was wanting.
@@ -217,7 +217,8 @@ impl Table {
         if is_name_of_rows(name) || found.is_some() {
             return Err(Refusal::NameTaken);
         }
-        if self.heads.len() >= MOST_INDEXES {
+        let is_full = self.heads.len() >= MOST_INDEXES;
+        if is_full {
             return Err(Refusal::TooMany);
         }
         Ok(())

@@ -1,42 +1,53 @@
 -- Which values a key is the code of, and that there are none where it is no code. Serves the rows that entries show.
-use Rattle.std.proofs.Common.{◌≡◌, ◌∙◌, ◌&&◌, Bool, true, false, true≢false, List, [], ◌∷◌, Option, Some, None, refl, sym, ap, arith, map, negsuc, pos, if◌then◌else◌}
+use Rattle.std.proofs.Common.{◌≡◌, ◌∙◌, ◌&&◌, Bool, true, false, true≢false, List, [], ◌∷◌, Option, Some, None, refl, sym, ap, subst, arith, map, negsuc, pos, if◌then◌else◌}
 use Rattle.std.proofs.lemmas.Bool.Decides.{nat_tests}
 use Rattle.std.proofs.lemmas.Slice.Eq.{bytes_eq-Decides}
 use Rattle.std.specs.Cmp.Lexicographic.{pointwise}
 use Rattle.std.specs.Prelude.{option_and_then}
 use Rattle.std.specs.Str.{bytes_eq}
-use Rattle.bt_rowtype.specs.Values.{AreInRange, IsInRange}
+use Rattle.bt_rowtype.specs.Kinds.{Content, Number, Bytes, Bit, content_of}
+use Rattle.bt_rowtype.specs.Schemas.{fits_kind}
+use Rattle.bt_rowtype.specs.Values.{AreInRange, IsInRange, LiesInRange, same_kind, takes_content}
 use Rattle.bt_rowtype.specs.declared.value.Kind.{Kind}
-use Rattle.bt_rowtype.specs.declared.value.Kind.TheVariants as kind
 use Rattle.bt_rowtype.specs.declared.value.Value.{Value}
-use Rattle.bt_rowtype.specs.declared.value.Value.TheVariants as value
+use Rattle.bt_rowtype.proofs.offered.Kinds.{fits_kind_of, same_kind-itself}
 use Rattle.bt_keycode.specs.Codes.{IsCodeOf, IsNoCode, code_of, kind_of}
 use Rattle.bt_keycode.specs.inside.Decoding.{decoded}
 use Rattle.bt_keycode.specs.Keys.{Key}
 use Rattle.bt_keycode.proofs.offered.Decoded.{decoded_again}
-use Rattle.bt_view.specs.inside.Entries.{if_coded, is_of_kind, values_coded}
+use Rattle.bt_view.specs.inside.Entries.{has_bits, if_coded, is_of_kind, values_coded}
 
 pub both_true : (a b : Bool) → (a && b) ≡ true → (a ≡ true) × (b ≡ true)
 both_true true b is = (refl, is)
 both_true false b is = absurd (true≢false (sym is))
 
+-- what a kind takes lies in its range, and what lies in its range is taken
+ranges_taken : (k : Kind) (c : Content) → takes_content k c ≡ true → has_bits c ≡ true → LiesInRange k c
+ranges_taken k (Number (pos n)) taken low = record { sfits = grind (arith, nat_tests) }
+ranges_taken k (Number (negsuc n)) taken low = record { sfits = grind (arith, nat_tests) }
+ranges_taken k (Bytes bytes) taken low = taken
+ranges_taken k (Bit bit) taken low = tt
+
+taken_ranges : (k : Kind) (c : Content) → LiesInRange k c → (takes_content k c ≡ true) × (has_bits c ≡ true)
+taken_ranges k (Number (pos n)) range = (refl, (let low = range.sfits in grind (arith, nat_tests)))
+taken_ranges k (Number (negsuc n)) range = (refl, (let low = range.sfits in grind (arith, nat_tests)))
+taken_ranges k (Bytes bytes) range = (range, refl)
+taken_ranges k (Bit bit) range = (refl, refl)
+
 of_kind : (k : Kind) (v : Value) → is_of_kind k v ≡ true → (kind_of v ≡ k) × IsInRange v
-of_kind kind.Int (value.Int (pos n)) is = (refl, record { sfits = grind (arith, nat_tests) })
-of_kind kind.Int (value.Int (negsuc n)) is = (refl, record { sfits = grind (arith, nat_tests) })
-of_kind kind.Int (value.Text bytes) is = absurd (true≢false (sym is))
-of_kind kind.Int (value.Flag flag) is = absurd (true≢false (sym is))
-of_kind kind.Text (value.Int n) is = absurd (true≢false (sym is))
-of_kind kind.Text (value.Text bytes) is = (refl, is)
-of_kind kind.Text (value.Flag flag) is = absurd (true≢false (sym is))
-of_kind kind.Flag (value.Int n) is = absurd (true≢false (sym is))
-of_kind kind.Flag (value.Text bytes) is = absurd (true≢false (sym is))
-of_kind kind.Flag (value.Flag flag) is = (refl, tt)
+of_kind k v is =
+    let both = both_true (fits_kind k v) (has_bits (content_of v)) is in
+    let kind : kind_of v ≡ k = fits_kind_of k v both.0 in
+    let taken = (both_true (same_kind (kind_of v) k) (takes_content k (content_of v)) both.0).1 in
+    (kind, subst (λ j. LiesInRange j (content_of v)) (sym kind) (ranges_taken k (content_of v) taken both.1))
+
+all_true : (a b c : Bool) → a ≡ true → b ≡ true → c ≡ true → ((a && b) && c) ≡ true
+all_true a b c p q r = rw (p, q, r) refl
 
 own_kind : (v : Value) → IsInRange v → is_of_kind (kind_of v) v ≡ true
-own_kind (value.Int (pos n)) range = let low = range.sfits in grind (arith, nat_tests)
-own_kind (value.Int (negsuc n)) range = let low = range.sfits in grind (arith, nat_tests)
-own_kind (value.Text bytes) range = range
-own_kind (value.Flag flag) range = refl
+own_kind v range =
+    let both = taken_ranges (kind_of v) (content_of v) range in
+    all_true (same_kind (kind_of v) (kind_of v)) (takes_content (kind_of v) (content_of v)) (has_bits (content_of v)) (same_kind-itself (kind_of v)) both.0 both.1
 
 of_kinds : (kinds : List Kind) (values : List Value) → pointwise is_of_kind kinds values ≡ true → (map kind_of values ≡ kinds) × AreInRange values
 of_kinds [] [] is = (refl, tt)

@@ -2,14 +2,14 @@
 use Rattle.std.specs.Prelude.{ℕ, ◌-◌, ◌^◌, min, List, [], ◌∷◌, ◌++◌, length, map, flat_map, get_or, codes, decimal, Result}
 use Rattle.bt_rowtype.specs.Records.{record_text}
 use Rattle.bt_rowtype.specs.Values.{text_of}
-use Rattle.bt_rowtype.specs.Ops.{Change}
+use Rattle.bt_rowtype.specs.Arithmetic.{action_of}
+use Rattle.bt_rowtype.specs.Ops.{Change, argument_of, place_in, word_in}
 use Rattle.bt_rowtype.specs.declared.op.Op.{Op}
-use Rattle.bt_rowtype.specs.declared.op.Op.TheVariants.{Set, Add}
 use Rattle.bt_rowtype.specs.declared.refusal.Refusal.{Refusal}
 use Rattle.bt_rowtype.specs.declared.schema.Column.{Column}
 use Rattle.bt_rowtype.specs.declared.value.Value.{Value}
 use Rattle.bt_rowtype.specs.declared.value.Value.TheVariants as value
-use Rattle.bt_keycode.specs.Hex.{hex_text}
+use Rattle.bt_rowtype.specs.Hex.{hex_text}
 use Rattle.bt_messages.specs.declared.message.Message.{Message}
 use Rattle.bt_messages.specs.declared.message.Message.TheVariants as message
 use Rattle.bt_keycode.specs.Keys.{Key}
@@ -88,8 +88,7 @@ row_text values = codes " " ++ record_text (map text_of values)
 
 -- an operation as values: its word, the name of its column among these, its argument
 abbrev pub values_of_op : List Column → Op → List Value
-values_of_op columns (Set place new) = value.Text (codes "set") ∷ value.Text (get_or (map (λ c. c.name) columns) place []) ∷ new ∷ []
-values_of_op columns (Add place n) = value.Text (codes "add") ∷ value.Text (get_or (map (λ c. c.name) columns) place []) ∷ value.Int n ∷ []
+values_of_op columns op = value.Text (word_in (action_of op)) ∷ value.Text (get_or (map (λ c. c.name) columns) (place_in (action_of op)) []) ∷ argument_of op ∷ []
 
 -- the operations of a change of a row with these columns, as one record
 abbrev pub change_text : List Column → Change → List ℕ

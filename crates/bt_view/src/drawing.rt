@@ -4,7 +4,7 @@ ghost use Rattle.bt_rowtype.specs.declared.value.Value.TheVariants as value;
 ghost use Rattle.bt_view.specs.Images as spec;
 
 use bt_messages::{Entry, Merge};
-use bt_rowtype::{Change, Column, LONGEST_TEXT, Op, Row, Text, TryClone, Value, write_row};
+use bt_rowtype::{Change, Column, LONGEST_TEXT, Op, Row, Text, Value, write_row};
 use std::alloc::{AllocError, Global};
 
 /// How the values of a tree are drawn, each behind the key of its line.
@@ -86,17 +86,9 @@ fn add_op(
 ) -> Result<(), AllocError>
     ensures { OnOk result (values.new.items ≡ values.old.items ++ spec.values_of_op columns.now op.now) }
 {
-    match op {
-        Op::Set(place, new) => {
-            let name = name_at(alloc, columns, *place)?;
-            let argument = new.try_clone(alloc)?;
-            push_op(alloc, values, "set", name, argument)
-        }
-        Op::Add(place, number) => {
-            let name = name_at(alloc, columns, *place)?;
-            push_op(alloc, values, "add", name, Value::Int(*number))
-        }
-    }
+    let name = name_at(alloc, columns, op.place())?;
+    let argument = op.argument().to_value(alloc)?;
+    push_op(alloc, values, op.word(), name, argument)
 }
 
 // Operations on these columns as values.

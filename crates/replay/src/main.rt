@@ -11,7 +11,7 @@ use std::sync::Wait;
 use std::thread::Threads;
 
 // The workers, the cut and the grain of each crew. The first works packets of a batch without jobs, the others each packet in jobs.
-const CREWS: [[usize; 3]; 4] = [[1, 1, 65_536], [1, 3, 1], [2, 2, 1], [7, 1, 1]];
+const CREWS: [[usize; 3]; 5] = [[1, 1, 65_536], [1, 3, 1], [2, 2, 1], [7, 1, 1], [7, 6, 1]];
 
 fn crew_of([workers, cut, grain]: [usize; 3]) -> Result<Crew<NoGate>> {
     match Crew::new(workers, cut, grain, NoGate) {

@@ -8,6 +8,7 @@ ghost use Rattle.bt_plan.specs.Views.{place_of};
 ghost use Rattle.replay_cuts.specs.Turns.{AreInOrder, AreOdd, AreRun};
 
 use arrayvec::ArrayVec;
+use bt_gang::DEEPEST_CUT;
 use bt_gather::{FillError, Misfit, fill, run_job};
 use bt_messages::{Merge, Packet};
 use bt_node::{Shape, Siblings, Tree};
@@ -106,7 +107,7 @@ pub(crate) fn misfit_of<V: Merge>(
     depth: usize,
     odd: Odd,
 ) -> Result<Option<(Misfit, Vec<(Place, Siblings<V>)>)>, AllocError>
-    requires { (1 ≤ depth) × (depth ≤ 3) }
+    requires { (1 ≤ depth) × (depth ≤ DEEPEST_CUT) }
 {
     let shape = tree.shape();
     let (holed, jobs) = cut(alloc, 0, tree, packet, depth, Mode::Absorb)?;

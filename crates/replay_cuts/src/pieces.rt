@@ -6,6 +6,7 @@ ghost use Rattle.bt_plan.specs.Cuts.{all_done};
 ghost use Rattle.bt_plan.specs.Views.{job_of};
 ghost use Rattle.replay_cuts.specs.Turns.{AreInOrder, AreTurned};
 
+use bt_gang::DEEPEST_CUT;
 use bt_gather::{FillError, fill, run_job};
 use bt_messages::{Merge, Packet};
 use bt_node::{Shape, Siblings, Tree, crown};
@@ -63,7 +64,7 @@ pub(crate) fn in_pieces<V: Merge>(
     mode: Mode,
     turn: Turn,
 ) -> Result<Tree<V>, FillError<V>>
-    requires { (1 ≤ depth) × (depth ≤ 3) }
+    requires { (1 ≤ depth) × (depth ≤ DEEPEST_CUT) }
 {
     let shape = tree.shape();
     let (holed, jobs) = cut(alloc, 0, tree, packet, depth, mode)?;

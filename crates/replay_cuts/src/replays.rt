@@ -7,6 +7,7 @@ use crate::odd::{Odd, misfit_of};
 use crate::pieces::{Turn, in_pieces};
 use crate::tree_text::{height, tree_text};
 use anyhow::{Result, bail};
+use bt_gang::DEEPEST_CUT;
 use bt_gather::{FillError, Misfit};
 use bt_messages::Packet;
 use bt_node::{Siblings, Tree};
@@ -71,7 +72,7 @@ pub(crate) fn divided(
     mode: Mode,
     turn: Turn,
 ) -> Result<Tree<Row>>
-    requires { (1 ≤ depth) × (depth ≤ 3) }
+    requires { (1 ≤ depth) × (depth ≤ DEEPEST_CUT) }
 {
     match in_pieces(alloc, tree, packet, depth, mode, turn) {
         Ok(tree) => Ok(tree),
@@ -88,7 +89,7 @@ fn flushed<R: AllocGlobal + Threads + Wait + Sync>(
     mode: Mode,
     way: Way,
 ) -> Result<Tree<Row>>
-    requires { (1 ≤ depth) × (depth ≤ 3) }
+    requires { (1 ≤ depth) × (depth ≤ DEEPEST_CUT) }
 {
     let alloc = rt.alloc();
     match way {
@@ -162,7 +163,7 @@ fn after<R: AllocGlobal + Threads + Wait + Sync>(
     mode: Mode,
     way: Way,
 ) -> Result<Compared>
-    requires { (1 ≤ depth) × (depth ≤ 3) }
+    requires { (1 ≤ depth) × (depth ≤ DEEPEST_CUT) }
 {
     let alloc = rt.alloc();
     let Compared {
@@ -202,7 +203,7 @@ fn after_batch<R: AllocGlobal + Threads + Wait + Sync>(
     depth: usize,
     way: Way,
 ) -> Result<Compared>
-    requires { (1 ≤ depth) × (depth ≤ 3) }
+    requires { (1 ≤ depth) × (depth ≤ DEEPEST_CUT) }
 {
     match two_packets(rt.alloc(), table, items) {
         Ok(Some(packets)) => after(rt, trees, packets, depth, Mode::Absorb, way),
@@ -221,7 +222,7 @@ fn drained_height<R: AllocGlobal + Threads + Wait + Sync>(
     depth: usize,
     way: Way,
 ) -> Result<u64>
-    requires { (1 ≤ depth) × (depth ≤ 3) }
+    requires { (1 ≤ depth) × (depth ≤ DEEPEST_CUT) }
 {
     let alloc = rt.alloc();
     let none = (Packet::new(alloc), Packet::new(alloc));
@@ -241,7 +242,7 @@ fn compare<R: AllocGlobal + Threads + Wait + Sync>(
     depth: usize,
     way: Way,
 ) -> Result<u64>
-    requires { (1 ≤ depth) × (depth ≤ 3) }
+    requires { (1 ≤ depth) × (depth ≤ DEEPEST_CUT) }
 {
     let alloc = rt.alloc();
     let mut trees = Compared {
@@ -291,7 +292,7 @@ fn jobs_text(alloc: Global, jobs: &[Job<Row>]) -> Result<String> {
 
 // The jobs of the last batch.
 fn last_jobs(alloc: Global, table: &Batches<'_>, depth: usize) -> Result<Vec<Job<Row>>>
-    requires { (1 ≤ depth) × (depth ≤ 3) }
+    requires { (1 ≤ depth) × (depth ≤ DEEPEST_CUT) }
 {
     let (tree, packet) = before_last(alloc, table)?;
     let (holed, jobs) = cut(alloc, 0, tree, packet, depth, Mode::Absorb)?;
@@ -301,7 +302,7 @@ fn last_jobs(alloc: Global, table: &Batches<'_>, depth: usize) -> Result<Vec<Job
 
 // Prints the jobs of the last batch.
 fn print_jobs<R: Print + AllocGlobal>(rt: &R, table: &Batches<'_>, depth: usize) -> Result<()>
-    requires { (1 ≤ depth) × (depth ≤ 3) }
+    requires { (1 ≤ depth) × (depth ≤ DEEPEST_CUT) }
 {
     let alloc = rt.alloc();
     let jobs = last_jobs(alloc, table, depth)?;
@@ -353,7 +354,7 @@ fn compare_all<R: AllocGlobal + Threads + Wait + Sync>(
     table: &Batches<'_>,
     depth: usize,
 ) -> Result<u64>
-    requires { (1 ≤ depth) × (depth ≤ 3) }
+    requires { (1 ≤ depth) × (depth ≤ DEEPEST_CUT) }
 {
     compare(rt, table, depth, Way::Alone(Turn::Rising))?;
     for workers in CREWS {
@@ -369,11 +370,11 @@ fn replay_batches<R: Print + AllocGlobal + Threads + Wait + Sync>(
     table: &Batches<'_>,
 ) -> Result<()> {
     let mut highest = 1;
-    for depth in 1..4usize {
+    for depth in 1..DEEPEST_CUT + 1 {
         highest = compare_all(rt, table, depth)?;
     }
     println!(rt; "{name}: height {highest}")?;
-    for depth in 1..4usize {
+    for depth in 1..DEEPEST_CUT + 1 {
         print_jobs(rt, table, depth)?;
     }
     for odd in ODD {

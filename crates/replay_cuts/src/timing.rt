@@ -5,6 +5,7 @@ use crate::batches::Batches;
 use crate::pieces::Turn;
 use crate::replays::divided;
 use anyhow::Result;
+use bt_gang::DEEPEST_CUT;
 use bt_messages::Packet;
 use bt_node::Tree;
 use bt_plan::Mode;
@@ -18,7 +19,7 @@ const ROUNDS: usize = 9;
 
 // A tree after a flush: as a whole at depth 0, else in pieces.
 fn flushed(alloc: Global, tree: Tree<Row>, packet: Packet<Row>, depth: usize) -> Result<Tree<Row>>
-    requires { depth ≤ 3 }
+    requires { depth ≤ DEEPEST_CUT }
 {
     if depth == 0 {
         return Ok(tree.sink(alloc, packet)?);
@@ -33,7 +34,7 @@ fn timed<R: Clock + AllocGlobal>(
     packet: Packet<Row>,
     depth: usize,
 ) -> Result<(Tree<Row>, Duration)>
-    requires { depth ≤ 3 }
+    requires { depth ≤ DEEPEST_CUT }
 {
     let start = match Instant::now(rt) {
         Ok(start) => start,
@@ -55,7 +56,7 @@ fn timed<R: Clock + AllocGlobal>(
 
 // The time of all flushes of a script.
 fn time_once<R: Clock + AllocGlobal>(rt: &R, table: &Batches<'_>, depth: usize) -> Result<Duration>
-    requires { depth ≤ 3 }
+    requires { depth ≤ DEEPEST_CUT }
 {
     let alloc = rt.alloc();
     let mut tree = Tree::empty(alloc, table.shape());
@@ -71,7 +72,7 @@ fn time_once<R: Clock + AllocGlobal>(rt: &R, table: &Batches<'_>, depth: usize) 
     Ok(time)
 }
 
-// The least time of all flushes of a script at each depth, of some rounds in each of which all depths take their turn.
+// The least time of all flushes of a script at each depth up to 3, of some rounds in each of which all depths take their turn.
 fn least_times<R: Clock + AllocGlobal>(rt: &R, table: &Batches<'_>) -> Result<[Duration; 4]> {
     let mut least = [Duration::MAX; 4];
     for _ in 0..ROUNDS {
@@ -82,7 +83,7 @@ fn least_times<R: Clock + AllocGlobal>(rt: &R, table: &Batches<'_>) -> Result<[D
     Ok(least)
 }
 
-/// Prints how long all flushes of a script take, as a whole, which is depth 0, and at each depth.
+/// Prints how long all flushes of a script take, as a whole, which is depth 0, and at each depth up to 3.
 pub(crate) fn time<R: Clock + Print + AllocGlobal>(rt: &R, script: &[u8]) -> Result<()> {
     let table = Batches::read(rt.alloc(), script)?;
     let least = least_times(rt, &table);

@@ -36,12 +36,13 @@ fn code_of(alloc: Global, kinds: &[Kind], line: &str) -> Result<Vec<u8>, Refusal
 
 #[test]
 fn codes_of_values(rt: HostRuntime) {
-    let lines: [(&[Kind], &str, &str); 2] = [
+    let lines: [(&[Kind], &str, &str); 3] = [
         (
             &[Kind::Text, Kind::Int],
             "a\0,0",
             "6100ff00018000000000000000",
         ),
+        (&[Kind::Bytes, Kind::Bytes], "00FF,", "00ffff00010001"),
         // without memory of its own the code of a text has at most 22 bytes
         (
             &[Kind::Text],
@@ -96,9 +97,11 @@ fn decoded_text(alloc: Global, kinds: &[Kind], code: &[u8]) -> Result<Vec<u8>, A
 
 #[test]
 fn codes_are_decoded(rt: HostRuntime) {
-    let codes: [(&[Kind], &[u8], &str); 3] = [
+    let codes: [(&[Kind], &[u8], &str); 5] = [
         (&[Kind::Text], b"a\0\x01", "a"),
         (&[Kind::Text], b"a\0", "no code"),
+        (&[Kind::Text], b"\xFF\0\x01", "no code"),
+        (&[Kind::Bytes], b"\xFF\0\xFF\0\x01", "ff00"),
         (
             &[Kind::Text, Kind::Flag, Kind::Int],
             b"a\0\xFF\0\x01\x01\x80\0\0\0\0\0\0\x07",

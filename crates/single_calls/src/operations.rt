@@ -23,10 +23,8 @@ fn add_words(
 
 // Adds an operation: `set 1 x|` or `add 1 5|`.
 fn add_op(alloc: Global, out: &mut Vec<u8>, op: &Op) -> Result<(), AllocError> {
-    match op {
-        Op::Set(place, value) => add_words(alloc, out, "set", *place, value),
-        Op::Add(place, number) => add_words(alloc, out, "add", *place, &Value::Int(*number)),
-    }
+    let argument = op.argument().to_value(alloc)?;
+    add_words(alloc, out, op.word(), op.place(), &argument)
 }
 
 fn ops_text(alloc: Global, ops: &[Op]) -> Result<Vec<u8>, AllocError> {
@@ -56,6 +54,7 @@ fn operations_are_read(rt: HostRuntime) {
             "9,set,city,Bonn,add,qty,-2,set,open,TRUE",
             "set 2 Bonn|add 1 -2|set 3 true|",
         ),
+        ("9,max,qty,-2,min,qty,7", "max 1 -2|min 1 7|"),
         ("1,mul,nope,x", "BadField 4"),
         ("1,add,city,x", "NotInt 0"),
     ] {
@@ -154,8 +153,14 @@ fn row_after(alloc: Global, line: &str) -> Result<Vec<u8>, Refusal> {
 
 #[test]
 fn operations_change_the_default_row(rt: HostRuntime) {
-    let row = row_after(rt.alloc(), "9,set,qty,5,add,qty,-2,set,city,Bonn");
-    assert!(rt; is_text(row, "9,3,Bonn,false"));
+    for (line, expected) in [
+        ("9,set,qty,5,add,qty,-2,set,city,Bonn", "9,3,Bonn,false"),
+        ("9,min,qty,3", "9,0,,false"),
+        ("9,min,qty,-3,max,qty,-4", "9,-3,,false"),
+        ("9,max,qty,7", "9,7,,false"),
+    ] {
+        assert!(rt; is_text(row_after(rt.alloc(), line), expected));
+    }
 }
 
 // A copy of what the upsert of a line does.

@@ -25,6 +25,10 @@ fn fields_of_each_kind(rt: HostRuntime) {
         (Kind::Int, "", "BadField 1"),
         (Kind::Text, "Zürich", "Zürich"),
         (Kind::Flag, "tRuE", "true"),
+        (Kind::Bytes, "00fFA0", "00ffa0"),
+        (Kind::Bytes, "", "\"\""),
+        (Kind::Bytes, "0", "BadField 1"),
+        (Kind::Bytes, "0g", "BadField 1"),
     ] {
         assert!(rt; is_text(field_text(rt.alloc(), kind, field), expected));
     }

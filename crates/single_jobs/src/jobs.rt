@@ -2,6 +2,7 @@
 use bt_gang::{Answers, Board, Crew, GangFault, Gate, Jobs, NoGate, Ran, Work, run_jobs, serve};
 use bt_rowtype::Refusal;
 use std::alloc::{AllocError, Global};
+use std::collections::LinkedList;
 use std::sync::Wait;
 use std::sync::atomic::{AtomicBool, AtomicU64, Ordering};
 use std::test::Fail;
@@ -141,6 +142,12 @@ fn crew_of_no_worker(rt: HostRuntime) {
 }
 
 #[test]
+fn deepest_cut(rt: HostRuntime) {
+    assert!(&rt; Crew::new(1, 6, 1, NoGate).is_ok());
+    assert!(&rt; matches!(&Crew::new(1, 7, 1, NoGate), Err(Refusal::BadCrew)));
+}
+
+#[test]
 fn one_pass_over_three_jobs(rt: HostRuntime) -> Result<(), Fail> {
     let alloc = rt.alloc();
     let numbers = vec![in alloc; 5u32, 6, 7]?;
@@ -148,12 +155,22 @@ fn one_pass_over_three_jobs(rt: HostRuntime) -> Result<(), Fail> {
     let mut out: Answers<u64, NoFault> = Answers::new(alloc, 3)?;
     let crew = Crew::new(1, 1, 1, NoGate)?;
     serve(&rt, alloc, &Doubling, &jobs, &mut pass, &crew, &mut out);
-    assert_eq!(&rt; out.numbers.as_slice(), [0usize, 1, 2].as_slice());
+    let Answers {
+        list,
+        mut numbers,
+        spare,
+    } = out;
+    assert_eq!(&rt; list.len(), 3);
+    assert_eq!(&rt; spare, 0);
+    for number in 0..3 {
+        assert_eq!(&rt; numbers.pop_front(), Some(number));
+    }
+    assert!(&rt; numbers.is_empty());
     Ok(())
 }
 
 // Whether two lists have the numbers 0, 1 and 2, each once, and 0 and 1 in different ones.
-fn are_shared(taken: &[Vec<usize>]) -> bool {
+fn are_shared(taken: &[LinkedList<usize>]) -> bool {
     taken.len() == 2
         && taken[0].len() + taken[1].len() == 3
         && taken[0].contains(&0) != taken[0].contains(&1)

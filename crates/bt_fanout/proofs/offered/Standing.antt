@@ -2,23 +2,14 @@
 use Rattle.std.proofs.Common.{◌≡◌, ◌&&◌, ◌∙◌, Bool, true, false, List, [], ◌∷◌, ap, map, refl, sym, take, true≢false}
 use Rattle.bt_rowtype.specs.Schemas.{Schema, fit_columns, fits_kind}
 use Rattle.bt_rowtype.specs.declared.schema.Column.{Column}
-use Rattle.bt_rowtype.specs.declared.value.Kind.{Kind}
-use Rattle.bt_rowtype.specs.declared.value.Kind.TheVariants as kind
 use Rattle.bt_rowtype.specs.declared.value.Value.{Value}
-use Rattle.bt_rowtype.specs.declared.value.Value.TheVariants as value
+use Rattle.bt_rowtype.proofs.offered.Kinds.{fits_kind_of}
 use Rattle.bt_keycode.specs.Codes.{code_of, kind_of}
 use Rattle.bt_keycode.specs.Keys.{Key}
 use Rattle.bt_messages.specs.Effects.{Rows}
 use Rattle.bt_fanout.specs.Definitions.{kinds_of}
 use Rattle.bt_fanout.specs.Entries.{Definition, StandsUnder}
 use Rattle.bt_fanout.specs.Selections.{AllStand}
-
--- a value that fits a kind is of it
-of_kind : (k : Kind) (v : Value) → fits_kind k v ≡ true → kind_of v ≡ k
-of_kind kind.Int (value.Int n) h = refl
-of_kind kind.Text (value.Text bytes) h = refl
-of_kind kind.Flag (value.Flag flag) h = refl
-of_kind k v h = absurd (true≢false (sym h))
 
 first_fits : (a b : Bool) → (a && b) ≡ true → a ≡ true
 first_fits true b h = refl
@@ -33,7 +24,7 @@ of_kinds [] [] h = refl
 of_kinds [] (v ∷ row) h = absurd (true≢false (sym h))
 of_kinds (c ∷ columns) [] h = absurd (true≢false (sym h))
 of_kinds (c ∷ columns) (v ∷ row) h =
-    ap (λ k. k ∷ map kind_of row) (of_kind c.kind v (first_fits (fits_kind c.kind v) (fit_columns columns row) h))
+    ap (λ k. k ∷ map kind_of row) (fits_kind_of c.kind v (first_fits (fits_kind c.kind v) (fit_columns columns row) h))
     ∙ ap (λ ks. c.kind ∷ ks) (of_kinds columns row (others_fit (fits_kind c.kind v) (fit_columns columns row) h))
 
 pub stands_under : (schema : Schema) (def : Definition) (key : Key) (row : List Value) → def.keys ≡ schema.keys → fit_columns schema.columns row ≡ true → key ≡ code_of (take schema.keys row) →

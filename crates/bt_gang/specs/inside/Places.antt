@@ -7,7 +7,7 @@ use Rattle.bt_gang.specs.declared.answers.Answers.{Answers}
 use Rattle.bt_gang.specs.declared.run.GangFault.{GangFault}
 use Rattle.bt_gang.specs.declared.run.GangFault.TheVariants.{OutOfMemory, Job}
 use Rattle.bt_gang.specs.Numbers.{times}
-use Rattle.bt_gang.specs.Numbered.{numbered}
+use Rattle.bt_gang.specs.Numbered.{numbered, present}
 use Rattle.bt_gang.specs.Answers.{MayAnswer}
 
 module _ {D F : Type 0} where
@@ -28,12 +28,12 @@ module _ {D F : Type 0} where
   -- a worker's answers: none where it was not started
   abbrev pub answers_in : Option (Answers D F) → List (Answer D F)
   answers_in None = []
-  answers_in (Some a) = a.list.items
+  answers_in (Some a) = present a.list
 
   -- the numbers of a worker's answers: none where it was not started
   abbrev pub numbers_in : Option (Answers D F) → List ℕ
   numbers_in None = []
-  numbers_in (Some a) = numbered a.list.items
+  numbers_in (Some a) = numbered (present a.list)
 
   -- no place is empty
   abbrev pub IsFull : List (Option (Result D F)) → Type 0

@@ -12,7 +12,7 @@ use Rattle.bt_gang.specs.declared.rule.TakenList.{TakenList}
 use Rattle.bt_gang.specs.Numbers.{below}
 use Rattle.bt_gang.specs.declared.crew.TheConstants.{MOST_WORKERS}
 use Rattle.bt_gang.specs.Queue.{known, taken_list}
-use Rattle.bt_gang.specs.Numbered.{numbered}
+use Rattle.bt_gang.specs.Numbered.{numbered, present}
 use Rattle.bt_gang.specs.Answers.{AllMay}
 
 abbrev pub TakenLists : Type 0
@@ -37,23 +37,23 @@ module _ {D F : Type 0} where
   abbrev pub lists_back : ℕ → List (Option (Answers D F)) → TakenLists
   lists_back first [] = []
   lists_back first (None ∷ outs) = lists_back (suc first) outs
-  lists_back first (Some out ∷ outs) = taken_list first (numbered out.list.items) ∷ lists_back (suc first) outs
+  lists_back first (Some out ∷ outs) = taken_list first (numbered (present out.list)) ∷ lists_back (suc first) outs
 
 module _ {J D F : Type 0} where
   -- the worker with this number: its pass took nothing, and there is room for each job's answer; `others` are the further lists that the pass has
-  pub record IsReady (jobs : Jobs J) (all : List J) (others : TakenLists) (number : ℕ) (worker : Worker J D F) : Type 0 where
+  pub record IsReady (jobs : Jobs J D F) (all : List J) (others : TakenLists) (number : ℕ) (worker : Worker J D F) : Type 0 where
     pub is : worker.number ≡ number
     pub pass : IsPassOf jobs.queue worker.pass
     pub knows : view worker.pass ≡ known all (taken_list number [] ∷ others)
-    pub list : worker.out.list.items ≡ []
+    pub list : present worker.out.list ≡ []
     pub spare : worker.out.spare ≡ length all
 
   -- the worker with this number: the numbers that its pass took are those of its answers, in order, and each answer is one that its job may give
-  pub record HasServed (allows : J → Result D F → Type 0) (jobs : Jobs J) (all : List J) (others : TakenLists) (number : ℕ) (worker : Worker J D F) : Type 0 where
+  pub record HasServed (allows : J → Result D F → Type 0) (jobs : Jobs J D F) (all : List J) (others : TakenLists) (number : ℕ) (worker : Worker J D F) : Type 0 where
     pub is : worker.number ≡ number
     pub pass : IsPassOf jobs.queue worker.pass
-    pub knows : view worker.pass ≡ known all (taken_list number (numbered worker.out.list.items) ∷ others)
-    pub may : AllMay allows all worker.out.list.items
+    pub knows : view worker.pass ≡ known all (taken_list number (numbered (present worker.out.list)) ∷ others)
+    pub may : AllMay allows all (present worker.out.list)
 
   -- a worker that was not started has an empty list, where that of the caller stands before those of the workers
   abbrev pub AreEmptyWhereAbsent : List (Option (Worker J D F)) → List (List ℕ) → Type 0
@@ -65,7 +65,7 @@ module _ {J D F : Type 0} where
   out_of (Some worker) = Some worker.out
 
 -- the promise is of this work, these jobs and the worker with this number
-pub record IsPromise {W J D F : Type 0} (work : W) (jobs : Jobs J) (all : List J) (number : ℕ) (promise : GivesBack W J D F) : Type 0 where
+pub record IsPromise {W J D F : Type 0} (work : W) (jobs : Jobs J D F) (all : List J) (number : ℕ) (promise : GivesBack W J D F) : Type 0 where
   pub work_is : promise.work.value ≡ work
   pub jobs_is : promise.jobs.value ≡ jobs
   pub all_is : promise.all.value.value.items ≡ all
@@ -87,12 +87,12 @@ module _ {J : Type 0} where
 
 module _ {J D F : Type 0} where
   -- the caller before its loop, after this many passes were split off
-  pub record IsReadyCaller (jobs : Jobs J) (all : List J) (given_away : ℕ) (mine : Worker J D F) : Type 0 where
+  pub record IsReadyCaller (jobs : Jobs J D F) (all : List J) (given_away : ℕ) (mine : Worker J D F) : Type 0 where
     pub ready : IsReady jobs all (lists_left MOST_WORKERS (suc given_away)) 0 mine
     pub few : given_away < MOST_WORKERS
 
   -- the caller after its loop: there is room for the answers that it has not
-  pub record HasServedCaller (allows : J → Result D F → Type 0) (jobs : Jobs J) (all : List J) (given_away : ℕ) (mine : Worker J D F) : Type 0 where
+  pub record HasServedCaller (allows : J → Result D F → Type 0) (jobs : Jobs J D F) (all : List J) (given_away : ℕ) (mine : Worker J D F) : Type 0 where
     pub served : HasServed allows jobs all (lists_left MOST_WORKERS (suc given_away)) 0 mine
     pub few : given_away < MOST_WORKERS
-    pub spare : mine.out.spare + length mine.out.list.items ≡ length all
+    pub spare : mine.out.spare + length (present mine.out.list) ≡ length all

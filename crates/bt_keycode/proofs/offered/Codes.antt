@@ -1,19 +1,12 @@
 -- Codes of values of the same kinds: their order, and that none begins another. The order of a table's rows stands on these.
 use Rattle.std.proofs.Common.{◌≡◌, List, [], ◌∷◌, ◌++◌, refl, ap, ◌∙◌}
 use Rattle.std.specs.Ordering.{ordering_then}
-use Rattle.bt_rowtype.specs.Values.{AreInRange, IsInRange, value_cmp, values_cmp}
+use Rattle.bt_rowtype.specs.Values.{AreInRange, value_cmp, values_cmp}
 use Rattle.bt_rowtype.specs.declared.value.Value.{Value}
-use Rattle.bt_rowtype.specs.declared.value.Value.TheVariants as value
-use Rattle.bt_keycode.specs.Codes.{HaveSameKinds, IsNoProperPrefix, code_of, code_of_value, kind_of}
+use Rattle.bt_keycode.specs.Codes.{HaveSameKinds, IsNoProperPrefix, code_of, kind_of}
 use Rattle.bt_keycode.specs.Keys.{key_cmp}
-use Rattle.bt_keycode.proofs.Codes.{codes_compare, flags_compare, ints_compare, no_prefix, texts_compare}
+use Rattle.bt_keycode.proofs.Codes.{codes_compare, no_prefix, value_ordered}
 use Rattle.bt_keycode.proofs.Decoding.{same_values}
-
-value_ordered : (v w : Value) → kind_of v ≡ kind_of w → IsInRange v → IsInRange w → key_cmp (code_of_value v) (code_of_value w) ≡ value_cmp v w
-value_ordered (value.Int m) (value.Int n) same f g = ints_compare m n f g
-value_ordered (value.Text a) (value.Text b) same f g = texts_compare a b
-value_ordered (value.Flag a) (value.Flag b) same f g = flags_compare a b
-value_ordered v w same f g = cc
 
 -- the order of codes is the order of values
 pub codes_ordered : (vs ws : List Value) → HaveSameKinds vs ws → AreInRange vs → AreInRange ws → key_cmp (code_of vs) (code_of ws) ≡ values_cmp vs ws

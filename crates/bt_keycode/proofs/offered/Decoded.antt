@@ -6,9 +6,11 @@ use Rattle.std.specs.Int.{from_be_bytes}
 use Rattle.std.specs.Prelude.{option_and_then, option_map}
 use Rattle.bt_rowtype.specs.Values.{AreInRange, IsInRange}
 use Rattle.bt_rowtype.specs.declared.value.Value.{Value}
-use Rattle.bt_rowtype.specs.declared.value.Value.TheVariants as value
-use Rattle.bt_keycode.specs.Codes.{code_of, code_of_value, eight_bytes, kind_of, raised}
-use Rattle.bt_keycode.specs.inside.Decoding.{decoded, first_value, lowered, unescaped}
+use Rattle.bt_rowtype.specs.Kinds.{Content, Number, Bytes, Bit, content_of, form_in, value_with}
+use Rattle.bt_rowtype.proofs.offered.Kinds.{form_held, with_content}
+use Rattle.bt_keycode.specs.Codes.{code_of, code_of_content, code_of_value, eight_bytes, kind_of, raised}
+use Rattle.bt_keycode.specs.inside.Decoding.{HasBits, decoded, first_content, first_value, lowered, unescaped}
+use Rattle.bt_keycode.proofs.Codes.{has_bits}
 use Rattle.bt_keycode.proofs.DecodingInts.{raised_below}
 use Rattle.bt_keycode.proofs.DecodingTexts.{read_again, split_end}
 
@@ -32,16 +34,23 @@ others_again : (n : ℕ) (rest : List ℕ) → drop 8 (eight_bytes n ++ rest) �
 unfolding eight_bytes
 others_again n rest = refl
 
+-- what a value holds with whose code bytes begin
+content_again : (c : Content) (rest : List ℕ) → HasBits c → first_content (form_in c) (code_of_content c ++ rest) ≡ Some (c, rest)
+content_again (Number z) rest fits =
+    ap (λ n. Some (Number (lowered n), drop 8 (eight_bytes (raised z) ++ rest))) (int_again (raised z) rest (raised_below z fits))
+    ∙ ap (λ m. Some (Number m, drop 8 (eight_bytes (raised z) ++ rest))) (lowered_again z fits)
+    ∙ ap (λ more. Some (Number z, more)) (others_again (raised z) rest)
+content_again (Bytes bytes) rest fits = ap (option_map (λ read. (Bytes read.0, read.1))) (ap unescaped (split_end bytes rest) ∙ read_again bytes rest)
+content_again (Bit true) rest fits = refl
+content_again (Bit false) rest fits = refl
+
 -- the value with whose code bytes begin
 value_again : (v : Value) (rest : List ℕ) → IsInRange v → first_value (kind_of v) (code_of_value v ++ rest) ≡ Some (v, rest)
 unfolding first_value
-value_again (value.Int z) rest fits =
-    ap (λ n. Some (value.Int (lowered n), drop 8 (eight_bytes (raised z) ++ rest))) (int_again (raised z) rest (raised_below z fits))
-    ∙ ap (λ m. Some (value.Int m, drop 8 (eight_bytes (raised z) ++ rest))) (lowered_again z fits)
-    ∙ ap (λ more. Some (value.Int z, more)) (others_again (raised z) rest)
-value_again (value.Text bytes) rest fits = ap (option_map (λ read. (value.Text read.0, read.1))) (ap unescaped (split_end bytes rest) ∙ read_again bytes rest)
-value_again (value.Flag true) rest fits = refl
-value_again (value.Flag false) rest fits = refl
+value_again v rest fits =
+    ap (λ f. option_map (λ read. (value_with (kind_of v) read.0, read.1)) (first_content f (code_of_value v ++ rest))) (sym (form_held v))
+    ∙ ap (option_map (λ read. (value_with (kind_of v) read.0, read.1))) (content_again (content_of v) rest (has_bits v fits))
+    ∙ ap (λ w. Some (w, rest)) (with_content v)
 
 all_again : (values : List Value) (rest : List ℕ) → AreInRange values → decoded (map kind_of values) (code_of values ++ rest) ≡ Some values
 unfolding decoded

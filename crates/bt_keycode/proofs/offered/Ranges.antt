@@ -1,20 +1,19 @@
 -- What records spell lies in the ranges of its kinds, and operations leave it there. The codes of a table's rows stand on it.
-use Rattle.std.proofs.Common.{ℕ, zero, suc, ◌-◌, ◌^◌, ◌≤◌, ◌≡◌, ◌==◌, ◌&&◌, Bool, true, false, List, [], ◌∷◌, ◌++◌, refl, arith, length, take, drop, get_or, set, codes, map, nat_le, Option, Some, None, IfSome, IfOk, Result, Ok, Err, ℤ, pos, negsuc, neg_ℤ, if◌then◌else◌}
-use Rattle.std.proofs.lemmas.Bool.Decides.{nat_tests}
-use Rattle.std.proofs.lemmas.Str.{IsUtf8-nil, is_utf8-from_IsUtf8}
+use Rattle.std.proofs.Common.{ℕ, zero, suc, ◌==◌, Bool, true, false, List, [], ◌∷◌, ◌++◌, arith, length, take, drop, get_or, set, subst, sym, codes, map, Option, Some, None, IfSome, IfOk, Result, Ok, Err, ℤ, pos, if◌then◌else◌}
 use Rattle.std.specs.Cmp.Lexicographic.{pointwise}
-use Rattle.std.specs.Int.{saturate_to_bits, w64}
+use Rattle.std.specs.Int.{w64}
 use Rattle.std.specs.List.{filter_map}
 use Rattle.std.specs.Prelude.{FitsSigned, option_map}
 use Rattle.std.specs.Result.{result_err, result_ok}
-use Rattle.bt_rowtype.specs.Ints.{int_of, is_numeral, number_up_to, number_written}
-use Rattle.bt_rowtype.specs.Ops.{add_of, add_of_kind, added, after_op, after_ops, all_read, at_column, both_read, default_row, is_upsert, key_as, op_of, open_column, ops_as, ops_of, set_of, unless, upsert_as}
-use Rattle.bt_rowtype.specs.Values.{AreInRange, IsInRange, default_of, flag_of, or_refused, read_as, value_of, values_of, with_first}
+use Rattle.bt_rowtype.specs.Arithmetic.{Action, Makes, Sets, action_of, arithmetic_of_word, op_making, new_value}
+use Rattle.bt_rowtype.specs.Ints.{int_of}
+use Rattle.bt_rowtype.specs.Ops.{after_action, after_op, after_ops, all_read, argument_in, argument_of, at_column, both_read, default_row, is_upsert, key_as, making_of, making_of_kind, number_op_of, op_of, open_column, ops_as, ops_of, set_of, unless, upsert_as}
+use Rattle.bt_rowtype.specs.Values.{AreInRange, IsInRange, default_of, or_refused, read_as, value_of, values_of, with_first}
 use Rattle.bt_rowtype.specs.Refusals.{least}
 use Rattle.bt_rowtype.specs.Schemas.{Schema}
-use Rattle.bt_rowtype.specs.Texts.{is_text}
+use Rattle.bt_rowtype.specs.declared.op.Arithmetic.{Arithmetic}
 use Rattle.bt_rowtype.specs.declared.op.Op.{Op}
-use Rattle.bt_rowtype.specs.declared.op.Op.TheVariants.{Set, Add}
+use Rattle.bt_rowtype.specs.declared.op.Op.TheVariants.{Set}
 use Rattle.bt_rowtype.specs.declared.refusal.Refusal.{Refusal}
 use Rattle.bt_rowtype.specs.declared.refusal.Refusal.TheVariants.{BadField, BadLength}
 use Rattle.bt_rowtype.specs.declared.schema.Column.{Column}
@@ -22,6 +21,9 @@ use Rattle.bt_rowtype.specs.declared.value.Kind.{Kind}
 use Rattle.bt_rowtype.specs.declared.value.Kind.TheVariants as kind
 use Rattle.bt_rowtype.specs.declared.value.Value.{Value}
 use Rattle.bt_rowtype.specs.declared.value.Value.TheVariants as value
+use Rattle.bt_rowtype.proofs.offered.Actions.{action_making, new_number_fits}
+use Rattle.bt_rowtype.proofs.offered.IntRanges.{int_in_range}
+use Rattle.bt_rowtype.proofs.offered.Kinds.{default_in_range, value_in_range}
 
 -- ---- lists of values in range
 
@@ -35,47 +37,6 @@ append_in_range [] ws h rest = rest
 append_in_range (v ∷ vs) ws h rest = (h.0, append_in_range vs ws h.1 rest)
 
 -- ---- values that fields spell
-
-small : (digits : List ℕ) (most : ℕ) → (is_numeral digits && nat_le (number_written digits) most) ≡ true → number_written digits ≤ most
-small digits most test = grind (arith, nat_tests)
-
-number_within : (most : ℕ) (digits : List ℕ) → IfSome (number_up_to most digits) (λ n. n ≤ most)
-number_within most digits =
-    elim (is_numeral digits && nat_le (number_written digits) most) as (λ b. (is_numeral digits && nat_le (number_written digits) most) ≡ b → IfSome (if b then Some (number_written digits) else None) (λ n. n ≤ most)) [
-      | true ↦ λ test. small digits most test
-      | false ↦ λ test. tt
-    ] refl
-
-above : (o : Option ℕ) → IfSome o (λ n. n ≤ 2 ^ 63 - 1) → IfSome (option_map pos o) (FitsSigned w64)
-above None h = tt
-above (Some n) h = record { sfits = omega (arith, h) }
-
-below : (o : Option ℕ) → IfSome o (λ n. n ≤ 2 ^ 63) → IfSome (option_map (λ n. neg_ℤ (pos n)) o) (FitsSigned w64)
-below None h = tt
-below (Some zero) h = record { sfits = omega arith }
-below (Some (suc n)) h = record { sfits = omega (arith, h) }
-
-int_in_range : (field : List ℕ) → IfSome (int_of field) (FitsSigned w64)
-unfolding int_of
-int_in_range field =
-    elim (get_or field 0 0 == 45) as (λ b. IfSome (if b then option_map (λ n. neg_ℤ (pos n)) (number_up_to (2 ^ 63) (drop 1 field)) else option_map pos (number_up_to (2 ^ 63 - 1) field)) (FitsSigned w64)) [
-      | true ↦ below (number_up_to (2 ^ 63) (drop 1 field)) (number_within (2 ^ 63) (drop 1 field))
-      | false ↦ above (number_up_to (2 ^ 63 - 1) field) (number_within (2 ^ 63 - 1) field)
-    ]
-
-int_value : (o : Option ℤ) → IfSome o (FitsSigned w64) → IfSome (option_map value.Int o) IsInRange
-int_value None h = tt
-int_value (Some n) h = h
-
-flag_value : (o : Option Bool) → IfSome (option_map value.Flag o) IsInRange
-flag_value None = tt
-flag_value (Some flag) = tt
-
-value_in_range : (k : Kind) (field : List ℕ) → IfSome (value_of k field) IsInRange
-value_in_range kind.Int field = int_value (int_of field) (int_in_range field)
-value_in_range kind.Text field =
-    elim (is_text field) as (λ b. is_text field ≡ b → IfSome (if b then Some (value.Text field) else None) IsInRange) [ true ↦ λ test. test | false ↦ λ test. tt ] refl
-value_in_range kind.Flag field = flag_value (flag_of field)
 
 with_first_in_range : (first : Option Value) (rest : Option (List Value)) → IfSome first IsInRange → IfSome rest AreInRange → IfSome (with_first first rest) AreInRange
 with_first_in_range None rest h others = tt
@@ -102,10 +63,9 @@ read_in_range columns item fields =
 
 -- ---- operations that fields spell
 
--- the new value of an operation is in range
+-- the argument of an operation is in range
 abbrev pub OpInRange : Op → Type 0
-OpInRange (Set place new) = IsInRange new
-OpInRange (Add place n) = Unit {0}
+OpInRange op = IsInRange (argument_of op)
 
 abbrev pub OpsInRange : List Op → Type 0
 OpsInRange [] = Unit {0}
@@ -115,31 +75,30 @@ set_made : (place : ℕ) (o : Option Value) → IfSome o IsInRange → IfSome (o
 set_made place None h = tt
 set_made place (Some v) h = h
 
-add_made : (place : ℕ) (o : Option ℤ) → IfSome (option_map (Add place) o) OpInRange
-add_made place None = tt
-add_made place (Some n) = tt
+number_op : (how : Arithmetic) (place : ℕ) (o : Option ℤ) → IfSome o (FitsSigned w64) → IfSome (option_map (op_making how place) o) OpInRange
+number_op how place None h = tt
+number_op how place (Some n) h = subst (λ action. IsInRange (argument_in action)) (sym (action_making how place n)) h
 
 set_in_range : (item : ℕ) (argument : List ℕ) (column : ℕ × Kind) → IfOk (set_of item argument column) OpInRange
 set_in_range item argument column =
     or_refused_ok (BadField item) (option_map (Set column.0) (value_of column.1 argument)) OpInRange (set_made column.0 (value_of column.1 argument) (value_in_range column.1 argument))
 
-add_in_range : (item : ℕ) (argument : List ℕ) (place : ℕ) (k : Kind) → IfOk (add_of_kind item argument place k) OpInRange
-add_in_range item argument place kind.Int = or_refused_ok (BadField item) (option_map (Add place) (int_of argument)) OpInRange (add_made place (int_of argument))
-add_in_range item argument place kind.Text = tt
-add_in_range item argument place kind.Flag = tt
+making_in_range : (how : Arithmetic) (item : ℕ) (argument : List ℕ) (place : ℕ) (k : Kind) → IfOk (making_of_kind how item argument place k) OpInRange
+making_in_range how item argument place kind.Int = or_refused_ok (BadField item) (option_map (op_making how place) (int_of argument)) OpInRange (number_op how place (int_of argument) (int_in_range argument))
+making_in_range how item argument place other = tt
 
 at_column_ok : {T : Type 0} (read : ℕ × Kind → Result T Refusal) (found : Option (ℕ × Kind)) (P : T → Type 0) → ((column : ℕ × Kind) → IfOk (read column) P) → IfOk (at_column read found) P
 at_column_ok read None P h = tt
 at_column_ok read (Some column) P h = h column
 
 op_in_range : (schema : Schema) (item : ℕ) (word name argument : List ℕ) → IfOk (op_of schema item word name argument) OpInRange
-op_in_range schema item word name argument = by_word (pointwise ◌==◌ word (codes "set")) (pointwise ◌==◌ word (codes "add"))
+op_in_range schema item word name argument = by_word (pointwise ◌==◌ word (codes "set")) (arithmetic_of_word word)
   where
-    by_word : (sets adds : Bool)
-        → IfOk (if sets then at_column (set_of item argument) (open_column schema name) else (if adds then at_column (add_of item argument) (open_column schema name) else Err (BadField item))) OpInRange
-    by_word true adds = at_column_ok (set_of item argument) (open_column schema name) OpInRange (set_in_range item argument)
-    by_word false true = at_column_ok (add_of item argument) (open_column schema name) OpInRange (λ column. add_in_range item argument column.0 column.1)
-    by_word false false = tt
+    by_word : (sets : Bool) (named : Option Arithmetic)
+        → IfOk (if sets then at_column (set_of item argument) (open_column schema name) else number_op_of item argument (open_column schema name) named) OpInRange
+    by_word true named = at_column_ok (set_of item argument) (open_column schema name) OpInRange (set_in_range item argument)
+    by_word false (Some how) = at_column_ok (making_of how item argument) (open_column schema name) OpInRange (λ column. making_in_range how item argument column.0 column.1)
+    by_word false None = tt
 
 one_op : (read : Result Op Refusal) (others : List (Result Op Refusal)) → IfOk read OpInRange → OpsInRange (filter_map result_ok others) → OpsInRange (filter_map result_ok (read ∷ others))
 one_op (Ok op) others h rest = (h, rest)
@@ -191,31 +150,22 @@ value_at [] place other h one = one
 value_at (v ∷ vs) zero other h one = h.0
 value_at (v ∷ vs) (suc place) other h one = value_at vs place other h.1 one
 
-saturated : (z : ℤ) → FitsSigned w64 (saturate_to_bits 63 z)
-saturated (pos n) = record { sfits = omega arith }
-saturated (negsuc n) = record { sfits = omega arith }
-
-added_in_range : (n : ℤ) (v : Value) → IsInRange v → IsInRange (added n v)
-added_in_range n (value.Int old) h = saturated _
-added_in_range n (value.Text bytes) h = h
-added_in_range n (value.Flag flag) h = h
+new_value_in_range : (how : Arithmetic) (n : ℤ) (v : Value) → FitsSigned w64 n → IsInRange v → IsInRange (new_value how n v)
+new_value_in_range how n (value.Int old) fits h = new_number_fits how old n h fits
+new_value_in_range how n other fits h = h
 
 zero_fits : FitsSigned w64 (pos 0)
 zero_fits = record { sfits = omega arith }
 
-after_op_in_range : (row : List Value) (op : Op) → OpInRange op → AreInRange row → AreInRange (after_op row op)
-after_op_in_range row (Set place new) one h = set_value row place new h one
-after_op_in_range row (Add place n) one h =
-    set_value row place (added n (get_or row place (value.Int (pos 0)))) h (added_in_range n (get_or row place (value.Int (pos 0))) (value_at row place (value.Int (pos 0)) h zero_fits))
+after_action_in_range : (row : List Value) (action : Action) → IsInRange (argument_in action) → AreInRange row → AreInRange (after_action row action)
+after_action_in_range row (Sets place new) one h = set_value row place new h one
+after_action_in_range row (Makes how place n) one h =
+    let old = get_or row place (value.Int (pos 0)) in
+    set_value row place (new_value how n old) h (new_value_in_range how n old one (value_at row place (value.Int (pos 0)) h zero_fits))
 
 pub after_ops_in_range : (ops : List Op) (row : List Value) → OpsInRange ops → AreInRange row → AreInRange (after_ops ops row)
 after_ops_in_range [] row all h = h
-after_ops_in_range (op ∷ ops) row all h = after_ops_in_range ops (after_op row op) all.1 (after_op_in_range row op all.0 h)
-
-default_in_range : (k : Kind) → IsInRange (default_of k)
-default_in_range kind.Int = zero_fits
-default_in_range kind.Text = is_utf8-from_IsUtf8 [] IsUtf8-nil
-default_in_range kind.Flag = tt
+after_ops_in_range (op ∷ ops) row all h = after_ops_in_range ops (after_op row op) all.1 (after_action_in_range row (action_of op) all.0 h)
 
 defaults_in_range : (columns : List Column) → AreInRange (map (λ c. default_of c.kind) columns)
 defaults_in_range [] = tt

@@ -3,13 +3,13 @@ use Rattle.std.specs.Prelude.{ℕ, ◌≡◌, ◌≢◌, ◌<◌, List, [], leng
 use Rattle.std.specs.List.{filter_map}
 use Rattle.std.specs.Result.{result_err, result_ok}
 use Rattle.bt_rowtype.specs.Refusals.{least}
-use Rattle.bt_rowtype.specs.declared.reading.Reading.{Reading}
+use Rattle.bt_rowtype.specs.declared.collected.Collected.{Collected}
 use Rattle.bt_rowtype.specs.declared.schema.Column.{Column}
 use Rattle.bt_rowtype.specs.declared.value.Value.{Value}
 use Rattle.bt_load.specs.Loads.{typed_from}
 
 -- what records were read as, the first of them as this item: their rows, and the least refusal
-pub record IsReadingOf (columns : List Column) (item : ℕ) (records : List (List (List ℕ))) (read : Reading (List Value)) : Type 0 where
+pub record IsReadingOf (columns : List Column) (item : ℕ) (records : List (List (List ℕ))) (read : Collected (List Value)) : Type 0 where
   pub values : read.values ≡ filter_map result_ok (typed_from columns item records)
   pub refusal : read.refusal ≡ least (filter_map result_err (typed_from columns item records))
 

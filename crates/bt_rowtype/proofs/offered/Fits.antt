@@ -13,7 +13,8 @@ use Rattle.bt_rowtype.specs.declared.refusal.Refusal.TheVariants.{BadField, BadL
 use Rattle.bt_rowtype.specs.declared.schema.Column.{Column}
 use Rattle.bt_rowtype.specs.declared.value.Value.{Value}
 use Rattle.bt_rowtype.proofs.Columnwise.{some_read}
-use Rattle.bt_rowtype.proofs.ReadFits.{both_ok, both_true, groups_fit, unless_ok, value_fits, with_first_fits}
+use Rattle.bt_rowtype.proofs.ReadFits.{both_ok, both_true, groups_fit, unless_ok, with_first_fits}
+use Rattle.bt_rowtype.proofs.offered.Kinds.{value_fits}
 use Rattle.bt_rowtype.proofs.RowFits.{defaults_fit, first_true, joined_fit, op_keeps, second_true}
 
 -- ---- what is read

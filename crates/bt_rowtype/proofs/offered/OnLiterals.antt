@@ -3,8 +3,9 @@ use Rattle.std.specs.Prelude.{⊤}
 use Rattle.std.specs.Fmt.{digits}
 use Rattle.csv.proofs.OnLiterals.{csv_on_literals}
 use Rattle.csv.specs.Writing.{fields_text, is_blank}
+use Rattle.bt_rowtype.specs.Hex.{bytes_of_hex}
 use Rattle.bt_rowtype.specs.Ints.{int_of}
 
 unfoldable pub rowtype_on_literals : ⊤
-unfolding csv_on_literals fields_text is_blank int_of digits
+unfolding csv_on_literals fields_text is_blank int_of digits bytes_of_hex
 rowtype_on_literals = tt

@@ -1,4 +1,4 @@
--- One more that was read, of several. Serves loops over a `Reading`.
+-- One more that was read, of several. Serves loops over a `Collected`.
 use Rattle.std.proofs.Common.{List, [], ◌∷◌, ◌++◌, ◌≡◌, ◌≢◌, refl, sym, ap, append_assoc, Option, Some, None, Result, Ok, Err}
 use Rattle.std.proofs.lemmas.List.{append-nil}
 use Rattle.std.specs.List.{filter_map}

@@ -5,7 +5,7 @@ use Rattle.bt_rowtype.specs.declared.op.Op.{Op}
 use Rattle.bt_rowtype.specs.declared.value.Value.{Value}
 use Rattle.bt_rowtype.specs.declared.value.Value.TheVariants as value
 
--- the number of an addition, where there is one, and the arguments of operations
+-- the number of one operation, where there is one, and the arguments of operations
 abbrev pub arguments_left : Option ℤ → List Op → List Value
 arguments_left None ops = map argument_of ops
 arguments_left (Some number) ops = value.Int number ∷ map argument_of ops

@@ -1,9 +1,13 @@
 -- Values one after another in a string of bytes.
 use Rattle.std.specs.Int.{cast_signed, cast_unsigned, from_le_bytes, to_le_bytes, w64}
-use Rattle.std.specs.Prelude.{ℕ, zero, suc, ◌≡◌, ◌<◌, ◌≤◌, ◌+◌, ◌==◌, ◌++◌, false, List, [], ◌∷◌, length, take, drop, get_or, if◌then◌else◌, ℤ}
+use Rattle.std.specs.Prelude.{ℕ, zero, suc, ◌≡◌, ◌<◌, ◌≤◌, ◌+◌, ◌==◌, ◌++◌, Bool, List, [], ◌∷◌, length, take, drop, get_or, if◌then◌else◌, ℤ}
+use Rattle.bt_rowtype.specs.Kinds.{Content, Number, Bytes, Bit, content_of, default_of, form_of, kind_of, kind_of_tag, tag_of, value_with}
 use Rattle.bt_rowtype.specs.Values.{AreInRange, IsInRange}
+use Rattle.bt_rowtype.specs.declared.value.Form.{Form}
+use Rattle.bt_rowtype.specs.declared.value.Form.TheVariants as form
+use Rattle.bt_rowtype.specs.declared.value.Kind.{Kind}
+use Rattle.bt_rowtype.specs.declared.value.Kind.TheVariants as kind
 use Rattle.bt_rowtype.specs.declared.value.Value.{Value}
-use Rattle.bt_rowtype.specs.declared.value.Value.TheVariants as value
 
 -- ---- from values to bytes
 
@@ -15,11 +19,14 @@ int_bytes n = to_le_bytes w64 (cast_unsigned w64 n)
 unfoldable pub int_from : List ℕ → ℤ
 int_from bytes = cast_signed w64 (from_le_bytes w64 bytes)
 
--- the bytes of a value: a tag, and behind it the eight bytes of an int, or the length and the bytes of a text
+-- the bytes of what a value holds, behind the number of its kind: the eight bytes of a number, the length of bytes and these; a bit is added to the number
+abbrev pub packed_content : ℕ → Content → List ℕ
+packed_content tag (Number n) = tag ∷ int_bytes n
+packed_content tag (Bytes bytes) = tag ∷ length bytes ∷ bytes
+packed_content tag (Bit bit) = (if bit then tag + 1 else tag) ∷ []
+
 abbrev pub packed_value : Value → List ℕ
-packed_value (value.Int n) = 0 ∷ int_bytes n
-packed_value (value.Text bytes) = 1 ∷ length bytes ∷ bytes
-packed_value (value.Flag flag) = (if flag then 3 else 2) ∷ []
+packed_value v = packed_content (tag_of (kind_of v)) (content_of v)
 
 -- the bytes of values, one after another
 abbrev pub packed : List Value → List ℕ
@@ -28,16 +35,31 @@ packed (v ∷ vs) = packed_value v ++ packed vs
 
 -- ---- from bytes to values
 
--- how many bytes the first value takes, by its tag and its length
+-- how many bytes a value of a form takes, of which these stand behind the first
+abbrev pub width_in : Form → List ℕ → ℕ
+width_in form.Number bytes = 9
+width_in form.Bytes bytes = get_or bytes 0 0 + 2
+width_in form.Bit bytes = 1
+
+-- how many bytes the first value takes
 abbrev pub width_of : List ℕ → ℕ
 width_of [] = 0
-width_of (tag ∷ bytes) = if tag == 0 then 9 else (if tag == 1 then get_or bytes 0 0 + 2 else 1)
+width_of (tag ∷ bytes) = width_in (form_of (kind_of_tag tag)) bytes
+
+-- what a value of a form holds, of which these stand behind the first byte; a bit is set or not
+abbrev pub content_at : Form → Bool → List ℕ → Content
+content_at form.Number is_set bytes = Number (int_from bytes)
+content_at form.Bytes is_set bytes = Bytes (take (get_or bytes 0 0) (drop 1 bytes))
+content_at form.Bit is_set bytes = Bit is_set
+
+-- the value of a kind, whose bytes begin with this one
+abbrev pub value_tagged : Kind → ℕ → List ℕ → Value
+value_tagged kind tag bytes = value_with kind (content_at (form_of kind) (tag == tag_of kind + 1) bytes)
 
 -- the first value
 abbrev pub first_of : List ℕ → Value
-first_of [] = value.Flag false
-first_of (tag ∷ bytes) =
-    if tag == 0 then value.Int (int_from bytes) else (if tag == 1 then value.Text (take (get_or bytes 0 0) (drop 1 bytes)) else value.Flag (tag == 3))
+first_of [] = default_of kind.Flag
+first_of (tag ∷ bytes) = value_tagged (kind_of_tag tag) tag bytes
 
 -- the first values, up to a number of them
 unfoldable pub unpacked_by : ℕ → List ℕ → List Value

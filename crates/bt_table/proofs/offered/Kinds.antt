@@ -2,17 +2,9 @@
 use Rattle.std.proofs.Common.{◌≡◌, ℕ, Bool, true, false, ◌&&◌, List, [], ◌∷◌, refl, map, take, suc, zero}
 use Rattle.bt_rowtype.specs.Schemas.{fit_columns, fits_kind}
 use Rattle.bt_rowtype.specs.declared.schema.Column.{Column}
-use Rattle.bt_rowtype.specs.declared.value.Kind.{Kind}
-use Rattle.bt_rowtype.specs.declared.value.Kind.TheVariants as kind
 use Rattle.bt_rowtype.specs.declared.value.Value.{Value}
-use Rattle.bt_rowtype.specs.declared.value.Value.TheVariants as value
+use Rattle.bt_rowtype.proofs.offered.Kinds.{fits_kind_of}
 use Rattle.bt_keycode.specs.Codes.{kind_of}
-
-kind_fits : (k : Kind) (v : Value) → fits_kind k v ≡ true → kind_of v ≡ k
-kind_fits kind.Int (value.Int n) e = refl
-kind_fits kind.Text (value.Text bytes) e = refl
-kind_fits kind.Flag (value.Flag flag) e = refl
-kind_fits k v e = cc
 
 pub key_kinds : (n : ℕ) (columns : List Column) (row : List Value) → fit_columns columns row ≡ true → map kind_of (take n row) ≡ map (λ c. c.kind) (take n columns)
 key_kinds zero columns row e = refl
@@ -23,5 +15,5 @@ key_kinds (suc n) (c ∷ cs) (v ∷ vs) e = by_first (fits_kind c.kind v) refl e
   where
     by_first : (b : Bool) → fits_kind c.kind v ≡ b → (b && fit_columns cs vs) ≡ true → (fit_columns cs vs ≡ true → map kind_of (take n vs) ≡ map (λ d. d.kind) (take n cs))
         → map kind_of (v ∷ take n vs) ≡ map (λ d. d.kind) (c ∷ take n cs)
-    by_first true fits others rest = λ i. kind_fits c.kind v fits i ∷ rest others i
+    by_first true fits others rest = λ i. fits_kind_of c.kind v fits i ∷ rest others i
     by_first false fits others rest = absurd cc

@@ -1,14 +1,12 @@
 -- Entries of an index as rows, as a walk of its tree meets them.
 use Rattle.std.specs.Cmp.Lexicographic.{pointwise}
 use Rattle.std.specs.List.{filter_map}
-use Rattle.std.specs.Prelude.{◌^◌, ◌&&◌, ◌++◌, Bool, true, false, List, map, nat_lt, take, Option, Some, None, option_and_then, option_map, if◌then◌else◌, pos, negsuc}
+use Rattle.std.specs.Prelude.{◌^◌, ◌&&◌, ◌++◌, Bool, true, List, map, nat_lt, take, Option, Some, None, option_and_then, option_map, if◌then◌else◌, pos, negsuc}
 use Rattle.std.specs.Str.{bytes_eq}
-use Rattle.bt_rowtype.specs.Schemas.{Schema}
-use Rattle.bt_rowtype.specs.Texts.{is_text}
+use Rattle.bt_rowtype.specs.Kinds.{Content, Number, content_of}
+use Rattle.bt_rowtype.specs.Schemas.{Schema, fits_kind}
 use Rattle.bt_rowtype.specs.declared.value.Kind.{Kind}
-use Rattle.bt_rowtype.specs.declared.value.Kind.TheVariants as kind
 use Rattle.bt_rowtype.specs.declared.value.Value.{Value}
-use Rattle.bt_rowtype.specs.declared.value.Value.TheVariants as value
 use Rattle.bt_keycode.specs.Codes.{code_of}
 use Rattle.bt_keycode.specs.inside.Decoding.{decoded}
 use Rattle.bt_keycode.specs.Keys.{Key}
@@ -19,13 +17,15 @@ use Rattle.bt_view.specs.Ranges.{index_schema}
 abbrev pub index_kinds : Schema → Definition → List Kind
 index_kinds schema def = map (λ c. c.kind) (take (index_schema schema def).keys (index_schema schema def).columns)
 
--- whether a value is of a kind and within its range: an int has 64 bits, a text is UTF-8 of at most 255 bytes
+-- whether what a value holds is a number of 64 bits, if it is one
+abbrev pub has_bits : Content → Bool
+has_bits (Number (pos n)) = nat_lt n (2 ^ 63)
+has_bits (Number (negsuc n)) = nat_lt n (2 ^ 63)
+has_bits other = true
+
+-- whether a value is of a kind and within its range
 abbrev pub is_of_kind : Kind → Value → Bool
-is_of_kind kind.Int (value.Int (pos n)) = nat_lt n (2 ^ 63)
-is_of_kind kind.Int (value.Int (negsuc n)) = nat_lt n (2 ^ 63)
-is_of_kind kind.Text (value.Text bytes) = is_text bytes
-is_of_kind kind.Flag (value.Flag flag) = true
-is_of_kind kind value = false
+is_of_kind kind value = fits_kind kind value && has_bits (content_of value)
 
 -- these values, where they are of these kinds and a key is their code
 abbrev pub if_coded : List Kind → Key → List Value → Option (List Value)

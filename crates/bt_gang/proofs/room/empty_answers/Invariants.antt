@@ -1,9 +1,10 @@
 use Rattle.std.proofs.Common.{◌≡◌, ◌≤◌, [], All, vec_len, vec_capacity}
+use Rattle.bt_gang.specs.Numbered.{present}
 use Rattle.bt_gang.proofs.room.empty_answers.Given as goal
 
 abbrev pub invariant-loop : goal.invariant-loop
 invariant-loop g l = record {
-  each : All (λ a. (a.list.items ≡ []) × (a.spare ≡ l.n)) l.made.items;
+  each : All (λ a. (present a.list ≡ []) × (a.spare ≡ l.n)) l.made.items;
   count : vec_len l.made ≡ l.counter;
   room : l.k ≤ vec_capacity l.made;
 }

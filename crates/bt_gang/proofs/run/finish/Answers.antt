@@ -1,4 +1,5 @@
 use Rattle.std.proofs.Common.{◌≡◌, ◌+◌, ◌<◌, ◌≤◌, ℕ, All, length, ap, sym, subst, arith}
+use Rattle.bt_gang.specs.Numbered.{present}
 use Rattle.bt_gang.proofs.Filling.{answered, least_among, ok_full}
 use Rattle.bt_gang.proofs.Finishing.{all_taken, are_empty, are_lists, below_own, below_rest, filled_all, have_come, jobs_last, lists_placed, memory_wanted, once, room_last}
 use Rattle.bt_gang.proofs.Working.{one_list, took_list}
@@ -45,7 +46,7 @@ place-requires g c =
     let allows = g.W.Work.allows c.args.work.now in
     let taken_in = c.take_in-outs.ensures in
     let come = have_come allows _ all _ _ c.args.served.others.items c.take_in-outs.result.items _ _ c.serve.new.out c.requires.mine c.args.served.others.ok.0 c.requires.others taken_in.outs taken_in.pass.1 c.serve.ensures.gains c.serve.ensures.last c.serve.ensures.settled in
-    record { numbers = below_own allows all _ _ c.serve.new.out.list.items c.take_in-outs.result.items come _ c.requires.slots }
+    record { numbers = below_own allows all _ _ (present c.serve.new.out.list) c.take_in-outs.result.items come _ c.requires.slots }
 
 pub place_all-taken-requires-clause-numbers : goal.place_all-taken-requires-clause-numbers
 place_all-taken-requires-clause-numbers g c =
@@ -53,7 +54,7 @@ place_all-taken-requires-clause-numbers g c =
     let allows = g.W.Work.allows c.args.work.now in
     let taken_in = c.take_in-outs.ensures in
     let come = have_come allows _ all _ _ c.args.served.others.items c.take_in-outs.result.items _ _ c.serve.new.out c.requires.mine c.args.served.others.ok.0 c.requires.others taken_in.outs taken_in.pass.1 c.serve.ensures.gains c.serve.ensures.last c.serve.ensures.settled in
-    below_rest allows all _ _ c.serve.new.out.list.items c.take_in-outs.result.items come _ _ c.requires.slots c.place.ensures.slots
+    below_rest allows all _ _ (present c.serve.new.out.list) c.take_in-outs.result.items come _ _ c.requires.slots c.place.ensures.slots
 
 pub values_or_fault-requires : goal.values_or_fault-requires
 values_or_fault-requires g c =
@@ -61,7 +62,7 @@ values_or_fault-requires g c =
     let allows = g.W.Work.allows c.args.work.now in
     let taken_in = c.take_in-outs.ensures in
     let come = have_come allows _ all _ _ c.args.served.others.items c.take_in-outs.result.items _ _ c.serve.new.out c.requires.mine c.args.served.others.ok.0 c.requires.others taken_in.outs taken_in.pass.1 c.serve.ensures.gains c.serve.ensures.last c.serve.ensures.settled in
-    let filled = filled_all allows all _ _ c.serve.new.out.list.items c.take_in-outs.result.items come _ _ _ c.requires.slots c.place.ensures.slots c.place_all-taken.ensures.slots in
+    let filled = filled_all allows all _ _ (present c.serve.new.out.list) c.take_in-outs.result.items come _ _ _ c.requires.slots c.place.ensures.slots c.place_all-taken.ensures.slots in
     (c.requires.done.0, fits _ _ filled.size c.place_all-taken.new.slots.ok.0 c.requires.done.1)
 
 pub returns-in-Ok-clause-pass : goal.returns-in-Ok-clause-pass
@@ -85,8 +86,8 @@ returns-in-Ok-clause-taken g c =
     let allows = g.W.Work.allows c.args.work.now in
     let taken_in = c.take_in-outs.ensures in
     let come = have_come allows _ all _ _ c.args.served.others.items c.take_in-outs.result.items _ _ c.serve.new.out c.requires.mine c.args.served.others.ok.0 c.requires.others taken_in.outs taken_in.pass.1 c.serve.ensures.gains c.serve.ensures.last c.serve.ensures.settled in
-    let lists = lists_placed c.serve.new.out.list.items c.take_in-outs.result.items c.place_all-taken.result.items _ _ _ c.requires.taken.0 c.push_reserved.ensures.items c.place.ensures.numbers c.place_all-taken.ensures.numbers in
-    are_lists allows all _ _ c.serve.new.out.list.items c.take_in-outs.result.items come _ lists
+    let lists = lists_placed (present c.serve.new.out.list) c.take_in-outs.result.items c.place_all-taken.result.items _ _ _ c.requires.taken.0 c.push_reserved.ensures.items c.place.ensures.numbers c.place_all-taken.ensures.numbers in
+    are_lists allows all _ _ (present c.serve.new.out.list) c.take_in-outs.result.items come _ lists
 
 pub returns-in-Ok-clause-absent : goal.returns-in-Ok-clause-absent
 returns-in-Ok-clause-absent g c =
@@ -94,8 +95,8 @@ returns-in-Ok-clause-absent g c =
     let allows = g.W.Work.allows c.args.work.now in
     let taken_in = c.take_in-outs.ensures in
     let come = have_come allows _ all _ _ c.args.served.others.items c.take_in-outs.result.items _ _ c.serve.new.out c.requires.mine c.args.served.others.ok.0 c.requires.others taken_in.outs taken_in.pass.1 c.serve.ensures.gains c.serve.ensures.last c.serve.ensures.settled in
-    let lists = lists_placed c.serve.new.out.list.items c.take_in-outs.result.items c.place_all-taken.result.items _ _ _ c.requires.taken.0 c.push_reserved.ensures.items c.place.ensures.numbers c.place_all-taken.ensures.numbers in
-    are_empty allows all _ _ c.serve.new.out.list.items c.take_in-outs.result.items come _ lists c.args.served.others.items taken_in.outs
+    let lists = lists_placed (present c.serve.new.out.list) c.take_in-outs.result.items c.place_all-taken.result.items _ _ _ c.requires.taken.0 c.push_reserved.ensures.items c.place.ensures.numbers c.place_all-taken.ensures.numbers in
+    are_empty allows all _ _ (present c.serve.new.out.list) c.take_in-outs.result.items come _ lists c.args.served.others.items taken_in.outs
 
 pub returns-in-Ok-clause-settled : goal.returns-in-Ok-clause-settled
 returns-in-Ok-clause-settled g c = c.serve.ensures.settled
@@ -106,10 +107,10 @@ returns-in-Ok-clause-board g c =
     let allows = g.W.Work.allows c.args.work.now in
     let taken_in = c.take_in-outs.ensures in
     let come = have_come allows _ all _ _ c.args.served.others.items c.take_in-outs.result.items _ _ c.serve.new.out c.requires.mine c.args.served.others.ok.0 c.requires.others taken_in.outs taken_in.pass.1 c.serve.ensures.gains c.serve.ensures.last c.serve.ensures.settled in
-    let filled = filled_all allows all _ _ c.serve.new.out.list.items c.take_in-outs.result.items come _ _ _ c.requires.slots c.place.ensures.slots c.place_all-taken.ensures.slots in
-    let lists = lists_placed c.serve.new.out.list.items c.take_in-outs.result.items c.place_all-taken.result.items _ _ _ c.requires.taken.0 c.push_reserved.ensures.items c.place.ensures.numbers c.place_all-taken.ensures.numbers in
+    let filled = filled_all allows all _ _ (present c.serve.new.out.list) c.take_in-outs.result.items come _ _ _ c.requires.slots c.place.ensures.slots c.place_all-taken.ensures.slots in
+    let lists = lists_placed (present c.serve.new.out.list) c.take_in-outs.result.items c.place_all-taken.result.items _ _ _ c.requires.taken.0 c.push_reserved.ensures.items c.place.ensures.numbers c.place_all-taken.ensures.numbers in
     let full = ok_full _ _ c.in-Ok.ensures.values in
-    all_taken allows all _ _ c.serve.new.out.list.items c.take_in-outs.result.items come _ lists _ filled full
+    all_taken allows all _ _ (present c.serve.new.out.list) c.take_in-outs.result.items come _ lists _ filled full
 
 pub returns-in-Ok-clause-once : goal.returns-in-Ok-clause-once
 returns-in-Ok-clause-once g c =
@@ -117,10 +118,10 @@ returns-in-Ok-clause-once g c =
     let allows = g.W.Work.allows c.args.work.now in
     let taken_in = c.take_in-outs.ensures in
     let come = have_come allows _ all _ _ c.args.served.others.items c.take_in-outs.result.items _ _ c.serve.new.out c.requires.mine c.args.served.others.ok.0 c.requires.others taken_in.outs taken_in.pass.1 c.serve.ensures.gains c.serve.ensures.last c.serve.ensures.settled in
-    let filled = filled_all allows all _ _ c.serve.new.out.list.items c.take_in-outs.result.items come _ _ _ c.requires.slots c.place.ensures.slots c.place_all-taken.ensures.slots in
-    let lists = lists_placed c.serve.new.out.list.items c.take_in-outs.result.items c.place_all-taken.result.items _ _ _ c.requires.taken.0 c.push_reserved.ensures.items c.place.ensures.numbers c.place_all-taken.ensures.numbers in
+    let filled = filled_all allows all _ _ (present c.serve.new.out.list) c.take_in-outs.result.items come _ _ _ c.requires.slots c.place.ensures.slots c.place_all-taken.ensures.slots in
+    let lists = lists_placed (present c.serve.new.out.list) c.take_in-outs.result.items c.place_all-taken.result.items _ _ _ c.requires.taken.0 c.push_reserved.ensures.items c.place.ensures.numbers c.place_all-taken.ensures.numbers in
     let full = ok_full _ _ c.in-Ok.ensures.values in
-    once allows all _ _ c.serve.new.out.list.items c.take_in-outs.result.items come _ lists _ filled full
+    once allows all _ _ (present c.serve.new.out.list) c.take_in-outs.result.items come _ lists _ filled full
 
 pub returns-in-Ok-clause-done : goal.returns-in-Ok-clause-done
 returns-in-Ok-clause-done g c =
@@ -128,7 +129,7 @@ returns-in-Ok-clause-done g c =
     let allows = g.W.Work.allows c.args.work.now in
     let taken_in = c.take_in-outs.ensures in
     let come = have_come allows _ all _ _ c.args.served.others.items c.take_in-outs.result.items _ _ c.serve.new.out c.requires.mine c.args.served.others.ok.0 c.requires.others taken_in.outs taken_in.pass.1 c.serve.ensures.gains c.serve.ensures.last c.serve.ensures.settled in
-    let filled = filled_all allows all _ _ c.serve.new.out.list.items c.take_in-outs.result.items come _ _ _ c.requires.slots c.place.ensures.slots c.place_all-taken.ensures.slots in
+    let filled = filled_all allows all _ _ (present c.serve.new.out.list) c.take_in-outs.result.items come _ _ _ c.requires.slots c.place.ensures.slots c.place_all-taken.ensures.slots in
     answered allows all _ _ _ filled c.in-Ok.ensures.values
 
 pub returns-in-Err-clause-fault : goal.returns-in-Err-clause-fault
@@ -137,7 +138,7 @@ returns-in-Err-clause-fault g c =
     let allows = g.W.Work.allows c.args.work.now in
     let taken_in = c.take_in-outs.ensures in
     let come = have_come allows _ all _ _ c.args.served.others.items c.take_in-outs.result.items _ _ c.serve.new.out c.requires.mine c.args.served.others.ok.0 c.requires.others taken_in.outs taken_in.pass.1 c.serve.ensures.gains c.serve.ensures.last c.serve.ensures.settled in
-    let filled = filled_all allows all _ _ c.serve.new.out.list.items c.take_in-outs.result.items come _ _ _ c.requires.slots c.place.ensures.slots c.place_all-taken.ensures.slots in
+    let filled = filled_all allows all _ _ (present c.serve.new.out.list) c.take_in-outs.result.items come _ _ _ c.requires.slots c.place.ensures.slots c.place_all-taken.ensures.slots in
     least_among allows all _ _ _ filled c.in-Err.ensures.fault
 
 pub returns-in-Err-clause-memory : goal.returns-in-Err-clause-memory
@@ -146,5 +147,5 @@ returns-in-Err-clause-memory g c =
     let allows = g.W.Work.allows c.args.work.now in
     let taken_in = c.take_in-outs.ensures in
     let come = have_come allows _ all _ _ c.args.served.others.items c.take_in-outs.result.items _ _ c.serve.new.out c.requires.mine c.args.served.others.ok.0 c.requires.others taken_in.outs taken_in.pass.1 c.serve.ensures.gains c.serve.ensures.last c.serve.ensures.settled in
-    let filled = filled_all allows all _ _ c.serve.new.out.list.items c.take_in-outs.result.items come _ _ _ c.requires.slots c.place.ensures.slots c.place_all-taken.ensures.slots in
-    memory_wanted allows all _ _ c.serve.new.out.list.items c.take_in-outs.result.items come _ _ c.args.served.others.items filled taken_in.outs c.in-Err.ensures.fault
+    let filled = filled_all allows all _ _ (present c.serve.new.out.list) c.take_in-outs.result.items come _ _ _ c.requires.slots c.place.ensures.slots c.place_all-taken.ensures.slots in
+    memory_wanted allows all _ _ (present c.serve.new.out.list) c.take_in-outs.result.items come _ _ c.args.served.others.items filled taken_in.outs c.in-Err.ensures.fault

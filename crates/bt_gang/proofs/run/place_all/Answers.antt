@@ -2,7 +2,6 @@ use Rattle.std.proofs.Common.{◌≡◌, ◌∙◌, ◌++◌, [], map, ap, sym, 
 use Rattle.std.proofs.lemmas.List.{nil_from_length}
 use Rattle.bt_gang.specs.inside.Places.{answers_in, numbers_in, puts}
 use Rattle.bt_gang.specs.Numbers.{joined}
-use Rattle.bt_gang.specs.Run.{number_lists}
 use Rattle.bt_gang.proofs.Filling.{placed_more, below_one, below_more, listed_more}
 use Rattle.bt_gang.proofs.run.place_all.Goals as goal
 
@@ -31,5 +30,5 @@ pub returns-clause-numbers : goal.returns-clause-numbers
 returns-clause-numbers g c =
     let left = c.loop-out.out-iterator.rest in
     let none : left.items ≡ [] = nil_from_length left.items (omega (arith, left.ok.0, c.in-None.ensures.steps.0)) in
-    let so_far = number_lists c.loop-out.taken.items in
+    let so_far = c.loop-out.taken.items in
     sym (append-nil so_far) ∙ (sym (ap (λ l. so_far ++ map numbers_in l) none) ∙ c.loop-out.invariant.taken)

@@ -4,7 +4,7 @@ use Rattle.bt_gang.proofs.run.ran_nothing.Goals as goal
 
 pub loop-preserved : goal.loop-preserved
 loop-preserved g c = record {
-  taken = one_empty _ _ _ _ c.push_reserved.ensures.items c.new.ensures.items c.loop.invariant.taken;
+  taken = one_empty _ _ _ _ c.push_reserved.ensures.items c.new.ensures c.loop.invariant.taken;
   count = search rules;
   room = search rules;
 }

@@ -1,10 +1,9 @@
 use Rattle.std.proofs.Common.{◌≡◌, ◌≤◌, [], replicate, vec_len, vec_capacity}
-use Rattle.bt_gang.specs.Run.{number_lists}
 use Rattle.bt_gang.proofs.run.ran_nothing.Given as goal
 
 abbrev pub invariant-loop : goal.invariant-loop
 invariant-loop g l = record {
-  taken : number_lists l.taken.items ≡ replicate l.counter [];
+  taken : l.taken.items ≡ replicate l.counter [];
   count : vec_len l.taken ≡ l.counter;
   room : l.workers ≤ vec_capacity l.taken;
 }

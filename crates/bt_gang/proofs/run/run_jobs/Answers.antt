@@ -2,7 +2,7 @@ use Rattle.std.proofs.Common.{◌≡◌, ◌+◌, ◌≤◌, ℕ, [], All, None,
 use Rattle.std.proofs.lemmas.List.{nil_from_length}
 use Rattle.std.proofs.lemmas.Result.{IfOk-weaker}
 use Rattle.crossbeam_queue.specs.Passes.{view}
-use Rattle.bt_gang.specs.Run.{AreAllTaken, AreValues, Answered, EachOnce, number_lists}
+use Rattle.bt_gang.specs.Run.{AreAllTaken, AreValues, Answered, EachOnce}
 use Rattle.bt_gang.specs.inside.Workers.{HasServedCaller, IsCaller}
 use Rattle.bt_gang.proofs.Filling.{none_listed, none_taken, values_stand}
 use Rattle.bt_gang.proofs.run.run_jobs.Goals as goal
@@ -26,13 +26,13 @@ returns-then-n-eq0-clause-values g c =
 pub returns-then-n-eq0-clause-taken : goal.returns-then-n-eq0-clause-taken
 returns-then-n-eq0-clause-taken g c =
     let none : length c.args.jobs.items ≡ 0 = omega (arith, c.len-n.ensures, c.args.jobs.ok.0, c.if-n-eq0.true) in
-    IfOk-weaker c.ran_nothing.result (λ r. number_lists r.taken.items ≡ replicate c.args.crew.now.workers []) (λ r. AreAllTaken (length c.args.jobs.items) (number_lists r.taken.items))
+    IfOk-weaker c.ran_nothing.result (λ r. r.taken.items ≡ replicate c.args.crew.now.workers []) (λ r. AreAllTaken (length c.args.jobs.items) r.taken.items)
     (λ r e. none_taken (length c.args.jobs.items) c.args.crew.now.workers r.taken.items none e) c.ran_nothing.ensures.taken
 
 pub returns-then-n-eq0-clause-once : goal.returns-then-n-eq0-clause-once
 returns-then-n-eq0-clause-once g c =
     let none : length c.args.jobs.items ≡ 0 = omega (arith, c.len-n.ensures, c.args.jobs.ok.0, c.if-n-eq0.true) in
-    IfOk-weaker c.ran_nothing.result (λ r. number_lists r.taken.items ≡ replicate c.args.crew.now.workers []) (λ r. EachOnce (length c.args.jobs.items) r.taken.items)
+    IfOk-weaker c.ran_nothing.result (λ r. r.taken.items ≡ replicate c.args.crew.now.workers []) (λ r. EachOnce (length c.args.jobs.items) r.taken.items)
     (λ r e. none_listed (length c.args.jobs.items) c.args.crew.now.workers r.taken.items none e) c.ran_nothing.ensures.taken
 
 pub split-workers-requires-clause-outs : goal.split-workers-requires-clause-outs
@@ -82,7 +82,7 @@ pub finish-finished-requires-clause-accepts : goal.finish-finished-requires-clau
 finish-finished-requires-clause-accepts g c κs within = subst (λ v. All (λ job. g.W.Work.accepts c.args.work.now job) v.items) (sym c.of-snapshot.ensures) c.requires.accepts
 
 pub returns-in-Ok-finished-clause-taken : goal.returns-in-Ok-finished-clause-taken
-returns-in-Ok-finished-clause-taken g c = subst (λ v. AreAllTaken (length v.items) (number_lists c.in-Ok-finished.ran.taken.items)) c.of-snapshot.ensures c.in-Ok-finished.ensures.board
+returns-in-Ok-finished-clause-taken g c = subst (λ v. AreAllTaken (length v.items) c.in-Ok-finished.ran.taken.items) c.of-snapshot.ensures c.in-Ok-finished.ensures.board
 
 pub returns-in-Ok-finished-clause-once : goal.returns-in-Ok-finished-clause-once
 returns-in-Ok-finished-clause-once g c = subst (λ v. EachOnce (length v.items) c.in-Ok-finished.ran.taken.items) c.of-snapshot.ensures c.in-Ok-finished.ensures.once

@@ -24,7 +24,7 @@ run-value-requires g c =
     at_all (g.W.Work.accepts c.args.work.now) was.jobs item.number item.job c.requires.accepts at
 
 pub add-requires : goal.add-requires
-add-requires g c = spare_left (g.W.Work.allows c.args.work.now) (view c.args.pass.now) _ _ c.args.out.now c.loop.out _ c.loop.invariant.gains c.in-Some-pop_as.ensures.rule c.requires.pass.1 c.requires.spare
+add-requires g c = spare_left (g.W.Work.allows c.args.work.now) (view c.args.pass.now) _ _ c.args.out.now c.loop.out c.in-Some-pop_as.item c.loop.invariant.gains c.in-Some-pop_as.ensures.rule c.requires.pass.1 c.requires.spare
 
 pub loop-preserved : goal.loop-preserved
 loop-preserved g c = record {

@@ -4,6 +4,7 @@ use Rattle.crossbeam_queue.specs.Passes.{view}
 use Rattle.bt_gang.specs.declared.answers.Answers.{Answers}
 use Rattle.bt_gang.specs.declared.workers.Worker.{Worker}
 use Rattle.bt_gang.specs.declared.crew.TheConstants.{MOST_WORKERS}
+use Rattle.bt_gang.specs.Numbered.{present}
 use Rattle.bt_gang.specs.inside.Workers.{IsCaller, IsReady}
 use Rattle.bt_gang.proofs.Rules.{forks}
 use Rattle.bt_gang.proofs.Working.{caller_first, caller_next, from_more, from_none}
@@ -21,7 +22,7 @@ loop-out-init g c =
     let given = c.into_iter-out-iterator.ensures.into_iter_gives in
     let empty = c.requires.room.0 in
     let zero : vec_len c.args.workers ≡ 0 = omega (arith, ap length empty, c.args.workers.ok.0) in
-    let P : Answers g.row.D.Denot g.row.F.Denot → Type 0 = λ a. (a.list.items ≡ []) × (a.spare ≡ length all) in
+    let P : Answers g.row.D.Denot g.row.F.Denot → Type 0 = λ a. (present a.list ≡ []) × (a.spare ≡ length all) in
     let Q : ℕ → Worker g.row.J.Denot g.row.D.Denot g.row.F.Denot → Type 0 = IsReady c.args.jobs.now all [] in
     record {
       pass = c.requires.pass.0;
@@ -41,7 +42,7 @@ loop-out-preserved g c =
     let i = c.loop-out.invariant in
     let s = c.in-Some.ensures.steps in
     let all = c.args.all.now.value.items in
-    let P : Answers g.row.D.Denot g.row.F.Denot → Type 0 = λ a. (a.list.items ≡ []) × (a.spare ≡ length all) in
+    let P : Answers g.row.D.Denot g.row.F.Denot → Type 0 = λ a. (present a.list ≡ []) × (a.spare ≡ length all) in
     let Q : ℕ → Worker g.row.J.Denot g.row.D.Denot g.row.F.Denot → Type 0 = IsReady c.args.jobs.now all [] in
     let few : suc (vec_len c.loop-out.workers) < MOST_WORKERS = omega (arith, i.count, i.few, s.1) in
     let n = caller_next all _ _ (view c.loop-out.pass) _ _ i.caller few c.push_reserved.ensures.len c.another-theirs.ensures.rule.0 c.another-theirs.ensures.rule.1 in

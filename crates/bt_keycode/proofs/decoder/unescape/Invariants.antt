@@ -5,9 +5,9 @@ use Rattle.bt_keycode.proofs.decoder.unescape.Given as goal
 -- the bytes read so far, and what is read of those that are left, are what is read of all
 abbrev pub invariant-loop-byte : goal.invariant-loop-byte
 invariant-loop-byte l = record {
-  room : length l.text ≡ 255;
+  size : length l.room ≡ 255;
   bound : l.len ≤ 255;
-  read : unescaped l.bytes ≡ after_bytes (take l.len l.text) (unescaped l.code);
+  read : unescaped l.bytes ≡ after_bytes (take l.len l.room) (unescaped l.code);
 }
 
 abbrev pub decreases-loop-byte : goal.decreases-loop-byte

@@ -13,8 +13,8 @@ push_as-requires-clause-rule g c =
     let all = lists_length MOST_WORKERS _ _ i.knows in
     (pushes MOST_WORKERS _ _ _ _ all (omega arith) (i.number ∙ sym (ap (λ v. length v.jobs) i.knows)), learns MOST_WORKERS _ _ (omega arith))
 
-pub unreachable-requires : goal.unreachable-requires
-unreachable-requires g c =
+pub unreachable-requires-in-Err : goal.unreachable-requires-in-Err
+unreachable-requires-in-Err g c =
     let i = c.loop-job.invariant in
     let full = never_full MOST_WORKERS _ c.loop-job.yielded _ i.knows c.in-Err.ensures.rule.2 in
     let places = c.in_ok-queue.ensures.0 in

@@ -11,4 +11,5 @@ invariant-loop-job g l = record {
   knows : view l.pass ≡ known l.yielded (no_lists MOST_WORKERS);
   number : l.number ≡ length l.yielded;
   left : l.number + into_iter_len l.job-iterator ≡ vec_len l.fn.jobs;
+  rooms : into_iter_len l.rooms ≡ into_iter_len l.job-iterator;
 }

@@ -1,4 +1,5 @@
-use Rattle.std.proofs.Common.{ℕ, List, ◌≡◌, ◌<◌, ◌∙◌, arith, ap, subst, sym, length, take, Box, Vec, Global}
+use Rattle.std.proofs.Common.{ℕ, List, ◌≡◌, ◌<◌, ◌≤◌, ◌∙◌, arith, ap, subst, sym, length, min, take, Box, Vec, Global}
+use Rattle.std.proofs.lemmas.List.{length-take}
 use Rattle.bt_rowtype.specs.inside.Shorts.{FitsInside, bytes_of, most_short}
 use Rattle.bt_rowtype.specs.Paddings.{padded}
 use Rattle.bt_rowtype.specs.declared.bytes.Kept.{Kept}
@@ -14,6 +15,11 @@ all_places kept len places seen bytes is fits shown same =
     let whole : seen ≡ padded most_short bytes = same ∙ inside.1 ∙ ap (λ (bs : List ℕ). padded most_short bs) front in
     (ap length whole ∙ length-padded most_short bytes, whole)
 
+-- the bytes are no more than the places
+fewer : (kept : Kept) (len : ℕ) (places seen bytes : List ℕ) → kept ≡ Short len places → bytes_of kept ≡ bytes → seen ≡ places → length bytes ≤ length seen
+fewer kept len places seen bytes is shown same =
+    omega (arith, ap length (sym (ap bytes_of is) ∙ shown), length-take len places, ap length same)
+
 pub returns-in-Short-clause-bytes : goal.returns-in-Short-clause-bytes
 returns-in-Short-clause-bytes c =
     let seen = all_places c.self.inside.kept c.in-Short.field-0 c.in-Short.bytes c.as_slice.result.now c.args.self.now c.in-Short.is c.self.invariant c.self.view_is c.as_slice.ensures in
@@ -23,6 +29,10 @@ pub returns-in-Short-clause-room : goal.returns-in-Short-clause-room
 returns-in-Short-clause-room c =
     let seen = all_places c.self.inside.kept c.in-Short.field-0 c.in-Short.bytes c.as_slice.result.now c.args.self.now c.in-Short.is c.self.invariant c.self.view_is c.as_slice.ensures in
     omega (arith, seen.0)
+
+pub returns-in-Short-clause-whole : goal.returns-in-Short-clause-whole
+returns-in-Short-clause-whole c =
+    fewer c.self.inside.kept c.in-Short.field-0 c.in-Short.bytes c.as_slice.result.now c.args.self.now c.in-Short.is c.self.view_is c.as_slice.ensures
 
 -- the bytes of a value that keeps them elsewhere, which are more
 all_bytes : (kept : Kept) (long : Box (Vec ℕ Global) Global) (seen bytes : List ℕ) → kept ≡ Long long → FitsInside kept → bytes_of kept ≡ bytes → seen ≡ long.value.items → (most_short < length seen) × (seen ≡ bytes)
@@ -41,3 +51,9 @@ returns-in-Long-clause-room c =
     let is = c.as_slice-in-Long.ensures.value ∙ ap (λ (v : Vec ℕ Global). v.items) c.deref.ensures in
     let seen = all_bytes c.self.inside.kept c.in-Long.bytes c.as_slice-in-Long.result.now c.args.self.now c.in-Long.is c.self.invariant c.self.view_is is in
     omega (arith, seen.0)
+
+pub returns-in-Long-clause-whole : goal.returns-in-Long-clause-whole
+returns-in-Long-clause-whole c =
+    let is = c.as_slice-in-Long.ensures.value ∙ ap (λ (v : Vec ℕ Global). v.items) c.deref.ensures in
+    let seen = all_bytes c.self.inside.kept c.in-Long.bytes c.as_slice-in-Long.result.now c.args.self.now c.in-Long.is c.self.invariant c.self.view_is is in
+    omega (arith, ap length seen.1)

@@ -12,9 +12,9 @@ is_some-map : {A B : Type 0} (f : A → B) (o : Option A) → is_some (option_ma
 is_some-map f None = refl
 is_some-map f (Some x) = refl
 
-pub returns-then-len-ge-MOST_INDEXES-clause-refused : goal.returns-then-len-ge-MOST_INDEXES-clause-refused
-returns-then-len-ge-MOST_INDEXES-clause-refused c =
-    let long : c.len.result ≡ length c.self.inside.heads.items = search rules in
+pub returns-then-is_full-clause-refused : goal.returns-then-is_full-clause-refused
+returns-then-is_full-clause-refused c =
+    let long : c.len-is_full.result ≡ length c.self.inside.heads.items = search rules in
     let many : nat_le MOST_INDEXES (length c.self.inside.heads.items) ≡ true = grind (arith, nat_tests) in
     let free : is_some (index_named c.args.name.now (indexes_of c.self.inside.heads.items c.in-Some.trees.entries.items)) ≡ false =
     rw (c.as_slice.ensures.value, c.as_slice-2.ensures.value) at (sym (ap is_some c.find_index-found.ensures.found) ∙ is_some-map _ c.find_index-found.result ∙ sym c.if-is_some.ensures) in
@@ -22,7 +22,7 @@ returns-then-len-ge-MOST_INDEXES-clause-refused c =
 
 pub returns-clause-free : goal.returns-clause-free
 returns-clause-free c =
-    let long : c.len.result ≡ length c.self.inside.heads.items = search rules in
+    let long : c.len-is_full.result ≡ length c.self.inside.heads.items = search rules in
     let few : nat_le MOST_INDEXES (length c.self.inside.heads.items) ≡ false = grind (arith, nat_tests) in
     let free : is_some (index_named c.args.name.now (indexes_of c.self.inside.heads.items c.in-Some.trees.entries.items)) ≡ false =
     rw (c.as_slice.ensures.value, c.as_slice-2.ensures.value) at (sym (ap is_some c.find_index-found.ensures.found) ∙ is_some-map _ c.find_index-found.result ∙ sym c.if-is_some.ensures) in

@@ -1,9 +1,0 @@
--- What an addition reads.
-use Rattle.std.specs.Prelude.{Option, Some, None, ℤ}
-use Rattle.bt_rowtype.specs.declared.value.Value.{Value}
-use Rattle.bt_rowtype.specs.declared.value.Value.TheVariants as value
-
--- the number that a value is, if it is an int
-abbrev pub number_of : Value → Option ℤ
-number_of (value.Int n) = Some n
-number_of other = None

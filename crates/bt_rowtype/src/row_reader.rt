@@ -1,0 +1,117 @@
+//! Reading a record as a row or as a key.
+ghost use Rattle.std.specs.Prelude.{◌≡◌, ◌≢◌, ◌≤◌, Err, IfOk, length, take};
+ghost use Rattle.std.specs.Result.{result_map_both};
+ghost use Rattle.bt_rowtype.specs.Answers.{Answers};
+ghost use Rattle.bt_rowtype.specs.Values.{HasBytes, or_refused, prefix_as, read_as, value_of, values_of};
+ghost use Rattle.bt_rowtype.specs.Views.{shown};
+
+use crate::fields::{Fields, FieldsRef};
+use crate::refusal::Refusal;
+use crate::row::Row;
+use crate::schema::{Column, Schema};
+use crate::text::LONGEST_TEXT;
+use crate::value::{Form, Kind, ValueRef};
+use std::alloc::Global;
+
+// The value that a field spells, or its refusal as this item. Its bytes are lent from the field, or from `room`.
+pub(crate) fn read_at<'a: 'b, 'b>(
+    kind: Kind,
+    item: u64,
+    field: &'a [u8],
+    room: &'b mut [u8; LONGEST_TEXT],
+) -> Result<ValueRef<'b>, Refusal>
+    ensures value { result_map_both shown (λ e. e) result ≡ or_refused (Refusal.BadField item) (value_of kind field.now) }
+    ensures bytes { IfOk result (λ value. HasBytes (shown value)) }
+{
+    match kind.read(field, room) {
+        Some(value) => Ok(value),
+        None => Err(Refusal::BadField(item)),
+    }
+}
+
+// The bytes that a value takes at most, of which one in the form of bytes has no more than its field.
+fn room_of(form: Form, field: &[u8]) -> usize {
+    match form {
+        Form::Number => 9,
+        Form::Bytes => field.len().saturating_add(2),
+        Form::Bit => 1,
+    }
+}
+
+// The bytes that values of these columns take.
+fn room_for(columns: &[Column], fields: &FieldsRef<'_>) -> usize
+    requires { length columns.now ≤ length fields.now }
+{
+    let mut room: usize = 0;
+    for (place, column) in columns.iter().enumerate() {
+        room = room.saturating_add(room_of(column.kind.form(), fields.get(place)));
+    }
+    room
+}
+
+// The values that the first fields spell, one for each column.
+pub(crate) fn read_fields(
+    alloc: Global,
+    columns: &[Column],
+    item: u64,
+    fields: &FieldsRef<'_>,
+) -> Result<Row, Refusal>
+    requires { length columns.now ≤ length fields.now }
+    ensures { Answers (or_refused (Refusal.BadField item) (values_of columns.now (take (length columns.now) fields.now))) result }
+{
+    let mut row = Row::with_room(alloc, room_for(columns, fields))?;
+    let mut room = [0; LONGEST_TEXT];
+    for (place, column) in columns.iter().enumerate() {
+        let value = read_at(column.kind, item, fields.get(place), &mut room)?;
+        row.push(alloc, value)?;
+    }
+    Ok(row)
+}
+
+// The values that fields spell, one for each column.
+pub(crate) fn read_values(
+    alloc: Global,
+    columns: &[Column],
+    item: u64,
+    fields: &FieldsRef<'_>,
+) -> Result<Row, Refusal>
+    ensures answer { Answers (read_as columns.now item fields.now) result }
+    ensures certain { length fields.now ≢ length columns.now → result ≡ Err (Refusal.BadLength item) }
+{
+    if fields.len() != columns.len() {
+        return Err(Refusal::BadLength(item));
+    }
+    read_fields(alloc, columns, item, fields)
+}
+
+// The values that fields spell, each by one of the first columns.
+pub(crate) fn read_prefix(
+    alloc: Global,
+    columns: &[Column],
+    item: u64,
+    fields: &FieldsRef<'_>,
+) -> Result<Row, Refusal>
+    ensures { Answers (prefix_as columns.now item fields.now) result }
+{
+    if fields.len() == 0 || fields.len() > columns.len() {
+        return Err(Refusal::BadLength(item));
+    }
+    read_fields(alloc, &columns[..fields.len()], item, fields)
+}
+
+/// The row that a record spells, one field for each column. `BadLength` where their number differs, else `BadField` where a
+/// field is no value of its column, both with this item.
+pub fn read_row(alloc: Global, schema: &Schema, item: u64, fields: &Fields) -> Result<Row, Refusal>
+    ensures answer { Answers (read_as schema.now.columns item fields.now) result }
+    ensures certain { length fields.now ≢ length schema.now.columns → result ≡ Err (Refusal.BadLength item) }
+{
+    read_values(alloc, schema.columns(), item, &fields.as_ref())
+}
+
+/// The values of the key that a record spells, one field for each key column, refused as in [`read_row`].
+pub fn read_key(alloc: Global, schema: &Schema, item: u64, fields: &Fields) -> Result<Row, Refusal>
+    ensures answer { Answers (read_as (take schema.now.keys schema.now.columns) item fields.now) result }
+    ensures certain { length fields.now ≢ schema.now.keys → result ≡ Err (Refusal.BadLength item) }
+{
+    read_values(alloc, schema.key_columns(), item, &fields.as_ref())
+}
