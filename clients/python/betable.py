@@ -11,7 +11,7 @@
         session.run("index city on city\\nbuild city 200000\\nsums city 1 id\\ngo\\n")
 
 The library is the libbt_c.so of the folder that BETABLE_LIBRARY names, or of out/ of this repository: bin/build_c builds it. docs/SCRIPT.md has the
-language. A value of a row is an int, a str or a bool, by the kind of its column.
+language. A value of a row is an int, a str, a bool or bytes, by the kind of its column.
 
 A command that is refused raises Refused, which has its line in the script, the number and the name of the refusal and its item. A session belongs to the
 thread that opened it; another one that uses it gets a RuntimeError, as a closed session gives a ValueError.
@@ -26,6 +26,7 @@ from pathlib import Path
 
 DONE, OUT_OF_MEMORY, REPLY_CUT, NOT_OPEN, ALREADY_OPEN = range(5)
 MOST_MESSAGES = 65_536
+OPERATIONS = ("set", "add", "max", "min")
 # Replies of fewer bytes are copied by one call.
 SHORT_REPLIES = 4_096
 CLOSING_LINES = {b"batch": b"end", b"scan": b"go", b"sums": b"go", b"load": b"."}
@@ -85,8 +86,10 @@ def field(value):
         return "true" if value else "false"
     if isinstance(value, int):
         return str(value)
+    if isinstance(value, (bytes, bytearray)):
+        value = value.hex()
     if not isinstance(value, str):
-        raise TypeError(f"a value is an int, a str or a bool, and not {value!r}")
+        raise TypeError(f"a value is an int, a str, a bool or bytes, and not {value!r}")
     return '"' + value.replace('"', '""') + '"' if IN_QUOTES.search(value) else value
 
 
@@ -108,10 +111,11 @@ def delete(*key):
     return f"del {record(key)}\n"
 
 
-def upsert(*key, set=None, add=None):
-    """The message that columns of the row of a key are set, and that ints are added to columns."""
-    words = [word for name, value in (set or {}).items() for word in ("set", name, value)]
-    words += [word for name, value in (add or {}).items() for word in ("add", name, value)]
+def upsert(*key, **operations):
+    """The message that changes columns of the row of a key: `set`, `add`, `max` and `min` are each a dict of columns and what is done with them."""
+    if unknown := operations.keys() - set(OPERATIONS):
+        raise TypeError(f"an operation is one of {', '.join(OPERATIONS)}, and not {min(unknown)!r}")
+    words = [word for operation in OPERATIONS for name, value in (operations.get(operation) or {}).items() for word in (operation, name, value)]
     return f"ups {record([*key, *words])}\n"
 
 
@@ -168,7 +172,14 @@ def _values(text, kinds):
 
 
 def _value(text, kind):
-    return int(text) if kind == "int" else text == "true" if kind == "flag" else text
+    match kind:
+        case "int":
+            return int(text)
+        case "flag":
+            return text == "true"
+        case "bytes":
+            return bytes.fromhex(text)
+    return text
 
 
 def _is_refusal(lines):

@@ -222,9 +222,9 @@ def values_of(key, kinds):
             value, key = str(int(key[:16], 16) - 2**63), key[16:]
         elif kind == "flag" and key[:2] in ("00", "01"):
             value, key = ("false", "true")[int(key[:2])], key[2:]
-        elif kind == "text" and (code := TEXT_CODE.match(key)):
-            value = bytes.fromhex(re.sub("(00)ff|(..)", r"\1\2", code[1])).decode("utf-8", "replace")
-            key = key[code.end() :]
+        elif kind in ("text", "bytes") and (code := TEXT_CODE.match(key)):
+            held = bytes.fromhex(re.sub("(00)ff|(..)", r"\1\2", code[1]))
+            value, key = held.hex() if kind == "bytes" else held.decode("utf-8", "replace"), key[code.end() :]
         else:
             return None
         values.append(value)
@@ -236,7 +236,7 @@ def kinds_of_keys(root):
     rows = [item for node in root.nodes() for item in node.items if item[0] in "=+"]
     samples = [(key, fields_of(text)) for _, key, text in rows[:200]]
     for length in range(1, 5):
-        for kinds in itertools.product(("int", "text", "flag"), repeat=length):
+        for kinds in itertools.product(("int", "text", "flag", "bytes"), repeat=length):
             if samples and all(values_of(key, kinds) == fields[:length] for key, fields in samples):
                 return kinds
     return ()

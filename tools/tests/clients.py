@@ -221,6 +221,14 @@ def rows_come_as_they_went():
         rows = sorted((text, text) for text in TEXTS + LONG_TEXTS)
         expect(session.load(rows), len(rows))
         expect(session.scan(), rows)
+    with client.Session() as session:
+        session.run("table 16 64 16 1 hash:bytes least:int greatest:int\n")
+        rows = [(b"", 3, 3), (b"\0\xff", -1, 7), (bytes(range(255)), 0, 0)]
+        expect(session.put(rows), len(rows))
+        expect(session.scan(), sorted(rows))
+        session.batch([client.upsert(row[0], min={"least": 1}, max={"greatest": 5}) for row in rows])
+        expect([session.get(row[0])[1:] for row in rows], [(1, 5), (-1, 7), (0, 5)])
+        expect(fault_of(lambda: client.upsert(b"", most={"greatest": 1})), TypeError)
 
 
 def texts_that_no_line_has_are_told():

@@ -65,6 +65,9 @@ def draw_reads_keys_of_several_columns():
     script += "batch\ndel Oslo,true\nend\nimage primary\n"
     picture = drawn(replies(script))
     expect((texts(picture, "pivot"), texts(picture, "del")), (["| Oslo,true"], ["- Oslo,true"]))
+    script = "table 4 2 2 2 hash:bytes on:flag\nbatch\nput 00FF,true\nput ,true\nput 0a,true\nend\nbatch\ndel 00ff,true\nend\nimage primary\n"
+    picture = drawn(replies(script))
+    expect((texts(picture, "pivot"), texts(picture, "del")), (["| 0a,true"], ["- 00ff,true"]))
 
 
 def draw_wants_an_image():
