@@ -7,8 +7,8 @@ use std::alloc::{AllocError, Global};
 use std::sync::Wait;
 use std::thread::Threads;
 
-/// For so many grains of messages or keys there is one worker. It takes 24 µs to start a thread, which is what four grains of messages take to be
-/// flushed, at the grain of 64 that a crew has where none is asked for.
+/// For so many grains of messages or keys there is one worker. It takes some 30 µs to start a thread, which is what four grains of messages take to
+/// be flushed, at the grain of 64 that a crew has where none is asked for.
 const GRAINS_PER_WORKER: usize = 4;
 
 /// How many workers so many messages or keys are worth.

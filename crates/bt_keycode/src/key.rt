@@ -101,6 +101,21 @@ impl Key {
         self.number_at(0)
     }
 
+    /// The number that the eight bytes behind those of the first one write, with zeros as there.
+    pub fn second_number(&self) -> u64
+        ensures { eight_bytes result ≡ first_eight (drop 8 self.now) }
+    {
+        self.number_at(8)
+    }
+
+    /// The number that the eight bytes from place 14 on write, with zeros as in the first one. The three numbers tell the first 22
+    /// bytes.
+    pub fn third_number(&self) -> u64
+        ensures { eight_bytes result ≡ first_eight (drop 14 self.now) }
+    {
+        self.number_at(LAST_EIGHT)
+    }
+
     // The number that the eight bytes from a place on write, with zeros in place of those that the key hasn't.
     fn number_at(&self, place: usize) -> u64
         requires { place ≤ LAST_EIGHT }

@@ -22,9 +22,11 @@
 //! ```
 #![tactic(auto)]
 
+mod beginnings;
 mod bins;
 mod buffer;
 mod entry;
+mod first_numbers;
 mod iter;
 mod joined;
 mod measure;

@@ -6,12 +6,13 @@ ghost use Rattle.bt_messages.specs.Effects.{DoTheSame, effect_of};
 ghost use Rattle.bt_messages.specs.Messages.{sorted_batch};
 ghost use Rattle.bt_messages.specs.inside.Runs.{AreRuns};
 
+use crate::beginnings::sorted_by_beginnings;
 use crate::buffer::Buffer;
+use crate::first_numbers::sorted_by_first_numbers;
 use crate::joined::Joined;
 use crate::message::{Merge, Message};
-use crate::places::sorted_by_first_bytes;
 use crate::runs::in_runs;
-use crate::sorted;
+use crate::sorted::{self, Sorting};
 use crate::stream::Stream;
 use bt_keycode::Key;
 use std::alloc::{AllocError, Global};
@@ -39,6 +40,34 @@ impl<V: Merge> Model for Packet<V> {
     ghost invariant = { λ p. AreRuns p.first p.rest.items p.count };
 }
 
+// The packet of a batch, whose messages are moved to sort it.
+fn sorted_by_messages<V: Merge>(
+    alloc: Global,
+    batch: Vec<(Key, Message<V>)>,
+) -> Result<Packet<V>, AllocError>
+    ensures { IfOk result (λ packet. packet ≡ sorted_batch batch.items) }
+{
+    let mut messages = batch;
+    sorted::sort(&mut messages)?;
+    let count = messages.len();
+    let runs = in_runs(alloc, messages)?;
+    Ok(Packet::from_runs(Buffer::new(alloc), runs, count))
+}
+
+// The packet of a batch, sorted in the way that costs least.
+fn sorted_packet<V: Merge>(
+    alloc: Global,
+    batch: Vec<(Key, Message<V>)>,
+) -> Result<Packet<V>, AllocError>
+    ensures { IfOk result (λ packet. packet ≡ sorted_batch batch.items) }
+{
+    match sorted::sorting_of(alloc, batch.as_slice())? {
+        Sorting::Messages => sorted_by_messages(alloc, batch),
+        Sorting::FirstNumbers => sorted_by_first_numbers(alloc, batch),
+        Sorting::Beginnings => sorted_by_beginnings(alloc, batch),
+    }
+}
+
 impl<V: Merge> Packet<V> {
     /// No message.
     pub fn new(alloc: Global) -> Self
@@ -52,14 +81,7 @@ impl<V: Merge> Packet<V> {
         ensures messages { IfOk result (λ packet. packet ≡ sorted_batch batch.items) }
         ensures same_rows { IfOk result (λ packet. DoTheSame (effect_of V.terms.merged) packet batch.items) }
     {
-        if sorted::is_sorted_by_places(alloc, batch.as_slice())? {
-            return sorted_by_first_bytes(alloc, batch);
-        }
-        let mut messages = batch;
-        sorted::sort(&mut messages)?;
-        let count = messages.len();
-        let runs = in_runs(alloc, messages)?;
-        Ok(Packet::from_runs(Buffer::new(alloc), runs, count))
+        sorted_packet(alloc, batch)
     }
 
     /// The messages of a buffer. Takes no memory.

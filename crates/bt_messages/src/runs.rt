@@ -31,7 +31,24 @@ pub(crate) fn add_run<V: Merge>(
     Ok(())
 }
 
+// Puts a run behind the others, and an empty one in its place.
+fn next_run<V: Merge>(
+    alloc: Global,
+    runs: &mut Vec<Buffer<V>>,
+    run: &mut Vec<(Key, Message<V>)>,
+) -> Result<(), AllocError>
+    requires sorted { IsSorted run.old.items }
+    requires some { AreSome runs.old.items }
+    ensures joined { OnOk result (joined runs.new.items ++ run.new.items ≡ joined runs.old.items ++ run.old.items) }
+    ensures some { OnOk result (AreSome runs.new.items) }
+    ensures room { OnOk result (vec_len run.new < vec_capacity run.new) }
+{
+    let full = replace(run, Vec::with_capacity(alloc, RUN)?);
+    add_run(runs, full)
+}
+
 /// Makes room for one message more: a full run goes behind the others, and an empty one stands in its place.
+#[inline(always)]
 pub(crate) fn room_for_one<V: Merge>(
     alloc: Global,
     runs: &mut Vec<Buffer<V>>,
@@ -43,11 +60,11 @@ pub(crate) fn room_for_one<V: Merge>(
     ensures some { OnOk result (AreSome runs.new.items) }
     ensures room { OnOk result (vec_len run.new < vec_capacity run.new) }
 {
+    // Mostly there is room, and this test alone stands where the call does.
     if run.len() < run.capacity() {
         return Ok(());
     }
-    let full = replace(run, Vec::with_capacity(alloc, RUN)?);
-    add_run(runs, full)
+    next_run(alloc, runs, run)
 }
 
 /// Sorted messages in runs.

@@ -66,8 +66,11 @@ fn visit_held<V: Merge, S: Visitor<V>>(
     }
 }
 
-// What the first row has where it has this key, and the rows at other keys.
-fn split_first<'a, V: Merge>(rows: &'a [(Key, V)], key: &Key) -> (Option<&'a V>, &'a [(Key, V)])
+/// What the first row has where it has this key, and the rows at other keys.
+pub(crate) fn split_first<'a, V: Merge>(
+    rows: &'a [(Key, V)],
+    key: &Key,
+) -> (Option<&'a V>, &'a [(Key, V)])
     requires sorted { IsTrue (is_sorted key_cmp rows.now) }
     requires none_before { before key.now rows.now ≡ [] }
     ensures value { option_copied result.0 ≡ find key_cmp key.now rows.now }

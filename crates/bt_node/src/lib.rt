@@ -57,6 +57,7 @@ mod opening;
 mod planning;
 mod portions;
 mod rows;
+mod search;
 mod shape;
 mod tree;
 mod visitor;

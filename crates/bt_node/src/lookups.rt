@@ -64,7 +64,7 @@ fn first_run<'k>(pivots: &[Key], keys: &'k [&'k Key]) -> (usize, &'k [&'k Key])
     (place, &keys[..count])
 }
 
-// What a leaf has at keys.
+// What a leaf has at keys. From the row of one key the next one is some rows away, as many as there are to a key.
 fn found_at<'a, V: Merge>(
     alloc: Global,
     rows: &'a Rows<V>,
@@ -73,13 +73,17 @@ fn found_at<'a, V: Merge>(
     ensures { IfOk result (λ values. map value_of values.items ≡ map (λ k. find key_cmp k.now rows.now) keys.now) }
 {
     let mut values = Vec::with_capacity(alloc, keys.len())?;
+    let step = (rows.len() / (keys.len() + 1)).max(1);
+    let mut place = 0;
     for key in keys {
-        values.push_reserved(Held::found(rows.find(key)));
+        let (next, value) = rows.find_near(place, step, key);
+        values.push_reserved(Held::found(value));
+        place = next;
     }
     Ok(values)
 }
 
-// Adds what the messages in a bin make of the values that its child has at keys.
+// Adds what the messages in a bin make of the values that its child has at keys: the values as they are where there is no message.
 fn add_after<'a, V: Merge>(
     alloc: Global,
     values: &mut Vec<Held<'a, V>>,
@@ -88,9 +92,15 @@ fn add_after<'a, V: Merge>(
     keys: &[&Key],
     below: Vec<Held<'a, V>>,
 ) -> Result<(), AllocError>
-    requires { place < length bins.now }
+    requires within { place < length bins.now }
+    requires len { length below.items ≡ length keys.now }
     ensures { OnOk result (map value_of values.new.items ≡ map value_of values.old.items ++ values_after (effect_of V.terms.merged) (slice_index_or bins.now place []) (map (λ k. k.now) keys.now) (map value_of below.entry.items)) }
 {
+    if bins.count(place) == 0 {
+        let mut below = below;
+        values.append(&mut below)?;
+        return Ok(());
+    }
     let mut rest = keys;
     for old in below {
         let [key, others @ ..] = rest else {

@@ -8,6 +8,8 @@ ghost use Rattle.bt_keycode.specs.Keys.{key_cmp};
 ghost use Rattle.bt_node.specs.Messages.{before, between, from, rows_after, with_value};
 
 use crate::deal;
+use crate::leaf_visits::split_first;
+use crate::search::part_from;
 use bt_keycode::Key;
 use bt_messages::{Merge, Stream, between, effect};
 use std::alloc::{AllocError, Global};
@@ -137,6 +139,21 @@ impl<V: Merge> Rows<V> {
             Ok(place) => Some(&self.rows[place].1),
             Err(_) => None,
         }
+    }
+
+    /// The value at a key, and a place for the search of the next one. The place of a row before the key and the length of the first step from
+    /// there shorten the search, and nothing else depends on them.
+    pub(crate) fn find_near(&self, place: usize, step: usize, key: &Key) -> (usize, Option<&V>)
+        requires { 1 ≤ step }
+        ensures { option_copied result.1 ≡ find key_cmp key.now self.now }
+    {
+        let later = part_from(self.rows.as_slice(), place, step, key);
+        let next = self
+            .rows
+            .len()
+            .saturating_sub(later.len())
+            .saturating_sub(1);
+        (next, split_first(later, key).0)
     }
 
     /// The rows after the first messages of a stream, which are gone from it, in one merge. Room beyond an eighth over the rows is

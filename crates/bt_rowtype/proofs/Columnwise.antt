@@ -1,9 +1,9 @@
 -- Going over columns and the fields under each, one by one. Serves the loop that reads values.
-use Rattle.std.proofs.Common.{ℕ, List, [], ◌∷◌, ◌++◌, ◌+◌, ◌<◌, ◌≤◌, ◌≡◌, refl, sym, ap, arith, length, length-take, take, drop, get_or, Option, Some, None, Ok, Err, append_assoc}
+use Rattle.std.proofs.Common.{ℕ, suc, eq-eqb, List, [], ◌∷◌, ◌++◌, ◌+◌, ◌<◌, ◌≤◌, ◌≡◌, ◌∙◌, refl, sym, ap, arith, length, length-take, take, drop, get_or, Option, Some, None, Ok, Err, append_assoc}
 use Rattle.std.proofs.lemmas.List.{drop_more, get_or-take}
 use Rattle.std.proofs.lemmas.Option.{get_or_from_slice_get}
 use Rattle.std.specs.Prelude.{option_map, slice_get}
-use Rattle.bt_rowtype.specs.Values.{or_refused, value_of, values_of, with_first}
+use Rattle.bt_rowtype.specs.Values.{or_refused, read_as, value_of, values_of, with_first}
 use Rattle.bt_rowtype.specs.declared.refusal.Refusal.{Refusal}
 use Rattle.bt_rowtype.specs.declared.schema.Column.{Column}
 use Rattle.bt_rowtype.specs.declared.value.Value.{Value}
@@ -65,3 +65,43 @@ some_read refusal (Some v) value is = let e : v ≡ value = cc in ap Some e
 pub none_read : {T : Type 0} (refusal e : Refusal) (o : Option T) → or_refused refusal o ≡ Err e → (o ≡ None) × (refusal ≡ e)
 none_read refusal e None is = (refl, (let same : refusal ≡ e = cc in same))
 none_read refusal e (Some v) is = absurd cc
+
+-- ---- one more column
+
+-- a first value and others
+first_and_others : (first : Option Value) (others : Option (List Value)) (row : List Value) → with_first first others ≡ Some row → (v : Value) × (vs : List Value) × (first ≡ Some v) × (others ≡ Some vs) × (row ≡ v ∷ vs)
+first_and_others None others row is = absurd cc
+first_and_others (Some v) None row is = absurd cc
+first_and_others (Some v) (Some vs) row is = let same : row ≡ v ∷ vs = cc in (v, vs, refl, refl, same)
+
+pub values_more : (columns : List Column) (fields : List (List ℕ)) (row : List Value) (c : Column) (field : List ℕ) (v : Value) → values_of columns fields ≡ Some row → value_of c.kind field ≡ Some v
+    → values_of (columns ++ c ∷ []) (fields ++ field ∷ []) ≡ Some (row ++ v ∷ [])
+values_more [] [] row c field v is value =
+    let same : Some [] ≡ Some row = is in
+    let none : row ≡ [] = cc in
+    ap (λ (o : Option Value). with_first o (Some [])) value ∙ ap (λ (l : List Value). Some (l ++ v ∷ [])) (sym none)
+values_more [] (f ∷ fields) row c field v is value = absurd cc
+values_more (d ∷ columns) [] row c field v is value = absurd cc
+values_more (d ∷ columns) (f ∷ fields) row c field v is value =
+    let found = first_and_others (value_of d.kind f) (values_of columns fields) row is in
+    let others = values_of (columns ++ c ∷ []) (fields ++ field ∷ []) in
+    let later : others ≡ Some (found.1 ++ v ∷ []) = values_more columns fields found.1 c field v found.3 value in
+    ap (λ (o : Option Value). with_first o others) found.2 ∙ ap (λ (o : Option (List Value)). with_first (Some found.0) o) later
+    ∙ ap (λ (l : List Value). Some (l ++ v ∷ [])) (sym found.4)
+
+-- where there are values, there are fields for all columns
+with_others : (first : Option Value) (others : Option (List Value)) (row : List Value) (P : Type 0) → ((vs : List Value) → others ≡ Some vs → P) → with_first first others ≡ Some row → P
+with_others None others row P rest is = absurd cc
+with_others (Some v) None row P rest is = absurd cc
+with_others (Some v) (Some vs) row P rest is = rest vs refl
+
+values_length : (columns : List Column) (fields : List (List ℕ)) (row : List Value) → values_of columns fields ≡ Some row → length fields ≡ length columns
+values_length [] [] row is = refl
+values_length [] (field ∷ fields) row is = absurd cc
+values_length (c ∷ columns) [] row is = absurd cc
+values_length (c ∷ columns) (field ∷ fields) row is =
+    ap suc (with_others (value_of c.kind field) (values_of columns fields) row (length fields ≡ length columns) (λ vs others. values_length columns fields vs others) is)
+
+-- values that fields spell are what the record is read as
+pub values_read : (columns : List Column) (item : ℕ) (fields : List (List ℕ)) (row : List Value) → values_of columns fields ≡ Some row → read_as columns item fields ≡ Ok row
+values_read columns item fields row is = rw (eq-eqb (length fields) (length columns) (values_length columns fields row is), is) refl

@@ -12,6 +12,7 @@ use Rattle.std.specs.Prelude.{IsUtf8}
 use Rattle.std.proofs.lemmas.Fmt.{IsAscii-from_digits}
 use Rattle.std.proofs.lemmas.Result.{Ok-from_Ok_iff}
 use Rattle.std.proofs.lemmas.Str.{IsUtf8-from_ascii}
+use Rattle.std.proofs.Math.Nat.{pow-le-pow_right}
 use Rattle.std.proofs.lemmas.Str.Ascii.{IsAscii-cons}
 use mathlib.Core.Bool.{true≢false}
 use Rattle.std.specs.Str.Parse.{ParsesSigned}
@@ -133,3 +134,11 @@ unfolding int_of
 plain_short field other fits =
     rw (other, number_fits field (2 ^ 63 - 1) fits)
     (elim (is_numeral field) as (λ b. option_map pos (if b then Some (number_written field) else None) ≡ (if b then Some (pos (number_written field)) else None)) [ true ↦ refl | false ↦ refl ])
+
+-- ---- a few digits
+
+-- so many digits at most: below this power of ten
+pub below_power : (number i most : ℕ) → number < 10 ^ i → i ≤ most → number < 10 ^ most
+below_power number i most small few =
+    let more : 10 ^ i ≤ 10 ^ most = pow-le-pow_right (omega arith) few in
+    omega arith

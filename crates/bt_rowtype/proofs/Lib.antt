@@ -10,6 +10,7 @@ pub mod Packing
 pub mod Paddings
 pub mod Pieces
 pub mod Plain
+pub mod PlainFields
 pub mod Quotes
 pub mod ReaderSteps
 pub mod ReadFits

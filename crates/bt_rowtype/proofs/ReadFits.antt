@@ -37,9 +37,13 @@ with_first_fits column columns (Some v) (Some vs) row one others is =
 
 -- ---- operations that are read
 
-option_some : {A B : Type 0} (f : A → B) (o : Option A) (b : B) → option_map f o ≡ Some b → (a : A) × (o ≡ Some a) × (f a ≡ b)
+pub option_some : {A B : Type 0} (f : A → B) (o : Option A) (b : B) → option_map f o ≡ Some b → (a : A) × (o ≡ Some a) × (f a ≡ b)
 option_some f None b is = absurd cc
 option_some f (Some a) b is = let e : f a ≡ b = cc in (a, refl, e)
+
+pub option_none : {A B : Type 0} (f : A → B) (o : Option A) → option_map f o ≡ None → o ≡ None
+option_none f None is = refl
+option_none f (Some a) is = absurd cc
 
 -- the column with a name stands some places on
 abbrev StandsAt : ℕ → List Column → ℕ × Kind → Type 0

@@ -2,9 +2,11 @@
 pub mod Arguments
 pub mod Changes
 pub mod Fits
+pub mod Growing
 pub mod Numbers
 pub mod Packing
 pub mod Pieces
+pub mod PlainFields
 pub mod Reader
 pub mod RecordParts
 pub mod RowBytes

@@ -8,7 +8,8 @@ use crate::fields::Place;
 use std::alloc::AllocError;
 
 // Whether csv reads a byte in a way of its own.
-fn is_special(byte: u8) -> bool
+#[inline(always)]
+pub(crate) fn is_special(byte: u8) -> bool
     ensures { result ≡ is_quote_or_end byte }
 {
     matches!(byte, b'"' | b'\r' | b'\n')

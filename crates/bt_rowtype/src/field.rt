@@ -31,6 +31,38 @@ pub(crate) fn read_text(field: &[u8]) -> Option<&[u8]>
     if is_text(field) { Some(field) } else { None }
 }
 
+// The value that a field spells, in room that is made for its bytes, or its refusal as this item.
+#[inline(never)]
+fn read_spelled(alloc: Global, kind: Kind, item: u64, field: &[u8]) -> Result<Value, Refusal>
+    ensures answer { Answers (or_refused (Refusal.BadField item) (value_of kind field.now)) result }
+    ensures certain { value_of kind field.now ≡ None → result ≡ Err (Refusal.BadField item) }
+{
+    let mut room = [0; LONGEST_TEXT];
+    match kind.read(field, &mut room) {
+        Some(value) => Ok(value.to_value(alloc)?),
+        None => Err(Refusal::BadField(item)),
+    }
+}
+
+// The value that a field spells in a column of a kind, or its refusal as this item.
+pub(crate) fn read_value(
+    alloc: Global,
+    kind: Kind,
+    item: u64,
+    field: &[u8],
+) -> Result<Value, Refusal>
+    ensures answer { Answers (or_refused (Refusal.BadField item) (value_of kind field.now)) result }
+    ensures certain { value_of kind field.now ≡ None → result ≡ Err (Refusal.BadField item) }
+{
+    if kind.needs_room() {
+        return read_spelled(alloc, kind, item, field);
+    }
+    match kind.read_lent(field) {
+        Some(value) => Ok(value.to_value(alloc)?),
+        None => Err(Refusal::BadField(item)),
+    }
+}
+
 /// The value that a field spells in a column of a kind, or `BadField` of item 1.
 ///
 /// An int is an optional `-` and one or more digits, leading zeros included, whose number has 64 bits. A text is UTF-8 of at
@@ -40,9 +72,5 @@ pub fn read_field(alloc: Global, kind: Kind, field: &[u8]) -> Result<Value, Refu
     ensures answer { Answers (or_refused (Refusal.BadField 1) (value_of kind field.now)) result }
     ensures certain { value_of kind field.now ≡ None → result ≡ Err (Refusal.BadField 1) }
 {
-    let mut room = [0; LONGEST_TEXT];
-    match kind.read(field, &mut room) {
-        Some(value) => Ok(value.to_value(alloc)?),
-        None => Err(Refusal::BadField(1)),
-    }
+    read_value(alloc, kind, 1, field)
 }

@@ -5,10 +5,11 @@ ghost use Rattle.bt_rowtype.specs.Ints.{int_of, is_numeral, number_written};
 use std::str;
 
 // So many digits write a number of 64 bits, whatever they are.
-const SAFE_DIGITS: usize = 18;
+pub(crate) const SAFE_DIGITS: usize = 18;
 
 // Whether a field begins with this byte, which is not zero.
-fn begins_with(field: &[u8], byte: u8) -> bool
+#[inline(always)]
+pub(crate) fn begins_with(field: &[u8], byte: u8) -> bool
     requires { byte ≢ 0 }
     ensures { result ≡ (slice_index field.now 0 == byte) }
 {

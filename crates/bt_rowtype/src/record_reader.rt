@@ -13,12 +13,13 @@ use crate::fields::{FieldsRef, Place};
 use crate::header::are_names;
 use crate::line::RecordLine;
 use crate::op::MOST_OPS;
+use crate::plain_row::read_plain_row;
 use crate::reader::unescape;
 use crate::refusal::Refusal;
 use crate::row::Row;
 use crate::row_reader::{read_prefix, read_values};
 use crate::schema::{Column, Schema};
-use crate::upsert::{Upsert, read_upsert_record};
+use crate::upsert::{Upsert, read_plain_upsert, read_upsert_record};
 use std::alloc::{AllocError, Global};
 
 /// What lines are cut into, one after the other: the places of the fields, and the bytes of the fields where the line has
@@ -74,6 +75,28 @@ impl RecordReader {
         }
     }
 
+    // The values that a line spells, one for each column.
+    //
+    // A plain line is read in one pass over its bytes; any other, which is dearer, is cut into fields, and these are read.
+    #[tactic(auto, using(crate::proofs::Columnwise::values_read))]
+    fn read_values(
+        &mut self,
+        alloc: Global,
+        columns: &[Column],
+        item: u64,
+        line: &RecordLine<'_>,
+    ) -> Result<Row, Refusal>
+        ensures { Answers (read_as columns.now item line.now) result }
+    {
+        if let Some(row) = read_plain_row(alloc, columns, line.text())? {
+            return Ok(row);
+        }
+        match self.read(line.text(), columns.len())? {
+            Some(fields) => read_values(alloc, columns, item, &fields),
+            None => Err(Refusal::BadLength(item)),
+        }
+    }
+
     /// The row that a line spells, as `read_row` reads it of the line's fields.
     pub fn read_row(
         &mut self,
@@ -84,11 +107,7 @@ impl RecordReader {
     ) -> Result<Row, Refusal>
         ensures { Answers (read_as schema.now.columns item line.now) result }
     {
-        let columns = schema.columns();
-        match self.read(line.text(), columns.len())? {
-            Some(fields) => read_values(alloc, columns, item, &fields),
-            None => Err(Refusal::BadLength(item)),
-        }
+        self.read_values(alloc, schema.columns(), item, line)
     }
 
     /// The values of the key that a line spells, as `read_key` reads them of the line's fields.
@@ -101,11 +120,7 @@ impl RecordReader {
     ) -> Result<Row, Refusal>
         ensures { Answers (read_as (take schema.now.keys schema.now.columns) item line.now) result }
     {
-        let columns = schema.key_columns();
-        match self.read(line.text(), columns.len())? {
-            Some(fields) => read_values(alloc, columns, item, &fields),
-            None => Err(Refusal::BadLength(item)),
-        }
+        self.read_values(alloc, schema.key_columns(), item, line)
     }
 
     /// The values of the first of these columns that a line spells, one for each field. `BadLength` where there is no field, or more than
@@ -135,6 +150,9 @@ impl RecordReader {
     ) -> Result<Upsert, Refusal>
         ensures { Answers (spec.upsert_as schema.now item line.now) (result_map_both (λ upsert. (upsert.key, upsert.ops)) (λ e. e) result) }
     {
+        if let Some(upsert) = read_plain_upsert(alloc, schema, item, line.text())? {
+            return Ok(upsert);
+        }
         let keys = schema.key_columns().len();
         match self.read(line.text(), keys + 3 * MOST_OPS)? {
             Some(fields) => read_upsert_record(alloc, schema, item, &fields),

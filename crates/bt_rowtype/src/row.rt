@@ -1,10 +1,11 @@
 //! Rows.
-ghost use Rattle.std.specs.Prelude.{◌≡◌, ◌≤◌, ◌<◌, ◌++◌, ◌∷◌, [], IfOk, OnOk, OnErr, Some, drop, length, slice_get, take};
+ghost use Rattle.std.specs.Prelude.{◌≡◌, ◌≤◌, ◌<◌, ◌+◌, ◌++◌, ◌∷◌, [], IfOk, OnOk, OnErr, Some, drop, length, slice_get, take, true};
 ghost use Rattle.bt_rowtype.specs.Arithmetic.{Makes, Sets};
 ghost use Rattle.bt_rowtype.specs.Kinds.{Number, Bytes, Bit};
 ghost use Rattle.bt_rowtype.specs.Ops.{after_action};
 ghost use Rattle.bt_rowtype.specs.Values.{HasBytes, IsInRange};
 ghost use Rattle.bt_rowtype.specs.inside.Packing.{IsPacked, int_bytes, packed, packed_content, packed_value, unpacked};
+ghost use Rattle.bt_rowtype.specs.inside.RowBytes.{most_short_row};
 ghost use Rattle.bt_rowtype.specs.Views.{shown};
 
 use crate::op::Arithmetic;
@@ -80,6 +81,7 @@ fn add_bit(bytes: &mut RowBytes, alloc: Global, tag: u8, bit: bool) -> Result<()
 }
 
 // Adds the bytes of a value. An `Err` changes nothing.
+#[inline(always)]
 #[tactic(auto, using(crate::proofs::offered::Kinds::bytes_length, crate::proofs::offered::Kinds::low_tag))]
 fn add_value(bytes: &mut RowBytes, alloc: Global, value: ValueRef<'_>) -> Result<(), AllocError>
     requires { HasBytes (shown value) }
@@ -98,11 +100,11 @@ fn add_value(bytes: &mut RowBytes, alloc: Global, value: ValueRef<'_>) -> Result
 // How many bytes a value takes.
 #[tactic(auto, using(crate::proofs::Packing::length_int_bytes))]
 pub(crate) fn width_of_value(value: ValueRef<'_>) -> usize
-    ensures { result ≤ length (packed_value (shown value.entry)) }
+    ensures { result ≡ length (packed_value (shown value.entry)) }
 {
     match value.content() {
         Content::Number(_) => 9,
-        Content::Bytes(bytes) => bytes.len().saturating_add(2),
+        Content::Bytes(bytes) => bytes.len() + 2,
         Content::Bit(_) => 1,
     }
 }
@@ -164,7 +166,16 @@ impl Row {
         Ok(row)
     }
 
+    // Whether the row keeps in itself one more value at the end.
+    #[inline(always)]
+    pub(crate) fn has_room(&self, value: ValueRef<'_>) -> bool
+        ensures { result ≡ true → length (packed self.now) + length (packed_value (shown value.entry)) ≤ most_short_row }
+    {
+        self.bytes.has_room(width_of_value(value))
+    }
+
     /// Adds a value at the end. An `Err` changes nothing.
+    #[inline(always)]
     pub fn push(&mut self, alloc: Global, value: ValueRef<'_>) -> Result<(), AllocError>
         requires { HasBytes (shown value) }
         ensures ok { OnOk result (self.new ≡ self.old ++ shown value.entry ∷ []) }

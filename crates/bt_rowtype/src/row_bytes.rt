@@ -1,5 +1,5 @@
 //! The bytes of a row, of which a few take no memory of their own.
-ghost use Rattle.std.specs.Prelude.{◌≡◌, ◌≤◌, ◌+◌, ◌++◌, [], IfOk, OnOk, OnErr, length, nat_le, take};
+ghost use Rattle.std.specs.Prelude.{◌≡◌, ◌≤◌, ◌+◌, ◌++◌, [], IfOk, OnOk, OnErr, length, nat_le, take, true};
 ghost use Rattle.bt_rowtype.specs.Arithmetic.{Makes};
 ghost use Rattle.bt_rowtype.specs.Ops.{after_action};
 ghost use Rattle.bt_rowtype.specs.inside.Packing.{IsPacked, unpacked};
@@ -148,6 +148,17 @@ impl RowBytes {
             Kept::Long(bytes) => Ok(RowBytes {
                 kept: Kept::Long(Vec::from_slice(alloc, bytes.as_slice())?),
             }),
+        }
+    }
+
+    /// Whether so many more bytes are kept in the value itself.
+    #[inline(always)]
+    pub(crate) fn has_room(&self, more: usize) -> bool
+        ensures { result ≡ true → length self.now + more ≤ SHORT }
+    {
+        match &self.kept {
+            Kept::Short(short) => more <= SHORT - short.len as usize,
+            Kept::Long(_) => false,
         }
     }
 

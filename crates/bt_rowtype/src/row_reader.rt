@@ -1,30 +1,52 @@
 //! Reading a record as a row or as a key.
-ghost use Rattle.std.specs.Prelude.{◌≡◌, ◌≢◌, ◌≤◌, Err, IfOk, length, take};
+ghost use Rattle.std.specs.Prelude.{◌≡◌, ◌≢◌, ◌≤◌, Err, length, take};
 ghost use Rattle.std.specs.Result.{result_map_both};
 ghost use Rattle.bt_rowtype.specs.Answers.{Answers};
-ghost use Rattle.bt_rowtype.specs.Values.{HasBytes, or_refused, prefix_as, read_as, value_of, values_of};
-ghost use Rattle.bt_rowtype.specs.Views.{shown};
+ghost use Rattle.bt_rowtype.specs.Values.{or_refused, prefix_as, read_as, values_of};
+ghost use Rattle.bt_rowtype.specs.inside.Growing.{with_field};
 
 use crate::fields::{Fields, FieldsRef};
 use crate::refusal::Refusal;
 use crate::row::Row;
 use crate::schema::{Column, Schema};
 use crate::text::LONGEST_TEXT;
-use crate::value::{Form, Kind, ValueRef};
+use crate::value::{Form, Kind};
 use std::alloc::Global;
 
-// The value that a field spells, or its refusal as this item. Its bytes are lent from the field, or from `room`.
-pub(crate) fn read_at<'a: 'b, 'b>(
+// Adds the value that a field spells, in room that is made for its bytes, or answers its refusal as this item.
+#[inline(never)]
+fn push_spelled(
+    alloc: Global,
+    row: &mut Row,
     kind: Kind,
     item: u64,
-    field: &'a [u8],
-    room: &'b mut [u8; LONGEST_TEXT],
-) -> Result<ValueRef<'b>, Refusal>
-    ensures value { result_map_both shown (λ e. e) result ≡ or_refused (Refusal.BadField item) (value_of kind field.now) }
-    ensures bytes { IfOk result (λ value. HasBytes (shown value)) }
+    field: &[u8],
+) -> Result<(), Refusal>
+    ensures { Answers (with_field kind item field.now row.old) (result_map_both (λ _. row.new) (λ e. e) result) }
 {
-    match kind.read(field, room) {
-        Some(value) => Ok(value),
+    let mut room = [0; LONGEST_TEXT];
+    match kind.read(field, &mut room) {
+        Some(value) => Ok(row.push(alloc, value)?),
+        None => Err(Refusal::BadField(item)),
+    }
+}
+
+// Adds the value that a field spells, or answers its refusal as this item.
+#[inline(always)]
+fn push_field(
+    alloc: Global,
+    row: &mut Row,
+    kind: Kind,
+    item: u64,
+    field: &[u8],
+) -> Result<(), Refusal>
+    ensures { Answers (with_field kind item field.now row.old) (result_map_both (λ _. row.new) (λ e. e) result) }
+{
+    if kind.needs_room() {
+        return push_spelled(alloc, row, kind, item, field);
+    }
+    match kind.read_lent(field) {
+        Some(value) => Ok(row.push(alloc, value)?),
         None => Err(Refusal::BadField(item)),
     }
 }
@@ -60,10 +82,8 @@ pub(crate) fn read_fields(
     ensures { Answers (or_refused (Refusal.BadField item) (values_of columns.now (take (length columns.now) fields.now))) result }
 {
     let mut row = Row::with_room(alloc, room_for(columns, fields))?;
-    let mut room = [0; LONGEST_TEXT];
     for (place, column) in columns.iter().enumerate() {
-        let value = read_at(column.kind, item, fields.get(place), &mut room)?;
-        row.push(alloc, value)?;
+        push_field(alloc, &mut row, column.kind, item, fields.get(place))?;
     }
     Ok(row)
 }

@@ -1,23 +1,27 @@
 //! Reading the record of an upsert.
-ghost use Rattle.std.specs.Prelude.{◌≡◌, ◌≢◌, ◌≤◌, Err, IfErr, IfOk, List, Ok, drop, false, length};
+ghost use Rattle.std.specs.Prelude.{◌≡◌, ◌≢◌, ◌≤◌, Err, IfErr, IfOk, IfSome, List, Ok, drop, false, is_some, length, true};
 ghost use Rattle.std.specs.List.{filter_map};
 ghost use Rattle.std.specs.Result.{result_err, result_map_both, result_ok};
 ghost use Rattle.bt_rowtype.specs.Answers.{Answers};
 ghost use Rattle.bt_rowtype.specs.Ints.{int_of};
 ghost use Rattle.bt_rowtype.specs.Ops as spec;
+ghost use Rattle.bt_rowtype.specs.Records.{csv_record};
 ghost use Rattle.bt_rowtype.specs.Refusals.{least};
 ghost use Rattle.bt_rowtype.specs.Values.{or_refused};
+ghost use Rattle.bt_rowtype.specs.inside.RecordParts.{fields_in};
 ghost use Rattle.bt_rowtype.specs.declared.value.Value.{Value};
 
 use crate::collected::Collected;
+use crate::field::read_value;
 use crate::fields::{Fields, FieldsRef};
 use crate::int::read_int;
 use crate::op::{Arithmetic, MOST_OPS, Op, Ops};
+use crate::plain_field::plain_group;
+use crate::plain_row::read_plain_columns;
 use crate::refusal::Refusal;
 use crate::row::Row;
-use crate::row_reader::{read_at, read_fields};
+use crate::row_reader::read_fields;
 use crate::schema::{Schema, find_column};
-use crate::text::LONGEST_TEXT;
 use crate::value::Kind;
 use std::alloc::{AllocError, Global};
 
@@ -61,9 +65,7 @@ fn read_set(
     let Some((place, kind)) = find_open_column(schema, name) else {
         return Err(Refusal::NoSuchColumn);
     };
-    let mut room = [0; LONGEST_TEXT];
-    let value = read_at(kind, item, argument, &mut room)?;
-    Ok(Op::Set(place, value.to_value(alloc)?))
+    Ok(Op::Set(place, read_value(alloc, kind, item, argument)?))
 }
 
 // The operation that makes a number, with a column's name and an argument, or its refusal.
@@ -201,6 +203,34 @@ fn refusal_with_ops(
         Ok(_) => refusal,
         Err(Refusal::OutOfMemory) => Refusal::OutOfMemory,
         Err(other) => refusal.lesser(other),
+    }
+}
+
+/// The key and the operation that a text spells, where all its fields are plain, its key is a row that keeps its values in itself, and the operation is
+/// the only one.
+pub(crate) fn read_plain_upsert(
+    alloc: Global,
+    schema: &Schema,
+    item: u64,
+    text: &[u8],
+) -> Result<Option<Upsert>, AllocError>
+    requires { is_some (csv_record text.now) ≡ true }
+    ensures { IfOk result (λ found. IfSome found (λ upsert. spec.upsert_as schema.now item (fields_in text.now) ≡ Ok (upsert.key, upsert.ops))) }
+{
+    let Some((key, at)) = read_plain_columns(alloc, schema.key_columns(), text)? else {
+        return Ok(None);
+    };
+    let Some((word, name, argument)) = plain_group(text, at) else {
+        return Ok(None);
+    };
+    match read_op(alloc, schema, item, word, name, argument) {
+        Ok(op) => {
+            let mut ops = Ops::with_capacity(alloc, 1)?;
+            ops.push(op)?;
+            Ok(Some(Upsert { key, ops }))
+        }
+        Err(Refusal::OutOfMemory) => Err(AllocError),
+        Err(_) => Ok(None),
     }
 }
 

@@ -1,15 +1,18 @@
 //! Kinds and values. All that is done for single kinds is done here: their forms, their words, the bytes that they take, how a
 //! field of each is read and printed, and their defaults. Everything else goes by the form of a value.
-ghost use Rattle.std.specs.Prelude.{◌≡◌, ◌++◌, IfOk, IfSome, OnOk, OnErr, option_map, true};
+ghost use Rattle.std.specs.Prelude.{◌≡◌, ◌≢◌, ◌++◌, IfOk, IfSome, OnOk, OnErr, Some, false, option_map, take, true};
 ghost use Rattle.csv.specs.Writing.{default_writer, field_text};
 ghost use Rattle.bt_rowtype.specs.Kinds.{content_of, default_of, form_of, kind_of_word, kind_of, kind_of_tag, tag_of, takes, text_of, value_of, value_with};
 ghost use Rattle.bt_rowtype.specs.Values.{HasBytes, IsInRange, takes_content};
 ghost use Rattle.bt_rowtype.specs.Views.{held, shown};
+ghost use Rattle.bt_rowtype.specs.inside.PlainFields.{EndsPlain};
 
 use crate::binary::{Binary, is_binary, read_binary};
 use crate::copies::TryClone;
 use crate::field::{read_flag, read_text};
 use crate::int::read_int;
+use crate::packed::front;
+use crate::plain_field::{plain_end, plain_int, plain_text};
 use crate::record_writer::{write_binary, write_flag, write_int, write_text};
 use crate::text::{LONGEST_TEXT, Text, is_text};
 use std::alloc::{AllocError, Global};
@@ -166,6 +169,28 @@ impl Kind {
         }
     }
 
+    // Whether a field spells other bytes than its own, so that a value is read into room.
+    #[inline(always)]
+    pub(crate) fn needs_room(self) -> bool
+        ensures { result ≡ false → self ≢ Kind.Bytes }
+    {
+        matches!(self, Kind::Bytes)
+    }
+
+    // The value that a field spells in a column of this kind, which isn't bytes. Its bytes are lent from the field.
+    pub(crate) fn read_lent(self, field: &[u8]) -> Option<ValueRef<'_>>
+        requires { self ≢ Kind.Bytes }
+        ensures value { option_map shown result ≡ value_of self field.now }
+        ensures bytes { IfSome result (λ value. HasBytes (shown value)) }
+    {
+        match self {
+            Kind::Int => Some(ValueRef::Int(read_int(field)?)),
+            Kind::Text => Some(ValueRef::Text(read_text(field)?)),
+            Kind::Flag => Some(ValueRef::Flag(read_flag(field)?)),
+            Kind::Bytes => unreachable!(),
+        }
+    }
+
     // The value that a field spells in a column of this kind. Its bytes are lent from the field, or from `room` where the field
     // spells them.
     pub(crate) fn read<'a: 'b, 'b>(
@@ -177,10 +202,33 @@ impl Kind {
         ensures bytes { IfSome result (λ value. HasBytes (shown value)) }
     {
         match self {
-            Kind::Int => Some(ValueRef::Int(read_int(field)?)),
-            Kind::Text => Some(ValueRef::Text(read_text(field)?)),
-            Kind::Flag => Some(ValueRef::Flag(read_flag(field)?)),
             Kind::Bytes => Some(ValueRef::Bytes(read_binary(field, room)?)),
+            other => other.read_lent(field),
+        }
+    }
+
+    // The value that the first field of a text spells in a column of this kind, and where the field ends, if it is plain. Its bytes are
+    // lent from the text; a field that spells bytes has none to lend.
+    #[inline(always)]
+    pub(crate) fn read_plain<'a>(self, text: &'a [u8]) -> Option<(ValueRef<'a>, usize)>
+        ensures value { IfSome result (λ found. value_of self (take found.1 text.now) ≡ Some (shown found.0)) }
+        ensures bytes { IfSome result (λ found. HasBytes (shown found.0)) }
+        ensures ends { IfSome result (λ found. EndsPlain text.now found.1) }
+    {
+        match self {
+            Kind::Int => {
+                let (number, end) = plain_int(text)?;
+                Some((ValueRef::Int(number), end))
+            }
+            Kind::Text => {
+                let end = plain_text(text)?;
+                Some((ValueRef::Text(front(text, end)), end))
+            }
+            Kind::Flag => {
+                let end = plain_end(text)?;
+                Some((ValueRef::Flag(read_flag(front(text, end))?), end))
+            }
+            Kind::Bytes => None,
         }
     }
 }

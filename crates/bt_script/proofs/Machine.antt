@@ -1,14 +1,15 @@
 -- Steps of the cutting of lines into commands. Serves the parser, which goes by places of a script.
-use Rattle.std.proofs.Common.{ℕ, Bool, List, [], ◌∷◌, ◌++◌, ◌≡◌, ◌==◌, ◌∙◌, refl, sym, ap, true, false, not, Option, Some, None, drop, length, map, filter, codes, ◌≤◌, arith, inl, inr}
+use Rattle.std.proofs.Common.{ℕ, Bool, List, [], ◌∷◌, ◌++◌, ◌≡◌, ◌==◌, ◌∙◌, refl, sym, ap, subst, true, false, not, Option, Some, None, drop, length, map, filter, ◌≤◌, arith, inl, inr}
 use Rattle.std.proofs.lemmas.Bool.{cases_Bool}
 use Rattle.std.proofs.lemmas.List.{append-nil, drop_all, map-append}
 use Rattle.std.proofs.lemmas.List.Elements.{filter-append}
 use Rattle.std.proofs.lemmas.List.Sums.{fold-append}
 use Rattle.std.specs.Prelude.{option_map}
-use Rattle.bt_script.specs.inside.Blocks.{IsBlock, and_line, ended, headed, with_last}
-use Rattle.bt_script.specs.Commands.{Inside, Outside, all_some, and_bound, batch_command, begins, bounds_of, closing_of, command_of, commands_from, is_blank_line, is_word, item_of_line, items_of, line_step, load_command, or_syntax, scan_command, sums_command, unbounded, unfinished}
-use Rattle.bt_script.specs.Lines.{lines, text_of_lines, words, without_return}
+use Rattle.bt_script.specs.inside.Blocks.{FindsHeaded, IsBlock, and_line, ended, headed, with_last}
+use Rattle.bt_script.specs.Commands.{Answer, Finds, Inside, Outside, all_some, and_bound, bounds_of, closing_of, command_of, commands, commands_from, is_blank_line, is_word, item_of_line, items_of, line_step, load_command, or_syntax, unbounded, unfinished}
+use Rattle.bt_script.specs.Lines.{lines, words, without_return}
 use Rattle.bt_script.specs.declared.command.Command.{Command}
+use Rattle.bt_script.specs.declared.command.Parsed.{Parsed}
 
 -- one more, at the end
 pub all_some-snoc : {A : Type 0} (os : List (Option A)) (o : Option A) → all_some (os ++ o ∷ []) ≡ with_last (all_some os) o
@@ -78,49 +79,18 @@ leads-cut script start at closing block so_far past head =
 pub tested : (line inner closing : List ℕ) (found answer : Bool) → inner ≡ without_return line → found ≡ is_word inner closing → found ≡ answer → is_word (without_return line) closing ≡ answer
 tested line inner closing found answer cut test is = ap (λ (l : List ℕ). is_word l closing) (sym cut) ∙ sym test ∙ is
 
--- the head line of a command with a block, and of any other one
-pub headed-batch : (head : List ℕ) (more : List (List ℕ)) → begins (words head) (codes "batch") ≡ true → headed head more ≡ commands_from (Inside head (codes "end") []) more
-unfolding closing_of
-headed-batch head more is = rw is refl
+-- the head line of a command with a block: what was found is the command that the block makes
+pub headed-block : (parsed : Parsed) (script head closing : List ℕ) (at next : ℕ) (block : List (List ℕ)) (closed : Bool) (command : Option Command)
+    → closing_of (words head) ≡ Some closing → IsBlock script at closing block closed next → ended closed (command_of head block) ≡ ended closed command
+    → Finds parsed script (ended closed command ∷ commands (drop next script)) → FindsHeaded parsed script head at
+headed-block parsed script head closing at next block closed command closes stands makes found =
+    let all : headed head (lines (drop at script)) ≡ ended closed (command_of head block) ∷ commands (drop next script) = rw closes (stands head) in
+    subst (Finds parsed script) (sym (all ∙ ap (λ (answer : Answer). answer ∷ commands (drop next script)) makes)) found
 
-pub headed-scan : (head : List ℕ) (more : List (List ℕ)) → begins (words head) (codes "batch") ≡ false → begins (words head) (codes "scan") ≡ true
-    → headed head more ≡ commands_from (Inside head (codes "go") []) more
-unfolding closing_of
-headed-scan head more other is = rw (other, is) refl
-
-pub headed-sums : (head : List ℕ) (more : List (List ℕ)) → begins (words head) (codes "batch") ≡ false → begins (words head) (codes "scan") ≡ false → begins (words head) (codes "sums") ≡ true
-    → headed head more ≡ commands_from (Inside head (codes "go") []) more
-unfolding closing_of
-headed-sums head more no_batch no_scan is = rw (no_batch, no_scan, is) refl
-
-pub headed-load : (head : List ℕ) (more : List (List ℕ)) → begins (words head) (codes "batch") ≡ false → begins (words head) (codes "scan") ≡ false
-    → begins (words head) (codes "sums") ≡ false → begins (words head) (codes "load") ≡ true → headed head more ≡ commands_from (Inside head (codes ".") []) more
-unfolding closing_of
-headed-load head more no_batch no_scan no_sums is = rw (no_batch, no_scan, no_sums, is) refl
-
-pub headed-line : (head : List ℕ) (more : List (List ℕ)) (command : Option Command) → begins (words head) (codes "batch") ≡ false → begins (words head) (codes "scan") ≡ false
-    → begins (words head) (codes "sums") ≡ false → begins (words head) (codes "load") ≡ false → command ≡ command_of head [] → headed head more ≡ or_syntax command ∷ commands_from Outside more
-unfolding closing_of
-headed-line head more command no_batch no_scan no_sums no_load is = rw (no_batch, no_scan, no_sums, no_load, is) refl
-
-pub command-batch : (head : List ℕ) (block : List (List ℕ)) → begins (words head) (codes "batch") ≡ true → command_of head block ≡ batch_command (words head) (items_of block)
-unfolding command_of
-command-batch head block is = rw is refl
-
-pub command-scan : (head : List ℕ) (block : List (List ℕ)) → begins (words head) (codes "batch") ≡ false → begins (words head) (codes "scan") ≡ true
-    → command_of head block ≡ scan_command (words head) (bounds_of block)
-unfolding command_of
-command-scan head block other is = rw (other, is) refl
-
-pub command-sums : (head : List ℕ) (block : List (List ℕ)) → begins (words head) (codes "batch") ≡ false → begins (words head) (codes "scan") ≡ false → begins (words head) (codes "sums") ≡ true
-    → command_of head block ≡ sums_command (words head) (bounds_of block)
-unfolding command_of
-command-sums head block no_batch no_scan is = rw (no_batch, no_scan, is) refl
-
-pub command-load : (head : List ℕ) (block : List (List ℕ)) → begins (words head) (codes "batch") ≡ false → begins (words head) (codes "scan") ≡ false
-    → begins (words head) (codes "sums") ≡ false → begins (words head) (codes "load") ≡ true → command_of head block ≡ load_command (words head) (text_of_lines block)
-unfolding command_of
-command-load head block no_batch no_scan no_sums is = rw (no_batch, no_scan, no_sums, is) refl
+-- the head line of any other command
+pub headed-line : (parsed : Parsed) (script head : List ℕ) (at : ℕ) (command : Option Command) → closing_of (words head) ≡ None → command ≡ command_of head []
+    → Finds parsed script (or_syntax command ∷ commands (drop at script)) → FindsHeaded parsed script head at
+headed-line parsed script head at command closes makes found = rw (closes, sym makes) found
 
 -- the text of a block that is not closed does not count
 pub ended-load : (closed : Bool) (ws : List (List ℕ)) (found text : List ℕ) → (closed ≡ true → found ≡ text) → ended closed (load_command ws text) ≡ ended closed (load_command ws found)

@@ -1,7 +1,6 @@
 //! The forms of commands: what the words of a head line make.
-ghost use Rattle.std.specs.Prelude.{◌≡◌, ◌≤◌, [], IfOk, codes, false, map};
+ghost use Rattle.std.specs.Prelude.{◌≡◌, ◌≤◌, [], IfOk, None, map};
 ghost use Rattle.bt_script.specs.Commands as spec;
-ghost use Rattle.bt_script.specs.Lines as text;
 ghost use Rattle.bt_script.specs.inside.Forms as forms;
 
 use crate::command::{Bounds, Capacity, Command, IndexForm, Items, SumsForm, TableForm};
@@ -381,18 +380,14 @@ fn build_command<'a>(alloc: Global, words: &[&[u8]]) -> Result<Option<Command<'a
 }
 
 /// The command of a head line that has no block.
-#[tactic(auto, unfolding(crate::specs::Commands::command_of))]
+#[tactic(auto, unfolding(crate::specs::Commands::closing_of))]
 pub fn line_command<'a>(
     alloc: Global,
     head: &'a [u8],
     words: &[&[u8]],
 ) -> Result<Option<Command<'a>>, AllocError>
-    requires words { map (λ w. w.now) words.now ≡ text.words head.now }
-    requires no_batch { spec.begins (map (λ w. w.now) words.now) (codes "batch") ≡ false }
-    requires no_scan { spec.begins (map (λ w. w.now) words.now) (codes "scan") ≡ false }
-    requires no_sums { spec.begins (map (λ w. w.now) words.now) (codes "sums") ≡ false }
-    requires no_load { spec.begins (map (λ w. w.now) words.now) (codes "load") ≡ false }
-    ensures { IfOk result (λ command. command ≡ spec.command_of head.now []) }
+    requires { spec.closing_of (map (λ w. w.now) words.now) ≡ None }
+    ensures { IfOk result (λ command. command ≡ spec.command_from head.now (map (λ w. w.now) words.now) []) }
 {
     if begins(words, b"table") {
         return table_command(alloc, words);

@@ -10,8 +10,13 @@ use thiserror::Error;
 /// The most bytes that a script may have, 64 MiB.
 pub const SCRIPT_LIMIT: usize = 67_108_864;
 
-// How many bytes one read asks for. They lie on the stack of the caller.
+// How many bytes one read asks for.
 const PIECE_SIZE: usize = 8_192;
+
+// How many bytes the room for a piece has, of which a piece is used. The C library gives the end of its heap back to the system
+// where more is free than twice the greatest block that it mapped by itself and gave back, 32 MiB at most; without such a block
+// it does so after each batch, and the next one has its pages made anew.
+const ROOM_SIZE: usize = 33_488_896;
 
 /// Why a run ends early.
 #[derive(Debug, Drop, Error)]
@@ -52,11 +57,13 @@ pub fn read_script<R: Read>(alloc: Global, reader: &mut Counted<R>) -> Result<Ve
     ensures write { IsErrOf result RunFault.Write → ⊥ }
 {
     let mut script = Vec::new(alloc);
-    let mut piece = [0u8; PIECE_SIZE];
+    let mut room = Vec::with_capacity(alloc, ROOM_SIZE)?;
+    room.resize(PIECE_SIZE, 0)?;
+    let piece = room.as_mut_slice();
     'pieces: loop {
         let left = SCRIPT_LIMIT - script.len();
-        let room = piece.len().min(left + 1);
-        match reader.read(&mut piece[..room]) {
+        let asked = piece.len().min(left + 1);
+        match reader.read(&mut piece[..asked]) {
             Ok(0) => return Ok(script),
             Ok(given) if given > left => return Err(RunFault::Read),
             Ok(given) => script.extend_from_slice(&piece[..given])?,

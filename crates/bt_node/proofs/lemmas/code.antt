@@ -4,6 +4,7 @@ pub mod ChildLists
 pub mod ChoiceLoop
 pub mod CrownLoop
 pub mod DealLoop
+pub mod DoublingSteps
 pub mod FirstChild
 pub mod FlushLoop
 pub mod GroupLoops

@@ -89,7 +89,7 @@ module _ {M : Type 0} where
 
   -- ---- merged with older ones
 
-  none_before_all : (k : Key) (ms : Messages M) → AllFrom k ms → (before k ms ≡ []) × (from k ms ≡ ms)
+  pub none_before_all : (k : Key) (ms : Messages M) → AllFrom k ms → (before k ms ≡ []) × (from k ms ≡ ms)
   none_before_all k [] all = (refl, refl)
   none_before_all k (m ∷ ms) all =
       let others = none_before_all k ms all.1 in (

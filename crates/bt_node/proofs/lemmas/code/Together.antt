@@ -1,6 +1,6 @@
 -- Keys that are looked up together have the values that each of them has alone.
 use Rattle.std.proofs.Common.{◌≡◌, ◌+◌, ◌-◌, ◌<◌, ◌≤◌, ◌++◌, ◌∙◌, ℕ, suc, true, false, cond, List, [], ◌∷◌, append-nil, append_assoc, ap, arith, drop, get_or, length, map, refl, subst, sym, take}
-use Rattle.std.proofs.lemmas.List.{drop-drop, length-drop, map-append, take-append-drop, take-map, take_rest}
+use Rattle.std.proofs.lemmas.List.{drop-drop, length-drop, length-map, map-append, take-append-drop, take-map, take_rest}
 use Rattle.std.specs.FinMap.{find}
 use Rattle.std.specs.Option.{option_or}
 use Rattle.std.specs.Prelude.{slice_get}
@@ -105,6 +105,25 @@ one_after effect bin ms key value rest others k olds old now values new wanted i
     so_far ∙ ap (λ ks. map value values ++ values_after effect bin (map key ks) (map value (old ∷ olds))) is
     ∙ ap (λ v. map value values ++ v ∷ later) (all_left effect (key k) bin ms (value old) from_key ∙ sym is_now)
     ∙ sym (append_assoc (map value values) (value now ∷ []) later) ∙ ap (λ vs. vs ++ later) (sym (map-append value values (now ∷ [])) ∙ ap (map value) (sym more))
+
+-- where no message is, the values stay
+unchanged : {V D : Type 0} (effect : Option V → Message V D → Option V) (ks : List Key) (olds : List (Option V)) → length olds ≡ length ks → values_after effect [] ks olds ≡ olds
+unchanged effect [] [] same = refl
+unchanged effect [] (old ∷ olds) same = absurd (omega (arith, same))
+unchanged effect (k ∷ ks) [] same = absurd (omega (arith, same))
+unchanged effect (k ∷ ks) (old ∷ olds) same = ap (λ vs. old ∷ vs) (unchanged effect ks olds (omega (arith, same)))
+
+pub none_pending : {V D K H : Type 0} (effect : Option V → Message V D → Option V) (key : K → Key) (value : H → Option V) (bin : Messages (Message V D)) (ks : List K) (values new below : List H) →
+    bin ≡ [] → length below ≡ length ks → new ≡ values ++ below → map value new ≡ map value values ++ values_after effect bin (map key ks) (map value below)
+none_pending effect key value bin ks values new below none same is =
+    ap (map value) is ∙ map-append value values below
+    ∙ ap (λ vs. map value values ++ vs) (sym (ap (λ b. values_after effect b (map key ks) (map value below)) none ∙ unchanged effect (map key ks) (map value below) (length-map below value ∙ same ∙ sym (length-map ks key))))
+
+-- as many values as keys
+pub as_many : {V D K H : Type 0} (effect : Option V → Message V D → Option V) (key : K → Key) (value : H → Option V) (ks : List K) (below : List H) (t : Tree V (Message V D)) → map value below ≡ values_at effect (map key ks) t →
+    length below ≡ length ks
+as_many effect key value ks below t is =
+    sym (length-map below value) ∙ ap length is ∙ length-map (map key ks) (λ k. value_at effect k t) ∙ length-map ks key
 
 -- no value is left
 pub none_after : {V D : Type 0} (effect : Option V → Message V D → Option V) (bin : Messages (Message V D)) (ks : List Key) (values wanted : List (Option V)) → wanted ≡ values ++ values_after effect bin ks [] → values ≡ wanted

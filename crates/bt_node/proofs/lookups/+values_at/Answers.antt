@@ -8,7 +8,7 @@ use Rattle.bt_node.specs.inside.Together.{values_at}
 use Rattle.bt_node.proofs.lemmas.code.PivotSearch.{pivots_rise}
 use Rattle.bt_node.proofs.lemmas.code.RowsOfChildren.{child_in_order, child_lower}
 use Rattle.bt_node.proofs.lemmas.code.SiblingParts.{pivot_within}
-use Rattle.bt_node.proofs.lemmas.code.Together.{from_there, leaf_values, next_run, run_within}
+use Rattle.bt_node.proofs.lemmas.code.Together.{as_many, from_there, leaf_values, next_run, run_within}
 use Rattle.bt_node.proofs.lemmas.lookups.BinOfKey.{bin-there}
 use Rattle.bt_node.proofs.lookups.+values_at.Goals as goal
 
@@ -25,8 +25,12 @@ values_at-requires g t c κs within =
     let order = child_in_order c.args.node.now c.in-Inner.children (joined c.in-Inner.bins) here c.nodes.result.now c.nodes.ensures place c.index-nodes-place.result below c.index-nodes-place.is c.requires in
     (omega (arith, less, c.decreases), (within.0, (within.1, order)))
 
-pub add_after-requires : goal.add_after-requires
-add_after-requires g t c =
+pub add_after-requires-clause-len : goal.add_after-requires-clause-len
+add_after-requires-clause-len g t c =
+    as_many (effect_of g.V.Merge.terms.merged) (λ k. k.now) value_of c.first_run-place.result.1.now c.in_ok-below-in-Inner.below.items c.index-nodes-place.result c.in_ok-below-in-Inner.ensures
+
+pub add_after-requires-clause-within : goal.add_after-requires-clause-within
+add_after-requires-clause-within g t c =
     bin-there c.pivots-pivots.result.now c.in-Inner.bins c.first_run-place.result.0
     (subst (λ ps. LieBetween ps c.in-Inner.bins) (sym c.pivots-pivots.ensures.pivots) (subst IsDivided c.in-Inner.is c.kind.ensures.divided)) c.first_run-place.ensures.place
 

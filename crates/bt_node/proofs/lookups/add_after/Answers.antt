@@ -1,10 +1,10 @@
-use Rattle.std.proofs.Common.{rules, [], ◌≡◌, ◌∷◌, ◌++◌, ap, get_or, map, ◌∙◌}
+use Rattle.std.proofs.Common.{rules, [], ◌≡◌, ◌∷◌, ◌++◌, ap, get_or, map, sym, ◌∙◌}
 use Rattle.std.proofs.lemmas.List.{nil_from_length}
 use Rattle.bt_messages.specs.Effects.{effect_of}
 use Rattle.bt_node.specs.inside.Held.{value_of}
 use Rattle.bt_node.specs.inside.Together.{values_after}
 use Rattle.bt_node.proofs.lemmas.code.LookupPath.{left_from}
-use Rattle.bt_node.proofs.lemmas.code.Together.{first_of, none_after, one_after}
+use Rattle.bt_node.proofs.lemmas.code.Together.{first_of, none_after, none_pending, one_after}
 use Rattle.bt_node.proofs.lookups.add_after.Goals as goal
 
 pub after_messages-requires-clause-from : goal.after_messages-requires-clause-from
@@ -27,3 +27,9 @@ returns g c =
     let left : c.loop-old.old-iterator.rest.items ≡ [] = nil_from_length c.loop-old.old-iterator.rest.items (search rules) in
     none_after effect bin (map (λ k. k.now) c.loop-old.rest.now) (map value_of c.loop-old.values.items) _
     (c.loop-old.invariant ∙ ap (λ olds. map value_of c.loop-old.values.items ++ values_after effect bin (map (λ k. k.now) c.loop-old.rest.now) (map value_of olds)) left)
+
+pub returns-then-count-eq0 : goal.returns-then-count-eq0
+returns-then-count-eq0 g c =
+    let effect = effect_of g.V.Merge.terms.merged in
+    let none : get_or c.args.bins.now c.args.place [] ≡ [] = nil_from_length _ (sym c.count.ensures.count ∙ search rules) in
+    none_pending effect (λ k. k.now) value_of (get_or c.args.bins.now c.args.place []) c.args.keys.now c.args.values.now.items c.append.new.self.items c.args.below.items none c.requires.len c.in_ok-append.ensures.items

@@ -1,4 +1,4 @@
-use Rattle.std.proofs.Common.{ℕ, List, ◌≡◌, ◌<◌, ◌≤◌, ◌∙◌, arith, ap, subst, sym, length, min, take, Box, Vec, Global}
+use Rattle.std.proofs.Common.{ℕ, List, ◌≡◌, ◌<◌, ◌≤◌, ◌∙◌, arith, ap, subst, sym, length, take, Box, Vec, Global}
 use Rattle.std.proofs.lemmas.List.{length-take}
 use Rattle.bt_rowtype.specs.inside.Shorts.{FitsInside, bytes_of, most_short}
 use Rattle.bt_rowtype.specs.Paddings.{padded}
