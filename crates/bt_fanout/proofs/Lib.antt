@@ -10,6 +10,7 @@ pub mod NextKeys
 pub mod offered
 pub mod Owners
 pub mod Picking
+pub mod PiecePackets
 pub mod RowsRead
 pub mod Sendings
 pub mod SortedEntries

@@ -16,7 +16,7 @@ use Rattle.bt_rowtype.specs.declared.value.Value.{Value}
 use Rattle.bt_keycode.specs.Keys.{AllFrom, IsSorted, is_before, key_cmp}
 use Rattle.bt_keycode.proofs.offered.Order.{not_after}
 use Rattle.bt_messages.specs.Effects.{Rows}
-use Rattle.bt_messages.proofs.Stable.{earlier, stable_is_sorted_batch, tied_key}
+use Rattle.bt_messages.proofs.offered.Stable.{earlier, stable_is_sorted_batch, tied_key}
 use Rattle.bt_fanout.specs.Entries.{Definition, StandsUnder, entry_of, own_entry}
 use Rattle.bt_fanout.specs.Promises.{SuitsRows}
 use Rattle.bt_fanout.specs.Selections.{AllStand, AreApart, entry_in, select, with_entry}

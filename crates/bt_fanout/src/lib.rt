@@ -14,7 +14,7 @@
 //! let def = IndexDef::new(alloc, &schema, &on, &include, Some(&filter))?;
 //! // the messages that a packet of rows means for it, worked out while the tree of rows is as it was before
 //! let effects = effects(&rt, alloc, &rows, &packet, &Cover::Whole, &crew)?;
-//! let entries = index_packet(alloc, &def, &Cover::Whole, effects.as_slice())?;
+//! let entries = index_packet(&rt, alloc, &def, &Cover::Whole, effects.as_slice(), &crew)?;
 //! // the messages of a step of building that reads the first hundred rows not covered yet, and how far the index covers them with it
 //! let BuildStep { packet, cover, read } = build_step(alloc, &def, &cover, &rows, 100)?;
 //! ```
@@ -31,6 +31,7 @@ mod definition;
 mod effect;
 mod lookup;
 mod packet;
+mod pieces;
 mod reading;
 mod selecting;
 mod step;
@@ -40,6 +41,7 @@ pub use cover::{Cover, covers, wider};
 pub use definition::{Condition, IndexDef, MOST_INCLUDED, MOST_ON};
 pub use effect::Effect;
 pub use lookup::{effects, effects_alone};
-pub use packet::index_packet;
+pub use packet::index_packet_alone;
+pub use pieces::index_packet;
 pub use selecting::{add_first, entry};
 pub use step::{BuildStep, build_step};

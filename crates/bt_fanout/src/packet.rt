@@ -113,8 +113,8 @@ fn add_effect(
     add_between(messages, old, new)
 }
 
-/// The packet of an index for the effects of a batch.
-pub fn index_packet(
+/// The packet of an index for the effects of a batch, by the caller alone.
+pub fn index_packet_alone(
     alloc: Global,
     def: &IndexDef,
     cover: &Cover,

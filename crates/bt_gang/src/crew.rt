@@ -83,6 +83,18 @@ impl<G: Drop> Crew<G> {
 }
 
 impl<G> Crew<G> {
+    /// The same workers, cut and grain, without the gate: for jobs that are no subtrees, which a gate does not see.
+    pub fn without_gate(&self) -> Crew<NoGate>
+        ensures sizes { (result.workers ≡ self.now.workers) × (result.cut ≡ self.now.cut) × (result.grain ≡ self.now.grain) }
+    {
+        Crew {
+            workers: self.workers,
+            cut: self.cut,
+            grain: self.grain,
+            gate: NoGate,
+        }
+    }
+
     /// The same cut, grain and gate, and at most so many workers, but at least one.
     pub fn with_at_most(&self, workers: usize) -> Crew<&G>
         ensures workers { result.workers ≡ max 1 (min self.now.workers workers) }

@@ -26,7 +26,6 @@
 //! what [`fill`] asks for and what it refuses.
 #![tactic(auto)]
 
-mod crews;
 mod either;
 mod filling;
 mod flush_work;

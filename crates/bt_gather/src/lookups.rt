@@ -10,8 +10,7 @@ ghost use Rattle.bt_node.specs.Parts.{AreRising};
 ghost use Rattle.bt_node.specs.Portions.{Chained, HaveThere, value_in};
 ghost use Rattle.bt_gather.specs.inside.KeyShares.{HasRisingKeys, owned_count, values_there};
 
-use crate::crews::{job_values, most_workers};
-use bt_gang::{Crew, Gate, Work};
+use bt_gang::{Crew, Gate, Work, job_values, most_workers};
 use bt_keycode::Key;
 use bt_messages::Merge;
 use bt_node::{Portion, Tree};

@@ -10,9 +10,8 @@ ghost use Rattle.bt_node.specs.Laws.{HoldsTheSame};
 ghost use Rattle.bt_node.specs.Messages.{between};
 ghost use Rattle.bt_node.specs.Portions.{all_rows};
 
-use crate::crews::job_values;
 use crate::round_tree::has_shape;
-use bt_gang::{Crew, Gate, Work};
+use bt_gang::{Crew, Gate, Work, job_values};
 use bt_keycode::Key;
 use bt_messages::Merge;
 use bt_node::{Copies, ForkVisitor, Portion, Tree, Visitor, pack};

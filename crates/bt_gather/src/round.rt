@@ -9,11 +9,10 @@ ghost use Rattle.bt_node.specs.Laws.{HoldsTheSame};
 ghost use Rattle.bt_gather.specs.Rounds.{AllHaveShape, AllHoldAfter, all_sunk};
 ghost use Rattle.bt_gather.specs.inside.RoundJobs.{AreRunnable, piece_of};
 
-use crate::crews::{job_values, most_workers};
 use crate::either::{one_list, two_lists};
 use crate::flush_work::{FlushWork, ShapedJob};
 use crate::round_tree::{RoundTrees, cut_tree, round_trees, whole_tree, whole_trees};
-use bt_gang::{Crew, Gate};
+use bt_gang::{Crew, Gate, job_values, most_workers};
 use bt_messages::{Merge, Packet};
 use bt_node::{Mode, Siblings, Tree};
 use bt_plan::Place;

@@ -3,6 +3,7 @@ use Rattle.std.proofs.Common.{◌≡◌, ◌≤◌, ◌+◌, ◌*◌, ◌∷◌,
 use Rattle.std.proofs.lemmas.List.{length-append}
 use Rattle.std.specs.List.{list_any}
 use Rattle.bt_rowtype.specs.Kinds.{Content, Number, Bytes, Bit, content_of, kind_of}
+use Rattle.bt_rowtype.specs.Texts.{most_value_bytes}
 use Rattle.bt_rowtype.specs.Values.{AreTaken, HasBytes}
 use Rattle.bt_rowtype.specs.declared.value.Kind.{Kind}
 use Rattle.bt_rowtype.specs.declared.value.Value.{Value}
@@ -23,11 +24,11 @@ escaped-bound : (bs : List ℕ) → length (escaped bs) ≤ 2 * length bs
 escaped-bound [] = omega arith
 escaped-bound (b ∷ bs) = omega (arith, ap length (escaped-first b bs) ∙ length-append (escaped (b ∷ [])) (escaped bs), length-byte b, escaped-bound bs)
 
--- 255 bytes have at most 510
-pub short_escaped : (bytes : List ℕ) → length bytes ≤ 255 → length (escaped bytes) ≤ 510
+-- the bytes of a value have at most 510
+pub short_escaped : (bytes : List ℕ) → length bytes ≤ most_value_bytes → length (escaped bytes) ≤ 510
 short_escaped bytes few = omega (arith, escaped-bound bytes, few)
 
--- the first part of a text and the zero byte behind it, and what is left
+-- the first part of bytes and the zero byte behind it, and what is left
 pub one_part : (rest part behind : List ℕ) → rest ≡ part ++ 0 ∷ behind → list_any (λ b. nat_eq b 0) part ≡ false → length (escaped rest) ≡ length part + 2 + length (escaped behind)
 one_part rest part behind whole none = omega (arith, ap length (escaped_parts rest part behind whole none), length-append part (0 ∷ 255 ∷ escaped behind))
 
@@ -38,7 +39,7 @@ pub length_int : (n : ℤ) → length (eight_bytes (raised n)) ≡ 8
 unfolding eight_bytes
 length_int n = refl
 
--- a value has at most 255 bytes
+-- a value has no more bytes than it may have
 few_taken : (k : Kind) (c : Content) → AreTaken k c → IsShort c
 few_taken k (Number n) taken = tt
 few_taken k (Bytes bytes) taken = taken_length k bytes taken

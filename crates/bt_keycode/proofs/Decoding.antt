@@ -1,6 +1,7 @@
 -- One code stands for one list of values of given kinds: what `decode` stands on.
 use Rattle.std.proofs.Common.{◌≡◌, ℕ, List, [], ◌∷◌, ◌++◌, map, take, drop, length, ◌-◌, ◌<◌, ◌≤◌, append_assoc, append-nil, get_or, ◌+◌, refl, sym, ap, subst, ◌∙◌, Bool, true, false, Some, ℤ, SFits, w64, to_z, of_z, arith}
 use Rattle.bt_rowtype.specs.Kinds.{Content, Number, Bytes, Bit, content_of, form_in, form_of, value_with}
+use Rattle.bt_rowtype.specs.Texts.{most_value_bytes}
 use Rattle.bt_rowtype.specs.Values.{AreInRange, IsInRange, LiesInRange, takes_content}
 use Rattle.bt_rowtype.specs.declared.value.Form.TheVariants as form
 use Rattle.bt_rowtype.specs.declared.value.Kind.{Kind}
@@ -15,7 +16,7 @@ use Rattle.std.proofs.Math.Seq.{take-length}
 use Rattle.std.proofs.lemmas.List.{map-append, take-append-drop, take_more}
 use Rattle.bt_keycode.specs.inside.Decoding.{BeginsWith, BeginsWithAll, BeginsWithContent, BeginsWithNo, BeginsWithNoContent, BeginsWithNone, HasBits, unescaped}
 use Rattle.bt_keycode.proofs.DecodingInts.{eight_and_others, eight_long, same_int}
-use Rattle.bt_keycode.proofs.DecodingTexts.{both_read, read_again, spelled, split_end}
+use Rattle.bt_keycode.proofs.DecodingBytes.{both_read, read_again, spelled, split_end}
 
 same_bytes : (s t q r : List ℕ) → (escaped s ++ (0 ∷ 1 ∷ [])) ++ q ≡ (escaped t ++ (0 ∷ 1 ∷ [])) ++ r → (s ≡ t) × (q ≡ r)
 same_bytes s t q r e = both_read s q t r (sym (read_again s q) ∙ ap unescaped (sym (split_end s q) ∙ e ∙ split_end t r) ∙ read_again t r)
@@ -89,7 +90,7 @@ no_number bytes (Number n) rest short b =
     let long = eight_long (raised n) rest in
     let same : length (eight_bytes (raised n) ++ rest) ≡ length bytes = ap length b.code in
     omega arith
-no_number bytes (Bytes text) rest short b = let k = b.of_form in cc
+no_number bytes (Bytes bs) rest short b = let k = b.of_form in cc
 no_number bytes (Bit bit) rest short b = let k = b.of_form in cc
 
 -- eight bytes or more begin with the number of the first eight
@@ -110,11 +111,11 @@ number_found z number bytes fits up same long = rw (to_z-of_z w64 z fits) (numbe
 pub bytes_found : (bytes found rest : List ℕ) → unescaped bytes ≡ Some (found, rest) → BeginsWithContent form.Bytes bytes (Bytes found) rest
 bytes_found bytes found rest read = record { of_form = refl; bits = tt; code = split_end found rest ∙ spelled bytes found rest read }
 
--- where no more than 255 bytes are read, none are there
-pub no_bytes : (bytes : List ℕ) → ((found rest : List ℕ) → unescaped bytes ≡ Some (found, rest) → 255 < length found) → BeginsWithNoContent form.Bytes bytes
+-- where only more bytes than a value may have are read, none are there
+pub no_bytes : (bytes : List ℕ) → ((found rest : List ℕ) → unescaped bytes ≡ Some (found, rest) → most_value_bytes < length found) → BeginsWithNoContent form.Bytes bytes
 no_bytes bytes long (Bytes found) rest b short =
     let read : unescaped bytes ≡ Some (found, rest) = ap unescaped (sym b.code ∙ split_end found rest) ∙ read_again found rest in
-    let past : 255 < length found = long found rest read in
+    let past : most_value_bytes < length found = long found rest read in
     omega (arith, past, short)
 no_bytes bytes long (Number n) rest b short = let k = b.of_form in cc
 no_bytes bytes long (Bit bit) rest b short = let k = b.of_form in cc

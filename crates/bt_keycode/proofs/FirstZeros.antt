@@ -1,4 +1,4 @@
--- Where a text has its first zero byte, for the codes of texts and for reading them.
+-- Where bytes have their first zero byte, for the codes of bytes and for reading them.
 use Rattle.std.proofs.Common.{ℕ, List, ◌≡◌, ◌<◌, ◌==◌, arith, false, true, get_or, inl, inr, length, nat_eq, take}
 use Rattle.std.proofs.lemmas.Bool.{cases_Bool}
 use Rattle.std.proofs.lemmas.Grind.{get_or_default_zero}

@@ -2,8 +2,8 @@ pub mod CodeLengths
 pub mod Codes
 pub mod CodesOfOne
 pub mod Decoding
+pub mod DecodingBytes
 pub mod DecodingInts
-pub mod DecodingTexts
 pub mod Escapes
 pub mod FirstZeros
 pub mod Numbers

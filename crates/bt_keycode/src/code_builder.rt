@@ -3,25 +3,22 @@ ghost use Rattle.std.specs.Prelude.{◌≡◌, ◌++◌, ◌∷◌, [], IfOk, On
 ghost use Rattle.bt_keycode.specs.Codes.{code_of_value, eight_bytes, escaped, raised};
 ghost use Rattle.bt_rowtype.specs.Views.{shown};
 
-use crate::key::Key;
+use crate::key::{Key, SHORT_KEY};
 use crate::zeros::split_at_zero;
 use arrayvec::ArrayVec;
 use bt_rowtype::{Content, ValueRef};
 use std::alloc::{AllocError, Global};
 use std::marker::Model;
 
-// A code of so many bytes takes no memory of its own.
-const SHORT_CODE: usize = 22;
-
 #[derive(Debug, Drop)]
 enum Kept {
-    Short(ArrayVec<u8, SHORT_CODE>),
+    Short(ArrayVec<u8, SHORT_KEY>),
     Long(Vec<u8>),
 }
 
 /// The code of the values that were added. A contract sees the list of its bytes.
 ///
-/// Up to 22 bytes are kept in the value itself, and take no memory of their own.
+/// Up to 22 bytes, as many as a key keeps in itself, are kept in the value itself, and take no memory of their own.
 #[derive(Debug, Drop)]
 pub struct CodeBuilder {
     alloc: Global,
@@ -47,7 +44,7 @@ pub(crate) fn bytes_of_int(number: i64) -> [u8; 8]
 
 // Adds the bytes of both where there is room for them.
 #[inline(always)]
-fn add_where_room(short: &mut ArrayVec<u8, SHORT_CODE>, first: &[u8], second: &[u8]) -> bool
+fn add_where_room(short: &mut ArrayVec<u8, SHORT_KEY>, first: &[u8], second: &[u8]) -> bool
     ensures yes { result ≡ true → short.new.items ≡ short.old.items ++ (first.now ++ second.now) }
     ensures no { result ≡ false → short.new.items ≡ short.old.items }
 {

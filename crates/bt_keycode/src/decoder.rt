@@ -7,7 +7,7 @@ ghost use Rattle.bt_rowtype.specs.declared.value.Value.{Value as value};
 
 use crate::key::prefix_of;
 use crate::zeros::split_at_zero;
-use bt_rowtype::{Content, Form, Kind, LONGEST_TEXT, Row, ValueRef};
+use bt_rowtype::{Content, Form, Kind, MOST_VALUE_BYTES, Row, ValueRef};
 use std::alloc::{AllocError, Global};
 
 /// Why bytes are not decoded.
@@ -76,15 +76,15 @@ fn next_byte(code: &[u8]) -> Option<(u8, &[u8])>
 
 // The bytes whose code the bytes begin with: how many they are, and what comes after the code. They are written into `room`, so
 // that no memory is asked for. There are none where the code breaks off, or where they are too many.
-fn unescape<'a>(bytes: &'a [u8], room: &mut [u8; LONGEST_TEXT]) -> Option<(usize, &'a [u8])>
-    ensures bound { IfSome result (λ read. read.0 ≤ LONGEST_TEXT) }
+fn unescape<'a>(bytes: &'a [u8], room: &mut [u8; MOST_VALUE_BYTES]) -> Option<(usize, &'a [u8])>
+    ensures bound { IfSome result (λ read. read.0 ≤ MOST_VALUE_BYTES) }
     ensures found { IfSome result (λ read. unescaped bytes.now ≡ Some (take read.0 room.new, read.1.now)) }
-    ensures none { IfNone result ((other rest : List ℕ) → unescaped bytes.now ≡ Some (other, rest) → LONGEST_TEXT < length other) }
+    ensures none { IfNone result ((other rest : List ℕ) → unescaped bytes.now ≡ Some (other, rest) → MOST_VALUE_BYTES < length other) }
 {
     let mut len = 0;
     let mut code = bytes;
     while let Some((byte, rest)) = next_byte(code) {
-        if len == LONGEST_TEXT {
+        if len == MOST_VALUE_BYTES {
             return None;
         }
         room[len] = byte;
@@ -112,10 +112,10 @@ fn plain_bytes(bytes: &[u8]) -> Option<(&[u8], &[u8])>
 // one of them is zero. There are none where the code breaks off, or where they are too many.
 fn unescaped_bytes<'a: 'b, 'b>(
     bytes: &'a [u8],
-    room: &'b mut [u8; LONGEST_TEXT],
+    room: &'b mut [u8; MOST_VALUE_BYTES],
 ) -> Option<(&'b [u8], &'a [u8])>
     ensures found { IfSome result (λ read. unescaped bytes.now ≡ Some (read.0.now, read.1.now)) }
-    ensures none { IfNone result ((other rest : List ℕ) → unescaped bytes.now ≡ Some (other, rest) → LONGEST_TEXT < length other) }
+    ensures none { IfNone result ((other rest : List ℕ) → unescaped bytes.now ≡ Some (other, rest) → MOST_VALUE_BYTES < length other) }
 {
     if let Some(read) = plain_bytes(bytes) {
         return Some(read);
@@ -128,7 +128,7 @@ fn unescaped_bytes<'a: 'b, 'b>(
 #[tactic(auto, using(crate::proofs::Decoding::bytes_found))]
 fn first_bytes<'a: 'b, 'b>(
     bytes: &'a [u8],
-    room: &'b mut [u8; LONGEST_TEXT],
+    room: &'b mut [u8; MOST_VALUE_BYTES],
 ) -> Option<(Content<'b>, &'a [u8])>
     ensures found { IfSome result (λ read. BeginsWithContent Form.Bytes bytes.now (held read.0) read.1.now) }
     ensures none { IfNone result (BeginsWithNoContent Form.Bytes bytes.now) }
@@ -142,7 +142,7 @@ fn first_bytes<'a: 'b, 'b>(
 fn first_content<'a: 'b, 'b>(
     form: Form,
     bytes: &'a [u8],
-    room: &'b mut [u8; LONGEST_TEXT],
+    room: &'b mut [u8; MOST_VALUE_BYTES],
 ) -> Option<(Content<'b>, &'a [u8])>
     ensures found { IfSome result (λ read. BeginsWithContent form bytes.now (held read.0) read.1.now) }
     ensures none { IfNone result (BeginsWithNoContent form bytes.now) }
@@ -159,7 +159,7 @@ fn first_content<'a: 'b, 'b>(
 fn first_value<'a: 'b, 'b>(
     kind: Kind,
     bytes: &'a [u8],
-    room: &'b mut [u8; LONGEST_TEXT],
+    room: &'b mut [u8; MOST_VALUE_BYTES],
 ) -> Option<(ValueRef<'b>, &'a [u8])>
     ensures found { IfSome result (λ read. BeginsWith kind bytes.now (shown read.0) read.1.now) }
     ensures none { IfNone result (BeginsWithNo kind bytes.now) }
@@ -177,7 +177,7 @@ fn is_code(kinds: &[Kind], bytes: &[u8]) -> bool
     ensures yes { result ≡ true → IsCode kinds.now bytes.now }
     ensures no { result ≡ false → IsNoCode kinds.now bytes.now }
 {
-    let mut room = [0; LONGEST_TEXT];
+    let mut room = [0; MOST_VALUE_BYTES];
     let mut code = bytes;
     for kind in kinds {
         let Some((_, rest)) = first_value(*kind, code, &mut room) else {
@@ -199,7 +199,7 @@ pub fn decode_onto(
     ensures code { OnOk result ((values : List value) × ((row.new ≡ row.old ++ values) × IsCodeOf kinds.now bytes.now values)) }
     ensures none { IsErrOf result DecodeError.NotACode → IsNoCode kinds.now bytes.now }
 {
-    let mut room = [0; LONGEST_TEXT];
+    let mut room = [0; MOST_VALUE_BYTES];
     let mut code = bytes;
     for kind in kinds {
         let Some((value, rest)) = first_value(*kind, code, &mut room) else {

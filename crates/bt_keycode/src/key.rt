@@ -10,8 +10,8 @@ use std::alloc::{AllocError, Global};
 use std::cmp::Ordering;
 use std::marker::Model;
 
-// A key of so many bytes is kept in the value itself.
-const SHORT_KEY: usize = 22;
+/// A key of at most so many bytes is kept in the value itself, and takes no memory of its own.
+pub const SHORT_KEY: usize = 22;
 
 // The last place of eight bytes in a short key.
 const LAST_EIGHT: usize = 14;

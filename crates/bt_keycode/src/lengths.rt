@@ -6,7 +6,7 @@ ghost use Rattle.bt_rowtype.specs.Values.{HasBytes};
 ghost use Rattle.bt_rowtype.specs.Views.{shown};
 
 use crate::zeros::split_at_zero;
-use bt_rowtype::{Change, Content, Row, Value, ValueRef, Values};
+use bt_rowtype::{Change, Content, MOST_VALUE_BYTES, Row, Value, ValueRef, Values};
 
 /// The most that anything weighs, in bytes: the greatest number of 24 bits.
 pub const MOST_WEIGHT: u64 = 16_777_215;
@@ -23,7 +23,7 @@ fn weight_sum(weight: u64, bytes: u64) -> u64
 
 // The length of the code of bytes, part by part between the zero bytes.
 fn bytes_len(bytes: &[u8]) -> u64
-    requires { length bytes.now ≤ 255 }
+    requires { length bytes.now ≤ MOST_VALUE_BYTES }
     ensures { result ≡ length (escaped bytes.now ++ (0 ∷ 1 ∷ [])) }
 {
     let mut len = 2;

@@ -1,4 +1,4 @@
-//! Texts and the zero bytes in them.
+//! Bytes and the zero bytes in them.
 ghost use Rattle.std.specs.List.{list_any};
 ghost use Rattle.std.specs.Prelude.{◌≡◌, ◌++◌, ◌∷◌, IfNone, IfSome, false, nat_eq};
 

@@ -2,6 +2,8 @@ pub mod Maps
 pub mod offered
 pub mod Orders
 pub mod Typed
+pub mod Encoded
+pub mod Pieces
 pub mod Places
 pub mod Repeats
 pub mod Rows

@@ -32,7 +32,7 @@ pub length-placed_from : (keys place : ℕ) (rows : List (List Value)) → lengt
 length-placed_from keys place [] = refl
 length-placed_from keys place (row ∷ rows) = ap suc (length-placed_from keys (place + 1) rows)
 
-same_placed : (key : Key) (m n : ℕ) → m ≡ n → ◌≡◌ {A = Placed} (record { key = key; place = m }) (record { key = key; place = n })
+pub same_placed : (key : Key) (m n : ℕ) → m ≡ n → ◌≡◌ {A = Placed} (record { key = key; place = m }) (record { key = key; place = n })
 same_placed key m n e = let f : ℕ → Placed = λ k. record { key = key; place = k } in ap f e
 
 placed_at : (keys place : ℕ) (rows : List (List Value)) (n : ℕ) (d : Placed) → n < length rows → get_or (placed_from keys place rows) n d ≡ record { key = key_of keys (get_or rows n []); place = place + n }

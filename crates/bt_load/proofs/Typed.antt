@@ -1,7 +1,5 @@
 -- Records that are typed all in turn, and each by itself.
-use Rattle.std.proofs.Common.{◌≡◌, ℕ, zero, suc, ◌+◌, ◌<◌, ◌≤◌, ◌==◌, true, false, List, [], ◌∷◌, ◌++◌, drop, get_or, length, map, take, refl, subst, sym, ap, ◌∙◌, arith, Option, None, Some, Result, Ok, Err, if◌then◌else◌}
-use Rattle.std.proofs.lemmas.List.{get_or-drop, get_or-take, length-drop, length-take, take-append-le}
-use Rattle.std.proofs.Math.Seq.{take-length}
+use Rattle.std.proofs.Common.{◌≡◌, ℕ, zero, suc, ◌+◌, ◌<◌, ◌==◌, true, false, List, [], ◌∷◌, drop, get_or, length, map, refl, subst, sym, ap, ◌∙◌, arith, Option, None, Some, Result, Ok, Err, if◌then◌else◌}
 use Rattle.std.specs.List.{filter_map}
 use Rattle.std.specs.Result.{result_err, result_ok}
 use Rattle.bt_rowtype.specs.Ops.{all_read, unless}
@@ -57,7 +55,8 @@ any_item columns fields row i j e =
 abbrev row_answer : List Value → Answer
 row_answer row = Ok row
 
-rows_of : (columns : List Column) (item : ℕ) (records : List Fields) (rows : List (List Value)) → length rows ≡ length records → AreRowsOrNone columns records rows → HaveValues rows → typed_from columns item records ≡ map row_answer rows
+rows_of : (columns : List Column) (item : ℕ) (records : List Fields) (rows : List (List Value)) → length rows ≡ length records → ((k : ℕ) → k < length rows → IsRowOrNone columns (get_or records k []) (get_or rows k [])) → HaveValues rows
+    → typed_from columns item records ≡ map row_answer rows
 rows_of columns item [] [] long are some = refl
 rows_of columns item [] (row ∷ rows) long are some = absurd (omega (arith, long))
 rows_of columns item (fields ∷ records) [] long are some = absurd (omega (arith, long))
@@ -75,28 +74,17 @@ errs [] = refl
 errs (row ∷ rows) = errs rows
 
 -- rows that all have values are what the records spell
-pub all_rows : (columns : List Column) (records : List Fields) (rows : List (List Value)) → length rows ≡ length records → AreRowsOrNone columns records rows → HaveValues rows
+pub all_rows : (columns : List Column) (records : List Fields) (rows : List (List Value)) → length rows ≡ length records → AreRowsOrNone columns 0 records rows → HaveValues rows
     → all_read (typed_from columns 1 records) ≡ Ok rows
 all_rows columns records rows long are some =
-    ap all_read (rows_of columns 1 records rows long are some)
+    ap all_read (rows_of columns 1 records rows long each some)
     ∙ ap (λ refusals. unless (least refusals) (filter_map result_ok (map row_answer rows))) (errs rows)
     ∙ ap Ok (oks rows)
+  where
+    each : (k : ℕ) → k < length rows → IsRowOrNone columns (get_or records k []) (get_or rows k [])
+    each k low = let here : 0 + k ≡ k = omega arith in subst (λ n. IsRowOrNone columns (get_or records n []) (get_or rows k [])) here (are k low)
 
 -- what the reading of all in turn makes
 pub all_finish : (columns : List Column) (records : List Fields) (values : List (List Value)) (refusal : Option Refusal) → values ≡ filter_map result_ok (typed_from columns 1 records)
     → refusal ≡ least (filter_map result_err (typed_from columns 1 records)) → all_read (typed_from columns 1 records) ≡ unless refusal values
 all_finish columns records values refusal are least_is = λ i. unless (sym least_is i) (sym are i)
-
--- a row of a piece is that of a record among all
-pub in_piece : (columns : List Column) (records : List Fields) (piece : List (List Value)) (start n offset k : ℕ) (row : List Value) → start + offset ≡ k → offset < n → start + n ≤ length records
-    → AreRowsOrNone columns (take n (drop start records)) piece → get_or piece offset [] ≡ row → IsRowOrNone columns (get_or records k []) row
-in_piece columns records piece start n offset k row place inside within are is =
-    let long = length-drop start records in
-    let fields = get_or-take n (drop start records) offset [] inside ∙ get_or-drop start records offset [] ∙ ap (λ i. get_or records i []) place in
-    subst (IsRowOrNone columns (get_or records k [])) is
-    (subst (λ f. IsRowOrNone columns f (get_or piece offset [])) fields
-    (are offset (let some = length-take n (drop start records) in omega (arith, some, long, inside, within))))
-
--- as many rows as there were, written back
-pub written_back : (rows new : List (List Value)) (n : ℕ) → n ≡ length rows → length new ≡ length rows → take n (new ++ drop (length new) rows) ≡ new
-written_back rows new n all same = let long : n ≡ length new = omega (arith, all, same) in ap (λ m. take m (new ++ drop (length new) rows)) long ∙ take-append-le (length new) new (drop (length new) rows) (omega arith) ∙ take-length new

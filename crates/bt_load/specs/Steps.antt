@@ -1,20 +1,34 @@
--- The two steps of a load that may run in threads: records are typed, each by itself, and keys are sorted.
-use Rattle.std.specs.Prelude.{ℕ, ◌≡◌, ◌≢◌, ◌<◌, List, [], length, slice_index_or, Ok}
+-- The three steps of a load that may run in threads: records are typed and the keys of rows made, each by itself, and keys are sorted.
+use Rattle.std.specs.Prelude.{ℕ, ◌≡◌, ◌≢◌, ◌+◌, ◌<◌, List, [], length, slice_index_or, Ok}
 use Rattle.std.specs.Ordering.{nat_cmp, ordering_then}
 use Rattle.std.specs.declared.cmp.Ordering.{Ordering}
 use Rattle.bt_rowtype.specs.Values.{read_as}
 use Rattle.bt_rowtype.specs.declared.schema.Column.{Column}
 use Rattle.bt_rowtype.specs.declared.value.Value.{Value}
 use Rattle.bt_keycode.specs.Keys.{key_cmp}
+use Rattle.bt_load.specs.Maps.{key_of}
 use Rattle.bt_load.specs.declared.placed.Placed.{Placed}
 
 -- a row that is that of a record, or has no value
 abbrev pub IsRowOrNone : List Column → List (List ℕ) → List Value → Type 0
 IsRowOrNone columns fields row = row ≢ [] → (item : ℕ) → read_as columns item fields ≡ Ok row
 
--- the rows at the places of records are theirs, or have no value
-abbrev pub AreRowsOrNone : List Column → List (List (List ℕ)) → List (List Value) → Type 0
-AreRowsOrNone columns records rows = (k : ℕ) → k < length records → IsRowOrNone columns (slice_index_or records k []) (slice_index_or rows k [])
+-- the rows of a piece are those of the records from a place on, or have no value
+abbrev pub AreRowsOrNone : List Column → ℕ → List (List (List ℕ)) → List (List Value) → Type 0
+AreRowsOrNone columns start records piece = (k : ℕ) → k < length piece → IsRowOrNone columns (slice_index_or records (start + k) []) (slice_index_or piece k [])
+
+-- the empty key
+abbrev pub no_key : Placed
+no_key = record { key = []; place = 0 }
+
+-- a key that is that of the row at a place, with the place, or is empty
+abbrev pub IsKeyOrNone : ℕ → List Value → ℕ → Placed → Type 0
+IsKeyOrNone keys row place p = p.key ≢ [] → p ≡ record { key = key_of keys row; place = place }
+
+-- the keys of a piece are those of the rows from a place on, or empty
+abbrev pub AreKeysOrNone : ℕ → ℕ → List (List Value) → List Placed → Type 0
+AreKeysOrNone keys start rows piece =
+    (k : ℕ) → k < length piece → IsKeyOrNone keys (slice_index_or rows (start + k) []) (start + k) (slice_index_or piece k no_key)
 
 -- by key, and of equal keys by place
 abbrev pub placed_cmp : Placed → Placed → Ordering

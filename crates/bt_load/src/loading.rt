@@ -1,19 +1,19 @@
 //! How a load is done: in threads, or in turn.
 ghost use Rattle.std.specs.List.Sorted.{IsPermutation, IsSorted};
-ghost use Rattle.std.specs.Prelude.{◌≡◌, ◌≤◌, ◌+◌, IfOk, drop, length, take};
-ghost use Rattle.bt_load.specs.Steps.{AreRowsOrNone, placed_cmp};
+ghost use Rattle.std.specs.Prelude.{◌≡◌, ◌≤◌, ◌+◌, length};
+ghost use Rattle.bt_load.specs.Steps.{AreKeysOrNone, AreRowsOrNone, placed_cmp};
 
-use crate::placed::{Placed, compare};
-use crate::typing::{no_rows, records_at, type_piece};
+use crate::placed::{Placed, compare, encode_piece};
+use crate::typing::type_piece;
 use bt_rowtype::{RecordLine, Row, Schema};
 use rayon::prelude::*;
-use std::alloc::{AllocError, Global};
+use std::alloc::Global;
 use std::thread::Threads;
 
-// So many records are typed at a time: enough that they cost far more than the job that types them.
+// So many records are typed at a time, and the keys of so many rows made: enough that they cost far more than the job that does it.
 const PIECE: usize = 1024;
 
-/// How the two steps of a load are done that may run in threads. A library for C has no runtime with threads, and a program has one: what is
+/// How the three steps of a load are done that may run in threads. A library for C has no runtime with threads, and a program has one: what is
 /// generic in a loading has one body for both, and starts threads only where its loading does.
 ///
 /// Two are there: [`InThreads`] and [`InTurn`]. [`Placed`] has no name outside this crate, so no other is written there.
@@ -21,16 +21,25 @@ pub trait Loading {
     /// What is asked of a loading: of one in threads, that these may share the runtime.
     ghost accepts: { Self → Type 0 };
 
-    /// The row that each record spells, or one of no value, where it spells none or memory is wanting.
-    fn rows_or_none(
+    /// Puts the row that each record spells in its place, or one of no value, where it spells none or memory is wanting.
+    fn type_records(
         &self,
         alloc: Global,
         schema: &Schema,
         records: &[RecordLine<'_>],
-    ) -> Result<Vec<Row>, AllocError>
+        rows: &mut [Row],
+    )
         requires ready { accepts self.now }
-        ensures long { IfOk result (λ rows. length rows.items ≡ length records.now) }
-        ensures typed { IfOk result (λ rows. AreRowsOrNone schema.now.columns records.now rows.items) };
+        requires same { length rows.old ≡ length records.now }
+        ensures long { length rows.new ≡ length rows.old }
+        ensures typed { AreRowsOrNone schema.now.columns 0 records.now rows.new };
+
+    /// Puts the key of each row in its place, or the empty one, where memory is wanting. The key is the code of so many values.
+    fn encode_keys(&self, alloc: Global, rows: &[Row], keys: usize, placed: &mut [Placed])
+        requires ready { accepts self.now }
+        requires same { length placed.old ≡ length rows.now }
+        ensures long { length placed.new ≡ length placed.old }
+        ensures encoded { AreKeysOrNone keys 0 rows.now placed.new };
 
     /// Sorts by key, and of equal keys by place.
     fn sort(&self, placed: &mut Vec<Placed>)
@@ -50,30 +59,36 @@ impl<'a, R: Threads + Sync> Loading for InThreads<'a, R> {
 
     ghost accepts = { λ _. IsSync R.row };
 
-    fn rows_or_none(
+    fn type_records(
         &self,
         alloc: Global,
         schema: &Schema,
         records: &[RecordLine<'_>],
-    ) -> Result<Vec<Row>, AllocError> {
-        let mut rows = no_rows(alloc, records.len())?;
+        rows: &mut [Row],
+    ) {
         par_chunks_mut_for_each(
             self.rt,
-            rows.as_mut_slice(),
+            rows,
             PIECE,
             |start: usize, piece: &mut [Row]|
                 requires { start + length piece.now ≤ length records.now }
-                ensures { AreRowsOrNone schema.entry.now.columns (take (length piece.old) (drop start records.entry.now)) piece.new }
-            {
-                type_piece(
-                    alloc,
-                    schema,
-                    records_at(records, start, piece.len()),
-                    piece,
-                )
-            },
+                ensures long { length piece.new ≡ length piece.old }
+                ensures typed { AreRowsOrNone schema.entry.now.columns start records.entry.now piece.new }
+            { type_piece(alloc, schema, records, start, piece) },
         );
-        Ok(rows)
+    }
+
+    fn encode_keys(&self, alloc: Global, rows: &[Row], keys: usize, placed: &mut [Placed]) {
+        par_chunks_mut_for_each(
+            self.rt,
+            placed,
+            PIECE,
+            |start: usize, piece: &mut [Placed]|
+                requires { start + length piece.now ≤ length rows.now }
+                ensures long { length piece.new ≡ length piece.old }
+                ensures encoded { AreKeysOrNone keys start rows.entry.now piece.new }
+            { encode_piece(alloc, rows, keys, start, piece) },
+        );
     }
 
     fn sort(&self, placed: &mut Vec<Placed>) {
@@ -90,15 +105,18 @@ impl Loading for InTurn {
 
     ghost accepts = { λ _. ⊤ };
 
-    fn rows_or_none(
+    fn type_records(
         &self,
         alloc: Global,
         schema: &Schema,
         records: &[RecordLine<'_>],
-    ) -> Result<Vec<Row>, AllocError> {
-        let mut rows = no_rows(alloc, records.len())?;
-        type_piece(alloc, schema, records, rows.as_mut_slice());
-        Ok(rows)
+        rows: &mut [Row],
+    ) {
+        type_piece(alloc, schema, records, 0, rows);
+    }
+
+    fn encode_keys(&self, alloc: Global, rows: &[Row], keys: usize, placed: &mut [Placed]) {
+        encode_piece(alloc, rows, keys, 0, placed);
     }
 
     fn sort(&self, placed: &mut Vec<Placed>) {

@@ -3,8 +3,8 @@ ghost use Rattle.std.specs.List.{AllAdjacentBelow};
 ghost use Rattle.std.specs.List.Sorted.{IsPermutation};
 ghost use Rattle.std.specs.Prelude.{◌≡◌, ◌≢◌, ◌<◌, ◌≤◌, ◌+◌, ℕ, Err, IfErr, IfOk, length, map, true};
 ghost use Rattle.bt_load.specs.Maps.{map_of};
-ghost use Rattle.bt_load.specs.Steps.{placed_cmp};
-ghost use Rattle.bt_load.specs.inside.Sorts.{IsFirstRepeat, IsKeyBelow, lesser_of, pair_at, placed_from, repeats_at, times};
+ghost use Rattle.bt_load.specs.Steps.{AreKeysOrNone, IsKeyOrNone, placed_cmp};
+ghost use Rattle.bt_load.specs.inside.Sorts.{HaveKeys, IsFirstRepeat, IsKeyBelow, lesser_of, pair_at, placed_from, repeats_at, times};
 
 use crate::loading::Loading;
 use bt_keycode::{Key, encode_row};
@@ -22,8 +22,77 @@ pub struct Placed {
 
 const _: () = prove!(size_of::<Placed>() == 32);
 
-/// The keys of rows, which are the codes of their first values, with the places of the rows.
-fn placed_keys(alloc: Global, rows: &[Row], keys: usize) -> Result<Vec<Placed>, AllocError>
+// So many places, each with no key.
+fn no_keys(alloc: Global, count: usize) -> Result<Vec<Placed>, AllocError>
+    ensures { IfOk result (λ placed. length placed.items ≡ count) }
+{
+    let mut placed = Vec::new(alloc);
+    placed.resize_with(
+        count,
+        || Placed {
+            key: Key::new(),
+            place: 0,
+        },
+    )?;
+    Ok(placed)
+}
+
+// The key of the row at a place, or the empty one, where memory is wanting.
+fn key_or_none(alloc: Global, row: &Row, keys: usize, place: usize) -> Placed
+    ensures { IsKeyOrNone keys row.now place result }
+{
+    match encode_row(alloc, row, keys) {
+        Ok(key) => Placed { key, place },
+        Err(_) => Placed {
+            key: Key::new(),
+            place,
+        },
+    }
+}
+
+// Puts the keys of the rows from a place on, or empty ones, in a piece.
+pub(crate) fn encode_piece(
+    alloc: Global,
+    rows: &[Row],
+    keys: usize,
+    start: usize,
+    piece: &mut [Placed],
+)
+    requires { start + length piece.old ≤ length rows.now }
+    ensures long { length piece.new ≡ length piece.old }
+    ensures encoded { AreKeysOrNone keys start rows.now piece.new }
+{
+    for offset in 0..piece.len() {
+        let place = start + offset;
+        piece[offset] = key_or_none(alloc, &rows[place], keys, place);
+    }
+}
+
+// The keys of rows, or empty ones, with the places of the rows.
+fn keys_or_none<L: Loading>(
+    loading: &L,
+    alloc: Global,
+    rows: &[Row],
+    keys: usize,
+) -> Result<Vec<Placed>, AllocError>
+    requires ready { L.accepts loading.now }
+    ensures long { IfOk result (λ placed. length placed.items ≡ length rows.now) }
+    ensures encoded { IfOk result (λ placed. AreKeysOrNone keys 0 rows.now placed.items) }
+{
+    let mut placed = no_keys(alloc, rows.len())?;
+    loading.encode_keys(alloc, rows, keys, placed.as_mut_slice());
+    Ok(placed)
+}
+
+// Whether no key is empty.
+fn all_have_keys(placed: &[Placed]) -> bool
+    ensures { result ≡ true → HaveKeys placed.now }
+{
+    placed.iter().all(|one| one.key.len() != 0)
+}
+
+// The keys of rows, with the places of the rows, one after the other.
+fn encode_in_turn(alloc: Global, rows: &[Row], keys: usize) -> Result<Vec<Placed>, AllocError>
     ensures { IfOk result (λ placed. placed.items ≡ placed_from keys 0 rows.now) }
 {
     let mut placed = Vec::with_capacity(alloc, rows.len())?;
@@ -34,7 +103,25 @@ fn placed_keys(alloc: Global, rows: &[Row], keys: usize) -> Result<Vec<Placed>, 
     Ok(placed)
 }
 
-/// Whether each key is below the next one.
+// The keys of rows, which are the codes of their first values, with the places of the rows.
+fn placed_keys<L: Loading>(
+    loading: &L,
+    alloc: Global,
+    rows: &[Row],
+    keys: usize,
+) -> Result<Vec<Placed>, AllocError>
+    requires ready { L.accepts loading.now }
+    ensures { IfOk result (λ placed. placed.items ≡ placed_from keys 0 rows.now) }
+{
+    let placed = keys_or_none(loading, alloc, rows, keys)?;
+    if all_have_keys(placed.as_slice()) {
+        return Ok(placed);
+    }
+    // A key of one value or more is never empty: memory was wanting, and may be there now.
+    encode_in_turn(alloc, rows, keys)
+}
+
+// Whether each key is below the next one.
 fn rise(placed: &[Placed]) -> bool
     ensures { result ≡ true → AllAdjacentBelow IsKeyBelow placed.now (length placed.now) }
 {
@@ -46,7 +133,7 @@ fn rise(placed: &[Placed]) -> bool
     true
 }
 
-/// The order of keys, and of equal keys that of their places.
+// The order of keys, and of equal keys that of their places.
 pub(crate) fn compare(left: &Placed, right: &Placed) -> Ordering
     ensures { result ≡ placed_cmp left.now right.now }
 {
@@ -87,7 +174,7 @@ fn first_repeat(placed: &[Placed]) -> Option<usize>
     first
 }
 
-/// The keys of rows in strictly rising order. `DuplicateKey` of the first row, counted from 1, whose key an earlier row has.
+// The keys of rows in strictly rising order. `DuplicateKey` of the first row, counted from 1, whose key an earlier row has.
 pub(crate) fn ordered_keys<L: Loading>(
     loading: &L,
     alloc: Global,
@@ -99,7 +186,7 @@ pub(crate) fn ordered_keys<L: Loading>(
     ensures rising { IfOk result (λ placed. AllAdjacentBelow IsKeyBelow placed.items (length placed.items)) }
     ensures refused { IfErr result (λ e. e ≢ Refusal.OutOfMemory → map_of keys rows.now ≡ Err e) }
 {
-    let mut placed = placed_keys(alloc, rows, keys)?;
+    let mut placed = placed_keys(loading, alloc, rows, keys)?;
     if rise(placed.as_slice()) {
         return Ok(placed);
     }
@@ -110,7 +197,7 @@ pub(crate) fn ordered_keys<L: Loading>(
     }
 }
 
-/// The keys with the rows at their places.
+// The keys with the rows at their places.
 pub(crate) fn with_rows(
     alloc: Global,
     placed: Vec<Placed>,

@@ -7,7 +7,7 @@ ghost use Rattle.bt_load.specs.Loads.{loaded, typed_from};
 ghost use Rattle.bt_load.specs.Standing.{AreOf};
 
 use crate::loading::{InThreads, Loading};
-use crate::typing::{all_have_values, type_in_turn};
+use crate::typing::{all_have_values, rows_or_none, type_in_turn};
 use bt_rowtype::{RecordLine, RecordReader, Records, Refusal, Row, Schema};
 use std::alloc::{AllocError, Global};
 use std::thread::Threads;
@@ -41,7 +41,7 @@ fn read_lines<L: Loading>(
     requires ready { L.accepts loading.now }
     ensures { Answers (all_read (typed_from schema.now.columns 1 lines.now)) (result_map_both (λ rows. rows.items) (λ e. e) result) }
 {
-    let rows = loading.rows_or_none(alloc, schema, lines)?;
+    let rows = rows_or_none(loading, alloc, schema, lines)?;
     if all_have_values(rows.as_slice()) {
         return Ok(rows);
     }

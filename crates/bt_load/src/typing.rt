@@ -1,12 +1,13 @@
 //! The rows that records spell.
-ghost use Rattle.std.specs.Prelude.{◌≡◌, ◌≤◌, ◌+◌, IfOk, drop, length, take, true};
+ghost use Rattle.std.specs.Prelude.{◌≡◌, ◌≤◌, ◌+◌, IfOk, length, true};
 ghost use Rattle.bt_load.specs.Steps.{AreRowsOrNone, IsRowOrNone};
 ghost use Rattle.bt_load.specs.inside.Typed.{HaveValues, IsReadingOf};
 
+use crate::loading::Loading;
 use bt_rowtype::{Collected, RecordLine, RecordReader, Row, Schema};
 use std::alloc::{AllocError, Global};
 
-/// What records spell, the first of them as item 1, one after the other.
+// What records spell, the first of them as item 1, one after the other.
 pub(crate) fn type_in_turn(
     alloc: Global,
     schema: &Schema,
@@ -38,47 +39,42 @@ fn row_or_none(
     }
 }
 
-/// Puts the row that each record spells, or one of no value, in its place.
+// Puts the rows that the records from a place on spell, or ones of no value, in a piece.
 pub(crate) fn type_piece(
     alloc: Global,
     schema: &Schema,
     records: &[RecordLine<'_>],
-    rows: &mut [Row],
+    start: usize,
+    piece: &mut [Row],
 )
-    requires { length rows.old ≡ length records.now }
-    ensures long { length rows.new ≡ length rows.old }
-    ensures typed { AreRowsOrNone schema.now.columns records.now rows.new }
+    requires { start + length piece.old ≤ length records.now }
+    ensures long { length piece.new ≡ length piece.old }
+    ensures typed { AreRowsOrNone schema.now.columns start records.now piece.new }
 {
     let mut reader = RecordReader::new(alloc);
-    for (place, record) in records.iter().enumerate() {
-        rows[place] = row_or_none(alloc, &mut reader, schema, record);
+    for offset in 0..piece.len() {
+        piece[offset] = row_or_none(alloc, &mut reader, schema, &records[start + offset]);
     }
 }
 
-/// So many rows of no value.
-pub(crate) fn no_rows(alloc: Global, count: usize) -> Result<Vec<Row>, AllocError>
-    ensures { IfOk result (λ rows. length rows.items ≡ count) }
+// The row that each record spells, or one of no value, where it spells none or memory is wanting.
+pub(crate) fn rows_or_none<L: Loading>(
+    loading: &L,
+    alloc: Global,
+    schema: &Schema,
+    records: &[RecordLine<'_>],
+) -> Result<Vec<Row>, AllocError>
+    requires ready { L.accepts loading.now }
+    ensures long { IfOk result (λ rows. length rows.items ≡ length records.now) }
+    ensures typed { IfOk result (λ rows. AreRowsOrNone schema.now.columns 0 records.now rows.items) }
 {
-    let mut rows = Vec::with_capacity(alloc, count)?;
-    for _ in 0..count {
-        rows.push(Row::new())?;
-    }
+    let mut rows = Vec::new(alloc);
+    rows.resize_with(records.len(), Row::new)?;
+    loading.type_records(alloc, schema, records, rows.as_mut_slice());
     Ok(rows)
 }
 
-/// The records from a place on, as many as there are rows.
-pub(crate) fn records_at<'r, 'a>(
-    records: &'r [RecordLine<'a>],
-    start: usize,
-    count: usize,
-) -> &'r [RecordLine<'a>]
-    requires { start + count ≤ length records.now }
-    ensures { result.now ≡ take count (drop start records.now) }
-{
-    &records[start..start + count]
-}
-
-/// Whether each row has a value.
+// Whether each row has a value.
 pub(crate) fn all_have_values(rows: &[Row]) -> bool
     ensures { result ≡ true → HaveValues rows.now }
 {

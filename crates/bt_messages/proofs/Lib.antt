@@ -1,10 +1,10 @@
 pub mod Counts
 pub mod Cuts
 pub mod Merging
+pub mod PacketMerges
 pub mod RunLists
 pub mod Sharing
 pub mod Slices
-pub mod Stable
 pub mod StablePlaces
 pub mod Totals
 pub mod Weighing

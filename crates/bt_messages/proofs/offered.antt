@@ -3,5 +3,7 @@ pub mod Fronts
 pub mod Loads
 pub mod Parts
 pub mod Placed
+pub mod Pieces
 pub mod Rows
+pub mod Stable
 pub mod Totals

@@ -152,6 +152,15 @@ impl<V: Merge> Bins<V> {
         self.bins[child].load(measure)
     }
 
+    /// The messages of a bin, in order.
+    pub fn bin(&self, child: usize) -> Messages<'_, V>
+        requires { child < length self.now }
+        ensures messages { result ≡ slice_index_or self.now child [] }
+        ensures sorted { IsSorted result }
+    {
+        self.bins[child].iter()
+    }
+
     /// The messages of a bin with a key at or past this one, in order. The first of them is found by halving.
     pub fn bin_from(&self, child: usize, key: &Key) -> Messages<'_, V>
         requires { child < length self.now }

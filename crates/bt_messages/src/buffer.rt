@@ -1,10 +1,11 @@
 //! Buffers: what is pending for a node, one list.
-ghost use Rattle.std.specs.Prelude.{◌≡◌, ◌==◌, ◌<◌, ◌≤◌, ◌^◌, [], List, ℕ, IfOk, IfSome, OnOk, OnErr, drop, length, take};
+ghost use Rattle.std.specs.Prelude.{◌≡◌, ◌==◌, ◌<◌, ◌≤◌, ◌^◌, [], List, ℕ, IfOk, IfSome, MatchOption, OnOk, Some, OnErr, drop, length, take};
 ghost use Rattle.bt_keycode.specs.Keys.{AllFrom, IsSorted};
 ghost use Rattle.bt_messages.specs.Bins.{AllBefore};
 ghost use Rattle.bt_messages.specs.Messages.{messages_between, messages_from, messages_outside, with_messages};
 ghost use Rattle.bt_messages.specs.Shares.{IsShare};
 ghost use Rattle.bt_messages.specs.Weights.{IsSum, load, weigh_of, weight};
+ghost use Rattle.bt_messages.specs.inside.Merges.{first_key};
 ghost use Rattle.bt_messages.specs.inside.Rooms.{HasRoom};
 ghost use Rattle.bt_messages.specs.inside.Runs.{begins_before};
 ghost use Rattle.bt_messages.specs.inside.Sums.{IsBuffer};
@@ -135,6 +136,13 @@ impl<V: Merge> Buffer<V> {
         ensures bound { length result < 2 ^ 63 }
     {
         Messages::of_sorted(sorted::between(self.messages.as_slice(), from, to))
+    }
+
+    // The key of the first message.
+    pub(crate) fn first_key(&self) -> Option<&Key>
+        ensures { MatchOption result (self.now ≡ []) (λ key. first_key self.now ≡ Some key.now) }
+    {
+        Some(&self.messages.first()?.0)
     }
 
     // Whether the first message has a key before this one.

@@ -48,8 +48,16 @@ impl<'a, V: Merge> Messages<'a, V> {
         Messages { left: self.left }
     }
 
-    // The messages of a list that is sorted by key.
-    pub(crate) fn of_sorted(messages: &'a [(Key, Message<V>)]) -> Self
+    /// The messages that are left, by their places.
+    pub fn as_slice(&self) -> &'a [(Key, Message<V>)]
+        ensures messages { result.now ≡ self.now }
+        ensures sorted { IsSorted result.now }
+    {
+        self.left
+    }
+
+    /// The messages of a list that is sorted by key.
+    pub fn of_sorted(messages: &'a [(Key, Message<V>)]) -> Self
         requires { IsSorted messages.now }
         ensures { result ≡ messages.now }
     {

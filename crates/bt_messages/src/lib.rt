@@ -26,7 +26,6 @@ mod beginnings;
 mod bins;
 mod buffer;
 mod entry;
-mod first_numbers;
 mod iter;
 mod joined;
 mod measure;
@@ -37,6 +36,7 @@ mod runs;
 mod share;
 mod sorted;
 mod stream;
+mod two_streams;
 mod walk;
 
 pub use bins::Bins;

@@ -1,19 +1,20 @@
 //! Packets: what is sent on at one time, in runs.
-ghost use Rattle.std.specs.Prelude.{◌≡◌, ◌==◌, ◌<◌, ◌++◌, ◌^◌, [], IfOk, length};
+ghost use Rattle.std.specs.Prelude.{◌≡◌, ◌==◌, ◌<◌, ◌≤◌, ◌-◌, ◌++◌, ◌^◌, [], IfOk, OnOk, OnErr, length};
 ghost use Rattle.bt_keycode.specs.Keys.{IsSorted};
 ghost use Rattle.bt_messages.specs.Bins.{joined};
 ghost use Rattle.bt_messages.specs.Effects.{DoTheSame, effect_of};
-ghost use Rattle.bt_messages.specs.Messages.{sorted_batch};
-ghost use Rattle.bt_messages.specs.inside.Runs.{AreRuns};
+ghost use Rattle.bt_messages.specs.Messages.{sorted_batch, with_messages};
+ghost use Rattle.bt_messages.specs.inside.Runs.{AreRuns, AreSome};
 
-use crate::beginnings::sorted_by_beginnings;
+use crate::beginnings::ThreeNumbers;
 use crate::buffer::Buffer;
-use crate::first_numbers::sorted_by_first_numbers;
 use crate::joined::Joined;
 use crate::message::{Merge, Message};
+use crate::places::sorted_by;
 use crate::runs::in_runs;
 use crate::sorted::{self, Sorting};
 use crate::stream::Stream;
+use crate::two_streams::{count_of_both, merge_both};
 use bt_keycode::Key;
 use std::alloc::{AllocError, Global};
 use std::marker::Model;
@@ -63,8 +64,8 @@ fn sorted_packet<V: Merge>(
 {
     match sorted::sorting_of(alloc, batch.as_slice())? {
         Sorting::Messages => sorted_by_messages(alloc, batch),
-        Sorting::FirstNumbers => sorted_by_first_numbers(alloc, batch),
-        Sorting::Beginnings => sorted_by_beginnings(alloc, batch),
+        Sorting::FirstNumbers => sorted_by::<V, u64>(alloc, batch),
+        Sorting::ThreeNumbers => sorted_by::<V, ThreeNumbers>(alloc, batch),
     }
 }
 
@@ -91,6 +92,73 @@ impl<V: Merge> Packet<V> {
         let count = buffer.count();
         let _sorted = buffer.iter();
         Packet::from_runs(buffer, Vec::new(alloc), count)
+    }
+
+    /// Older and newer messages as one packet, of one key the older ones first. Runs behind which the other packet has no message
+    /// go over as they are.
+    pub fn merge(alloc: Global, older: Packet<V>, newer: Packet<V>) -> Result<Self, AllocError>
+        ensures { IfOk result (λ packet. packet ≡ with_messages newer older) }
+    {
+        count_of_both(older.len(), newer.len())?;
+        let mut older = older.into_stream();
+        let mut newer = newer.into_stream();
+        let mut merged = merge_both(alloc, &mut older, &mut newer)?;
+        merged.append(older.into_packet(alloc)?)?;
+        merged.append(newer.into_packet(alloc)?)?;
+        Ok(merged)
+    }
+
+    /// Puts messages behind, none of which goes before one of these. No message is moved. An `Err` changes nothing, and those
+    /// messages are gone.
+    pub fn append(&mut self, behind: Packet<V>) -> Result<(), AllocError>
+        requires { IsSorted (self.old ++ behind) }
+        ensures ok { OnOk result (self.new ≡ self.old ++ behind) }
+        ensures err { OnErr result (self.new ≡ self.old) }
+    {
+        let count = count_of_both(self.count, behind.len())?;
+        let mut runs = behind.into_runs()?;
+        self.rest.append(&mut runs)?;
+        self.count = count;
+        Ok(())
+    }
+
+    /// Keys that divide the messages into so many parts of about as many messages each, or into fewer where there are few messages.
+    /// They are the first keys of runs, and no other messages are looked at: a list from a buffer isn't divided.
+    pub fn pivots(&self, alloc: Global, parts: usize) -> Result<Vec<Key>, AllocError>
+        ensures { IfOk result (λ keys. length keys.items ≤ parts - 1) }
+    {
+        let step = self.rest.len() / parts.max(1) + 1;
+        let mut place = 0;
+        let mut keys = Vec::new(alloc);
+        for _ in 1..parts {
+            place = step.saturating_add(place);
+            if let Some(key) = self.first_key_of_run(place) {
+                keys.push(key.copy(alloc)?)?;
+            }
+        }
+        Ok(keys)
+    }
+
+    // The key of the first message of a run.
+    fn first_key_of_run(&self, run: usize) -> Option<&Key> {
+        self.rest.get(run)?.first_key()
+    }
+
+    // The lists of the messages, without those that are empty.
+    fn into_runs(self) -> Result<Vec<Buffer<V>>, AllocError>
+        ensures joined { IfOk result (λ runs. joined runs.items ≡ self) }
+        ensures some { IfOk result (λ runs. AreSome runs.items) }
+    {
+        let Packet {
+            first,
+            rest,
+            count: _count,
+        } = self;
+        let mut runs = rest;
+        if !first.is_empty() {
+            runs.insert(0, first)?;
+        }
+        Ok(runs)
     }
 
     // So many messages: those of the first list, and of the others behind it.

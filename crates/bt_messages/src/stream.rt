@@ -1,5 +1,5 @@
 //! Streams: sorted messages that are taken off at the front.
-ghost use Rattle.std.specs.Prelude.{◌≡◌, ◌+◌, ◌-◌, ◌<◌, ◌≤◌, ◌^◌, ◌∷◌, ◌++◌, [], ℕ, true, IfOk, MatchOption, OnOk, drop, length, map, slice_index_or, take, vec_len, vec_capacity};
+ghost use Rattle.std.specs.Prelude.{◌≡◌, ◌==◌, ◌+◌, ◌-◌, ◌<◌, ◌≤◌, ◌^◌, ◌∷◌, ◌++◌, [], ℕ, true, IfOk, MatchOption, OnOk, Some, drop, length, map, slice_index_or, take, vec_len, vec_capacity};
 ghost use Rattle.bt_keycode.specs.Keys.{AllFrom, IsSorted};
 ghost use Rattle.bt_messages.specs.Bins.{AllBefore, joined, parts};
 ghost use Rattle.bt_messages.specs.Parts.{parted, total};
@@ -7,6 +7,7 @@ ghost use Rattle.bt_messages.specs.Messages.{messages_before, messages_from, wit
 ghost use Rattle.bt_messages.specs.Shares.{AreShares, counts, share_of};
 ghost use Rattle.bt_messages.specs.Weights.{weigh_of};
 ghost use Rattle.bt_messages.specs.inside.Runs.{AreRuns, AreSome, begins_before};
+ghost use Rattle.bt_messages.specs.inside.Merges.{first_key, goes_before};
 ghost use Rattle.bt_messages.specs.inside.Sums.{counted};
 
 use crate::buffer::Buffer;
@@ -345,7 +346,48 @@ impl<V: Merge> Stream<V> {
         Ok(Packet::from_runs(Buffer::new(alloc), runs, count))
     }
 
+    /// Whether no message is left.
+    pub fn is_empty(&self) -> bool
+        ensures { result ≡ (length self.now == 0) }
+    {
+        self.len() == 0
+    }
+
+    // The messages that are left, as a packet.
+    pub(crate) fn into_packet(self, alloc: Global) -> Result<Packet<V>, AllocError>
+        ensures { IfOk result (λ packet. packet ≡ self) }
+    {
+        let mut left = self;
+        let count = left.len();
+        left.take_front(alloc, count)
+    }
+
+    // The key of the first message.
+    #[inline]
+    fn first_key(&self) -> Option<&Key>
+        ensures { MatchOption result (self.now ≡ []) (λ key. first_key self.now ≡ Some key.now) }
+    {
+        if let Some(first) = self.first.front() {
+            return Some(&first.0);
+        }
+        self.rest.front()?.first_key()
+    }
+
+    // Whether the first message has a key before that of the first one of older messages, or none of these is left.
+    #[inline]
+    pub(crate) fn goes_before(&self, older: &Stream<V>) -> bool
+        ensures before { result ≡ goes_before self.now older.now }
+        ensures sorted { IsSorted self.now }
+    {
+        let _sorted = self.len();
+        match older.first_key() {
+            Some(key) => self.begins_before(key),
+            None => true,
+        }
+    }
+
     // Whether the first message has a key before this one.
+    #[inline]
     fn begins_before(&self, key: &Key) -> bool
         ensures begins { result ≡ begins_before key.now self.now }
         ensures sorted { IsSorted self.now }

@@ -251,6 +251,7 @@ impl<V: Merge> ChildIterator<V> {
         ensures { MatchOption result (self.old ≡ []) (λ c. self.old ≡ record { pivot = c.0; tree = c.1; pending = c.2 } ∷ self.new) }
     {
         let node = self.nodes.next()?;
+        // Each node has a bin, so the bins don't end before the nodes do.
         let Some(pending) = self.bins.next() else {
             unreachable!()
         };

@@ -74,6 +74,7 @@ fn flush_marked<V: Merge>(
     let mut shares = shares.into_iter();
     let mut marks = marks.into_iter();
     while let Some((pivot, node, pending)) = children.next() {
+        // Each child has a share and a mark, so neither list ends before the children do.
         let (Some(share), Some(marked)) = (shares.next(), marks.next()) else {
             unreachable!()
         };

@@ -14,8 +14,9 @@ use crate::lent::lies_before;
 use crate::lookup::{after_messages, pivots_up_to};
 use crate::node::{Kind, Node};
 use crate::rows::Rows;
+use crate::search::{mean_step, part_from};
 use bt_keycode::Key;
-use bt_messages::{Bins, Merge};
+use bt_messages::{Bins, Merge, Messages};
 use std::alloc::{AllocError, Global};
 use std::cmp::Ordering;
 
@@ -64,7 +65,7 @@ fn first_run<'k>(pivots: &[Key], keys: &'k [&'k Key]) -> (usize, &'k [&'k Key])
     (place, &keys[..count])
 }
 
-// What a leaf has at keys. From the row of one key the next one is some rows away, as many as there are to a key.
+// What a leaf has at keys. These mostly rise, so each is searched for from where the last one was found.
 fn found_at<'a, V: Merge>(
     alloc: Global,
     rows: &'a Rows<V>,
@@ -73,7 +74,7 @@ fn found_at<'a, V: Merge>(
     ensures { IfOk result (λ values. map value_of values.items ≡ map (λ k. find key_cmp k.now rows.now) keys.now) }
 {
     let mut values = Vec::with_capacity(alloc, keys.len())?;
-    let step = (rows.len() / (keys.len() + 1)).max(1);
+    let step = mean_step(rows.len(), keys.len());
     let mut place = 0;
     for key in keys {
         let (next, value) = rows.find_near(place, step, key);
@@ -83,7 +84,8 @@ fn found_at<'a, V: Merge>(
     Ok(values)
 }
 
-// Adds what the messages in a bin make of the values that its child has at keys: the values as they are where there is no message.
+// Adds what the messages in a bin make of the values that its child has at keys. Where there is no message, these are the values as they are.
+// Else messages and keys are gone through together: the messages to each key are searched for from where those to the last one were found.
 fn add_after<'a, V: Merge>(
     alloc: Global,
     values: &mut Vec<Held<'a, V>>,
@@ -101,13 +103,18 @@ fn add_after<'a, V: Merge>(
         values.append(&mut below)?;
         return Ok(());
     }
+    let messages = bins.bin(place).as_slice();
+    let step = mean_step(messages.len(), keys.len());
+    let mut near = 0;
     let mut rest = keys;
     for old in below {
+        // This is never the end of the keys: there are as many of them as values.
         let [key, others @ ..] = rest else {
             return Ok(());
         };
-        let messages = bins.bin_from(place, key);
-        values.push(after_messages(alloc, messages, key, old)?)?;
+        let (next, later) = part_from(messages, near, step, key);
+        values.push(after_messages(alloc, Messages::of_sorted(later), key, old)?)?;
+        near = next;
         rest = others;
     }
     Ok(())

@@ -147,12 +147,7 @@ impl<V: Merge> Rows<V> {
         requires { 1 ≤ step }
         ensures { option_copied result.1 ≡ find key_cmp key.now self.now }
     {
-        let later = part_from(self.rows.as_slice(), place, step, key);
-        let next = self
-            .rows
-            .len()
-            .saturating_sub(later.len())
-            .saturating_sub(1);
+        let (next, later) = part_from(self.rows.as_slice(), place, step, key);
         (next, split_first(later, key).0)
     }
 

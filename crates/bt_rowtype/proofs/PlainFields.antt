@@ -24,7 +24,7 @@ use Rattle.bt_rowtype.proofs.ReadFits.{both_true}
 use Rattle.bt_rowtype.specs.declared.schema.Column.{Column}
 use Rattle.bt_rowtype.specs.declared.value.Value.{Value}
 use Rattle.bt_rowtype.specs.Ints.{digits_after, int_of, is_digit, is_numeral, number_written}
-use Rattle.bt_rowtype.specs.Texts.{is_text, longest_text}
+use Rattle.bt_rowtype.specs.Texts.{is_text, most_value_bytes}
 use Rattle.bt_rowtype.specs.inside.PlainFields.{EndsPlain, HasRead, fields_from, is_plain}
 use Rattle.bt_rowtype.specs.inside.RecordParts.{fields_in, is_special, parts_of}
 use Rattle.bt_rowtype.proofs.Columnwise.{values_more}
@@ -138,7 +138,7 @@ plain_ascii (b ∷ bs) plain =
     ascii b plain = grind (arith, nat_tests)
 
 -- a plain field that isn't too long is a text
-pub plain_is_text : (text : List ℕ) (end : ℕ) → EndsPlain text end → end ≤ longest_text → is_text (take end text) ≡ true
+pub plain_is_text : (text : List ℕ) (end : ℕ) → EndsPlain text end → end ≤ most_value_bytes → is_text (take end text) ≡ true
 plain_is_text text end ends short =
     short_text (take end text) (omega (arith, short, length-take end text)) (IsUtf8-from_ascii (take end text) (plain_ascii (take end text) ends.plain))
 

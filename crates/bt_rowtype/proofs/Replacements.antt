@@ -10,7 +10,7 @@ use Rattle.bt_rowtype.specs.declared.value.Value.{Value}
 use Rattle.bt_rowtype.specs.declared.value.Value.TheVariants as value
 use Rattle.bt_rowtype.specs.inside.Numbers.{number_of}
 use Rattle.bt_rowtype.specs.Values.{AreInRange, IsInRange}
-use Rattle.bt_rowtype.specs.inside.Packing.{IsAt, IsPacked, content_at, first_of, int_bytes, packed, packed_value, unpacked, width_in, width_of}
+use Rattle.bt_rowtype.specs.inside.Packing.{IsAt, IsPacked, content_at, first_of, int_bytes, int_from, packed, packed_value, unpacked, value_tagged, width_in, width_of}
 use Rattle.bt_rowtype.proofs.offered.Kinds.{int_tag, kind_with, number_kind}
 use Rattle.bt_rowtype.proofs.Packing.{are_packed, has_first, in_range-append, in_range-take, packed-append, unpacked-packed}
 use Rattle.bt_rowtype.proofs.Walks.{take_one_more, unpacked_none}
@@ -69,20 +69,31 @@ pub width_fits : (bytes : List ℕ) → IsPacked bytes → width_of bytes ≤ le
 width_fits [] h = omega arith
 width_fits (b ∷ bs) h = (has_first (b ∷ bs) h (omega arith)).within
 
+-- the tag of an int
+tag_of_int : (tag : ℕ) (bs : List ℕ) (n : ℤ) → number_of (first_of (tag ∷ bs)) ≡ Some n → kind_of_tag tag ≡ kind.Int
+tag_of_int tag bs n e =
+    sym (kind_with (kind_of_tag tag) (content_at (form_of (kind_of_tag tag)) (tag == tag_of (kind_of_tag tag) + 1) bs)) ∙ ap kind_of (number_kind (first_of (tag ∷ bs)) n e)
+
 int_first : (bytes : List ℕ) (n : ℤ) → number_of (first_of bytes) ≡ Some n → (first_of bytes ≡ value.Int n) × (width_of bytes ≡ 9) × (bytes ≡ 0 ∷ drop 1 bytes)
 int_first [] n e = absurd (cc)
 int_first (tag ∷ bs) n e =
-    let first = number_kind (first_of (tag ∷ bs)) n e in
-    let k : kind_of_tag tag ≡ kind.Int = sym (kind_with (kind_of_tag tag) (content_at (form_of (kind_of_tag tag)) (tag == tag_of (kind_of_tag tag) + 1) bs)) ∙ ap kind_of first in
-    (first, ap (λ j. width_in (form_of j) bs) k, ap (λ t. t ∷ bs) (int_tag tag k))
+    let k = tag_of_int tag bs n e in
+    (number_kind (first_of (tag ∷ bs)) n e, ap (λ j. width_in (form_of j) bs) k, ap (λ t. t ∷ bs) (int_tag tag k))
+
+-- what begins with the tag of an int takes nine bytes, and is one
+pub int_width : (tag : ℕ) (bs : List ℕ) → kind_of_tag tag ≡ kind.Int → width_of (tag ∷ bs) ≡ 9
+int_width tag bs is = ap (λ k. width_in (form_of k) bs) is
+
+pub is_number : (tag : ℕ) (bs : List ℕ) → kind_of_tag tag ≡ kind.Int → Some (int_from bs) ≡ number_of (first_of (tag ∷ bs))
+is_number tag bs is = sym (ap (λ k. number_of (value_tagged k tag bs)) is)
 
 -- what begins with another tag is no int
-pub no_number : (tag : ℕ) (bs : List ℕ) → (tag ≡ 0 → ⊥) → None ≡ number_of (first_of (tag ∷ bs))
+pub no_number : (tag : ℕ) (bs : List ℕ) → (kind_of_tag tag ≡ kind.Int → ⊥) → None ≡ number_of (first_of (tag ∷ bs))
 no_number tag bs other = by_number (number_of (first_of (tag ∷ bs))) refl
   where
     by_number : (o : Option ℤ) → number_of (first_of (tag ∷ bs)) ≡ o → None ≡ o
     by_number None e = refl
-    by_number (Some n) e = absurd (other (let is = (int_first (tag ∷ bs) n e).2 in cc))
+    by_number (Some n) e = absurd (other (tag_of_int tag bs n e))
 
 get_dropped : (n : ℕ) (vs : List Value) (v d : Value) (rest : List Value) → drop n vs ≡ v ∷ rest → get_or vs n d ≡ v
 get_dropped zero [] v d rest e = (cc)

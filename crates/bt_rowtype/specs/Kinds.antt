@@ -1,4 +1,5 @@
--- All that is said of single kinds: the form of each, its word, the bytes that it takes, how a field of it is read and printed, and its default.
+-- All that is said of single kinds: the form of each, its word, the bytes that it takes, how a field of it is read and printed, and its default. What
+-- operations that make a number ask, whether a kind is int and a value an int, is said with them, and so with sums.
 use Rattle.std.specs.Prelude.{ℕ, ◌==◌, Bool, true, false, List, [], codes, Option, Some, None, option_and_then, option_map, if◌then◌else◌, ℤ, pos}
 use Rattle.std.specs.Cmp.Lexicographic.{pointwise}
 use Rattle.std.specs.Fmt.{signed_decimal}
@@ -118,6 +119,11 @@ text_read field = if is_text field then Some field else None
 -- the bytes that a field spells, where they are not too many
 abbrev pub binary_of : List ℕ → Option (List ℕ)
 binary_of field = option_and_then (λ bytes. if is_binary bytes then Some bytes else None) (bytes_of_hex field)
+
+-- whether a field spells other bytes than its own, so that a value of the kind is read into room
+abbrev pub needs_room : Kind → Bool
+needs_room kind.Bytes = true
+needs_room other = false
 
 -- the value that a field spells in a column of a kind
 abbrev pub value_of : Kind → List ℕ → Option Value

@@ -38,9 +38,13 @@ abbrev pub after_ops : List Op → List Value → List Value
 after_ops [] row = row
 after_ops (op ∷ ops) row = after_ops ops (after_op row op)
 
+-- the word of an operation that sets a value
+abbrev pub set_word : List ℕ
+set_word = codes "set"
+
 -- the word of an operation, its place, and its argument: the value that it sets, or its number
 abbrev pub word_in : Action → List ℕ
-word_in (Sets place new) = codes "set"
+word_in (Sets place new) = set_word
 word_in (Makes arithmetic place n) = word_of arithmetic
 
 abbrev pub place_in : Action → ℕ
@@ -100,7 +104,7 @@ number_op_of item argument column (Some arithmetic) = at_column (making_of arith
 -- the operation of a word, a column's name and an argument, or its one fault: of the word, the column, the kind for a number, the argument
 abbrev pub op_of : Schema → ℕ → List ℕ → List ℕ → List ℕ → Result Op Refusal
 op_of schema item word name argument =
-    if pointwise ◌==◌ word (codes "set") then at_column (set_of item argument) (open_column schema name)
+    if pointwise ◌==◌ word set_word then at_column (set_of item argument) (open_column schema name)
     else number_op_of item argument (open_column schema name) (arithmetic_of_word word)
 
 -- the operations of fields in groups of three

@@ -42,7 +42,7 @@ prefix_as columns item fields =
 
 -- ---- order and range, by the form of a value
 
--- the order of what two values of a kind hold: numbers by size, bytes byte by byte, false before true; two forms have none
+-- the order of what two values of a kind hold: numbers by size, bytes byte by byte, false before true; what two forms hold is taken as equal
 abbrev pub content_cmp : Content → Content → Ordering
 content_cmp (Number a) (Number b) = int_cmp a b
 content_cmp (Bytes a) (Bytes b) = slice_cmp nat_cmp a b

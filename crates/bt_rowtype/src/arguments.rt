@@ -49,7 +49,7 @@ impl<'a> Arguments<'a> {
     /// The next argument, if one is left.
     pub fn next(&mut self) -> Option<ValueRef<'a>>
         ensures some { IfSome result (λ argument. self.old ≡ shown argument ∷ self.new) }
-        ensures text { IfSome result (λ argument. HasBytes (shown argument)) }
+        ensures bytes { IfSome result (λ argument. HasBytes (shown argument)) }
         ensures none { IfNone result ((self.old ≡ []) × (self.new ≡ [])) }
     {
         if let Some(number) = self.number {

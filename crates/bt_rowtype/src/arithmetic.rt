@@ -7,17 +7,21 @@ ghost use Rattle.bt_rowtype.specs.inside.Packing.{IsPacked, first_of, int_bytes,
 
 use crate::op::Arithmetic;
 use crate::packed::{int_at, offset, tail};
+use crate::value::Kind;
 
 // The int that the first value is, if it is one.
-#[tactic(auto, using(crate::proofs::Replacements::no_number))]
+#[tactic(auto, using(crate::proofs::Replacements::int_width, crate::proofs::Replacements::is_number, crate::proofs::Replacements::no_number))]
 fn first_int(bytes: &[u8]) -> Option<i64>
     requires { width_of bytes.now ≤ length bytes.now }
     ensures { result ≡ number_of (first_of bytes.now) }
 {
-    match bytes {
-        [0, ..] => Some(int_at(bytes)),
-        _ => None,
+    let [tag, ..] = bytes else {
+        return None;
+    };
+    if Kind::from_tag(*tag) != Kind::Int {
+        return None;
     }
+    Some(int_at(bytes))
 }
 
 // The int that begins here, if it is one.

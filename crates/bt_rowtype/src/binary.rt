@@ -5,7 +5,7 @@ ghost use Rattle.bt_rowtype.specs.Kinds.{binary_of};
 ghost use Rattle.bt_rowtype.specs.Texts.{is_binary as is_short};
 
 use crate::bytes::Bytes;
-use crate::text::LONGEST_TEXT;
+use crate::text::MOST_VALUE_BYTES;
 use std::alloc::{AllocError, Global};
 use std::marker::Model;
 
@@ -59,7 +59,7 @@ impl Binary {
 pub(crate) fn is_binary(bytes: &[u8]) -> bool
     ensures { result ≡ is_short bytes.now }
 {
-    bytes.len() <= LONGEST_TEXT
+    bytes.len() <= MOST_VALUE_BYTES
 }
 
 // The number of a hexadecimal digit of either case.
@@ -86,15 +86,15 @@ fn byte_from(high: u8, low: u8) -> Option<u8>
 
 // The bytes that digits spell: how many they are. They are written into `room`. There are none where a byte is no digit, where
 // the number of digits is odd, or where they are too many.
-fn spell(digits: &[u8], room: &mut [u8; LONGEST_TEXT]) -> Option<usize>
-    ensures bound { IfSome result (λ len. len ≤ LONGEST_TEXT) }
+fn spell(digits: &[u8], room: &mut [u8; MOST_VALUE_BYTES]) -> Option<usize>
+    ensures bound { IfSome result (λ len. len ≤ MOST_VALUE_BYTES) }
     ensures bytes { option_map (λ len. take len room.new) result ≡ binary_of digits.now }
 {
     let mut len = 0;
     let mut rest = digits;
     while let [high, low, others @ ..] = rest {
         let byte = byte_from(*high, *low)?;
-        if len == LONGEST_TEXT {
+        if len == MOST_VALUE_BYTES {
             return None;
         }
         room[len] = byte;
@@ -105,7 +105,10 @@ fn spell(digits: &[u8], room: &mut [u8; LONGEST_TEXT]) -> Option<usize>
 }
 
 // The bytes that a field spells, two digits for each, lent from `room`.
-pub(crate) fn read_binary<'a>(field: &[u8], room: &'a mut [u8; LONGEST_TEXT]) -> Option<&'a [u8]>
+pub(crate) fn read_binary<'a>(
+    field: &[u8],
+    room: &'a mut [u8; MOST_VALUE_BYTES],
+) -> Option<&'a [u8]>
     ensures bytes { option_map (λ bytes. bytes.now) result ≡ binary_of field.now }
     ensures short { IfSome result (λ bytes. is_short bytes.now ≡ true) }
 {

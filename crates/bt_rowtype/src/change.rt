@@ -1,13 +1,12 @@
 //! What an upsert does to the row of its key.
-ghost use Rattle.std.specs.Prelude.{◌≡◌, ◌∷◌, [], IfOk, map};
-ghost use Rattle.bt_rowtype.specs.Arithmetic.{op_making};
+ghost use Rattle.std.specs.Prelude.{◌≡◌, ◌∷◌, [], IfOk, IfSome, map};
 ghost use Rattle.bt_rowtype.specs.inside.Changes.{ops_of};
 ghost use Rattle.bt_rowtype.specs.Ops as spec;
 
 use crate::apply::apply_ops;
 use crate::arguments::Arguments;
 use crate::copies::clone_all;
-use crate::op::{Action, Arithmetic, Op, Ops};
+use crate::op::{Action, Arithmetic, Op, Ops, one_op};
 use crate::row::{Row, copy_row};
 use crate::sequence::Sequence;
 use std::alloc::{AllocError, Global};
@@ -42,17 +41,39 @@ impl Model for Change {
     ghost view = { λ a. record { base = a.base; ops = ops_of a.work } };
 }
 
-// The operations, in the form in which a change keeps them.
+// The operation in the form of a change that keeps it in itself, where it makes a number.
 #[tactic(auto, using(crate::proofs::offered::Actions::making_action))]
+fn work_inside(op: &Op) -> Option<Work>
+    ensures { IfSome result (λ work. ops_of work ≡ op.now ∷ []) }
+{
+    match op.action() {
+        Action::Make(arithmetic, place, number) if place <= u16::MAX as usize => {
+            Some(Work::One(arithmetic, place as u16, number))
+        }
+        _ => None,
+    }
+}
+
+// The operations in the form in which a change keeps them.
 fn work_of(alloc: Global, ops: Ops) -> Result<Work, AllocError>
     ensures { IfOk result (λ work. ops_of work ≡ ops) }
 {
     if let [op] = ops.as_slice()
-        && let Action::Make(arithmetic, place, number) = op.action()
-        && place <= u16::MAX as usize
+        && let Some(work) = work_inside(op)
     {
-        return Ok(Work::One(arithmetic, place as u16, number));
+        return Ok(work);
     }
+    Ok(Work::List(Box::new(alloc, ops)?))
+}
+
+// The one operation in the form in which a change keeps it. No list is made of one that makes a number.
+fn work_of_one(alloc: Global, op: Op) -> Result<Work, AllocError>
+    ensures { IfOk result (λ work. ops_of work ≡ op ∷ []) }
+{
+    if let Some(work) = work_inside(&op) {
+        return Ok(work);
+    }
+    let ops = one_op(alloc, op)?;
     Ok(Work::List(Box::new(alloc, ops)?))
 }
 
@@ -71,15 +92,6 @@ fn copy_work(alloc: Global, work: &Work) -> Result<Work, AllocError>
         Work::One(arithmetic, place, number) => Ok(Work::One(*arithmetic, *place, *number)),
         Work::List(ops) => Ok(Work::List(Box::new(alloc, copy_ops(alloc, ops)?)?)),
     }
-}
-
-// The one operation that makes a number.
-fn one_op(alloc: Global, arithmetic: Arithmetic, place: u16, number: i64) -> Result<Ops, AllocError>
-    ensures { IfOk result (λ ops. ops ≡ op_making arithmetic place number ∷ []) }
-{
-    let mut ops = Ops::with_capacity(alloc, 1)?;
-    ops.push(Op::making(arithmetic, place as usize, number))?;
-    Ok(ops)
 }
 
 // The row after the operations.
@@ -108,6 +120,17 @@ impl Change {
         })
     }
 
+    /// The change with this row to begin with and this one operation.
+    pub(crate) fn of_one(alloc: Global, base: Row, op: Op) -> Result<Self, AllocError>
+        ensures base { IfOk result (λ change. change.base ≡ base) }
+        ensures ops { IfOk result (λ change. change.ops ≡ op ∷ []) }
+    {
+        Ok(Change {
+            base,
+            work: work_of_one(alloc, op)?,
+        })
+    }
+
     /// The row to begin with where the key has none.
     pub fn base(&self) -> &Row
         ensures { result.now ≡ self.now.base }
@@ -120,7 +143,9 @@ impl Change {
         ensures { IfOk result (λ ops. ops ≡ self.now.ops) }
     {
         match &self.work {
-            Work::One(arithmetic, place, number) => one_op(alloc, *arithmetic, *place, *number),
+            Work::One(arithmetic, place, number) => {
+                one_op(alloc, Op::making(*arithmetic, *place as usize, *number))
+            }
             Work::List(ops) => copy_ops(alloc, ops),
         }
     }

@@ -2,7 +2,7 @@
 ghost use Rattle.std.specs.Prelude.{◌≡◌, ◌≤◌, is_some, length, true, IfOk};
 ghost use Rattle.bt_rowtype.specs.inside.Pieces.{LieWithin, pieces};
 ghost use Rattle.bt_rowtype.specs.Records.{csv_record};
-ghost use Rattle.bt_rowtype.specs.inside.RecordParts.{fields_in, is_special as is_quote_or_end};
+ghost use Rattle.bt_rowtype.specs.inside.RecordParts.{fields_in, is_special as is_quote_or_line_end};
 
 use crate::fields::Place;
 use std::alloc::AllocError;
@@ -10,7 +10,7 @@ use std::alloc::AllocError;
 // Whether csv reads a byte in a way of its own.
 #[inline(always)]
 pub(crate) fn is_special(byte: u8) -> bool
-    ensures { result ≡ is_quote_or_end byte }
+    ensures { result ≡ is_quote_or_line_end byte }
 {
     matches!(byte, b'"' | b'\r' | b'\n')
 }

@@ -3,11 +3,12 @@ ghost use Rattle.std.specs.Prelude.{◌≡◌, Err, IfSome, None, option_map, tr
 ghost use Rattle.bt_rowtype.specs.Answers.{Answers};
 ghost use Rattle.bt_rowtype.specs.Kinds.{flag_of, text_read, value_of};
 ghost use Rattle.bt_rowtype.specs.Texts.{is_text as is_text_of};
-ghost use Rattle.bt_rowtype.specs.Values.{or_refused};
+ghost use Rattle.bt_rowtype.specs.Values.{HasBytes, or_refused};
+ghost use Rattle.bt_rowtype.specs.Views.{shown};
 
 use crate::refusal::Refusal;
-use crate::text::{LONGEST_TEXT, is_text};
-use crate::value::{Kind, Value};
+use crate::text::{MOST_VALUE_BYTES, is_text};
+use crate::value::{Kind, Value, ValueRef};
 use std::alloc::Global;
 
 // The flag that a field spells.
@@ -31,17 +32,26 @@ pub(crate) fn read_text(field: &[u8]) -> Option<&[u8]>
     if is_text(field) { Some(field) } else { None }
 }
 
+// A copy of a value that was read, or the refusal of its field as this item where there is none.
+fn copy_read(alloc: Global, item: u64, read: Option<ValueRef<'_>>) -> Result<Value, Refusal>
+    requires { IfSome read (λ value. HasBytes (shown value)) }
+    ensures answer { Answers (or_refused (Refusal.BadField item) (option_map shown read.entry)) result }
+    ensures certain { option_map shown read.entry ≡ None → result ≡ Err (Refusal.BadField item) }
+{
+    match read {
+        Some(value) => Ok(value.to_value(alloc)?),
+        None => Err(Refusal::BadField(item)),
+    }
+}
+
 // The value that a field spells, in room that is made for its bytes, or its refusal as this item.
 #[inline(never)]
 fn read_spelled(alloc: Global, kind: Kind, item: u64, field: &[u8]) -> Result<Value, Refusal>
     ensures answer { Answers (or_refused (Refusal.BadField item) (value_of kind field.now)) result }
     ensures certain { value_of kind field.now ≡ None → result ≡ Err (Refusal.BadField item) }
 {
-    let mut room = [0; LONGEST_TEXT];
-    match kind.read(field, &mut room) {
-        Some(value) => Ok(value.to_value(alloc)?),
-        None => Err(Refusal::BadField(item)),
-    }
+    let mut room = [0; MOST_VALUE_BYTES];
+    copy_read(alloc, item, kind.read(field, &mut room))
 }
 
 // The value that a field spells in a column of a kind, or its refusal as this item.
@@ -57,10 +67,7 @@ pub(crate) fn read_value(
     if kind.needs_room() {
         return read_spelled(alloc, kind, item, field);
     }
-    match kind.read_lent(field) {
-        Some(value) => Ok(value.to_value(alloc)?),
-        None => Err(Refusal::BadField(item)),
-    }
+    copy_read(alloc, item, kind.read_lent(field))
 }
 
 /// The value that a field spells in a column of a kind, or `BadField` of item 1.

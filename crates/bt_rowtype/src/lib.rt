@@ -2,11 +2,12 @@
 //!
 //! A field of a record is read by the kind of its column and becomes a [`Value`]: an int, a text, a flag or bytes. A record
 //! becomes a [`Row`], or is refused with a number, a name and the item at fault. A row is printed as one record. The record of
-//! an upsert becomes a key and operations ([`Op`]), which change single columns of a row. The records of a CSV text are lent
-//! one after the other ([`Records`]).
+//! an upsert becomes a key and operations ([`Op`]), which change single columns of a row, or with the row to begin with a [`Change`].
+//! The records of a CSV text are lent one after the other ([`Records`]).
 //!
 //! A kind has a form ([`Form`]): its values are kept, ordered and coded as a number, as bytes or as a bit ([`Content`]). What is
-//! said of single kinds stands in one file, `value.rt`, and of single operations in `op.rt`.
+//! said of single kinds stands in one file, `value.rt`, and of single operations in `op.rt`; elsewhere, operations that make a number,
+//! and sums, ask whether a value is an int.
 //!
 //! ```text
 //! let mut columns = Columns::new(alloc);
@@ -96,7 +97,7 @@ pub use row::{Row, copy_row};
 pub use row_reader::{read_key, read_row};
 pub use schema::{Column, Columns, MOST_COLUMNS, MOST_KEYS, Schema, find_column};
 pub use sequence::Sequence;
-pub use text::{LONGEST_TEXT, Text, Texts};
+pub use text::{MOST_VALUE_BYTES, Text, Texts};
 pub use upsert::{Upsert, read_ops, read_upsert};
 pub use value::{Content, Form, Kind, Value, ValueRef};
 pub use values::{Values, compare_values, same_values};

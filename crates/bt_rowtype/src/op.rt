@@ -1,5 +1,6 @@
-//! Operations on single columns. All that is said of single ones is said here; everything else goes by what an operation does.
-ghost use Rattle.std.specs.Prelude.{◌≡◌, ◌≤◌, length};
+//! Operations on single columns. All that is said of single ones is said here, down to what each makes of an int; everything else goes by
+//! what an operation does, sets a value or makes a number of an int.
+ghost use Rattle.std.specs.Prelude.{◌≡◌, ◌≤◌, ◌∷◌, [], IfOk, length};
 ghost use Rattle.bt_rowtype.specs.Arithmetic.{action_of, arithmetic_of_word, new_number, op_making, word_of};
 ghost use Rattle.bt_rowtype.specs.Ops as spec;
 ghost use Rattle.bt_rowtype.specs.Values.{HasBytes};
@@ -9,6 +10,9 @@ use crate::copies::TryClone;
 use crate::sequence::Sequence;
 use crate::value::{Value, ValueRef};
 use std::alloc::{AllocError, Global};
+
+// The word of an operation that sets a value.
+pub(crate) const SET_WORD: &str = "set";
 
 /// The most operations of an upsert.
 pub const MOST_OPS: usize = 16;
@@ -37,6 +41,15 @@ pub enum Action<'a> {
 
 /// Operations in order.
 pub type Ops = Sequence<Op>;
+
+// The operations that are this one.
+pub(crate) fn one_op(alloc: Global, op: Op) -> Result<Ops, AllocError>
+    ensures { IfOk result (λ ops. ops ≡ op ∷ []) }
+{
+    let mut ops = Ops::with_capacity(alloc, 1)?;
+    ops.push(op)?;
+    Ok(ops)
+}
 
 /// What an operation does with an int and its number.
 #[derive(Clone, Copy, Debug, PartialEq, Eq)]
@@ -131,7 +144,7 @@ impl Op {
         ensures short { length result.now ≤ 3 }
     {
         match self.action() {
-            Action::Set(_, _) => "set",
+            Action::Set(_, _) => SET_WORD,
             Action::Make(arithmetic, _, _) => arithmetic.word(),
         }
     }

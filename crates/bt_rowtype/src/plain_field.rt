@@ -3,13 +3,13 @@ ghost use Rattle.std.specs.Prelude.{◌≡◌, ◌==◌, ◌≤◌, ◌^◌, ◌
 ghost use Rattle.bt_rowtype.specs.Ints.{int_of, is_digit as is_decimal, is_numeral, number_written};
 ghost use Rattle.bt_rowtype.specs.Texts.{is_text as is_text_of};
 ghost use Rattle.bt_rowtype.specs.inside.PlainFields.{EndsPlain, fields_from, is_plain as stands_for_itself};
-ghost use Rattle.bt_rowtype.specs.inside.RecordParts.{is_special as is_quote_or_end};
+ghost use Rattle.bt_rowtype.specs.inside.RecordParts.{is_special as is_quote_or_line_end};
 ghost use Rattle.std.specs.List.{list_any};
 
 use crate::cut::is_special;
 use crate::int::{SAFE_DIGITS, begins_with};
 use crate::packed::{front, tail};
-use crate::text::LONGEST_TEXT;
+use crate::text::MOST_VALUE_BYTES;
 
 // Whether a byte is one of ASCII that stands for itself in a record.
 #[inline(always)]
@@ -47,20 +47,20 @@ pub(crate) fn plain_end(text: &[u8]) -> Option<usize>
     if has_end(text, end) { Some(end) } else { None }
 }
 
-/// Where the first field of a text ends, if it is plain and no longer than a value.
+/// Where the first field of a text ends, if it is plain and no longer than a value may be.
 #[inline(always)]
 pub(crate) fn plain_text(text: &[u8]) -> Option<usize>
     ensures text { IfSome result (λ end. is_text_of (take end text.now) ≡ true) }
     ensures ends { IfSome result (λ end. EndsPlain text.now end) }
 {
     let end = plain_end(text)?;
-    if end > LONGEST_TEXT {
+    if end > MOST_VALUE_BYTES {
         return None;
     }
     Some(end)
 }
 
-// The number that the first field of a text writes, and where the field ends, if it has a few digits and nothing else.
+// The number that the first field of a text writes, and where the field ends, if it has 1 to 18 digits and nothing else.
 #[inline(always)]
 fn plain_number(text: &[u8]) -> Option<(i64, usize)>
     ensures number { IfSome result (λ found. pos (number_written (take found.1 text.now)) ≡ found.0) }
@@ -80,7 +80,7 @@ fn plain_number(text: &[u8]) -> Option<(i64, usize)>
     Some((number as i64, end))
 }
 
-/// The whole number that the first field of a text spells, and where the field ends, if it has a few digits, behind a `-` or nothing.
+/// The whole number that the first field of a text spells, and where the field ends, if it has 1 to 18 digits, behind a `-` or nothing.
 #[inline(always)]
 pub(crate) fn plain_int(text: &[u8]) -> Option<(i64, usize)>
     ensures number { IfSome result (λ found. int_of (take found.1 text.now) ≡ Some found.0) }
@@ -93,11 +93,11 @@ pub(crate) fn plain_int(text: &[u8]) -> Option<(i64, usize)>
     plain_number(text)
 }
 
-/// The field of a text from a place on, and the place behind it, if it is plain.
+/// The field of a text from a place on, and the place behind its comma, or one past the end, if it is plain.
 #[tactic(auto, using(crate::proofs::PlainFields::next_cut, crate::proofs::PlainFields::next_plain))]
 pub(crate) fn plain_field(text: &[u8], at: usize) -> Option<(&[u8], usize)>
     ensures field { IfSome result (λ read. fields_from at text.now ≡ read.0.now ∷ fields_from read.1 text.now) }
-    ensures plain { IfSome result (λ read. list_any is_quote_or_end (drop at text.now) ≡ list_any is_quote_or_end (drop read.1 text.now)) }
+    ensures plain { IfSome result (λ read. list_any is_quote_or_line_end (drop at text.now) ≡ list_any is_quote_or_line_end (drop read.1 text.now)) }
 {
     if at > text.len() {
         return None;
@@ -110,7 +110,7 @@ pub(crate) fn plain_field(text: &[u8], at: usize) -> Option<(&[u8], usize)>
 /// The fields of a text from a place on, if they are three that are plain.
 pub(crate) fn plain_group(text: &[u8], at: usize) -> Option<(&[u8], &[u8], &[u8])>
     ensures fields { IfSome result (λ read. fields_from at text.now ≡ read.0.now ∷ read.1.now ∷ read.2.now ∷ []) }
-    ensures plain { IfSome result (λ _. list_any is_quote_or_end (drop at text.now) ≡ false) }
+    ensures plain { IfSome result (λ _. list_any is_quote_or_line_end (drop at text.now) ≡ false) }
 {
     let (first, behind_first) = plain_field(text, at)?;
     let (second, behind_second) = plain_field(text, behind_first)?;

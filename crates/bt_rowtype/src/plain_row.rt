@@ -10,10 +10,12 @@ use crate::row::Row;
 use crate::schema::Column;
 use std::alloc::{AllocError, Global};
 
-// A line that is longer than this rarely spells a row that keeps its values in itself.
+// A row keeps 30 bytes in itself. Three ints fill them, with at most 59 bytes of a line: 19 each, and two commas; this is rounded up. A
+// longer line seldom spells such a row, and is cut into fields at once.
 const LONGEST_SHORT_LINE: usize = 64;
 
-/// The values that the first fields of a text spell, one for each column, and the place behind them, where all are plain and a row keeps the values in itself.
+/// The values that the first fields of a text spell, one for each column, and the place behind the last one's comma, or one past the end,
+/// where all are plain and a row keeps the values in itself.
 pub(crate) fn read_plain_columns(
     alloc: Global,
     columns: &[Column],

@@ -8,11 +8,13 @@ ghost use Rattle.bt_rowtype.specs.Records.{csv_record};
 ghost use Rattle.bt_rowtype.specs.inside.RecordParts.{fields_in};
 ghost use Rattle.bt_rowtype.specs.Values.{prefix_as, read_as};
 
+use crate::apply::default_row;
+use crate::change::Change;
 use crate::cut::cut_plain;
 use crate::fields::{FieldsRef, Place};
 use crate::header::are_names;
 use crate::line::RecordLine;
-use crate::op::MOST_OPS;
+use crate::op::{MOST_OPS, one_op};
 use crate::plain_row::read_plain_row;
 use crate::reader::unescape;
 use crate::refusal::Refusal;
@@ -150,9 +152,47 @@ impl RecordReader {
     ) -> Result<Upsert, Refusal>
         ensures { Answers (spec.upsert_as schema.now item line.now) (result_map_both (λ upsert. (upsert.key, upsert.ops)) (λ e. e) result) }
     {
-        if let Some(upsert) = read_plain_upsert(alloc, schema, item, line.text())? {
-            return Ok(upsert);
+        if let Some((key, op)) = read_plain_upsert(alloc, schema, item, line.text())? {
+            let ops = one_op(alloc, op)?;
+            return Ok(Upsert { key, ops });
         }
+        self.read_cut_upsert(alloc, schema, item, line)
+    }
+
+    /// What the upsert that a line spells does to the row of its key, refused as in `read_upsert`. The row to begin with has the key's values
+    /// first.
+    ///
+    /// No list is made of one operation that makes a number, where the line is plain.
+    #[tactic(auto, using(crate::proofs::offered::Fits::upsert_begins))]
+    pub fn read_change(
+        &mut self,
+        alloc: Global,
+        schema: &Schema,
+        item: u64,
+        line: &RecordLine<'_>,
+    ) -> Result<Change, Refusal>
+        ensures answer { Answers (spec.upsert_as schema.now item line.now) (result_map_both (λ new. (take schema.now.keys new.base, new.ops)) (λ e. e) result) }
+        ensures base { IfOk result (λ change. change.base ≡ spec.default_row schema.now (take schema.now.keys change.base)) }
+    {
+        if let Some((key, op)) = read_plain_upsert(alloc, schema, item, line.text())? {
+            let base = default_row(alloc, schema, key)?;
+            return Ok(Change::of_one(alloc, base, op)?);
+        }
+        let Upsert { key, ops } = self.read_cut_upsert(alloc, schema, item, line)?;
+        let base = default_row(alloc, schema, key)?;
+        Ok(Change::new(alloc, base, ops)?)
+    }
+
+    // The key and the operations that a line spells, of which the fields are cut.
+    fn read_cut_upsert(
+        &mut self,
+        alloc: Global,
+        schema: &Schema,
+        item: u64,
+        line: &RecordLine<'_>,
+    ) -> Result<Upsert, Refusal>
+        ensures { Answers (spec.upsert_as schema.now item line.now) (result_map_both (λ upsert. (upsert.key, upsert.ops)) (λ e. e) result) }
+    {
         let keys = schema.key_columns().len();
         match self.read(line.text(), keys + 3 * MOST_OPS)? {
             Some(fields) => read_upsert_record(alloc, schema, item, &fields),

@@ -26,7 +26,7 @@ pub enum Refusal {
     NoSuchTree,
     /// A name that a tree has.
     NameTaken,
-    /// Over a limit of messages, columns of an index or indexes.
+    /// Over a limit of messages, columns of an index or indexes, or a group of more than 2^64 - 1 rows.
     TooMany,
     /// The index, or for a load some index, is building.
     Building,
@@ -36,9 +36,10 @@ pub enum Refusal {
     NotEmpty,
     /// The first record whose key an earlier record has.
     DuplicateKey(u64),
-    /// An unknown column, a key column in an operation, or a column that the index does not hold.
+    /// An unknown column, a key column in an operation, a column that the index does not hold, or a number of group columns out of
+    /// range.
     NoSuchColumn,
-    /// An addition to, or a sum of, a column that is not int.
+    /// An operation that makes a number at a column that is not int, or a sum of such a column.
     NotInt,
     /// A request for memory was refused.
     OutOfMemory,

@@ -5,12 +5,12 @@ ghost use Rattle.bt_rowtype.specs.Kinds.{Number, Bytes, Bit};
 ghost use Rattle.bt_rowtype.specs.Ops.{after_action};
 ghost use Rattle.bt_rowtype.specs.Values.{HasBytes, IsInRange};
 ghost use Rattle.bt_rowtype.specs.inside.Packing.{IsPacked, int_bytes, packed, packed_content, packed_value, unpacked};
-ghost use Rattle.bt_rowtype.specs.inside.RowBytes.{most_short_row};
 ghost use Rattle.bt_rowtype.specs.Views.{shown};
 
 use crate::op::Arithmetic;
 use crate::packed::{count, front, offset, tail, value_at, width_at};
 use crate::row_bytes::RowBytes;
+use crate::text::MOST_VALUE_BYTES;
 use crate::value::{Content, Value, ValueRef};
 use crate::values::Values;
 use std::alloc::{AllocError, Global};
@@ -62,7 +62,7 @@ fn add_number(bytes: &mut RowBytes, alloc: Global, tag: u8, number: i64) -> Resu
 // Adds bytes behind a tag and their length. An `Err` changes nothing.
 #[inline(always)]
 fn add_bytes(bytes: &mut RowBytes, alloc: Global, tag: u8, more: &[u8]) -> Result<(), AllocError>
-    requires { length more.now ≤ 255 }
+    requires { length more.now ≤ MOST_VALUE_BYTES }
     ensures ok { OnOk result (bytes.new ≡ bytes.old ++ packed_content tag (Bytes more.now)) }
     ensures err { OnErr result (bytes.new ≡ bytes.old) }
 {
@@ -119,7 +119,7 @@ fn replaced(
 ) -> Result<RowBytes, AllocError>
     requires order { at ≤ end }
     requires within { end ≤ length bytes.now }
-    requires text { HasBytes (shown value) }
+    requires bytes { HasBytes (shown value) }
     ensures bytes { IfOk result (λ new. new ≡ take at bytes.now ++ (packed_value (shown value.entry) ++ drop end bytes.now)) }
     ensures in_range { IfOk result (λ _. IsInRange (shown value.entry)) }
 {
@@ -166,11 +166,9 @@ impl Row {
         Ok(row)
     }
 
-    // Whether the row keeps in itself one more value at the end.
+    // Whether the row keeps in itself one more value at the end. That only chooses how values are read, and no promise hangs on it.
     #[inline(always)]
-    pub(crate) fn has_room(&self, value: ValueRef<'_>) -> bool
-        ensures { result ≡ true → length (packed self.now) + length (packed_value (shown value.entry)) ≤ most_short_row }
-    {
+    pub(crate) fn has_room(&self, value: ValueRef<'_>) -> bool {
         self.bytes.has_room(width_of_value(value))
     }
 

@@ -153,9 +153,7 @@ impl RowBytes {
 
     /// Whether so many more bytes are kept in the value itself.
     #[inline(always)]
-    pub(crate) fn has_room(&self, more: usize) -> bool
-        ensures { result ≡ true → length self.now + more ≤ SHORT }
-    {
+    pub(crate) fn has_room(&self, more: usize) -> bool {
         match &self.kept {
             Kept::Short(short) => more <= SHORT - short.len as usize,
             Kept::Long(_) => false,

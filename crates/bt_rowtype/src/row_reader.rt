@@ -1,17 +1,35 @@
 //! Reading a record as a row or as a key.
-ghost use Rattle.std.specs.Prelude.{◌≡◌, ◌≢◌, ◌≤◌, Err, length, take};
+ghost use Rattle.std.specs.Prelude.{◌≡◌, ◌≢◌, ◌≤◌, Err, IfSome, length, option_map, take};
 ghost use Rattle.std.specs.Result.{result_map_both};
 ghost use Rattle.bt_rowtype.specs.Answers.{Answers};
-ghost use Rattle.bt_rowtype.specs.Values.{or_refused, prefix_as, read_as, values_of};
-ghost use Rattle.bt_rowtype.specs.inside.Growing.{with_field};
+ghost use Rattle.bt_rowtype.specs.Views.{shown};
+ghost use Rattle.bt_rowtype.specs.Values.{HasBytes, or_refused, prefix_as, read_as, values_of};
+ghost use Rattle.bt_rowtype.specs.inside.Growing.{with_field, with_value};
 
 use crate::fields::{Fields, FieldsRef};
 use crate::refusal::Refusal;
 use crate::row::Row;
 use crate::schema::{Column, Schema};
-use crate::text::LONGEST_TEXT;
-use crate::value::{Form, Kind};
+use crate::text::MOST_VALUE_BYTES;
+use crate::value::{Form, Kind, ValueRef};
 use std::alloc::Global;
+
+// Adds a value that was read, or answers the refusal of its field as this item where there is none.
+#[inline(always)]
+fn push_read(
+    alloc: Global,
+    row: &mut Row,
+    item: u64,
+    read: Option<ValueRef<'_>>,
+) -> Result<(), Refusal>
+    requires { IfSome read (λ value. HasBytes (shown value)) }
+    ensures { Answers (with_value item (option_map shown read.entry) row.old) (result_map_both (λ _. row.new) (λ e. e) result) }
+{
+    match read {
+        Some(value) => Ok(row.push(alloc, value)?),
+        None => Err(Refusal::BadField(item)),
+    }
+}
 
 // Adds the value that a field spells, in room that is made for its bytes, or answers its refusal as this item.
 #[inline(never)]
@@ -24,11 +42,8 @@ fn push_spelled(
 ) -> Result<(), Refusal>
     ensures { Answers (with_field kind item field.now row.old) (result_map_both (λ _. row.new) (λ e. e) result) }
 {
-    let mut room = [0; LONGEST_TEXT];
-    match kind.read(field, &mut room) {
-        Some(value) => Ok(row.push(alloc, value)?),
-        None => Err(Refusal::BadField(item)),
-    }
+    let mut room = [0; MOST_VALUE_BYTES];
+    push_read(alloc, row, item, kind.read(field, &mut room))
 }
 
 // Adds the value that a field spells, or answers its refusal as this item.
@@ -45,10 +60,7 @@ fn push_field(
     if kind.needs_room() {
         return push_spelled(alloc, row, kind, item, field);
     }
-    match kind.read_lent(field) {
-        Some(value) => Ok(row.push(alloc, value)?),
-        None => Err(Refusal::BadField(item)),
-    }
+    push_read(alloc, row, item, kind.read_lent(field))
 }
 
 // The bytes that a value takes at most, of which one in the form of bytes has no more than its field.

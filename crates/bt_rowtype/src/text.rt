@@ -7,8 +7,8 @@ use std::alloc::{AllocError, Global};
 use std::marker::Model;
 use std::str;
 
-/// The most bytes of a text, and of any value.
-pub const LONGEST_TEXT: usize = 255;
+/// The most bytes of a value, and of a name.
+pub const MOST_VALUE_BYTES: usize = 255;
 
 /// A text of at most 255 bytes, as a value, or the name of a column or of a tree. A contract sees its bytes, which are UTF-8.
 #[derive(Debug, Drop)]
@@ -31,7 +31,7 @@ impl Text {
     /// A copy of the text.
     #[tactic(auto, using(crate::proofs::offered::Texts::short_text))]
     pub fn new(alloc: Global, text: &str) -> Result<Self, AllocError>
-        requires { length text.now ≤ LONGEST_TEXT }
+        requires { length text.now ≤ MOST_VALUE_BYTES }
         ensures { IfOk result (λ copy. copy ≡ text.now) }
     {
         Text::from_bytes(alloc, text.as_bytes())
@@ -79,7 +79,7 @@ pub(crate) fn is_text(bytes: &[u8]) -> bool
     ensures { result ≡ is_text_of bytes.now }
 {
     match str::from_utf8(bytes) {
-        Ok(_) => bytes.len() <= LONGEST_TEXT,
+        Ok(_) => bytes.len() <= MOST_VALUE_BYTES,
         Err(_) => false,
     }
 }

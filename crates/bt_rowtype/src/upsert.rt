@@ -1,5 +1,5 @@
 //! Reading the record of an upsert.
-ghost use Rattle.std.specs.Prelude.{◌≡◌, ◌≢◌, ◌≤◌, Err, IfErr, IfOk, IfSome, List, Ok, drop, false, is_some, length, true};
+ghost use Rattle.std.specs.Prelude.{◌≡◌, ◌≢◌, ◌≤◌, ◌∷◌, [], Err, IfErr, IfOk, IfSome, List, Ok, drop, false, is_some, length, true};
 ghost use Rattle.std.specs.List.{filter_map};
 ghost use Rattle.std.specs.Result.{result_err, result_map_both, result_ok};
 ghost use Rattle.bt_rowtype.specs.Answers.{Answers};
@@ -15,7 +15,7 @@ use crate::collected::Collected;
 use crate::field::read_value;
 use crate::fields::{Fields, FieldsRef};
 use crate::int::read_int;
-use crate::op::{Arithmetic, MOST_OPS, Op, Ops};
+use crate::op::{Arithmetic, MOST_OPS, Op, Ops, SET_WORD};
 use crate::plain_field::plain_group;
 use crate::plain_row::read_plain_columns;
 use crate::refusal::Refusal;
@@ -99,7 +99,7 @@ fn read_op(
     ensures answer { Answers (spec.op_of schema.now item word.now name.now argument.now) result }
     ensures certain { IfErr (spec.op_of schema.now item word.now name.now argument.now) (λ e. result ≡ Err e) }
 {
-    if word == b"set".as_slice() {
+    if word == SET_WORD.as_bytes() {
         return read_set(alloc, schema, item, name, argument);
     }
     match Arithmetic::from_word(word) {
@@ -213,9 +213,9 @@ pub(crate) fn read_plain_upsert(
     schema: &Schema,
     item: u64,
     text: &[u8],
-) -> Result<Option<Upsert>, AllocError>
+) -> Result<Option<(Row, Op)>, AllocError>
     requires { is_some (csv_record text.now) ≡ true }
-    ensures { IfOk result (λ found. IfSome found (λ upsert. spec.upsert_as schema.now item (fields_in text.now) ≡ Ok (upsert.key, upsert.ops))) }
+    ensures { IfOk result (λ found. IfSome found (λ read. spec.upsert_as schema.now item (fields_in text.now) ≡ Ok (read.0, read.1 ∷ []))) }
 {
     let Some((key, at)) = read_plain_columns(alloc, schema.key_columns(), text)? else {
         return Ok(None);
@@ -224,11 +224,7 @@ pub(crate) fn read_plain_upsert(
         return Ok(None);
     };
     match read_op(alloc, schema, item, word, name, argument) {
-        Ok(op) => {
-            let mut ops = Ops::with_capacity(alloc, 1)?;
-            ops.push(op)?;
-            Ok(Some(Upsert { key, ops }))
-        }
+        Ok(op) => Ok(Some((key, op))),
         Err(Refusal::OutOfMemory) => Err(AllocError),
         Err(_) => Ok(None),
     }

@@ -1,8 +1,10 @@
 //! Kinds and values. All that is done for single kinds is done here: their forms, their words, the bytes that they take, how a
-//! field of each is read and printed, and their defaults. Everything else goes by the form of a value.
+//! field of each is read and printed, and their defaults. Everything else goes by the form of a value, but that operations which make
+//! a number, and sums, ask whether a value is an int.
 ghost use Rattle.std.specs.Prelude.{◌≡◌, ◌≢◌, ◌++◌, IfOk, IfSome, OnOk, OnErr, Some, false, option_map, take, true};
 ghost use Rattle.csv.specs.Writing.{default_writer, field_text};
-ghost use Rattle.bt_rowtype.specs.Kinds.{content_of, default_of, form_of, kind_of_word, kind_of, kind_of_tag, tag_of, takes, text_of, value_of, value_with};
+ghost use Rattle.bt_rowtype.specs.Kinds.{content_of, default_of, form_of, kind_of_word, kind_of, kind_of_tag, needs_room, tag_of, takes, text_of};
+ghost use Rattle.bt_rowtype.specs.Kinds.{value_of, value_with};
 ghost use Rattle.bt_rowtype.specs.Values.{HasBytes, IsInRange, takes_content};
 ghost use Rattle.bt_rowtype.specs.Views.{held, shown};
 ghost use Rattle.bt_rowtype.specs.inside.PlainFields.{EndsPlain};
@@ -14,7 +16,7 @@ use crate::int::read_int;
 use crate::packed::front;
 use crate::plain_field::{plain_end, plain_int, plain_text};
 use crate::record_writer::{write_binary, write_flag, write_int, write_text};
-use crate::text::{LONGEST_TEXT, Text, is_text};
+use crate::text::{MOST_VALUE_BYTES, Text, is_text};
 use std::alloc::{AllocError, Global};
 
 /// What the values of a column are.
@@ -172,14 +174,14 @@ impl Kind {
     // Whether a field spells other bytes than its own, so that a value is read into room.
     #[inline(always)]
     pub(crate) fn needs_room(self) -> bool
-        ensures { result ≡ false → self ≢ Kind.Bytes }
+        ensures { result ≡ needs_room self }
     {
         matches!(self, Kind::Bytes)
     }
 
-    // The value that a field spells in a column of this kind, which isn't bytes. Its bytes are lent from the field.
+    // The value that a field spells in a column of this kind, which needs no room. Its bytes are lent from the field.
     pub(crate) fn read_lent(self, field: &[u8]) -> Option<ValueRef<'_>>
-        requires { self ≢ Kind.Bytes }
+        requires { needs_room self ≡ false }
         ensures value { option_map shown result ≡ value_of self field.now }
         ensures bytes { IfSome result (λ value. HasBytes (shown value)) }
     {
@@ -196,7 +198,7 @@ impl Kind {
     pub(crate) fn read<'a: 'b, 'b>(
         self,
         field: &'a [u8],
-        room: &'b mut [u8; LONGEST_TEXT],
+        room: &'b mut [u8; MOST_VALUE_BYTES],
     ) -> Option<ValueRef<'b>>
         ensures value { option_map shown result ≡ value_of self field.now }
         ensures bytes { IfSome result (λ value. HasBytes (shown value)) }

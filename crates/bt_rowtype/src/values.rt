@@ -41,7 +41,7 @@ impl<'a> Model for Values<'a> {
 fn next_packed(bytes: &[u8]) -> Option<(ValueRef<'_>, &[u8])>
     requires { IsPacked bytes.now }
     ensures some { IfSome result (λ read. unpacked bytes.now ≡ shown read.0 ∷ unpacked read.1.now) }
-    ensures text { IfSome result (λ read. IsInRange (shown read.0)) }
+    ensures in_range { IfSome result (λ read. IsInRange (shown read.0)) }
     ensures packed { IfSome result (λ read. IsPacked read.1.now) }
     ensures none { IfNone result (unpacked bytes.now ≡ []) }
 {
@@ -154,7 +154,7 @@ impl<'a> Values<'a> {
     /// The next value, if one is left.
     pub fn next(&mut self) -> Option<ValueRef<'a>>
         ensures some { IfSome result (λ value. self.old ≡ shown value ∷ self.new) }
-        ensures text { IfSome result (λ value. HasBytes (shown value)) }
+        ensures bytes { IfSome result (λ value. HasBytes (shown value)) }
         ensures none { IfNone result ((self.old ≡ []) × (self.new ≡ [])) }
     {
         match self.source {

@@ -18,7 +18,7 @@ use Rattle.bt_fanout.proofs.offered.Definitions.{definition_suits}
 use Rattle.bt_shell.specs.Replies.{count_line}
 use Rattle.bt_shell.specs.Runs.{after_commands}
 use Rattle.bt_shell.specs.Steps.{Done, State, checked, created, definition_of, done_or_refused, form_refusals, is_allowed, outcome, seen, shape_of, table_of, told, turn}
-use Rattle.bt_table.specs.Batches.{one_if}
+use Rattle.bt_batch.specs.Batches.{one_if}
 use Rattle.bt_table.specs.Calls as call
 use Rattle.bt_table.specs.Calls.{name_refusals, step}
 use Rattle.bt_table.specs.Standing.{CompleteIndexesHold, IsSound}

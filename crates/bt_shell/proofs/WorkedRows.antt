@@ -15,7 +15,7 @@ use Rattle.bt_keycode.specs.Codes.{eight_bytes}
 use Rattle.bt_node.specs.Trees.{inner, leaf, node, none}
 use Rattle.bt_view.specs.Images.{change_text, entry_image, entry_text, leaf_row_line, message_line, row_text}
 use Rattle.bt_shell.specs.Runs.{replies, run}
-use Rattle.bt_table.specs.Batches.{read_message}
+use Rattle.bt_batch.specs.Batches.{read_message}
 use Rattle.bt_rowtype.specs.declared.item.Item.TheVariants as line
 
 -- a line of a batch that changes the row of a key

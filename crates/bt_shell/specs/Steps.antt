@@ -20,7 +20,7 @@ use Rattle.bt_view.specs.Groups.{sums}
 use Rattle.bt_view.specs.Images.{image}
 use Rattle.bt_view.specs.Ranges.{scan}
 use Rattle.bt_shell.specs.Replies.{count_line, refused_text, reply_text, scan_reply, sums_reply}
-use Rattle.bt_table.specs.Batches.{made, one_if}
+use Rattle.bt_batch.specs.Batches.{made, one_if}
 use Rattle.bt_table.specs.Calls as call
 use Rattle.bt_table.specs.Calls.{name_refusals, step, unless_any}
 use Rattle.bt_table.specs.Tables.{TableState, Intact, Lost, empty_table}

@@ -1,7 +1,7 @@
 //! Who works for a script: the caller alone, or a crew.
 ghost use Rattle.std.specs.Prelude.{fold};
 ghost use Rattle.bt_rowtype.specs.Answers.{Answers};
-ghost use Rattle.bt_table.specs.Batches.{made};
+ghost use Rattle.bt_batch.specs.Batches.{made};
 ghost use Rattle.bt_view.specs.Groups as groups;
 ghost use Rattle.bt_view.specs.Ranges as ranges;
 ghost use Rattle.bt_shell.specs.Replies.{row_line};

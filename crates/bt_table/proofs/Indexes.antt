@@ -29,10 +29,10 @@ use Rattle.bt_fanout.proofs.offered.Packets.{effects-sorted_batch}
 use Rattle.bt_fanout.proofs.offered.Standing.{stands_under}
 use Rattle.bt_fanout.proofs.offered.Suiting.{all_more, all_none, of_whole, suits_effects, suits_row}
 use Rattle.bt_fanout.proofs.offered.Turns.{packet_turns}
+use Rattle.bt_batch.specs.Batches.{RowMessages}
 use Rattle.bt_table.specs.Indexes.{EntryTree, Index, building_packet, built_index, index_named_from, index_with, indexes_after, indexes_of, is_complete, is_name_of, packed_index, packet_of, sent_count, sunk_index}
 use Rattle.bt_table.specs.inside.IndexTrees.{covers_all, entry_tree, packet_for, sent_for, sunk_tree, sunk_trees, widest}
 use Rattle.bt_table.specs.Standing.{AllStand, AreSoundIndexes, HoldsSelection, IsSoundIndex}
-use Rattle.bt_table.specs.Tables.{RowMessages}
 use Rattle.bt_fanout.specs.declared.cover.Cover.{Cover}
 use Rattle.bt_fanout.specs.declared.cover.Cover.TheVariants.{Nothing}
 use Rattle.bt_table.specs.declared.index.IndexHead.{IndexHead}

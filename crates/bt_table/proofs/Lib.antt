@@ -1,4 +1,3 @@
-pub mod Batches
 pub mod Indexes
 pub mod Loads
 pub mod Mapped

@@ -9,8 +9,9 @@ use Rattle.bt_node.specs.Messages.{rows_after}
 use Rattle.bt_node.specs.Trees.{Shape}
 use Rattle.bt_node.proofs.offered.ShapedTrees.{holds-sorted, sunk-has_shape, sunk-holds}
 use Rattle.bt_rowtype.specs.Schemas.{Schema}
+use Rattle.bt_batch.specs.Batches.{RowMessages}
 use Rattle.bt_table.specs.Indexes.{EntryTree, Index, indexes_after}
-use Rattle.bt_table.specs.Tables.{RowMessages, RowTree, after_batch, held_by}
+use Rattle.bt_table.specs.Tables.{RowTree, after_batch, held_by}
 use Rattle.bt_fanout.specs.Effects.{EntryMessage, entry_meaning, row_effect, row_meaning}
 use Rattle.bt_gather.specs.Rounds.{all_sunk}
 use Rattle.bt_table.specs.inside.IndexTrees.{sunk_tree, sunk_trees}

@@ -25,9 +25,9 @@ use Rattle.bt_node.proofs.offered.ShapedTrees.{holds-sorted}
 use Rattle.bt_fanout.specs.Effects.{entry_effect, entry_meaning, row_effect, row_meaning}
 use Rattle.bt_rowtype.specs.declared.item.Item.{Item}
 use Rattle.bt_rowtype.specs.declared.item.Item.TheVariants.{Put, Del, Ups}
-use Rattle.bt_table.specs.Batches.{del_of, made, messages_of, one_if, put_of, read_batch, read_key, read_message, ups_of}
+use Rattle.bt_batch.specs.Batches.{KeyedMessage, RowMessages, del_of, made, messages_of, one_if, put_of, read_batch, read_key, read_message, ups_of}
 use Rattle.bt_table.specs.Standing.{AllStand, AreOfSchema, IsOfSchema, IsSoundIndex, IsSoundTable, Stands, Suits}
-use Rattle.bt_table.specs.Tables.{Intact, KeyedMessage, PlainTable, RowMessages, after_batch}
+use Rattle.bt_table.specs.Tables.{Intact, PlainTable, after_batch}
 use Rattle.bt_fanout.specs.Entries.{Definition}
 use Rattle.bt_fanout.proofs.offered.Suiting.{of_nothing}
 use Rattle.bt_table.specs.Calls.{Upkeep, Draining, Rebuilding, renewed, renewed_index, with_index, with_index_at, with_renewed_index, with_renewed_rows, with_rows, without_index}

@@ -9,8 +9,8 @@ use Rattle.bt_rowtype.specs.declared.value.Value.{Value}
 use Rattle.bt_keycode.specs.Keys.{Key, key_cmp}
 use Rattle.bt_keycode.proofs.offered.Order.{same_key}
 use Rattle.bt_node.specs.Messages.{Rows, rows_after, with_value}
+use Rattle.bt_batch.specs.Batches.{RowMessages}
 use Rattle.bt_table.specs.Standing.{AllStand, AreOfSchema, Stands}
-use Rattle.bt_table.specs.Tables.{RowMessages}
 use Rattle.bt_fanout.specs.Effects.{row_effect}
 
 where_key-stand : (schema : Schema) (p : Key → Bool) (rows : Rows (List Value)) → AllStand schema rows → AllStand schema (where_key key_cmp p rows)

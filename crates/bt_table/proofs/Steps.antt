@@ -25,7 +25,7 @@ use Rattle.bt_node.proofs.offered.PackedTrees.{packed-holds}
 use Rattle.bt_fanout.specs.Covers.{cover_after, next_rows}
 use Rattle.bt_fanout.specs.Effects.{EntryMessage, SuitsEffect, effects_of, row_effect, row_meaning}
 use Rattle.bt_rowtype.specs.declared.item.Item.{Item}
-use Rattle.bt_table.specs.Batches.{and_then, batch_refusals, made, messages_of, one_if}
+use Rattle.bt_batch.specs.Batches.{RowMessages, and_then, batch_refusals, made, messages_of, one_if}
 use Rattle.bt_fanout.specs.Entries.{Definition, IsWithin}
 use Rattle.bt_fanout.specs.Promises.{SuitsRows, own_puts}
 use Rattle.bt_fanout.specs.declared.cover.Cover.{Cover}
@@ -34,7 +34,7 @@ use Rattle.bt_table.specs.Indexes.{EntryTree, Index, advanced, built_index, inde
 use Rattle.bt_table.specs.inside.IndexTrees.{empty_head, entry_tree, packet_for, sent_for, sunk_tree, sunk_trees, with_cover}
 use Rattle.bt_table.specs.inside.Parts.{AreSoundParts}
 use Rattle.bt_table.specs.Standing.{AllStand, IsSoundIndex, IsSoundTable, Suits}
-use Rattle.bt_table.specs.Tables.{PlainTable, RowMessages, TableState, Intact, after_batch, held_by, state_of}
+use Rattle.bt_table.specs.Tables.{PlainTable, TableState, Intact, after_batch, held_by, state_of}
 use Rattle.bt_table.specs.declared.index.IndexHead.{IndexHead}
 use Rattle.bt_table.specs.declared.index.IndexRef.{IndexRef}
 use Rattle.bt_table.specs.declared.reply.Reply.{Reply}

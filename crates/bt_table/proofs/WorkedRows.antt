@@ -11,7 +11,7 @@ use Rattle.bt_keycode.specs.Codes.{eight_bytes}
 use Rattle.bt_messages.specs.declared.measure.Measure.TheVariants as measures
 use Rattle.bt_rowtype.specs.declared.item.Item.TheVariants.{Put, Del, Ups}
 use Rattle.bt_gang.specs.Numbers.{below}
-use Rattle.bt_table.specs.Batches.{made}
+use Rattle.bt_batch.specs.Batches.{made}
 use Rattle.bt_fanout.specs.Entries.{Definition}
 use Rattle.bt_table.specs.Calls.{Call, Apply, BuildStep, CreateIndex, Get, Load, step, tree_named}
 use Rattle.bt_table.specs.Tables.{TableState, Intact, Lost, empty_table}

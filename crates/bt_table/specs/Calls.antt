@@ -25,10 +25,10 @@ use Rattle.bt_fanout.specs.Effects.{entry_effect, entry_meaning, row_effect, row
 use Rattle.bt_fanout.specs.Definitions.{kinds_of}
 use Rattle.bt_fanout.specs.Entries.{Definition, SuitsKinds}
 use Rattle.bt_fanout.specs.Promises.{index_of}
-use Rattle.bt_table.specs.Batches.{and_then, batch_refusals, made, messages_of, one_if, read_key}
+use Rattle.bt_batch.specs.Batches.{RowMessages, and_then, batch_refusals, made, messages_of, one_if, read_key}
 use Rattle.bt_table.specs.Indexes.{Index, built_index, empty_index, index_named, index_of_ref, is_complete, packed_index, packet_of, sent_count, with_tree}
 use Rattle.bt_table.specs.Standing.{AllStand, HoldsSelection, KeysRise}
-use Rattle.bt_table.specs.Tables.{PlainTable, RowMessages, RowTree, TableState, Intact, Lost, after_batch}
+use Rattle.bt_table.specs.Tables.{PlainTable, RowTree, TableState, Intact, Lost, after_batch}
 use Rattle.bt_table.specs.declared.table.TheConstants.{MOST_INDEXES}
 use Rattle.bt_table.specs.declared.table.TreeRef.{TreeRef}
 use Rattle.bt_table.specs.declared.table.TreeRef.TheVariants as shown

@@ -1,5 +1,4 @@
 pub mod inside
-pub mod Batches
 pub mod Calls
 pub mod Indexes
 pub mod Standing

@@ -14,8 +14,9 @@ use Rattle.bt_fanout.specs.Effects.{entry_effect, entry_meaning, row_effect, row
 use Rattle.bt_fanout.specs.Entries.{Definition, SuitsKinds, entry_of}
 use Rattle.bt_fanout.specs.Promises.{index_of}
 use Rattle.bt_fanout.specs.Selections.{select}
+use Rattle.bt_batch.specs.Batches.{KeyedMessage, RowMessages}
 use Rattle.bt_table.specs.Indexes.{Index, is_complete}
-use Rattle.bt_table.specs.Tables.{PlainTable, KeyedMessage, RowMessages, TableState, Intact, Lost}
+use Rattle.bt_table.specs.Tables.{PlainTable, TableState, Intact, Lost}
 -- each of the rows stands under the code of its key columns, and is of the schema: one value of each column's kind, within the range of its kind
 pub use Rattle.bt_load.specs.Standing.{AllStand, Stands}
 

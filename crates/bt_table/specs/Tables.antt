@@ -6,20 +6,13 @@ use Rattle.bt_rowtype.specs.declared.value.Value.{Value}
 use Rattle.bt_messages.specs.Messages.{sorted_batch}
 use Rattle.bt_messages.specs.declared.message.Message.{Message}
 use Rattle.bt_node.specs.Flushes.{holds, sunk}
-use Rattle.bt_keycode.specs.Keys.{Key}
 use Rattle.bt_node.specs.Messages.{Rows, rows_after}
 use Rattle.bt_node.specs.Trees.{Shape, Tree, leaf}
+use Rattle.bt_batch.specs.Batches.{RowMessages}
 use Rattle.bt_table.specs.Indexes.{Index, indexes_after, indexes_of}
 use Rattle.bt_table.specs.declared.index.IndexHead.{IndexHead}
 use Rattle.bt_table.specs.declared.trees.Trees.{Trees}
 use Rattle.bt_fanout.specs.Effects.{row_effect, row_meaning}
-
--- a message to the key of a row, and messages
-abbrev pub KeyedMessage : Type 0
-KeyedMessage = Key × Message (List Value) Change
-
-abbrev pub RowMessages : Type 0
-RowMessages = List KeyedMessage
 
 -- a tree of rows
 abbrev pub RowTree : Type 0

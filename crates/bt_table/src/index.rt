@@ -12,7 +12,7 @@ ghost use Rattle.bt_table.specs.inside.IndexTrees.{covers_all, empty_head, entry
 
 use crate::reply::SentCount;
 use crate::workforce::Workforce;
-use bt_fanout::{Cover, Effect, IndexDef, index_packet, sorted_entries, wider};
+use bt_fanout::{Cover, Effect, IndexDef, sorted_entries, wider};
 use bt_keycode::Key;
 use bt_messages::{Entry, Packet};
 use bt_node::{Shape, Tree, pack};
@@ -107,8 +107,15 @@ pub struct FanOut {
 }
 
 // What effects on rows send to indexes.
-fn packets_for(alloc: Global, heads: &[IndexHead], effects: &[Effect]) -> Result<FanOut, AllocError>
-    requires { All (λ head. All (SuitsEffect head.def) effects.now) heads.now }
+fn packets_for<T, W: Workforce<T>>(
+    rt: &T,
+    alloc: Global,
+    heads: &[IndexHead],
+    effects: &[Effect],
+    workforce: &W,
+) -> Result<FanOut, AllocError>
+    requires ready { W.accepts workforce.now }
+    requires suits { All (λ head. All (SuitsEffect head.def) effects.now) heads.now }
     ensures packets { IfOk result (λ out. out.packets.items ≡ map (packet_for effects.now) heads.now) }
     ensures sent { IfOk result (λ out. out.sent ≡ map (sent_for effects.now) heads.now) }
 {
@@ -116,7 +123,7 @@ fn packets_for(alloc: Global, heads: &[IndexHead], effects: &[Effect]) -> Result
     let mut sent = Sequence::new(alloc);
     for head in heads {
         packets.reserve(1)?;
-        let packet = index_packet(alloc, &head.def, &head.cover, effects)?;
+        let packet = workforce.index_packet(rt, alloc, &head.def, &head.cover, effects)?;
         let count = packet.len();
         packets.push_reserved(packet);
         let name = head.name.copy(alloc)?;
@@ -154,10 +161,10 @@ pub fn fan_out<T, W: Workforce<T>>(
     let nothing = Cover::Nothing;
     let cover = widest_cover(&nothing, heads);
     if matches!(cover, Cover::Nothing) {
-        return packets_for(alloc, heads, &[]);
+        return packets_for(rt, alloc, heads, &[], workforce);
     }
     let effects = workforce.effects(rt, alloc, tree, packet, cover)?;
-    packets_for(alloc, heads, effects.as_slice())
+    packets_for(rt, alloc, heads, effects.as_slice(), workforce)
 }
 
 /// Takes out the tree at a place, and leaves an empty one there.

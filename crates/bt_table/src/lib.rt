@@ -16,18 +16,16 @@
 //!
 //! Who works is a [`Workforce`]: the caller [`Alone`], who starts no thread, or a crew. Each call has the same clauses for both.
 //!
-//! `specs` has the definitions: `Tables` what a table is and what a batch leaves of it, `Batches` which messages records spell and why they are
-//! refused, `Calls` the step of each call, `Standing` what is true of a table between any two calls.
+//! `specs` has the definitions: `Tables` what a table is and what a batch leaves of it, `Calls` the step of each call,
+//! `Standing` what is true of a table between any two calls.
 #![tactic(auto)]
 
-mod batch;
 mod index;
 mod reply;
 mod table;
 mod trees;
 mod workforce;
 
-pub use batch::MOST_MESSAGES;
 pub use index::{IndexHead, IndexRef};
 pub use reply::{Reply, SentCount};
 pub use table::{MOST_INDEXES, Table, TreeRef};

@@ -9,7 +9,6 @@ ghost use Rattle.bt_table.specs.Calls.{Apply, CreateIndex, Drain, DropIndex, Get
 ghost use Rattle.bt_table.specs.Standing.{CompleteIndexesHold, HasSchema, IsSoundUnlessLost, Suits};
 ghost use Rattle.bt_table.specs.Tables.{Intact, Lost, empty_table};
 
-use crate::batch::read_messages;
 use crate::index::{
     FanOut, IndexHead, IndexRef, add_index, are_complete, fan_out, find_index, is_whole,
     pack_entries, put_cover, put_tree, take_tree,
@@ -20,7 +19,7 @@ use crate::workforce::Workforce;
 use bt_fanout::{BuildStep, IndexDef, build_step};
 use bt_keycode::encode_row;
 use bt_load::{InThreads, Loading, load_rows_by, read_records_by};
-use bt_messages::{Entry, Packet};
+use bt_messages::Entry;
 use bt_node::{Shape, Tree, pack};
 use bt_rowtype::{Item, RecordLine, RecordReader, Refusal, Row, Schema, Text};
 use std::alloc::Global;
@@ -181,8 +180,7 @@ impl Table {
         let Some(trees) = &self.trees else {
             return Err(Refusal::Failed);
         };
-        let batch = read_messages(alloc, &self.schema, items)?;
-        let packet = Packet::from_batch(alloc, batch)?;
+        let packet = crew.read_packet(rt, alloc, &self.schema, items)?;
         let FanOut { packets, sent } = fan_out(
             rt,
             alloc,

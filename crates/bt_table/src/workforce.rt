@@ -1,10 +1,14 @@
 //! Who works for a table: the caller alone, or a crew.
-ghost use Rattle.std.specs.Prelude.{◌≡◌, ◌≤◌, ◌+◌, ◌++◌, IfErr, IfOk, IsErrOf, OnErr, length};
+ghost use Rattle.std.specs.Prelude.{◌≡◌, ◌≢◌, ◌≤◌, ◌+◌, ◌++◌, IfErr, IfOk, IsErrOf, None, OnErr, OnOk, Some, length};
+ghost use Rattle.std.specs.List.{All};
 ghost use Rattle.bt_messages.specs.Meanings.{meaning_of};
+ghost use Rattle.bt_messages.specs.Messages.{sorted_batch};
 ghost use Rattle.bt_node.specs.Drains.{drained, rebuilt};
 ghost use Rattle.bt_node.specs.Flushes.{holds};
-ghost use Rattle.bt_fanout.specs.Effects.{effects_within, entry_effect, entry_meaning, row_effect, row_meaning};
+ghost use Rattle.bt_batch.specs.Batches.{batch_refusals, messages_of};
+ghost use Rattle.bt_fanout.specs.Effects.{SuitsEffect, effects_within, entry_effect, entry_meaning, row_effect, row_meaning, sent_for_all};
 ghost use Rattle.bt_gather.specs.Rounds.{all_sunk};
+ghost use Rattle.bt_rowtype.specs.Refusals.{least};
 ghost use Rattle.bt_rowtype.specs.declared.refusal.Refusal.TheVariants as refusal;
 ghost use Rattle.bt_table.specs.Calls.{IsRefused, IsStep, Load};
 ghost use Rattle.bt_table.specs.Standing.{CompleteIndexesHold, IsSoundUnlessLost};
@@ -12,13 +16,16 @@ ghost use Rattle.bt_table.specs.Tables.{Lost};
 
 use crate::reply::Reply;
 use crate::table::Table;
-use bt_fanout::{Cover, Effect, effects, effects_alone};
+use bt_batch::{read_packet, read_packet_alone};
+use bt_fanout::{
+    Cover, Effect, IndexDef, effects, effects_alone, index_packet, index_packet_alone,
+};
 use bt_gang::{Crew, Gate, NoGate};
 use bt_gather::{drain, rebuild, sink};
 use bt_load::{InThreads, InTurn};
 use bt_messages::{Entry, Merge, Packet};
 use bt_node::Tree;
-use bt_rowtype::{Refusal, Row};
+use bt_rowtype::{Item, Refusal, Row, Schema};
 use std::alloc::{AllocError, Global};
 use std::sync::Wait;
 use std::thread::Threads;
@@ -32,6 +39,19 @@ pub trait Workforce<T> {
     /// What is asked of a workforce: of a crew, that the runtime may be shared by its workers.
     ghost accepts: { Self → Type 0 };
 
+    /// The packet of a batch: the messages that its records spell, or the least refusal that applies.
+    fn read_packet(
+        &self,
+        rt: &T,
+        alloc: Global,
+        schema: &Schema,
+        items: &[Item<'_>],
+    ) -> Result<Packet<Row>, Refusal>
+        requires ready { accepts self.now }
+        ensures packet { IfOk result (λ packet. packet ≡ sorted_batch (messages_of schema.now items.now)) }
+        ensures allowed { OnOk result (least (batch_refusals schema.now items.now) ≡ None) }
+        ensures refused { IfErr result (λ r. r ≢ refusal.OutOfMemory → least (batch_refusals schema.now items.now) ≡ Some r) };
+
     /// What the messages of a packet do to the rows of a tree, which doesn't have them yet, at the keys that a cover covers.
     fn effects(
         &self,
@@ -43,6 +63,19 @@ pub trait Workforce<T> {
     ) -> Result<Vec<Effect>, AllocError>
         requires ready { accepts self.now }
         ensures effects { IfOk result (λ effects. effects.items ≡ effects_within cover.now packet.now (holds row_effect tree.now.1)) };
+
+    /// The packet of an index for effects on rows.
+    fn index_packet(
+        &self,
+        rt: &T,
+        alloc: Global,
+        def: &IndexDef,
+        cover: &Cover,
+        effects: &[Effect],
+    ) -> Result<Packet<Entry>, AllocError>
+        requires ready { accepts self.now }
+        requires suits { All (SuitsEffect def.now) effects.now }
+        ensures packet { IfOk result (λ packet. packet ≡ sorted_batch (sent_for_all def.now cover.now effects.now)) };
 
     /// Each tree after its packet. An `Err` keeps nothing of them.
     fn sink(
@@ -121,6 +154,16 @@ impl<T> Workforce<T> for Alone {
 
     ghost accepts = { λ _. ⊤ };
 
+    fn read_packet(
+        &self,
+        _rt: &T,
+        alloc: Global,
+        schema: &Schema,
+        items: &[Item<'_>],
+    ) -> Result<Packet<Row>, Refusal> {
+        read_packet_alone(alloc, schema, items)
+    }
+
     fn effects(
         &self,
         _rt: &T,
@@ -130,6 +173,17 @@ impl<T> Workforce<T> for Alone {
         cover: &Cover,
     ) -> Result<Vec<Effect>, AllocError> {
         effects_alone(alloc, tree, packet, cover)
+    }
+
+    fn index_packet(
+        &self,
+        _rt: &T,
+        alloc: Global,
+        def: &IndexDef,
+        cover: &Cover,
+        effects: &[Effect],
+    ) -> Result<Packet<Entry>, AllocError> {
+        index_packet_alone(alloc, def, cover, effects)
     }
 
     fn sink(
@@ -191,6 +245,16 @@ impl<T: Threads + Wait + Sync> Workforce<T> for Crew<NoGate> {
 
     ghost accepts = { λ _. IsSync T.row };
 
+    fn read_packet(
+        &self,
+        rt: &T,
+        alloc: Global,
+        schema: &Schema,
+        items: &[Item<'_>],
+    ) -> Result<Packet<Row>, Refusal> {
+        read_packet(rt, alloc, schema, items, self)
+    }
+
     fn effects(
         &self,
         rt: &T,
@@ -200,6 +264,17 @@ impl<T: Threads + Wait + Sync> Workforce<T> for Crew<NoGate> {
         cover: &Cover,
     ) -> Result<Vec<Effect>, AllocError> {
         effects(rt, alloc, tree, packet, cover, self)
+    }
+
+    fn index_packet(
+        &self,
+        rt: &T,
+        alloc: Global,
+        def: &IndexDef,
+        cover: &Cover,
+        effects: &[Effect],
+    ) -> Result<Packet<Entry>, AllocError> {
+        index_packet(rt, alloc, def, cover, effects, self)
     }
 
     fn sink(
@@ -259,6 +334,16 @@ impl<T: Threads + Wait + Sync> Workforce<T> for Crew<&(dyn Gate + Sync)> {
 
     ghost accepts = { λ _. IsSync T.row };
 
+    fn read_packet(
+        &self,
+        rt: &T,
+        alloc: Global,
+        schema: &Schema,
+        items: &[Item<'_>],
+    ) -> Result<Packet<Row>, Refusal> {
+        read_packet(rt, alloc, schema, items, self)
+    }
+
     fn effects(
         &self,
         rt: &T,
@@ -268,6 +353,17 @@ impl<T: Threads + Wait + Sync> Workforce<T> for Crew<&(dyn Gate + Sync)> {
         cover: &Cover,
     ) -> Result<Vec<Effect>, AllocError> {
         effects(rt, alloc, tree, packet, cover, self)
+    }
+
+    fn index_packet(
+        &self,
+        rt: &T,
+        alloc: Global,
+        def: &IndexDef,
+        cover: &Cover,
+        effects: &[Effect],
+    ) -> Result<Packet<Entry>, AllocError> {
+        index_packet(rt, alloc, def, cover, effects, self)
     }
 
     fn sink(

@@ -1,6 +1,7 @@
 -- Which values a key is the code of, and that there are none where it is no code. Serves the rows that entries show.
 use Rattle.std.proofs.Common.{◌≡◌, ◌∙◌, ◌&&◌, Bool, true, false, true≢false, List, [], ◌∷◌, Option, Some, None, refl, sym, ap, subst, arith, map, negsuc, pos, if◌then◌else◌}
 use Rattle.std.proofs.lemmas.Bool.Decides.{nat_tests}
+use Rattle.std.proofs.lemmas.Option.{none-some}
 use Rattle.std.proofs.lemmas.Slice.Eq.{bytes_eq-Decides}
 use Rattle.std.specs.Cmp.Lexicographic.{pointwise}
 use Rattle.std.specs.Prelude.{option_and_then}
@@ -85,3 +86,23 @@ no_values kinds key other = of_decoded (decoded kinds key)
     of_decoded : (found : Option (List Value)) → option_and_then (if_coded kinds key) found ≡ None
     of_decoded None = refl
     of_decoded (Some values) = of_values values (pointwise is_of_kind kinds values && bytes_eq (code_of values) key) refl
+
+-- the values that there are, or these
+abbrev pub or_values : List Value → Option (List Value) → List Value
+or_values values None = values
+or_values values (Some found) = found
+
+-- what is read of a key has it as its code
+pub code_of_values : (kinds : List Kind) (key : Key) (values : List Value) → values_coded kinds key ≡ Some values → IsCodeOf kinds key values
+code_of_values kinds key values = of_decoded (decoded kinds key)
+  where
+    of_values : (found : List Value) (b : Bool) → (pointwise is_of_kind kinds found && bytes_eq (code_of found) key) ≡ b → (if b then Some found else None) ≡ Some values → IsCodeOf kinds key values
+    of_values found true test is =
+        let both = both_true (pointwise is_of_kind kinds found) (bytes_eq (code_of found) key) test in
+        let fit = of_kinds kinds found both.0 in
+        subst (IsCodeOf kinds key) (ap (or_values found) is) (record { of_kinds = fit.0; in_range = fit.1; code = (bytes_eq-Decides (code_of found) key).0 both.1 })
+    of_values found false test is = absurd (none-some values is)
+
+    of_decoded : (found : Option (List Value)) → option_and_then (if_coded kinds key) found ≡ Some values → IsCodeOf kinds key values
+    of_decoded None is = absurd (none-some values is)
+    of_decoded (Some found) is = of_values found (pointwise is_of_kind kinds found && bytes_eq (code_of found) key) refl is

@@ -59,7 +59,7 @@ fit-picked cs vs (place ∷ places) f under =
     ap (λ b. b && fit_columns (map (column_in cs) places) (picked places vs)) (fit-at cs vs place f (under 0 0 (omega arith)))
     ∙ fit-picked cs vs places f (λ k d less. under (suc k) d (omega (arith, less)))
 
-in_range-append : (vs ws : List Value) → AreInRange vs → AreInRange ws → AreInRange (vs ++ ws)
+pub in_range-append : (vs ws : List Value) → AreInRange vs → AreInRange ws → AreInRange (vs ++ ws)
 in_range-append [] ws f g = g
 in_range-append (v ∷ vs) ws f g = (f.0, in_range-append vs ws f.1 g)
 
@@ -72,7 +72,7 @@ in_range-picked : (vs : List Value) (places : List ℕ) → AreInRange vs → Ar
 in_range-picked vs [] f = tt
 in_range-picked vs (place ∷ places) f = (in_range-at vs place f, in_range-picked vs places f)
 
-code-append : (vs ws : List Value) → code_of (vs ++ ws) ≡ code_of vs ++ code_of ws
+pub code-append : (vs ws : List Value) → code_of (vs ++ ws) ≡ code_of vs ++ code_of ws
 code-append [] ws = refl
 code-append (v ∷ vs) ws = ap (λ bytes. code_of_value v ++ bytes) (code-append vs ws) ∙ sym (append_assoc (code_of_value v) (code_of vs) (code_of ws))
 

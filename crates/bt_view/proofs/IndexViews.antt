@@ -15,7 +15,7 @@ use Rattle.bt_fanout.specs.Definitions.{kinds_of}
 use Rattle.bt_fanout.specs.Effects.{entry_effect}
 use Rattle.bt_fanout.specs.Entries.{entry_of}
 use Rattle.bt_fanout.specs.Selections.{select}
-use Rattle.bt_table.specs.Batches.{and_then, made}
+use Rattle.bt_batch.specs.Batches.{and_then, made}
 use Rattle.bt_table.specs.Calls.{Secondary, ShowsIndex}
 use Rattle.bt_table.specs.Tables.{PlainTable}
 use Rattle.bt_table.specs.Indexes.{Index}

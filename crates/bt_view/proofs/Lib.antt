@@ -1,6 +1,7 @@
 pub mod CodedKeys
 pub mod Drawings
 pub mod EntryRows
+pub mod Fronts
 pub mod GroupOrder
 pub mod IndexColumns
 pub mod IndexRows

@@ -11,7 +11,7 @@ use Rattle.bt_node.specs.Flushes.{holds}
 use Rattle.bt_node.specs.Messages.{Rows, between}
 use Rattle.bt_node.specs.Trees.{Shape}
 use Rattle.bt_fanout.specs.Effects.{row_effect}
-use Rattle.bt_table.specs.Batches.{and_then}
+use Rattle.bt_batch.specs.Batches.{and_then}
 use Rattle.bt_table.specs.Calls.{Primary, ShowsRows, tree_named}
 use Rattle.bt_table.specs.Tables.{PlainTable, RowTree, TableState}
 use Rattle.bt_view.specs.Groups.{groups_of, summed_place, sums, sums_of}

@@ -15,7 +15,7 @@ use Rattle.bt_keycode.specs.Keys.{key_cmp}
 use Rattle.bt_node.specs.Messages.{Rows}
 use Rattle.bt_table.specs.Calls.{NamedTree, tree_named}
 use Rattle.bt_table.specs.Tables.{TableState}
-use Rattle.bt_table.specs.Batches.{and_then}
+use Rattle.bt_batch.specs.Batches.{and_then}
 use Rattle.bt_view.specs.Ranges.{range_of, rows_of_tree, rows_within, schema_of}
 use Rattle.bt_view.specs.declared.groups.Sum.{Sum}
 

@@ -14,7 +14,7 @@ use Rattle.bt_messages.specs.declared.message.Message.{Message}
 use Rattle.bt_messages.specs.declared.message.Message.TheVariants as message
 use Rattle.bt_keycode.specs.Keys.{Key}
 use Rattle.bt_node.specs.Trees.{Tree, leaf, inner, Nodes, none, node, children, height}
-use Rattle.bt_table.specs.Batches.{made}
+use Rattle.bt_batch.specs.Batches.{made}
 use Rattle.bt_table.specs.Calls.{NamedTree, Primary, Secondary, tree_named}
 use Rattle.bt_table.specs.Indexes.{EntryTree}
 use Rattle.bt_table.specs.Tables.{RowTree, TableState}

@@ -15,7 +15,7 @@ use Rattle.bt_fanout.specs.Covers.{is_whole}
 use Rattle.bt_fanout.specs.Entries.{Definition, entry_of, picked}
 use Rattle.bt_fanout.specs.Selections.{select}
 use Rattle.bt_fanout.specs.declared.cover.Cover.{Cover}
-use Rattle.bt_table.specs.Batches.{and_then, made}
+use Rattle.bt_batch.specs.Batches.{and_then, made}
 use Rattle.bt_table.specs.Calls.{NamedTree, Primary, Secondary, tree_named}
 use Rattle.bt_table.specs.Tables.{TableState}
 use Rattle.bt_view.specs.declared.range.KeyRange.{KeyRange}

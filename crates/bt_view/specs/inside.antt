@@ -2,6 +2,7 @@
 pub mod Drawings
 pub mod Entries
 pub mod EntryParts
+pub mod Fronts
 pub mod GroupParts
 pub mod Neighbours
 pub mod Shown

@@ -4,7 +4,7 @@ ghost use Rattle.bt_rowtype.specs.declared.value.Value.TheVariants as value;
 ghost use Rattle.bt_view.specs.Images as spec;
 
 use bt_messages::{Entry, Merge};
-use bt_rowtype::{Change, Column, LONGEST_TEXT, Op, Row, Text, Value, write_row};
+use bt_rowtype::{Change, Column, MOST_VALUE_BYTES, Op, Row, Text, Value, write_row};
 use std::alloc::{AllocError, Global};
 
 /// How the values of a tree are drawn, each behind the key of its line.
@@ -55,7 +55,7 @@ fn push_op(
     name: Text,
     argument: Value,
 ) -> Result<(), AllocError>
-    requires { length word.now ≤ LONGEST_TEXT }
+    requires { length word.now ≤ MOST_VALUE_BYTES }
     ensures { OnOk result (values.new.items ≡ values.old.items ++ (value.Text word.now ∷ value.Text name ∷ argument ∷ [])) }
 {
     if let Err(error) = values.reserve(3) {

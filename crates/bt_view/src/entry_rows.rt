@@ -27,17 +27,17 @@ impl<'a, S: Visitor<Row>> Model for EntryRows<'a, S> {
     ghost view = { λ r. (r.kinds.now, r.visitor) };
 }
 
-// The row of an entry, where its key is a code of values of these kinds.
-fn row_of_entry(
+/// The row of an entry, where its key is a code of values of these kinds.
+pub(crate) fn row_of_entry(
     alloc: Global,
     kinds: &[Kind],
-    key: &Key,
+    key: &[u8],
     entry: &Entry,
 ) -> Result<Option<Row>, AllocError>
     ensures { IfOk result (λ row. row ≡ row_of_entry kinds.now (key.now, entry.now)) }
 {
     let mut row = Row::new();
-    match decode_onto(alloc, kinds, key.as_slice(), &mut row) {
+    match decode_onto(alloc, kinds, key, &mut row) {
         Ok(()) => {}
         Err(DecodeError::NotACode) => return Ok(None),
         Err(DecodeError::OutOfMemory) => return Err(AllocError),
@@ -52,7 +52,7 @@ impl<'a, S: Visitor<Row>> Visitor<Entry> for EntryRows<'a, S> {
 
     // A visitor takes any key. That each key of an index is such a code, so that no entry is passed over, is proved of the whole walk.
     fn visit(&mut self, alloc: Global, key: &Key, entry: &Entry) -> Result<(), AllocError> {
-        match row_of_entry(alloc, self.kinds, key, entry)? {
+        match row_of_entry(alloc, self.kinds, key.as_slice(), entry)? {
             Some(row) => self.visitor.visit(alloc, key, &row),
             None => Ok(()),
         }

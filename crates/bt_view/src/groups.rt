@@ -1,11 +1,13 @@
 //! Groups of rows: how many rows each has, and the sum of a column.
-ghost use Rattle.std.specs.Prelude.{◌≡◌, ◌≤◌, ◌∷◌, [], IfOk, None, Some, false, if◌then◌else◌, take, true};
+ghost use Rattle.std.specs.Prelude.{◌≡◌, ◌≤◌, ◌∷◌, [], IfOk, List, None, Some, false, if◌then◌else◌, take, true};
 ghost use Rattle.bt_rowtype.specs.Answers.{Answers};
 ghost use Rattle.bt_rowtype.specs.Values.{or_refused};
 ghost use Rattle.bt_rowtype.specs.Views.{shown};
 ghost use Rattle.bt_view.specs.Groups as spec;
+ghost use Rattle.bt_rowtype.specs.declared.value.Value.{Value as value};
+ghost use Rattle.bt_view.specs.inside.Fronts.{IsLastOf};
 ghost use Rattle.bt_view.specs.inside.GroupParts.{groups_as_one};
-ghost use Rattle.bt_view.specs.inside.Neighbours.{AreBounded, IsBounded, groups_then, joined_with, with_row};
+ghost use Rattle.bt_view.specs.inside.Neighbours.{AreBounded, IsBounded, grouped, groups_then, joined_with, with_row};
 
 use bt_fanout::add_first;
 use bt_keycode::Key;
@@ -35,8 +37,8 @@ fn number_of(value: ValueRef<'_>) -> i64
     }
 }
 
-// The number at a place of a row; 0 where there is none.
-fn number_in(row: &Row, place: usize) -> i64
+/// The number at a place of a row; 0 where there is none.
+pub(crate) fn number_in(row: &Row, place: usize) -> i64
     ensures { result ≡ spec.number_in row.now place }
 {
     if place < row.len() {
@@ -111,6 +113,22 @@ fn add_row(
     Ok(true)
 }
 
+// Counts one more row to the last of groups, with its number, and answers whether it could.
+fn count_in_last(groups: &mut Vec<Sum>, number: i64) -> bool
+    requires { AreBounded groups.old.items }
+    ensures groups { (values : List value) → IsLastOf values (Some groups.old.items) → groups_then groups.old.items (record { group = values; count = 1; total = number } ∷ []) ≡ (if result then Some groups.new.items else None) }
+    ensures bounded { AreBounded groups.new.items }
+{
+    let Some(mut last) = groups.pop() else {
+        return true;
+    };
+    if !count_rows(&mut last, 1, i128::from(number)) {
+        return false;
+    }
+    groups.push_reserved(last);
+    true
+}
+
 // Adds groups behind others, the first of them to the last of the others where they are the same, and answers whether it could.
 fn add_groups(groups: &mut Vec<Sum>, behind: Vec<Sum>) -> Result<bool, AllocError>
     requires groups { AreBounded groups.old.items }
@@ -172,6 +190,30 @@ impl Grouping {
             groups: Vec::new(alloc),
             is_over: false,
         }
+    }
+
+    /// How many columns a group has.
+    pub(crate) fn columns(&self) -> usize
+        ensures { result ≡ self.now.0 }
+    {
+        self.columns
+    }
+
+    /// The place of the column that is summed.
+    pub(crate) fn place(&self) -> usize
+        ensures { result ≡ self.now.1 }
+    {
+        self.place
+    }
+
+    /// Adds a row to the last group, of which it is, by the number that it has at the place.
+    pub(crate) fn add_to_last(&mut self, number: i64)
+        ensures { (row : List value) → IsLastOf (take self.old.0 row) self.old.2 → spec.number_in row self.old.1 ≡ number → self.new ≡ (self.old.0, self.old.1, grouped self.old.0 self.old.1 self.old.2 row) }
+    {
+        if self.is_over {
+            return;
+        }
+        self.is_over = !count_in_last(&mut self.groups, number);
     }
 
     /// The groups, or `TooMany` where one has too many rows.

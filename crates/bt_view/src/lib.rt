@@ -3,6 +3,7 @@
 
 mod columns;
 mod drawing;
+mod entry_groups;
 mod entry_rows;
 mod groups;
 mod number;

@@ -5,16 +5,18 @@ ghost use Rattle.bt_rowtype.specs.Answers.{Answers};
 ghost use Rattle.bt_fanout.specs.Effects.{entry_effect};
 ghost use Rattle.bt_node.specs.Flushes.{holds};
 ghost use Rattle.bt_node.specs.Messages.{between};
-ghost use Rattle.bt_table.specs.Batches.{and_then};
+ghost use Rattle.bt_batch.specs.Batches.{and_then};
 ghost use Rattle.bt_table.specs.Calls.{Secondary, ShowsIndex, tree_named};
 ghost use Rattle.bt_table.specs.Indexes.{index_of_ref};
 ghost use Rattle.bt_table.specs.Tables.{PlainTable};
 ghost use Rattle.bt_view.specs.Groups as groups;
 ghost use Rattle.bt_view.specs.Ranges as spec;
 ghost use Rattle.bt_view.specs.inside.Entries.{index_kinds, rows_of_entries};
+ghost use Rattle.bt_view.specs.inside.Neighbours.{with_row};
 ghost use Rattle.bt_view.specs.inside.Shown.{AnswersRows, AnswersSums, rows_shown};
 
 use crate::columns::{find_index_column, index_columns, index_kinds, key_columns, key_count};
+use crate::entry_groups::EntryGroups;
 use crate::entry_rows::EntryRows;
 use crate::groups::{Grouping, summed_place};
 use crate::range::{KeyRange, read_range};
@@ -115,6 +117,49 @@ pub(crate) fn show<S: ForkVisitor<Row> + Send, G: Gate + Sync, T: Threads + Wait
             )?;
             Ok(visitor)
         }
+    }
+}
+
+/// The groups of the rows, by the caller.
+pub(crate) fn sum_alone(alloc: Global, summed: Summed<'_>) -> Result<Grouping, AllocError>
+    ensures { IfOk result (λ groups. groups ≡ fold with_row summed.entry.groups (rows_shown summed.entry.shown)) }
+{
+    let Summed { shown, groups } = summed;
+    match shown {
+        Shown::Entries { tree, kinds, range } => {
+            let mut entries = EntryGroups::new(kinds.as_slice(), groups);
+            tree.walk().visit(alloc, range.from.as_ref(), range.to.as_ref(), &mut entries)?;
+            Ok(entries.into_groups())
+        }
+        rows => show_alone(alloc, rows, groups),
+    }
+}
+
+/// The groups of the rows, by a crew.
+pub(crate) fn sum<G: Gate + Sync, T: Threads + Wait + Sync>(
+    rt: &T,
+    alloc: Global,
+    summed: Summed<'_>,
+    crew: &Crew<G>,
+) -> Result<Grouping, AllocError>
+    ensures { IfOk result (λ groups. groups ≡ fold with_row summed.entry.groups (rows_shown summed.entry.shown)) }
+{
+    let Summed { shown, groups } = summed;
+    match shown {
+        Shown::Entries { tree, kinds, range } => {
+            let entries = EntryGroups::new(kinds.as_slice(), groups);
+            let entries = read(
+                rt,
+                alloc,
+                tree,
+                range.from.as_ref(),
+                range.to.as_ref(),
+                entries,
+                crew,
+            )?;
+            Ok(entries.into_groups())
+        }
+        rows => show(rt, alloc, rows, groups, crew),
     }
 }
 

@@ -2,7 +2,7 @@
 ghost use Rattle.std.specs.Prelude.{◌≡◌, ◌≢◌, Err, IfErr, IfOk, IsErrOf, None, Ok, fold};
 ghost use Rattle.std.specs.Option.{option_copied};
 ghost use Rattle.bt_rowtype.specs.Answers.{Answers};
-ghost use Rattle.bt_table.specs.Batches.{made};
+ghost use Rattle.bt_batch.specs.Batches.{made};
 ghost use Rattle.bt_table.specs.Calls.{tree_named};
 ghost use Rattle.bt_view.specs.Groups as groups;
 ghost use Rattle.bt_view.specs.Images as images;
@@ -10,7 +10,7 @@ ghost use Rattle.bt_view.specs.Ranges as spec;
 
 use crate::drawing::{EntryDrawing, RowDrawing};
 use crate::groups::Sum;
-use crate::shown::{Summed, rows_to_show, rows_to_sum, show, show_alone};
+use crate::shown::{rows_to_show, rows_to_sum, show, show_alone, sum, sum_alone};
 use crate::tree_image::image_text;
 use bt_gang::{Crew, Gate};
 use bt_node::{ForkVisitor, Visitor};
@@ -80,8 +80,8 @@ pub fn sums<G: Gate + Sync, T: Threads + Wait + Sync>(
     ensures certain { IfErr (tree_named table.now name.now) (IsErrOf result) }
     ensures unbounded { from.entry ≡ None → to.entry ≡ None → IfErr (groups.sums table.now name.now grouping column.now None None) (λ refusal. refusal ≢ Refusal.TooMany → IsErrOf result refusal) }
 {
-    let Summed { shown, groups } = rows_to_sum(alloc, table, name, grouping, column, from, to)?;
-    show(rt, alloc, shown, groups, crew)?.finish()
+    let summed = rows_to_sum(alloc, table, name, grouping, column, from, to)?;
+    sum(rt, alloc, summed, crew)?.finish()
 }
 
 /// The same by the caller alone.
@@ -98,8 +98,8 @@ pub fn sums_alone(
     ensures certain { IfErr (tree_named table.now name.now) (IsErrOf result) }
     ensures unbounded { from.entry ≡ None → to.entry ≡ None → IfErr (groups.sums table.now name.now grouping column.now None None) (λ refusal. refusal ≢ Refusal.TooMany → IsErrOf result refusal) }
 {
-    let Summed { shown, groups } = rows_to_sum(alloc, table, name, grouping, column, from, to)?;
-    show_alone(alloc, shown, groups)?.finish()
+    let summed = rows_to_sum(alloc, table, name, grouping, column, from, to)?;
+    sum_alone(alloc, summed)?.finish()
 }
 
 /// The image of the tree of a name: its nodes with their rows, pivots and messages. `Failed`, `NoSuchTree`, both before memory is asked for.

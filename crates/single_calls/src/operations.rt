@@ -205,6 +205,38 @@ fn changes_are_copied(rt: HostRuntime) {
     );
 }
 
+// The row to begin with and the operations of the upsert of a line, read at once by a reader, or why there are none.
+fn change_of_line(alloc: Global, line: &str) -> Result<Vec<u8>, Refusal> {
+    let schema = shops(alloc)?;
+    let mut reader = RecordReader::new(alloc);
+    let Some(line) = RecordLine::new(line.as_bytes()) else {
+        return Ok(Vec::new(alloc));
+    };
+    match reader.read_change(alloc, &schema, 4, &line) {
+        Ok(change) => {
+            let upsert = upsert_like(alloc, &change);
+            drop(change);
+            Ok(upsert_text(alloc, Ok(upsert?))?)
+        }
+        Err(refusal) => Ok(refusal_text(alloc, refusal)?),
+    }
+}
+
+#[test]
+fn changes_are_read(rt: HostRuntime) {
+    for (line, expected) in [
+        ("9,add,qty,-2", "9,0,,false: add 1 -2|"),
+        ("9,set,city,Bonn", "9,0,,false: set 2 Bonn|"),
+        (
+            "9,set,city,Bonn,max,qty,7",
+            "9,0,,false: set 2 Bonn|max 1 7|",
+        ),
+        ("x,add,nope,1", "BadField 4"),
+    ] {
+        assert!(rt; is_text(change_of_line(rt.alloc(), line), expected));
+    }
+}
+
 // How an addition to a column is checked.
 fn addition_checked(alloc: Global, place: usize) -> Result<(), Refusal> {
     let mut ops = Ops::new(alloc);

@@ -2,7 +2,7 @@
 use bt_keycode::Key;
 use bt_messages::{Buffer, Entry, Merge, Message, Messages, Packet};
 use bt_rowtype::{
-    Change, Column, Columns, Fields, Kind, LONGEST_TEXT, Op, Ops, Refusal, Row, Schema, Text,
+    Change, Column, Columns, Fields, Kind, MOST_VALUE_BYTES, Op, Ops, Refusal, Row, Schema, Text,
     ValueRef, read_record, write_row,
 };
 use std::alloc::{AllocError, Global};
@@ -17,7 +17,7 @@ pub(crate) fn is_text<E: Drop>(answer: Result<Vec<u8>, E>, text: &str) -> bool {
 
 /// A text, or the empty one in place of one that is too long.
 pub(crate) fn short_text(alloc: Global, text: &str) -> Result<Text, AllocError> {
-    if text.len() > LONGEST_TEXT {
+    if text.len() > MOST_VALUE_BYTES {
         return Ok(Text::empty());
     }
     Text::new(alloc, text)

@@ -12,7 +12,7 @@ use Rattle.bt_keycode.specs.Codes.{code_of, code_of_content, code_of_value, eigh
 use Rattle.bt_keycode.specs.inside.Decoding.{HasBits, decoded, first_content, first_value, lowered, unescaped}
 use Rattle.bt_keycode.proofs.Codes.{has_bits}
 use Rattle.bt_keycode.proofs.DecodingInts.{raised_below}
-use Rattle.bt_keycode.proofs.DecodingTexts.{read_again, split_end}
+use Rattle.bt_keycode.proofs.DecodingBytes.{read_again, split_end}
 
 by_test : (n : ℕ) (b : Bool) → nat_le (2 ^ 63) n ≡ b → lowered n ≡ (if b then pos (n - 2 ^ 63) else negsuc (2 ^ 63 - suc n))
 by_test n b is = ap (λ t. if t then pos (n - 2 ^ 63) else negsuc (2 ^ 63 - suc n)) is

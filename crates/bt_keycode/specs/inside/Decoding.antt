@@ -2,6 +2,7 @@
 use Rattle.std.specs.Int.{from_be_bytes, w64}
 use Rattle.std.specs.Prelude.{ℕ, zero, suc, ◌≡◌, ◌==◌, ◌-◌, ◌^◌, ◌++◌, ◌≤◌, List, [], ◌∷◌, drop, get_or, length, map, nat_le, take, Option, Some, None, option_and_then, option_map, if◌then◌else◌, FitsSigned, ℤ, pos, negsuc}
 use Rattle.bt_rowtype.specs.Kinds.{Content, Number, Bytes, Bit, form_in, form_of, value_with}
+use Rattle.bt_rowtype.specs.Texts.{most_value_bytes}
 use Rattle.bt_rowtype.specs.Values.{AreInRange, IsInRange}
 use Rattle.bt_rowtype.specs.declared.value.Form.{Form}
 use Rattle.bt_rowtype.specs.declared.value.Form.TheVariants as form
@@ -22,7 +23,7 @@ HasBits other = Unit {0}
 
 -- it has no more bytes than a value may have
 abbrev pub IsShort : Content → Type 0
-IsShort (Bytes bytes) = length bytes ≤ 255
+IsShort (Bytes bytes) = length bytes ≤ most_value_bytes
 IsShort other = Unit {0}
 
 -- bytes begin with the code of what a value of this form holds, and these come after it
@@ -49,17 +50,17 @@ BeginsWithNo kind bytes = (value : Value) (rest : List ℕ) → BeginsWith kind 
 abbrev pub BeginsWithNone : List Kind → List ℕ → Type 0
 BeginsWithNone kinds bytes = (values : List Value) (rest : List ℕ) → BeginsWithAll kinds bytes values rest → ⊥
 
--- what is read of a text, with these bytes before it
+-- what is read from the code of bytes, with these before it
 abbrev pub after_bytes : List ℕ → Option (List ℕ × List ℕ) → Option (List ℕ × List ℕ)
 after_bytes prefix None = None
 after_bytes prefix (Some read) = Some (prefix ++ read.0, read.1)
 
--- what is read of a text at the end of its code
+-- what is read at the end of the code of bytes
 abbrev pub ended : List ℕ → Option (List ℕ × List ℕ)
 ended (zero ∷ suc zero ∷ bytes) = Some ([], bytes)
 ended other = None
 
--- the bytes of the text whose code bytes begin with, if they do, and what comes after it
+-- the bytes whose code a list of bytes begins with, if it does, and what comes after it
 unfoldable pub unescaped : List ℕ → Option (List ℕ × List ℕ)
 unescaped [] = None
 unescaped (suc n ∷ bytes) = after_bytes (suc n ∷ []) (unescaped bytes)

@@ -1,17 +1,22 @@
 -- The keys of rows with the places of the rows, and what of them stands next to each other in order.
-use Rattle.std.specs.Prelude.{ℕ, ◌≡◌, ◌==◌, ◌+◌, ◌-◌, ◌<◌, ◌≤◌, cond, Bool, true, List, [], ◌∷◌, get_or, length, min, Option, Some, None, MatchOption}
+use Rattle.std.specs.Prelude.{ℕ, ◌≡◌, ◌≢◌, ◌==◌, ◌+◌, ◌-◌, ◌<◌, ◌≤◌, cond, Bool, true, List, [], ◌∷◌, get_or, length, min, Option, Some, None, MatchOption}
 use Rattle.std.specs.List.{sum_by}
 use Rattle.std.specs.Ordering.{eq_by_cmp}
 use Rattle.std.specs.declared.cmp.Ordering.TheVariants.{Less}
 use Rattle.bt_rowtype.specs.declared.value.Value.{Value}
 use Rattle.bt_keycode.specs.Keys.{Key, key_cmp}
 use Rattle.bt_load.specs.Maps.{key_of}
+use Rattle.bt_load.specs.Steps.{no_key}
 use Rattle.bt_load.specs.declared.placed.Placed.{Placed}
 
 -- the keys of rows, the first of which has this place
 abbrev pub placed_from : ℕ → ℕ → List (List Value) → List Placed
 placed_from keys place [] = []
 placed_from keys place (row ∷ rows) = record { key = key_of keys row; place = place } ∷ placed_from keys (place + 1) rows
+
+-- no key is empty
+abbrev pub HaveKeys : List Placed → Type 0
+HaveKeys placed = (k : ℕ) → k < length placed → (get_or placed k no_key).key ≢ []
 
 -- the key of one is below that of another
 abbrev pub IsKeyBelow : Placed → Placed → Type 0
@@ -29,7 +34,7 @@ pair_at rows p = (p.key, get_or rows p.place [])
 
 -- what stands at a place in order
 abbrev pub at : List Placed → ℕ → Placed
-at placed n = get_or placed n (record { key = []; place = 0 })
+at placed n = get_or placed n no_key
 
 -- whether the key at a place in order, which is not the first, is the one before it
 abbrev pub repeats_at : List Placed → ℕ → Bool

@@ -97,6 +97,11 @@ defaults_behind (suc n) (c ∷ columns) (v ∷ key) fit =
 pub default_row_key : (schema : Schema) (key : List Value) → fit_columns (take schema.keys schema.columns) key ≡ true → take schema.keys (default_row schema key) ≡ key
 default_row_key schema key fit = defaults_behind schema.keys schema.columns key fit
 
+-- so does that of the key that the record of an upsert spells
+pub upsert_begins : (schema : Schema) (item : ℕ) (fields : List (List ℕ)) (key : List Value) (ops : List Op) → upsert_as schema item fields ≡ Ok (key, ops)
+    → take schema.keys (default_row schema key) ≡ key
+upsert_begins schema item fields key ops is = default_row_key schema key (upsert_fits schema item fields key ops is).0
+
 -- the key of a row that fits fits the key's columns
 pub prefix_fits : (n : ℕ) (columns : List Column) (row : List Value) → fit_columns columns row ≡ true → fit_columns (take n columns) (take n row) ≡ true
 prefix_fits zero columns row fit = refl

@@ -7,7 +7,7 @@ use Rattle.bt_rowtype.specs.Hex.{bytes_of_hex}
 use Rattle.bt_rowtype.specs.Ints.{int_of}
 use Rattle.bt_rowtype.specs.Kinds.{Content, Number, Bytes, Bit, binary_of, content_of, default_of, flag_of, form_in, form_of, kind_of, kind_of_tag, tag_of, takes, text_read, value_of, value_with}
 use Rattle.bt_rowtype.specs.Schemas.{fits_kind}
-use Rattle.bt_rowtype.specs.Texts.{is_binary, is_text}
+use Rattle.bt_rowtype.specs.Texts.{is_binary, is_text, most_value_bytes}
 use Rattle.bt_rowtype.specs.Values.{AreTaken, HasBytes, IsInRange, LiesInRange, same_kind, takes_content}
 use Rattle.bt_rowtype.specs.inside.Numbers.{number_of}
 use Rattle.bt_rowtype.specs.declared.value.Form.TheVariants as form
@@ -102,14 +102,14 @@ number_kind v n e = absurd cc
 
 -- ---- what kinds take
 
--- the bytes that a kind takes are at most 255
-pub taken_length : (k : Kind) (bytes : List ℕ) → takes k bytes ≡ true → length bytes ≤ 255
+-- the bytes that a kind takes are no more than a value may have
+pub taken_length : (k : Kind) (bytes : List ℕ) → takes k bytes ≡ true → length bytes ≤ most_value_bytes
 taken_length kind.Text bytes is = text_length bytes is
-taken_length kind.Bytes bytes is = leb-true (length bytes) 255 is
+taken_length kind.Bytes bytes is = leb-true (length bytes) most_value_bytes is
 taken_length k bytes is = absurd cc
 
 -- so many has a value, if it has any
-pub bytes_length : (v : Value) (bytes : List ℕ) → HasBytes v → Bytes bytes ≡ content_of v → length bytes ≤ 255
+pub bytes_length : (v : Value) (bytes : List ℕ) → HasBytes v → Bytes bytes ≡ content_of v → length bytes ≤ most_value_bytes
 bytes_length v bytes taken is = taken_length (kind_of v) bytes (subst (AreTaken (kind_of v)) (sym is) taken)
 
 pub in_range_taken : (k : Kind) (c : Content) → LiesInRange k c → AreTaken k c

@@ -4,7 +4,7 @@ use Rattle.std.proofs.lemmas.Bool.{cases_Bool, le-leb, leb-true, lt-leb}
 use Rattle.std.specs.Prelude.{IsUtf8}
 use Rattle.std.specs.Str.{is_utf8}
 use Rattle.std.proofs.lemmas.Str.{IsUtf8-nil, is_utf8-from_IsUtf8, IsUtf8-from_is_utf8}
-use Rattle.bt_rowtype.specs.Texts.{is_text, longest_text}
+use Rattle.bt_rowtype.specs.Texts.{is_text, most_value_bytes}
 
 and_true : (b : Bool) → b ≡ (b && true)
 and_true true = refl
@@ -14,26 +14,26 @@ and_false : (b : Bool) → false ≡ (b && false)
 and_false true = refl
 and_false false = refl
 
-pub text_by_length : (bytes : List ℕ) → IsUtf8 bytes → nat_le (length bytes) longest_text ≡ is_text bytes
-text_by_length bytes utf8 = and_true (nat_le (length bytes) longest_text) ∙ ap (λ u. nat_le (length bytes) longest_text && u) (sym (is_utf8-from_IsUtf8 bytes utf8))
+pub text_by_length : (bytes : List ℕ) → IsUtf8 bytes → nat_le (length bytes) most_value_bytes ≡ is_text bytes
+text_by_length bytes utf8 = and_true (nat_le (length bytes) most_value_bytes) ∙ ap (λ u. nat_le (length bytes) most_value_bytes && u) (sym (is_utf8-from_IsUtf8 bytes utf8))
 
 pub no_text : (bytes : List ℕ) → (IsUtf8 bytes → ⊥) → false ≡ is_text bytes
 no_text bytes broken = elim (cases_Bool (is_utf8 bytes)) [
   | inl utf8 ↦ absurd (broken (IsUtf8-from_is_utf8 bytes utf8))
-  | inr not ↦ and_false (nat_le (length bytes) longest_text) ∙ ap (λ u. nat_le (length bytes) longest_text && u) (sym not)
+  | inr not ↦ and_false (nat_le (length bytes) most_value_bytes) ∙ ap (λ u. nat_le (length bytes) most_value_bytes && u) (sym not)
 ]
 
-pub short_text : (bytes : List ℕ) → length bytes ≤ longest_text → IsUtf8 bytes → is_text bytes ≡ true
-short_text bytes short utf8 = sym (text_by_length bytes utf8) ∙ le-leb (length bytes) longest_text short
+pub short_text : (bytes : List ℕ) → length bytes ≤ most_value_bytes → IsUtf8 bytes → is_text bytes ≡ true
+short_text bytes short utf8 = sym (text_by_length bytes utf8) ∙ le-leb (length bytes) most_value_bytes short
 
-pub long_text : (bytes : List ℕ) → longest_text < length bytes → is_text bytes ≡ false
-long_text bytes long = rw (lt-leb (length bytes) longest_text long) refl
+pub long_text : (bytes : List ℕ) → most_value_bytes < length bytes → is_text bytes ≡ false
+long_text bytes long = rw (lt-leb (length bytes) most_value_bytes long) refl
 
 pub no_bytes : is_text [] ≡ true
 no_bytes = short_text [] (omega arith) IsUtf8-nil
 
-pub text_length : (bytes : List ℕ) → is_text bytes ≡ true → length bytes ≤ longest_text
-text_length bytes text = leb-true (length bytes) longest_text (first_of_both (nat_le (length bytes) longest_text) (is_utf8 bytes) text)
+pub text_length : (bytes : List ℕ) → is_text bytes ≡ true → length bytes ≤ most_value_bytes
+text_length bytes text = leb-true (length bytes) most_value_bytes (first_of_both (nat_le (length bytes) most_value_bytes) (is_utf8 bytes) text)
   where
     first_of_both : (a b : Bool) → (a && b) ≡ true → a ≡ true
     first_of_both true b both = refl

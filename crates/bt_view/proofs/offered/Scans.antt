@@ -4,7 +4,7 @@ use Rattle.std.proofs.lemmas.List.Folds.{fold-map}
 use Rattle.bt_rowtype.specs.declared.refusal.Refusal.{Refusal}
 use Rattle.bt_rowtype.specs.declared.value.Value.{Value}
 use Rattle.bt_node.specs.Messages.{Rows}
-use Rattle.bt_table.specs.Batches.{made}
+use Rattle.bt_batch.specs.Batches.{made}
 use Rattle.bt_table.specs.Tables.{TableState}
 use Rattle.bt_view.specs.Ranges.{scan, scan_with_keys}
 

@@ -20,6 +20,6 @@ returns g c =
     (λ after all.
     all
     ∙ forks-joined v f j rows laws.as_one c.args.visitor c.in_ok-portions.portions.items c.in_ok-jobs.jobs.items c.in_ok-forks.forks.items c.in_ok-jobs.ensures
-    (c.in_ok-forks.ensures (after_part v f j rows) (λ job d is. is))
+    (c.in_ok-forks.ensures.values (after_part v f j rows) (λ job d is. is))
     ∙ ap (fold v c.args.visitor) (c.in_ok-portions.ensures.rows ∙ ap (λ t. between (option_copied c.args.from) (option_copied c.args.to) (holds effect t)) c.walk.ensures.root))
     c.with_all.ensures

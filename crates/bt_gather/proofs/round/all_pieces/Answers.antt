@@ -13,7 +13,7 @@ pub two_lists-requires-clause-rows : goal.two_lists-requires-clause-rows
 two_lists-requires-clause-rows g c =
     let row = piece_of (meaning_of g.R.Merge.terms) in
     let entry = piece_of (meaning_of g.E.Merge.terms) in
-    let done = c.in_ok-pieces.ensures (either_map row entry) (λ job d e. e) in
+    let done = c.in_ok-pieces.ensures.values (either_map row entry) (λ job d e. e) in
     let own = own-rows row entry c.args.rows.items c.args.entries.items c.in_ok-jobs.jobs.items c.in_ok-jobs.ensures c.in_ok-pieces.pieces.items done in
     (c.in_ok-row_room.ensures.items, omega (arith, ap length own, length-map c.args.rows.items row, c.len.ensures, c.args.rows.ok.0, c.in_ok-row_room.ensures.capacity))
 
@@ -21,7 +21,7 @@ pub two_lists-requires-clause-entries : goal.two_lists-requires-clause-entries
 two_lists-requires-clause-entries g c =
     let row = piece_of (meaning_of g.R.Merge.terms) in
     let entry = piece_of (meaning_of g.E.Merge.terms) in
-    let done = c.in_ok-pieces.ensures (either_map row entry) (λ job d e. e) in
+    let done = c.in_ok-pieces.ensures.values (either_map row entry) (λ job d e. e) in
     let own = own-entries row entry c.args.rows.items c.args.entries.items c.in_ok-jobs.jobs.items c.in_ok-jobs.ensures c.in_ok-pieces.pieces.items done in
     (c.in_ok-entry_room.ensures.items, omega (arith, ap length own, length-map c.args.entries.items entry, c.len-2.ensures, c.args.entries.ok.0, c.in_ok-entry_room.ensures.capacity))
 
@@ -29,12 +29,12 @@ pub returns-clause-rows : goal.returns-clause-rows
 returns-clause-rows g c =
     let row = piece_of (meaning_of g.R.Merge.terms) in
     let entry = piece_of (meaning_of g.E.Merge.terms) in
-    let done = c.in_ok-pieces.ensures (either_map row entry) (λ job d e. e) in
+    let done = c.in_ok-pieces.ensures.values (either_map row entry) (λ job d e. e) in
     c.two_lists.ensures.rows ∙ own-rows row entry c.args.rows.items c.args.entries.items c.in_ok-jobs.jobs.items c.in_ok-jobs.ensures c.in_ok-pieces.pieces.items done
 
 pub returns-clause-entries : goal.returns-clause-entries
 returns-clause-entries g c =
     let row = piece_of (meaning_of g.R.Merge.terms) in
     let entry = piece_of (meaning_of g.E.Merge.terms) in
-    let done = c.in_ok-pieces.ensures (either_map row entry) (λ job d e. e) in
+    let done = c.in_ok-pieces.ensures.values (either_map row entry) (λ job d e. e) in
     c.two_lists.ensures.entries ∙ own-entries row entry c.args.rows.items c.args.entries.items c.in_ok-jobs.jobs.items c.in_ok-jobs.ensures c.in_ok-pieces.pieces.items done

@@ -1,6 +1,6 @@
 use Rattle.std.proofs.Common.{◌≡◌, ◌-◌, ◌∷◌, arith, drop, length, take}
 use Rattle.std.proofs.lemmas.Grind.{common_steps}
-use Rattle.bt_keycode.proofs.DecodingTexts.{read_plain}
+use Rattle.bt_keycode.proofs.DecodingBytes.{read_plain}
 use Rattle.bt_keycode.proofs.decoder.plain_bytes.Goals as goal
 
 pub returns-in-1 : goal.returns-in-1

@@ -1,12 +1,13 @@
 use Rattle.std.proofs.Common.{◌≡◌, ◌≤◌, length, take}
+use Rattle.bt_rowtype.specs.Texts.{most_value_bytes}
 use Rattle.bt_keycode.specs.inside.Decoding.{after_bytes, unescaped}
 use Rattle.bt_keycode.proofs.decoder.unescape.Given as goal
 
 -- the bytes read so far, and what is read of those that are left, are what is read of all
 abbrev pub invariant-loop-byte : goal.invariant-loop-byte
 invariant-loop-byte l = record {
-  size : length l.room ≡ 255;
-  bound : l.len ≤ 255;
+  size : length l.room ≡ most_value_bytes;
+  bound : l.len ≤ most_value_bytes;
   read : unescaped l.bytes ≡ after_bytes (take l.len l.room) (unescaped l.code);
 }
 

@@ -23,8 +23,11 @@ loop-step-preserved g c =
       step = omega (arith, c.saturating_mul-step.ensures, c.loop-step.invariant.step);
     }
 
-pub returns : goal.returns
-returns g c =
+pub returns-clause-sorted : goal.returns-clause-sorted
+returns-clause-sorted g c = sorted_rest c.partition_point-before.result c.loop-step.left.now c.loop-step.invariant.sorted
+
+pub returns-clause-from : goal.returns-clause-from
+returns-clause-from g c =
     let key = c.args.key.now in
     let left = c.loop-step.left.now in
     let last = c.min-last.result in

@@ -7,17 +7,17 @@ pub returns-in_err-byte-clause-bytes : goal.returns-in_err-byte-clause-bytes
 returns-in_err-byte-clause-bytes c =
     rw c.from_residual.ensures (sym (no_byte c.args.digits.now (take c.loop-rest.len c.loop-rest.room) c.loop-rest.rest.now c.in-len2-up.len_at_least c.in_err-byte.ensures c.loop-rest.invariant.spelled))
 
-pub returns-then-len-eq-LONGEST_TEXT-clause-bytes : goal.returns-then-len-eq-LONGEST_TEXT-clause-bytes
-returns-then-len-eq-LONGEST_TEXT-clause-bytes c =
+pub returns-then-len-eq-MOST_VALUE_BYTES-clause-bytes : goal.returns-then-len-eq-MOST_VALUE_BYTES-clause-bytes
+returns-then-len-eq-MOST_VALUE_BYTES-clause-bytes c =
     sym (too_many c.args.digits.now (take c.loop-rest.len c.loop-rest.room) c.loop-rest.rest.now c.in_ok-byte.byte
-    (omega (arith, length-take c.loop-rest.len c.loop-rest.room, c.loop-rest.invariant.size, c.if-len-eq-LONGEST_TEXT.true)) c.in-len2-up.len_at_least c.in_ok-byte.ensures c.loop-rest.invariant.spelled)
+    (omega (arith, length-take c.loop-rest.len c.loop-rest.room, c.loop-rest.invariant.size, c.if-len-eq-MOST_VALUE_BYTES.true)) c.in-len2-up.len_at_least c.in_ok-byte.ensures c.loop-rest.invariant.spelled)
 
 pub loop-rest-preserved : goal.loop-rest-preserved
 loop-rest-preserved c = record {
   size = search rules;
-  bound = omega (arith, c.loop-rest.invariant.bound, c.if-len-eq-LONGEST_TEXT.false);
+  bound = omega (arith, c.loop-rest.invariant.bound, c.if-len-eq-MOST_VALUE_BYTES.false);
   spelled = one_more c.args.digits.now c.loop-rest.room c.loop-rest.rest.now c.loop-rest.len c.in_ok-byte.byte c.in-len2-up.len_at_least c.in_ok-byte.ensures
-      (omega (arith, c.loop-rest.invariant.bound, c.loop-rest.invariant.size, c.if-len-eq-LONGEST_TEXT.false)) c.loop-rest.invariant.spelled;
+      (omega (arith, c.loop-rest.invariant.bound, c.loop-rest.invariant.size, c.if-len-eq-MOST_VALUE_BYTES.false)) c.loop-rest.invariant.spelled;
 }
 
 pub returns-then-is_empty-clause-bytes : goal.returns-then-is_empty-clause-bytes

@@ -1,7 +1,6 @@
-use Rattle.std.proofs.Common.{◌∙◌, ◌++◌, ◌∷◌, [], List, Ok, ap, subst, sym, take}
+use Rattle.std.proofs.Common.{List, subst, take}
 use Rattle.std.specs.Prelude.{IfSome}
 use Rattle.bt_rowtype.specs.inside.PlainFields.{HasRead}
-use Rattle.bt_rowtype.specs.declared.op.Op.{Op}
 use Rattle.bt_rowtype.specs.declared.schema.Column.{Column}
 use Rattle.bt_rowtype.proofs.PlainFields.{upsert_read}
 use Rattle.bt_rowtype.proofs.upsert.read_plain_upsert.Goals as goal
@@ -16,6 +15,4 @@ returns-in-Ok c =
     let op = c.in-Ok.op in
     let read_columns = subst (λ found. IfSome found (λ read. HasRead c.key_columns.result.now text read.0 read.1)) c.in-Some.is c.in_ok-key.ensures in
     let read : HasRead (take schema.keys schema.columns) text key at = subst (λ (columns : List Column). HasRead columns text key at) c.key_columns.ensures.value read_columns in
-    let ops = c.in_ok-push-in-Ok.ensures.ok ∙ ap (λ (l : List Op). l ++ op ∷ []) c.in_ok-ops-in-Ok.ensures in
     upsert_read schema c.args.item text key at group.word.now group.name.now group.argument.now op c.key_columns.ensures.within read group.ensures.fields group.ensures.plain c.requires c.in-Ok.ensures.answer
-    ∙ ap (λ (l : List Op). Ok (key, l)) (sym ops)

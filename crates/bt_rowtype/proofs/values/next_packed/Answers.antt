@@ -15,8 +15,8 @@ tail-requires c = rw c.width.ensures (has_first _ c.requires (some_byte c.args.b
 pub returns-clause-some : goal.returns-clause-some
 returns-clause-some c = rw (c.first.ensures, c.tail.ensures, c.width.ensures) (has_first _ c.requires (some_byte c.args.bytes.now (sym c.if-is_empty.ensures))).values
 
-pub returns-clause-text : goal.returns-clause-text
-returns-clause-text c = rw c.first.ensures (has_first _ c.requires (some_byte c.args.bytes.now (sym c.if-is_empty.ensures))).in_range
+pub returns-clause-in_range : goal.returns-clause-in_range
+returns-clause-in_range c = rw c.first.ensures (has_first _ c.requires (some_byte c.args.bytes.now (sym c.if-is_empty.ensures))).in_range
 
 pub returns-clause-packed : goal.returns-clause-packed
 returns-clause-packed c = rw (c.tail.ensures, c.width.ensures) (has_first _ c.requires (some_byte c.args.bytes.now (sym c.if-is_empty.ensures))).rest

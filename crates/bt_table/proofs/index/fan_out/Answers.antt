@@ -25,8 +25,8 @@ returns-then-matches-clause-sent g c =
     IfOk-weaker c.packets_for.result _ _
     (λ out e. e ∙ ap (λ effects. map (sent_for effects) c.args.heads.now) (none ∙ ap (λ wide. effects_within wide batch rows) c.widest_cover-cover.ensures) ∙ counts-within batch rows Nothing c.args.heads.now) c.packets_for.ensures.sent
 
-pub packets_for-requires-2 : goal.packets_for-requires-2
-packets_for-requires-2 g c =
+pub packets_for-requires-2-clause-suits : goal.packets_for-requires-2-clause-suits
+packets_for-requires-2-clause-suits g c =
     subst (λ effects. All (λ head. All (SuitsEffect head.def) effects) c.args.heads.now) (sym (c.as_slice.ensures.value ∙ c.in_ok-effects.ensures.effects))
     (suit-within c.args.packet.now (holds row_effect c.args.tree.now.1) c.widest_cover-cover.result.now c.args.heads.now c.requires.suits)
 

@@ -5,11 +5,11 @@ use Rattle.bt_table.specs.inside.IndexTrees.{packet_for, sent_for}
 use Rattle.bt_table.proofs.Mapped.{mapped_next}
 use Rattle.bt_table.proofs.index.packets_for.Goals as goal
 
-pub index_packet-requires : goal.index_packet-requires
-index_packet-requires c = subst (λ head. All (SuitsEffect head.def) c.args.effects.now) (sym c.head-item.is) (c.requires c.loop-head.head-index c.head-item.result (omega arith))
+pub index_packet-requires-clause-suits : goal.index_packet-requires-clause-suits
+index_packet-requires-clause-suits g c = subst (λ head. All (SuitsEffect head.def) c.args.effects.now) (sym c.head-item.is) (c.requires.suits c.loop-head.head-index c.head-item.result (omega arith))
 
 pub loop-head-preserved : goal.loop-head-preserved
-loop-head-preserved c =
+loop-head-preserved g c =
     let effects = c.args.effects.now in
     let head = c.head-item.result in
     record {

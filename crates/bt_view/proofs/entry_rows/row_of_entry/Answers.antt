@@ -16,11 +16,10 @@ returns c =
     let kinds = c.args.kinds.now in
     let key = c.args.key.now in
     let included = c.args.entry.now in
-    let read : (values : List Value) × ((c.decode_onto.new.row ≡ c.new-row.result ++ values) × IsCodeOf kinds c.as_slice.result.now values) = c.in-Ok.ensures.code in
-    let is_code : IsCodeOf kinds key read.0 = rw c.as_slice.ensures at read.1.1 in
+    let read : (values : List Value) × ((c.decode_onto.new.row ≡ c.new-row.result ++ values) × IsCodeOf kinds key values) = c.in-Ok.ensures.code in
     let added : c.add_first.new.values ≡ c.decode_onto.new.row ++ take (length included) included = search rules in
     sym (
-    ap (option_map (λ values. values ++ included)) (values_of_code kinds key read.0 is_code)
+    ap (option_map (λ values. values ++ included)) (values_of_code kinds key read.0 read.1.1)
     ∙ ap (λ more. Some (read.0 ++ more)) (sym (take-length included))
     ∙ ap (λ row. Some (row ++ take (length included) included)) (sym (read.1.0 ∙ ap (λ row. row ++ read.0) c.new-row.ensures))
     ∙ ap Some (sym added)

@@ -1,7 +1,7 @@
 use Rattle.std.proofs.Common.{rules, ◌≡◌, ◌≢◌, ◌∙◌, ◌≤◌, [], Err, None, Ok, Some, ap, fold, sym}
 use Rattle.std.specs.Option.{option_copied}
 use Rattle.bt_rowtype.specs.declared.refusal.Refusal.TheVariants.{OutOfMemory}
-use Rattle.bt_table.specs.Batches.{and_then}
+use Rattle.bt_batch.specs.Batches.{and_then}
 use Rattle.bt_table.specs.Calls.{Secondary}
 use Rattle.bt_table.specs.Indexes.{index_of_ref}
 use Rattle.bt_view.specs.Groups.{sums_of}

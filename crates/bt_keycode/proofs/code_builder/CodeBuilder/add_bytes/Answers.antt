@@ -12,11 +12,11 @@ one_more wanted now new rest part behind so_far whole none is =
     ∙ sym (append_assoc now (part ++ (0 ∷ 255 ∷ [])) (escaped behind)) ∙ ap (λ bs. bs ++ escaped behind) (sym is)
 
 -- the last part and the end
-all_added : (old text now rest end : List ℕ) → old ++ escaped text ≡ now ++ escaped rest → list_any (λ b. nat_eq b 0) rest ≡ false →
-    now ++ (rest ++ end) ≡ old ++ (escaped text ++ end)
-all_added old text now rest end so_far none =
+all_added : (old plain now rest end : List ℕ) → old ++ escaped plain ≡ now ++ escaped rest → list_any (λ b. nat_eq b 0) rest ≡ false →
+    now ++ (rest ++ end) ≡ old ++ (escaped plain ++ end)
+all_added old plain now rest end so_far none =
     sym (append_assoc now rest end) ∙ ap (λ bs. bs ++ end) (ap (λ bs. now ++ bs) (sym (escaped_no_zero rest none)) ∙ sym so_far)
-    ∙ append_assoc old (escaped text) end
+    ∙ append_assoc old (escaped plain) end
 
 pub loop-part-preserved : goal.loop-part-preserved
 loop-part-preserved c =

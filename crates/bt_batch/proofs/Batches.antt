@@ -1,0 +1,77 @@
+-- The refusals of lines one behind the other, and what lines spell one behind the other.
+use Rattle.std.proofs.Common.{ℕ, zero, suc, List, [], ◌∷◌, ◌++◌, ◌+◌, ◌≤◌, ◌<◌, ◌≡◌, true, false, drop, take, length, get_or, refl, sym, ap, ◌∙◌, arith, Option, Some, None, unwrap_or, if◌then◌else◌}
+use Rattle.std.proofs.lemmas.Bool.Decides.{nat_tests}
+use Rattle.std.proofs.lemmas.List.{drop_more}
+use Rattle.std.proofs.lemmas.Option.{none-some}
+use Rattle.bt_batch.specs.Batches.{read_batch, read_message}
+use Rattle.bt_rowtype.specs.Refusals.{is_lesser, least, least_from, lesser}
+use Rattle.bt_rowtype.specs.Schemas.{Schema}
+use Rattle.bt_rowtype.specs.declared.item.Item.{Item}
+use Rattle.bt_rowtype.specs.declared.refusal.Refusal.{Refusal}
+
+-- ---- the least refusal of lists one behind the other
+
+pub least_from-append : (found : Option Refusal) (xs ys : List Refusal) → least_from found (xs ++ ys) ≡ least_from (least_from found xs) ys
+least_from-append found [] ys = refl
+least_from-append None (x ∷ xs) ys = least_from-append (Some x) xs ys
+least_from-append (Some found) (x ∷ xs) ys = least_from-append (Some (lesser found x)) xs ys
+
+lesser_chain : (a b c : Refusal) → is_lesser b a ≡ true → is_lesser c b ≡ true → is_lesser c a ≡ true
+lesser_chain a b c p q = grind (arith, nat_tests)
+
+not_lesser_chain : (a b c : Refusal) → is_lesser b a ≡ false → is_lesser c b ≡ false → is_lesser c a ≡ false
+not_lesser_chain a b c p q = grind (arith, nat_tests)
+
+-- the lesser of three does not hang on which two are compared first
+lesser-assoc : (a b c : Refusal) → lesser (lesser a b) c ≡ lesser a (lesser b c)
+lesser-assoc a b c = elim (is_lesser b a) as (λ p. is_lesser b a ≡ p → lesser (if p then b else a) c ≡ lesser a (lesser b c)) [
+  | true ↦ λ p. elim (is_lesser c b) as (λ q. is_lesser c b ≡ q → (if q then c else b) ≡ lesser a (if q then c else b)) [
+    | true ↦ λ q. sym (ap (λ t. if t then c else a) (lesser_chain a b c p q))
+    | false ↦ λ q. sym (ap (λ t. if t then b else a) p)
+  ] refl
+  | false ↦ λ p. elim (is_lesser c b) as (λ q. is_lesser c b ≡ q → lesser a c ≡ lesser a (if q then c else b)) [
+    | true ↦ λ q. refl
+    | false ↦ λ q. ap (λ t. if t then c else a) (not_lesser_chain a b c p q) ∙ sym (ap (λ t. if t then b else a) p)
+  ] refl
+] refl
+
+unwrapped : (x y : Refusal) → Some x ≡ Some y → x ≡ y
+unwrapped x y e = ap (λ o. unwrap_or o x) e
+
+-- the least of others is compared in their place
+compared : (a x r : Refusal) (xs : List Refusal) → least_from (Some x) xs ≡ Some r → least_from (Some (lesser a x)) xs ≡ Some (lesser a r)
+compared a x r [] e = ap (λ z. Some (lesser a z)) (unwrapped x r e)
+compared a x r (y ∷ ys) e = ap (λ z. least_from (Some z) ys) (lesser-assoc a x y) ∙ compared a (lesser x y) r ys e
+
+pub least_instead : (found : Option Refusal) (xs : List Refusal) (r : Refusal) → least xs ≡ Some r → least_from found xs ≡ least_from found (r ∷ [])
+least_instead None xs r e = e
+least_instead (Some a) [] r e = absurd (none-some r e)
+least_instead (Some a) (x ∷ xs) r e = compared a x r xs e
+
+still_found : (x : Refusal) (xs : List Refusal) → least_from (Some x) xs ≡ None → ⊥
+still_found x [] e = none-some x (sym e)
+still_found x (y ∷ ys) e = still_found (lesser x y) ys e
+
+-- where there is no least one there is none
+pub none_at_all : (xs : List Refusal) → least xs ≡ None → xs ≡ []
+none_at_all [] e = refl
+none_at_all (x ∷ xs) e = absurd (still_found x xs e)
+
+-- ---- lines one behind the other
+
+pub read_batch-append : (schema : Schema) (item count : ℕ) (lines : List Item) → count ≤ length lines →
+    read_batch schema item (take count lines) ++ read_batch schema (item + count) (drop count lines) ≡ read_batch schema item lines
+read_batch-append schema item zero lines few = ap (λ i. read_batch schema i lines) (omega arith)
+read_batch-append schema item (suc count) [] few = absurd (omega (arith, few))
+read_batch-append schema item (suc count) (line ∷ lines) few =
+    ap (λ i. read_message schema item line ∷ (read_batch schema (item + 1) (take count lines) ++ read_batch schema i (drop count lines))) (omega arith)
+    ∙ ap (λ reads. read_message schema item line ∷ reads) (read_batch-append schema (item + 1) count lines (omega (arith, few)))
+
+-- the lines from a place on are the one there, and those behind it
+pub read_next : (schema : Schema) (before place : ℕ) (lines : List Item) (d : Item) → place < length lines →
+    read_batch schema (before + place + 1) (drop place lines) ≡ read_message schema (before + place + 1) (get_or lines place d) ∷ read_batch schema (before + (place + 1) + 1) (drop (place + 1) lines)
+read_next schema before place lines d within =
+    let item = before + place + 1 in
+    let next : item + 1 ≡ before + (place + 1) + 1 = omega arith in
+    ap (read_batch schema item) (drop_more lines place d within)
+    ∙ ap (λ i. read_message schema item (get_or lines place d) ∷ read_batch schema i (drop (place + 1) lines)) next

@@ -1,0 +1,4 @@
+pub mod Batches
+pub mod MergedLists
+pub mod PieceReadings
+pub mod Ranges

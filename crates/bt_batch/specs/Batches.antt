@@ -1,0 +1,73 @@
+-- What the records of a batch spell.
+use Rattle.std.specs.Prelude.{ℕ, ◌+◌, nat_lt, Bool, List, [], ◌∷◌, ◌++◌, length, take, Result, Ok, Err, if◌then◌else◌}
+use Rattle.std.specs.List.{filter_map}
+use Rattle.std.specs.Result.{result_err, result_ok}
+use Rattle.bt_rowtype.specs.Ops.{Change, default_row, upsert_as}
+use Rattle.bt_rowtype.specs.Schemas.{Schema}
+use Rattle.bt_rowtype.specs.Values.{read_as}
+use Rattle.bt_rowtype.specs.declared.op.Op.{Op}
+use Rattle.bt_rowtype.specs.declared.refusal.Refusal.{Refusal}
+use Rattle.bt_rowtype.specs.declared.refusal.Refusal.TheVariants.{TooMany}
+use Rattle.bt_rowtype.specs.declared.value.Value.{Value}
+use Rattle.bt_keycode.specs.Codes.{code_of}
+use Rattle.bt_keycode.specs.Keys.{Key}
+use Rattle.bt_messages.specs.declared.message.Message.{Message}
+use Rattle.bt_messages.specs.declared.message.Message.TheVariants as message
+use Rattle.bt_rowtype.specs.declared.item.Item.{Item}
+use Rattle.bt_rowtype.specs.declared.item.Item.TheVariants.{Put, Del, Ups}
+
+-- a message to the key of a row, and messages
+abbrev pub KeyedMessage : Type 0
+KeyedMessage = Key × Message (List Value) Change
+
+abbrev pub RowMessages : Type 0
+RowMessages = List KeyedMessage
+
+-- what is made of a value, where it could be read
+abbrev pub made : {A B : Type 0} → (A → B) → Result A Refusal → Result B Refusal
+made make (Ok value) = Ok (make value)
+made make (Err refusal) = Err refusal
+
+-- what is answered for a value, where it could be had
+abbrev pub and_then : {A B : Type 0} → (A → Result B Refusal) → Result A Refusal → Result B Refusal
+and_then next (Ok value) = next value
+and_then next (Err refusal) = Err refusal
+
+-- the values of the key that fields spell in a table, or their refusal as this item
+abbrev pub read_key : Schema → ℕ → List (List ℕ) → Result (List Value) Refusal
+read_key schema item fields = read_as (take schema.keys schema.columns) item fields
+
+-- the message to put a row, which goes to the code of its key
+abbrev pub put_of : ℕ → List Value → KeyedMessage
+put_of keys row = (code_of (take keys row), message.Put row)
+
+-- the message to remove the row of a key
+abbrev pub del_of : List Value → KeyedMessage
+del_of key = (code_of key, message.Del)
+
+-- the message to change the row of a key, which carries the default row of the key
+abbrev pub ups_of : Schema → List Value × List Op → KeyedMessage
+ups_of schema upsert = (code_of upsert.0, message.Ups (record { base = default_row schema upsert.0; ops = upsert.1 }))
+
+-- the message that a record spells in a table, or its refusal as this item
+abbrev pub read_message : Schema → ℕ → Item → Result KeyedMessage Refusal
+read_message schema item (Put fields) = made (put_of schema.keys) (read_as schema.columns item fields)
+read_message schema item (Del fields) = made del_of (read_key schema item fields)
+read_message schema item (Ups fields) = made (ups_of schema) (upsert_as schema item fields)
+
+-- what the records of a batch spell, counted from an item on
+abbrev pub read_batch : Schema → ℕ → List Item → List (Result KeyedMessage Refusal)
+read_batch schema item [] = []
+read_batch schema item (line ∷ lines) = read_message schema item line ∷ read_batch schema (item + 1) lines
+
+-- the messages of a batch
+abbrev pub messages_of : Schema → List Item → RowMessages
+messages_of schema items = filter_map result_ok (read_batch schema 1 items)
+
+-- a refusal, where it applies
+abbrev pub one_if : Bool → Refusal → List Refusal
+one_if applies refusal = if applies then refusal ∷ [] else []
+
+-- the refusals that apply to a batch: those of its records, and that of too many
+abbrev pub batch_refusals : Schema → List Item → List Refusal
+batch_refusals schema items = filter_map result_err (read_batch schema 1 items) ++ one_if (nat_lt 65536 (length items)) TooMany

@@ -1,0 +1,101 @@
+-- Older and newer messages merged one by one, and packets put one behind the other.
+use Rattle.std.proofs.Common.{◌≡◌, ◌==◌, ℕ, ◌+◌, ◌<◌, ◌^◌, Bool, true, false, List, [], ◌∷◌, ◌++◌, append_assoc, length, sym, ap, subst, ◌∙◌, Option, None, Some, true≢false, arith}
+use Rattle.std.proofs.lemmas.List.{length-append}
+use Rattle.std.specs.Option.{MatchOption}
+use Rattle.bt_keycode.specs.Keys.{IsSorted, is_before}
+use Rattle.bt_messages.specs.Bins.{joined}
+use Rattle.bt_messages.specs.Messages.{Messages, with_messages}
+use Rattle.bt_messages.specs.inside.Merges.{goes_before}
+use Rattle.bt_messages.specs.inside.Runs.{AreRuns, AreSome, begins_before}
+use Rattle.bt_messages.proofs.RunLists.{begun, joined-append, sorted_left, sorted_right, whole_runs}
+use Rattle.bt_messages.proofs.offered.Placed.{first_stays, newer_first, newer_last, sorted-with_messages}
+use Rattle.bt_messages.proofs.offered.Parts.{length-with_messages}
+
+module _ {M : Type 0} where
+  -- ---- the first of older and newer messages
+
+  newer_popped : (o n left : Messages M) (m : List ℕ × M) → IsSorted n → goes_before n o ≡ true → n ≡ m ∷ left → with_messages n o ≡ m ∷ with_messages left o
+  newer_popped [] n left m h b e = ap (λ z. with_messages z []) e ∙ newer_last m left (subst (IsSorted {X = M}) e h).0
+  newer_popped (x ∷ o) n left m h b e =
+      let first : is_before m.0 x.0 ≡ true = sym (ap (begins_before x.0) e) ∙ b in
+      ap (λ z. with_messages z (x ∷ o)) e ∙ newer_first m x left o (subst (IsSorted {X = M}) e h).0 first
+
+  none_newer : (o n : Messages M) → goes_before n o ≡ true → n ≡ [] → with_messages n o ≡ []
+  none_newer [] n b e = ap (λ z. with_messages z []) e
+  none_newer (x ∷ o) n b e = absurd (true≢false (sym b ∙ ap (begins_before x.0) e))
+
+  -- the newer one is the first
+  pub popped_newer : (r : Option (List ℕ × M)) (o n left : Messages M) → IsSorted n → goes_before n o ≡ true → MatchOption r ((n ≡ []) × (left ≡ [])) (λ m. n ≡ m ∷ left) →
+      MatchOption r (with_messages n o ≡ []) (λ m. with_messages n o ≡ m ∷ with_messages left o)
+  popped_newer None o n left h b e = none_newer o n b e.0
+  popped_newer (Some m) o n left h b e = newer_popped o n left m h b e
+
+  -- the older one is the first
+  pub popped_older : (r : Option (List ℕ × M)) (o n left : Messages M) → IsSorted n → goes_before n o ≡ false → MatchOption r ((o ≡ []) × (left ≡ [])) (λ m. o ≡ m ∷ left) →
+      MatchOption r (with_messages n o ≡ []) (λ m. with_messages n o ≡ m ∷ with_messages n left)
+  popped_older None o n left h b e = absurd (true≢false (sym (ap (goes_before n) e.0) ∙ b))
+  popped_older (Some m) o n left h b e = ap (with_messages n) e ∙ first_stays m n left (begun m.0 n h (sym (ap (goes_before n) e) ∙ b))
+
+  -- ---- the pass over both
+
+  -- what is moved so far is sorted
+  pub run_sorted : (runs run both older newer : Messages M) → (runs ++ run) ++ both ≡ with_messages newer older → IsSorted older → IsSorted run
+  run_sorted runs run both older newer e h = sorted_right runs run (sorted_left (runs ++ run) both (subst (IsSorted {X = M}) (sym e) (sorted-with_messages newer older h)))
+
+  -- so many messages are moved, and so many are left
+  pub moved_count : (moved o n older newer : Messages M) → moved ++ with_messages n o ≡ with_messages newer older → length moved + (length o + length n) ≡ length older + length newer
+  moved_count moved o n older newer e =
+      omega (arith, ap length e, length-append moved (with_messages n o), length-with_messages n o, length-with_messages newer older)
+
+  -- one message less is left
+  pub fewer_left : (o n p q : Messages M) (m : List ℕ × M) → with_messages n o ≡ m ∷ with_messages q p → length p + length q < length o + length n
+  fewer_left o n p q m e = omega (arith, ap length e, length-with_messages n o, length-with_messages q p)
+
+  -- where there is an older message, one is left
+  pub some_left : (o n : Messages M) → 0 < length o → with_messages n o ≡ [] → ⊥
+  some_left o n l e = omega (arith, l, ap length e, length-with_messages n o)
+
+  -- the runs of what is moved
+  pub moved_runs : (first moved o n older newer : Messages M) (runs : List (Messages M)) (count : ℕ) → moved ++ with_messages n o ≡ with_messages newer older → IsSorted older → first ≡ [] → AreSome runs →
+      joined runs ≡ moved → count ≡ length moved → count < 2 ^ 63 → AreRuns first runs count
+  moved_runs first moved o n older newer runs count e h f s j l b =
+      whole_runs first runs moved count f s (sorted_left moved (with_messages n o) (subst (IsSorted {X = M}) (sym e) (sorted-with_messages newer older h))) j l b
+
+  -- ---- packets one behind the other
+
+  pub some-append : (rs qs : List (Messages M)) → AreSome rs → AreSome qs → AreSome (rs ++ qs)
+  some-append [] qs h k = k
+  some-append (r ∷ rs) qs h k = (h.0, some-append rs qs h.1 k)
+
+  whole-append : (a b : Messages M) (rs qs : List (Messages M)) → joined qs ≡ b → a ++ joined (rs ++ qs) ≡ (a ++ joined rs) ++ b
+  whole-append a b rs qs e =
+      ap (λ z. a ++ z) (joined-append rs qs) ∙ sym (append_assoc a (joined rs) (joined qs)) ∙ ap (λ z. (a ++ joined rs) ++ z) e
+
+  -- a packet with the lists of another one behind its own
+  pub runs-append : (a b whole : Messages M) (rs qs new : List (Messages M)) (n m k : ℕ) → AreRuns a rs n → AreSome qs → joined qs ≡ b → m ≡ length b → a ++ joined rs ≡ whole → IsSorted (whole ++ b) →
+      (k ≡ n + m) × (k < 2 ^ 63) → new ≡ rs ++ qs → AreRuns a new k × (a ++ joined new ≡ whole ++ b)
+  runs-append a b whole rs qs new n m k h s e f w i c l =
+      let is : a ++ joined new ≡ whole ++ b = ap (λ z. a ++ joined z) l ∙ whole-append a b rs qs e ∙ ap (λ z. z ++ b) w in (
+        record {
+          some = subst (AreSome {X = List ℕ × M}) (sym l) (some-append rs qs h.some s);
+          sorted = subst (IsSorted {X = M}) (sym is) i;
+          count = omega (arith, c.0, f, h.count, ap length is, length-append whole b, ap length w);
+          bound = c.1;
+        },
+        is,
+      )
+
+  pub some_first : (r : Messages M) (empty : Bool) (rs new : List (Messages M)) → empty ≡ (length r == 0) → empty ≡ false → AreSome rs → new ≡ r ∷ rs → AreSome new
+  some_first [] empty rs new e f h l = absurd (true≢false (sym e ∙ f))
+  some_first (m ∷ r) empty rs new e f h l = subst (AreSome {X = List ℕ × M}) (sym l) (omega arith, h)
+
+  -- what is left of older and newer messages may stand behind what is merged, one after the other
+  pub older_behind : (p o n q older newer : Messages M) → p ++ (o ++ n) ≡ with_messages newer older → IsSorted older → q ≡ o → IsSorted (p ++ q)
+  older_behind p o n q older newer e h f =
+      let whole : (p ++ q) ++ n ≡ with_messages newer older = ap (λ z. (p ++ z) ++ n) f ∙ append_assoc p o n ∙ e in
+      sorted_left (p ++ q) n (subst (IsSorted {X = M}) (sym whole) (sorted-with_messages newer older h))
+
+  pub newer_behind : (p o n q t whole older newer : Messages M) → p ++ (o ++ n) ≡ with_messages newer older → IsSorted older → q ≡ o → whole ≡ p ++ q → t ≡ n → IsSorted (whole ++ t)
+  newer_behind p o n q t whole older newer e h f l k =
+      let is : whole ++ t ≡ with_messages newer older = ap (λ z. whole ++ z) k ∙ ap (λ z. z ++ n) (l ∙ ap (λ z. p ++ z) f) ∙ append_assoc p o n ∙ e in
+      subst (IsSorted {X = M}) (sym is) (sorted-with_messages newer older h)

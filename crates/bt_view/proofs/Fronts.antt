@@ -1,0 +1,147 @@
+-- What stands behind the front of a key, and the last of groups. Serves the groups of an index.
+use Rattle.std.proofs.Common.{◌≡◌, ◌∙◌, ◌≤◌, ℕ, Bool, true, false, not, IfSome, ℤ, List, [], ◌∷◌, ◌++◌, Option, Some, None, append_assoc, drop, length, map, option_map, if◌then◌else◌, refl, sym, ap, subst, take}
+use Rattle.std.proofs.lemmas.List.{get_or-append_right, length-map, length-take-le, map-append, take-append-drop, take-append-le, take-map, take_at}
+use Rattle.std.proofs.lemmas.Option.{none-some}
+use Rattle.std.specs.Prelude.{◌+◌, ◌-◌, ◌+ℤ◌, nat_le}
+use Rattle.bt_rowtype.specs.Values.{same_values}
+use Rattle.bt_rowtype.specs.declared.value.Kind.{Kind}
+use Rattle.bt_rowtype.specs.declared.value.Value.{Value}
+use Rattle.bt_rowtype.specs.declared.value.Value.TheVariants as value
+use Rattle.bt_rowtype.proofs.offered.SameValues.{same_values-sound}
+use Rattle.bt_keycode.specs.Codes.{IsCodeOf, code_of, kind_of}
+use Rattle.bt_keycode.specs.Keys.{Key}
+use Rattle.bt_keycode.proofs.offered.Ranges.{take_in_range}
+use Rattle.bt_view.specs.Groups.{group_of, most_rows, number_in, number_of_value, with_more}
+use Rattle.bt_view.specs.inside.Entries.{row_of_entry, values_coded}
+use Rattle.bt_view.specs.inside.Fronts.{IsFront, IsFrontWhereKept, IsLastOf}
+use Rattle.bt_view.specs.inside.Neighbours.{Groups, grouped, groups_then}
+use Rattle.bt_view.specs.declared.groups.Sum.{Sum}
+use Rattle.bt_view.proofs.CodedKeys.{code_of_values, or_values, values_of_code}
+use Rattle.bt_view.proofs.IndexRows.{code-append, in_range-append}
+
+-- ---- codes in two parts
+
+code_in_parts : (first behind : List Kind) (front rest : Key) (values others : List Value) → IsCodeOf first front values → IsCodeOf behind rest others → IsCodeOf (first ++ behind) (front ++ rest) (values ++ others)
+code_in_parts first behind front rest values others a b = record {
+  of_kinds = map-append kind_of values others ∙ ap (λ ks. ks ++ map kind_of others) a.of_kinds ∙ ap (λ ks. first ++ ks) b.of_kinds;
+  in_range = in_range-append values others a.in_range b.in_range;
+  code = code-append values others ∙ ap (λ bytes. bytes ++ code_of others) a.code ∙ ap (λ bytes. front ++ bytes) b.code;
+}
+
+-- the code of the first values
+pub first_code : (n : ℕ) (kinds : List Kind) (key : Key) (values : List Value) → IsCodeOf kinds key values → IsCodeOf (take n kinds) (code_of (take n values)) (take n values)
+first_code n kinds key values is = record {
+  of_kinds = sym (take-map kind_of n values) ∙ ap (take n) is.of_kinds;
+  in_range = take_in_range n values is.in_range;
+  code = refl;
+}
+
+-- the row of an entry is the values of its key, and then the included ones
+pub row_values : (kinds : List Kind) (key : Key) (included row : List Value) → row_of_entry kinds (key, included) ≡ Some row → (values : List Value) × (IsCodeOf kinds key values × (row ≡ values ++ included))
+row_values kinds key included row = of_read (values_coded kinds key) refl
+  where
+    of_read : (read : Option (List Value)) → values_coded kinds key ≡ read → option_map (λ values. values ++ included) read ≡ Some row → (values : List Value) × (IsCodeOf kinds key values × (row ≡ values ++ included))
+    of_read None same is = absurd (none-some row is)
+    of_read (Some values) same is = (values, (code_of_values kinds key values same, sym (ap (or_values row) is)))
+
+module _ (kinds : List Kind) (g : ℕ × ℕ × Groups) (front : Key) (values : List Value) (is : IsFront kinds g front values) where
+  as_many : length values ≡ g.0
+  as_many = sym (length-map values kind_of) ∙ ap length is.code.of_kinds ∙ length-take-le g.0 kinds is.few
+
+  -- the row of an entry whose key begins with a front, by that of what stands behind
+  pub row_behind : (key rest : Key) (included others : List Value) → key ≡ front ++ rest → row_of_entry (drop g.0 kinds) (rest, included) ≡ Some others → row_of_entry kinds (key, included) ≡ Some (values ++ others)
+  row_behind key rest included others begins shows =
+      let read = row_values (drop g.0 kinds) rest included others shows in
+      let both : IsCodeOf (take g.0 kinds ++ drop g.0 kinds) (front ++ rest) (values ++ read.0) = code_in_parts (take g.0 kinds) (drop g.0 kinds) front rest values read.0 is.code read.1.0 in
+      let whole : IsCodeOf kinds key (values ++ read.0) = subst (λ k. IsCodeOf kinds k (values ++ read.0)) (sym begins) (subst (λ ks. IsCodeOf ks (front ++ rest) (values ++ read.0)) (take-append-drop g.0 kinds) both) in
+      ap (option_map (λ all. all ++ included)) (values_of_code kinds key (values ++ read.0) whole)
+      ∙ ap Some (append_assoc values read.0 included ∙ ap (λ row. values ++ row) (sym read.1.1))
+
+  -- that row is of the last group
+  pub last_behind : (others : List Value) → IsLastOf (take g.0 (values ++ others)) g.2
+  last_behind others = subst (λ vs. IsLastOf vs g.2) (sym (take_at values others g.0 as_many)) is.last
+
+  -- and its number stands behind the front
+  pub number_behind : (others : List Value) → number_in (values ++ others) g.1 ≡ number_in others (g.1 - g.0)
+  number_behind others = ap number_of_value (get_or-append_right values others g.0 g.1 (value.Flag false) as_many is.behind)
+
+-- ---- the last of groups
+
+in_front : (s : Sum) (values : List Value) (groups : Groups) → IsLastOf values groups → IsLastOf values (option_map (λ sums. s ∷ sums) groups)
+in_front s values None last = tt
+in_front s values (Some sums) last = (s ∷ last.0, last.1, (ap (λ all. s ∷ all) last.2.0, last.2.1))
+
+last_then : (sums : List Sum) (own : Sum) → IsLastOf own.group (groups_then sums (own ∷ []))
+last_then [] own = ([], own, (refl, refl))
+last_then (s ∷ []) own = by_test (same_values s.group own.group) refl
+  where
+    by_test : (same : Bool) → same_values s.group own.group ≡ same → IsLastOf own.group (if same then option_map (λ both. both ∷ []) (with_more s own.count own.total) else Some (s ∷ own ∷ []))
+    by_test true test = by_fit (nat_le (s.count + own.count) most_rows)
+      where
+        by_fit : (fits : Bool) → IsLastOf own.group (option_map (λ both. both ∷ []) (if fits then Some (record s { count = s.count + own.count; total = s.total +ℤ own.total }) else None))
+        by_fit true = ([], record s { count = s.count + own.count; total = s.total +ℤ own.total }, (refl, same_values-sound s.group own.group test))
+        by_fit false = tt
+    by_test false test = (s ∷ [], own, (refl, refl))
+last_then (s ∷ r ∷ sums) own = in_front s own.group (groups_then (r ∷ sums) (own ∷ [])) (last_then (r ∷ sums) own)
+
+-- a row that was added is of the last group
+pub last_grouped : (columns place : ℕ) (groups : Groups) (row : List Value) → IsLastOf (take columns row) (grouped columns place groups row)
+last_grouped columns place None row = tt
+last_grouped columns place (Some sums) row = last_then sums (group_of columns place row)
+
+-- the last of a list, or this where there is none
+abbrev last_or : Sum → List Sum → Sum
+last_or sum [] = sum
+last_or sum (s ∷ sums) = last_or s sums
+
+last_or-append : (d : Sum) (before : List Sum) (last : Sum) → last_or d (before ++ last ∷ []) ≡ last
+last_or-append d [] last = refl
+last_or-append d (s ∷ before) last = last_or-append s before last
+
+-- a list has one last
+pub same_last : (sums before : List Sum) (last : Sum) (values : List Value) → sums ≡ before ++ last ∷ [] → IsLastOf values (Some sums) → last.group ≡ values
+same_last sums before last values begin is =
+    ap (λ (s : Sum). s.group) (sym (last_or-append last before last) ∙ ap (last_or last) (sym begin ∙ is.2.0) ∙ last_or-append last is.0 is.1) ∙ is.2.1
+
+-- the values of the last of groups are these alone
+one_last : (sums : List Sum) (values others : List Value) → IsLastOf values (Some sums) → IsLastOf others (Some sums) → values ≡ others
+one_last sums values others is also = sym is.2.1 ∙ same_last sums is.0 is.1 others is.2.0 also
+
+-- a front stays that of the last group, where a row is added to it
+pub kept_front : (kinds : List Kind) (g : ℕ × ℕ × Groups) (row : List Value) (front : Option Key) → IsLastOf (take g.0 row) g.2 → IsFrontWhereKept kinds g front → IsFrontWhereKept kinds (g.0, g.1, grouped g.0 g.1 g.2 row) front
+kept_front kinds g row None last is = tt
+kept_front kinds g row (Some front) last is = by_groups g.2 last is.1.last
+  where
+    by_groups : (groups : Groups) → IsLastOf (take g.0 row) groups → IsLastOf is.0 groups → (values : List Value) × IsFront kinds (g.0, g.1, grouped g.0 g.1 groups row) front values
+    by_groups None own kept = (is.0, record { few = is.1.few; behind = is.1.behind; code = is.1.code; last = tt })
+    by_groups (Some sums) own kept =
+        (take g.0 row, record { few = is.1.few; behind = is.1.behind; code = subst (IsCodeOf (take g.0 kinds) front) (one_last sums is.0 (take g.0 row) kept own) is.1.code; last = last_grouped g.0 g.1 (Some sums) row })
+
+-- the code of the first values of a row that was added is the front of the last group
+pub new_front : (kinds : List Kind) (g : ℕ × ℕ × Groups) (key : Key) (included row : List Value) (front : Option Key) → row_of_entry kinds (key, included) ≡ Some row
+    → IfSome front (λ _. g.0 ≤ length kinds) → IfSome front (λ _. g.0 ≤ g.1) → IfSome front (λ front. front ≡ code_of (take g.0 row)) → IsFrontWhereKept kinds (g.0, g.1, grouped g.0 g.1 g.2 row) front
+new_front kinds g key included row None shows few behind code = tt
+new_front kinds g key included row (Some front) shows few behind code =
+    let read = row_values kinds key included row shows in
+    let long : length read.0 ≡ length kinds = sym (length-map read.0 kind_of) ∙ ap length read.1.0.of_kinds in
+    let first : take g.0 row ≡ take g.0 read.0 = ap (take g.0) read.1.1 ∙ take-append-le g.0 read.0 included (subst (λ n. g.0 ≤ n) (sym long) few) in
+    let own : IsCodeOf (take g.0 kinds) (code_of (take g.0 row)) (take g.0 row) = subst (λ vs. IsCodeOf (take g.0 kinds) (code_of vs) vs) (sym first) (first_code g.0 kinds key read.0 read.1.0) in
+    (take g.0 row, record { few = few; behind = behind; code = subst (λ bytes. IsCodeOf (take g.0 kinds) bytes (take g.0 row)) (sym code) own; last = last_grouped g.0 g.1 g.2 row })
+
+-- groups to whose last a row is counted are groups with that row
+module _ (columns place : ℕ) (sums after : List Sum) (number : ℤ) (fits : Bool)
+    (counts : (values : List Value) → IsLastOf values (Some sums) → groups_then sums (record { group = values; count = 1; total = number } ∷ []) ≡ (if fits then Some after else None)) where
+  answers : (fits : Bool) → ◌≡◌ {A = Groups} (if not fits then None else Some after) (if fits then Some after else None)
+  answers true = refl
+  answers false = refl
+
+  abbrev IsCounted : ℕ × ℕ × Groups → Type 0
+  IsCounted now = (row : List Value) → IsLastOf (take now.0 row) now.2 → number_in row now.1 ≡ number → ◌≡◌ {A = ℕ × ℕ × Groups} (columns, place, if not fits then None else Some after) (now.0, now.1, grouped now.0 now.1 now.2 row)
+
+  counted_here : IsCounted (columns, place, Some sums)
+  counted_here row last is =
+      ap (λ (groups : Groups). (columns, place, groups))
+      (answers fits ∙ sym (counts (take columns row) last) ∙ ap (λ (n : ℤ). groups_then sums (record { group = take columns row; count = 1; total = n } ∷ [])) (sym is))
+
+  pub counted_row : (over : Bool) (now : ℕ × ℕ × Groups) → ◌≡◌ {A = ℕ × ℕ × Groups} now (columns, place, if over then None else Some sums) → over ≡ false → IsCounted now
+  counted_row over now is false_is = subst IsCounted (sym (is ∙ ap (λ (b : Bool). (columns, place, if b then None else Some sums)) false_is)) counted_here

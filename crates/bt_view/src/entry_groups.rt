@@ -1,0 +1,159 @@
+//! Groups of the rows that entries of an index show.
+//!
+//! The code of a group's columns is the front of the key of each of its entries. So an entry whose key begins with the front of the last group is of that
+//! group, and only what stands behind the front is decoded.
+ghost use Rattle.std.specs.Prelude.{◌≡◌, ◌≢◌, ◌≤◌, ◌++◌, [], IfOk, IfSome, List, MatchOption, Some, drop, length, take, ℕ};
+ghost use Rattle.bt_keycode.specs.Codes.{code_of};
+ghost use Rattle.bt_rowtype.specs.declared.value.Value.{Value as value};
+ghost use Rattle.bt_view.specs.Groups.{number_in};
+ghost use Rattle.bt_view.specs.inside.Entries.{after_entry, row_of_entry};
+ghost use Rattle.bt_view.specs.inside.EntryParts.{entries_as_one};
+ghost use Rattle.bt_view.specs.inside.Fronts.{IsLastOf};
+ghost use Rattle.bt_view.specs.inside.GroupParts.{groups_as_one};
+ghost use Rattle.bt_view.specs.inside.Neighbours.{joined_with, with_row};
+
+use crate::entry_rows::row_of_entry;
+use crate::groups::{Grouping, number_in};
+use bt_keycode::{Key, encode_row};
+use bt_messages::Entry;
+use bt_node::{ForkVisitor, Visitor};
+use bt_rowtype::{Kind, Row};
+use std::alloc::{AllocError, Global};
+use std::marker::Model;
+
+/// Entries of an index that are grouped as they come, by the kinds of the columns of the index's key. A contract sees the kinds and the groups.
+#[derive(Drop)]
+pub(crate) struct EntryGroups<'a> {
+    kinds: &'a [Kind],
+    groups: Grouping,
+    // the front of the keys of the last group, where it serves
+    front: Option<Key>,
+}
+
+impl<'a> Model for EntryGroups<'a> {
+    ghost use Rattle.std.specs.Prelude.{List, ℕ};
+    ghost use Rattle.bt_rowtype.specs.declared.value.Kind.{Kind as kind};
+    ghost use Rattle.bt_view.specs.inside.Fronts.{IsFrontWhereKept};
+    ghost use Rattle.bt_view.specs.inside.Neighbours.{Groups};
+
+    ghost Value = { List kind × (ℕ × ℕ × Groups) };
+
+    ghost view = { λ e. (e.kinds.now, e.groups) };
+
+    ghost invariant = { λ e. IsFrontWhereKept e.kinds.now e.groups e.front };
+}
+
+// What stands behind the front of a key.
+fn behind_front<'k>(front: &Key, key: &'k Key) -> Option<&'k [u8]>
+    ensures { MatchOption result ((rest : List ℕ) → key.now ≢ front.now ++ rest) (λ rest. key.now ≡ front.now ++ rest.now) }
+{
+    key.as_slice().strip_prefix(front.as_slice())
+}
+
+// The kinds behind so many of the first columns.
+fn behind_columns(kinds: &[Kind], columns: usize) -> &[Kind]
+    requires { columns ≤ length kinds.now }
+    ensures { result.now ≡ drop columns kinds.now }
+{
+    &kinds[columns..]
+}
+
+// The front of the keys of a row's group. It serves where keys have more columns than a group, so that others may be of it, and where the column that is
+// summed stands behind those of a group.
+fn front_of(
+    alloc: Global,
+    kinds: &[Kind],
+    groups: &Grouping,
+    row: &Row,
+) -> Result<Option<Key>, AllocError>
+    ensures few { IfOk result (λ front. IfSome front (λ _. groups.now.0 ≤ length kinds.now)) }
+    ensures behind { IfOk result (λ front. IfSome front (λ _. groups.now.0 ≤ groups.now.1)) }
+    ensures code { IfOk result (λ front. IfSome front (λ front. front ≡ code_of (take groups.now.0 row.now))) }
+{
+    let columns = groups.columns();
+    if columns < kinds.len() && columns <= groups.place() {
+        Ok(Some(encode_row(alloc, row, columns)?))
+    } else {
+        Ok(None)
+    }
+}
+
+impl<'a> EntryGroups<'a> {
+    /// Groups to which entries will be added, by the kinds of the columns of their keys.
+    pub(crate) fn new(kinds: &'a [Kind], groups: Grouping) -> Self
+        ensures { result ≡ (kinds.now, groups) }
+    {
+        EntryGroups {
+            kinds,
+            groups,
+            front: None,
+        }
+    }
+
+    /// The groups.
+    pub(crate) fn into_groups(self) -> Grouping
+        ensures { result ≡ self.entry.1 }
+    {
+        let EntryGroups { groups, .. } = self;
+        groups
+    }
+
+    // The number that is summed of an entry whose key has the front of the last group.
+    fn number_in_last(
+        &self,
+        alloc: Global,
+        key: &Key,
+        entry: &Entry,
+    ) -> Result<Option<i64>, AllocError>
+        ensures { IfOk result (λ number. IfSome number (λ number. (row : List value) × ((row_of_entry self.now.0 (key.now, entry.now) ≡ Some row) × IsLastOf (take self.now.1.0 row) self.now.1.2 × (number_in row self.now.1.1 ≡ number)))) }
+    {
+        let Some(front) = &self.front else {
+            return Ok(None);
+        };
+        let Some(rest) = behind_front(front, key) else {
+            return Ok(None);
+        };
+        let columns = self.groups.columns();
+        let kinds = behind_columns(self.kinds, columns);
+        match row_of_entry(alloc, kinds, rest, entry)? {
+            Some(row) => Ok(Some(number_in(&row, self.groups.place() - columns))),
+            None => Ok(None),
+        }
+    }
+}
+
+impl<'a> Visitor<Entry> for EntryGroups<'a> {
+    ghost visited = { after_entry with_row };
+
+    fn visit(&mut self, alloc: Global, key: &Key, entry: &Entry) -> Result<(), AllocError> {
+        if let Some(number) = self.number_in_last(alloc, key, entry)? {
+            self.groups.add_to_last(number);
+            return Ok(());
+        }
+        let Some(row) = row_of_entry(alloc, self.kinds, key.as_slice(), entry)? else {
+            return Ok(());
+        };
+        self.front = None;
+        self.groups.visit(alloc, key, &row)?;
+        self.front = front_of(alloc, self.kinds, &self.groups, &row)?;
+        Ok(())
+    }
+}
+
+impl<'a> ForkVisitor<Entry> for EntryGroups<'a> {
+    ghost forked = { λ e. (e.0, (e.1.0, e.1.1, Some [])) };
+
+    ghost joined = { λ e behind. (e.0, joined_with e.1 behind.1) };
+
+    fn fork(&self, alloc: Global) -> Self {
+        EntryGroups::new(self.kinds, self.groups.fork(alloc))
+    }
+
+    fn join(&mut self, alloc: Global, behind: Self) -> Result<(), AllocError> {
+        let EntryGroups { groups, .. } = behind;
+        self.front = None;
+        self.groups.join(alloc, groups)
+    }
+
+    ghost as_one = { λ e entries behind. entries_as_one with_row (λ g. (g.0, g.1, Some [])) joined_with groups_as_one e entries behind };
+}
