@@ -4,7 +4,7 @@
 
 Four kinds, in fixed shares: commands of the whole language over small trees, most of them valid; deep trees of few commands
 with many rows; both of these and the stored scripts of this repository with bytes and lines changed; and noise. The stored
-scripts are those of crates/replay/data and of examples, so the changed ones depend on these.
+scripts are those of crates/test_scripts/data and of examples, so the changed ones depend on these.
 """
 
 import random
@@ -13,7 +13,7 @@ from functools import cache
 from pathlib import Path
 
 TOP = Path(__file__).resolve().parents[2]
-STORED_FOLDERS = ["crates/replay/data", "examples"]
+STORED_FOLDERS = ["crates/test_scripts/data", "examples"]
 LARGEST_CHANGED = 6_000
 MOST_INDEXES = 16
 

@@ -14,7 +14,7 @@ from pathlib import Path
 
 from common import expect, expect_within, SECONDS, TOP
 
-WORKED = TOP / "crates/replay/data"
+WORKED = TOP / "crates/test_scripts/data"
 HERE = Path(__file__).resolve().parent
 RUST_EXAMPLE = TOP / "clients/rust/example.rs"
 TEXTS = ["", "Oslo", "Bergen, west", '"', 'a"b', " ", " x ", ".", "\ufeff", "\ufeffx", "end", "æøå", "a,b,", '","', "\0", "go", "refused 1 Syntax"]

@@ -151,7 +151,7 @@ def functions_stand_in_the_files_that_are_named_behind_them():
     for page in PAGES:
         for name, crate, file in re.findall(r"`([\w:]+)`\s\((?:(bt_\w+),\s)?(\w+\.rt)\)", prose_of(page)):
             word = re.compile(rf"\b{name.split('::')[-1]}\b")
-            files = list(TOP.glob(f"crates/{crate or '*'}/src/{file}"))
+            files = list(TOP.glob(f"crates/{crate or '*'}/src/**/{file}"))
             found += 1
             faults += [f"{page}: {name} ({file})"] if not any(word.search(path.read_text()) for path in files) else []
     expect((faults, found > 40), ([], True))

@@ -1,5 +1,5 @@
 -- The refusals of lines one behind the other, and what lines spell one behind the other.
-use Rattle.std.proofs.Common.{ℕ, zero, suc, List, [], ◌∷◌, ◌++◌, ◌+◌, ◌≤◌, ◌<◌, ◌≡◌, true, false, drop, take, length, get_or, refl, sym, ap, ◌∙◌, arith, Option, Some, None, unwrap_or, if◌then◌else◌}
+use Rattle.std.proofs.Common.{ℕ, zero, suc, List, [], ◌∷◌, ◌++◌, ◌+◌, ◌<◌, ◌≡◌, true, false, drop, length, get_or, refl, sym, ap, ◌∙◌, arith, Option, Some, None, unwrap_or, if◌then◌else◌}
 use Rattle.std.proofs.lemmas.Bool.Decides.{nat_tests}
 use Rattle.std.proofs.lemmas.List.{drop_more}
 use Rattle.std.proofs.lemmas.Option.{none-some}
@@ -59,13 +59,11 @@ none_at_all (x ∷ xs) e = absurd (still_found x xs e)
 
 -- ---- lines one behind the other
 
-pub read_batch-append : (schema : Schema) (item count : ℕ) (lines : List Item) → count ≤ length lines →
-    read_batch schema item (take count lines) ++ read_batch schema (item + count) (drop count lines) ≡ read_batch schema item lines
-read_batch-append schema item zero lines few = ap (λ i. read_batch schema i lines) (omega arith)
-read_batch-append schema item (suc count) [] few = absurd (omega (arith, few))
-read_batch-append schema item (suc count) (line ∷ lines) few =
-    ap (λ i. read_message schema item line ∷ (read_batch schema (item + 1) (take count lines) ++ read_batch schema i (drop count lines))) (omega arith)
-    ∙ ap (λ reads. read_message schema item line ∷ reads) (read_batch-append schema (item + 1) count lines (omega (arith, few)))
+pub read_batch-append : (schema : Schema) (item : ℕ) (lines more : List Item) → read_batch schema item (lines ++ more) ≡ read_batch schema item lines ++ read_batch schema (item + length lines) more
+read_batch-append schema item [] more = ap (λ i. read_batch schema i more) (omega arith)
+read_batch-append schema item (line ∷ lines) more =
+    ap (λ reads. read_message schema item line ∷ reads)
+    (read_batch-append schema (item + 1) lines more ∙ ap (λ i. read_batch schema (item + 1) lines ++ read_batch schema i more) (omega arith))
 
 -- the lines from a place on are the one there, and those behind it
 pub read_next : (schema : Schema) (before place : ℕ) (lines : List Item) (d : Item) → place < length lines →

@@ -2,10 +2,11 @@
 use Rattle.std.specs.Prelude.{ℕ, ◌+◌, nat_lt, Bool, List, [], ◌∷◌, ◌++◌, length, take, Result, Ok, Err, if◌then◌else◌}
 use Rattle.std.specs.List.{filter_map}
 use Rattle.std.specs.Result.{result_err, result_ok}
+use Rattle.bt_batch.specs.declared.line_messages.TheConstants.{MOST_MESSAGES}
 use Rattle.bt_rowtype.specs.Ops.{Change, default_row, upsert_as}
 use Rattle.bt_rowtype.specs.Schemas.{Schema}
 use Rattle.bt_rowtype.specs.Values.{read_as}
-use Rattle.bt_rowtype.specs.declared.op.Op.{Op}
+use Rattle.bt_rowtype.specs.declared.upsert.op.Op.{Op}
 use Rattle.bt_rowtype.specs.declared.refusal.Refusal.{Refusal}
 use Rattle.bt_rowtype.specs.declared.refusal.Refusal.TheVariants.{TooMany}
 use Rattle.bt_rowtype.specs.declared.value.Value.{Value}
@@ -70,4 +71,4 @@ one_if applies refusal = if applies then refusal ∷ [] else []
 
 -- the refusals that apply to a batch: those of its records, and that of too many
 abbrev pub batch_refusals : Schema → List Item → List Refusal
-batch_refusals schema items = filter_map result_err (read_batch schema 1 items) ++ one_if (nat_lt 65536 (length items)) TooMany
+batch_refusals schema items = filter_map result_err (read_batch schema 1 items) ++ one_if (nat_lt MOST_MESSAGES (length items)) TooMany

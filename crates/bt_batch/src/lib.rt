@@ -17,10 +17,10 @@
 //! `specs` has the definitions: `Batches` which messages records spell, and why they are refused.
 #![tactic(auto)]
 
-mod batch;
+mod batch_packet;
+mod line_messages;
 mod merging;
-mod pieces;
 
-pub use batch::MOST_MESSAGES;
+pub use batch_packet::{read_packet, read_packet_alone};
+pub use line_messages::MOST_MESSAGES;
 pub use merging::merged;
-pub use pieces::{read_packet, read_packet_alone};

@@ -9,26 +9,16 @@ use Rattle.bt_messages.specs.Effects.{Rows, effect_of, rows_after}
 use Rattle.bt_keycode.specs.Keys.{is_before, key_cmp}
 use Rattle.bt_messages.specs.Messages.{sorted_batch}
 use Rattle.bt_keycode.proofs.offered.Order.{apart as apart_keys, before_chain, neither_before, not_after, not_before_itself, same_key}
+use Rattle.bt_node.proofs.offered.Truths.{t_both, t_first, t_second, t_true, true_t}
 use Rattle.bt_messages.proofs.offered.Rows.{rows_after-sorted_batch}
 use Rattle.bt_fanout.specs.Covers.{cover_after, is_covered, last_key, moved_to, next_rows, put_of_entry, puts_of}
 use Rattle.bt_fanout.specs.Selections.{AllStand, AreApart, between, covered, entry_in, keys_of, select, sent}
 use Rattle.bt_fanout.specs.declared.cover.Cover.{Cover}
 use Rattle.bt_fanout.specs.declared.cover.Cover.TheVariants.{Nothing, UpTo, Whole}
 use Rattle.bt_fanout.proofs.Batches.{find-covered, stand-covered}
-use Rattle.bt_fanout.proofs.Lookups.{equal_itself, find_below, sorted-select, t_first, t_second}
+use Rattle.bt_fanout.proofs.Lookups.{equal_itself, find_below, sorted-select}
 use Rattle.bt_fanout.proofs.Owners.{owner}
 use Rattle.bt_fanout.proofs.Sendings.{sends, turned}
-
-t_both : (a b : Bool) → T a → T b → T (a && b)
-t_both true b p q = q
-t_both false b p q = p
-
-pub true_t : (b : Bool) → T b → b ≡ true
-true_t true h = refl
-true_t false h = absurd h
-
-t_true : (b : Bool) → b ≡ true → T b
-t_true b e = subst T (sym e) tt
 
 module _ {X : Type 0} where
   below_less : (j k : List ℕ) (rows : Rows X) → is_before j k ≡ true → T (below_all key_cmp k rows) → T (below_all key_cmp j rows)

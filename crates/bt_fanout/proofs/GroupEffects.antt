@@ -11,14 +11,14 @@ use Rattle.bt_keycode.proofs.offered.Order.{not_after, not_before_itself}
 use Rattle.bt_messages.specs.Effects.{Rows}
 use Rattle.bt_messages.specs.Messages.{Messages}
 use Rattle.bt_node.specs.Parts.{AreRising}
+use Rattle.bt_node.proofs.offered.Truths.{t_first, t_second, true_t}
 use Rattle.bt_fanout.specs.Covers.{is_covered}
 use Rattle.bt_fanout.specs.Effects.{RowMessage, effects_at, effects_within, row_effect}
 use Rattle.bt_fanout.specs.Selections.{named}
 use Rattle.bt_fanout.specs.declared.cover.Cover.{Cover}
 use Rattle.bt_fanout.specs.declared.effect.Effect.{Effect}
 use Rattle.bt_fanout.specs.inside.Groups.{behind_group, effects_in, group_count, groups_within, value_after_first}
-use Rattle.bt_fanout.proofs.Groups.{after-count, drop-count, effects-group, length-behind, none_within, past-named, same_found, sorted-behind, true_t, uncovered_from, value_of_group, within-group}
-use Rattle.bt_fanout.proofs.Lookups.{t_first, t_second}
+use Rattle.bt_fanout.proofs.Groups.{after-count, drop-count, effects-group, length-behind, none_within, past-named, same_found, sorted-behind, uncovered_from, value_of_group, within-group}
 use Rattle.bt_fanout.proofs.offered.Packets.{sorted-named}
 
 module _ (cover : Cover) where

@@ -14,15 +14,16 @@ use Rattle.bt_messages.specs.Effects.{Rows, rows_after, value_after}
 use Rattle.bt_keycode.specs.Keys.{AllFrom, IsSorted, is_before, key_cmp}
 use Rattle.bt_messages.specs.Messages.{Messages}
 use Rattle.bt_keycode.proofs.offered.Order.{apart as apart_keys, before_later, neither_before, not_before_itself, same_key, total_keys}
+use Rattle.bt_node.proofs.offered.Truths.{t_first, t_second, true_t}
 use Rattle.bt_messages.proofs.offered.Rows.{find-rows_after, value_before}
 use Rattle.bt_fanout.specs.Covers.{is_covered}
 use Rattle.bt_fanout.specs.Effects.{RowMessage, effects_at, effects_of, row_effect}
-use Rattle.bt_fanout.specs.inside.Groups.{behind_group, group_count, groups, groups_within, value_after_first, with_first}
+use Rattle.bt_fanout.specs.inside.Groups.{behind_group, group_count, groups, groups_within, value_after_first, with_key}
 use Rattle.bt_fanout.specs.Selections.{named}
 use Rattle.bt_fanout.specs.declared.cover.Cover.{Cover}
 use Rattle.bt_fanout.specs.declared.cover.Cover.TheVariants.{Nothing, UpTo, Whole}
 use Rattle.bt_fanout.specs.declared.effect.Effect.{Effect}
-use Rattle.bt_fanout.proofs.Lookups.{equal_itself, t_first, t_second}
+use Rattle.bt_fanout.proofs.Lookups.{equal_itself}
 use Rattle.bt_fanout.proofs.offered.Packets.{sorted-named}
 use Rattle.bt_fanout.proofs.Sendings.{turned}
 
@@ -30,10 +31,6 @@ is_less : (o : Ordering) → is_lt o ≡ true → o ≡ Less
 is_less Less e = refl
 is_less Equal e = absurd (true≢false (sym e))
 is_less Greater e = absurd (true≢false (sym e))
-
-pub true_t : (b : Bool) → T b → b ≡ true
-true_t true h = refl
-true_t false h = absurd h
 
 -- a key before another one, by the two tests that say so
 goes_before : (j k : List ℕ) → eq_by_cmp key_cmp j k ≡ false → is_before k j ≡ false → is_before j k ≡ true
@@ -157,7 +154,7 @@ module _ (cover : Cover) where
   abbrev within : List (List ℕ × ℕ) → List (List ℕ × ℕ)
   within gs = filter (λ g. is_covered cover g.0) gs
 
-  none_first : (k : List ℕ) (gs : List (List ℕ × ℕ)) → is_covered cover k ≡ false → within gs ≡ [] → within (with_first k gs) ≡ []
+  none_first : (k : List ℕ) (gs : List (List ℕ × ℕ)) → is_covered cover k ≡ false → within gs ≡ [] → within (with_key k gs) ≡ []
   none_first k [] none e = ap (λ b. cond b ((k, 0) ∷ []) []) none
   none_first k (g ∷ gs) none e = elim (eq_by_cmp key_cmp k g.0) as (λ b. within (if b then (k, suc g.1) ∷ gs else (k, 0) ∷ g ∷ gs) ≡ []) [
     | true ↦ ap (λ b. cond b ((k, suc g.1) ∷ within gs) (within gs)) none ∙ others_none (is_covered cover g.0) g (within gs) e
@@ -169,7 +166,7 @@ module _ (cover : Cover) where
   none_within k [] from none = refl
   none_within k (m ∷ ms) from none = none_first m.0 (groups ms) (uncovered_from cover k m.0 from.0 none) (none_within k ms from.1 none)
 
-  pub none_covered : {M : Type 0} (m : List ℕ × M) (ms left : Messages M) → left ≡ m ∷ ms → IsSorted left → is_covered cover m.0 ≡ false → groups_within cover left ≡ []
+  none_covered : {M : Type 0} (m : List ℕ × M) (ms left : Messages M) → left ≡ m ∷ ms → IsSorted left → is_covered cover m.0 ≡ false → groups_within cover left ≡ []
   none_covered m ms left is sorted none =
       ap (groups_within cover) is ∙ none_within m.0 (m ∷ ms) (not_before_itself m.0, (subst IsSorted is sorted).0) none
 
@@ -180,7 +177,7 @@ module _ {M : Type 0} where
   groups-group : (m : List ℕ × M) (ms : Messages M) → groups (m ∷ ms) ≡ (m.0, group_count m.0 ms) ∷ groups (behind_group m.0 ms)
   groups-group m [] = refl
   groups-group m (n ∷ ms) =
-      ap (with_first m.0) (groups-group n ms) ∙ elim (eq_by_cmp key_cmp m.0 n.0) as (λ b. eq_by_cmp key_cmp m.0 n.0 ≡ b →
+      ap (with_key m.0) (groups-group n ms) ∙ elim (eq_by_cmp key_cmp m.0 n.0) as (λ b. eq_by_cmp key_cmp m.0 n.0 ≡ b →
       (if b then (m.0, suc (group_count n.0 ms)) ∷ groups (behind_group n.0 ms) else (m.0, 0) ∷ (n.0, group_count n.0 ms) ∷ groups (behind_group n.0 ms))
       ≡ (m.0, if b then suc (group_count m.0 ms) else 0) ∷ groups (if b then behind_group m.0 ms else n ∷ ms)) [
         | true ↦ λ b. ap (λ k. (m.0, suc (group_count k ms)) ∷ groups (behind_group k ms)) (sym (same_key m.0 n.0 b))
@@ -224,8 +221,13 @@ moved : {A : Type 0} (whole old new rest : List A) (x : A) → whole ≡ old ++ 
 moved whole old new rest x is more = is ∙ sym (append_assoc old (x ∷ []) rest) ∙ ap (λ xs. xs ++ rest) (sym more)
 
 -- none are left
-pub none_left : {A B : Type 0} (f : A → B) (whole old : List B) (left : List A) → left ≡ [] → whole ≡ old ++ map f left → old ≡ whole
+none_left : {A B : Type 0} (f : A → B) (whole old : List B) (left : List A) → left ≡ [] → whole ≡ old ++ map f left → old ≡ whole
 none_left f whole old left none is = sym (is ∙ ap (λ xs. old ++ map f xs) none ∙ append-nil old)
+
+-- and where the next key isn't covered
+pub none_left_covered : {M B : Type 0} (f : List ℕ × ℕ → B) (cover : Cover) (m : List ℕ × M) (ms left : Messages M) (whole old : List B) → left ≡ m ∷ ms → IsSorted left → is_covered cover m.0 ≡ false →
+    whole ≡ old ++ map f (groups_within cover left) → old ≡ whole
+none_left_covered f cover m ms left whole old is sorted none are = none_left f whole old (groups_within cover left) (none_covered cover m ms left is sorted none) are
 
 -- one key more, and how many messages it has behind its first one
 pub one_key : {M K : Type 0} (seen : K → List ℕ) (cover : Cover) (m : List ℕ × M) (ms left later : Messages M) (key : K) (count : ℕ) (keys new_keys : List K) (others new_others : List ℕ)

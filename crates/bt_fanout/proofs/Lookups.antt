@@ -9,15 +9,8 @@ use Rattle.std.specs.declared.cmp.Ordering.TheVariants.{Less, Equal, Greater}
 use Rattle.bt_messages.specs.Effects.{Rows}
 use Rattle.bt_keycode.specs.Keys.{key_cmp}
 use Rattle.bt_keycode.proofs.offered.Order.{same_key, total_keys}
+use Rattle.bt_node.proofs.offered.Truths.{t_first, t_second}
 use Rattle.bt_fanout.specs.Selections.{entry_in, select, with_entry}
-
-pub t_first : (a b : Bool) → T (a && b) → T a
-t_first true b p = tt
-t_first false b p = p
-
-pub t_second : (a b : Bool) → T (a && b) → T b
-t_second true b p = p
-t_second false b p = absurd p
 
 less_is_not_equal : (o : Ordering) → T (is_lt o) → is_eq o ≡ false
 less_is_not_equal Less p = refl

@@ -11,7 +11,7 @@ use Rattle.bt_messages.specs.Effects.{Rows}
 use Rattle.bt_fanout.specs.Covers.{cover_after, is_covered, last_key, next_cover, next_rows, put_of_entry}
 use Rattle.bt_fanout.specs.Entries.{Definition, HasPlace, IsWithin, has_place, is_within, own_entry}
 use Rattle.bt_fanout.specs.Promises.{own_puts}
-use Rattle.bt_fanout.specs.inside.Readings.{RowsRead, and_row, cover_behind, entry_within, moved_by, none_read, with_row}
+use Rattle.bt_fanout.specs.inside.Readings.{RowsRead, builder_after_row, cover_behind, entry_within, moved_by, none_read, after_row}
 use Rattle.bt_fanout.specs.Selections.{covered}
 use Rattle.bt_fanout.specs.declared.cover.Cover.{Cover}
 use Rattle.bt_fanout.specs.declared.cover.Cover.TheVariants.{UpTo, Whole}
@@ -74,27 +74,27 @@ module _ (def : Definition) where
   entry_is : (row : List Value) → IsWithin def (length row) → entry_within def row ≡ own_entry def (Some row)
   entry_is row h = ap (λ b. if b then own_entry def (Some row) else None) (within_true def (length row) h)
 
-  messages_read : (read : RowsRead) (rows : Rows (List Value)) → All HasPlaces rows → (fold (with_row def) read rows).messages ≡ read.messages ++ own_puts def rows
+  messages_read : (read : RowsRead) (rows : Rows (List Value)) → All HasPlaces rows → (fold (after_row def) read rows).messages ≡ read.messages ++ own_puts def rows
   messages_read read [] h = sym (append-nil read.messages)
   messages_read read (r ∷ rows) h =
-      messages_read (with_row def read r) rows (All-tail HasPlaces r rows h)
+      messages_read (after_row def read r) rows (All-tail HasPlaces r rows h)
       ∙ append_assoc read.messages (put_of_entry (entry_within def r.1)) (own_puts def rows)
       ∙ ap (λ e. read.messages ++ (put_of_entry e ++ own_puts def rows)) (entry_is r.1 (All-head HasPlaces r rows h))
 
-  left_read : (read : RowsRead) (rows : Rows (List Value)) → (fold (with_row def) read rows).left ≡ read.left - length rows
+  left_read : (read : RowsRead) (rows : Rows (List Value)) → (fold (after_row def) read rows).left ≡ read.left - length rows
   left_read read [] = omega arith
-  left_read read (r ∷ rows) = left_read (with_row def read r) rows ∙ omega arith
+  left_read read (r ∷ rows) = left_read (after_row def read r) rows ∙ omega arith
 
-  last_read : (read : RowsRead) (r : List ℕ × List Value) (rows : Rows (List Value)) → read.left ≡ suc (length rows) → (fold (with_row def) read (r ∷ rows)).last ≡ Some (last_key r.0 rows)
+  last_read : (read : RowsRead) (r : List ℕ × List Value) (rows : Rows (List Value)) → read.left ≡ suc (length rows) → (fold (after_row def) read (r ∷ rows)).last ≡ Some (last_key r.0 rows)
   last_read read r [] h = ap (λ n. if n == 1 then Some r.0 else read.last) h
-  last_read read r (s ∷ rows) h = last_read (with_row def read r) s rows (omega (arith, h))
+  last_read read r (s ∷ rows) h = last_read (after_row def read r) s rows (omega (arith, h))
 
   -- the cover behind rows
   cover_read : (count : ℕ) (cover : Cover) (rows : Rows (List Value)) → length rows ≤ count →
-      cover_behind cover (fold (with_row def) (none_read count) rows).left (fold (with_row def) (none_read count) rows).last ≡ next_cover count cover rows
+      cover_behind cover (fold (after_row def) (none_read count) rows).left (fold (after_row def) (none_read count) rows).last ≡ next_cover count cover rows
   cover_read count cover [] h = refl
   cover_read count cover (r ∷ rows) h =
-      let read = fold (with_row def) (none_read count) (r ∷ rows) in
+      let read = fold (after_row def) (none_read count) (r ∷ rows) in
       let left : read.left ≡ count - suc (length rows) = left_read (none_read count) (r ∷ rows) in
       elim (nat_lt (suc (length rows)) count) as (λ b. nat_lt (suc (length rows)) count ≡ b → cover_behind cover read.left read.last ≡ (if b then Whole else UpTo (last_key r.0 rows))) [
         | true ↦ λ b. let more : nat_lt 0 read.left ≡ true = grind (arith, nat_tests, b, left) in ap (λ t. if t then Whole else moved_by cover read.last) more
@@ -107,17 +107,17 @@ module _ (def : Definition) where
 -- ---- a step
 
 -- the definition stays
-beside : (def : Definition) (read : RowsRead) (rows : Rows (List Value)) → ◌≡◌ {A = Definition × RowsRead} (fold and_row (def, read) rows) (def, fold (with_row def) read rows)
+beside : (def : Definition) (read : RowsRead) (rows : Rows (List Value)) → ◌≡◌ {A = Definition × RowsRead} (fold builder_after_row (def, read) rows) (def, fold (after_row def) read rows)
 beside def read [] = refl
-beside def read (r ∷ rows) = beside def (with_row def read r) rows
+beside def read (r ∷ rows) = beside def (after_row def read r) rows
 
 module _ (def : Definition) (cover : Cover) (rows : Rows (List Value)) (count : ℕ) (before after : Definition × RowsRead)
-    (begins : ◌≡◌ {A = Definition × RowsRead} before (def, none_read count)) (is : ◌≡◌ {A = Definition × RowsRead} after (fold and_row before (next_rows count cover rows))) where
+    (begins : ◌≡◌ {A = Definition × RowsRead} before (def, none_read count)) (is : ◌≡◌ {A = Definition × RowsRead} after (fold builder_after_row before (next_rows count cover rows))) where
   few : length (next_rows count cover rows) ≤ count
   few = omega (arith, length-take count (covered (λ k. not (is_covered cover k)) rows))
 
-  kept : after.1 ≡ fold (with_row def) (none_read count) (next_rows count cover rows)
-  kept = ap (λ (r : Definition × RowsRead). r.1) (is ∙ ap (λ (r : Definition × RowsRead). fold and_row r (next_rows count cover rows)) begins ∙ beside def (none_read count) (next_rows count cover rows))
+  kept : after.1 ≡ fold (after_row def) (none_read count) (next_rows count cover rows)
+  kept = ap (λ (r : Definition × RowsRead). r.1) (is ∙ ap (λ (r : Definition × RowsRead). fold builder_after_row r (next_rows count cover rows)) begins ∙ beside def (none_read count) (next_rows count cover rows))
 
   left : after.1.left ≡ count - length (next_rows count cover rows)
   left = ap (λ read. read.left) kept ∙ left_read def (none_read count) (next_rows count cover rows)

@@ -15,15 +15,15 @@ use Rattle.bt_rowtype.specs.declared.value.Kind.{Kind}
 use Rattle.bt_rowtype.specs.declared.value.Value.{Value}
 use Rattle.bt_keycode.specs.Keys.{AllFrom, IsSorted, is_before, key_cmp}
 use Rattle.bt_keycode.proofs.offered.Order.{not_after}
+use Rattle.bt_node.proofs.offered.Truths.{t_first, t_second, true_t}
 use Rattle.bt_messages.specs.Effects.{Rows}
 use Rattle.bt_messages.proofs.offered.Stable.{earlier, stable_is_sorted_batch, tied_key}
 use Rattle.bt_fanout.specs.Entries.{Definition, StandsUnder, entry_of, own_entry}
 use Rattle.bt_fanout.specs.Promises.{SuitsRows}
 use Rattle.bt_fanout.specs.Selections.{AllStand, AreApart, entry_in, select, with_entry}
 use Rattle.bt_fanout.specs.inside.RowEntries.{own_entries}
-use Rattle.bt_fanout.proofs.Builds.{true_t}
 use Rattle.bt_fanout.proofs.Entries.{apart}
-use Rattle.bt_fanout.proofs.Lookups.{equal_itself, find-select, find_below, is_at, sorted-select, t_first, t_second, value_at}
+use Rattle.bt_fanout.proofs.Lookups.{equal_itself, find-select, find_below, is_at, sorted-select, value_at}
 use Rattle.bt_fanout.proofs.Owners.{owns}
 use Rattle.bt_fanout.proofs.offered.Suiting.{all_more, all_none}
 

@@ -14,7 +14,7 @@ use Rattle.bt_fanout.specs.Effects.{EntryMessage, RowMessage, entry_effect, row_
 use Rattle.bt_fanout.specs.Entries.{Definition, StandsUnder, SuitsKinds, entry_of, same_values}
 use Rattle.bt_fanout.specs.Promises.{index_of}
 use Rattle.bt_fanout.specs.Selections.{AllStand, index_messages}
-use Rattle.bt_fanout.specs.inside.Readings.{none_read, with_row}
+use Rattle.bt_fanout.specs.inside.Readings.{none_read, after_row}
 use Rattle.bt_fanout.specs.declared.cover.Cover.{Cover}
 use Rattle.bt_fanout.specs.declared.cover.Cover.TheVariants.{Nothing, UpTo, Whole}
 use Rattle.bt_fanout.proofs.offered.Suiting.{all_more, all_none}
@@ -127,11 +127,11 @@ abbrev from_15 : Definition
 from_15 = record { on = 1 ∷ []; include = []; condition = Some (record { place = 1; test = test.AtLeast; constant = value.Int (pos 15) }); keys = 1 }
 
 -- one by one: the first row has no entry and moves the cover all the same, the second one has
-one_by_one : fold (with_row from_15) (none_read 1) (next_rows 1 Nothing rows) ≡ record { messages = []; left = 0; last = Some (k 1) }
+one_by_one : fold (after_row from_15) (none_read 1) (next_rows 1 Nothing rows) ≡ record { messages = []; left = 0; last = Some (k 1) }
 unfolding eight_bytes
 one_by_one = refl
 
-two_by_one : fold (with_row from_15) (none_read 3) (next_rows 2 Nothing rows) ≡ record { messages = (k 20 ++ k 2, Put []) ∷ []; left = 1; last = None }
+two_by_one : fold (after_row from_15) (none_read 3) (next_rows 2 Nothing rows) ≡ record { messages = (k 20 ++ k 2, Put []) ∷ []; left = 1; last = None }
 unfolding eight_bytes
 two_by_one = refl
 

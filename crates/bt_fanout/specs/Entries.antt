@@ -1,5 +1,5 @@
 -- What an index is, and the entry of a row.
-use Rattle.std.specs.Prelude.{ℕ, ◌≡◌, ◌<◌, ◌≤◌, ◌&&◌, ◌++◌, Bool, true, false, not, List, get_or, length, map, nat_lt, take, Option, Some, None, if◌then◌else◌}
+use Rattle.std.specs.Prelude.{ℕ, ◌≡◌, ◌<◌, ◌≤◌, ◌&&◌, ◌++◌, Bool, true, false, not, List, get_or, length, map, nat_lt, Option, Some, None, if◌then◌else◌}
 use Rattle.std.specs.List.{All, list_all}
 use Rattle.std.specs.Ordering.{is_eq, is_lt}
 use Rattle.std.specs.declared.cmp.Ordering.{Ordering}
@@ -11,6 +11,7 @@ use Rattle.bt_rowtype.specs.declared.value.Value.{Value}
 use Rattle.bt_rowtype.specs.declared.value.Value.TheVariants as value
 use Rattle.bt_keycode.specs.Codes.{code_of, kind_of}
 use Rattle.bt_keycode.specs.Keys.{Key}
+use Rattle.bt_keycode.specs.Standing.{row_key}
 use Rattle.bt_fanout.specs.declared.definition.Condition.{Condition}
 use Rattle.bt_rowtype.specs.declared.filter.Test.{Test}
 use Rattle.bt_rowtype.specs.declared.filter.Test.TheVariants as test
@@ -46,19 +47,15 @@ passes (Some condition) row = meets condition.test (value_cmp (value_in row cond
 abbrev pub entry_of : Definition → Key → List Value → Option (Key × List Value)
 entry_of def key row = if passes def.condition row then Some (code_of (picked def.on row) ++ key, picked def.include row) else None
 
--- the key of a row: the code of its first columns
-abbrev pub key_of : Definition → List Value → Key
-key_of def row = code_of (take def.keys row)
-
 -- the entry of a row under its own key, if there is a row
 abbrev pub own_entry : Definition → Option (List Value) → Option (Key × List Value)
 own_entry def None = None
-own_entry def (Some row) = entry_of def (key_of def row) row
+own_entry def (Some row) = entry_of def (row_key def.keys row) row
 
 -- a row of these kinds under the code of its key columns
 pub record StandsUnder (def : Definition) (kinds : List Kind) (key : Key) (row : List Value) : Type 0 where
   pub of_kinds : map kind_of row ≡ kinds
-  pub under : key_of def row ≡ key
+  pub under : row_key def.keys row ≡ key
 
 -- ---- definitions of rows
 

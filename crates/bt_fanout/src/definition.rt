@@ -6,7 +6,7 @@ ghost use Rattle.bt_rowtype.specs.Answers.{Answers};
 ghost use Rattle.bt_fanout.specs.Definitions.{definition_as, kinds_of};
 ghost use Rattle.bt_fanout.specs.Entries as spec;
 
-use crate::reading::read_parts;
+use crate::definition_parts::read_parts;
 use bt_rowtype::{Filter, Refusal, Schema, Sequence, Test, Texts, Value};
 use std::alloc::Global;
 use std::marker::Model;

@@ -21,27 +21,27 @@
 //!
 //! `specs` has the definitions. `Selections` says, for any entries, what an index selects of a map and which messages a batch sends to
 //! it; `Entries` what the entry of a row is, `Definitions` what names and filters mean, `Covers` which keys a building index covers and
-//! what a step of building reads, `Effects` what a batch does to rows, and `Promises` what the messages of an index do. `Readings` has
-//! what a step of building keeps of the rows while it reads them, `RowEntries` the entries of rows before they are sorted.
+//! what a step of building reads, `Effects` what a batch does to rows, and `Promises` what the messages of an index do. `inside/Readings` has
+//! what a step of building keeps of the rows while it reads them, `inside/RowEntries` the entries of rows before they are sorted.
 #![tactic(auto)]
 
 mod building;
 mod cover;
+mod crew_packet;
 mod definition;
+mod definition_parts;
 mod effect;
-mod lookup;
-mod packet;
-mod pieces;
-mod reading;
+mod entry_packet;
+mod row_effects;
 mod selecting;
 mod step;
 
 pub use building::sorted_entries;
 pub use cover::{Cover, covers, wider};
+pub use crew_packet::index_packet;
 pub use definition::{Condition, IndexDef, MOST_INCLUDED, MOST_ON};
 pub use effect::Effect;
-pub use lookup::{effects, effects_alone};
-pub use packet::index_packet_alone;
-pub use pieces::index_packet;
-pub use selecting::{add_first, entry};
+pub use entry_packet::index_packet_alone;
+pub use row_effects::{effects, effects_alone};
+pub use selecting::entry;
 pub use step::{BuildStep, build_step};

@@ -2,7 +2,8 @@
 ghost use Rattle.std.specs.Prelude.{◌≡◌, ◌<◌, ◌++◌, IfOk, OnOk, length, take};
 ghost use Rattle.std.specs.List.{All};
 ghost use Rattle.bt_keycode.specs.Codes.{code_of};
-ghost use Rattle.bt_fanout.specs.Entries.{HasPlace, IsWithin, entry_of, key_of, meets, passes, picked};
+ghost use Rattle.bt_keycode.specs.Standing.{row_key};
+ghost use Rattle.bt_fanout.specs.Entries.{HasPlace, IsWithin, entry_of, meets, passes, picked};
 
 use crate::definition::{Condition, IndexDef};
 use bt_keycode::{CodeBuilder, Key};
@@ -24,17 +25,6 @@ fn add_picked(
 {
     for place in places {
         values.push(alloc, row.get(*place))?;
-    }
-    Ok(())
-}
-
-/// Adds the first values of a row, or all where there are fewer, to other values.
-pub fn add_first(alloc: Global, values: &mut Row, row: &Row, count: usize) -> Result<(), AllocError>
-    ensures { OnOk result (values.new ≡ values.old ++ take count row.now) }
-{
-    let mut rest = row.first_values(count);
-    while let Some(value) = rest.next() {
-        values.push(alloc, value)?;
     }
     Ok(())
 }
@@ -90,7 +80,7 @@ fn add_first_codes(code: &mut CodeBuilder, row: &Row, count: usize) -> Result<()
 // The key of the entry of a row: the code of the columns that the index is ordered by, and of the key.
 fn entry_key(alloc: Global, def: &IndexDef, row: &Row) -> Result<Key, AllocError>
     requires { IsWithin def.now (length row.now) }
-    ensures { IfOk result (λ key. key ≡ code_of (picked def.now.on row.now) ++ key_of def.now row.now) }
+    ensures { IfOk result (λ key. key ≡ code_of (picked def.now.on row.now) ++ row_key def.now.keys row.now) }
 {
     let mut code = CodeBuilder::new(alloc);
     add_picked_codes(&mut code, row, def.on())?;
@@ -111,7 +101,7 @@ fn included(alloc: Global, def: &IndexDef, row: &Row) -> Result<Entry, AllocErro
 /// The entry of a row, if it passes the filter: its key and its value.
 pub fn entry(alloc: Global, def: &IndexDef, row: &Row) -> Result<Option<(Key, Entry)>, AllocError>
     requires { IsWithin def.now (length row.now) }
-    ensures { IfOk result (λ entry. entry ≡ entry_of def.now (key_of def.now row.now) row.now) }
+    ensures { IfOk result (λ entry. entry ≡ entry_of def.now (row_key def.now.keys row.now) row.now) }
 {
     if !meets_condition(def.condition(), row) {
         return Ok(None);

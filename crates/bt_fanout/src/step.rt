@@ -64,7 +64,7 @@ fn entry_within(
 }
 
 impl<'a> Visitor<Row> for Builder<'a> {
-    ghost visited = { spec.and_row };
+    ghost visited = { spec.builder_after_row };
 
     fn visit(&mut self, alloc: Global, key: &Key, row: &Row) -> Result<(), AllocError> {
         let entry = entry_within(alloc, self.def, row)?;
@@ -138,7 +138,7 @@ fn read_next(
     count: usize,
     builder: &mut Builder<'_>,
 ) -> Result<(), AllocError>
-    ensures { OnOk result (builder.new ≡ fold spec.and_row builder.old (next_rows count cover.now (holds row_effect tree.now.1))) }
+    ensures { OnOk result (builder.new ≡ fold spec.builder_after_row builder.old (next_rows count cover.now (holds row_effect tree.now.1))) }
 {
     match cover {
         Cover::Nothing => tree.walk().visit_first(alloc, None, count, builder),

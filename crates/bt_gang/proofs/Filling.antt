@@ -7,19 +7,20 @@ use lib.ListN.{get_elem?}
 use Rattle.crossbeam_queue.proofs.Lists.{at_set}
 use Rattle.bt_gang.specs.declared.answers.Answer.{Answer}
 use Rattle.bt_gang.specs.declared.answers.Answers.{Answers}
-use Rattle.bt_gang.specs.Numbers.{is_it, joined, times, once_below}
+use Rattle.bt_rowtype.specs.Lists.{concatenation}
+use Rattle.bt_gang.specs.Numbers.{is_it, occurrences, once_below}
 use Rattle.bt_gang.specs.Numbered.{numbered, present}
 use Rattle.bt_gang.specs.Answers.{MayAnswer, AllMay}
 use Rattle.bt_gang.specs.inside.Places.{AllBelow, Filled, IsFaultAmong, IsFull, puts, ok_slots, answers_in, numbers_in}
-use Rattle.bt_gang.specs.inside.Workers.{AllFrom, HasServed, out_of}
+use Rattle.bt_gang.specs.inside.Workers.{AllByNumber, HasServedIfStarted, out_of}
 use Rattle.bt_gang.specs.declared.jobs.Jobs.{Jobs}
 use Rattle.bt_gang.specs.declared.workers.Worker.{Worker}
-use Rattle.bt_gang.specs.declared.run.GangFault.{GangFault}
-use Rattle.bt_gang.specs.declared.run.GangFault.TheVariants.{OutOfMemory, Job}
+use Rattle.bt_gang.specs.declared.job_runs.GangFault.{GangFault}
+use Rattle.bt_gang.specs.declared.job_runs.GangFault.TheVariants.{OutOfMemory, Job}
 use Rattle.bt_gang.specs.Board.{start}
 use Rattle.bt_gang.specs.declared.crew.TheConstants.{MOST_WORKERS}
 use Rattle.bt_gang.specs.Run.{Answered, AreAllTaken, AreValues, EachOnce, HasAnswers, IsLeast}
-use Rattle.bt_gang.proofs.Numbers.{total-append, times-below, at_below}
+use Rattle.bt_gang.proofs.Numbers.{sum_over-append, occurrences-below, at_below}
 use Rattle.bt_gang.proofs.Rules.{at_most_once, below_once, empty_list}
 use Rattle.bt_gang.proofs.Serving.{numbered-append, may-append, read_at}
 
@@ -31,14 +32,14 @@ abbrev HasValue : {A : Type 0} → Option A → Type 0
 HasValue (Some x) = Unit
 HasValue None = ⊥
 
-none_more : (i n : ℕ) (came : List ℕ) → i ≢ n → times i came ≡ 0 → times i (came ++ n ∷ []) ≡ 0
-none_more i n came ne e = let f = total-append (is_it i) came (n ∷ []) in grind (arith, nat_tests, e, f)
+none_more : (i n : ℕ) (came : List ℕ) → i ≢ n → occurrences i came ≡ 0 → occurrences i (came ++ n ∷ []) ≡ 0
+none_more i n came ne e = let f = sum_over-append (is_it i) came (n ∷ []) in grind (arith, nat_tests, e, f)
 
-one_more : (i n : ℕ) (came : List ℕ) → i ≡ n → 0 < times i (came ++ n ∷ [])
-one_more i n came e = let f = total-append (is_it i) came (n ∷ []) in grind (arith, nat_tests, e, f)
+one_more : (i n : ℕ) (came : List ℕ) → i ≡ n → 0 < occurrences i (came ++ n ∷ [])
+one_more i n came e = let f = sum_over-append (is_it i) came (n ∷ []) in grind (arith, nat_tests, e, f)
 
-still_there : (i n : ℕ) (came : List ℕ) → 0 < times i came → 0 < times i (came ++ n ∷ [])
-still_there i n came l = let f = total-append (is_it i) came (n ∷ []) in omega arith
+still_there : (i n : ℕ) (came : List ℕ) → 0 < occurrences i came → 0 < occurrences i (came ++ n ∷ [])
+still_there i n came l = let f = sum_over-append (is_it i) came (n ∷ []) in omega arith
 
 -- a number that stands at most once, and at least once below n
 exactly_once : (x n k : ℕ) → k ≤ once_below x n → (x < n → 0 < k) → k ≡ once_below x n
@@ -78,9 +79,9 @@ module _ {D F : Type 0} where
   numbers_of_one (Some a) = refl
 
   -- the numbers of the answers of all workers
-  pub numbers_joined : (outs : List (Option (Answers D F))) → numbered (joined (map answers_in outs)) ≡ joined (map numbers_in outs)
+  pub numbers_joined : (outs : List (Option (Answers D F))) → numbered (concatenation (map answers_in outs)) ≡ concatenation (map numbers_in outs)
   numbers_joined [] = refl
-  numbers_joined (o ∷ os) = numbered-append (answers_in o) (joined (map answers_in os)) ∙ (λ i. numbers_of_one o i ++ numbers_joined os i)
+  numbers_joined (o ∷ os) = numbered-append (answers_in o) (concatenation (map answers_in os)) ∙ (λ i. numbers_of_one o i ++ numbers_joined os i)
 
 module _ {J D F : Type 0} (allows : J → Result D F → Type 0) where
   pub below_all : (jobs : List J) (n : ℕ) (xs : List (Answer D F)) → n ≡ length jobs → AllMay allows jobs xs → AllBelow n xs
@@ -88,11 +89,11 @@ module _ {J D F : Type 0} (allows : J → Result D F → Type 0) where
   below_all jobs n (x ∷ xs) e all = (let l = at_below jobs x.number all.0.0 all.0.1 in omega arith, below_all jobs n xs e all.1)
 
   -- each of the answers that came back is one that its job may give
-  pub may_back : (jobs : Jobs J D F) (all : List J) (first : ℕ) (workers : List (Option (Worker J D F))) → AllFrom (λ number w. IfSome w (HasServed allows jobs all [] number)) first workers
-      → AllMay allows all (joined (map answers_in (map out_of workers)))
+  pub may_back : (jobs : Jobs J D F) (all : List J) (first : ℕ) (workers : List (Option (Worker J D F))) → AllByNumber (HasServedIfStarted allows jobs all) first workers
+      → AllMay allows all (concatenation (map answers_in (map out_of workers)))
   may_back jobs all first [] served = tt
   may_back jobs all first (None ∷ ws) served = may_back jobs all (suc first) ws served.1
-  may_back jobs all first (Some w ∷ ws) served = may-append allows all (present w.out.list) (joined (map answers_in (map out_of ws))) served.0.may (may_back jobs all (suc first) ws served.1)
+  may_back jobs all first (Some w ∷ ws) served = may-append allows all (present w.out.list) (concatenation (map answers_in (map out_of ws))) served.0.may (may_back jobs all (suc first) ws served.1)
 
   filled_put : (jobs : List J) (slots : List (Option (Result D F))) (came : List ℕ) (n : ℕ) (v : Result D F) → Filled allows jobs slots came → MayAnswer allows jobs n v → Filled allows jobs (set slots n (Some v)) (came ++ n ∷ [])
   filled_put jobs slots came n v f may = record {
@@ -180,11 +181,11 @@ module _ {J D F : Type 0} (allows : J → Result D F → Type 0) where
 
   -- where no place is empty and no number came twice, each came once
   pub all_once : (jobs : List J) (slots : List (Option (Result D F))) (came : List ℕ) → Filled allows jobs slots came → IsFull slots
-      → ((x : ℕ) → times x came ≤ once_below x (length jobs)) → (x : ℕ) → times x came ≡ once_below x (length jobs)
-  all_once jobs slots came f full most x = exactly_once x (length jobs) (times x came) (most x) (λ l. let v = full_at slots x full (let s = f.size in omega arith) in f.full x v.0 v.1)
+      → ((x : ℕ) → occurrences x came ≤ once_below x (length jobs)) → (x : ℕ) → occurrences x came ≡ once_below x (length jobs)
+  all_once jobs slots came f full most x = exactly_once x (length jobs) (occurrences x came) (most x) (λ l. let v = full_at slots x full (let s = f.size in omega arith) in f.full x v.0 v.1)
 
   -- where each number came once, no place is empty
-  pub none_empty : (jobs : List J) (slots : List (Option (Result D F))) (came : List ℕ) → Filled allows jobs slots came → ((x : ℕ) → times x came ≡ once_below x (length jobs)) → IsFull slots
+  pub none_empty : (jobs : List J) (slots : List (Option (Result D F))) (came : List ℕ) → Filled allows jobs slots came → ((x : ℕ) → occurrences x came ≡ once_below x (length jobs)) → IsFull slots
   none_empty jobs slots came f once i e = let l = at_below slots i None e in let a = f.size in let b = f.empty i e in let c = once i in absurd (grind (arith, nat_tests, a, b, c, l))
 
 module _ {J D F : Type 0} (allows : J → Result D F → Type 0) (value : J → D) (only : (job : J) (d : D) → allows job (Ok d) → d ≡ value job) where
@@ -205,18 +206,18 @@ lists-more vs ws x ns e f = e ∙ ap (λ l. vs ++ l ∷ []) f
 module _ {D F : Type 0} where
   -- one more worker's answers were placed
   pub placed_more : (old new all : List (Option (Result D F))) (o : Option (Answers D F)) (left rest : List (Option (Answers D F)))
-      → left ≡ o ∷ rest → new ≡ puts old (answers_in o) → puts old (joined (map answers_in left)) ≡ all → puts new (joined (map answers_in rest)) ≡ all
+      → left ≡ o ∷ rest → new ≡ puts old (answers_in o) → puts old (concatenation (map answers_in left)) ≡ all → puts new (concatenation (map answers_in rest)) ≡ all
   placed_more old new all o left rest e f g =
-      ap (λ l. puts l (joined (map answers_in rest))) f ∙ (sym (puts-append old (answers_in o) (joined (map answers_in rest))) ∙ (ap (λ l. puts old (joined (map answers_in l))) (sym e) ∙ g))
+      ap (λ l. puts l (concatenation (map answers_in rest))) f ∙ (sym (puts-append old (answers_in o) (concatenation (map answers_in rest))) ∙ (ap (λ l. puts old (concatenation (map answers_in l))) (sym e) ∙ g))
 
-  pub below_one : (n : ℕ) (o : Option (Answers D F)) (left rest : List (Option (Answers D F))) → left ≡ o ∷ rest → AllBelow n (joined (map answers_in left)) → AllBelow n (answers_in o)
-  below_one n o left rest e all = below-front n (answers_in o) (joined (map answers_in rest)) (subst (λ l. AllBelow n (joined (map answers_in l))) e all)
+  pub below_one : (n : ℕ) (o : Option (Answers D F)) (left rest : List (Option (Answers D F))) → left ≡ o ∷ rest → AllBelow n (concatenation (map answers_in left)) → AllBelow n (answers_in o)
+  below_one n o left rest e all = below-front n (answers_in o) (concatenation (map answers_in rest)) (subst (λ l. AllBelow n (concatenation (map answers_in l))) e all)
 
   pub below_more : (old new : List (Option (Result D F))) (o : Option (Answers D F)) (left rest : List (Option (Answers D F)))
-      → left ≡ o ∷ rest → new ≡ puts old (answers_in o) → AllBelow (length old) (joined (map answers_in left)) → AllBelow (length new) (joined (map answers_in rest))
+      → left ≡ o ∷ rest → new ≡ puts old (answers_in o) → AllBelow (length old) (concatenation (map answers_in left)) → AllBelow (length new) (concatenation (map answers_in rest))
   below_more old new o left rest e f all =
-      subst (λ n. AllBelow n (joined (map answers_in rest))) (sym (ap length f ∙ length-puts old (answers_in o)))
-      (below-back (length old) (answers_in o) (joined (map answers_in rest)) (subst (λ l. AllBelow (length old) (joined (map answers_in l))) e all))
+      subst (λ n. AllBelow n (concatenation (map answers_in rest))) (sym (ap length f ∙ length-puts old (answers_in o)))
+      (below-back (length old) (answers_in o) (concatenation (map answers_in rest)) (subst (λ l. AllBelow (length old) (concatenation (map answers_in l))) e all))
 
   -- one more worker's list
   pub listed_more : (vs ws : List (List ℕ)) (x : List ℕ) (all : List (List ℕ)) (o : Option (Answers D F)) (left rest : List (Option (Answers D F)))
@@ -237,12 +238,12 @@ module _ {J D F : Type 0} (allows : J → Result D F → Type 0) where
       let l = least allows jobs slots came number fault e.0 e.1 f e.2 e.3 in
       (l.0, l.1, has_answers allows jobs slots came f among.0)
 
-none_joined : (workers : ℕ) → joined {X = ℕ} (replicate workers []) ≡ []
+none_joined : (workers : ℕ) → concatenation {X = ℕ} (replicate workers []) ≡ []
 none_joined zero = refl
 none_joined (suc workers) = none_joined workers
 
 pub none_listed : (n workers : ℕ) (vs : List (List ℕ)) → n ≡ 0 → vs ≡ replicate workers [] → EachOnce n vs
-none_listed n workers vs none e x = ap (λ ls. times x (joined ls)) e ∙ (ap (times x) (none_joined workers) ∙ (times-below x 0 ∙ ap (once_below x) (sym none)))
+none_listed n workers vs none e x = ap (λ ls. occurrences x (concatenation ls)) e ∙ (ap (occurrences x) (none_joined workers) ∙ (occurrences-below x 0 ∙ ap (once_below x) (sym none)))
 
 pub none_taken : (n workers : ℕ) (vs : List (List ℕ)) → n ≡ 0 → vs ≡ replicate workers [] → AreAllTaken n vs
 none_taken n workers vs none e = record {

@@ -1,37 +1,31 @@
 -- What the answers of all workers are, once all passes that can be had came back.
-use Rattle.std.proofs.Common.{◌≡◌, ℕ, suc, ◌+◌, ◌<◌, ◌≤◌, List, [], ◌∷◌, ◌++◌, All, length, length-append, map, get_or, replicate, Option, None, IfSome, IsSome, Result, sym, ap, ◌∙◌, subst, arith}
+use Rattle.std.proofs.Common.{◌≡◌, ℕ, suc, ◌+◌, ◌<◌, ◌≤◌, List, [], ◌∷◌, ◌++◌, All, length, length-append, map, get_or, replicate, Option, None, IfSome, IsSome, Result, sym, ap, ◌∙◌, subst, refl, arith}
 use Rattle.std.proofs.lemmas.List.{length-map, length-replicate}
 use Rattle.crossbeam_queue.specs.Passes.{view}
 use Rattle.bt_gang.specs.declared.answers.Answer.{Answer}
 use Rattle.bt_gang.specs.declared.answers.Answers.{Answers}
 use Rattle.bt_gang.specs.declared.jobs.Jobs.{Jobs}
 use Rattle.bt_gang.specs.declared.rule.Known.{Known}
-use Rattle.bt_gang.specs.declared.run.GangFault.{GangFault}
-use Rattle.bt_gang.specs.declared.run.GangFault.TheVariants.{OutOfMemory}
+use Rattle.bt_gang.specs.declared.job_runs.GangFault.{GangFault}
+use Rattle.bt_gang.specs.declared.job_runs.GangFault.TheVariants.{OutOfMemory}
+use Rattle.bt_gang.specs.declared.team.Served.{Served}
 use Rattle.bt_gang.specs.declared.workers.Worker.{Worker}
-use Rattle.bt_gang.specs.Numbers.{joined, times, below, once_below}
+use Rattle.bt_rowtype.specs.Lists.{concatenation}
+use Rattle.bt_gang.specs.Numbers.{occurrences, below, once_below}
 use Rattle.bt_gang.specs.Numbered.{numbered, present}
 use Rattle.bt_gang.specs.declared.crew.TheConstants.{MOST_WORKERS}
 use Rattle.bt_gang.specs.Queue.{NothingWaits, gained, known, numbers_of, taken_list}
 use Rattle.bt_gang.specs.Answers.{AllMay, FoundNothing, Gains}
 use Rattle.bt_gang.specs.Run.{AreAllTaken, EachOnce}
 use Rattle.bt_gang.specs.inside.Places.{AllBelow, Filled, IsFaultAmong, IsFull, answers_in, numbers_in, puts}
-use Rattle.bt_gang.specs.inside.Workers.{AllFrom, AreEmptyWhereAbsent, AreListsOf, HasServed, HasServedCaller, TookIn, lists_back, lists_left, out_of}
-use Rattle.bt_gang.proofs.Numbers.{length-below, same_total, times-below, total-length}
+use Rattle.bt_gang.specs.inside.Teams.{AreEmptyWhereAbsent, AreListsOf, HaveCome, HaveServed}
+use Rattle.bt_gang.specs.inside.Workers.{HasServedCaller, TookIn, lists_back, lists_left, out_of}
+use Rattle.bt_gang.proofs.Numbers.{length-below, same_sums, occurrences-below, sum_over-length}
 use Rattle.bt_gang.proofs.Serving.{may-append, numbered-append}
 use Rattle.bt_gang.proofs.WorkerLists.{all_back, all_lists, length-left, lists_stand, no_numbers_back, numbers-append, numbers-back, numbers-left}
 use Rattle.bt_gang.proofs.Filling.{all_once, below-back, below-front, below_all, filled, length-puts, lists-more, may_back, none_empty, numbers_joined, puts-append}
 
 module _ {J D F : Type 0} (allows : J → Result D F → Type 0) where
-  -- what the caller's pass knows, whose last pop found nothing, and what the answers are
-  pub record HaveCome (all : List J) (given_away : ℕ) (v : Known J) (own : List (Answer D F)) (outs : List (Option (Answers D F))) : Type 0 where
-    pub knows : v ≡ known all (taken_list 0 (numbered own) ∷ (lists_left MOST_WORKERS (suc given_away) ++ lists_back 1 outs))
-    pub few : given_away < MOST_WORKERS
-    pub back : length outs ≡ given_away
-    pub may : AllMay allows all (own ++ joined (map answers_in outs))
-    pub settled : NothingWaits v
-    pub last : FoundNothing v
-
   took_all : (jobs : Jobs J D F) (all : List J) (k : ℕ) (mine : Worker J D F) (outs : List (Option (Answers D F))) (w : Known J) → HasServedCaller allows jobs all k mine → TookIn (view mine.pass) w outs
       → w ≡ known all (taken_list 0 (numbered (present mine.out.list)) ∷ (lists_left MOST_WORKERS (suc k) ++ lists_back 1 outs))
   took_all jobs all k mine outs w h t = t ∙ ap (λ (y : Known J). known y.jobs (y.lists ++ lists_back 1 outs)) h.served.knows
@@ -52,103 +46,103 @@ module _ {J D F : Type 0} (allows : J → Result D F → Type 0) where
       let s = h.spare in
       omega arith
 
-  pub have_come : (jobs : Jobs J D F) (all : List J) (k : ℕ) (mine : Worker J D F) (others : List (Option (Worker J D F))) (outs : List (Option (Answers D F))) (w v : Known J) (out : Answers D F)
-      → HasServedCaller allows jobs all k mine → k ≡ length others → AllFrom (λ number o. IfSome o (HasServed allows jobs all [] number)) 1 others → outs ≡ map out_of others → TookIn (view mine.pass) w outs
-      → Gains allows w v mine.out out → FoundNothing v → NothingWaits v → HaveCome all k v (present out.list) outs
-  have_come jobs all k mine others outs w v out h len served is t g last settled =
+  pub have_come : (jobs : Jobs J D F) (all : List J) (k : ℕ) (served : Served J D F) (outs : List (Option (Answers D F))) (w v : Known J) (out : Answers D F)
+      → HaveServed allows jobs all k served → k ≡ length served.others.items → outs ≡ map out_of served.others.items → TookIn (view served.mine.pass) w outs
+      → Gains allows w v served.mine.out out → FoundNothing v → NothingWaits v → HaveCome allows all v (present out.list) outs
+  have_come jobs all k served outs w v out h len is t g last settled =
+      let mine = served.mine in
       let own = present mine.out.list in
       let here : numbered (present out.list) ≡ numbered own ++ numbered g.added = ap numbered g.list ∙ numbered-append own g.added in
-      let added : AllMay allows all g.added = subst (λ js. AllMay allows js g.added) (jobs_last jobs all k mine outs w h t) g.may in
-      let back : AllMay allows all (joined (map answers_in outs)) = subst (λ os. AllMay allows all (joined (map answers_in os))) (sym is) (may_back allows jobs all 1 others served) in
+      let added : AllMay allows all g.added = subst (λ js. AllMay allows js g.added) (jobs_last jobs all k mine outs w h.mine t) g.may in
+      let back : AllMay allows all (concatenation (map answers_in outs)) =
+      subst (λ os. AllMay allows all (concatenation (map answers_in os))) (sym is) (may_back allows jobs all 1 served.others.items h.others) in
+      let count : k ≡ length outs = len ∙ sym (ap length is ∙ length-map served.others.items (λ (o : Option (Worker J D F)). out_of o)) in
       record {
-        knows = g.pass ∙ (ap (λ y. gained y (numbered g.added)) (took_all jobs all k mine outs w h t)
-            ∙ ap (λ ns. known all (taken_list 0 ns ∷ (lists_left MOST_WORKERS (suc k) ++ lists_back 1 outs))) (sym here));
-        few = h.few;
-        back = ap length is ∙ (length-map others (λ (o : Option (Worker J D F)). out_of o) ∙ sym len);
-        may = may-append allows all (present out.list) (joined (map answers_in outs)) (subst (AllMay allows all) (sym g.list) (may-append allows all own g.added h.served.may added)) back;
+        knows = g.pass ∙ (ap (λ y. gained y (numbered g.added)) (took_all jobs all k mine outs w h.mine t)
+            ∙ (ap (λ ns. known all (taken_list 0 ns ∷ (lists_left MOST_WORKERS (suc k) ++ lists_back 1 outs))) (sym here)
+            ∙ ap (λ n. known all (taken_list 0 (numbered (present out.list)) ∷ (lists_left MOST_WORKERS (suc n) ++ lists_back 1 outs))) count));
+        few = subst (λ n. n < MOST_WORKERS) count h.mine.few;
+        may = may-append allows all (present out.list) (concatenation (map answers_in outs)) (subst (AllMay allows all) (sym g.list) (may-append allows all own g.added h.mine.served.may added)) back;
         settled = settled;
         last = last;
       }
 
-module _ {J D F : Type 0} (allows : J → Result D F → Type 0) (all : List J) (k : ℕ) (v : Known J) (own : List (Answer D F)) (outs : List (Option (Answers D F))) (come : HaveCome allows all k v own outs) where
+-- in places that were empty, first come the caller's answers, and then those of the others
+module _ {J D F : Type 0} (allows : J → Result D F → Type 0) (all : List J) (own rest : List (Answer D F)) (may : AllMay allows all (own ++ rest)) (empty : List (Option (Result D F))) (none : empty ≡ replicate (length all) None) where
+  all_below : (slots : List (Option (Result D F))) → length slots ≡ length empty → AllBelow (length slots) (own ++ rest)
+  all_below slots e = below_all allows all (length slots) (own ++ rest) (e ∙ (ap length none ∙ length-replicate (length all) None)) may
+
+  pub below_own : AllBelow (length empty) own
+  below_own = below-front (length empty) own rest (all_below empty refl)
+
+  module _ (mid : List (Option (Result D F))) (placed : mid ≡ puts empty own) where
+    pub below_rest : AllBelow (length mid) rest
+    below_rest = below-back (length mid) own rest (all_below mid (ap length placed ∙ length-puts empty own))
+
+    pub filled_all : (slots : List (Option (Result D F))) → slots ≡ puts mid rest → Filled allows all slots (numbered (own ++ rest))
+    filled_all slots e =
+        filled allows all (own ++ rest) slots (e ∙ (ap (λ s. puts s rest) (placed ∙ ap (λ s. puts s own) none) ∙ sym (puts-append (replicate (length all) None) own rest))) may
+
+module _ {J D F : Type 0} (allows : J → Result D F → Type 0) (all : List J) (v : Known J) (own : List (Answer D F)) (outs : List (Option (Answers D F))) (come : HaveCome allows all v own outs) where
   -- the numbers of the answers are those in the lists of the pass
-  numbers_come : numbered (own ++ joined (map answers_in outs)) ≡ numbers_of v.lists
+  numbers_come : numbered (own ++ concatenation (map answers_in outs)) ≡ numbers_of v.lists
   numbers_come =
-      let left = lists_left MOST_WORKERS (suc k) in
+      let left = lists_left MOST_WORKERS (suc (length outs)) in
       let back = lists_back 1 outs in
-      let lists : numbers_of (left ++ back) ≡ joined (map numbers_in outs) = numbers-append left back ∙ ((λ i. numbers-left MOST_WORKERS (suc k) i ++ numbers-back 1 outs i)) in
-      numbered-append own (joined (map answers_in outs)) ∙ ((λ i. numbered own ++ (numbers_joined outs ∙ sym lists) i) ∙ sym (ap (λ (y : Known J). numbers_of y.lists) come.knows))
+      let lists : numbers_of (left ++ back) ≡ concatenation (map numbers_in outs) = numbers-append left back ∙ ((λ i. numbers-left MOST_WORKERS (suc (length outs)) i ++ numbers-back 1 outs i)) in
+      numbered-append own (concatenation (map answers_in outs)) ∙ ((λ i. numbered own ++ (numbers_joined outs ∙ sym lists) i) ∙ sym (ap (λ (y : Known J). numbers_of y.lists) come.knows))
 
   jobs_come : length v.jobs ≡ length all
   jobs_come = ap (λ (y : Known J). length y.jobs) come.knows
 
-  pub most_come : (x : ℕ) → times x (numbered (own ++ joined (map answers_in outs))) ≤ once_below x (length all)
-  most_come x = let a = (come.last x).0 in let b = ap (times x) numbers_come in let c = ap (once_below x) jobs_come in omega arith
+  pub most_come : (x : ℕ) → occurrences x (numbered (own ++ concatenation (map answers_in outs))) ≤ once_below x (length all)
+  most_come x = let a = (come.last x).0 in let b = ap (occurrences x) numbers_come in let c = ap (once_below x) jobs_come in omega arith
 
   -- where each worker came back, so did each number
-  each_come : (others : List (Option (Worker J D F))) → outs ≡ map out_of others → All IsSome others → (x : ℕ) → times x (numbered (own ++ joined (map answers_in outs))) ≡ once_below x (length all)
-  each_come others is some x =
+  each_come : All IsSome outs → (x : ℕ) → occurrences x (numbered (own ++ concatenation (map answers_in outs))) ≡ once_below x (length all)
+  each_come some x =
       let full : length v.lists ≡ MOST_WORKERS =
       (let l = ap (λ (y : Known J). length y.lists) come.knows in
-      let a = length-append (lists_left MOST_WORKERS (suc k)) (lists_back 1 outs) in
-      let b = length-left MOST_WORKERS (suc k) come.few in
-      let c : length (lists_back 1 outs) ≡ length others = ap (λ os. length (lists_back 1 os)) is ∙ all_back 1 others some in
-      let d = ap length is in
-      let e = length-map others (λ (o : Option (Worker J D F)). out_of o) in
-      let f = come.back in
+      let a = length-append (lists_left MOST_WORKERS (suc (length outs))) (lists_back 1 outs) in
+      let b = length-left MOST_WORKERS (suc (length outs)) come.few in
+      let c = all_back 1 outs some in
       omega arith) in
-      ap (times x) numbers_come ∙ ((come.last x).1 full ∙ ap (once_below x) jobs_come)
-
-  pub below_own : (slots : List (Option (Result D F))) → slots ≡ replicate (length all) None → AllBelow (length slots) own
-  below_own slots e = below-front (length slots) own (joined (map answers_in outs)) (below_all allows all (length slots) (own ++ joined (map answers_in outs)) (ap length e ∙ length-replicate (length all) None) come.may)
-
-  pub below_rest : (slots mid : List (Option (Result D F))) → slots ≡ replicate (length all) None → mid ≡ puts slots own → AllBelow (length mid) (joined (map answers_in outs))
-  below_rest slots mid e f =
-      below-back (length mid) own (joined (map answers_in outs))
-      (below_all allows all (length mid) (own ++ joined (map answers_in outs)) (ap length f ∙ (length-puts slots own ∙ (ap length e ∙ length-replicate (length all) None))) come.may)
-
-  -- the answers of the caller and of the others in places that were empty
-  pub filled_all : (empty mid slots : List (Option (Result D F))) → empty ≡ replicate (length all) None → mid ≡ puts empty own → slots ≡ puts mid (joined (map answers_in outs))
-      → Filled allows all slots (numbered (own ++ joined (map answers_in outs)))
-  filled_all empty mid slots e f g =
-      filled allows all (own ++ joined (map answers_in outs)) slots
-      (g ∙ (ap (λ s. puts s (joined (map answers_in outs))) (f ∙ ap (λ s. puts s own) e) ∙ sym (puts-append (replicate (length all) None) own (joined (map answers_in outs))))) come.may
+      ap (occurrences x) numbers_come ∙ ((come.last x).1 full ∙ ap (once_below x) jobs_come)
 
   -- a place is empty only where a worker did not come back
-  pub memory_wanted : (slots : List (Option (Result D F))) (fault : GangFault F) (others : List (Option (Worker J D F))) → Filled allows all slots (numbered (own ++ joined (map answers_in outs)))
-      → outs ≡ map out_of others → IsFaultAmong slots fault → fault ≡ OutOfMemory → ¬ (All IsSome others)
-  memory_wanted slots fault others f is among wanted some =
+  pub memory_wanted : (slots : List (Option (Result D F))) (fault : GangFault F) → Filled allows all slots (numbered (own ++ concatenation (map answers_in outs)))
+      → IsFaultAmong slots fault → fault ≡ OutOfMemory → ¬ (All IsSome outs)
+  memory_wanted slots fault f among wanted some =
       let empty = subst (IsFaultAmong slots) wanted among in
-      none_empty allows all slots (numbered (own ++ joined (map answers_in outs))) f (each_come others is some) empty.0 empty.1
+      none_empty allows all slots (numbered (own ++ concatenation (map answers_in outs))) f (each_come some) empty.0 empty.1
 
   module _ (vs : List (List ℕ)) (lists : vs ≡ numbered own ∷ map numbers_in outs) where
     -- one that was not started has an empty list
-    pub are_empty : (others : List (Option (Worker J D F))) → outs ≡ map out_of others → AreEmptyWhereAbsent others vs
-    are_empty others is place absent =
-        ap (λ ls. get_or ls (suc place) []) lists ∙ (ap (λ os. get_or (map numbers_in os) place []) is ∙ no_numbers_back others place absent)
+    pub are_empty : AreEmptyWhereAbsent outs vs
+    are_empty place absent = ap (λ ls. get_or ls (suc place) []) lists ∙ no_numbers_back outs place absent
 
     -- the lists of numbers are those of the pass
     pub are_lists : AreListsOf v vs
-    are_lists = subst (AreListsOf v) (sym lists) (lists_stand MOST_WORKERS k v (numbered own) outs come.back come.few (ap (λ (y : Known J). y.lists) come.knows))
+    are_lists = subst (AreListsOf v) (sym lists) (lists_stand MOST_WORKERS (length outs) v (numbered own) outs refl come.few (ap (λ (y : Known J). y.lists) come.knows))
 
-    module _ (slots : List (Option (Result D F))) (f : Filled allows all slots (numbered (own ++ joined (map answers_in outs)))) (full : IsFull slots) where
-      came_once : (x : ℕ) → times x (numbered (own ++ joined (map answers_in outs))) ≡ once_below x (length all)
-      came_once = all_once allows all slots (numbered (own ++ joined (map answers_in outs))) f full most_come
+    module _ (slots : List (Option (Result D F))) (f : Filled allows all slots (numbered (own ++ concatenation (map answers_in outs)))) (full : IsFull slots) where
+      came_once : (x : ℕ) → occurrences x (numbered (own ++ concatenation (map answers_in outs))) ≡ once_below x (length all)
+      came_once = all_once allows all slots (numbered (own ++ concatenation (map answers_in outs))) f full most_come
 
       pub once : EachOnce (length all) vs
       once x =
-          ap (λ ls. times x (joined ls)) lists
-          ∙ (ap (times x) ((λ i. numbered own ++ sym (numbers_joined outs) i) ∙ sym (numbered-append own (joined (map answers_in outs)))) ∙ came_once x)
+          ap (λ ls. occurrences x (concatenation ls)) lists
+          ∙ (ap (occurrences x) ((λ i. numbered own ++ sym (numbers_joined outs) i) ∙ sym (numbered-append own (concatenation (map answers_in outs)))) ∙ came_once x)
 
       -- the board that the last pop showed
       pub all_taken : AreAllTaken (length all) vs
       all_taken =
           let one : ℕ → ℕ = λ _. 1 in
           let n = length all in
-          let came = numbered (own ++ joined (map answers_in outs)) in
-          let a = same_total came (below n) (λ x. came_once x ∙ sym (times-below x n)) one in
-          let b = total-length came in
-          let d = total-length (below n) in
+          let came = numbered (own ++ concatenation (map answers_in outs)) in
+          let a = same_sums came (below n) (λ x. came_once x ∙ sym (occurrences-below x n)) one in
+          let b = sum_over-length came in
+          let d = sum_over-length (below n) in
           let e = length-below n in
           let g = ap length numbers_come in
           let m = jobs_come in

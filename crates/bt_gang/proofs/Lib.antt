@@ -8,3 +8,4 @@ pub mod Placing
 pub mod Working
 pub mod Filling
 pub mod Finishing
+pub mod PieceLists

@@ -9,14 +9,15 @@ use Rattle.crossbeam_queue.proofs.Lists.{at_set, at_snoc, set_else}
 use Rattle.bt_gang.specs.declared.rule.Known.{Known}
 use Rattle.bt_gang.specs.declared.rule.NumberedJob.{NumberedJob}
 use Rattle.bt_gang.specs.declared.rule.TakenList.{TakenList}
-use Rattle.bt_gang.specs.Numbers.{total, joined, is_it, times, below, once_below}
+use Rattle.bt_rowtype.specs.Lists.{concatenation}
+use Rattle.bt_gang.specs.Numbers.{sum_over, is_it, occurrences, below, once_below}
 use Rattle.bt_gang.specs.Board.{State, start, after_put, after_take}
 use Rattle.bt_gang.specs.Board.Event.{Put, Take}
-use Rattle.bt_gang.specs.Queue.{taken_list, no_lists, given, kept, workers_of, numbers_of, AreTaken, known, HasList, queued, Stand, EachPass, IsBoard, IsBoardOf, Pushed, Popped}
-use Rattle.bt_gang.proofs.Numbers.{total-append, total-set, total-one, total-two, total-length, total-joined, total-map, total-places, length-below, times-below, at_more, at_end, once_itself, besides, same_total}
+use Rattle.bt_gang.specs.Queue.{taken_list, no_lists, given, kept, workers_of, numbers_of, AreOwnLists, known, HasList, queued, Stand, EachPass, IsBoard, IsBoardOf, Pushed, Popped}
+use Rattle.bt_gang.proofs.Numbers.{sum_over-append, sum_over-set, sum_over-one, sum_over-two, sum_over-length, sum_over-concatenation, sum_over-map, sum_over-places, length-below, occurrences-below, at_more, at_end, once_itself, besides, same_sums}
 use Rattle.bt_gang.proofs.Accounts.{accounted, freed}
 
-pub count_lists : (ls : List TakenList) → total (λ _. 1) (workers_of ls) ≡ length ls
+pub count_lists : (ls : List TakenList) → sum_over (λ _. 1) (workers_of ls) ≡ length ls
 count_lists [] = refl
 count_lists (l ∷ ls) = let e = count_lists ls in omega arith
 
@@ -30,28 +31,28 @@ pub below_once : (x n : ℕ) → 1 ≤ once_below x n → x < n
 below_once x n l = grind (arith, nat_tests, l)
 
 -- what one worker took besides stays out of the lists of the others
-taken_else : (taken : List (List ℕ)) (w : ℕ) (new : List ℕ) (ls : List TakenList) → times w (workers_of ls) ≡ 0 → AreTaken taken ls → AreTaken (set taken w new) ls
+taken_else : (taken : List (List ℕ)) (w : ℕ) (new : List ℕ) (ls : List TakenList) → occurrences w (workers_of ls) ≡ 0 → AreOwnLists taken ls → AreOwnLists (set taken w new) ls
 taken_else taken w new [] none are = tt
 taken_else taken w new (l ∷ ls) none are = (
-  get_or-set_other taken w l.worker new [] (nowhere_here w l.worker (times w (workers_of ls)) none) ∙ are.0,
+  get_or-set_other taken w l.worker new [] (nowhere_here w l.worker (occurrences w (workers_of ls)) none) ∙ are.0,
   taken_else taken w new ls (omega arith) are.1,
 )
 
-taken-append : (taken : List (List ℕ)) (xs ys : List TakenList) → AreTaken taken xs → AreTaken taken ys → AreTaken taken (xs ++ ys)
+taken-append : (taken : List (List ℕ)) (xs ys : List TakenList) → AreOwnLists taken xs → AreOwnLists taken ys → AreOwnLists taken (xs ++ ys)
 taken-append taken [] ys a b = b
 taken-append taken (x ∷ xs) ys a b = (a.0, taken-append taken xs ys a.1 b)
 
-taken_kept : (taken : List (List ℕ)) (ls : List TakenList) → AreTaken taken ls → AreTaken taken (kept ls)
+taken_kept : (taken : List (List ℕ)) (ls : List TakenList) → AreOwnLists taken ls → AreOwnLists taken (kept ls)
 taken_kept taken [] are = are
 taken_kept taken (a ∷ []) are = are
 taken_kept taken (a ∷ b ∷ ls) are = (are.0, are.1.1)
 
-taken_given : (taken : List (List ℕ)) (ls : List TakenList) → AreTaken taken ls → AreTaken taken (given ls)
+taken_given : (taken : List (List ℕ)) (ls : List TakenList) → AreOwnLists taken ls → AreOwnLists taken (given ls)
 taken_given taken [] are = tt
 taken_given taken (a ∷ []) are = tt
 taken_given taken (a ∷ b ∷ ls) are = (are.1.0, tt)
 
-kept_given : (h : ℕ → ℕ) (ls : List TakenList) → total h (workers_of (kept ls)) + total h (workers_of (given ls)) ≡ total h (workers_of ls)
+kept_given : (h : ℕ → ℕ) (ls : List TakenList) → sum_over h (workers_of (kept ls)) + sum_over h (workers_of (given ls)) ≡ sum_over h (workers_of ls)
 kept_given h [] = refl
 kept_given h (a ∷ []) = omega arith
 kept_given h (a ∷ b ∷ ls) = omega arith
@@ -64,17 +65,17 @@ given_some : (ls : List TakenList) → 0 < length (given ls) → 0 < length ls
 given_some [] l = l
 given_some (a ∷ ls) l = omega arith
 
-workers-append : (h : ℕ → ℕ) (xs ys : List TakenList) → total h (workers_of (xs ++ ys)) ≡ total h (workers_of xs) + total h (workers_of ys)
+workers-append : (h : ℕ → ℕ) (xs ys : List TakenList) → sum_over h (workers_of (xs ++ ys)) ≡ sum_over h (workers_of xs) + sum_over h (workers_of ys)
 workers-append h [] ys = omega arith
 workers-append h (x ∷ xs) ys = omega (arith, workers-append h xs ys)
 
 -- the numbers of some lists weigh what their workers took
-weigh_lists : (h : ℕ → ℕ) (taken : List (List ℕ)) (ls : List TakenList) → AreTaken taken ls → total h (numbers_of ls) ≡ total (λ w. total h (get_or taken w [])) (workers_of ls)
+weigh_lists : (h : ℕ → ℕ) (taken : List (List ℕ)) (ls : List TakenList) → AreOwnLists taken ls → sum_over h (numbers_of ls) ≡ sum_over (λ w. sum_over h (get_or taken w [])) (workers_of ls)
 weigh_lists h taken [] are = refl
 weigh_lists h taken (l ∷ ls) are =
     let e = weigh_lists h taken ls are.1 in
-    let a = total-append h l.numbers (numbers_of ls) in
-    let m = ap (total h) are.0 in
+    let a = sum_over-append h l.numbers (numbers_of ls) in
+    let m = ap (sum_over h) are.0 in
     omega (arith, e, a, m)
 
 pub empty_list : (n i : ℕ) → get_or {A = List ℕ} (replicate n []) i [] ≡ []
@@ -82,7 +83,7 @@ empty_list zero i = refl
 empty_list (suc n) zero = refl
 empty_list (suc n) (suc i) = empty_list n i
 
-taken_none : (n : ℕ) (workers : List ℕ) → AreTaken (replicate n []) (map (λ w. taken_list w []) workers)
+taken_none : (n : ℕ) (workers : List ℕ) → AreOwnLists (replicate n []) (map (λ w. taken_list w []) workers)
 taken_none n [] = tt
 taken_none n (w ∷ ws) = (empty_list n w, taken_none n ws)
 
@@ -101,27 +102,27 @@ module _ {J : Type 0} where
   each_one P w new zero u e = subst P (some-injective w u e) new
   each_one P w new (suc j) u e = absurd (some-ne-none u (sym e))
 
-  weigh_workers : (h : ℕ → ℕ) (views : List (Known J)) → total h (joined (map (λ (v : Known J). workers_of v.lists) views)) ≡ total (λ (v : Known J). total h (workers_of v.lists)) views
-  weigh_workers h views = total-joined h (map (λ (v : Known J). workers_of v.lists) views) ∙ total-map (λ l. total h l) (λ (v : Known J). workers_of v.lists) views
+  weigh_workers : (h : ℕ → ℕ) (views : List (Known J)) → sum_over h (concatenation (map (λ (v : Known J). workers_of v.lists) views)) ≡ sum_over (λ (v : Known J). sum_over h (workers_of v.lists)) views
+  weigh_workers h views = sum_over-concatenation h (map (λ (v : Known J). workers_of v.lists) views) ∙ sum_over-map (λ l. sum_over h l) (λ (v : Known J). workers_of v.lists) views
 
   -- what a pass learns: of the jobs that it knows, each is in one of its lists, in the queue, or in a list that it has not
   pub weighed : (n : ℕ) (v : Known J) (left : List ℕ) (b : IsBoardOf n v left)
-      → (others : List ℕ) × ((h : ℕ → ℕ) → total h (workers_of v.lists) + total h others ≡ total h (below n))
-      × ((h : ℕ → ℕ) → total h (numbers_of v.lists) + total (λ w. total h (get_or b.board.taken w [])) others + total h left ≡ total h (below (length v.jobs)))
+      → (others : List ℕ) × ((h : ℕ → ℕ) → sum_over h (workers_of v.lists) + sum_over h others ≡ sum_over h (below n))
+      × ((h : ℕ → ℕ) → sum_over h (numbers_of v.lists) + sum_over (λ w. sum_over h (get_or b.board.taken w [])) others + sum_over h left ≡ sum_over h (below (length v.jobs)))
   weighed n v left b =
-      let r = besides (workers_of v.lists) (below n) (λ w. let l = b.apart w in let e = times-below w n in omega arith) in
+      let r = besides (workers_of v.lists) (below n) (λ w. let l = b.apart w in let e = occurrences-below w n in omega arith) in
       let a = accounted n b.board b.reached in (
         r.0,
         r.1,
         (λ h.
-            let weight : ℕ → ℕ = λ w. total h (get_or b.board.taken w []) in
+            let weight : ℕ → ℕ = λ w. sum_over h (get_or b.board.taken w []) in
             let p = a.all h in
             let q = a.lists h in
-            let w = ap (total h) b.waiting in
+            let w = ap (sum_over h) b.waiting in
             let e = r.1 weight in
             let m = weigh_lists h b.board.taken v.lists b.taken in
-            let t = total-places (λ t. total h t) [] b.board.taken n a.taken ∙ sym (total-joined h b.board.taken) in
-            let k : total h (below (length v.jobs)) ≡ total h (below b.board.put) = ap (λ i. total h (below i)) (sym b.put) in
+            let t = sum_over-places (λ t. sum_over h t) [] b.board.taken n a.taken ∙ sym (sum_over-concatenation h b.board.taken) in
+            let k : sum_over h (below (length v.jobs)) ≡ sum_over h (below b.board.put) = ap (λ i. sum_over h (below i)) (sym b.put) in
             omega (arith, p, q, w, e, m, t, k)),
       )
 
@@ -138,16 +139,16 @@ module _ {J P : Type 0} where
     put = refl;
     waiting = refl;
     stand = tt;
-    taken = each_one (λ v. AreTaken (replicate n []) v.lists) (known [] (no_lists n)) (taken_none n (below n));
-    apart = λ w. let e = ap (times w) (workers_none (below n)) in let t = times-below w n in omega arith;
+    taken = each_one (λ v. AreOwnLists (replicate n []) v.lists) (known [] (no_lists n)) (taken_none n (below n));
+    apart = λ w. let e = ap (occurrences w) (workers_none (below n)) in let t = occurrences-below w n in omega arith;
     know = each_one (λ v. HasList v → v.jobs ≡ []) (known [] (no_lists n)) (λ _. refl);
   }
 
   -- however the workers are weighed
-  apart_weighed : (n : ℕ) (items : List (NumberedJob J P)) (views : List (Known J)) → IsBoard n items views → (h : ℕ → ℕ) → total (λ (v : Known J). total h (workers_of v.lists)) views ≡ total h (below n)
+  apart_weighed : (n : ℕ) (items : List (NumberedJob J P)) (views : List (Known J)) → IsBoard n items views → (h : ℕ → ℕ) → sum_over (λ (v : Known J). sum_over h (workers_of v.lists)) views ≡ sum_over h (below n)
   apart_weighed n items views b h =
       sym (weigh_workers h views)
-      ∙ same_total (joined (map (λ (v : Known J). workers_of v.lists) views)) (below n) (λ w. weigh_workers (is_it w) views ∙ (b.apart w ∙ sym (times-below w n))) h
+      ∙ same_sums (concatenation (map (λ (v : Known J). workers_of v.lists) views)) (below n) (λ w. weigh_workers (is_it w) views ∙ (b.apart w ∙ sym (occurrences-below w n))) h
 
   pub pushes : (n room port : ℕ) (v : Known J) (x : NumberedJob J P) → length v.lists ≡ n → 0 < n → x.number ≡ length v.jobs → Pushes (IsBoard n) room port v x (Pushed v x)
   pushes n room port v x every some_worker next items views free b at =
@@ -155,7 +156,7 @@ module _ {J P : Type 0} where
       let same : v.jobs ≡ b.jobs = b.know port v at (omega arith) in
       let new : List J = b.jobs ++ x.job ∷ [] in
       let here : x.number ≡ length b.jobs = next ∙ ap length same in
-      let f : Known J → ℕ = λ u. total (λ _. 1) (workers_of u.lists) in (
+      let f : Known J → ℕ = λ u. sum_over (λ _. 1) (workers_of u.lists) in (
         w,
         record {
           jobs = new;
@@ -164,15 +165,15 @@ module _ {J P : Type 0} where
           put = let p = b.put in let a = length-append b.jobs (x.job ∷ []) in let g : suc b.board.put ≡ length new = omega arith in g;
           waiting = ap (λ l. l ++ b.board.put ∷ []) b.waiting ∙ (ap (λ k. queued items ++ k ∷ []) (b.put ∙ sym here) ∙ sym (map-append (λ (item : NumberedJob J P). item.number) items (x ∷ [])));
           stand = stand-snoc b.jobs (x.job ∷ []) items x b.stand (subst (λ k. get_elem? new k ≡ some x.job) (sym here) (at_end b.jobs x.job));
-          taken = each_set (λ u. AreTaken b.board.taken u.lists) views port w (b.taken port v at) (λ j u _ e. b.taken j u e);
-          apart = λ worker. let t = total-set (λ (u : Known J). times worker (workers_of u.lists)) views port v w at in let p = b.apart worker in omega arith;
+          taken = each_set (λ u. AreOwnLists b.board.taken u.lists) views port w (b.taken port v at) (λ j u _ e. b.taken j u e);
+          apart = λ worker. let t = sum_over-set (λ (u : Known J). occurrences worker (workers_of u.lists)) views port v w at in let p = b.apart worker in omega arith;
           know = each_set (λ u. HasList u → u.jobs ≡ new) views port w (λ _. ap (λ js. js ++ x.job ∷ []) same)
               (λ j u ne e some_list.
-              let two = total-two f views port j v u at e ne in
+              let two = sum_over-two f views port j v u at e ne in
               let p = apart_weighed n items views b (λ _. 1) in
               let a = count_lists v.lists in
               let c = count_lists u.lists in
-              let l = total-length (below n) in
+              let l = sum_over-length (below n) in
               let m = length-below n in
               absurd (omega arith));
         },
@@ -181,22 +182,22 @@ module _ {J P : Type 0} where
 
   -- a worker's list is in one pass, once
   only_here : (n port : ℕ) (items : List (NumberedJob J P)) (views : List (Known J)) (jobs : List J) (l : TakenList) (rest : List TakenList)
-      → IsBoard n items views → get_elem? views port ≡ some (known jobs (l ∷ rest)) → (l.worker < n) × (times l.worker (workers_of rest) ≡ 0)
+      → IsBoard n items views → get_elem? views port ≡ some (known jobs (l ∷ rest)) → (l.worker < n) × (occurrences l.worker (workers_of rest) ≡ 0)
   only_here n port items views jobs l rest b at =
       let w : ℕ = l.worker in
-      let f : Known J → ℕ = λ u. times w (workers_of u.lists) in
-      let one = total-one f views port (known jobs (l ∷ rest)) at in
+      let f : Known J → ℕ = λ u. occurrences w (workers_of u.lists) in
+      let one = sum_over-one f views port (known jobs (l ∷ rest)) at in
       let p = b.apart w in
       let r = at_most_once w n in
       let s = once_itself w in
       (below_once w n (omega arith), omega arith)
 
   not_there : (n port j : ℕ) (items : List (NumberedJob J P)) (views : List (Known J)) (jobs : List J) (l : TakenList) (rest : List TakenList) (u : Known J)
-      → IsBoard n items views → get_elem? views port ≡ some (known jobs (l ∷ rest)) → j ≢ port → get_elem? views j ≡ some u → times l.worker (workers_of u.lists) ≡ 0
+      → IsBoard n items views → get_elem? views port ≡ some (known jobs (l ∷ rest)) → j ≢ port → get_elem? views j ≡ some u → occurrences l.worker (workers_of u.lists) ≡ 0
   not_there n port j items views jobs l rest u b at ne at' =
       let w : ℕ = l.worker in
-      let f : Known J → ℕ = λ u. times w (workers_of u.lists) in
-      let two = total-two f views port j (known jobs (l ∷ rest)) u at at' ne in
+      let f : Known J → ℕ = λ u. occurrences w (workers_of u.lists) in
+      let two = sum_over-two f views port j (known jobs (l ∷ rest)) u at at' ne in
       let p = b.apart w in
       let r = at_most_once w n in
       let s = once_itself w in
@@ -209,7 +210,7 @@ module _ {J P : Type 0} where
     put = b.put ∙ sym (ap length (b.know port v at some_list));
     waiting = b.waiting;
     taken = b.taken port v at;
-    apart = λ w. let l = total-one (λ (u : Known J). times w (workers_of u.lists)) views port v at in let e = b.apart w in omega arith;
+    apart = λ w. let l = sum_over-one (λ (u : Known J). occurrences w (workers_of u.lists)) views port v at in let e = b.apart w in omega arith;
   }
 
   pops_from : (n port : ℕ) (jobs : List J) (l : TakenList) (rest : List TakenList) → Pops (IsBoard {J = J} {P = P} n) port (known jobs (l ∷ rest)) (Popped (known jobs (l ∷ rest)))
@@ -233,12 +234,12 @@ module _ {J P : Type 0} where
           put = f.5 ∙ b.put;
           waiting = refl;
           stand = b.stand.1;
-          taken = each_set (λ u. AreTaken s.taken u.lists) views port w (
+          taken = each_set (λ u. AreOwnLists s.taken u.lists) views port w (
             get_or-set_same t.taken l.worker new [] (let e = sizes.taken in let o = only.0 in omega arith) ∙ ap (λ q. q ++ x.number ∷ []) was,
-            taken_else t.taken l.worker new rest only.1 (subst (λ ts. AreTaken ts rest) (sym f.3) are.1),
+            taken_else t.taken l.worker new rest only.1 (subst (λ ts. AreOwnLists ts rest) (sym f.3) are.1),
           )
-              (λ j u ne e. taken_else t.taken l.worker new u.lists (not_there n port j (x ∷ items) views jobs l rest u b at ne e) (subst (λ ts. AreTaken ts u.lists) (sym f.3) (b.taken j u e)));
-          apart = λ worker. let q = total-set (λ (u : Known J). times worker (workers_of u.lists)) views port v w at in let p = b.apart worker in omega arith;
+              (λ j u ne e. taken_else t.taken l.worker new u.lists (not_there n port j (x ∷ items) views jobs l rest u b at ne e) (subst (λ ts. AreOwnLists ts u.lists) (sym f.3) (b.taken j u e)));
+          apart = λ worker. let q = sum_over-set (λ (u : Known J). occurrences worker (workers_of u.lists)) views port v w at in let p = b.apart worker in omega arith;
           know = each_set (λ u. HasList u → u.jobs ≡ b.jobs) views port w (λ _. same) (λ j u _ e. b.know j u e);
         },
         (
@@ -246,8 +247,8 @@ module _ {J P : Type 0} where
           subst (λ js. get_elem? js x.number ≡ some x.job) (sym same) b.stand.0,
           (let one : ℕ → ℕ = λ _. 1 in
               let e = (weighed n v (queued (x ∷ items)) (learns n port v (omega arith) (x ∷ items) views b at)).2 one in
-              let c = total-length (numbers_of (l ∷ rest)) in
-              let d = total-length (below (length jobs)) ∙ length-below (length jobs) in
+              let c = sum_over-length (numbers_of (l ∷ rest)) in
+              let d = sum_over-length (below (length jobs)) ∙ length-below (length jobs) in
               omega (arith, c, d, e)),
         ),
       )
@@ -256,30 +257,38 @@ module _ {J P : Type 0} where
   pops n port v [] is some_list = absurd (let e = ap length is in omega arith)
   pops n port v (l ∷ rest) is some_list = subst (λ ls. Pops (IsBoard {J = J} {P = P} n) port (known v.jobs ls) (Popped (known v.jobs ls))) (sym is) (pops_from n port v.jobs l rest)
 
+  -- the same board, where the lists are in other passes
+  same_board : (n : ℕ) (items : List (NumberedJob J P)) (views new : List (Known J)) (b : IsBoard {J = J} {P = P} n items views) → EachPass (λ u. AreOwnLists b.board.taken u.lists) new
+      → ((worker : ℕ) → sum_over (λ (u : Known J). occurrences worker (workers_of u.lists)) new ≡ once_below worker n) → EachPass (λ u. HasList u → u.jobs ≡ b.jobs) new → IsBoard {J = J} {P = P} n items new
+  same_board n items views new b taken apart know = record {
+    jobs = b.jobs;
+    board = b.board;
+    reached = b.reached;
+    put = b.put;
+    waiting = b.waiting;
+    stand = b.stand;
+    taken = taken;
+    apart = apart;
+    know = know;
+  }
+
   pub forks : (n port : ℕ) (v : Known J) → Forks (IsBoard {J = J} {P = P} n) port v (known v.jobs (kept v.lists)) (known v.jobs (given v.lists))
   forks n port v items views b at =
       let l : Known J = known v.jobs (kept v.lists) in
       let r : Known J = known v.jobs (given v.lists) in
       let vs : List (Known J) = set views port l in
-      record {
-        jobs = b.jobs;
-        board = b.board;
-        reached = b.reached;
-        put = b.put;
-        waiting = b.waiting;
-        stand = b.stand;
-        taken = each_snoc (λ u. AreTaken b.board.taken u.lists) vs r (taken_given b.board.taken v.lists (b.taken port v at))
-            (each_set (λ u. AreTaken b.board.taken u.lists) views port l (taken_kept b.board.taken v.lists (b.taken port v at)) (λ j u _ e. b.taken j u e));
-        apart = λ w.
-            let f : Known J → ℕ = λ u. times w (workers_of u.lists) in
-            let t = total-set f views port v l at in
-            let q = total-append f vs (r ∷ []) in
-            let k = kept_given (is_it w) v.lists in
-            let p = b.apart w in
-            omega arith;
-        know = each_snoc (λ u. HasList u → u.jobs ≡ b.jobs) vs r (λ some. b.know port v at (given_some v.lists some))
-            (each_set (λ u. HasList u → u.jobs ≡ b.jobs) views port l (λ some. b.know port v at (kept_some v.lists some)) (λ j u _ e. b.know j u e));
-      }
+      same_board n items views (vs ++ r ∷ []) b
+      (each_snoc (λ u. AreOwnLists b.board.taken u.lists) vs r (taken_given b.board.taken v.lists (b.taken port v at))
+      (each_set (λ u. AreOwnLists b.board.taken u.lists) views port l (taken_kept b.board.taken v.lists (b.taken port v at)) (λ j u _ e. b.taken j u e)))
+      (λ w.
+      let f : Known J → ℕ = λ u. occurrences w (workers_of u.lists) in
+      let t = sum_over-set f views port v l at in
+      let q = sum_over-append f vs (r ∷ []) in
+      let k = kept_given (is_it w) v.lists in
+      let p = b.apart w in
+      omega arith)
+      (each_snoc (λ u. HasList u → u.jobs ≡ b.jobs) vs r (λ some. b.know port v at (given_some v.lists some))
+      (each_set (λ u. HasList u → u.jobs ≡ b.jobs) views port l (λ some. b.know port v at (kept_some v.lists some)) (λ j u _ e. b.know j u e)))
 
   pub merges : (n port : ℕ) (v : Known J) (other : ℕ) (u : Known J) → HasList v → Merges (IsBoard {J = J} {P = P} n) port v other u (known v.jobs (v.lists ++ u.lists)) (known [] [])
   merges n port v other u some_list items views b at two at' =
@@ -287,22 +296,15 @@ module _ {J P : Type 0} where
       let spent : Known J = known [] [] in
       let vs : List (Known J) = set views port both in
       let there : get_elem? views other ≡ some u = sym (set_else views port other both two) ∙ at' in
-      record {
-        jobs = b.jobs;
-        board = b.board;
-        reached = b.reached;
-        put = b.put;
-        waiting = b.waiting;
-        stand = b.stand;
-        taken = each_set (λ x. AreTaken b.board.taken x.lists) vs other spent tt
-            (λ j x _ e. each_set (λ y. AreTaken b.board.taken y.lists) views port both (taken-append b.board.taken v.lists u.lists (b.taken port v at) (b.taken other u there)) (λ i y _ f. b.taken i y f) j x e);
-        apart = λ w.
-            let f : Known J → ℕ = λ x. times w (workers_of x.lists) in
-            let s = total-set f views port v both at in
-            let t = total-set f vs other u spent at' in
-            let a = workers-append (is_it w) v.lists u.lists in
-            let p = b.apart w in
-            omega arith;
-        know = each_set (λ x. HasList x → x.jobs ≡ b.jobs) vs other spent (λ none. absurd (omega arith))
-            (λ j x _ e. each_set (λ y. HasList y → y.jobs ≡ b.jobs) views port both (λ _. b.know port v at some_list) (λ i y _ f. b.know i y f) j x e);
-      }
+      same_board n items views (set vs other spent) b
+      (each_set (λ x. AreOwnLists b.board.taken x.lists) vs other spent tt
+      (λ j x _ e. each_set (λ y. AreOwnLists b.board.taken y.lists) views port both (taken-append b.board.taken v.lists u.lists (b.taken port v at) (b.taken other u there)) (λ i y _ f. b.taken i y f) j x e))
+      (λ w.
+      let f : Known J → ℕ = λ x. occurrences w (workers_of x.lists) in
+      let s = sum_over-set f views port v both at in
+      let t = sum_over-set f vs other u spent at' in
+      let a = workers-append (is_it w) v.lists u.lists in
+      let p = b.apart w in
+      omega arith)
+      (each_set (λ x. HasList x → x.jobs ≡ b.jobs) vs other spent (λ none. absurd (omega arith))
+      (λ j x _ e. each_set (λ y. HasList y → y.jobs ≡ b.jobs) views port both (λ _. b.know port v at some_list) (λ i y _ f. b.know i y f) j x e))

@@ -8,12 +8,12 @@ use Rattle.bt_gang.specs.declared.answers.Answers.{Answers}
 use Rattle.bt_gang.specs.declared.rule.Known.{Known}
 use Rattle.bt_gang.specs.declared.rule.NumberedJob.{NumberedJob}
 use Rattle.bt_gang.specs.declared.rule.TakenList.{TakenList}
-use Rattle.bt_gang.specs.Numbers.{total, is_it, below}
+use Rattle.bt_gang.specs.Numbers.{sum_over, is_it, below}
 use Rattle.bt_gang.specs.declared.crew.TheConstants.{MOST_WORKERS}
 use Rattle.bt_gang.specs.Queue.{taken_list, no_lists, grown, numbers_of, known, gained, HasList, IsBoardOf, Popped, queued}
 use Rattle.bt_gang.specs.Numbered.{numbered, present}
 use Rattle.bt_gang.specs.Answers.{AllMay, Gains, FoundNothing}
-use Rattle.bt_gang.proofs.Numbers.{times-below, total-length, length-below, at_below}
+use Rattle.bt_gang.proofs.Numbers.{occurrences-below, sum_over-length, length-below, at_below}
 use Rattle.bt_gang.proofs.Rules.{count_lists, weighed}
 
 module _ {D F : Type 0} where
@@ -110,29 +110,29 @@ module _ {J D F : Type 0} (allows : J → Result D F → Type 0) where
 length-none : (n : ℕ) → length (no_lists n) ≡ n
 length-none n = length-map (below n) (λ worker. taken_list worker []) ∙ length-below n
 
-none_taken : (workers : List ℕ) (h : ℕ → ℕ) → total h (numbers_of (map (λ worker. taken_list worker []) workers)) ≡ 0
+none_taken : (workers : List ℕ) (h : ℕ → ℕ) → sum_over h (numbers_of (map (λ worker. taken_list worker []) workers)) ≡ 0
 none_taken [] h = refl
 none_taken (w ∷ ws) h = none_taken ws h
 
 module _ {J : Type 0} where
   -- where a pass has the lists of all workers, each job is in one of them or in the queue
-  all_weighed : (n : ℕ) (v : Known J) (left : List ℕ) → IsBoardOf n v left → length v.lists ≡ n → (h : ℕ → ℕ) → total h (numbers_of v.lists) + total h left ≡ total h (below (length v.jobs))
+  all_weighed : (n : ℕ) (v : Known J) (left : List ℕ) → IsBoardOf n v left → length v.lists ≡ n → (h : ℕ → ℕ) → sum_over h (numbers_of v.lists) + sum_over h left ≡ sum_over h (below (length v.jobs))
   all_weighed n v left b all h =
       let r = weighed n v left b in
       let one : ℕ → ℕ = λ _. 1 in
       let e = r.1 one in
       let a = count_lists v.lists in
-      let c = total-length (below n) in
+      let c = sum_over-length (below n) in
       let d = length-below n in
-      let f = total-length r.0 in
+      let f = sum_over-length r.0 in
       let none : r.0 ≡ [] = nil_from_length r.0 (omega arith) in
       let k = r.2 h in
-      let z : total (λ w. total h (get_or b.board.taken w [])) r.0 ≡ 0 = ap (total (λ w. total h (get_or b.board.taken w []))) none in
+      let z : sum_over (λ w. sum_over h (get_or b.board.taken w [])) r.0 ≡ 0 = ap (sum_over (λ w. sum_over h (get_or b.board.taken w []))) none in
       omega arith
 
   pub found_nothing : (n : ℕ) (v : Known J) → IsBoardOf n v [] → n ≡ MOST_WORKERS → FoundNothing v
   found_nothing n v b most = λ job.
-      let t = times-below job (length v.jobs) in (
+      let t = occurrences-below job (length v.jobs) in (
         (let k = (weighed n v [] b).2 (is_it job) in omega arith),
         (λ all. let k = all_weighed n v [] b (all ∙ sym most) (is_it job) in omega arith),
       )
@@ -150,8 +150,8 @@ module _ {J P : Type 0} where
   never_full n v jobs places e (items, full, b) =
       let one : ℕ → ℕ = λ _. 1 in
       let p = all_weighed n v (queued items) b (lists_length n v jobs e) one in
-      let q = total-length (queued items) ∙ length-map items (λ (item : NumberedJob J P). item.number) in
-      let r = ap (λ (y : Known J). total one (numbers_of y.lists)) e ∙ none_taken (below n) one in
-      let s = total-length (below (length v.jobs)) ∙ length-below (length v.jobs) in
+      let q = sum_over-length (queued items) ∙ length-map items (λ (item : NumberedJob J P). item.number) in
+      let r = ap (λ (y : Known J). sum_over one (numbers_of y.lists)) e ∙ none_taken (below n) one in
+      let s = sum_over-length (below (length v.jobs)) ∙ length-below (length v.jobs) in
       let t = ap (λ (y : Known J). length y.jobs) e in
       omega arith

@@ -8,8 +8,8 @@ use Rattle.bt_gang.specs.Numbers.{below}
 use Rattle.bt_gang.specs.Board.{state, start, after_put, after_take, after_hand, IsReached}
 use Rattle.bt_gang.specs.Board.Event.{Put, Take, Hand}
 use Rattle.bt_gang.specs.inside.Takers.{places, lists_of, kept_state}
-use Rattle.bt_gang.proofs.Numbers.{length-below, total-length, total-set_or}
-use Rattle.bt_gang.proofs.Accounts.{accounted, weight_held, total-holding}
+use Rattle.bt_gang.proofs.Numbers.{length-below, sum_over-length, sum_over-set_or}
+use Rattle.bt_gang.proofs.Accounts.{accounted, weight_held, sum_over-holding}
 
 if_append : (b : Bool) (at : ℕ) (xs ys : List ℕ) → (if b then at ∷ (xs ++ ys) else (xs ++ ys)) ≡ (if b then at ∷ xs else xs) ++ ys
 if_append true at xs ys = refl
@@ -129,9 +129,9 @@ pub hand_room : (put w job : ℕ) (takers handed : List ℕ) (held : List (Optio
 hand_room put w job takers handed held r l holds =
     let one : ℕ → ℕ = λ _. 1 in
     let a = (accounted (length held) (kept_state put takers held handed) r).all one in
-    let b = total-holding one held in
-    let c = total-set_or (weight_held one) held w None None l in
+    let b = sum_over-holding one held in
+    let c = sum_over-set_or (weight_held one) held w None None l in
     let d = ap (weight_held one) holds in
-    let e = total-length handed in
-    let f = total-length (below put) ∙ length-below put in
+    let e = sum_over-length handed in
+    let f = sum_over-length (below put) ∙ length-below put in
     omega arith

@@ -11,25 +11,25 @@ use Rattle.bt_gang.specs.declared.crew.TheConstants.{MOST_WORKERS}
 use Rattle.bt_gang.specs.Queue.{taken_list, no_lists, given, kept, numbers_of, known, gained, HasList}
 use Rattle.bt_gang.specs.Numbered.{numbered, present}
 use Rattle.bt_gang.specs.Answers.{AllMay, Gains}
-use Rattle.bt_gang.specs.inside.Workers.{TakenLists, AllFrom, IsReady, IsReadyCaller, HasServed, HasServedCaller, IsCaller, IsPromise, TookIn, lists_back, lists_left}
+use Rattle.bt_gang.specs.inside.Workers.{TakenLists, AllByNumber, IsReady, IsReadyCaller, HasServed, HasServedCaller, IsCaller, IsPromise, TookIn, TookInFrom, lists_back, lists_left}
 use Rattle.bt_gang.proofs.WorkerLists.{back_more, left_more}
 
 module _ {X : Type 0} (P : ℕ → X → Type 0) where
-  from_snoc : (first next : ℕ) (xs : List X) (x : X) → AllFrom P first xs → next ≡ first + length xs → P next x → AllFrom P first (xs ++ x ∷ [])
+  from_snoc : (first next : ℕ) (xs : List X) (x : X) → AllByNumber P first xs → next ≡ first + length xs → P next x → AllByNumber P first (xs ++ x ∷ [])
   from_snoc first next [] x all e p = let k : next ≡ first = omega arith in (subst (λ n. P n x) k p, tt)
   from_snoc first next (y ∷ ys) x all e p = (all.0, from_snoc (suc first) next ys x all.1 (omega arith) p)
 
-  pub from_more : (first next : ℕ) (xs ys : List X) (x : X) → ys ≡ xs ++ x ∷ [] → next ≡ first + length xs → AllFrom P first xs → P next x → AllFrom P first ys
-  from_more first next xs ys x e n all p = subst (AllFrom P first) (sym e) (from_snoc first next xs x all n p)
+  pub from_more : (first next : ℕ) (xs ys : List X) (x : X) → ys ≡ xs ++ x ∷ [] → next ≡ first + length xs → AllByNumber P first xs → P next x → AllByNumber P first ys
+  from_more first next xs ys x e n all p = subst (AllByNumber P first) (sym e) (from_snoc first next xs x all n p)
 
-  pub from_next : (first next : ℕ) (xs ys : List X) (x : X) → xs ≡ x ∷ ys → next ≡ suc first → AllFrom P first xs → P first x × AllFrom P next ys
-  from_next first next xs ys x e n all = let both = subst (AllFrom P first) e all in (both.0, subst (λ k. AllFrom P k ys) (sym n) both.1)
+  pub from_next : (first next : ℕ) (xs ys : List X) (x : X) → xs ≡ x ∷ ys → next ≡ suc first → AllByNumber P first xs → P first x × AllByNumber P next ys
+  from_next first next xs ys x e n all = let both = subst (AllByNumber P first) e all in (both.0, subst (λ k. AllByNumber P k ys) (sym n) both.1)
 
-  pub from_same : (first next : ℕ) (xs ys : List X) → ys ≡ xs → next ≡ first → AllFrom P first xs → AllFrom P next ys
-  from_same first next xs ys e n all = subst (λ k. AllFrom P k ys) (sym n) (subst (AllFrom P first) (sym e) all)
+  pub from_same : (first next : ℕ) (xs ys : List X) → ys ≡ xs → next ≡ first → AllByNumber P first xs → AllByNumber P next ys
+  from_same first next xs ys e n all = subst (λ k. AllByNumber P k ys) (sym n) (subst (AllByNumber P first) (sym e) all)
 
-  pub from_none : (first : ℕ) (xs : List X) → xs ≡ [] → AllFrom P first xs
-  from_none first xs e = subst (AllFrom P first) (sym e) tt
+  pub from_none : (first : ℕ) (xs : List X) → xs ≡ [] → AllByNumber P first xs
+  from_none first xs e = subst (AllByNumber P first) (sym e) tt
 
 module _ {J : Type 0} where
   pub caller_first : (all : List J) (v : Known J) → v ≡ known all (no_lists MOST_WORKERS) → IsCaller all 0 v
@@ -59,18 +59,13 @@ module _ {J D F : Type 0} where
   pub took_list : (before v : Known J) (outs : List (Option (Answers D F))) → TookIn before v outs → HasList before → HasList v
   took_list before v outs t some_list = let k = ap (λ (y : Known J). length y.lists) t in let l = length-append before.lists (lists_back 1 outs) in omega arith
 
-  -- one more pass came back
-  pub took_more : (before v w u : Known J) (all : List J) (outs : List (Option (Answers D F))) (out : Answers D F) (number : ℕ)
-      → TookIn before v outs → u ≡ known all (taken_list number (numbered (present out.list)) ∷ []) → number ≡ 1 + length outs → w ≡ known v.jobs (v.lists ++ u.lists) → TookIn before w (outs ++ Some out ∷ [])
-  took_more before v w u all outs out number t e n f =
-      let one : TakenLists = taken_list number (numbered (present out.list)) ∷ [] in
-      let g : known v.jobs (v.lists ++ u.lists) ≡ known before.jobs ((before.lists ++ lists_back 1 outs) ++ one) =
-      (λ i. known (t i).jobs ((t i).lists ++ (e i).lists)) in
-      f ∙ (g ∙ (λ i. known before.jobs (append_assoc before.lists (lists_back 1 outs) one i)) ∙ ap (λ ls. known before.jobs (before.lists ++ ls)) (sym (back_more 1 number outs (Some out) n)))
-
-  pub took_none : (before v : Known J) (outs : List (Option (Answers D F))) → TookIn before v outs → TookIn before v (outs ++ None ∷ [])
-  took_none before v outs t =
-      t ∙ ap (λ ls. known before.jobs (before.lists ++ ls)) (sym (append-nil (lists_back 1 outs)) ∙ sym (back_more 1 (1 + length outs) outs None refl))
+  -- one more worker came back, or was not started
+  pub took_more : (before v w : Known J) (outs more : List (Option (Answers D F))) (out : Option (Answers D F)) (number : ℕ)
+      → more ≡ outs ++ out ∷ [] → number ≡ 1 + length outs → TookIn before v outs → TookInFrom number v w (out ∷ []) → TookIn before w more
+  took_more before v w outs more out number e n t one =
+      let lists = lists_back number (out ∷ []) in
+      one ∙ ((λ i. known (t i).jobs ((t i).lists ++ lists)) ∙ ap (known before.jobs) (append_assoc before.lists (lists_back 1 outs) lists)
+      ∙ ap (λ ls. known before.jobs (before.lists ++ ls)) (sym (ap (lists_back 1) e ∙ back_more 1 number outs out n)))
 
 module _ {J D F : Type 0} (allows : J → Result D F → Type 0) where
   -- a worker that had taken nothing has the answers that were added

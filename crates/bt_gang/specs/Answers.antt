@@ -6,7 +6,7 @@ use Rattle.bt_gang.specs.declared.answers.Answer.{Answer}
 use Rattle.bt_gang.specs.declared.answers.Answers.{Answers}
 use Rattle.bt_gang.specs.declared.rule.Known.{Known}
 use Rattle.bt_gang.specs.Numbered.{numbered, present}
-use Rattle.bt_gang.specs.Numbers.{times, once_below}
+use Rattle.bt_gang.specs.Numbers.{occurrences, once_below}
 use Rattle.bt_gang.specs.Queue.{gained, numbers_of, HasAll}
 
 module _ {J D F : Type 0} (allows : J → Result D F → Type 0) where
@@ -31,5 +31,5 @@ module _ {J : Type 0} where
   abbrev pub FoundNothing : Known J → Type 0
   FoundNothing v =
       (job : ℕ)
-      → (times job (numbers_of v.lists) ≤ once_below job (length v.jobs))
-      × (HasAll v → times job (numbers_of v.lists) ≡ once_below job (length v.jobs))
+      → (occurrences job (numbers_of v.lists) ≤ once_below job (length v.jobs))
+      × (HasAll v → occurrences job (numbers_of v.lists) ≡ once_below job (length v.jobs))

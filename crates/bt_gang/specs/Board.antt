@@ -1,6 +1,7 @@
 -- The board of a call: which jobs wait, and what became of the others. A job is its number here.
 use Rattle.std.specs.Prelude.{◌≡◌, ℕ, suc, ◌+◌, ◌<◌, List, [], ◌∷◌, ◌++◌, length, get_or, set, replicate, Option, None, Some}
-use Rattle.bt_gang.specs.Numbers.{joined, times, once_below}
+use Rattle.bt_rowtype.specs.Lists.{concatenation}
+use Rattle.bt_gang.specs.Numbers.{occurrences, once_below}
 
 pub record State : Type 0 where
   -- how many jobs were put, which is the number of the next
@@ -21,8 +22,8 @@ state put waiting held taken handed = record { put = put; waiting = waiting; hel
 abbrev pub start : ℕ → State
 start workers = state 0 [] (replicate workers None) (replicate workers []) []
 
-abbrev pub held_by : ℕ → State → Option ℕ
-held_by worker s = get_or s.held worker None
+abbrev pub held_job : ℕ → State → Option ℕ
+held_job worker s = get_or s.held worker None
 
 abbrev pub taken_by : ℕ → State → List ℕ
 taken_by worker s = get_or s.taken worker []
@@ -47,17 +48,17 @@ pub data Event : Type 0 where
 -- the event is possible in the first state, and leads to the second
 abbrev pub Leads : Event → State → State → Type 0
 Leads Put s t = t ≡ after_put s
-Leads (Take worker) s t = (front : ℕ) × (rest : List ℕ) × (worker < length s.held) × (held_by worker s ≡ None) × (s.waiting ≡ front ∷ rest) × (t ≡ after_take worker front rest s)
-Leads (Hand worker) s t = (job : ℕ) × (worker < length s.held) × (held_by worker s ≡ Some job) × (t ≡ after_hand worker job s)
+Leads (Take worker) s t = (front : ℕ) × (rest : List ℕ) × (worker < length s.held) × (held_job worker s ≡ None) × (s.waiting ≡ front ∷ rest) × (t ≡ after_take worker front rest s)
+Leads (Hand worker) s t = (job : ℕ) × (worker < length s.held) × (held_job worker s ≡ Some job) × (t ≡ after_hand worker job s)
 
 -- a run: events, the last of them first, each possible where the ones before it led
-abbrev pub Runs : List Event → State → State → Type 0
-Runs [] s t = t ≡ s
-Runs (event ∷ before) s t = (m : State) × Runs before s m × Leads event m t
+abbrev pub IsRun : List Event → State → State → Type 0
+IsRun [] s t = t ≡ s
+IsRun (event ∷ before) s t = (m : State) × IsRun before s m × Leads event m t
 
 -- a run of so many workers leads to this state
 abbrev pub IsReached : ℕ → State → Type 0
-IsReached workers s = (events : List Event) × Runs events (start workers) s
+IsReached workers s = (events : List Event) × IsRun events (start workers) s
 
 -- the jobs that are held
 abbrev pub holding : List (Option ℕ) → List ℕ
@@ -69,8 +70,8 @@ holding (Some job ∷ rest) = job ∷ holding rest
 abbrev pub IsAccounted : State → Type 0
 IsAccounted s =
     (job : ℕ)
-    → (times job s.waiting + times job (holding s.held) + times job s.handed ≡ once_below job s.put)
-    × (times job (joined s.taken) ≡ times job (holding s.held) + times job s.handed)
+    → (occurrences job s.waiting + occurrences job (holding s.held) + occurrences job s.handed ≡ once_below job s.put)
+    × (occurrences job (concatenation s.taken) ≡ occurrences job (holding s.held) + occurrences job s.handed)
 
 -- a board with room for so many jobs
 pub record Roomy : Type 0 where

@@ -2,22 +2,17 @@
 use Rattle.std.specs.Prelude.{ℕ, zero, suc, ◌+◌, List, [], ◌∷◌, ◌++◌, nat_eq, nat_lt, if◌then◌else◌}
 
 -- f of each item, added up
-abbrev pub total : {X : Type 0} → (X → ℕ) → List X → ℕ
-total f [] = 0
-total f (x ∷ xs) = f x + total f xs
-
--- the lists in a row
-abbrev pub joined : {X : Type 0} → List (List X) → List X
-joined [] = []
-joined (l ∷ ls) = l ++ joined ls
+abbrev pub sum_over : {X : Type 0} → (X → ℕ) → List X → ℕ
+sum_over f [] = 0
+sum_over f (x ∷ xs) = f x + sum_over f xs
 
 -- 1 for this number, and else 0
 abbrev pub is_it : ℕ → ℕ → ℕ
 is_it x y = if nat_eq y x then 1 else 0
 
 -- how often x stands in the list
-abbrev pub times : ℕ → List ℕ → ℕ
-times x xs = total (is_it x) xs
+abbrev pub occurrences : ℕ → List ℕ → ℕ
+occurrences x xs = sum_over (is_it x) xs
 
 -- the numbers from 0 to n, without n
 abbrev pub below : ℕ → List ℕ

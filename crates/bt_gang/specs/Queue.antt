@@ -5,7 +5,8 @@ use lib.ListN.{get_elem?}
 use Rattle.bt_gang.specs.declared.rule.Known.{Known}
 use Rattle.bt_gang.specs.declared.rule.NumberedJob.{NumberedJob}
 use Rattle.bt_gang.specs.declared.rule.TakenList.{TakenList}
-use Rattle.bt_gang.specs.Numbers.{total, joined, times, below, once_below}
+use Rattle.bt_rowtype.specs.Lists.{concatenation}
+use Rattle.bt_gang.specs.Numbers.{sum_over, occurrences, below, once_below}
 use Rattle.bt_gang.specs.Board.{State, IsReached}
 use Rattle.bt_gang.specs.declared.crew.TheConstants.{MOST_WORKERS}
 
@@ -39,12 +40,12 @@ workers_of ls = map (λ (l : TakenList). l.worker) ls
 
 -- the numbers in all the lists
 abbrev pub numbers_of : List TakenList → List ℕ
-numbers_of ls = joined (map (λ (l : TakenList). l.numbers) ls)
+numbers_of ls = concatenation (map (λ (l : TakenList). l.numbers) ls)
 
 -- each list is the one of its worker, of these that the workers took
-abbrev pub AreTaken : List (List ℕ) → List TakenList → Type 0
-AreTaken taken [] = ⊤
-AreTaken taken (l ∷ ls) = (get_or taken l.worker [] ≡ l.numbers) × AreTaken taken ls
+abbrev pub AreOwnLists : List (List ℕ) → List TakenList → Type 0
+AreOwnLists taken [] = ⊤
+AreOwnLists taken (l ∷ ls) = (get_or taken l.worker [] ≡ l.numbers) × AreOwnLists taken ls
 
 module _ {J : Type 0} where
   abbrev pub known : List J → List TakenList → Known J
@@ -72,8 +73,8 @@ module _ {J : Type 0} where
     pub reached : IsReached workers board
     pub put : board.put ≡ length v.jobs
     pub waiting : board.waiting ≡ left
-    pub taken : AreTaken board.taken v.lists
-    pub apart : (worker : ℕ) → times worker (workers_of v.lists) ≤ once_below worker workers
+    pub taken : AreOwnLists board.taken v.lists
+    pub apart : (worker : ℕ) → occurrences worker (workers_of v.lists) ≤ once_below worker workers
 
   -- the board of a pass, with no job waiting
   abbrev pub NothingWaits : Known J → Type 0
@@ -98,8 +99,8 @@ module _ {J P : Type 0} where
     pub put : board.put ≡ length jobs
     pub waiting : board.waiting ≡ queued items
     pub stand : Stand jobs items
-    pub taken : EachPass (λ v. AreTaken board.taken v.lists) views
-    pub apart : (worker : ℕ) → total (λ (v : Known J). times worker (workers_of v.lists)) views ≡ once_below worker workers
+    pub taken : EachPass (λ v. AreOwnLists board.taken v.lists) views
+    pub apart : (worker : ℕ) → sum_over (λ (v : Known J). occurrences worker (workers_of v.lists)) views ≡ once_below worker workers
     pub know : EachPass (λ v. HasList v → v.jobs ≡ jobs) views
 
   abbrev pub IsQueue : List (NumberedJob J P) → List (Known J) → Type 0

@@ -2,16 +2,17 @@
 use Rattle.std.specs.Prelude.{◌≡◌, ℕ, ◌<◌, List, [], length, map, get_or, Result, Ok, Err}
 use mathlib.Core.Option.{some}
 use lib.ListN.{get_elem?}
-use Rattle.bt_gang.specs.declared.run.GangFault.{GangFault}
-use Rattle.bt_gang.specs.declared.run.GangFault.TheVariants.{OutOfMemory, Job}
-use Rattle.bt_gang.specs.Numbers.{joined, times, once_below}
+use Rattle.bt_gang.specs.declared.job_runs.GangFault.{GangFault}
+use Rattle.bt_gang.specs.declared.job_runs.GangFault.TheVariants.{OutOfMemory, Job}
+use Rattle.bt_rowtype.specs.Lists.{concatenation}
+use Rattle.bt_gang.specs.Numbers.{occurrences, once_below}
 use Rattle.bt_gang.specs.Board.{State, IsReached}
 use Rattle.bt_gang.specs.declared.crew.TheConstants.{MOST_WORKERS}
 use Rattle.bt_gang.specs.Answers.{MayAnswer}
 
 -- each number below n stands in one of the lists, once, and no other does
 abbrev pub EachOnce : ℕ → List (List ℕ) → Type 0
-EachOnce n lists = (number : ℕ) → times number (joined lists) ≡ once_below number n
+EachOnce n lists = (number : ℕ) → occurrences number (concatenation lists) ≡ once_below number n
 
 -- a run of the board leads to a state in which so many jobs were put, none of them waits, and each worker took its list; one that has no list took nothing
 pub record AreAllTaken (n : ℕ) (lists : List (List ℕ)) : Type 0 where

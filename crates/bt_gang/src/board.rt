@@ -1,8 +1,8 @@
 //! The board: numbers of jobs that wait, are held by workers, or were handed in.
 ghost use Rattle.std.specs.Prelude.{◌≡◌, ◌≢◌, ◌<◌, [], ◌∷◌, IfNone, IfOk, IfSome, None, Some, length};
-ghost use Rattle.bt_gang.specs.Board.{IsAccounted, after_hand, after_put, after_take, held_by, start};
+ghost use Rattle.bt_gang.specs.Board.{IsAccounted, after_hand, after_put, after_take, held_job, start};
 
-use crate::places::empty_places;
+use crate::empty_places::empty_places;
 use std::alloc::{AllocError, Global};
 use std::marker::Model;
 
@@ -63,7 +63,7 @@ impl Board {
     /// The front goes to a worker that holds no job. `None` only where no job waits.
     pub fn take(&mut self, worker: usize) -> Option<usize>
         requires worker { worker < length self.old.state.held }
-        requires free { held_by worker self.old.state ≡ None }
+        requires free { held_job worker self.old.state ≡ None }
         ensures front { IfSome result (λ front. self.old.state.waiting ≡ front ∷ self.new.state.waiting) }
         ensures taken { IfSome result (λ front. self.new.state ≡ after_take worker front self.new.state.waiting self.old.state) }
         ensures nothing { IfNone result ((self.old.state.waiting ≡ []) × (self.new.state ≡ self.old.state)) }
@@ -82,8 +82,8 @@ impl Board {
     /// The worker hands in the job that it holds. Gives its number.
     pub fn hand(&mut self, worker: usize) -> usize
         requires worker { worker < length self.old.state.held }
-        requires holds { held_by worker self.old.state ≢ None }
-        ensures job { held_by worker self.old.state ≡ Some result }
+        requires holds { held_job worker self.old.state ≢ None }
+        ensures job { held_job worker self.old.state ≡ Some result }
         ensures handed { self.new.state ≡ after_hand worker result self.old.state }
         ensures room { self.new.jobs ≡ self.old.jobs }
         ensures accounted { IsAccounted self.new.state }

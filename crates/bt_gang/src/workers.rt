@@ -1,15 +1,16 @@
 //! The workers of one call: passes are split off, threads are started and joined, and passes are taken in.
-ghost use Rattle.std.specs.Prelude.{◌≡◌, ◌+◌, ◌<◌, ◌≤◌, List, [], All, IfSome, length, map, vec_capacity, vec_len};
+ghost use Rattle.std.specs.Prelude.{◌≡◌, ◌+◌, ◌<◌, ◌≤◌, ℕ, List, [], ◌∷◌, All, IfSome, length, map, vec_capacity, vec_len};
 ghost use Rattle.crossbeam_queue.specs.Passes.{IsPassOf, view};
 ghost use Rattle.bt_gang.specs.declared.crew.TheConstants.{MOST_WORKERS};
 ghost use Rattle.bt_gang.specs.Numbered.{present};
 ghost use Rattle.bt_gang.specs.Queue.{HasList, known, no_lists};
-ghost use Rattle.bt_gang.specs.inside.Workers.{AllFrom, HasServed, IsCaller, IsPromise, IsReady, TookIn, out_of};
+ghost use Rattle.bt_gang.specs.inside.Workers.{AllByNumber, HasServed, HasServedIfStarted, IsCaller, IsChild, IsReady, TookIn, TookInFrom, out_of};
 
 use crate::answers::Answers;
-use crate::crew::{Crew, Gate};
+use crate::crew::Gate;
 use crate::jobs::{JobPass, Jobs};
 use crate::rule::WorkerPass;
+use crate::shift::Shift;
 use crate::work::Work;
 use crate::worker_loop::serve;
 use core::thread::Stack;
@@ -61,7 +62,7 @@ pub(crate) fn split<J: Drop, D: Drop, F: Drop>(
     requires outs { All (λ a. (present a.list ≡ []) × (a.spare ≡ length all.now.value.items)) outs.items }
     requires room { (workers.items ≡ []) × (vec_len outs < MOST_WORKERS) × (vec_len outs ≤ vec_capacity workers) }
     ensures pass { IsPassOf jobs.now.queue pass.new × IsCaller all.now.value.items (vec_len outs) (view pass.new) }
-    ensures each { AllFrom (IsReady jobs.now all.now.value.items []) 1 result.items }
+    ensures each { AllByNumber (IsReady jobs.now all.now.value.items []) 1 result.items }
     ensures len { vec_len result ≡ vec_len outs }
 {
     for out in outs {
@@ -80,116 +81,155 @@ pub(crate) fn split<J: Drop, D: Drop, F: Drop>(
 fn served<W: Work, G: Gate, R: Wait>(
     rt: &R,
     alloc: Global,
-    work: &W,
-    jobs: &Jobs<W::Job, W::Done, W::Fault>,
+    shift: &Shift<'_, W, G>,
     all: &Snapshot<Vec<W::Job>>,
-    crew: &Crew<G>,
     worker: WorkerOf<W>,
 ) -> WorkerOf<W>
-    requires worker { IsReady jobs.now all.now.value.items [] worker.number worker }
-    requires accepts { All (λ job. W.accepts work.now job) all.now.value.items }
-    ensures { HasServed (W.allows work.now) jobs.now all.now.value.items [] worker.number result }
+    requires worker { IsReady shift.now.jobs.now all.now.value.items [] worker.number worker }
+    requires accepts { All (λ job. W.accepts shift.now.work.now job) all.now.value.items }
+    ensures { HasServed (W.allows shift.now.work.now) shift.now.jobs.now all.now.value.items [] worker.number result }
 {
     let Worker {
         number,
         mut pass,
         mut out,
     } = worker;
-    serve(rt, alloc, work, jobs, &mut pass, crew, &mut out);
+    serve(
+        rt, alloc, shift.work, shift.jobs, &mut pass, shift.crew, &mut out,
+    );
     Worker { number, pass, out }
 }
 
-/// Starts a thread for each worker but the caller. One that cannot be started is absent, and its jobs are left to the others.
+// The thread of a worker. One that cannot be started is absent, and its jobs are left to the others.
+fn child<'s, E, W: Work + Sync, G: Gate + Sync, R: Threads + Wait + Sync>(
+    scope: &'s Scope<'s, E>,
+    rt: &'s R,
+    alloc: Global,
+    shift: &'s Shift<'s, W, G>,
+    all: &'s Snapshot<Vec<W::Job>>,
+    worker: WorkerOf<W>,
+) -> Child<W>
+    requires worker { IsReady shift.now.jobs.now all.now.value.items [] worker.number worker }
+    requires accepts { All (λ job. W.accepts shift.now.work.now job) all.now.value.items }
+    ensures { IsChild shift.now.work.now shift.now.jobs.now all.now.value.items worker.number result }
+{
+    let promise = GivesBack {
+        number: worker.number,
+        work: Snapshot::of(shift.work),
+        jobs: Snapshot::of(shift.jobs),
+        all: Snapshot::of(all),
+    };
+    let task = move || -> WorkerOf<W>
+        requires { IsReady shift.now.jobs.now all.now.value.items [] worker.number worker × All (λ job. W.accepts shift.now.work.now job) all.now.value.items }
+        ensures { HasServed (W.allows shift.entry.now.work.now) shift.entry.now.jobs.now all.entry.now.value.items [] worker.number result }
+    { served(rt, alloc, shift, all, worker) };
+    let stack = Stack::new().stack_size(WORKER_STACK);
+    match stack.spawn_scoped_with(scope, promise, task) {
+        Ok(child) => Some(child),
+        Err(_refused) => None,
+    }
+}
+
+/// The threads of the workers, each started.
 pub(crate) fn start<'s, E, W: Work + Sync, G: Gate + Sync, R: Threads + Wait + Sync>(
     scope: &'s Scope<'s, E>,
     rt: &'s R,
     alloc: Global,
-    work: &'s W,
-    jobs: &'s Jobs<W::Job, W::Done, W::Fault>,
+    shift: &'s Shift<'s, W, G>,
     all: &'s Snapshot<Vec<W::Job>>,
-    crew: &'s Crew<G>,
     workers: Vec<WorkerOf<W>>,
     mut children: Vec<Child<W>>,
 ) -> Vec<Child<W>>
-    requires workers { AllFrom (IsReady jobs.now all.now.value.items []) 1 workers.items }
+    requires workers { AllByNumber (IsReady shift.now.jobs.now all.now.value.items []) 1 workers.items }
     requires room { (children.items ≡ []) × (vec_len workers ≤ vec_capacity children) }
-    requires accepts { All (λ job. W.accepts work.now job) all.now.value.items }
-    ensures each { AllFrom (λ number child. IfSome child (λ h. IsPromise work.now jobs.now all.now.value.items number h.promise)) 1 result.items }
+    requires accepts { All (λ job. W.accepts shift.now.work.now job) all.now.value.items }
+    ensures each { AllByNumber (IsChild shift.now.work.now shift.now.jobs.now all.now.value.items) 1 result.items }
     ensures len { vec_len result ≡ vec_len workers }
 {
     for worker in workers {
-        let number = worker.number;
-        let task = move || -> WorkerOf<W>
-            requires { IsReady jobs.now all.now.value.items [] worker.number worker × All (λ job. W.accepts work.now job) all.now.value.items }
-            ensures { HasServed (W.allows work.entry.now) jobs.entry.now all.entry.now.value.items [] worker.number result }
-        { served(rt, alloc, work, jobs, all, crew, worker) };
-        let promise = GivesBack {
-            number,
-            work: Snapshot::of(work),
-            jobs: Snapshot::of(jobs),
-            all: Snapshot::of(all),
-        };
-        let stack = Stack::new().stack_size(WORKER_STACK);
-        match stack.spawn_scoped_with(scope, promise, task) {
-            Ok(child) => children.push_reserved(Some(child)),
-            Err(_refused) => children.push_reserved(None),
-        }
+        children.push_reserved(child(scope, rt, alloc, shift, all, worker));
     }
     children
 }
 
-/// What each worker gives back at its join, in the order of the workers; nothing for one that was not started.
-pub(crate) fn join_all<W: Work, R: Threads>(
+// What a worker gives back at its join; nothing where it was not started.
+fn join<W: Work, G, R: Threads>(
     rt: &R,
-    work: &W,
-    jobs: &Jobs<W::Job, W::Done, W::Fault>,
+    shift: &Shift<'_, W, G>,
+    all: &Snapshot<Vec<W::Job>>,
+    child: Child<W>,
+) -> Option<WorkerOf<W>>
+    ensures { (number : ℕ) → IsChild shift.now.work.now shift.now.jobs.now all.now.value.items number child → HasServedIfStarted (W.allows shift.now.work.now) shift.now.jobs.now all.now.value.items number result }
+{
+    match child {
+        Some(child) => Some(child.join(rt)),
+        None => None,
+    }
+}
+
+/// What each worker gives back at its join, in the order of the workers.
+pub(crate) fn join_all<W: Work, G, R: Threads>(
+    rt: &R,
+    shift: &Shift<'_, W, G>,
     all: &Snapshot<Vec<W::Job>>,
     children: Vec<Child<W>>,
     mut back: Vec<Option<WorkerOf<W>>>,
 ) -> Vec<Option<WorkerOf<W>>>
-    requires children { AllFrom (λ number child. IfSome child (λ h. IsPromise work.now jobs.now all.now.value.items number h.promise)) 1 children.items }
+    requires children { AllByNumber (IsChild shift.now.work.now shift.now.jobs.now all.now.value.items) 1 children.items }
     requires room { (back.items ≡ []) × (vec_len children ≤ vec_capacity back) }
-    ensures each { AllFrom (λ number w. IfSome w (HasServed (W.allows work.now) jobs.now all.now.value.items [] number)) 1 result.items }
+    ensures each { AllByNumber (HasServedIfStarted (W.allows shift.now.work.now) shift.now.jobs.now all.now.value.items) 1 result.items }
     ensures len { vec_len result ≡ vec_len children }
 {
     for child in children {
-        match child {
-            Some(child) => back.push_reserved(Some(child.join(rt))),
-            None => back.push_reserved(None),
-        }
+        back.push_reserved(join(rt, shift, all, child));
     }
     back
 }
 
+// Takes in the pass of a worker, where it was started. Gives its answers.
+fn take_one<W: Work, G>(
+    shift: &Shift<'_, W, G>,
+    all: &Snapshot<Vec<W::Job>>,
+    pass: &mut JobPass<W::Job, W::Done, W::Fault>,
+    worker: Option<WorkerOf<W>>,
+) -> Option<Answers<W::Done, W::Fault>>
+    requires pass { IsPassOf shift.now.jobs.now.queue pass.old × HasList (view pass.old) }
+    requires worker { IfSome worker (λ w. IsPassOf shift.now.jobs.now.queue w.pass) }
+    ensures pass { IsPassOf shift.now.jobs.now.queue pass.new }
+    ensures took { (number : ℕ) → HasServedIfStarted (W.allows shift.now.work.now) shift.now.jobs.now all.now.value.items number worker → TookInFrom number (view pass.old) (view pass.new) (result ∷ []) }
+    ensures out { result ≡ out_of worker }
+{
+    let Some(
+        Worker {
+            number: _number,
+            pass: theirs,
+            out,
+        },
+    ) = worker
+    else {
+        return None;
+    };
+    shift.jobs.queue.absorb::<WorkerPass>(pass, theirs);
+    Some(out)
+}
+
 /// Takes in the passes of those that were started. Gives the answers of each worker.
-pub(crate) fn take_in<W: Work>(
-    work: &W,
-    jobs: &Jobs<W::Job, W::Done, W::Fault>,
+pub(crate) fn take_in<W: Work, G>(
+    shift: &Shift<'_, W, G>,
     all: &Snapshot<Vec<W::Job>>,
     pass: &mut JobPass<W::Job, W::Done, W::Fault>,
     workers: Vec<Option<WorkerOf<W>>>,
     mut outs: Vec<Option<Answers<W::Done, W::Fault>>>,
 ) -> Vec<Option<Answers<W::Done, W::Fault>>>
-    requires pass { IsPassOf jobs.now.queue pass.old × HasList (view pass.old) }
-    requires workers { AllFrom (λ number w. IfSome w (HasServed (W.allows work.now) jobs.now all.now.value.items [] number)) 1 workers.items }
+    requires pass { IsPassOf shift.now.jobs.now.queue pass.old × HasList (view pass.old) }
+    requires workers { AllByNumber (HasServedIfStarted (W.allows shift.now.work.now) shift.now.jobs.now all.now.value.items) 1 workers.items }
     requires room { (outs.items ≡ []) × (vec_len workers ≤ vec_capacity outs) }
-    ensures pass { IsPassOf jobs.now.queue pass.new × TookIn (view pass.old) (view pass.new) result.items }
+    ensures pass { IsPassOf shift.now.jobs.now.queue pass.new × TookIn (view pass.old) (view pass.new) result.items }
     ensures outs { result.items ≡ map out_of workers.items }
     ensures len { vec_len result ≡ vec_len workers }
 {
     for worker in workers {
-        match worker {
-            Some(served) => {
-                let Worker {
-                    number: _number,
-                    pass: theirs,
-                    out,
-                } = served;
-                jobs.queue.absorb::<WorkerPass>(pass, theirs);
-                outs.push_reserved(Some(out));
-            }
-            None => outs.push_reserved(None),
-        }
+        outs.push_reserved(take_one(shift, all, pass, worker));
     }
     outs
 }

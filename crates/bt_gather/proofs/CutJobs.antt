@@ -11,37 +11,37 @@ use Rattle.bt_node.specs.Fits.{HasShape, IsInOrder}
 use Rattle.bt_node.specs.Flushes.{crown, flush_in}
 use Rattle.bt_node.specs.Messages.{Meaning, Messages}
 use Rattle.bt_node.specs.Trees.{Shape, Siblings, Tree}
-use Rattle.bt_node.specs.declared.mode.Mode.{Mode}
+use Rattle.bt_node.specs.declared.form.mode.Mode.{Mode}
 use Rattle.bt_plan.specs.declared.job.Job as code
 use Rattle.bt_plan.specs.declared.job.Place as code_place
-use Rattle.bt_plan.specs.Cuts.{Job, Pieced, all_done, cut, done, hole_of}
+use Rattle.bt_plan.specs.Cuts.{Job, Pieced, cut, hole_of, outcome, outcomes}
 use Rattle.bt_plan.specs.Laws.{FillsUp, PlacesRise, StandInHoles}
-use Rattle.bt_plan.specs.Pieces.{Holed, Pieces, Place, filled, holes, place_cmp}
-use Rattle.bt_plan.specs.Views.{IsCut, job_of, place_of}
+use Rattle.bt_plan.specs.Pieces.{Holed, Pieces, Place, filled, holes, node_place_cmp}
+use Rattle.bt_plan.specs.Views.{IsCut, job_of, node_place}
 use Rattle.bt_plan.proofs.offered.Cuts.{Answers, all-stand, jobs-in_order}
 use Rattle.bt_gather.specs.declared.flush_work.ShapedJob.{ShapedJob}
 use Rattle.bt_gather.specs.declared.round_tree.RoundTree.TheVariants.{Cut}
 use Rattle.bt_gather.specs.Laws.{IsFillable}
 use Rattle.bt_gather.specs.Misfits.{misfit}
 use Rattle.bt_gather.specs.inside.RoundJobs.{AreRunnable, IsRunnable, all_pieces, shaped}
-use Rattle.bt_gather.specs.inside.RoundTrees.{AreJobsOf, HasRoom}
+use Rattle.bt_gather.specs.inside.RoundTrees.{AreJobsOf, IsEmptyWithRoom}
 use Rattle.bt_gather.proofs.NoMisfit.{no_misfit, places_at}
 use Rattle.bt_gather.proofs.offered.Fillable.{cut-fillable, holes-told}
 
 module _ {V M : Type 0} (meaning : Meaning V M) (shape : Shape) where
-  done-places : (jobs : List (Job V M)) → places_at (all_done meaning shape jobs) ≡ map hole_of jobs
-  done-places [] = refl
-  done-places (job ∷ jobs) = ap (λ ps. job.place ∷ ps) (done-places jobs)
+  outcome-places : (jobs : List (Job V M)) → places_at (outcomes meaning shape jobs) ≡ map hole_of jobs
+  outcome-places [] = refl
+  outcome-places (job ∷ jobs) = ap (λ ps. job.place ∷ ps) (outcome-places jobs)
 
-  done-answers : (pieces : Pieces V M) (jobs : List (Job V M)) → All (λ job. find place_cmp job.place pieces ≡ Some (done meaning shape job)) jobs → All (Answers meaning shape pieces) jobs
-  done-answers pieces jobs all =
-      All-weaker (λ job. find place_cmp job.place pieces ≡ Some (done meaning shape job)) (Answers meaning shape pieces)
-      (λ job e xs f. sym (same_Some (done meaning shape job) xs (sym e ∙ f))) jobs all
+  outcome-answers : (pieces : Pieces V M) (jobs : List (Job V M)) → All (λ job. find node_place_cmp job.place pieces ≡ Some (outcome meaning shape job)) jobs → All (Answers meaning shape pieces) jobs
+  outcome-answers pieces jobs all =
+      All-weaker (λ job. find node_place_cmp job.place pieces ≡ Some (outcome meaning shape job)) (Answers meaning shape pieces)
+      (λ job e xs f. sym (same_Some (outcome meaning shape job) xs (sym e ∙ f))) jobs all
 
 module _ {V D : Type 0} (meaning : Meaning V (Message V D)) where
-  pieces-shaped : (shape : Shape) (jobs : List (code.Job V D)) → all_pieces meaning (map (shaped shape) jobs) ≡ all_done meaning shape (map job_of jobs)
+  pieces-shaped : (shape : Shape) (jobs : List (code.Job V D)) → all_pieces meaning (map (shaped shape) jobs) ≡ outcomes meaning shape (map job_of jobs)
   pieces-shaped shape [] = refl
-  pieces-shaped shape (j ∷ js) = ap (λ ps. (place_of j.place, done meaning shape (job_of j)) ∷ ps) (pieces-shaped shape js)
+  pieces-shaped shape (j ∷ js) = ap (λ ps. (node_place j.place, outcome meaning shape (job_of j)) ∷ ps) (pieces-shaped shape js)
 
   length-shaped : (shape : Shape) (jobs : List (code.Job V D)) → length (all_pieces meaning (map (shaped shape) jobs)) ≡ length jobs
   length-shaped shape [] = refl
@@ -55,27 +55,27 @@ module _ {V D : Type 0} (meaning : Meaning V (Message V D)) where
       (number : ℕ) (packet : Messages (Message V D)) (depth : ℕ) (mode : Mode) (is : IsCut meaning.weigh holed jobs number tree packet depth mode)
       (stand : StandInHoles meaning.weigh tree.0 (cut meaning.weigh number tree.0 tree.1 packet depth mode)) (rise : PlacesRise (cut meaning.weigh number tree.0 tree.1 packet depth mode))
       (fills : FillsUp meaning tree.0 tree.1 packet mode (cut meaning.weigh number tree.0 tree.1 packet depth mode))
-      (shape : Shape) (same : shape ≡ holed.0) (count : ℕ) (counted : count ≡ length jobs) (room : Vec (code_place.Place × Siblings V (Message V D)) Global) (roomy : HasRoom room count)
+      (shape : Shape) (same : shape ≡ holed.0) (count : ℕ) (counted : count ≡ length jobs) (room : Vec (code_place.Place × Siblings V (Message V D)) Global) (roomy : IsEmptyWithRoom room count)
       (found : List (ShapedJob V D)) (are : found ≡ map (shaped shape) jobs) where
     abbrev pieced : Pieced V (Message V D)
     pieced = cut meaning.weigh number tree.0 tree.1 packet depth mode
 
     abbrev wanted : Pieces V (Message V D)
-    wanted = all_done meaning tree.0 pieced.jobs
+    wanted = outcomes meaning tree.0 pieced.jobs
 
     pieces-wanted : all_pieces meaning found ≡ wanted
     pieces-wanted =
-        ap (all_pieces meaning) are ∙ pieces-shaped shape jobs ∙ ap (λ s. all_done meaning s (map job_of jobs)) (same ∙ ap (λ h. h.0) is.0) ∙ ap (all_done meaning tree.0) is.1
+        ap (all_pieces meaning) are ∙ pieces-shaped shape jobs ∙ ap (λ s. outcomes meaning s (map job_of jobs)) (same ∙ ap (λ h. h.0) is.0) ∙ ap (outcomes meaning tree.0) is.1
 
-    all-there : All (λ job. find place_cmp job.place wanted ≡ Some (done meaning tree.0 job)) pieced.jobs
+    all-there : All (λ job. find node_place_cmp job.place wanted ≡ Some (outcome meaning tree.0 job)) pieced.jobs
     all-there = all-stand meaning tree.0 pieced.jobs rise
 
     fillable : IsFillable meaning.weigh tree.0 pieced.holed wanted
-    fillable = cut-fillable meaning tree.0 has.roomy pieced stand rise wanted (done-answers meaning tree.0 wanted pieced.jobs all-there)
+    fillable = cut-fillable meaning tree.0 has.roomy pieced stand rise wanted (outcome-answers meaning tree.0 wanted pieced.jobs all-there)
 
     at-holes : places_at wanted ≡ holes pieced.holed
     at-holes =
-        done-places meaning tree.0 pieced.jobs ∙ ap (map hole_of) stand.jobs ∙ sym (holes-told hole_of stand.tree) ∙ sym (ap holes stand.holed)
+        outcome-places meaning tree.0 pieced.jobs ∙ ap (map hole_of) stand.jobs ∙ sym (holes-told hole_of stand.tree) ∙ sym (ap holes stand.holed)
 
     fit : misfit pieced.holed wanted ≡ None
     fit = no_misfit (holes pieced.holed) wanted at-holes fillable.rise

@@ -30,11 +30,11 @@ module _ {R E S F : Type 0} (f : R → S) (g : E → F) where
   entries-are [] entries = entries-all entries
   entries-are (x ∷ xs) entries = entries-are xs entries
 
-  module _ (rows : List R) (entries : List E) (list : List (Either R E)) (is : list ≡ one_list rows entries) (come : List (Either S F)) (are : come ≡ map (either_map f g) list) where
-    -- what comes of the rows
-    pub own-rows : rows_in come ≡ map f rows
-    own-rows = ap rows_in are ∙ ap (λ xs. rows_in (map (either_map f g) xs)) is ∙ rows-are rows entries
-
-    -- what comes of the entries
-    pub own-entries : entries_in come ≡ map g entries
-    own-entries = ap entries_in are ∙ ap (λ xs. entries_in (map (either_map f g) xs)) is ∙ entries-are rows entries
+  -- what comes of the rows, and what comes of the entries
+  pub own-items : (rows : List R) (entries : List E) (list : List (Either R E)) → list ≡ one_list rows entries → (come : List (Either S F)) → come ≡ map (either_map f g) list →
+      record { rows : rows_in come ≡ map f rows; entries : entries_in come ≡ map g entries }
+  own-items rows entries list is come are =
+      let all = are ∙ ap (map (either_map f g)) is in record {
+        rows = ap rows_in all ∙ rows-are rows entries;
+        entries = ap entries_in all ∙ entries-are rows entries;
+      }

@@ -7,7 +7,6 @@ pub mod KeyShares
 pub mod NoMisfit
 pub mod Opening
 pub mod PieceShares
-pub mod PlaceOrder
 pub mod Placing
 pub mod PlaceSearch
 pub mod Seats

@@ -3,39 +3,36 @@ use Rattle.std.proofs.Common.{◌≡◌, ◌⊎◌, Bool, true, false, cond, Lis
 use Rattle.std.specs.List.{AllByRecursion as Each}
 use Rattle.std.specs.Ordering.{is_eq}
 use Rattle.std.specs.declared.option.Option.TheVariants.{None, Some}
-use Rattle.bt_plan.specs.Pieces.{Pieces, Place, place_cmp}
-use Rattle.bt_gather.specs.Misfits.{AreRisingPlaces, double, first_misfit, first_missing, is_among, missing, stranger}
-use Rattle.bt_gather.proofs.PlaceOrder.{IsBelow, below_parts, not_earlier, rising_parts, ties_itself}
-
-each-weaken : {X : Type 0} (P Q : X → Type 0) → ((x : X) → P x → Q x) → (xs : List X) → Each P xs → Each Q xs
-each-weaken P Q h [] u = tt
-each-weaken P Q h (x ∷ xs) u = (h x u.0, each-weaken P Q h xs u.1)
+use Rattle.bt_plan.proofs.offered.Each.{each-weaken}
+use Rattle.bt_plan.specs.Pieces.{Pieces, Place, node_place_cmp}
+use Rattle.bt_gather.specs.Misfits.{AreRisingPlaces, double, first_misfit, first_missing, is_place_among, missing, stranger}
+use Rattle.bt_gather.proofs.offered.PlaceOrder.{IsBelow, below_parts, not_earlier, rising_parts, ties_itself}
 
 or_true : (b x : Bool) → x ≡ true → cond b true x ≡ true
 or_true true x e = refl
 or_true false x e = e
 
 -- each place is among these
-among-themselves : (hs : List Place) → Each (λ h. is_among h hs ≡ true) hs
+among-themselves : (hs : List Place) → Each (λ h. is_place_among h hs ≡ true) hs
 among-themselves [] = tt
 among-themselves (h ∷ hs) = (
-  ap (λ t. cond t true (is_among h hs)) (ties_itself h),
-  each-weaken (λ q. is_among q hs ≡ true) (λ q. is_among q (h ∷ hs) ≡ true) (λ q m. or_true (is_eq (place_cmp q h)) (is_among q hs) m) hs (among-themselves hs),
+  ap (λ t. cond t true (is_place_among h hs)) (ties_itself h),
+  each-weaken (λ q. is_place_among q hs ≡ true) (λ q. is_place_among q (h ∷ hs) ≡ true) (λ q m. or_true (is_eq (node_place_cmp q h)) (is_place_among q hs) m) hs (among-themselves hs),
 )
 
 -- a hole whose piece was seen, or is still to come
 abbrev IsCovered : List Place → List Place → Place → Type 0
-IsCovered seen coming h = (is_among h seen ≡ true) ⊎ (is_among h coming ≡ true)
+IsCovered seen coming h = (is_place_among h seen ≡ true) ⊎ (is_place_among h coming ≡ true)
 
 covered-next : (p : Place) (seen coming : List Place) (h : Place) → IsCovered seen (p ∷ coming) h → IsCovered (p ∷ seen) coming h
-covered-next p seen coming h covered = go (is_eq (place_cmp h p)) refl covered
+covered-next p seen coming h covered = go (is_eq (node_place_cmp h p)) refl covered
   where
-    go : (b : Bool) → is_eq (place_cmp h p) ≡ b → IsCovered seen (p ∷ coming) h → IsCovered (p ∷ seen) coming h
-    go true e c = inl (ap (λ t. cond t true (is_among h seen)) e)
-    go false e (inl m) = inl (ap (λ t. cond t true (is_among h seen)) e ∙ m)
-    go false e (inr m) = inr (sym (ap (λ t. cond t true (is_among h coming)) e) ∙ m)
+    go : (b : Bool) → is_eq (node_place_cmp h p) ≡ b → IsCovered seen (p ∷ coming) h → IsCovered (p ∷ seen) coming h
+    go true e c = inl (ap (λ t. cond t true (is_place_among h seen)) e)
+    go false e (inl m) = inl (ap (λ t. cond t true (is_place_among h seen)) e ∙ m)
+    go false e (inr m) = inr (sym (ap (λ t. cond t true (is_place_among h coming)) e) ∙ m)
 
-all-seen : (seen : List Place) (h : Place) → IsCovered seen [] h → is_among h seen ≡ true
+all-seen : (seen : List Place) (h : Place) → IsCovered seen [] h → is_place_among h seen ≡ true
 all-seen seen h (inl m) = m
 all-seen seen h (inr m) = cc m
 
@@ -47,18 +44,18 @@ module _ {V M : Type 0} where
   abbrev pub places_at : Pieces V M → List Place
   places_at = map (λ p. p.0)
 
-  apart : (p : Place) (seen : List Place) (ps : Pieces V M) → Each (λ q. is_among q.0 seen ≡ false) ps → IsBelow p (places_at ps) → Each (λ q. is_among q.0 (p ∷ seen) ≡ false) ps
+  apart : (p : Place) (seen : List Place) (ps : Pieces V M) → Each (λ q. is_place_among q.0 seen ≡ false) ps → IsBelow p (places_at ps) → Each (λ q. is_place_among q.0 (p ∷ seen) ≡ false) ps
   apart p seen [] n b = tt
   apart p seen (q ∷ qs) n b =
       let parts = below_parts p q.0 (places_at qs) b in
-      (ap (λ t. cond t true (is_among q.0 seen)) (not_earlier p q.0 parts.0) ∙ n.0, apart p seen qs n.1 parts.1)
+      (ap (λ t. cond t true (is_place_among q.0 seen)) (not_earlier p q.0 parts.0) ∙ n.0, apart p seen qs n.1 parts.1)
 
-  none-wrong : (hs seen : List Place) (ps : Pieces V M) → Each (λ p. is_among p.0 hs ≡ true) ps → Each (λ p. is_among p.0 seen ≡ false) ps → AreRisingPlaces (places_at ps) →
+  none-wrong : (hs seen : List Place) (ps : Pieces V M) → Each (λ p. is_place_among p.0 hs ≡ true) ps → Each (λ p. is_place_among p.0 seen ≡ false) ps → AreRisingPlaces (places_at ps) →
       Each (IsCovered seen (places_at ps)) hs → first_misfit hs seen ps ≡ None
   none-wrong hs seen [] a n r c = none-missing hs seen c
   none-wrong hs seen (p ∷ ps) a n r c =
       let parts = rising_parts p.0 (places_at ps) r in
-      ap (λ t. cond t (cond (is_among p.0 seen) (Some (double p.0)) (first_misfit hs (p.0 ∷ seen) ps)) (Some (stranger p.0))) a.0
+      ap (λ t. cond t (cond (is_place_among p.0 seen) (Some (double p.0)) (first_misfit hs (p.0 ∷ seen) ps)) (Some (stranger p.0))) a.0
       ∙ ap (λ t. cond t (Some (double p.0)) (first_misfit hs (p.0 ∷ seen) ps)) n.0
       ∙ none-wrong hs (p.0 ∷ seen) ps a.1 (apart p.0 seen ps n.1 parts.0) parts.1
       (each-weaken (IsCovered seen (p.0 ∷ places_at ps)) (IsCovered (p.0 ∷ seen) (places_at ps)) (covered-next p.0 seen (places_at ps)) hs c)
@@ -67,7 +64,7 @@ module _ {V M : Type 0} where
   by-places P [] e = tt
   by-places P (p ∷ ps) e = (e.0, by-places P ps e.1)
 
-  none-seen : (ps : Pieces V M) → Each (λ p. is_among p.0 [] ≡ false) ps
+  none-seen : (ps : Pieces V M) → Each (λ p. is_place_among p.0 [] ≡ false) ps
   none-seen [] = tt
   none-seen (p ∷ ps) = (refl, none-seen ps)
 
@@ -75,5 +72,5 @@ module _ {V M : Type 0} where
   pub no_misfit : (hs : List Place) (ps : Pieces V M) → places_at ps ≡ hs → AreRisingPlaces hs → first_misfit hs [] ps ≡ None
   no_misfit hs ps at rise =
       subst (λ hs. first_misfit hs [] ps ≡ None) at
-      (none-wrong (places_at ps) [] ps (by-places (λ h. is_among h (places_at ps) ≡ true) ps (among-themselves (places_at ps))) (none-seen ps) (subst AreRisingPlaces (sym at) rise)
-      (each-weaken (λ h. is_among h (places_at ps) ≡ true) (IsCovered [] (places_at ps)) (λ h m. inr m) (places_at ps) (among-themselves (places_at ps))))
+      (none-wrong (places_at ps) [] ps (by-places (λ h. is_place_among h (places_at ps) ≡ true) ps (among-themselves (places_at ps))) (none-seen ps) (subst AreRisingPlaces (sym at) rise)
+      (each-weaken (λ h. is_place_among h (places_at ps) ≡ true) (IsCovered [] (places_at ps)) (λ h m. inr m) (places_at ps) (among-themselves (places_at ps))))

@@ -10,13 +10,13 @@ use Rattle.bt_node.specs.Messages.{Meaning}
 use Rattle.bt_node.specs.Trees.{Shape, Siblings, Tree}
 use Rattle.bt_plan.specs.declared.job.Place as code_place
 use Rattle.bt_plan.specs.Pieces.{Holed, Pieces, Place}
-use Rattle.bt_plan.specs.Views.{place_of}
+use Rattle.bt_plan.specs.Views.{node_place}
 use Rattle.bt_gather.specs.declared.flush_work.ShapedJob.{ShapedJob}
 use Rattle.bt_gather.specs.declared.round_tree.RoundTree.{RoundTree}
 use Rattle.bt_gather.specs.declared.round_tree.RoundTree.TheVariants.{Whole, Cut}
 use Rattle.bt_gather.specs.Views.{pieces_of}
 use Rattle.bt_gather.specs.inside.RoundJobs.{IsRunnable, all_pieces, piece_of}
-use Rattle.bt_gather.specs.inside.RoundTrees.{AreFilledBy, AreJobsOf, AreJobsOfAll, HasRoom, IsCutFilledBy, IsFilledBy, job_count, tree_with, trees_with}
+use Rattle.bt_gather.specs.inside.RoundTrees.{AreFilledBy, AreJobsOf, AreJobsOfAll, IsCutFilledBy, IsEmptyWithRoom, IsFilledBy, job_count, tree_with, trees_with}
 
 -- ---- lists
 
@@ -38,10 +38,10 @@ module _ {V D : Type 0} where
   -- ---- the share of one tree
 
   take-pieces : (n : ℕ) (items : List (code_place.Place × Siblings V (Message V D))) → pieces_of (take n items) ≡ take n (pieces_of items)
-  take-pieces n items = sym (take-map (λ p. (place_of p.0, p.1)) n items)
+  take-pieces n items = sym (take-map (λ p. (node_place p.0, p.1)) n items)
 
   drop-pieces : (n : ℕ) (items : List (code_place.Place × Siblings V (Message V D))) → pieces_of (drop n items) ≡ drop n (pieces_of items)
-  drop-pieces n items = sym (drop-map (λ p. (place_of p.0, p.1)) n items)
+  drop-pieces n items = sym (drop-map (λ p. (node_place p.0, p.1)) n items)
 
   module _ (weigh : Key × Message V D → ℕ) where
     count-is : (t : RoundTree V D) (ps : Pieces V (Message V D)) → IsFilledBy weigh t ps → length ps ≡ job_count t
@@ -57,12 +57,12 @@ module _ {V D : Type 0} where
       as-cut : IsCutFilledBy weigh holed jobs room (take jobs (pieces_of items))
       as-cut = subst (λ t. IsFilledBy weigh t (take (job_count t) (pieces_of items))) is fill
 
-      pub own-room : HasRoom room jobs
+      pub own-room : IsEmptyWithRoom room jobs
       own-room = as-cut.roomy
 
       pub own-enough : jobs ≤ length items
       own-enough =
-          let told : code_place.Place × Siblings V (Message V D) → Place × Siblings V (Message V D) = λ p. (place_of p.0, p.1) in
+          let told : code_place.Place × Siblings V (Message V D) → Place × Siblings V (Message V D) = λ p. (node_place p.0, p.1) in
           omega (arith, as-cut.count, length-take jobs (pieces_of items), length-map items told)
 
       module _ (own : List (code_place.Place × Siblings V (Message V D))) (next : own ≡ take jobs items) where
@@ -123,7 +123,7 @@ module _ {V D : Type 0} where
   module _ (meaning : Meaning V (Message V D)) where
     pieces-append : (js more : List (ShapedJob V D)) → all_pieces meaning (js ++ more) ≡ all_pieces meaning js ++ all_pieces meaning more
     pieces-append [] more = refl
-    pieces-append (j ∷ js) more = ap (λ ps. (place_of j.job.place, (piece_of meaning j).1) ∷ ps) (pieces-append js more)
+    pieces-append (j ∷ js) more = ap (λ ps. (node_place j.job.place, (piece_of meaning j).1) ∷ ps) (pieces-append js more)
 
     -- the jobs of trees, and of one more
     pub more-jobs : (ts : List (RoundTree V D)) (js : List (ShapedJob V D)) (us : List (Shape × Tree V (Message V D))) → AreJobsOfAll meaning ts js us →
@@ -140,18 +140,18 @@ module _ {V D : Type 0} where
         }))
 
     -- the tree that it is when the pieces of all its jobs have come
-    pub tree-done : (t : RoundTree V D) (jobs : List (ShapedJob V D)) (u : Shape × Tree V (Message V D)) → AreJobsOf meaning t jobs u →
+    pub tree-outcome : (t : RoundTree V D) (jobs : List (ShapedJob V D)) (u : Shape × Tree V (Message V D)) → AreJobsOf meaning t jobs u →
         (items : List (code_place.Place × Siblings V (Message V D))) → items ≡ map (piece_of meaning) jobs →
         IsFilledBy meaning.weigh t (take (job_count t) (pieces_of items)) × (tree_with t (take (job_count t) (pieces_of items)) ≡ u)
-    tree-done t jobs u all items are =
+    tree-outcome t jobs u all items are =
         let own = (own-all meaning.weigh t (all_pieces meaning jobs) all.fill).0 in (
           subst (λ xs. IsFilledBy meaning.weigh t (take (job_count t) (pieces_of xs))) (sym are) (subst (IsFilledBy meaning.weigh t) (sym own) all.fill),
           ap (λ xs. tree_with t (take (job_count t) (pieces_of xs))) are ∙ ap (tree_with t) own ∙ all.give,
         )
 
     -- and those that trees are
-    pub trees-done : (ts : List (RoundTree V D)) (jobs : List (ShapedJob V D)) (us : List (Shape × Tree V (Message V D))) → AreJobsOfAll meaning ts jobs us →
+    pub trees-outcome : (ts : List (RoundTree V D)) (jobs : List (ShapedJob V D)) (us : List (Shape × Tree V (Message V D))) → AreJobsOfAll meaning ts jobs us →
         (items : List (code_place.Place × Siblings V (Message V D))) → items ≡ map (piece_of meaning) jobs →
         AreFilledBy meaning.weigh ts (pieces_of items) × (trees_with ts (pieces_of items) ≡ us)
-    trees-done ts jobs us all items are =
+    trees-outcome ts jobs us all items are =
         (subst (λ xs. AreFilledBy meaning.weigh ts (pieces_of xs)) (sym are) all.fill, ap (λ xs. trees_with ts (pieces_of xs)) are ∙ all.give)

@@ -1,17 +1,20 @@
 //! The jobs of a round, and what a worker does with each.
-ghost use Rattle.std.specs.Prelude.{◌≡◌, IfOk};
+ghost use Rattle.std.specs.Prelude.{◌≡◌, IfOk, map};
 ghost use Rattle.bt_messages.specs.Meanings.{meaning_of};
 ghost use Rattle.bt_node.specs.Fits.{IsInOrder};
-ghost use Rattle.bt_plan.specs.Cuts.{done};
+ghost use Rattle.bt_plan.specs.Cuts.{outcome};
 ghost use Rattle.bt_plan.specs.Views.{job_of};
+ghost use Rattle.bt_gather.specs.inside.RoundJobs.{AreRunnable, piece_of};
 
-use crate::either::Either;
-use bt_gang::Work;
+use crate::either::{Either, one_list, two_lists};
+use bt_gang::{Crew, Gate, Work, job_values};
 use bt_messages::Merge;
 use bt_node::{Mode, Shape, Siblings, absorb_alone, drain_alone};
 use bt_plan::{Job, Place};
 use std::alloc::{AllocError, Global};
 use std::marker::PhantomData;
+use std::sync::Wait;
+use std::thread::Threads;
 
 /// What becomes of a job's node and messages, at the place of the job. An `Err` keeps neither.
 pub fn run_job<V: Merge>(
@@ -20,7 +23,7 @@ pub fn run_job<V: Merge>(
     job: Job<V>,
 ) -> Result<(Place, Siblings<V>), AllocError>
     requires { IsInOrder job.node }
-    ensures { IfOk result (λ piece. piece ≡ (job.place, done (meaning_of V.terms) shape (job_of job))) }
+    ensures { IfOk result (λ piece. piece ≡ (job.place, outcome (meaning_of V.terms) shape (job_of job))) }
 {
     let Job {
         place,
@@ -47,15 +50,6 @@ pub(crate) struct ShapedJob<V: Merge> {
 pub(crate) struct FlushWork<R, E> {
     rows: PhantomData<R>,
     entries: PhantomData<E>,
-}
-
-impl<R, E> FlushWork<R, E> {
-    pub(crate) fn new() -> Self {
-        FlushWork {
-            rows: PhantomData,
-            entries: PhantomData,
-        }
-    }
 }
 
 impl<R: Merge + Send, E: Merge + Send> Work for FlushWork<R, E>
@@ -95,4 +89,38 @@ where
     }
 
     ghost one_value = { λ _ _ _ _ e f. e ∙ sym f };
+}
+
+impl<R: Merge + Send + Sync, E: Merge + Send + Sync> FlushWork<R, E>
+where
+    R::Delta: Send + Sync,
+    E::Delta: Send + Sync,
+{
+    pub(crate) fn new() -> Self {
+        FlushWork {
+            rows: PhantomData,
+            entries: PhantomData,
+        }
+    }
+
+    /// What becomes of jobs, each run once by a crew that has no more workers than there are jobs.
+    pub(crate) fn pieces<G: Gate + Sync, T: Threads + Wait + Sync>(
+        &self,
+        rt: &T,
+        alloc: Global,
+        rows: Vec<ShapedJob<R>>,
+        entries: Vec<ShapedJob<E>>,
+        crew: &Crew<G>,
+    ) -> Result<(Vec<(Place, Siblings<R>)>, Vec<(Place, Siblings<E>)>), AllocError>
+        requires rows { AreRunnable rows.items }
+        requires entries { AreRunnable entries.items }
+        ensures rows { IfOk result (λ pieces. pieces.0.items ≡ map (piece_of (meaning_of R.terms)) rows.items) }
+        ensures entries { IfOk result (λ pieces. pieces.1.items ≡ map (piece_of (meaning_of E.terms)) entries.items) }
+    {
+        let row_room = Vec::with_capacity(alloc, rows.len())?;
+        let entry_room = Vec::with_capacity(alloc, entries.len())?;
+        let jobs = one_list(alloc, rows, entries)?;
+        let pieces = job_values(rt, alloc, self, jobs, crew)?;
+        Ok(two_lists(pieces, row_room, entry_room))
+    }
 }

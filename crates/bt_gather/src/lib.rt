@@ -29,17 +29,18 @@
 mod either;
 mod filling;
 mod flush_work;
-mod lookups;
+mod hole_places;
+mod key_lookups;
 mod misfit;
-mod places;
-mod reads;
+mod portion_visits;
 mod round;
 mod round_tree;
 
 pub use bt_node::Portion;
 pub use filling::{FillError, fill};
 pub use flush_work::run_job;
-pub use lookups::values;
+pub use key_lookups::values;
 pub use misfit::Misfit;
-pub use reads::{read, rebuild};
+pub use portion_visits::{read, rebuild};
 pub use round::{drain, sink};
+pub use round_tree::MOST_TREES;

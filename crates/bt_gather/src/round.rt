@@ -1,5 +1,5 @@
 //! One round over trees: the flushes of all of them are jobs of one run.
-ghost use Rattle.std.specs.Prelude.{◌≡◌, ◌≤◌, ◌+◌, IfOk, length, map};
+ghost use Rattle.std.specs.Prelude.{◌≡◌, ◌≤◌, ◌+◌, IfOk, length};
 ghost use Rattle.bt_messages.specs.Effects.{effect_of};
 ghost use Rattle.bt_messages.specs.Meanings.{meaning_of};
 ghost use Rattle.bt_messages.specs.Weights.{weigh_of};
@@ -7,46 +7,15 @@ ghost use Rattle.bt_node.specs.Drains.{IsDry, drained};
 ghost use Rattle.bt_node.specs.Fits.{HasShape};
 ghost use Rattle.bt_node.specs.Laws.{HoldsTheSame};
 ghost use Rattle.bt_gather.specs.Rounds.{AllHaveShape, AllHoldAfter, all_sunk};
-ghost use Rattle.bt_gather.specs.inside.RoundJobs.{AreRunnable, piece_of};
 
-use crate::either::{one_list, two_lists};
 use crate::flush_work::{FlushWork, ShapedJob};
-use crate::round_tree::{RoundTrees, cut_tree, round_trees, whole_tree, whole_trees};
-use bt_gang::{Crew, Gate, job_values, most_workers};
+use crate::round_tree::{MOST_TREES, cut_tree, round_trees, whole_tree, whole_trees};
+use bt_gang::{Crew, Gate, most_workers};
 use bt_messages::{Merge, Packet};
-use bt_node::{Mode, Siblings, Tree};
-use bt_plan::Place;
+use bt_node::{Mode, Tree};
 use std::alloc::{AllocError, Global};
 use std::sync::Wait;
 use std::thread::Threads;
-
-// What becomes of jobs, each run once by a crew that has no more workers than there are jobs.
-fn all_pieces<
-    R: Merge + Send + Sync,
-    E: Merge + Send + Sync,
-    G: Gate + Sync,
-    T: Threads + Wait + Sync,
->(
-    rt: &T,
-    alloc: Global,
-    rows: Vec<ShapedJob<R>>,
-    entries: Vec<ShapedJob<E>>,
-    crew: &Crew<G>,
-) -> Result<(Vec<(Place, Siblings<R>)>, Vec<(Place, Siblings<E>)>), AllocError>
-where
-    R::Delta: Send + Sync,
-    E::Delta: Send + Sync,
-    requires rows { AreRunnable rows.items }
-    requires entries { AreRunnable entries.items }
-    ensures rows { IfOk result (λ pieces. pieces.0.items ≡ map (piece_of (meaning_of R.terms)) rows.items) }
-    ensures entries { IfOk result (λ pieces. pieces.1.items ≡ map (piece_of (meaning_of E.terms)) entries.items) }
-{
-    let row_room = Vec::with_capacity(alloc, rows.len())?;
-    let entry_room = Vec::with_capacity(alloc, entries.len())?;
-    let jobs = one_list(alloc, rows, entries)?;
-    let pieces = job_values(rt, alloc, &FlushWork::<R, E>::new(), jobs, crew)?;
-    Ok(two_lists(pieces, row_room, entry_room))
-}
 
 /// Each tree after its packet, in one round. A tree whose packet has fewer messages than the crew's grain is sunk by the caller; the others are cut
 /// at the crew's depth, and their flushes are jobs of one run, tree by tree, rows first. There is no more than one worker for each job, and for
@@ -67,7 +36,7 @@ pub fn sink<
 where
     R::Delta: Send + Sync,
     E::Delta: Send + Sync,
-    requires few { length rows.items + length entries.items ≤ 65536 }
+    requires few { length rows.items + length entries.items ≤ MOST_TREES }
     ensures rows { IfOk result (λ trees. trees.0.items ≡ all_sunk (meaning_of R.terms) rows.items) }
     ensures entries { IfOk result (λ trees. trees.1.items ≡ all_sunk (meaning_of E.terms) entries.items) }
     ensures fit { IfOk result (λ trees. AllHaveShape (weigh_of R.terms) trees.0.items × AllHaveShape (weigh_of E.terms) trees.1.items) }
@@ -78,7 +47,8 @@ where
     let entries = round_trees(alloc, count, entries, crew.cut, crew.grain)?;
     let messages = rows.messages.saturating_add(entries.messages);
     let crew = crew.with_at_most(most_workers(crew, messages));
-    let (row_pieces, entry_pieces) = all_pieces(rt, alloc, rows.jobs, entries.jobs, &crew)?;
+    let work = FlushWork::<R, E>::new();
+    let (row_pieces, entry_pieces) = work.pieces(rt, alloc, rows.jobs, entries.jobs, &crew)?;
     let rows = whole_trees(alloc, rows.trees, row_pieces, rows.room)?;
     let entries = whole_trees(alloc, entries.trees, entry_pieces, entries.room)?;
     Ok((rows, entries))
@@ -101,7 +71,8 @@ where
 {
     let (tree, jobs) = cut_tree(alloc, 0, tree, Packet::new(alloc), crew.cut, Mode::Drain)?;
     let none: Vec<ShapedJob<V>> = Vec::new(alloc);
-    let (pieces, others) = all_pieces(rt, alloc, jobs, none, crew)?;
+    let work = FlushWork::<V, V>::new();
+    let (pieces, others) = work.pieces(rt, alloc, jobs, none, crew)?;
     drop(others);
     let mut pieces = pieces.into_iter();
     whole_tree(alloc, tree, &mut pieces)

@@ -13,16 +13,20 @@ ghost use Rattle.bt_gather.specs.Misfits.{misfit};
 ghost use Rattle.bt_gather.specs.Rounds.{all_sunk, sunk_tree};
 ghost use Rattle.bt_gather.specs.Views.{pieces_of};
 ghost use Rattle.bt_gather.specs.inside.RoundJobs.{shaped};
-ghost use Rattle.bt_gather.specs.inside.RoundTrees.{AreFilledBy, AreJobsOf, AreJobsOfAll, HasRoom, IsFilledBy, job_count, tree_with, trees_with};
+ghost use Rattle.bt_gather.specs.inside.RoundTrees.{AreFilledBy, AreJobsOf, AreJobsOfAll, IsEmptyWithRoom, IsFilledBy, job_count, tree_with, trees_with};
 
-use crate::filling::{FillError, fill};
+use crate::filling::fill_at;
 use crate::flush_work::ShapedJob;
+use crate::hole_places::hole_places;
 use bt_gang::DEEPEST_CUT;
 use bt_messages::{Merge, Packet};
 use bt_node::{Mode, Shape, Siblings, Tree, crown};
 use bt_plan::{Holed, Job, Place, cut};
 use std::alloc::{AllocError, Global};
 use std::vec::IntoIter;
+
+/// The most trees of a round. The number of a tree is a `u16` in each place.
+pub const MOST_TREES: usize = 65_536;
 
 /// A tree of a round, before its jobs are run.
 #[derive(Drop)]
@@ -99,19 +103,19 @@ pub(crate) fn cut_tree<V: Merge>(
     ))
 }
 
-// A tree of a round, and its jobs. One whose packet is smaller than the grain has none, and is sunk at once.
+// A tree of a round with its packet, and its jobs. One whose packet is smaller than the grain has none, and is sunk at once.
 fn round_tree<V: Merge>(
     alloc: Global,
     number: u16,
-    tree: Tree<V>,
-    packet: Packet<V>,
+    tree: (Tree<V>, Packet<V>),
     depth: usize,
     grain: usize,
 ) -> Result<(RoundTree<V>, Vec<ShapedJob<V>>), AllocError>
     requires { (1 ≤ depth) × (depth ≤ DEEPEST_CUT) }
-    ensures jobs { IfOk result (λ cut. AreJobsOf (meaning_of V.terms) cut.0 cut.1.items (sunk_tree (meaning_of V.terms) (tree, packet))) }
-    ensures fits { HasShape (weigh_of V.terms) tree.0 tree.1 }
+    ensures jobs { IfOk result (λ cut. AreJobsOf (meaning_of V.terms) cut.0 cut.1.items (sunk_tree (meaning_of V.terms) tree)) }
+    ensures fits { HasShape (weigh_of V.terms) tree.0.0 tree.0.1 }
 {
+    let (tree, packet) = tree;
     if packet.len() < grain {
         has_shape(&tree);
         let tree = tree.sink(alloc, packet)?;
@@ -137,19 +141,19 @@ pub(crate) fn round_trees<V: Merge>(
     grain: usize,
 ) -> Result<RoundTrees<V>, AllocError>
     requires depth { (1 ≤ depth) × (depth ≤ DEEPEST_CUT) }
-    requires few { first + length trees.items ≤ 65536 }
+    requires few { first + length trees.items ≤ MOST_TREES }
     ensures jobs { IfOk result (λ round. AreJobsOfAll (meaning_of V.terms) round.trees.items round.jobs.items (all_sunk (meaning_of V.terms) trees.items)) }
     ensures fit { IfOk result (λ _. All (λ x. HasShape (weigh_of V.terms) x.0.0 x.0.1) trees.items) }
-    ensures room { IfOk result (λ round. HasRoom round.room (vec_len round.trees)) }
+    ensures room { IfOk result (λ round. IsEmptyWithRoom round.room (vec_len round.trees)) }
 {
     let room = Vec::with_capacity(alloc, trees.len())?;
     let mut list = Vec::with_capacity(alloc, trees.len())?;
     let mut jobs = Vec::new(alloc);
     let mut messages: usize = 0;
     let mut number = first;
-    for (tree, packet) in trees {
-        let count = packet.len();
-        let (next, mut more) = round_tree(alloc, number as u16, tree, packet, depth, grain)?;
+    for tree in trees {
+        let count = tree.1.len();
+        let (next, mut more) = round_tree(alloc, number as u16, tree, depth, grain)?;
         messages = messages.saturating_add(messages_to_cut(&next, count));
         list.push_reserved(next);
         jobs.append(&mut more)?;
@@ -169,7 +173,7 @@ fn next_pieces<V: Merge>(
     count: usize,
     room: Vec<(Place, Siblings<V>)>,
 ) -> Vec<(Place, Siblings<V>)>
-    requires room { HasRoom room count }
+    requires room { IsEmptyWithRoom room count }
     requires enough { count ≤ length (into_iter_items pieces.old) }
     ensures next { result.items ≡ take count (into_iter_items pieces.old) }
     ensures left { into_iter_items pieces.new ≡ drop count (into_iter_items pieces.old) }
@@ -195,11 +199,9 @@ fn filled_tree<V: Merge>(
     ensures { IfOk result (λ tree. tree ≡ (holed.0, crown holed.0 (filled holed.0 holed.1 (pieces_of pieces.items)))) }
 {
     let shape = holed.shape();
-    match fill(alloc, holed, pieces) {
-        Ok(siblings) => Ok(crown(alloc, shape, siblings)?),
-        Err(FillError::OutOfMemory) => Err(AllocError),
-        Err(FillError::Misfit { .. }) => unreachable!(),
-    }
+    let places = hole_places(alloc, holed.root())?;
+    let siblings = fill_at(alloc, holed, places.as_slice(), pieces)?;
+    Ok(crown(alloc, shape, siblings)?)
 }
 
 /// What a tree of a round becomes with the next pieces.
@@ -229,7 +231,7 @@ pub(crate) fn whole_trees<V: Merge>(
     room: Vec<Tree<V>>,
 ) -> Result<Vec<Tree<V>>, AllocError>
     requires pieces { AreFilledBy (weigh_of V.terms) trees.items (pieces_of pieces.items) }
-    requires room { HasRoom room (vec_len trees) }
+    requires room { IsEmptyWithRoom room (vec_len trees) }
     ensures { IfOk result (λ whole. whole.items ≡ trees_with trees.items (pieces_of pieces.items)) }
 {
     let mut whole = room;

@@ -10,7 +10,7 @@ use Rattle.bt_rowtype.specs.declared.value.Value.{Value}
 pub use Rattle.bt_rowtype.proofs.offered.Kinds.{bytes_length}
 use Rattle.bt_rowtype.proofs.offered.Kinds.{taken_length}
 use Rattle.bt_keycode.specs.Codes.{code_of_content, code_of_value, eight_bytes, escaped, raised}
-use Rattle.bt_keycode.specs.inside.Decoding.{IsShort}
+use Rattle.bt_keycode.specs.inside.CodeBeginnings.{IsShort}
 use Rattle.bt_keycode.proofs.Escapes.{escaped-first, escaped-kept, escaped_parts}
 
 -- ---- bytes

@@ -14,7 +14,7 @@ use Rattle.bt_rowtype.specs.declared.value.Kind.{Kind}
 use Rattle.bt_rowtype.specs.declared.value.Value.{Value}
 use Rattle.bt_rowtype.proofs.offered.Kinds.{form_held}
 use Rattle.bt_keycode.specs.Codes.{HaveSameKinds, code_of, code_of_content, code_of_value, eight_bytes, escaped, kind_of, raised}
-use Rattle.bt_keycode.specs.inside.Decoding.{HasBits}
+use Rattle.bt_keycode.specs.inside.CodeBeginnings.{HasBits}
 use Rattle.bt_keycode.proofs.Escapes.{escaped_compare, escaped_unique, then_assoc, then_equal}
 use Rattle.bt_keycode.proofs.Numbers.{slice_cmp-eight_bytes}
 

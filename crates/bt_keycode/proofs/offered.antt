@@ -2,5 +2,6 @@
 pub mod Codes
 pub mod Decoded
 pub mod FirstNumbers
+pub mod Occurrences
 pub mod Order
 pub mod Ranges

@@ -7,6 +7,10 @@ use Rattle.bt_rowtype.specs.Paddings.{padded}
 unfoldable pub first_eight : List ℕ → List ℕ
 first_eight bytes = padded 8 bytes
 
+-- the bytes that three numbers tell of a key: as many as a key keeps in itself
+abbrev pub short_key : ℕ
+short_key = 22
+
 -- what is still compared of keys that have the same first 22 bytes with zeros behind, and the same length up to 23: nothing where they have no more
 abbrev pub rest_of : ℕ → List ℕ → List ℕ
-rest_of len bytes = cond (leb len 22) [] bytes
+rest_of len bytes = cond (leb len short_key) [] bytes

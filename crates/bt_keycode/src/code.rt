@@ -4,7 +4,7 @@ ghost use Rattle.bt_rowtype.specs.Values.{value_cmp, values_cmp};
 ghost use Rattle.bt_keycode.specs.Codes.{HaveSameKinds, IsNoProperPrefix, code_of, code_of_value, eight_bytes, kind_of, raised};
 ghost use Rattle.bt_keycode.specs.Keys.{key_cmp};
 
-use crate::code_builder::{CodeBuilder, bytes_of_int};
+use crate::code_builder::{CodeBuilder, int_code};
 use crate::key::Key;
 use bt_rowtype::{Content, Row, Value, Values, compare_values};
 use std::alloc::{AllocError, Global};
@@ -14,7 +14,7 @@ use std::cmp::Ordering;
 fn encode_int(alloc: Global, number: i64) -> Result<Key, AllocError>
     ensures { IfOk result (λ key. key ≡ eight_bytes (raised number)) }
 {
-    Key::from_bytes(alloc, &bytes_of_int(number))
+    Key::from_bytes(alloc, &int_code(number))
 }
 
 // The key that is the code of values, added one after the other.

@@ -1,7 +1,8 @@
 //! Values from their key code.
 ghost use Rattle.std.specs.Prelude.{◌≡◌, ◌<◌, ◌≤◌, ◌++◌, ◌∷◌, [], IfOk, IfSome, IfNone, IsErrOf, List, None, OnOk, Some, false, true, length, take, ℕ};
 ghost use Rattle.bt_keycode.specs.Codes.{IsCode, IsCodeOf, IsNoCode, raised};
-ghost use Rattle.bt_keycode.specs.inside.Decoding.{BeginsWith, BeginsWithContent, BeginsWithNo, BeginsWithNoContent, after_bytes, ended, unescaped};
+ghost use Rattle.bt_keycode.specs.Decodings.{after_bytes, unescaped};
+ghost use Rattle.bt_keycode.specs.inside.CodeBeginnings.{BeginsWith, BeginsWithContent, BeginsWithNo, BeginsWithNoContent, reading_at_end};
 ghost use Rattle.bt_rowtype.specs.Views.{held, shown};
 ghost use Rattle.bt_rowtype.specs.declared.value.Value.{Value as value};
 
@@ -61,11 +62,11 @@ fn first_bit(bytes: &[u8]) -> Option<(Content<'_>, &[u8])>
 }
 
 // The first of bytes from their code, unless that ends or breaks off here, and what comes after it.
-#[tactic(auto, unfolding(crate::specs::inside::Decoding::unescaped))]
+#[tactic(auto, unfolding(crate::specs::Decodings::unescaped))]
 fn next_byte(code: &[u8]) -> Option<(u8, &[u8])>
     ensures byte { IfSome result (λ read. unescaped code.now ≡ after_bytes (read.0 ∷ []) (unescaped read.1.now)) }
     ensures shorter { IfSome result (λ read. length read.1.now < length code.now) }
-    ensures none { IfNone result (unescaped code.now ≡ ended code.now) }
+    ensures none { IfNone result (unescaped code.now ≡ reading_at_end code.now) }
 {
     match code {
         [0, 255, rest @ ..] => Some((0, rest)),

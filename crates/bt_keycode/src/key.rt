@@ -1,20 +1,21 @@
 //! Keys: lists of bytes in the order of bytes.
-ghost use Rattle.std.specs.Prelude.{◌≡◌, ◌++◌, ◌≤◌, [], IfOk, OnOk, OnErr, drop, length};
+ghost use Rattle.std.specs.Prelude.{◌≡◌, ◌++◌, ◌≤◌, [], IfNone, IfOk, IfSome, OnOk, OnErr, drop, length};
 ghost use Rattle.bt_rowtype.specs.Hex.{hex_text};
+ghost use Rattle.bt_rowtype.specs.Paddings.{padded};
 ghost use Rattle.bt_keycode.specs.Keys.{key_cmp};
 ghost use Rattle.bt_keycode.specs.Codes.{eight_bytes};
 ghost use Rattle.bt_keycode.specs.Prefixes.{first_eight};
 
-use bt_rowtype::{Bytes, write_hex};
+use bt_rowtype::{Bytes, SHORT_BYTES, write_hex};
 use std::alloc::{AllocError, Global};
 use std::cmp::Ordering;
 use std::marker::Model;
 
 /// A key of at most so many bytes is kept in the value itself, and takes no memory of its own.
-pub const SHORT_KEY: usize = 22;
+pub const SHORT_KEY: usize = SHORT_BYTES;
 
 // The last place of eight bytes in a short key.
-const LAST_EIGHT: usize = 14;
+const LAST_EIGHT: usize = SHORT_KEY - 8;
 
 /// A key: bytes, ordered byte by byte, a prefix before what it begins. A contract sees the list of its bytes.
 ///
@@ -49,36 +50,28 @@ impl Key {
     pub fn new() -> Self
         ensures { result ≡ [] }
     {
-        Key {
-            bytes: Bytes::new(),
-        }
+        Key::of(Bytes::new())
     }
 
     /// The key of these bytes.
     pub fn from_bytes(alloc: Global, bytes: &[u8]) -> Result<Self, AllocError>
         ensures { IfOk result (λ key. key ≡ bytes.now) }
     {
-        Ok(Key {
-            bytes: Bytes::from_slice(alloc, bytes)?,
-        })
+        Ok(Key::of(Bytes::from_slice(alloc, bytes)?))
     }
 
-    // The key of these bytes.
-    pub(crate) fn from_vec(alloc: Global, bytes: Vec<u8>) -> Result<Self, AllocError>
-        ensures { IfOk result (λ key. key ≡ bytes.items) }
+    // The key of these bytes, wherever they lie.
+    pub(crate) fn of(bytes: Bytes) -> Self
+        ensures { result ≡ bytes }
     {
-        Ok(Key {
-            bytes: Bytes::from_vec(alloc, bytes)?,
-        })
+        Key { bytes }
     }
 
     /// A copy of the key.
     pub fn copy(&self, alloc: Global) -> Result<Self, AllocError>
         ensures { IfOk result (λ copy. copy ≡ self.now) }
     {
-        Ok(Key {
-            bytes: self.bytes.copy(alloc)?,
-        })
+        Ok(Key::of(self.bytes.copy(alloc)?))
     }
 
     /// The number of bytes.
@@ -124,6 +117,22 @@ impl Key {
         prefix_of(&self.bytes.padded()[place..])
     }
 
+    // The order of two keys by the numbers at a place, where these differ. The bytes before the place are the same, zeros behind the
+    // last one counted in.
+    #[inline(always)]
+    fn order_at(&self, other: &Key, place: usize) -> Option<Ordering>
+        requires within { place ≤ LAST_EIGHT }
+        requires before { padded place self.now ≡ padded place other.now }
+        ensures apart { IfSome result (λ order. order ≡ key_cmp self.now other.now) }
+        ensures same { IfNone result (first_eight (drop place self.now) ≡ first_eight (drop place other.now)) }
+    {
+        let (left, right) = (self.number_at(place), other.number_at(place));
+        if left != right {
+            return Some(left.cmp(&right));
+        }
+        None
+    }
+
     // The order of two short keys that have the same first sixteen bytes, zeros behind the last one counted in.
     fn compare_tails(&self, other: &Key) -> Ordering
         requires short { length self.now ≤ SHORT_KEY }
@@ -132,9 +141,8 @@ impl Key {
         requires next { first_eight (drop 8 self.now) ≡ first_eight (drop 8 other.now) }
         ensures { result ≡ key_cmp self.now other.now }
     {
-        let (left, right) = (self.number_at(LAST_EIGHT), other.number_at(LAST_EIGHT));
-        if left != right {
-            return left.cmp(&right);
+        if let Some(order) = self.order_at(other, LAST_EIGHT) {
+            return order;
         }
         self.len().cmp(&other.len())
     }
@@ -145,9 +153,8 @@ impl Key {
         requires { first_eight self.now ≡ first_eight other.now }
         ensures { result ≡ key_cmp self.now other.now }
     {
-        let (left, right) = (self.number_at(8), other.number_at(8));
-        if left != right {
-            return left.cmp(&right);
+        if let Some(order) = self.order_at(other, 8) {
+            return order;
         }
         if self.len() <= SHORT_KEY && other.len() <= SHORT_KEY {
             return self.compare_tails(other);
@@ -162,9 +169,8 @@ impl Key {
     {
         // Most keys differ in their first eight bytes, and nearly all in those that they keep: these are compared where the call
         // stands, as in the loops of a sort.
-        let (left, right) = (self.number_at(0), other.number_at(0));
-        if left != right {
-            return left.cmp(&right);
+        if let Some(order) = self.order_at(other, 0) {
+            return order;
         }
         self.compare_behind(other)
     }

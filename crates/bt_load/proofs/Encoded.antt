@@ -1,7 +1,7 @@
 -- Keys that are made each by itself.
 use Rattle.std.proofs.Common.{◌≡◌, ℕ, suc, ◌+◌, ◌<◌, List, [], ◌∷◌, get_or, length, refl, ap, ◌∙◌, arith}
 use Rattle.bt_rowtype.specs.declared.value.Value.{Value}
-use Rattle.bt_load.specs.Maps.{key_of}
+use Rattle.bt_keycode.specs.Standing.{row_key}
 use Rattle.bt_load.specs.Steps.{AreKeysOrNone, no_key}
 use Rattle.bt_load.specs.inside.Sorts.{HaveKeys, placed_from}
 use Rattle.bt_load.specs.declared.placed.Placed.{Placed}
@@ -9,17 +9,17 @@ use Rattle.bt_load.proofs.Repeats.{same_placed}
 
 -- keys with the places of rows from a place on
 keys_from : (keys place : ℕ) (rows : List (List Value)) (placed : List Placed) → length placed ≡ length rows
-    → ((k : ℕ) → k < length placed → get_or placed k no_key ≡ record { key = key_of keys (get_or rows k []); place = place + k })
+    → ((k : ℕ) → k < length placed → get_or placed k no_key ≡ record { key = row_key keys (get_or rows k []); place = place + k })
     → placed ≡ placed_from keys place rows
 keys_from keys place [] [] long are = refl
 keys_from keys place [] (p ∷ placed) long are = absurd (omega (arith, long))
 keys_from keys place (row ∷ rows) [] long are = absurd (omega (arith, long))
 keys_from keys place (row ∷ rows) (p ∷ placed) long are =
     let here : place + 0 ≡ place = omega arith in
-    let first = are 0 (omega arith) ∙ same_placed (key_of keys row) (place + 0) place here in
+    let first = are 0 (omega arith) ∙ same_placed (row_key keys row) (place + 0) place here in
     let others = keys_from keys (place + 1) rows placed (omega (arith, long)) (λ k low.
     let next : place + suc k ≡ place + 1 + k = omega arith in
-    are (suc k) (omega (arith, low)) ∙ same_placed (key_of keys (get_or rows k [])) (place + suc k) (place + 1 + k) next)
+    are (suc k) (omega (arith, low)) ∙ same_placed (row_key keys (get_or rows k [])) (place + suc k) (place + 1 + k) next)
     in
     (λ i. first i ∷ others i)
 
@@ -29,4 +29,4 @@ pub all_keys : (keys : ℕ) (rows : List (List Value)) (placed : List Placed) �
 all_keys keys rows placed long are some =
     keys_from keys 0 rows placed long (λ k low.
     let here : 0 + k ≡ k = omega arith in
-    are k low (some k low) ∙ ap (λ n. record { key = key_of keys (get_or rows n []); place = 0 + k }) here)
+    are k low (some k low) ∙ ap (λ n. record { key = row_key keys (get_or rows n []); place = 0 + k }) here)

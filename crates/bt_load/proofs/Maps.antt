@@ -15,7 +15,8 @@ use Rattle.bt_rowtype.specs.declared.refusal.Refusal.TheVariants.{DuplicateKey}
 use Rattle.bt_rowtype.specs.declared.value.Value.{Value}
 use Rattle.bt_keycode.specs.Keys.{Key, key_cmp}
 use Rattle.bt_keycode.proofs.offered.Order.{is_less, same_key, total_keys}
-use Rattle.bt_load.specs.Maps.{RowMap, key_of, map_of, map_with_rows}
+use Rattle.bt_keycode.specs.Standing.{RowMap, row_key}
+use Rattle.bt_load.specs.Maps.{map_of, map_with_rows}
 
 -- whether two keys are one
 abbrev pub is_key : Key → Key → Bool
@@ -27,7 +28,7 @@ is_itself k = ap is_eq (tied_itself total_keys k)
 -- ---- rows behind their keys
 
 abbrev pub keyed : ℕ → List (List Value) → RowMap
-keyed keys rows = map (λ row. (key_of keys row, row)) rows
+keyed keys rows = map (λ row. (row_key keys row, row)) rows
 
 abbrev pub with_pairs : ℕ → RowMap → RowMap → Result RowMap Refusal
 with_pairs item m [] = Ok m
@@ -36,7 +37,7 @@ with_pairs item m (p ∷ ps) = if is_some (find key_cmp p.0 m) then Err (Duplica
 pub by_pairs : (keys item : ℕ) (m : RowMap) (rows : List (List Value)) → map_with_rows keys item m rows ≡ with_pairs item m (keyed keys rows)
 by_pairs keys item m [] = refl
 by_pairs keys item m (row ∷ rows) =
-    ap (λ r. if is_some (find key_cmp (key_of keys row) m) then Err (DuplicateKey item) else r) (by_pairs keys (item + 1) (put key_cmp (key_of keys row) row m) rows)
+    ap (λ r. if is_some (find key_cmp (row_key keys row) m) then Err (DuplicateKey item) else r) (by_pairs keys (item + 1) (put key_cmp (row_key keys row) row m) rows)
 
 -- ---- how many times a key is there
 

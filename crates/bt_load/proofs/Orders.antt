@@ -1,8 +1,6 @@
 -- The order of keys and places.
-use Rattle.std.proofs.Common.{◌≡◌, Bool, ℕ, List, length, take, drop, ◌++◌, arith, subst, sym, take_all}
-use Rattle.std.proofs.lemmas.List.{append-nil, drop_all}
+use Rattle.std.proofs.Common.{Bool, ℕ}
 use Rattle.std.proofs.lemmas.List.Sorted.{ranks_by}
-use Rattle.std.specs.List.Sorted.{IsSorted}
 use Rattle.std.specs.Cmp.{IsStrictWeakOrder, nat_cmp_total, on_total, then_total}
 use Rattle.std.specs.Ordering.{is_lt}
 use Rattle.bt_keycode.specs.Keys.{Key}
@@ -16,11 +14,3 @@ placed_before a b = is_lt (placed_cmp a b)
 
 pub placed_ranks : IsStrictWeakOrder placed_before
 placed_ranks = ranks_by (then_total (on_total (λ (n : Key × ℕ). n.0) total_keys) (on_total (λ (n : Key × ℕ). n.1) nat_cmp_total)) (λ (p : Placed). (p.key, p.place))
-
--- a whole slice written back
-written_back : {X : Type 0} (new old : List X) (n : ℕ) → length new ≡ n → length old ≡ n → take n (new ++ drop (length new) old) ≡ new
-written_back new old n long same = rw (drop_all (length new) old (omega (arith, long, same)), append-nil new) (take_all n new (omega (arith, long)))
-
--- a whole slice that is sorted, written back
-pub sorted_back : (new old : List Placed) (n : ℕ) → length new ≡ n → length old ≡ n → IsSorted placed_cmp new → IsSorted placed_cmp (take n (new ++ drop (length new) old))
-sorted_back new old n long same sorted = subst (IsSorted placed_cmp) (sym (written_back new old n long same)) sorted

@@ -18,13 +18,14 @@ use Rattle.bt_rowtype.specs.declared.refusal.Refusal.TheVariants.{DuplicateKey}
 use Rattle.bt_rowtype.specs.declared.value.Value.{Value}
 use Rattle.bt_keycode.specs.Keys.{Key, is_before, key_cmp}
 use Rattle.bt_keycode.proofs.offered.Order.{neither_before, same_key, total_keys}
-use Rattle.bt_load.specs.Maps.{RowMap, key_of, map_of}
+use Rattle.bt_keycode.specs.Standing.{RowMap, row_key}
+use Rattle.bt_load.specs.Maps.{map_of}
 use Rattle.bt_load.specs.Steps.{placed_cmp}
 use Rattle.bt_load.specs.inside.Sorts.{IsFirstRepeat, IsKeyBelow, Repeats, at, lesser_of, pair_at, placed_from}
 use Rattle.bt_load.specs.declared.placed.Placed.{Placed}
 use Rattle.bt_load.proofs.Maps.{key_at, keyed, refused_is_first}
 use Rattle.bt_load.proofs.Orders.{placed_before, placed_ranks}
-use Rattle.bt_load.proofs.Places.{moved-once, times-twice}
+use Rattle.bt_load.proofs.Places.{distinct_placed, occurs_twice}
 
 -- ---- what stands at a place
 
@@ -35,16 +36,16 @@ length-placed_from keys place (row ∷ rows) = ap suc (length-placed_from keys (
 pub same_placed : (key : Key) (m n : ℕ) → m ≡ n → ◌≡◌ {A = Placed} (record { key = key; place = m }) (record { key = key; place = n })
 same_placed key m n e = let f : ℕ → Placed = λ k. record { key = key; place = k } in ap f e
 
-placed_at : (keys place : ℕ) (rows : List (List Value)) (n : ℕ) (d : Placed) → n < length rows → get_or (placed_from keys place rows) n d ≡ record { key = key_of keys (get_or rows n []); place = place + n }
+placed_at : (keys place : ℕ) (rows : List (List Value)) (n : ℕ) (d : Placed) → n < length rows → get_or (placed_from keys place rows) n d ≡ record { key = row_key keys (get_or rows n []); place = place + n }
 placed_at keys place [] n d within = absurd (omega (arith, within))
-placed_at keys place (row ∷ rows) zero d within = let here : place ≡ place + 0 = omega arith in same_placed (key_of keys row) place (place + 0) here
+placed_at keys place (row ∷ rows) zero d within = let here : place ≡ place + 0 = omega arith in same_placed (row_key keys row) place (place + 0) here
 placed_at keys place (row ∷ rows) (suc n) d within =
     let next : place + 1 + n ≡ place + suc n = omega arith in
-    placed_at keys (place + 1) rows n d (omega (arith, within)) ∙ same_placed (key_of keys (get_or rows n [])) (place + 1 + n) (place + suc n) next
+    placed_at keys (place + 1) rows n d (omega (arith, within)) ∙ same_placed (row_key keys (get_or rows n [])) (place + 1 + n) (place + suc n) next
 
-key-at : (keys : ℕ) (rows : List (List Value)) (n : ℕ) → n < length rows → key_at (keyed keys rows) n ≡ key_of keys (get_or rows n [])
+key-at : (keys : ℕ) (rows : List (List Value)) (n : ℕ) → n < length rows → key_at (keyed keys rows) n ≡ row_key keys (get_or rows n [])
 key-at keys rows n within =
-    let f : List Value → Key × List Value = λ row. (key_of keys row, row) in
+    let f : List Value → Key × List Value = λ row. (row_key keys row, row) in
     ap (λ (p : Key × List Value). p.0) (get_or-map f rows n [] ([], []) within)
 
 -- the keys with the rows at their places are the rows behind their keys
@@ -57,7 +58,7 @@ pairs_from keys place all (row ∷ rest) same =
     let next : place + suc n ≡ place + 1 + n = omega arith in
     subst (λ k. get_or all k [] ≡ get_or rest n []) next (same (suc n) (omega (arith, within))))
     in
-    λ i. (key_of keys row, first i) ∷ others i
+    λ i. (row_key keys row, first i) ∷ others i
 
 pairs_moved : (keys : ℕ) (rows : List (List Value)) (placed : List Placed) → IsPermutation (placed_from keys 0 rows) placed → IsPermutation (keyed keys rows) (map (pair_at rows) placed)
 pairs_moved keys rows placed moved =
@@ -104,11 +105,17 @@ rising_sorted f (p ∷ placed) up = both _ _ (first_below f p placed up) (rising
 
 -- ---- the pairs that are given
 
-pub pairs_are : (keys : ℕ) (rows : List (List Value)) (placed : List Placed) (pairs : RowMap) → pairs ≡ map (pair_at rows) placed → IsPermutation (placed_from keys 0 rows) placed → IsPermutation (keyed keys rows) pairs
-pairs_are keys rows placed pairs is moved = subst (IsPermutation (keyed keys rows)) (sym is) (pairs_moved keys rows placed moved)
+-- the rows behind their keys, in the order of the keys
+pub record AreSortedPairs (keys : ℕ) (rows : List (List Value)) (pairs : RowMap) : Type 0 where
+  pub moved : IsPermutation (keyed keys rows) pairs
+  pub rising : T (is_sorted key_cmp pairs)
 
-pub pairs_rise : (rows : List (List Value)) (placed : List Placed) (pairs : RowMap) → pairs ≡ map (pair_at rows) placed → Rise placed → T (is_sorted key_cmp pairs)
-pairs_rise rows placed pairs is up = subst (λ (ps : RowMap). T (is_sorted key_cmp ps)) (sym is) (rising_sorted (λ p. get_or rows p.place []) placed up)
+pub sorted_pairs : (keys : ℕ) (rows : List (List Value)) (placed : List Placed) (pairs : RowMap) → pairs ≡ map (pair_at rows) placed → IsPermutation (placed_from keys 0 rows) placed
+    → AllAdjacentBelow IsKeyBelow placed (length placed) → AreSortedPairs keys rows pairs
+sorted_pairs keys rows placed pairs is moved up = subst (AreSortedPairs keys rows) (sym is) (record {
+  moved = pairs_moved keys rows placed moved;
+  rising = rising_sorted (λ p. get_or rows p.place []) placed up;
+})
 
 -- ---- two next to each other in order
 
@@ -162,13 +169,13 @@ rises placed up none k d within =
 module _ (keys : ℕ) (rows : List (List Value)) (placed : List Placed) (moved : IsPermutation (placed_from keys 0 rows) placed) (up : IsSorted placed_cmp placed) where
   -- a key is that of the row at its place
   abbrev IsPlaced : Placed → Type 0
-  IsPlaced p = (p.key ≡ key_of keys (get_or rows p.place [])) × (p.place < length rows)
+  IsPlaced p = (p.key ≡ row_key keys (get_or rows p.place [])) × (p.place < length rows)
 
   all_placed : All IsPlaced (placed_from keys 0 rows)
   all_placed n d within =
       let inside : n < length rows = omega (arith, within, length-placed_from keys 0 rows) in
       let zero_on : 0 + n ≡ n = omega arith in
-      let is = placed_at keys 0 rows n d inside ∙ same_placed (key_of keys (get_or rows n [])) (0 + n) n zero_on in
+      let is = placed_at keys 0 rows n d inside ∙ same_placed (row_key keys (get_or rows n [])) (0 + n) n zero_on in
       subst IsPlaced (sym is) (refl, inside)
 
   source : (n : ℕ) → n < length placed → IsPlaced (at placed n)
@@ -179,7 +186,7 @@ module _ (keys : ℕ) (rows : List (List Value)) (placed : List Placed) (moved :
     n : ℕ
     within : n < length placed
     place : (at placed n).place ≡ k
-    key : (at placed n).key ≡ key_of keys (get_or rows k [])
+    key : (at placed n).key ≡ row_key keys (get_or rows k [])
 
   stood : (k : ℕ) → k < length rows → Stood k
   stood k within =
@@ -187,7 +194,7 @@ module _ (keys : ℕ) (rows : List (List Value)) (placed : List Placed) (moved :
       let inside : k < length (placed_from keys 0 rows) = omega (arith, within, length-placed_from keys 0 rows) in
       let x = get_or (placed_from keys 0 rows) k d in
       let to = Contains-permutation (placed_from keys 0 rows) placed x moved (Contains-get_or (placed_from keys 0 rows) k d inside) in
-      let is : at placed to.0 ≡ record { key = key_of keys (get_or rows k []); place = 0 + k } =
+      let is : at placed to.0 ≡ record { key = row_key keys (get_or rows k []); place = 0 + k } =
       get_or_default placed to.0 d x to.1 ∙ to.2 ∙ placed_at keys 0 rows k d within
       in
       let zero_on : 0 + k ≡ k = omega arith in
@@ -199,7 +206,7 @@ module _ (keys : ℕ) (rows : List (List Value)) (placed : List Placed) (moved :
       }
 
   -- a key that repeats the one before it is that of an earlier row too
-  earlier_of : (n : ℕ) → Repeats placed n → (j : ℕ) × (j < (at placed n).place) × (key_of keys (get_or rows j []) ≡ key_of keys (get_or rows (at placed n).place []))
+  earlier_of : (n : ℕ) → Repeats placed n → (j : ℕ) × (j < (at placed n).place) × (row_key keys (get_or rows j []) ≡ row_key keys (get_or rows (at placed n).place []))
   earlier_of n repeat =
       let low : n - 1 < length placed = omega (arith, repeat.within) in
       let back : n - 1 + 1 ≡ n = omega (arith, repeat.some) in
@@ -208,15 +215,15 @@ module _ (keys : ℕ) (rows : List (List Value)) (placed : List Placed) (moved :
       let one : p.key ≡ q.key = same_key p.key q.key repeat.same in
       let order : placed_before q p ≡ false = subst (λ k. placed_before (at placed k) p ≡ false) back (up (n - 1) _ (omega arith) (omega (arith, back, repeat.within))) in
       let le : p.place ≤ q.place = not_before_place q p (sym one) order in
-      let few = moved-once keys rows placed moved q.place in
-      let apart : p.place ≢ q.place = λ e. let two = times-twice placed (n - 1) n _ (omega (arith, back)) repeat.within e in omega (arith, two, few) in
+      let few = (distinct_placed keys rows placed moved).once q.place in
+      let apart : p.place ≢ q.place = λ e. let two = occurs_twice placed (n - 1) n _ (omega (arith, back)) repeat.within e in omega (arith, two, few) in
       (p.place, strictly p.place q.place le apart, sym (source (n - 1) low).0 ∙ one ∙ (source n repeat.within).0)
     where
       strictly : (j k : ℕ) → j ≤ k → j ≢ k → j < k
       strictly j k le other = omega (arith, le, other)
 
   -- a row whose key an earlier one has repeats a key in order
-  repeats_for : (k j : ℕ) → k < length rows → j < k → key_of keys (get_or rows j []) ≡ key_of keys (get_or rows k []) → (n : ℕ) × Repeats placed n × ((at placed n).place ≡ k)
+  repeats_for : (k j : ℕ) → k < length rows → j < k → row_key keys (get_or rows j []) ≡ row_key keys (get_or rows k []) → (n : ℕ) × Repeats placed n × ((at placed n).place ≡ k)
   repeats_for k j in_k below same =
       let late = stood k in_k in
       let early = stood j (omega (arith, in_k, below)) in
@@ -247,9 +254,9 @@ module _ (keys : ℕ) (rows : List (List Value)) (placed : List Placed) (moved :
       let within = repeat_within place found in
       let before = earlier_of n found.0.1 in
       let below : before.0 < place = subst (λ k. before.0 < k) is before.1 in
-      let long : length (keyed keys rows) ≡ length rows = length-map rows (λ row. (key_of keys row, row)) in
+      let long : length (keyed keys rows) ≡ length rows = length-map rows (λ row. (row_key keys row, row)) in
       let same : key_at (keyed keys rows) before.0 ≡ key_at (keyed keys rows) place =
-      key-at keys rows before.0 (omega (arith, below, within)) ∙ before.2 ∙ ap (λ k. key_of keys (get_or rows k [])) is ∙ sym (key-at keys rows place within) in
+      key-at keys rows before.0 (omega (arith, below, within)) ∙ before.2 ∙ ap (λ k. row_key keys (get_or rows k [])) is ∙ sym (key-at keys rows place within) in
       let next : 1 + place ≡ place + 1 = omega arith in
       refused_is_first keys rows before.0 place (omega (arith, within, long)) below same (λ k i low under e.
       let in_k : k < length rows = omega (arith, low, within) in

@@ -12,7 +12,7 @@ use Rattle.bt_rowtype.specs.declared.value.Value.{Value}
 use Rattle.bt_rowtype.proofs.offered.Fits.{read_fits}
 use Rattle.bt_keycode.proofs.offered.Ranges.{read_in_range}
 use Rattle.bt_load.specs.Loads.{typed_from}
-use Rattle.bt_load.specs.Standing.{AreOf}
+use Rattle.bt_keycode.specs.Standing.{AreOf}
 
 one_more : (columns : List Column) (read : Result (List Value) Refusal) (reads : List (Result (List Value) Refusal)) → ((row : List Value) → read ≡ Ok row → AreOf columns (row ∷ []))
     → AreOf columns (filter_map result_ok reads) → AreOf columns (filter_map result_ok (read ∷ reads))

@@ -7,24 +7,23 @@ use Rattle.std.specs.List.Sorted.{IsPermutation}
 use Rattle.bt_rowtype.specs.Schemas.{Schema}
 use Rattle.bt_rowtype.specs.declared.value.Value.{Value}
 use Rattle.bt_keycode.specs.Keys.{Key}
-use Rattle.bt_load.specs.Maps.{RowMap, key_of}
-use Rattle.bt_load.specs.Standing.{AllAreUnder, AllStand, AreOf, Stands}
+use Rattle.bt_keycode.specs.Standing.{AllAreUnder, AllStand, AreOf, RowMap, Stands, row_key}
 use Rattle.bt_load.proofs.Maps.{keyed}
 
 abbrev IsUnder : ℕ → Key × List Value → Type 0
-IsUnder keys p = p.0 ≡ key_of keys p.1
+IsUnder keys p = p.0 ≡ row_key keys p.1
 
 abbrev StandsAt : Schema → Key × List Value → Type 0
 StandsAt schema p = Stands schema p.0 p.1
 
 keyed_under : (keys : ℕ) (rows : List (List Value)) → All (IsUnder keys) (keyed keys rows)
 keyed_under keys [] = All-nil (IsUnder keys)
-keyed_under keys (row ∷ rows) = All-cons (IsUnder keys) (key_of keys row, row) (keyed keys rows) refl (keyed_under keys rows)
+keyed_under keys (row ∷ rows) = All-cons (IsUnder keys) (row_key keys row, row) (keyed keys rows) refl (keyed_under keys rows)
 
 keyed_stand : (schema : Schema) (rows : List (List Value)) → AreOf schema.columns rows → All (StandsAt schema) (keyed schema.keys rows)
 keyed_stand schema [] are = All-nil (StandsAt schema)
 keyed_stand schema (row ∷ rows) are =
-    All-cons (StandsAt schema) (key_of schema.keys row, row) (keyed schema.keys rows) (record { placed = refl; fits = are.0.fits; in_range = are.0.in_range }) (keyed_stand schema rows are.1)
+    All-cons (StandsAt schema) (row_key schema.keys row, row) (keyed schema.keys rows) (record { placed = refl; fits = are.0.fits; in_range = are.0.in_range }) (keyed_stand schema rows are.1)
 
 under_all : (keys : ℕ) (pairs : RowMap) → All (IsUnder keys) pairs → AllAreUnder keys pairs
 under_all keys [] all = tt

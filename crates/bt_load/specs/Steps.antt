@@ -6,7 +6,7 @@ use Rattle.bt_rowtype.specs.Values.{read_as}
 use Rattle.bt_rowtype.specs.declared.schema.Column.{Column}
 use Rattle.bt_rowtype.specs.declared.value.Value.{Value}
 use Rattle.bt_keycode.specs.Keys.{key_cmp}
-use Rattle.bt_load.specs.Maps.{key_of}
+use Rattle.bt_keycode.specs.Standing.{row_key}
 use Rattle.bt_load.specs.declared.placed.Placed.{Placed}
 
 -- a row that is that of a record, or has no value
@@ -23,7 +23,7 @@ no_key = record { key = []; place = 0 }
 
 -- a key that is that of the row at a place, with the place, or is empty
 abbrev pub IsKeyOrNone : ℕ → List Value → ℕ → Placed → Type 0
-IsKeyOrNone keys row place p = p.key ≢ [] → p ≡ record { key = key_of keys row; place = place }
+IsKeyOrNone keys row place p = p.key ≢ [] → p ≡ record { key = row_key keys row; place = place }
 
 -- the keys of a piece are those of the rows from a place on, or empty
 abbrev pub AreKeysOrNone : ℕ → ℕ → List (List Value) → List Placed → Type 0

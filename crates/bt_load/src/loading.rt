@@ -3,7 +3,7 @@ ghost use Rattle.std.specs.List.Sorted.{IsPermutation, IsSorted};
 ghost use Rattle.std.specs.Prelude.{◌≡◌, ◌≤◌, ◌+◌, length};
 ghost use Rattle.bt_load.specs.Steps.{AreKeysOrNone, AreRowsOrNone, placed_cmp};
 
-use crate::placed::{Placed, compare, encode_piece};
+use crate::placed::{Placed, encode_piece, placed_order};
 use crate::typing::type_piece;
 use bt_rowtype::{RecordLine, Row, Schema};
 use rayon::prelude::*;
@@ -92,7 +92,7 @@ impl<'a, R: Threads + Sync> Loading for InThreads<'a, R> {
     }
 
     fn sort(&self, placed: &mut Vec<Placed>) {
-        par_sort_unstable_by(self.rt, placed.as_mut_slice(), compare);
+        par_sort_unstable_by(self.rt, placed.as_mut_slice(), placed_order);
     }
 }
 
@@ -120,6 +120,6 @@ impl Loading for InTurn {
     }
 
     fn sort(&self, placed: &mut Vec<Placed>) {
-        placed.as_mut_slice().sort_unstable_by(compare);
+        placed.as_mut_slice().sort_unstable_by(placed_order);
     }
 }

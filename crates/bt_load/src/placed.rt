@@ -1,10 +1,11 @@
 //! The keys of rows, with the places of the rows.
 ghost use Rattle.std.specs.List.{AllAdjacentBelow};
 ghost use Rattle.std.specs.List.Sorted.{IsPermutation};
-ghost use Rattle.std.specs.Prelude.{◌≡◌, ◌≢◌, ◌<◌, ◌≤◌, ◌+◌, ℕ, Err, IfErr, IfOk, length, map, true};
+ghost use Rattle.std.specs.Prelude.{◌≡◌, ◌≢◌, ◌<◌, ◌≤◌, ◌+◌, Err, IfErr, IfOk, length, map, true};
+ghost use Rattle.bt_keycode.specs.Occurrences.{AreDistinctBelow};
 ghost use Rattle.bt_load.specs.Maps.{map_of};
 ghost use Rattle.bt_load.specs.Steps.{AreKeysOrNone, IsKeyOrNone, placed_cmp};
-ghost use Rattle.bt_load.specs.inside.Sorts.{HaveKeys, IsFirstRepeat, IsKeyBelow, lesser_of, pair_at, placed_from, repeats_at, times};
+ghost use Rattle.bt_load.specs.inside.Sorts.{HaveKeys, IsFirstRepeat, IsKeyBelow, lesser_of, pair_at, placed_from, places_of, repeats_at};
 
 use crate::loading::Loading;
 use bt_keycode::{Key, encode_row};
@@ -134,7 +135,7 @@ fn rise(placed: &[Placed]) -> bool
 }
 
 // The order of keys, and of equal keys that of their places.
-pub(crate) fn compare(left: &Placed, right: &Placed) -> Ordering
+pub(crate) fn placed_order(left: &Placed, right: &Placed) -> Ordering
     ensures { result ≡ placed_cmp left.now right.now }
 {
     left.key
@@ -203,8 +204,7 @@ pub(crate) fn with_rows(
     placed: Vec<Placed>,
     rows: Vec<Row>,
 ) -> Result<Vec<(Key, Row)>, AllocError>
-    requires once { (j : ℕ) → times j placed.items ≤ 1 }
-    requires within { (j : ℕ) → length rows.items ≤ j → times j placed.items ≡ 0 }
+    requires { AreDistinctBelow (length rows.items) (places_of placed.items) }
     ensures { IfOk result (λ pairs. pairs.items ≡ map (pair_at rows.items) placed.items) }
 {
     let mut rows = rows;

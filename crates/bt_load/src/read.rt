@@ -4,7 +4,7 @@ ghost use Rattle.std.specs.Result.{result_map_both};
 ghost use Rattle.bt_rowtype.specs.Answers.{Answers};
 ghost use Rattle.bt_rowtype.specs.Ops.{all_read};
 ghost use Rattle.bt_load.specs.Loads.{loaded, typed_from};
-ghost use Rattle.bt_load.specs.Standing.{AreOf};
+ghost use Rattle.bt_keycode.specs.Standing.{AreOf};
 
 use crate::loading::{InThreads, Loading};
 use crate::typing::{all_have_values, rows_or_none, type_in_turn};
@@ -32,7 +32,7 @@ fn all_left<'a>(
 }
 
 // The rows that lines spell, or the least refusal.
-fn read_lines<L: Loading>(
+fn rows_of_lines<L: Loading>(
     loading: &L,
     alloc: Global,
     schema: &Schema,
@@ -90,5 +90,5 @@ pub fn read_records_by<L: Loading>(
         return Err(Refusal::BadSchema);
     }
     let lines = all_left(alloc, records, text.len())?;
-    read_lines(loading, alloc, schema, lines.as_slice())
+    rows_of_lines(loading, alloc, schema, lines.as_slice())
 }

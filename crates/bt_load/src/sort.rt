@@ -5,7 +5,7 @@ ghost use Rattle.std.specs.Result.{result_map_both};
 ghost use Rattle.bt_rowtype.specs.Answers.{Answers};
 ghost use Rattle.bt_keycode.specs.Keys.{key_cmp};
 ghost use Rattle.bt_load.specs.Maps.{map_of};
-ghost use Rattle.bt_load.specs.Standing.{AllAreUnder, AllStand, AreOf};
+ghost use Rattle.bt_keycode.specs.Standing.{AllAreUnder, AllStand, AreOf};
 
 use crate::loading::{InThreads, Loading};
 use crate::placed::{ordered_keys, with_rows};

@@ -1,9 +1,11 @@
 -- Sorted messages cut at keys: what `take_range` and `iter_from` stand on.
 use Rattle.std.proofs.Common.{◌≡◌, ℕ, zero, suc, ◌<◌, ◌≤◌, Bool, true, false, not, ◌&&◌, cond, List, [], ◌∷◌, ◌++◌, ◌-◌, length, take, drop, get_or, Option, Some, None, refl, sym, ap, subst, ◌∙◌, true≢false, arith}
+use Rattle.std.proofs.Math.Seq.{drop-length, take-length}
 use Rattle.std.proofs.lemmas.List.{take_rest}
 use Rattle.std.proofs.lemmas.List.Filters.{length-filter_both}
 use Rattle.std.specs.List.{filter}
 use Rattle.std.specs.List.Sorted.{IsPartitionedBy, IsPartitionPoint}
+use Rattle.std.specs.Option.{MatchOption}
 use Rattle.bt_keycode.specs.Keys.{AllFrom, IsSorted, is_before, is_before_lower, is_before_upper, is_between}
 use Rattle.bt_messages.specs.Messages.{Messages, messages_before, messages_between, messages_from, messages_outside, with_messages}
 use Rattle.bt_keycode.proofs.offered.Order.{from_earlier, later_chain, not_after, not_before_itself}
@@ -132,6 +134,22 @@ module _ {M : Type 0} where
   pub between_is : (from to : Option (List ℕ)) (ms : Messages M) →
       messages_between from to ms ≡ filter (λ (m : List ℕ × M). not (is_before_lower from m.0)) (filter (λ (m : List ℕ × M). is_before_upper to m.0) ms)
   between_is from to ms = filter_both (λ (m : List ℕ × M). is_before_upper to m.0) (λ (m : List ℕ × M). not (is_before_lower from m.0)) ms
+
+  -- where messages are cut at an upper bound, and at their end where there is none
+  pub cut_upper : (to : Option (List ℕ)) (ms : Messages M) (n end : ℕ) → end ≡ length ms → MatchOption to (n ≡ end) (λ k. (take n ms ≡ messages_before k ms) × (drop n ms ≡ messages_from k ms)) →
+      (take n ms ≡ filter (λ (m : List ℕ × M). is_before_upper to m.0) ms) × (drop n ms ≡ filter (λ (m : List ℕ × M). not (is_before_upper to m.0)) ms)
+  cut_upper None ms n end l e = (
+    ap (λ k. take k ms) (e ∙ l) ∙ take-length ms ∙ sym (filter_all (λ m. true) ms (λ m. refl)),
+    ap (λ k. drop k ms) (e ∙ l) ∙ drop-length ms ∙ sym (filter_none (λ m. false) ms (λ m. refl)),
+  )
+  cut_upper (Some k) ms n end l h = h
+
+  -- where they are cut at a lower bound, and at their start where there is none
+  pub cut_lower : (from : Option (List ℕ)) (ms : Messages M) (n : ℕ) → MatchOption from (n ≡ 0) (λ k. (take n ms ≡ messages_before k ms) × (drop n ms ≡ messages_from k ms)) →
+      (take n ms ≡ filter (λ (m : List ℕ × M). is_before_lower from m.0) ms) × (drop n ms ≡ filter (λ (m : List ℕ × M). not (is_before_lower from m.0)) ms)
+  cut_lower None ms n e =
+      (ap (λ k. take k ms) e ∙ sym (filter_none (λ m. false) ms (λ m. refl)), ap (λ k. drop k ms) e ∙ sym (filter_all (λ m. true) ms (λ m. refl)))
+  cut_lower (Some k) ms n h = h
 
   -- what is left and what was taken, step by step
   pub left_is : (from to : Option (List ℕ)) (ms first later left : Messages M) → IsSorted ms →

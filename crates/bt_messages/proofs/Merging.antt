@@ -1,11 +1,10 @@
--- One pass over older and newer messages, for the loop of `merge_each`, and newer ones behind all older ones, for `append_front`.
+-- One pass over older and newer messages, and newer ones behind all older ones, for `merge_front`.
 use Rattle.std.proofs.Common.{◌≡◌, ◌==◌, Ordering, Less, Equal, Greater, ℕ, zero, suc, ◌-◌, ◌<◌, ◌≤◌, true, false, List, [], ◌∷◌, ◌++◌, append_assoc, append-nil, get_or, length, take, refl, sym, ap, subst, ◌∙◌, arith, if◌then◌else◌}
 use Rattle.std.proofs.Math.Seq.{take-nil}
 use Rattle.std.proofs.lemmas.Bool.{false≢true}
 use Rattle.std.specs.Ordering.{is_lt, ordering_index}
-use Rattle.bt_messages.specs.inside.Merges.{messages_past, messages_up_to}
 use Rattle.bt_keycode.specs.Keys.{AllFrom, IsSorted, is_before}
-use Rattle.bt_messages.specs.Messages.{Messages, with_messages}
+use Rattle.bt_messages.specs.Messages.{Messages, messages_past, messages_up_to, with_messages}
 use Rattle.bt_messages.proofs.Cuts.{from_first, nothing}
 use Rattle.bt_messages.proofs.offered.Fronts.{from-take, sorted_take}
 use Rattle.bt_messages.proofs.offered.Placed.{alone, first_stays, newer_first, newer_last}

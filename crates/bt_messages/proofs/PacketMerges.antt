@@ -3,11 +3,11 @@ use Rattle.std.proofs.Common.{◌≡◌, ◌==◌, ℕ, ◌+◌, ◌<◌, ◌^�
 use Rattle.std.proofs.lemmas.List.{length-append}
 use Rattle.std.specs.Option.{MatchOption}
 use Rattle.bt_keycode.specs.Keys.{IsSorted, is_before}
-use Rattle.bt_messages.specs.Bins.{joined}
+use Rattle.bt_rowtype.specs.Lists.{concatenation}
 use Rattle.bt_messages.specs.Messages.{Messages, with_messages}
 use Rattle.bt_messages.specs.inside.Merges.{goes_before}
 use Rattle.bt_messages.specs.inside.Runs.{AreRuns, AreSome, begins_before}
-use Rattle.bt_messages.proofs.RunLists.{begun, joined-append, sorted_left, sorted_right, whole_runs}
+use Rattle.bt_messages.proofs.RunLists.{begun, concatenation-append, sorted_left, whole_runs}
 use Rattle.bt_messages.proofs.offered.Placed.{first_stays, newer_first, newer_last, sorted-with_messages}
 use Rattle.bt_messages.proofs.offered.Parts.{length-with_messages}
 
@@ -38,10 +38,6 @@ module _ {M : Type 0} where
 
   -- ---- the pass over both
 
-  -- what is moved so far is sorted
-  pub run_sorted : (runs run both older newer : Messages M) → (runs ++ run) ++ both ≡ with_messages newer older → IsSorted older → IsSorted run
-  run_sorted runs run both older newer e h = sorted_right runs run (sorted_left (runs ++ run) both (subst (IsSorted {X = M}) (sym e) (sorted-with_messages newer older h)))
-
   -- so many messages are moved, and so many are left
   pub moved_count : (moved o n older newer : Messages M) → moved ++ with_messages n o ≡ with_messages newer older → length moved + (length o + length n) ≡ length older + length newer
   moved_count moved o n older newer e =
@@ -57,7 +53,7 @@ module _ {M : Type 0} where
 
   -- the runs of what is moved
   pub moved_runs : (first moved o n older newer : Messages M) (runs : List (Messages M)) (count : ℕ) → moved ++ with_messages n o ≡ with_messages newer older → IsSorted older → first ≡ [] → AreSome runs →
-      joined runs ≡ moved → count ≡ length moved → count < 2 ^ 63 → AreRuns first runs count
+      concatenation runs ≡ moved → count ≡ length moved → count < 2 ^ 63 → AreRuns first runs count
   moved_runs first moved o n older newer runs count e h f s j l b =
       whole_runs first runs moved count f s (sorted_left moved (with_messages n o) (subst (IsSorted {X = M}) (sym e) (sorted-with_messages newer older h))) j l b
 
@@ -67,15 +63,15 @@ module _ {M : Type 0} where
   some-append [] qs h k = k
   some-append (r ∷ rs) qs h k = (h.0, some-append rs qs h.1 k)
 
-  whole-append : (a b : Messages M) (rs qs : List (Messages M)) → joined qs ≡ b → a ++ joined (rs ++ qs) ≡ (a ++ joined rs) ++ b
+  whole-append : (a b : Messages M) (rs qs : List (Messages M)) → concatenation qs ≡ b → a ++ concatenation (rs ++ qs) ≡ (a ++ concatenation rs) ++ b
   whole-append a b rs qs e =
-      ap (λ z. a ++ z) (joined-append rs qs) ∙ sym (append_assoc a (joined rs) (joined qs)) ∙ ap (λ z. (a ++ joined rs) ++ z) e
+      ap (λ z. a ++ z) (concatenation-append rs qs) ∙ sym (append_assoc a (concatenation rs) (concatenation qs)) ∙ ap (λ z. (a ++ concatenation rs) ++ z) e
 
   -- a packet with the lists of another one behind its own
-  pub runs-append : (a b whole : Messages M) (rs qs new : List (Messages M)) (n m k : ℕ) → AreRuns a rs n → AreSome qs → joined qs ≡ b → m ≡ length b → a ++ joined rs ≡ whole → IsSorted (whole ++ b) →
-      (k ≡ n + m) × (k < 2 ^ 63) → new ≡ rs ++ qs → AreRuns a new k × (a ++ joined new ≡ whole ++ b)
+  pub runs-append : (a b whole : Messages M) (rs qs new : List (Messages M)) (n m k : ℕ) → AreRuns a rs n → AreSome qs → concatenation qs ≡ b → m ≡ length b → a ++ concatenation rs ≡ whole → IsSorted (whole ++ b) →
+      (k ≡ n + m) × (k < 2 ^ 63) → new ≡ rs ++ qs → AreRuns a new k × (a ++ concatenation new ≡ whole ++ b)
   runs-append a b whole rs qs new n m k h s e f w i c l =
-      let is : a ++ joined new ≡ whole ++ b = ap (λ z. a ++ joined z) l ∙ whole-append a b rs qs e ∙ ap (λ z. z ++ b) w in (
+      let is : a ++ concatenation new ≡ whole ++ b = ap (λ z. a ++ concatenation z) l ∙ whole-append a b rs qs e ∙ ap (λ z. z ++ b) w in (
         record {
           some = subst (AreSome {X = List ℕ × M}) (sym l) (some-append rs qs h.some s);
           sorted = subst (IsSorted {X = M}) (sym is) i;

@@ -5,7 +5,8 @@ use Rattle.std.specs.List.Sorted.{IsPartitionedBy, IsPartitionPoint}
 use Rattle.std.specs.Option.{MatchOption, option_to_list}
 use Rattle.bt_keycode.specs.Keys.{AllFrom, IsSorted, is_before}
 use Rattle.bt_keycode.proofs.offered.Order.{from_earlier, later_chain}
-use Rattle.bt_messages.specs.Bins.{AllBefore, joined}
+use Rattle.bt_rowtype.specs.Lists.{concatenation}
+use Rattle.bt_messages.specs.Bins.{AllBefore}
 use Rattle.bt_messages.specs.Messages.{Messages, with_messages}
 use Rattle.bt_messages.specs.inside.Runs.{AreRuns, AreSome, begins_before}
 use Rattle.bt_messages.proofs.Merging.{all_behind}
@@ -34,25 +35,29 @@ module _ {M : Type 0} where
   sorted_right [] b h = h
   sorted_right (m ∷ a) b h = sorted_right a b h.1
 
-  pub joined-append : (qs bs : List (Messages M)) → joined (qs ++ bs) ≡ joined qs ++ joined bs
-  joined-append [] bs = refl
-  joined-append (a ∷ qs) bs = ap (λ z. a ++ z) (joined-append qs bs) ∙ sym (append_assoc a (joined qs) (joined bs))
+  -- of sorted messages that are put into runs one by one the last run is sorted
+  pub run_sorted : (runs run rest whole : Messages M) → (runs ++ run) ++ rest ≡ whole → IsSorted whole → IsSorted run
+  run_sorted runs run rest whole e h = sorted_right runs run (sorted_left (runs ++ run) rest (subst IsSorted (sym e) h))
+
+  pub concatenation-append : (qs bs : List (Messages M)) → concatenation (qs ++ bs) ≡ concatenation qs ++ concatenation bs
+  concatenation-append [] bs = refl
+  concatenation-append (a ∷ qs) bs = ap (λ z. a ++ z) (concatenation-append qs bs) ∙ sym (append_assoc a (concatenation qs) (concatenation bs))
 
   -- the pieces of a list and of the runs behind it are all of them
   pub walked : (a b first : Messages M) (qs bs rest : List (Messages M)) (x y z : Messages M) {p q : Messages M} → a ++ b ≡ first → qs ++ bs ≡ rest →
-      x ≡ p ++ [] → p ≡ a → y ≡ q ++ joined qs → q ≡ b → z ≡ joined bs → x ++ (y ++ z) ≡ first ++ joined rest
+      x ≡ p ++ [] → p ≡ a → y ≡ q ++ concatenation qs → q ≡ b → z ≡ concatenation bs → x ++ (y ++ z) ≡ first ++ concatenation rest
   walked a b first qs bs rest x y z {p} {q} e f g j h k l =
       ap (λ ms. ms ++ (y ++ z)) (g ∙ append-nil p ∙ j)
-      ∙ ap (λ ms. a ++ (ms ++ z)) (h ∙ ap (λ ms. ms ++ joined qs) k)
-      ∙ ap (λ ms. a ++ ((b ++ joined qs) ++ ms)) l
-      ∙ ap (λ ms. a ++ ms) (append_assoc b (joined qs) (joined bs))
-      ∙ ap (λ ms. a ++ (b ++ ms)) (sym (joined-append qs bs))
-      ∙ sym (append_assoc a b (joined (qs ++ bs)))
-      ∙ ap (λ ms. ms ++ joined (qs ++ bs)) e
-      ∙ ap (λ rs. first ++ joined rs) f
+      ∙ ap (λ ms. a ++ (ms ++ z)) (h ∙ ap (λ ms. ms ++ concatenation qs) k)
+      ∙ ap (λ ms. a ++ ((b ++ concatenation qs) ++ ms)) l
+      ∙ ap (λ ms. a ++ ms) (append_assoc b (concatenation qs) (concatenation bs))
+      ∙ ap (λ ms. a ++ (b ++ ms)) (sym (concatenation-append qs bs))
+      ∙ sym (append_assoc a b (concatenation (qs ++ bs)))
+      ∙ ap (λ ms. ms ++ concatenation (qs ++ bs)) e
+      ∙ ap (λ rs. first ++ concatenation rs) f
 
-  pub joined-push : (qs : List (Messages M)) (b : Messages M) → joined (qs ++ b ∷ []) ≡ joined qs ++ b
-  joined-push qs b = joined-append qs (b ∷ []) ∙ ap (λ z. joined qs ++ z) (append-nil b)
+  pub concatenation-push : (qs : List (Messages M)) (b : Messages M) → concatenation (qs ++ b ∷ []) ≡ concatenation qs ++ b
+  concatenation-push qs b = concatenation-append qs (b ∷ []) ∙ ap (λ z. concatenation qs ++ z) (append-nil b)
 
   pub some-push : (qs : List (Messages M)) (b : Messages M) → AreSome qs → 0 < length b → AreSome (qs ++ b ∷ [])
   some-push [] b h l = (l, tt)
@@ -69,31 +74,31 @@ module _ {M : Type 0} where
   begun_run k [] rest l h e = absurd (omega (arith, l))
   begun_run k (m ∷ r) rest l h e = begun k (m ∷ r ++ rest) h e
 
-  begins_from : (k : List ℕ) (rs : List (Messages M)) (j : ℕ) (d : Messages M) → AllFrom k (joined rs) → j < length rs → begins_before k (get_or rs j d) ≡ false
+  begins_from : (k : List ℕ) (rs : List (Messages M)) (j : ℕ) (d : Messages M) → AllFrom k (concatenation rs) → j < length rs → begins_before k (get_or rs j d) ≡ false
   begins_from k [] j d h l = absurd (omega (arith, l))
   begins_from k ([] ∷ rs) zero d h l = refl
   begins_from k ((m ∷ r) ∷ rs) zero d h l = h.0
-  begins_from k (r ∷ rs) (suc j) d h l = begins_from k rs j d (from_right k r (joined rs) h) (omega (arith, l))
+  begins_from k (r ∷ rs) (suc j) d h l = begins_from k rs j d (from_right k r (concatenation rs) h) (omega (arith, l))
 
   -- the runs that begin before a key stand first
-  pub parted_runs : (k : List ℕ) (rs : List (Messages M)) → AreSome rs → IsSorted (joined rs) → IsPartitionedBy (begins_before k) rs
+  pub parted_runs : (k : List ℕ) (rs : List (Messages M)) → AreSome rs → IsSorted (concatenation rs) → IsPartitionedBy (begins_before k) rs
   parted_runs k [] s h i j d l n e = absurd (omega (arith, n))
   parted_runs k (r ∷ rs) s h (suc i) zero d l n e = absurd (omega (arith, l))
-  parted_runs k (r ∷ rs) s h (suc i) (suc j) d l n e = parted_runs k rs s.1 (sorted_right r (joined rs) h) i j d (omega (arith, l)) (omega (arith, n)) e
+  parted_runs k (r ∷ rs) s h (suc i) (suc j) d l n e = parted_runs k rs s.1 (sorted_right r (concatenation rs) h) i j d (omega (arith, l)) (omega (arith, n)) e
   parted_runs k (r ∷ rs) s h zero j d l n e = go (begins_before k r) refl
     where
       go : (t : Bool) → begins_before k r ≡ t → begins_before k r ≡ true
       go true f = f
-      go false f = absurd (true≢false (sym e ∙ begins_from k (r ∷ rs) j d (begun_run k r (joined rs) s.0 h f) n))
+      go false f = absurd (true≢false (sym e ∙ begins_from k (r ∷ rs) j d (begun_run k r (concatenation rs) s.0 h f) n))
 
   -- from the first run on that does not begin before a key, all lie from it on
-  pub later_runs : (k : List ℕ) (rs : List (Messages M)) (n : ℕ) → AreSome rs → IsSorted (joined rs) →
-      IsPartitionPoint (λ r. begins_before k r ≡ true) (λ r. begins_before k r ≡ false) rs n → AllFrom k (joined (drop n rs))
+  pub later_runs : (k : List ℕ) (rs : List (Messages M)) (n : ℕ) → AreSome rs → IsSorted (concatenation rs) →
+      IsPartitionPoint (λ r. begins_before k r ≡ true) (λ r. begins_before k r ≡ false) rs n → AllFrom k (concatenation (drop n rs))
   later_runs k [] zero s h p = tt
   later_runs k [] (suc n) s h p = tt
-  later_runs k (r ∷ rs) zero s h p = begun_run k r (joined rs) s.0 h (p.1 0 r (omega arith) (omega arith))
+  later_runs k (r ∷ rs) zero s h p = begun_run k r (concatenation rs) s.0 h (p.1 0 r (omega arith) (omega arith))
   later_runs k (r ∷ rs) (suc n) s h p =
-      later_runs k rs n s.1 (sorted_right r (joined rs) h) ((λ j d l i. p.0 (suc j) d (omega (arith, l)) (omega (arith, i))), (λ j d l i. p.1 (suc j) d (omega (arith, l)) (omega (arith, i))))
+      later_runs k rs n s.1 (sorted_right r (concatenation rs) h) ((λ j d l i. p.0 (suc j) d (omega (arith, l)) (omega (arith, i))), (λ j d l i. p.1 (suc j) d (omega (arith, l)) (omega (arith, i))))
 
   pub last_run : (k : List ℕ) (rs : List (Messages M)) (n : ℕ) → IsPartitionPoint (λ r. begins_before k r ≡ true) (λ r. begins_before k r ≡ false) rs n → 0 < n →
       begins_before k (get_or rs (n - 1) []) ≡ true
@@ -112,13 +117,13 @@ module _ {M : Type 0} where
   all_earlier k [] q rest h e = tt
   all_earlier k (m ∷ a) q rest h e = (earlier k m a q rest h.0 e, all_earlier k a q rest h.1 e)
 
-  runs_earlier : (k : List ℕ) (a : Messages M) (rs : List (Messages M)) (n : ℕ) → IsSorted (a ++ joined rs) → n < length rs → begins_before k (get_or rs n []) ≡ true →
-      AllBefore k (a ++ joined (take n rs))
+  runs_earlier : (k : List ℕ) (a : Messages M) (rs : List (Messages M)) (n : ℕ) → IsSorted (a ++ concatenation rs) → n < length rs → begins_before k (get_or rs n []) ≡ true →
+      AllBefore k (a ++ concatenation (take n rs))
   runs_earlier k a [] n h l e = absurd (omega (arith, l))
-  runs_earlier k a (r ∷ rs) zero h l e = subst (AllBefore k) (sym (append-nil a)) (all_earlier k a r (joined rs) h e)
+  runs_earlier k a (r ∷ rs) zero h l e = subst (AllBefore k) (sym (append-nil a)) (all_earlier k a r (concatenation rs) h e)
   runs_earlier k a (r ∷ rs) (suc n) h l e =
-      subst (AllBefore k) (append_assoc a r (joined (take n rs)))
-      (runs_earlier k (a ++ r) rs n (subst IsSorted (sym (append_assoc a r (joined rs))) h) (omega (arith, l)) e)
+      subst (AllBefore k) (append_assoc a r (concatenation (take n rs)))
+      (runs_earlier k (a ++ r) rs n (subst IsSorted (sym (append_assoc a r (concatenation rs))) h) (omega (arith, l)) e)
 
   -- ---- a place in a run
 
@@ -146,23 +151,29 @@ module _ {M : Type 0} where
   from_place k (m ∷ a) r b p zero e l g h = absurd (omega (arith, e))
   from_place k (m ∷ a) r b p (suc at) e l g h = from_place k a r b p at (omega (arith, e)) l g h
 
-  joined-cut : (rs : List (Messages M)) (n : ℕ) → n < length rs → joined rs ≡ joined (take n rs) ++ (get_or rs n [] ++ joined (drop (suc n) rs))
-  joined-cut [] n l = absurd (omega (arith, l))
-  joined-cut (r ∷ rs) zero l = refl
-  joined-cut (r ∷ rs) (suc n) l = ap (λ z. r ++ z) (joined-cut rs n (omega (arith, l))) ∙ sym (append_assoc r (joined (take n rs)) (get_or rs n [] ++ joined (drop (suc n) rs)))
+  concatenation-cut : (rs : List (Messages M)) (n : ℕ) → n < length rs → concatenation rs ≡ concatenation (take n rs) ++ (get_or rs n [] ++ concatenation (drop (suc n) rs))
+  concatenation-cut [] n l = absurd (omega (arith, l))
+  concatenation-cut (r ∷ rs) zero l = refl
+  concatenation-cut (r ∷ rs) (suc n) l = ap (λ z. r ++ z) (concatenation-cut rs n (omega (arith, l))) ∙ sym (append_assoc r (concatenation (take n rs)) (get_or rs n [] ++ concatenation (drop (suc n) rs)))
 
   -- the messages of one run more
-  pub one_more_run : (rs : List (Messages M)) (n : ℕ) (d : Messages M) → n < length rs → length (joined (take (suc n) rs)) ≡ length (joined (take n rs)) + length (get_or rs n d)
+  pub one_more_run : (rs : List (Messages M)) (n : ℕ) (d : Messages M) → n < length rs → length (concatenation (take (suc n) rs)) ≡ length (concatenation (take n rs)) + length (get_or rs n d)
   one_more_run [] n d l = absurd (omega (arith, l))
   one_more_run (r ∷ rs) zero d l = omega (arith, length-append r [])
   one_more_run (r ∷ rs) (suc n) d l =
-      omega (arith, length-append r (joined (take (suc n) rs)), length-append r (joined (take n rs)), one_more_run rs n d (omega (arith, l)))
+      omega (arith, length-append r (concatenation (take (suc n) rs)), length-append r (concatenation (take n rs)), one_more_run rs n d (omega (arith, l)))
 
-  pub run_within : (rs : List (Messages M)) (n : ℕ) (d : Messages M) → n < length rs → length (joined (take n rs)) + length (get_or rs n d) ≤ length (joined rs)
+  pub run_within : (rs : List (Messages M)) (n : ℕ) (d : Messages M) → n < length rs → length (concatenation (take n rs)) + length (get_or rs n d) ≤ length (concatenation rs)
   run_within [] n d l = absurd (omega (arith, l))
-  run_within (r ∷ rs) zero d l = omega (arith, length-append r (joined rs))
+  run_within (r ∷ rs) zero d l = omega (arith, length-append r (concatenation rs))
   run_within (r ∷ rs) (suc n) d l =
-      omega (arith, length-append r (joined (take n rs)), length-append r (joined rs), run_within rs n d (omega (arith, l)))
+      omega (arith, length-append r (concatenation (take n rs)), length-append r (concatenation rs), run_within rs n d (omega (arith, l)))
+
+  -- before the last of some runs and in it are no more messages than in all
+  pub counted_within : (a : Messages M) (rs : List (Messages M)) (k runs led before : ℕ) (d : Messages M) → AreRuns a rs k → 0 < runs → runs ≤ length rs → led ≡ length a →
+      before ≡ length (concatenation (take (runs - 1) rs)) → led + before + length (get_or rs (runs - 1) d) < 2 ^ 63
+  counted_within a rs k runs led before d are some few l b =
+      omega (arith, l, b, run_within rs (runs - 1) d (omega (arith, some, few)), are.count, are.bound, length-append a (concatenation rs))
 
   -- all before it lie before the key, and all from it on do not
   abbrev pub Parts : List ℕ → ℕ → Messages M → Type 0
@@ -171,19 +182,19 @@ module _ {M : Type 0} where
   pub placed_first : (k : List ℕ) (a b : Messages M) (p : ℕ) → p ≤ length a → AllBefore k (take p a) → AllFrom k (drop p a) → AllFrom k b → Parts k p (a ++ b)
   placed_first k a b p l g h i = (before_front k a b p l g, from_front k a b p l h i)
 
-  pub placed_run : (k : List ℕ) (a : Messages M) (rs : List (Messages M)) (n m p at : ℕ) (r : Messages M) → IsSorted (a ++ joined rs) → n < length rs → begins_before k (get_or rs n []) ≡ true →
-      m ≡ suc n → AllFrom k (joined (drop m rs)) → r ≡ get_or rs n [] → p ≤ length r → AllBefore k (take p r) → AllFrom k (drop p r) → at ≡ length a + length (joined (take n rs)) + p →
-      Parts k at (a ++ joined rs)
+  pub placed_run : (k : List ℕ) (a : Messages M) (rs : List (Messages M)) (n m p at : ℕ) (r : Messages M) → IsSorted (a ++ concatenation rs) → n < length rs → begins_before k (get_or rs n []) ≡ true →
+      m ≡ suc n → AllFrom k (concatenation (drop m rs)) → r ≡ get_or rs n [] → p ≤ length r → AllBefore k (take p r) → AllFrom k (drop p r) → at ≡ length a + length (concatenation (take n rs)) + p →
+      Parts k at (a ++ concatenation rs)
   placed_run k a rs n m p at r h l e next f is b g i w =
-      let front = a ++ joined (take n rs) in
-      let back = joined (drop (suc n) rs) in
+      let front = a ++ concatenation (take n rs) in
+      let back = concatenation (drop (suc n) rs) in
       let run = get_or rs n [] in
-      let whole : a ++ joined rs ≡ front ++ (run ++ back) = ap (λ z. a ++ z) (joined-cut rs n l) ∙ sym (append_assoc a (joined (take n rs)) (run ++ back)) in
-      let place : at ≡ length front + p = omega (arith, w, length-append a (joined (take n rs))) in
+      let whole : a ++ concatenation rs ≡ front ++ (run ++ back) = ap (λ z. a ++ z) (concatenation-cut rs n l) ∙ sym (append_assoc a (concatenation (take n rs)) (run ++ back)) in
+      let place : at ≡ length front + p = omega (arith, w, length-append a (concatenation (take n rs))) in
       let few : p ≤ length run = omega (arith, b, ap length is) in
       subst (Parts k at) (sym whole) (
         before_place k front run back p at place few (runs_earlier k a rs n h l e) (subst (λ z. AllBefore k (take p z)) is g),
-        from_place k front run back p at place few (subst (λ z. AllFrom k (drop p z)) is i) (subst (λ n. AllFrom k (joined (drop n rs))) next f),
+        from_place k front run back p at place few (subst (λ z. AllFrom k (drop p z)) is i) (subst (λ n. AllFrom k (concatenation (drop n rs))) next f),
       )
 
   -- ---- what begins before a key
@@ -192,13 +203,13 @@ module _ {M : Type 0} where
   begins_first k [] b m l e = absurd (omega (arith, l))
   begins_first k (n ∷ a) b m l e = ap (λ (x : List ℕ × M). is_before x.0 k) e
 
-  pub begins_run : (k : List ℕ) (a : Messages M) (rs : List (Messages M)) (r : Messages M) → length a ≡ 0 → AreSome rs → 0 < length rs → r ≡ get_or rs 0 r → begins_before k r ≡ begins_before k (a ++ joined rs)
+  pub begins_run : (k : List ℕ) (a : Messages M) (rs : List (Messages M)) (r : Messages M) → length a ≡ 0 → AreSome rs → 0 < length rs → r ≡ get_or rs 0 r → begins_before k r ≡ begins_before k (a ++ concatenation rs)
   begins_run k (m ∷ a) rs r z s l e = absurd (omega (arith, z))
   begins_run k [] [] r z s l e = absurd (omega (arith, l))
   begins_run k [] ([] ∷ rs) r z s l e = absurd (omega (arith, s.0))
   begins_run k [] ((m ∷ q) ∷ rs) r z s l e = ap (begins_before k) e
 
-  pub begins_none : (k : List ℕ) (a : Messages M) (rs : List (Messages M)) → length a ≡ 0 → length rs ≡ 0 → false ≡ begins_before k (a ++ joined rs)
+  pub begins_none : (k : List ℕ) (a : Messages M) (rs : List (Messages M)) → length a ≡ 0 → length rs ≡ 0 → false ≡ begins_before k (a ++ concatenation rs)
   begins_none k (m ∷ a) rs z w = absurd (omega (arith, z))
   begins_none k [] (r ∷ rs) z w = absurd (omega (arith, w))
   begins_none k [] [] z w = refl
@@ -213,22 +224,22 @@ module _ {M : Type 0} where
   -- the first list is gone through as a whole
   pub same_later : (a b : Messages M) (rs qs : List (Messages M)) (n k : ℕ) → AreRuns a rs n → b ≡ a → qs ≡ rs → k ≡ length a → AreRuns b qs (length b + (n - k))
   same_later a b rs qs n k h e f l =
-      let count : n ≡ length a + length (joined rs) = h.count ∙ length-append a (joined rs) in
+      let count : n ≡ length a + length (concatenation rs) = h.count ∙ length-append a (concatenation rs) in
       let same : length b + (n - k) ≡ n = omega (arith, ap length e, l, count) in
       subst (AreRuns b qs) (sym same) (subst (λ x. AreRuns x qs n) (sym e) (subst (λ x. AreRuns a x n) (sym f) h))
 
   pub run_popped : (a r : Messages M) (rs qs : List (Messages M)) (later k : ℕ) → AreRuns a rs (length a + later) → length a ≡ 0 → rs ≡ r ∷ qs → k ≡ length r →
-      (a ++ joined rs ≡ r ++ (a ++ joined qs)) × (0 < length r) × (k ≤ later) × AreRuns a qs (length a + (later - k))
+      (a ++ concatenation rs ≡ r ++ (a ++ concatenation qs)) × (0 < length r) × (k ≤ later) × AreRuns a qs (length a + (later - k))
   run_popped (m ∷ a) r rs qs later k h z e l = absurd (omega (arith, z))
   run_popped [] r rs qs later k h z e l =
-      let is : joined rs ≡ r ++ joined qs = ap joined e in
+      let is : concatenation rs ≡ r ++ concatenation qs = ap concatenation e in
       let some : AreSome (r ∷ qs) = subst AreSome e h.some in
-      let count : length (joined rs) ≡ length r + length (joined qs) = ap length is ∙ length-append r (joined qs) in
-      let all : 0 + later ≡ length (joined rs) = h.count in (
+      let count : length (concatenation rs) ≡ length r + length (concatenation qs) = ap length is ∙ length-append r (concatenation qs) in
+      let all : 0 + later ≡ length (concatenation rs) = h.count in (
         is,
         some.0,
         omega (arith, all, count, l),
-        record { some = some.1; sorted = sorted_right r (joined qs) (subst IsSorted is h.sorted); count = omega (arith, all, count, l); bound = omega (arith, h.bound) },
+        record { some = some.1; sorted = sorted_right r (concatenation qs) (subst IsSorted is h.sorted); count = omega (arith, all, count, l); bound = omega (arith, h.bound) },
       )
 
   -- the first message of a list that has some, where there are any
@@ -246,12 +257,12 @@ module _ {M : Type 0} where
   some_more (m ∷ r) s zero left e = absurd (omega (arith, e))
   some_more (m ∷ r) s (suc n) left e = let others = some_more r s n left (omega (arith, e)) in (ap (λ z. m ∷ z) others.0, others.1)
 
-  pub run_taken : (s t r : Messages M) (runs : List (Messages M)) (n c : ℕ) (wanted left : Messages M) → s ≡ r ++ t → c ≡ length r → c ≤ n → joined runs ++ take n s ≡ wanted → drop n s ≡ left →
-      (joined (runs ++ r ∷ []) ++ take (n - c) t ≡ wanted) × (drop (n - c) t ≡ left)
+  pub run_taken : (s t r : Messages M) (runs : List (Messages M)) (n c : ℕ) (wanted left : Messages M) → s ≡ r ++ t → c ≡ length r → c ≤ n → concatenation runs ++ take n s ≡ wanted → drop n s ≡ left →
+      (concatenation (runs ++ r ∷ []) ++ take (n - c) t ≡ wanted) × (drop (n - c) t ≡ left)
   run_taken s t r runs n c wanted left e f l g h =
       let more = some_more r t n (n - c) (omega (arith, f, l)) in (
-        ap (λ z. z ++ take (n - c) t) (joined-push runs r) ∙ append_assoc (joined runs) r (take (n - c) t)
-            ∙ ap (λ z. joined runs ++ z) (sym more.0) ∙ ap (λ z. joined runs ++ take n z) (sym e) ∙ g,
+        ap (λ z. z ++ take (n - c) t) (concatenation-push runs r) ∙ append_assoc (concatenation runs) r (take (n - c) t)
+            ∙ ap (λ z. concatenation runs ++ z) (sym more.0) ∙ ap (λ z. concatenation runs ++ take n z) (sym e) ∙ g,
         sym more.1 ∙ ap (drop n) (sym e) ∙ h,
       )
 
@@ -259,14 +270,14 @@ module _ {M : Type 0} where
   enough_left s t r n c e f l = omega (arith, ap length e, length-append r t, f, l)
 
   -- nothing of it is left to be taken
-  pub none_left : (runs : List (Messages M)) (s wanted left : Messages M) (n : ℕ) → n ≤ 0 → joined runs ++ take n s ≡ wanted → drop n s ≡ left → (joined runs ≡ wanted) × (s ≡ left)
-  none_left runs s wanted left zero l e f = (sym (append-nil (joined runs)) ∙ e, f)
+  pub none_left : (runs : List (Messages M)) (s wanted left : Messages M) (n : ℕ) → n ≤ 0 → concatenation runs ++ take n s ≡ wanted → drop n s ≡ left → (concatenation runs ≡ wanted) × (s ≡ left)
+  none_left runs s wanted left zero l e f = (sym (append-nil (concatenation runs)) ∙ e, f)
   none_left runs s wanted left (suc n) l e f = absurd (omega (arith, l))
 
-  pub whole_runs : (first : Messages M) (runs : List (Messages M)) (s : Messages M) (n : ℕ) → first ≡ [] → AreSome runs → IsSorted s → joined runs ≡ s → n ≡ length s → n < 2 ^ 63 → AreRuns first runs n
+  pub whole_runs : (first : Messages M) (runs : List (Messages M)) (s : Messages M) (n : ℕ) → first ≡ [] → AreSome runs → IsSorted s → concatenation runs ≡ s → n ≡ length s → n < 2 ^ 63 → AreRuns first runs n
   whole_runs first runs s n e h i f g b =
-      let is : first ++ joined runs ≡ s = ap (λ z. z ++ joined runs) e ∙ f in
+      let is : first ++ concatenation runs ≡ s = ap (λ z. z ++ concatenation runs) e ∙ f in
       record { some = h; sorted = subst IsSorted (sym is) i; count = g ∙ sym (ap length is); bound = b }
 
-  pub all_runs : (first : Messages M) (runs : List (Messages M)) (s : Messages M) (n c : ℕ) → first ≡ [] → AreSome runs → IsSorted s → joined runs ≡ take c s → c ≤ length s → n ≡ length s → n < 2 ^ 63 → AreRuns first runs c
+  pub all_runs : (first : Messages M) (runs : List (Messages M)) (s : Messages M) (n c : ℕ) → first ≡ [] → AreSome runs → IsSorted s → concatenation runs ≡ take c s → c ≤ length s → n ≡ length s → n < 2 ^ 63 → AreRuns first runs c
   all_runs first runs s n c e h i f l g b = whole_runs first runs (take c s) c e h (sorted_take c s i) f (sym (length-take-le c s l)) (omega (arith, l, g, b))

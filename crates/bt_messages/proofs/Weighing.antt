@@ -1,10 +1,10 @@
--- Sums that are kept, and shares that are weighed, for the steps of `gain`, `weigh_next` and `weighed`.
+-- Sums that are kept, and shares that are weighed, for the steps of `gain`, `weigh_next` and `weighed_shares`.
 use Rattle.std.proofs.Common.{◌≡◌, ℕ, zero, suc, ◌<◌, ◌≤◌, ◌+◌, ◌-◌, List, [], ◌∷◌, ◌++◌, Option, None, Some, IfSome, append_assoc, drop, get_or, length, map, set, take, refl, sym, ap, subst, ◌∙◌, arith}
 use Rattle.std.proofs.lemmas.List.{append-nil, drop-drop, drop-map, drop-set-lt, drop_all, drop_more, get_or-map, length-drop, length-take-le, take_all, take_more_set}
 use Rattle.bt_keycode.specs.Keys.{Key}
 use Rattle.bt_messages.specs.Messages.{Messages, with_messages}
 use Rattle.bt_messages.specs.Parts.{parted, total}
-use Rattle.bt_messages.specs.Shares.{AreShares, IsShare, counts, share_of}
+use Rattle.bt_messages.specs.Shares.{AreShares, counts, share_of}
 use Rattle.bt_messages.specs.Terms.{Terms}
 use Rattle.bt_messages.specs.Weights.{IsSum, weigh_of, weight}
 use Rattle.bt_messages.specs.declared.measure.Measure.{Measure}
@@ -111,14 +111,6 @@ module _ {X : Type 0} (weigh : X → ℕ) where
           ((omega (arith, e, l), tt), subst (λ k. AreShares weigh (drop k ms) (map (share_of weigh measures.Messages) (parted ns (drop n ms)))) (sym e) h)
       is-share measures.Bytes e h =
           ((omega (arith, e, l), ap (λ k. weight weigh (take k ms)) (sym e)), subst (λ k. AreShares weigh (drop k ms) (map (share_of weigh measures.Bytes) (parted ns (drop n ms)))) (sym e) h)
-
-  -- ---- a share is the first of those that are left
-
-  pub share_here : (ss : List Share) (i : ℕ) (d : Share) (ms ms' : List X) → i < length ss → ms' ≡ drop (get_or ss i d).count ms → AreShares weigh ms (drop i ss) →
-      IsShare weigh ms (get_or ss i d) × AreShares weigh ms' (drop (i + 1) ss)
-  share_here ss i d ms ms' l e h =
-      let both : AreShares weigh ms (get_or ss i d ∷ drop (i + 1) ss) = subst (AreShares weigh ms) (drop_more ss i d l) h in
-      (both.0, subst (λ left. AreShares weigh left (drop (i + 1) ss)) (sym e) both.1)
 
   -- ---- one share more is weighed
 

@@ -5,5 +5,6 @@ pub mod Parts
 pub mod Placed
 pub mod Pieces
 pub mod Rows
+pub mod Shares
 pub mod Stable
 pub mod Totals

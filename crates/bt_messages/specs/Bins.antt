@@ -1,5 +1,6 @@
 -- Messages divided at pivots, and bins: one list of messages for each child.
 use Rattle.std.specs.Prelude.{◌≡◌, true, List, [], ◌∷◌, ◌++◌}
+use Rattle.bt_rowtype.specs.Lists.{concatenation}
 use Rattle.bt_keycode.specs.Keys.{AllFrom, IsSorted, Key, is_before}
 use Rattle.bt_messages.specs.Messages.{Messages, messages_before, messages_from, with_messages}
 
@@ -7,11 +8,6 @@ use Rattle.bt_messages.specs.Messages.{Messages, messages_before, messages_from,
 abbrev pub parts : {M : Type 0} → List Key → Messages M → List (Messages M)
 parts [] ms = ms ∷ []
 parts (k ∷ ks) ms = messages_before k ms ∷ parts ks (messages_from k ms)
-
--- the bins one after the other
-abbrev pub joined : {X : Type 0} → List (List X) → List X
-joined [] = []
-joined (b ∷ bs) = b ++ joined bs
 
 -- each bin with newer messages
 abbrev pub each_with : {M : Type 0} → List (Messages M) → List (Messages M) → List (Messages M)
@@ -33,4 +29,4 @@ abbrev pub LieBetween : {M : Type 0} → List Key → List (Messages M) → Type
 LieBetween ks [] = ⊥
 LieBetween [] (b ∷ []) = IsSorted b
 LieBetween [] (b ∷ c ∷ bs) = ⊥
-LieBetween (k ∷ ks) (b ∷ bs) = IsSorted b × AllBefore k b × AllFrom k (joined bs) × LieBetween ks bs
+LieBetween (k ∷ ks) (b ∷ bs) = IsSorted b × AllBefore k b × AllFrom k (concatenation bs) × LieBetween ks bs

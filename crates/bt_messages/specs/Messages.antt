@@ -34,3 +34,13 @@ messages_between from to = filter (λ m. is_between from to m.0)
 
 abbrev pub messages_outside : {M : Type 0} → Option Key → Option Key → Messages M → Messages M
 messages_outside from to = filter (λ m. not (is_between from to m.0))
+
+-- the first messages, as far as their keys are not past this one
+abbrev pub messages_up_to : {M : Type 0} → Key → Messages M → Messages M
+messages_up_to k [] = []
+messages_up_to k (m ∷ ms) = if is_before k m.0 then [] else m ∷ messages_up_to k ms
+
+-- the messages after those
+abbrev pub messages_past : {M : Type 0} → Key → Messages M → Messages M
+messages_past k [] = []
+messages_past k (m ∷ ms) = if is_before k m.0 then m ∷ ms else messages_past k ms

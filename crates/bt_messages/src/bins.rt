@@ -1,7 +1,10 @@
 //! Bins: what is pending at a node, one buffer for each child.
+//!
+//! The trees make no call of `new`, `len`, `weight`, `add`, `take`, `spread` and `divide`: they serve those who call this crate themselves.
 ghost use Rattle.std.specs.Prelude.{◌≡◌, ◌+◌, ◌<◌, ◌≤◌, ◌++◌, ◌^◌, [], IfOk, OnOk, OnErr, drop, length, map, replicate, slice_index_or, slice_set, take, vec_capacity, vec_len};
 ghost use Rattle.bt_keycode.specs.Keys.{IsSorted};
-ghost use Rattle.bt_messages.specs.Bins.{added, each_with, joined};
+ghost use Rattle.bt_rowtype.specs.Lists.{concatenation};
+ghost use Rattle.bt_messages.specs.Bins.{added, each_with};
 ghost use Rattle.bt_messages.specs.Parts.{parted, total};
 ghost use Rattle.bt_messages.specs.Messages.{messages_between, messages_from};
 ghost use Rattle.bt_messages.specs.Shares.{AreShares, counts};
@@ -9,8 +12,8 @@ ghost use Rattle.bt_messages.specs.Weights.{load, weigh_of, weight};
 ghost use Rattle.std.specs.Option.{option_copied};
 
 use crate::buffer::Buffer;
+use crate::buffer_messages::BufferMessages;
 use crate::iter::Messages;
-use crate::joined::Joined;
 use crate::measure::Measure;
 use crate::message::Merge;
 use crate::packet::Packet;
@@ -129,7 +132,7 @@ impl<V: Merge> Bins<V> {
     /// The number of messages of all bins. It is kept, so that nothing is added up.
     pub fn total(&self) -> u128
         ensures total { result ≡ total (map length self.now) }
-        ensures joined { result ≡ length (joined self.now) }
+        ensures concatenation { result ≡ length (concatenation self.now) }
     {
         self.count
     }
@@ -182,10 +185,10 @@ impl<V: Merge> Bins<V> {
     }
 
     /// All messages, the bins one after the other.
-    pub fn iter(&self) -> Joined<'_, V>
-        ensures { result ≡ joined self.now }
+    pub fn iter(&self) -> BufferMessages<'_, V>
+        ensures { result ≡ concatenation self.now }
     {
-        Joined::of(self.bins.as_slice())
+        BufferMessages::of(self.bins.as_slice())
     }
 
     /// Moves shares from the front of a stream to the bins, in order, each message after those of its key. An `Err` changes nothing.

@@ -1,22 +1,24 @@
 //! Buffers: what is pending for a node, one list.
+//!
+//! The trees make no call of `add` and `take_range`: they serve those who call this crate themselves.
 ghost use Rattle.std.specs.Prelude.{◌≡◌, ◌==◌, ◌<◌, ◌≤◌, ◌^◌, [], List, ℕ, IfOk, IfSome, MatchOption, OnOk, Some, OnErr, drop, length, take};
 ghost use Rattle.bt_keycode.specs.Keys.{AllFrom, IsSorted};
 ghost use Rattle.bt_messages.specs.Bins.{AllBefore};
 ghost use Rattle.bt_messages.specs.Messages.{messages_between, messages_from, messages_outside, with_messages};
 ghost use Rattle.bt_messages.specs.Shares.{IsShare};
 ghost use Rattle.bt_messages.specs.Weights.{IsSum, load, weigh_of, weight};
-ghost use Rattle.bt_messages.specs.inside.Merges.{first_key};
+ghost use Rattle.bt_messages.specs.inside.Merges.{front_key};
 ghost use Rattle.bt_messages.specs.inside.Rooms.{HasRoom};
 ghost use Rattle.bt_messages.specs.inside.Runs.{begins_before};
 ghost use Rattle.bt_messages.specs.inside.Sums.{IsBuffer};
 ghost use Rattle.std.specs.Option.{option_copied};
 
+use crate::bounds;
 use crate::iter::Messages;
 use crate::measure::{Measure, weigh_all};
 use crate::message::{Merge, Message};
 use crate::packet::Packet;
 use crate::share::{Share, gain};
-use crate::sorted;
 use crate::stream::Stream;
 use bt_keycode::Key;
 use std::alloc::{AllocError, Global};
@@ -125,7 +127,7 @@ impl<V: Merge> Buffer<V> {
         ensures messages { result ≡ messages_from key.now self.now }
         ensures sorted { IsSorted self.now }
     {
-        let place = sorted::place_of(self.messages.as_slice(), key);
+        let place = bounds::count_before(self.messages.as_slice(), key);
         Messages::of_sorted(&self.messages[place..])
     }
 
@@ -135,12 +137,12 @@ impl<V: Merge> Buffer<V> {
         ensures sorted { IsSorted result }
         ensures bound { length result < 2 ^ 63 }
     {
-        Messages::of_sorted(sorted::between(self.messages.as_slice(), from, to))
+        Messages::of_sorted(bounds::between(self.messages.as_slice(), from, to))
     }
 
     // The key of the first message.
     pub(crate) fn first_key(&self) -> Option<&Key>
-        ensures { MatchOption result (self.now ≡ []) (λ key. first_key self.now ≡ Some key.now) }
+        ensures { MatchOption result (self.now ≡ []) (λ key. front_key self.now ≡ Some key.now) }
     {
         Some(&self.messages.first()?.0)
     }
@@ -156,12 +158,12 @@ impl<V: Merge> Buffer<V> {
     }
 
     // How many of the messages have a key before this one.
-    pub(crate) fn place_of(&self, key: &Key) -> usize
+    pub(crate) fn count_before(&self, key: &Key) -> usize
         ensures bound { result ≤ length self.now }
         ensures before { AllBefore key.now (take result self.now) }
         ensures from { AllFrom key.now (drop result self.now) }
     {
-        sorted::place_of(self.messages.as_slice(), key)
+        bounds::count_before(self.messages.as_slice(), key)
     }
 
     /// Adds the first messages of a stream, each after those of its key. They are gone from the stream. An `Err` changes nothing.
@@ -219,7 +221,7 @@ impl<V: Merge> Buffer<V> {
             return Ok(Packet::new(alloc));
         }
         self.sum = None;
-        let taken = sorted::take_between(&mut self.messages, from, to)?;
+        let taken = bounds::take_between(&mut self.messages, from, to)?;
         Ok(Packet::from_buffer(alloc, Buffer::from_sorted(taken)))
     }
 

@@ -22,31 +22,32 @@
 //! ```
 #![tactic(auto)]
 
+mod batch_places;
 mod beginnings;
 mod bins;
+mod bounds;
 mod buffer;
+mod buffer_messages;
 mod entry;
 mod iter;
-mod joined;
 mod measure;
 mod message;
+mod message_runs;
 mod packet;
-mod places;
-mod runs;
 mod share;
-mod sorted;
+mod sorting;
 mod stream;
+mod stream_messages;
 mod two_streams;
-mod walk;
 
 pub use bins::Bins;
+pub use bounds::between;
 pub use buffer::Buffer;
+pub use buffer_messages::BufferMessages;
 pub use entry::Entry;
 pub use iter::Messages;
-pub use joined::Joined;
 pub use measure::Measure;
 pub use message::{Merge, Message, effect, effect_borrowed};
 pub use packet::Packet;
 pub use share::Share;
-pub use sorted::between;
 pub use stream::Stream;

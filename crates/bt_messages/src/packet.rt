@@ -1,18 +1,18 @@
 //! Packets: what is sent on at one time, in runs.
 ghost use Rattle.std.specs.Prelude.{◌≡◌, ◌==◌, ◌<◌, ◌≤◌, ◌-◌, ◌++◌, ◌^◌, [], IfOk, OnOk, OnErr, length};
 ghost use Rattle.bt_keycode.specs.Keys.{IsSorted};
-ghost use Rattle.bt_messages.specs.Bins.{joined};
+ghost use Rattle.bt_rowtype.specs.Lists.{concatenation};
 ghost use Rattle.bt_messages.specs.Effects.{DoTheSame, effect_of};
 ghost use Rattle.bt_messages.specs.Messages.{sorted_batch, with_messages};
 ghost use Rattle.bt_messages.specs.inside.Runs.{AreRuns, AreSome};
 
+use crate::batch_places::sorted_by;
 use crate::beginnings::ThreeNumbers;
 use crate::buffer::Buffer;
-use crate::joined::Joined;
+use crate::buffer_messages::BufferMessages;
 use crate::message::{Merge, Message};
-use crate::places::sorted_by;
-use crate::runs::in_runs;
-use crate::sorted::{self, Sorting};
+use crate::message_runs::runs_of;
+use crate::sorting::{self, Sorting};
 use crate::stream::Stream;
 use crate::two_streams::{count_of_both, merge_both};
 use bt_keycode::Key;
@@ -30,13 +30,13 @@ pub struct Packet<V: Merge> {
 
 impl<V: Merge> Model for Packet<V> {
     ghost use Rattle.std.specs.Prelude.{◌++◌, List, ℕ};
-    ghost use Rattle.bt_messages.specs.Bins.{joined};
+    ghost use Rattle.bt_rowtype.specs.Lists.{concatenation};
     ghost use Rattle.bt_messages.specs.inside.Runs.{AreRuns};
     ghost use Rattle.bt_messages.specs.declared.message.Message.{Message};
 
     ghost Value = { List (List ℕ × Message V V.Delta) };
 
-    ghost view = { λ p. p.first ++ joined p.rest.items };
+    ghost view = { λ p. p.first ++ concatenation p.rest.items };
 
     ghost invariant = { λ p. AreRuns p.first p.rest.items p.count };
 }
@@ -49,9 +49,9 @@ fn sorted_by_messages<V: Merge>(
     ensures { IfOk result (λ packet. packet ≡ sorted_batch batch.items) }
 {
     let mut messages = batch;
-    sorted::sort(&mut messages)?;
+    sorting::sort(&mut messages)?;
     let count = messages.len();
-    let runs = in_runs(alloc, messages)?;
+    let runs = runs_of(alloc, messages)?;
     Ok(Packet::from_runs(Buffer::new(alloc), runs, count))
 }
 
@@ -62,7 +62,7 @@ fn sorted_packet<V: Merge>(
 ) -> Result<Packet<V>, AllocError>
     ensures { IfOk result (λ packet. packet ≡ sorted_batch batch.items) }
 {
-    match sorted::sorting_of(alloc, batch.as_slice())? {
+    match sorting::sorting_of(alloc, batch.as_slice())? {
         Sorting::Messages => sorted_by_messages(alloc, batch),
         Sorting::FirstNumbers => sorted_by::<V, u64>(alloc, batch),
         Sorting::ThreeNumbers => sorted_by::<V, ThreeNumbers>(alloc, batch),
@@ -146,7 +146,7 @@ impl<V: Merge> Packet<V> {
 
     // The lists of the messages, without those that are empty.
     fn into_runs(self) -> Result<Vec<Buffer<V>>, AllocError>
-        ensures joined { IfOk result (λ runs. joined runs.items ≡ self) }
+        ensures concatenation { IfOk result (λ runs. concatenation runs.items ≡ self) }
         ensures some { IfOk result (λ runs. AreSome runs.items) }
     {
         let Packet {
@@ -164,7 +164,7 @@ impl<V: Merge> Packet<V> {
     // So many messages: those of the first list, and of the others behind it.
     pub(crate) fn from_runs(first: Buffer<V>, rest: Vec<Buffer<V>>, count: usize) -> Self
         requires { AreRuns first rest.items count }
-        ensures { result ≡ first ++ joined rest.items }
+        ensures { result ≡ first ++ concatenation rest.items }
     {
         Packet { first, rest, count }
     }
@@ -185,11 +185,11 @@ impl<V: Merge> Packet<V> {
     }
 
     /// The messages and their keys, in order.
-    pub fn iter(&self) -> Joined<'_, V>
+    pub fn iter(&self) -> BufferMessages<'_, V>
         ensures messages { result ≡ self.now }
         ensures sorted { IsSorted self.now }
     {
-        Joined::behind(self.first.iter(), self.rest.as_slice())
+        BufferMessages::behind(self.first.iter(), self.rest.as_slice())
     }
 
     /// The messages, to be taken off in order. Takes no memory.

@@ -8,10 +8,10 @@ ghost use Rattle.bt_messages.specs.Shares.{AreShares, IsShare, counts, load_of};
 ghost use Rattle.bt_messages.specs.Weights.{weigh_of};
 ghost use Rattle.bt_messages.specs.inside.Rooms.{HasRoom, HaveRoom};
 
+use crate::bounds;
 use crate::buffer::Buffer;
 use crate::measure::Measure;
 use crate::message::{Merge, Message};
-use crate::sorted;
 use crate::stream::Stream;
 use bt_keycode::Key;
 use std::alloc::{AllocError, Global};
@@ -69,7 +69,10 @@ pub(crate) fn room_for_each<V: Merge>(
 }
 
 // Moves messages behind others for which there is room.
-fn push_all<V: Merge>(merged: &mut Vec<(Key, Message<V>)>, messages: VecDeque<(Key, Message<V>)>)
+fn append_reserved<V: Merge>(
+    merged: &mut Vec<(Key, Message<V>)>,
+    messages: VecDeque<(Key, Message<V>)>,
+)
     requires { vec_len merged.old + length messages.items ≤ vec_capacity merged.old }
     ensures pushed { merged.new.items ≡ merged.old.items ++ messages.items }
     ensures len { vec_len merged.new ≡ vec_len merged.old + length messages.items }
@@ -80,46 +83,8 @@ fn push_all<V: Merge>(merged: &mut Vec<(Key, Message<V>)>, messages: VecDeque<(K
     }
 }
 
-// Moves older messages and, behind all of them, the first ones of a stream to where there is room.
-fn append_front<V: Merge>(
-    merged: &mut Vec<(Key, Message<V>)>,
-    older: Vec<(Key, Message<V>)>,
-    stream: &mut Stream<V>,
-    count: usize,
-)
-    requires count { count ≤ length stream.old }
-    requires room { vec_len merged.old + vec_len older + count ≤ vec_capacity merged.old }
-    ensures appended { merged.new.items ≡ merged.old.items ++ (older.items ++ take count stream.old) }
-    ensures left { stream.new ≡ drop count stream.old }
-{
-    push_all(merged, VecDeque::from(older));
-    stream.move_front(count, merged);
-}
-
-// Moves older messages and the first ones of a stream to where there is room, one by one, an older one before a newer one of
-// its key.
-fn merge_each<V: Merge>(
-    merged: &mut Vec<(Key, Message<V>)>,
-    older: Vec<(Key, Message<V>)>,
-    stream: &mut Stream<V>,
-    count: usize,
-)
-    requires count { count ≤ length stream.old }
-    requires room { vec_len merged.old + vec_len older + count ≤ vec_capacity merged.old }
-    ensures merged { merged.new.items ≡ merged.old.items ++ with_messages (take count stream.old) older.items }
-    ensures left { stream.new ≡ drop count stream.old }
-{
-    let mut older = VecDeque::from(older);
-    for _ in 0..count {
-        if let Some((key, message)) = stream.pop() {
-            sorted::move_up_to(merged, &mut older, &key);
-            merged.push_reserved((key, message));
-        }
-    }
-    push_all(merged, older);
-}
-
-// Moves older messages and the first ones of a stream to where there is room, an older one before a newer one of its key.
+// Moves older messages and the first ones of a stream to where there is room: an older one before a newer one of its key, one by one
+// where the newer ones do not stand behind all older ones.
 fn merge_front<V: Merge>(
     merged: &mut Vec<(Key, Message<V>)>,
     older: Vec<(Key, Message<V>)>,
@@ -133,9 +98,17 @@ fn merge_front<V: Merge>(
     ensures left { stream.new ≡ drop count stream.old }
 {
     if stream.is_behind(older.as_slice()) {
-        return append_front(merged, older, stream, count);
+        append_reserved(merged, VecDeque::from(older));
+        return stream.move_front(count, merged);
     }
-    merge_each(merged, older, stream, count)
+    let mut older = VecDeque::from(older);
+    for _ in 0..count {
+        if let Some((key, message)) = stream.pop() {
+            bounds::move_up_to(merged, &mut older, &key);
+            merged.push_reserved((key, message));
+        }
+    }
+    append_reserved(merged, older);
 }
 
 /// Moves the first messages of a stream to a buffer, whose messages then stand where room was made for all. Their weight is added to

@@ -1,23 +1,24 @@
 //! Streams: sorted messages that are taken off at the front.
 ghost use Rattle.std.specs.Prelude.{◌≡◌, ◌==◌, ◌+◌, ◌-◌, ◌<◌, ◌≤◌, ◌^◌, ◌∷◌, ◌++◌, [], ℕ, true, IfOk, MatchOption, OnOk, Some, drop, length, map, slice_index_or, take, vec_len, vec_capacity};
 ghost use Rattle.bt_keycode.specs.Keys.{AllFrom, IsSorted};
-ghost use Rattle.bt_messages.specs.Bins.{AllBefore, joined, parts};
+ghost use Rattle.bt_rowtype.specs.Lists.{concatenation};
+ghost use Rattle.bt_messages.specs.Bins.{AllBefore, parts};
 ghost use Rattle.bt_messages.specs.Parts.{parted, total};
 ghost use Rattle.bt_messages.specs.Messages.{messages_before, messages_from, with_messages};
 ghost use Rattle.bt_messages.specs.Shares.{AreShares, counts, share_of};
 ghost use Rattle.bt_messages.specs.Weights.{weigh_of};
 ghost use Rattle.bt_messages.specs.inside.Runs.{AreRuns, AreSome, begins_before};
-ghost use Rattle.bt_messages.specs.inside.Merges.{first_key, goes_before};
+ghost use Rattle.bt_messages.specs.inside.Merges.{front_key, goes_before};
 ghost use Rattle.bt_messages.specs.inside.Sums.{counted};
 
 use crate::buffer::Buffer;
+use crate::buffer_messages::BufferMessages;
 use crate::iter::Messages;
-use crate::joined::Joined;
 use crate::measure::Measure;
 use crate::message::{Merge, Message};
 use crate::packet::Packet;
 use crate::share::Share;
-use crate::walk::Walk;
+use crate::stream_messages::StreamMessages;
 use bt_keycode::Key;
 use std::alloc::{AllocError, Global};
 use std::cmp::{Ordering, min};
@@ -35,19 +36,19 @@ pub struct Stream<V: Merge> {
 
 impl<V: Merge> Model for Stream<V> {
     ghost use Rattle.std.specs.Prelude.{◌+◌, ◌++◌, List, length, ℕ};
-    ghost use Rattle.bt_messages.specs.Bins.{joined};
+    ghost use Rattle.bt_rowtype.specs.Lists.{concatenation};
     ghost use Rattle.bt_messages.specs.inside.Runs.{AreRuns};
     ghost use Rattle.bt_messages.specs.declared.message.Message.{Message};
 
     ghost Value = { List (List ℕ × Message V V.Delta) };
 
-    ghost view = { λ s. s.first.items ++ joined s.rest.items };
+    ghost view = { λ s. s.first.items ++ concatenation s.rest.items };
 
     ghost invariant = { λ s. AreRuns s.first.items s.rest.items (length s.first.items + s.later) };
 }
 
 // How many of the messages have a key before this one.
-fn place_of<V: Merge>(messages: &VecDeque<(Key, Message<V>)>, key: &Key) -> usize
+fn count_before<V: Merge>(messages: &VecDeque<(Key, Message<V>)>, key: &Key) -> usize
     requires { IsSorted messages.now.items }
     ensures bound { result ≤ length messages.now.items }
     ensures before { AllBefore key.now (take result messages.now.items) }
@@ -59,10 +60,10 @@ fn place_of<V: Merge>(messages: &VecDeque<(Key, Message<V>)>, key: &Key) -> usiz
 // How many runs begin before this key.
 fn runs_before<V: Merge>(runs: &VecDeque<Buffer<V>>, key: &Key) -> usize
     requires some { AreSome runs.now.items }
-    requires sorted { IsSorted (joined runs.now.items) }
+    requires sorted { IsSorted (concatenation runs.now.items) }
     ensures bound { result ≤ length runs.now.items }
     ensures last { 0 < result → begins_before key.now (slice_index_or runs.now.items (result - 1) []) ≡ true }
-    ensures from { AllFrom key.now (joined (drop result runs.now.items)) }
+    ensures from { AllFrom key.now (concatenation (drop result runs.now.items)) }
 {
     runs.partition_point(|run| run.begins_before(key))
 }
@@ -70,8 +71,8 @@ fn runs_before<V: Merge>(runs: &VecDeque<Buffer<V>>, key: &Key) -> usize
 // The number of messages of the first runs.
 fn count_of<V: Merge>(runs: &VecDeque<Buffer<V>>, count: usize) -> usize
     requires count { count ≤ length runs.now.items }
-    requires bound { length (joined runs.now.items) < 2 ^ 63 }
-    ensures { result ≡ length (joined (take count runs.now.items)) }
+    requires bound { length (concatenation runs.now.items) < 2 ^ 63 }
+    ensures { result ≡ length (concatenation (take count runs.now.items)) }
 {
     let mut messages = 0;
     for run in 0..count {
@@ -89,9 +90,9 @@ fn refill<V: Merge>(
 )
     requires none { length first.old.items ≡ 0 }
     requires runs { AreRuns first.old.items rest.old.items (length first.old.items + later.old) }
-    ensures same { first.new.items ++ joined rest.new.items ≡ first.old.items ++ joined rest.old.items }
+    ensures same { first.new.items ++ concatenation rest.new.items ≡ first.old.items ++ concatenation rest.old.items }
     ensures runs { AreRuns first.new.items rest.new.items (length first.new.items + later.new) }
-    ensures led { length first.new.items ≡ 0 → first.new.items ++ joined rest.new.items ≡ [] }
+    ensures led { length first.new.items ≡ 0 → first.new.items ++ concatenation rest.new.items ≡ [] }
 {
     if let Some(next) = rest.pop_front() {
         *later -= next.count();
@@ -126,7 +127,7 @@ impl<V: Merge> Stream<V> {
     // So many messages: those of the first list, and of the others behind it.
     pub(crate) fn from_runs(first: Buffer<V>, rest: Vec<Buffer<V>>, count: usize) -> Self
         requires { AreRuns first rest.items count }
-        ensures { result ≡ first ++ joined rest.items }
+        ensures { result ≡ first ++ concatenation rest.items }
     {
         let later = count - first.count();
         Stream {
@@ -158,17 +159,17 @@ impl<V: Merge> Stream<V> {
     }
 
     // How many of the messages have a key before this one, found by halving: among the runs, and then in one of them.
-    fn place_of(&self, key: &Key) -> usize
+    fn count_before(&self, key: &Key) -> usize
         ensures before { AllBefore key.now (take result self.now) }
         ensures from { AllFrom key.now (drop result self.now) }
     {
         let runs = runs_before(&self.rest, key);
         if runs == 0 {
-            return place_of(&self.first, key);
+            return count_before(&self.first, key);
         }
         let last = runs - 1;
         let before = count_of(&self.rest, last);
-        self.first.len() + before + self.rest[last].place_of(key)
+        self.first.len() + before + self.rest[last].count_before(key)
     }
 
     // Where, from one place on and before another, the messages with a key before this one end.
@@ -180,7 +181,7 @@ impl<V: Merge> Stream<V> {
         ensures before { messages_before key.now (drop from (take to self.now)) ≡ drop from (take result self.now) }
         ensures from { messages_from key.now (drop from (take to self.now)) ≡ drop result (take to self.now) }
     {
-        let place = self.place_of(key);
+        let place = self.count_before(key);
         if place < from {
             return from;
         }
@@ -251,22 +252,22 @@ impl<V: Merge> Stream<V> {
             Measure::Bytes => {
                 let _bound = self.len();
                 self.keep_weights(shares.as_slice());
-                Ok(self.walk().weighed(shares))
+                Ok(self.messages().weighed_shares(shares))
             }
         }
     }
 
-    // A walk over the messages.
-    fn walk(&self) -> Walk<'_, V>
+    // The messages, to be gone through while they stay.
+    fn messages(&self) -> StreamMessages<'_, V>
         ensures { result ≡ self.now }
     {
         let _sorted = self.len();
         let (first, second) = self.first.as_slices();
         let (runs, others) = self.rest.as_slices();
-        Walk::of(
-            Joined::behind(Messages::of_sorted(first), &[]),
-            Joined::behind(Messages::of_sorted(second), runs),
-            Joined::of(others),
+        StreamMessages::of(
+            BufferMessages::behind(Messages::of_sorted(first), &[]),
+            BufferMessages::behind(Messages::of_sorted(second), runs),
+            BufferMessages::of(others),
         )
     }
 
@@ -365,7 +366,7 @@ impl<V: Merge> Stream<V> {
     // The key of the first message.
     #[inline]
     fn first_key(&self) -> Option<&Key>
-        ensures { MatchOption result (self.now ≡ []) (λ key. first_key self.now ≡ Some key.now) }
+        ensures { MatchOption result (self.now ≡ []) (λ key. front_key self.now ≡ Some key.now) }
     {
         if let Some(first) = self.first.front() {
             return Some(&first.0);

@@ -5,8 +5,8 @@ ghost use Rattle.bt_messages.specs.Messages.{with_messages};
 
 use crate::buffer::Buffer;
 use crate::message::{Merge, Message};
+use crate::message_runs::{add_run, room_for_one};
 use crate::packet::Packet;
-use crate::runs::{add_run, room_for_one};
 use crate::stream::Stream;
 use bt_keycode::Key;
 use std::alloc::{AllocError, Global};

@@ -1,17 +1,16 @@
 -- Worked trees: what a packet makes of a small tree, computed.
-use Rattle.std.specs.Prelude.{◌≡◌, ℕ, true, false, List, [], ◌∷◌, ℤ, pos, neg_ℤ, ◌+ℤ◌}
+use Rattle.std.specs.Prelude.{◌≡◌, ℕ, true, false, List, [], ◌∷◌, ℤ, pos}
 use Rattle.std.proofs.Common.{refl}
 use Rattle.std.specs.declared.option.Option.{Option}
 use Rattle.std.specs.declared.option.Option.TheVariants.{None, Some}
 use Rattle.bt_messages.specs.Effects.{effect_of}
 use Rattle.bt_messages.specs.Meanings.{Meaning, meaning_of}
 use Rattle.bt_messages.specs.Payloads.{row_terms}
-use Rattle.bt_messages.specs.Terms.{Terms}
 use Rattle.bt_messages.specs.declared.measure.Measure.TheVariants as measures
 use Rattle.bt_messages.specs.declared.message.Message.{Message}
 use Rattle.bt_messages.specs.declared.message.Message.TheVariants.{Put, Del, Ups}
 use Rattle.bt_rowtype.specs.Ops as ops
-use Rattle.bt_rowtype.specs.declared.op.Op.TheVariants.{Add}
+use Rattle.bt_rowtype.specs.declared.upsert.op.Op.TheVariants.{Add}
 use Rattle.bt_rowtype.specs.declared.value.Value.{Value}
 use Rattle.bt_rowtype.specs.declared.value.Value.TheVariants.{Int}
 use Rattle.bt_keycode.specs.Codes as codes
@@ -20,57 +19,15 @@ use Rattle.bt_node.specs.Messages.{rows_after}
 use Rattle.bt_node.specs.Deals.{sizes}
 use Rattle.bt_node.specs.Plans.{planned}
 use Rattle.bt_node.specs.Marks.{flush_marks}
-use Rattle.bt_node.specs.declared.mode.Mode.TheVariants.{Absorb, Drain}
+use Rattle.bt_node.specs.declared.form.mode.Mode.TheVariants.{Absorb, Drain}
 use Rattle.bt_node.specs.Trees.{Shape, Tree, leaf, inner, Nodes, none, node}
 use Rattle.bt_node.specs.Flushes.{sunk, holds}
 use Rattle.bt_node.specs.Drains.{drained, packed, rebuilt}
-use Rattle.bt_node.specs.inside.Lookups.{value_at}
-
--- an upsert adds to the value, or to none
-abbrev merged : Option ℤ → ℤ → ℤ
-merged None n = n
-merged (Some old) n = old +ℤ n
-
--- a message of these trees
-abbrev Change : Type 0
-Change = Message ℤ ℤ
-
--- no more than its key is carried
-abbrev terms : Terms ℤ ℤ
-terms = record { merged = merged; payload = λ _. 0; delta_payload = λ _. 0 }
-
-abbrev meaning : Meaning ℤ Change
-meaning = meaning_of terms
+use Rattle.bt_node.specs.inside.Lookups.{tree_value}
+use Rattle.bt_node.proofs.offered.SampleTrees.{Change, adds, dels, entry, four_leaves, k, k_minus_1, meaning, merged, minus_10, puts, shape, split_leaf, three_high, two, two_leaves}
 
 abbrev effect : Option ℤ → Change → Option ℤ
 effect = effect_of merged
-
--- the code of a number from 0 to 255, and of -1
-abbrev k : ℕ → Key
-k n = 128 ∷ 0 ∷ 0 ∷ 0 ∷ 0 ∷ 0 ∷ 0 ∷ n ∷ []
-
-abbrev k_minus_1 : Key
-k_minus_1 = 127 ∷ 255 ∷ 255 ∷ 255 ∷ 255 ∷ 255 ∷ 255 ∷ 255 ∷ []
-
-abbrev minus_10 : ℤ
-minus_10 = neg_ℤ (pos 10)
-
--- a put and an upsert to a number's key, and a leaf's row
-abbrev puts : ℕ → ℕ → Key × Change
-puts n v = (k n, Put (pos v))
-
-abbrev adds : ℕ → ℕ → Key × Change
-adds n v = (k n, Ups (pos v))
-
-abbrev entry : ℕ → ℕ → Key × ℤ
-entry n v = (k n, pos v)
-
-abbrev two : ℕ → ℕ → ℕ → ℕ → Tree ℤ Change
-two a x b y = leaf (entry a x ∷ entry b y ∷ [])
-
--- at most four children, three pending messages, two rows
-abbrev shape : Shape
-shape = record { fanout = 4; buffer = 3; leaf = 2; measure = measures.Messages }
 
 abbrev empty : Tree ℤ Change
 empty = leaf []
@@ -101,9 +58,6 @@ all_are_marked = refl
 -- ---- flushing
 
 -- four rows split a leaf
-abbrev split_leaf : Tree ℤ Change
-split_leaf = inner (node [] (two 1 10 2 20) (node (k 3) (two 3 30 4 40) none)) []
-
 four_puts : sunk meaning shape empty (puts 1 10 ∷ puts 2 20 ∷ puts 3 30 ∷ puts 4 40 ∷ []) ≡ split_leaf
 four_puts = refl
 
@@ -113,21 +67,10 @@ tie_flushes_left : sunk meaning shape split_leaf (puts 1 11 ∷ puts 2 21 ∷ pu
 tie_flushes_left = refl
 
 -- of counts 1 and 3 the right child takes its three
-abbrev four_leaves : Tree ℤ Change
-four_leaves = inner
-    (node [] (two 1 10 2 20) (node (k 3) (two 3 30 4 40) (node (k 5) (two 5 50 6 60) (node (k 7) (leaf (entry 7 70 ∷ [])) none))))
-    (puts 1 11 ∷ [])
-
 fullest_is_right : sunk meaning shape (sunk meaning shape split_leaf (puts 5 50 ∷ puts 6 60 ∷ puts 1 11 ∷ [])) (puts 7 70 ∷ []) ≡ four_leaves
 fullest_is_right = refl
 
 -- the first child is flushed and splits; five children become three and two, and the buffer is divided
-abbrev three_high : Tree ℤ Change
-three_high = inner
-    (node [] (inner (node [] (leaf ((k_minus_1, minus_10) ∷ entry 0 0 ∷ [])) (node (k 1) (two 1 11 2 20) (node (k 3) (two 3 30 4 40) none))) (puts 4 44 ∷ []))
-    (node (k 5) (inner (node [] (two 5 50 6 60) (node (k 7) (leaf (entry 7 70 ∷ [])) none)) (puts 8 80 ∷ []))
-    none)) []
-
 first_child_splits : sunk meaning shape four_leaves (puts 8 80 ∷ puts 0 0 ∷ (k_minus_1, Put minus_10) ∷ puts 4 44 ∷ []) ≡ three_high
 first_child_splits = refl
 
@@ -152,13 +95,13 @@ right_takes_all = refl
 
 -- at capacity nothing moves, and no two messages are joined
 abbrev upserts_wait : Tree ℤ Change
-upserts_wait = inner (node [] (two 1 10 2 20) (node (k 3) (two 3 30 4 40) none)) (adds 1 5 ∷ adds 1 5 ∷ puts 4 0 ∷ [])
+upserts_wait = inner two_leaves (adds 1 5 ∷ adds 1 5 ∷ puts 4 0 ∷ [])
 
 exact_capacity : sunk meaning shape split_leaf (adds 1 5 ∷ adds 1 5 ∷ puts 4 0 ∷ []) ≡ upserts_wait
 exact_capacity = refl
 
 -- both are added to the old value
-both_added : value_at effect (k 1) upserts_wait ≡ Some (pos 20)
+both_added : tree_value effect (k 1) upserts_wait ≡ Some (pos 20)
 both_added = refl
 
 upserts_held : holds effect upserts_wait ≡ entry 1 20 ∷ entry 2 20 ∷ entry 3 30 ∷ entry 4 0 ∷ []
@@ -169,7 +112,7 @@ three_go_down : sunk meaning shape upserts_wait (adds 2 7 ∷ []) ≡ inner (nod
 three_go_down = refl
 
 -- what an upsert adds to, where a put and a del come before it
-after_others : rows_after effect (puts 1 10 ∷ (k 1, Del) ∷ adds 1 5 ∷ adds 1 6 ∷ []) (entry 1 1 ∷ []) ≡ entry 1 11 ∷ []
+after_others : rows_after effect (puts 1 10 ∷ dels 1 ∷ adds 1 5 ∷ adds 1 6 ∷ []) (entry 1 1 ∷ []) ≡ entry 1 11 ∷ []
 after_others = refl
 
 -- rows of a number and a quantity, and upserts that add to the quantity
@@ -198,7 +141,7 @@ row_changes_wait : sunk row_meaning shape (inner row_leaves []) (row_change 1 5 
     ≡ inner row_leaves (row_change 1 5 ∷ row_change 1 5 ∷ row_put 4 0 ∷ [])
 row_changes_wait = refl
 
-row_changed : value_at (effect_of ops.merged) (k 1) (inner row_leaves (row_change 1 5 ∷ row_change 1 5 ∷ row_put 4 0 ∷ [])) ≡ Some (quantity 1 20)
+row_changed : tree_value (effect_of ops.merged) (k 1) (inner row_leaves (row_change 1 5 ∷ row_change 1 5 ∷ row_put 4 0 ∷ [])) ≡ Some (quantity 1 20)
 row_changed = refl
 
 row_changes_held : holds (effect_of ops.merged) (inner row_leaves (row_change 1 5 ∷ row_change 1 5 ∷ row_put 4 0 ∷ []))
@@ -206,7 +149,7 @@ row_changes_held : holds (effect_of ops.merged) (inner row_leaves (row_change 1 
 row_changes_held = refl
 
 -- the default row, changed, where there is none
-row_begun : value_at (effect_of ops.merged) (k 9) (inner row_leaves (row_change 9 7 ∷ [])) ≡ Some (quantity 9 7)
+row_begun : tree_value (effect_of ops.merged) (k 9) (inner row_leaves (row_change 9 7 ∷ [])) ≡ Some (quantity 9 7)
 row_begun = refl
 
 -- ---- buffers measured in bytes: a put weighs 25, a del 9, an upsert that adds 19
@@ -262,10 +205,10 @@ three_high_holds : holds effect three_high
 three_high_holds = refl
 
 -- key 4's message is pending in an inner node, above its leaf; key 9 has nothing
-looked_up : value_at effect (k 4) three_high ≡ Some (pos 44)
+looked_up : tree_value effect (k 4) three_high ≡ Some (pos 44)
 looked_up = refl
 
-not_there : value_at effect (k 9) three_high ≡ None
+not_there : tree_value effect (k 9) three_high ≡ None
 not_there = refl
 
 -- ---- nothing is pending
@@ -291,7 +234,7 @@ none_packed = refl
 
 -- dels are pending for all rows of a leaf, and a put past the last row
 abbrev dels_wait : Tree ℤ Change
-dels_wait = inner (node [] (two 1 10 2 20) (node (k 3) (two 3 30 4 40) none)) ((k 1, Del) ∷ (k 2, Del) ∷ puts 5 50 ∷ [])
+dels_wait = inner two_leaves (dels 1 ∷ dels 2 ∷ puts 5 50 ∷ [])
 
 -- the left leaf stays, empty, and three rows split the right one
 dels_drained : drained meaning shape dels_wait ≡ inner (node [] (leaf []) (node (k 3) (two 3 30 4 40) (node (k 5) (leaf (entry 5 50 ∷ [])) none))) []

@@ -2,4 +2,6 @@
 pub mod FlushSteps
 pub mod PackedTrees
 pub mod Portions
+pub mod SampleTrees
 pub mod ShapedTrees
+pub mod Truths

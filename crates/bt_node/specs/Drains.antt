@@ -4,7 +4,7 @@ use Rattle.std.specs.declared.option.Option.{Option}
 use Rattle.bt_node.specs.Messages.{Rows, Meaning}
 use Rattle.bt_node.specs.Trees.{Shape, Tree, leaf, inner, Nodes, none, node}
 use Rattle.bt_node.specs.Flushes.{Flush, crown, flush_in, holds, leaves}
-use Rattle.bt_node.specs.declared.mode.Mode.TheVariants.{Drain}
+use Rattle.bt_node.specs.declared.form.mode.Mode.TheVariants.{Drain}
 
 -- a tree of these rows and no messages: leaves dealt, under one node
 abbrev pub packed : {V M : Type 0} → Shape → Rows V → Tree V M

@@ -7,8 +7,8 @@ use Rattle.bt_node.specs.Messages.{Rows, Meaning, Messages, load, rows_after, wi
 use Rattle.bt_node.specs.Deals.{deal}
 use Rattle.bt_node.specs.Plans.{total, fullest}
 use Rattle.bt_node.specs.Loops.{opened_at, settled}
-use Rattle.bt_node.specs.declared.mode.Mode.{Mode}
-use Rattle.bt_node.specs.declared.mode.Mode.TheVariants.{Absorb, Drain}
+use Rattle.bt_node.specs.declared.form.mode.Mode.{Mode}
+use Rattle.bt_node.specs.declared.form.mode.Mode.TheVariants.{Absorb, Drain}
 use Rattle.bt_node.specs.Trees.{Shape, Tree, leaf, inner, Nodes, none, node, Siblings, children, nodes, height}
 
 -- a child with the messages of its parent's buffer that are pending for it

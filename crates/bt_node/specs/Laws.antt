@@ -7,7 +7,7 @@ use Rattle.bt_node.specs.Plans.{total, planned}
 use Rattle.bt_node.specs.Loops.{replaced, items_at}
 use Rattle.bt_node.specs.Trees.{Shape, Tree, inner, Nodes, Siblings, children, height}
 use Rattle.bt_node.specs.Flushes.{Child, Flush, loads, pending_load, shared, none_pending, flushed, flushed_in, flushed_over, flush_in, fullest_flushed, grouped, crown, holds, all_hold}
-use Rattle.bt_node.specs.declared.mode.Mode.{Mode}
+use Rattle.bt_node.specs.declared.form.mode.Mode.{Mode}
 use Rattle.bt_node.specs.Fits.{SiblingsFit, AreHigh, WhereFits, WhereSiblingsFit}
 
 -- ---- children that are flushed

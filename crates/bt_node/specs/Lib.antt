@@ -10,9 +10,11 @@ pub mod Loops
 pub mod Marks
 pub mod Messages
 pub mod Parts
+pub mod Passes
 pub mod Plans
 pub mod Portions
 pub mod Shapes
 pub mod Steps
+pub mod Stored
 pub mod Trees
 pub mod Walks

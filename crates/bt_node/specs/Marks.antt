@@ -2,8 +2,8 @@
 use Rattle.std.specs.Prelude.{ℕ, Bool, true, false, cond, nat_eq, nat_le, List, [], ◌∷◌, map}
 use Rattle.bt_node.specs.Plans.{placed, planned}
 use Rattle.bt_node.specs.Trees.{Shape}
-use Rattle.bt_node.specs.declared.mode.Mode.{Mode}
-use Rattle.bt_node.specs.declared.mode.Mode.TheVariants.{Absorb, Drain}
+use Rattle.bt_node.specs.declared.form.mode.Mode.{Mode}
+use Rattle.bt_node.specs.declared.form.mode.Mode.TheVariants.{Absorb, Drain}
 
 -- whether a place is among these
 abbrev pub is_among : ℕ → List ℕ → Bool

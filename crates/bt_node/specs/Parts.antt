@@ -1,9 +1,10 @@
 -- What nodes consist of.
 use Rattle.std.specs.Prelude.{◌≡◌, true, List, [], ◌∷◌}
-use Rattle.bt_messages.specs.Bins.{LieBetween, joined}
+use Rattle.bt_rowtype.specs.Lists.{concatenation}
+use Rattle.bt_messages.specs.Bins.{LieBetween}
 use Rattle.bt_messages.specs.declared.message.Message.{Message}
-use Rattle.bt_node.specs.declared.node.Parts.{Parts}
-use Rattle.bt_node.specs.declared.node.Parts.TheVariants.{Leaf, Inner}
+use Rattle.bt_node.specs.declared.form.node.Parts.{Parts}
+use Rattle.bt_node.specs.declared.form.node.Parts.TheVariants.{Leaf, Inner}
 use Rattle.bt_keycode.specs.Keys.{Key, is_before}
 use Rattle.bt_node.specs.Trees.{Tree, inner, nodes, pivots_of}
 use Rattle.bt_node.specs.Walks.{is_leaf}
@@ -11,7 +12,7 @@ use Rattle.bt_node.specs.Walks.{is_leaf}
 -- a leaf is given back as it is, an inner node as its children and the bins between their pivots, which are its buffer
 abbrev pub IsApart : {V D : Type 0} → Tree V (Message V D) → Parts V D → Type 0
 IsApart t (Leaf node) = (node ≡ t) × (is_leaf t ≡ true)
-IsApart t (Inner children bins) = (t ≡ inner (nodes children) (joined bins)) × LieBetween (pivots_of children) bins
+IsApart t (Inner children bins) = (t ≡ inner (nodes children) (concatenation bins)) × LieBetween (pivots_of children) bins
 
 -- keys, each before the next
 abbrev pub AreRising : List Key → Type 0

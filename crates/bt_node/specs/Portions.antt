@@ -64,8 +64,3 @@ module _ {V M : Type 0} (effect : Option V → M → Option V) where
     pub owned : (q : Key) → owners q parts ≡ owners q whole
     pub values : (q : Key) (value : Option V) → HaveThere q value whole → HaveThere q value parts
     pub chained : (low high : Option Key) → Chained low whole high → Chained low parts high
-
--- a list of what is there
-abbrev pub list_of : {X : Type 0} → Option X → List X
-list_of None = []
-list_of (Some x) = x ∷ []

@@ -2,7 +2,7 @@
 use Rattle.std.specs.Prelude.{ℕ, ◌&&◌, nat_le, Bool}
 use Rattle.bt_node.specs.Messages.{Measure}
 use Rattle.bt_messages.specs.declared.measure.Measure.TheVariants.{Bytes, Messages}
-use Rattle.bt_node.specs.declared.shape.TheConstants.{SMALLEST_FANOUT, LARGEST_FANOUT, SMALLEST_BUFFER, LARGEST_BUFFER, LARGEST_WEIGHED_BUFFER, SMALLEST_LEAF, LARGEST_LEAF}
+use Rattle.bt_node.specs.declared.form.shape.TheConstants.{SMALLEST_FANOUT, LARGEST_FANOUT, SMALLEST_BUFFER, LARGEST_BUFFER, LARGEST_WEIGHED_BUFFER, SMALLEST_LEAF, LARGEST_LEAF}
 
 -- the largest buffer: 4,096 messages, or 1,048,576 bytes
 abbrev pub largest_buffer : Measure → ℕ

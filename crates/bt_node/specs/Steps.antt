@@ -1,7 +1,8 @@
 -- What an inner node does with the messages that come to it.
 use Rattle.std.specs.Prelude.{◌≡◌, ◌≤◌, ℕ, List, drop, false, length, take, true}
 use Rattle.bt_keycode.specs.Keys.{Key}
-use Rattle.bt_messages.specs.Bins.{joined, parts}
+use Rattle.bt_rowtype.specs.Lists.{concatenation}
+use Rattle.bt_messages.specs.Bins.{parts}
 use Rattle.bt_messages.specs.Parts.{parted, total}
 use Rattle.bt_messages.specs.Shares.{AreShares, counts}
 use Rattle.bt_messages.specs.declared.message.Message.{Message}
@@ -11,10 +12,10 @@ use Rattle.bt_node.specs.Flushes.{loads, shared}
 use Rattle.bt_node.specs.Marks.{flush_marks, has_room}
 use Rattle.bt_node.specs.Messages.{Messages, load, with_messages}
 use Rattle.bt_node.specs.Trees.{Shape, Siblings, Tree, inner, nodes, pivots_of}
-use Rattle.bt_node.specs.declared.mode.Mode.{Mode}
-use Rattle.bt_node.specs.declared.opening.Opened as code
-use Rattle.bt_node.specs.declared.opening.Step.{Step}
-use Rattle.bt_node.specs.declared.opening.Step.TheVariants.{Stays, Opens}
+use Rattle.bt_node.specs.declared.form.mode.Mode.{Mode}
+use Rattle.bt_node.specs.declared.flush.opening.Opened as code
+use Rattle.bt_node.specs.declared.flush.opening.Step.{Step}
+use Rattle.bt_node.specs.declared.flush.opening.Step.TheVariants.{Stays, Opens}
 
 module _ {V D : Type 0} (weigh : Key × Message V D → ℕ) (mode : Mode) (shape : Shape) (xs : Siblings V (Message V D)) (bins : List (Messages (Message V D))) where
   -- the buffer of the node has room for all its messages, and has them
@@ -31,10 +32,10 @@ module _ {V D : Type 0} (weigh : Key × Message V D → ℕ) (mode : Mode) (shap
     pub shares : parted (counts opened.shares.items) stream ≡ parts (pivots_of xs) (take count stream)
     pub total : total (counts opened.shares.items) ≡ count
     pub weighed : AreShares weigh stream opened.shares.items
-    pub marks : opened.marks.items ≡ flush_marks mode shape.buffer (loads weigh shape (shared xs (with_messages (take count stream) (joined bins))))
-    pub full : length xs ≤ shape.fanout → has_room mode shape (load weigh shape.measure (with_messages (take count stream) (joined bins))) ≡ false
+    pub marks : opened.marks.items ≡ flush_marks mode shape.buffer (loads weigh shape (shared xs (with_messages (take count stream) (concatenation bins))))
+    pub full : length xs ≤ shape.fanout → has_room mode shape (load weigh shape.measure (with_messages (take count stream) (concatenation bins))) ≡ false
 
   -- what the node does with so many messages of a stream, and what is left of the stream
   abbrev pub IsStep : Messages (Message V D) → ℕ → Messages (Message V D) → Step V D → Type 0
-  IsStep stream count left (Stays node) = (left ≡ drop count stream) × IsKept (with_messages (take count stream) (joined bins)) node
+  IsStep stream count left (Stays node) = (left ≡ drop count stream) × IsKept (with_messages (take count stream) (concatenation bins)) node
   IsStep stream count left (Opens opened) = (left ≡ stream) × IsOpened stream count opened

@@ -2,12 +2,10 @@
 pub mod Bounds
 pub mod Falls
 pub mod Flushing
-pub mod Held
-pub mod Kinds
 pub mod Limits
 pub mod Lookups
 pub mod Marks
+pub mod NodeKinds
 pub mod Openings
-pub mod Passes
-pub mod Stored
 pub mod Together
+pub mod ValuesSoFar

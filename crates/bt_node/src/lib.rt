@@ -36,45 +36,26 @@
 //! `specs` has the definitions. `Trees` are the nodes, `Flushes` says what becomes of a node and a packet of messages in each mode, `Drains` what
 //! becomes of a tree when no message is to be left on the way, and which trees are made of rows alone, and `Fits` which trees are in order. `Plans`
 //! and `Loops` say which children are flushed, `Marks` says it of each child, and when a node has room. `Children` are children beside their bins,
-//! and `Steps` says what [`open`] gives. `Laws` are the facts that calls promise beside these definitions; what private code cites stands in
-//! `inside`. `proofs` has small trees worked out, in `WorkedRows`.
+//! and `Steps` says what [`open`] gives. `Laws` are the facts that calls promise beside these definitions; `Passes` and
+//! `Stored` are for the crates above, one pass over marked items and the codes of trees. What private code cites stands in `inside`. `proofs` has small trees worked out, in `WorkedRows`.
 #![tactic(auto)]
 
-mod children;
-mod crowned;
-mod deal;
-mod flushing;
-mod group;
-mod held;
-mod leaf_visits;
-mod lent;
-mod limit;
-mod lookup;
-mod lookups;
-mod mode;
-mod node;
-mod opening;
-mod planning;
-mod portions;
-mod rows;
-mod search;
-mod shape;
+mod flush;
+mod form;
+mod read;
 mod tree;
-mod visitor;
-mod visits;
-mod walk;
 
-pub use children::Children;
-pub use group::close;
-pub use mode::Mode;
-pub use node::{Node, Parts, Siblings};
-pub use opening::{Opened, Step, open};
-pub use planning::next_planned;
-pub use portions::Portion;
-pub use shape::{
+pub use flush::group::close;
+pub use flush::opening::{Opened, Step, open};
+pub use flush::planning::next_planned;
+pub use form::children::Children;
+pub use form::mode::Mode;
+pub use form::node::{Node, Parts, Siblings};
+pub use form::shape::{
     LARGEST_BUFFER, LARGEST_FANOUT, LARGEST_LEAF, LARGEST_WEIGHED_BUFFER, SMALLEST_BUFFER,
     SMALLEST_FANOUT, SMALLEST_LEAF, Shape,
 };
+pub use read::portions::Portion;
+pub use read::visitor::{Copies, ForkVisitor, Visitor};
+pub use read::walk::Walk;
 pub use tree::{Tree, absorb_alone, crown, drain_alone, pack, regroup};
-pub use visitor::{Copies, ForkVisitor, Visitor};
-pub use walk::Walk;

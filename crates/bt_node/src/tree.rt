@@ -6,22 +6,24 @@ ghost use Rattle.bt_messages.specs.Effects.{effect_of};
 ghost use Rattle.bt_messages.specs.Meanings.{meaning_of};
 ghost use Rattle.bt_messages.specs.Weights.{load, weigh_of};
 ghost use Rattle.bt_messages.specs.declared.message.Message.{Message};
-ghost use Rattle.bt_messages.specs.Bins.{LieBetween, joined};
+ghost use Rattle.bt_rowtype.specs.Lists.{concatenation};
+ghost use Rattle.bt_messages.specs.Bins.{LieBetween};
 ghost use Rattle.bt_node.specs.Drains.{AreDry, IsDry, drain, drained, packed, rebuilt};
 ghost use Rattle.bt_node.specs.Fits.{AreFit, HasShape, IsInOrder};
-ghost use Rattle.bt_node.specs.Flushes.{absorb, crown, grouped, holds, shared, sunk};
+ghost use Rattle.bt_node.specs.Flushes.{absorb, crown, flush_in, grouped, holds, shared, sunk};
 ghost use Rattle.bt_node.specs.Laws.{ChosenArePlanned, ComeByOneRule, FitAbove, FitThere, FlushesInTurn, HoldAllAfter, HoldRowsAfter, HoldsAfter, HoldsAll, HoldsTheSame, KeepHeight, StandsAbove, StayWithoutPacket};
 ghost use Rattle.bt_node.specs.Trees.{leaf, nodes, pivots_of};
+ghost use Rattle.bt_node.specs.inside.Flushing.{IsReady};
 
-use crate::children::Children;
-use crate::crowned::crowned;
-use crate::flushing::flush;
-use crate::group::{close, leaves};
-use crate::mode::Mode;
-use crate::node::{Node, Siblings};
-use crate::rows::Rows;
-use crate::shape::Shape;
-use crate::walk::Walk;
+use crate::flush::crowned::crowned;
+use crate::flush::flushing::flush;
+use crate::flush::group::{close, leaves};
+use crate::form::children::Children;
+use crate::form::mode::Mode;
+use crate::form::node::{Node, Siblings};
+use crate::form::rows::Rows;
+use crate::form::shape::Shape;
+use crate::read::walk::Walk;
 use bt_keycode::Key;
 use bt_messages::{Bins, Merge, Packet};
 use std::alloc::{AllocError, Global};
@@ -39,7 +41,7 @@ impl<V: Merge> Model for Tree<V> {
     ghost use Rattle.bt_messages.specs.declared.message.Message.{Message};
     ghost use Rattle.bt_node.specs.Trees as trees;
     ghost use Rattle.bt_node.specs.Fits.{HasShape};
-    ghost use Rattle.bt_node.specs.inside.Stored.{message_code, shaped_tree_code};
+    ghost use Rattle.bt_node.specs.Stored.{message_code, shaped_tree_code};
 
     ghost Value = { trees.Shape × trees.Tree V (Message V V.Delta) };
 
@@ -48,6 +50,27 @@ impl<V: Merge> Model for Tree<V> {
     ghost view = { λ t. (t.shape, t.root) };
 
     ghost invariant = { λ t. HasShape (weigh_of V.terms) t.shape t.root };
+}
+
+// What becomes of a node and a packet in a mode, on the caller's thread.
+fn flush_packet<V: Merge>(
+    alloc: Global,
+    shape: Shape,
+    mode: Mode,
+    node: Node<V>,
+    packet: Packet<V>,
+) -> Result<Siblings<V>, AllocError>
+    requires ready { IsReady mode node }
+    ensures siblings { IfOk result (λ siblings. siblings ≡ flush_in (meaning_of V.terms) mode shape node packet) }
+    ensures fits { IfOk result (FitThere (weigh_of V.terms) shape node packet) }
+    ensures height { IfOk result (KeepHeight (weigh_of V.terms) shape node packet) }
+    ensures rows { IfOk result (HoldRowsAfter (meaning_of V.terms) shape node packet) }
+    ensures one_rule { IfOk result (ComeByOneRule (meaning_of V.terms) shape node packet mode) }
+{
+    let mut stream = packet.into_stream();
+    let count = stream.len();
+    let nodes = flush(alloc, shape, mode, node, &mut stream, count)?;
+    Ok(nodes)
 }
 
 /// What becomes of a node whose keys are in order and a packet, on the caller's thread. An `Err` keeps neither.
@@ -67,9 +90,7 @@ pub fn absorb_alone<V: Merge>(
     ensures in_turn { FlushesInTurn V (weigh_of V.terms) }
     ensures planned { ChosenArePlanned V (weigh_of V.terms) }
 {
-    let mut stream = packet.into_stream();
-    let count = stream.len();
-    let nodes = flush(alloc, shape, Mode::Absorb, node, &mut stream, count)?;
+    let nodes = flush_packet(alloc, shape, Mode::Absorb, node, packet)?;
     Ok(nodes)
 }
 
@@ -88,9 +109,7 @@ pub fn drain_alone<V: Merge>(
     ensures dry { IfOk result (λ siblings. AreDry (nodes siblings)) }
     ensures one_rule { IfOk result (ComeByOneRule (meaning_of V.terms) shape node packet Mode.Drain) }
 {
-    let mut stream = packet.into_stream();
-    let count = stream.len();
-    let nodes = flush(alloc, shape, Mode::Drain, node, &mut stream, count)?;
+    let nodes = flush_packet(alloc, shape, Mode::Drain, node, packet)?;
     Ok(nodes)
 }
 
@@ -103,11 +122,11 @@ pub fn regroup<V: Merge>(
     bins: Bins<V>,
 ) -> Result<Siblings<V>, AllocError>
     requires several { 2 ≤ length siblings }
-    requires capacity { load (weigh_of V.terms) shape.measure (joined bins) ≤ shape.buffer }
+    requires capacity { load (weigh_of V.terms) shape.measure (concatenation bins) ≤ shape.buffer }
     requires divided { LieBetween (pivots_of siblings) bins }
-    ensures nodes { IfOk result (λ nodes. nodes ≡ grouped shape (shared siblings (joined bins))) }
-    ensures fits { IfOk result (FitAbove (weigh_of V.terms) shape siblings (joined bins)) }
-    ensures rows { IfOk result (HoldAllAfter (meaning_of V.terms) shape siblings (joined bins)) }
+    ensures nodes { IfOk result (λ nodes. nodes ≡ grouped shape (shared siblings (concatenation bins))) }
+    ensures fits { IfOk result (FitAbove (weigh_of V.terms) shape siblings (concatenation bins)) }
+    ensures rows { IfOk result (HoldAllAfter (meaning_of V.terms) shape siblings (concatenation bins)) }
 {
     close(alloc, shape, Children::beside(siblings, bins))
 }

@@ -10,18 +10,18 @@ use Rattle.bt_node.specs.Flushes.{Child, Flush, flush_in, flushed, flushed_in, g
 use Rattle.bt_node.specs.Marks.{has_room}
 use Rattle.bt_node.specs.Messages.{Meaning, Messages, load, with_messages}
 use Rattle.bt_node.specs.Trees.{Nodes, Shape, Tree, leaf, inner, children}
-use Rattle.bt_node.specs.declared.mode.Mode.{Mode}
-use Rattle.bt_node.specs.declared.mode.Mode.TheVariants.{Absorb, Drain}
+use Rattle.bt_node.specs.declared.form.mode.Mode.{Mode}
+use Rattle.bt_node.specs.declared.form.mode.Mode.TheVariants.{Absorb, Drain}
 use Rattle.bt_node.proofs.offered.FlushSteps.{ChildLies, ChildrenLie, ChildrenSized, names, shared-sized, start-lies, stripped}
 use Rattle.bt_node.proofs.offered.FlushSteps.{Keeps, flush-keeps, flush_recurs, flushed-slots, names-slots, passed-lie, slots, still-here}
 use Rattle.bt_plan.specs.Pieces.{Holed, Place, filled_below, filled_with, holed_nodes, opened, whole}
-use Rattle.bt_plan.specs.Cuts.{Job, child_place, cut_out, done, left_pending, numbered}
+use Rattle.bt_plan.specs.Cuts.{Job, child_place, cut_out, left_pending, outcome, with_numbers}
 use Rattle.bt_plan.proofs.Passes.{lies-divides, pass, pending-pass, stripped-none}
 
 -- the children of an opened node, from the i-th on
 abbrev pub opened_children : {V M : Type 0} → (Key × M → ℕ) → ℕ → Mode → Shape → Place → ℕ → List (Child V M × Bool) → List (Key × Holed V M (Job V M))
 opened_children weigh depth mode shape place i ss =
-    map (λ s. (s.1.0.pivot, cond s.1.1 (cut_out weigh depth mode shape (child_place place s.0) s.1.0.tree s.1.0.pending) (whole s.1.0.tree))) (numbered i ss)
+    map (λ s. (s.1.0.pivot, cond s.1.1 (cut_out weigh depth mode shape (child_place place s.0) s.1.0.tree s.1.0.pending) (whole s.1.0.tree))) (with_numbers i ss)
 
 -- the node that they are of
 abbrev pub opened_node : {V M : Type 0} → (Key × M → ℕ) → ℕ → Mode → Shape → Place → List (Child V M × Bool) → Holed V M (Job V M)
@@ -70,11 +70,11 @@ module _ {V M : Type 0} (meaning : Meaning V M) (s : Shape) (leaf_some : 0 < s.l
 
   abbrev Refills : ℕ → ℕ → Type 0
   Refills depth levels = (place : Place) (low high : Option Key) (t : Tree V M) (p : Messages M) → Lies levels low high t → IsSized meaning.weigh s t → AllWithin low high p →
-      filled_with s (done meaning s) (cut_out meaning.weigh depth mode s place t p) ≡ f t p
+      filled_with s (outcome meaning s) (cut_out meaning.weigh depth mode s place t p) ≡ f t p
 
   child-filled : (depth levels : ℕ) → Refills depth levels → (place : Place) (low high : Option Key) (c : Child V M × Bool) (cs : List (Child V M)) →
       ChildLies levels low high c.0 → IsSized meaning.weigh s c.0.tree →
-      pivot_first c.0.pivot (filled_with s (done meaning s) (cond c.1 (cut_out meaning.weigh depth mode s place c.0.tree c.0.pending) (whole c.0.tree))) ++ stripped cs
+      pivot_first c.0.pivot (filled_with s (outcome meaning s) (cond c.1 (cut_out meaning.weigh depth mode s place c.0.tree c.0.pending) (whole c.0.tree))) ++ stripped cs
       ≡ stripped (cond c.1 (flushed f c.0) (c.0 ∷ []) ++ cs)
   child-filled depth levels refills place low high (c, true) cs lies sized =
       ap (λ xs. pivot_first c.pivot xs ++ stripped cs) (refills place low high c.tree c.pending lies.0 sized lies.1)
@@ -83,11 +83,11 @@ module _ {V M : Type 0} (meaning : Meaning V M) (s : Shape) (leaf_some : 0 < s.l
 
   children-filled : (depth levels : ℕ) → Refills depth levels → (place : Place) (i : ℕ) (low high : Option Key) (ss : List (Child V M × Bool)) →
       ChildrenLie levels low high (names ss) → ChildrenSized meaning.weigh s (names ss) →
-      filled_below s (done meaning s) (holed_nodes (opened_children meaning.weigh depth mode s place i ss)) ≡ stripped (pass f ss)
+      filled_below s (outcome meaning s) (holed_nodes (opened_children meaning.weigh depth mode s place i ss)) ≡ stripped (pass f ss)
   children-filled depth levels refills place i low high [] lie sized = refl
   children-filled depth levels refills place i low high (c ∷ []) lie sized = child-filled depth levels refills (child_place place i) low high c [] lie sized.0
   children-filled depth levels refills place i low high (c ∷ d ∷ ss) lie sized =
-      ap (λ xs. pivot_first c.0.pivot (filled_with s (done meaning s) (cond c.1 (cut_out meaning.weigh depth mode s (child_place place i) c.0.tree c.0.pending) (whole c.0.tree))) ++ xs)
+      ap (λ xs. pivot_first c.0.pivot (filled_with s (outcome meaning s) (cond c.1 (cut_out meaning.weigh depth mode s (child_place place i) c.0.tree c.0.pending) (whole c.0.tree))) ++ xs)
       (children-filled depth levels refills place (suc i) (Some d.0.pivot) high (d ∷ ss) lie.3 sized.1)
       ∙ child-filled depth levels refills (child_place place i) low (Some d.0.pivot) c (pass f (d ∷ ss)) lie.2 sized.0
 
@@ -102,7 +102,7 @@ module _ {V M : Type 0} (meaning : Meaning V M) (s : Shape) (leaf_some : 0 < s.l
       let cs = shared (children ns) all in
       let ss = slots meaning.weigh s mode cs in
       let are = slots-are levels low high ns b p lies sized within in
-      cond_both (has_room mode s (load meaning.weigh s.measure all)) (whole (inner ns all)) (opened_node meaning.weigh depth mode s place ss) (λ h. filled_with s (done meaning s) h ≡ f (inner ns b) p)
+      cond_both (has_room mode s (load meaning.weigh s.measure all)) (whole (inner ns all)) (opened_node meaning.weigh depth mode s place ss) (λ h. filled_with s (outcome meaning s) h ≡ f (inner ns b) p)
       (λ room. sym (flush_recurs meaning mode s ns b p ∙ node-stays meaning.weigh mode s ns all room lies.3 (sorted-with_messages p b lies.1) fanout_some sized.1 f))
       (λ _. ap (λ xs. grouped s (shared xs (left_pending ss))) (children-filled depth levels (cut-filled depth levels) place 0 low high ss are.lie are.sized)
       ∙ ap (grouped s) (pass-divides levels low high ss are.lie ∙ sym (flushed-slots meaning.weigh s mode f cs))

@@ -5,15 +5,16 @@ use Rattle.std.proofs.lemmas.List.{length-map}
 use Rattle.std.specs.declared.option.Option.{Option}
 use Rattle.std.specs.declared.option.Option.TheVariants.{Some}
 use Rattle.bt_keycode.specs.Keys.{Key, AllWithin, IsSorted, SideBySide}
-use Rattle.bt_messages.specs.Bins.{LieBetween, joined, parts}
-use Rattle.bt_messages.proofs.offered.Parts.{joined_sorted, parts-joined}
+use Rattle.bt_rowtype.specs.Lists.{concatenation}
+use Rattle.bt_messages.specs.Bins.{LieBetween, parts}
+use Rattle.bt_messages.proofs.offered.Parts.{concatenation_sorted, parts-concatenation}
 use Rattle.bt_messages.proofs.offered.Placed.{sorted-with_messages}
 use Rattle.bt_node.specs.Fits.{IsSized, Lies}
 use Rattle.bt_node.specs.Flushes.{Child, Flush, shared}
 use Rattle.bt_node.specs.Marks.{has_room}
 use Rattle.bt_node.specs.Messages.{Meaning, Messages, load, with_messages}
 use Rattle.bt_node.specs.Trees.{Shape, Tree, leaf, inner, children}
-use Rattle.bt_node.specs.declared.mode.Mode.{Mode}
+use Rattle.bt_node.specs.declared.form.mode.Mode.{Mode}
 use Rattle.bt_node.proofs.offered.FlushSteps.{ChildLies, ChildrenLie, ChildrenSized, all_pending, all_pending-shared, all_pending-within, divided-lie, flushed-fits, length-shared, names, start-lies}
 use Rattle.bt_node.proofs.offered.FlushSteps.{flushed-slots, names-slots, slots}
 use Rattle.bt_plan.specs.Pieces.{Holed, HoledChild, HoledFits, HoledNodes, IsSent, Place, hole, holed_nodes, opened, pivots_below, shared_below, whole, with_bins}
@@ -48,7 +49,7 @@ module _ {V M : Type 0} where
   all-lie levels low high (c ∷ []) p = kept-lies levels low high c p
   all-lie levels low high (c ∷ d ∷ ss) p = (p.0, p.1, kept-lies levels low (Some d.0.pivot) c p.2, all-lie levels (Some d.0.pivot) high (d ∷ ss) p.3)
 
-  joined-left : (ss : List (Child V M × Bool)) → joined (bins ss) ≡ left_pending ss
+  joined-left : (ss : List (Child V M × Bool)) → concatenation (bins ss) ≡ left_pending ss
   joined-left [] = refl
   joined-left (c ∷ ss) = ap (λ z. cond c.1 [] c.0.pending ++ z) (joined-left ss)
 
@@ -105,13 +106,13 @@ module _ {V M : Type 0} (meaning : Meaning V M) (s : Shape) (leaf_some : 0 < s.l
       ap (with_bins (below depth place 0 (c ∷ ss)))
       (ap (λ js. parts js (left_pending (c ∷ ss))) (pivots-opened depth place 1 ss)
       ∙ ap (parts ks) (sym (joined-left (c ∷ ss)))
-      ∙ parts-joined ks (bins (c ∷ ss)) divided)
+      ∙ parts-concatenation ks (bins (c ∷ ss)) divided)
 
   left-sorted : (levels : ℕ) (low high : Option Key) (ss : List (Child V M × Bool)) → ChildrenLie levels low high (names ss) → IsSorted (left_pending ss)
   left-sorted levels low high [] lie = tt
   left-sorted levels low high (c ∷ ss) lie =
       subst IsSorted (joined-left (c ∷ ss))
-      (joined_sorted (map (λ c. c.pivot) (map kept ss)) (bins (c ∷ ss)) (divided-lie levels low high (map kept (c ∷ ss)) (all-lie levels low high (c ∷ ss) lie)))
+      (concatenation_sorted (map (λ c. c.pivot) (map kept ss)) (bins (c ∷ ss)) (divided-lie levels low high (map kept (c ∷ ss)) (all-lie levels low high (c ∷ ss) lie)))
 
   -- at any depth
   pub cut-fits : (depth levels : ℕ) → Suits depth levels

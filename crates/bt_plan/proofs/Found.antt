@@ -1,5 +1,5 @@
 -- Pieces by places: what becomes of each job stands at its place, and fills its hole.
-use Rattle.std.proofs.Common.{◌≡◌, T, Bool, true, false, List, [], ◌∷◌, ◌++◌, refl, ap, ◌∙◌}
+use Rattle.std.proofs.Common.{◌≡◌, T, true, false, List, [], ◌∷◌, ◌++◌, refl, ap, ◌∙◌}
 use Rattle.std.proofs.lemmas.Bool.{cond-false, cond-true}
 use Rattle.std.proofs.lemmas.List.Elements.{All-from_recursion, recursion_from_All}
 use Rattle.std.specs.Cmp.{tied_itself}
@@ -14,19 +14,11 @@ use Rattle.bt_keycode.proofs.offered.Order.{is_less, total_keys}
 use Rattle.bt_node.specs.Flushes.{pivot_first, grouped, shared}
 use Rattle.bt_node.specs.Messages.{Meaning}
 use Rattle.bt_node.specs.Trees.{Shape, Siblings}
-use Rattle.bt_plan.specs.Pieces.{Holed, HoledNodes, Pieces, child, childless, filled_below, filled_with, hole, holes, holes_below, opened, piece_at, place_cmp, whole, with_holes, with_holes_below}
-use Rattle.bt_plan.specs.Cuts.{Job, all_done, done, hole_of}
-use Rattle.bt_plan.proofs.Places.{Rise, by_place, t_first, t_second}
-
--- ---- facts of each item
-
-pub each-first : {X : Type 0} (P : X → Type 0) (xs ys : List X) → Each P (xs ++ ys) → Each P xs
-each-first P [] ys h = tt
-each-first P (x ∷ xs) ys h = (h.0, each-first P xs ys h.1)
-
-pub each-rest : {X : Type 0} (P : X → Type 0) (xs ys : List X) → Each P (xs ++ ys) → Each P ys
-each-rest P [] ys h = h
-each-rest P (x ∷ xs) ys h = each-rest P xs ys h.1
+use Rattle.bt_node.proofs.offered.Truths.{t_first, t_second, true_t}
+use Rattle.bt_plan.specs.Pieces.{Holed, HoledNodes, Pieces, child, childless, filled_below, filled_with, hole, holes, holes_below, node_place_cmp, opened, piece_at, whole, with_holes, with_holes_below}
+use Rattle.bt_plan.specs.Cuts.{Job, hole_of, outcome, outcomes}
+use Rattle.bt_plan.proofs.Places.{Rise, by_place}
+use Rattle.bt_plan.proofs.offered.Each.{each-first, each-rest}
 
 -- ---- filling by what the holes tell
 
@@ -46,40 +38,36 @@ module _ {V M H G : Type 0} (s : Shape) (told : H → G) (piece : G → Siblings
 module _ {V M : Type 0} (meaning : Meaning V M) (s : Shape) where
   -- the pieces have at this job's place what becomes of it
   abbrev Stands : Pieces V M → Job V M → Type 0
-  Stands pieces job = find place_cmp job.place pieces ≡ Some (done meaning s job)
+  Stands pieces job = find node_place_cmp job.place pieces ≡ Some (outcome meaning s job)
 
-  each-piece : (pieces : Pieces V M) (jobs : List (Job V M)) → Each (Stands pieces) jobs → Each (λ job. piece_at pieces (hole_of job) ≡ done meaning s job) jobs
+  each-piece : (pieces : Pieces V M) (jobs : List (Job V M)) → Each (Stands pieces) jobs → Each (λ job. piece_at pieces (hole_of job) ≡ outcome meaning s job) jobs
   each-piece pieces [] e = tt
   each-piece pieces (job ∷ jobs) e = (ap (λ o. unwrap_or o []) e.0, each-piece pieces jobs e.1)
 
   -- pieces that have at each job's place what becomes of it fill the holes with it
   pub filled-standing : (pieces : Pieces V M) (h : Holed V M (Job V M)) → All (Stands pieces) (holes h) →
-      filled_with s (piece_at pieces) (with_holes hole_of h) ≡ filled_with s (done meaning s) h
+      filled_with s (piece_at pieces) (with_holes hole_of h) ≡ filled_with s (outcome meaning s) h
   filled-standing pieces h all =
-      filled-as s hole_of (piece_at pieces) (done meaning s) h (each-piece pieces (holes h) (recursion_from_All (Stands pieces) (holes h) all))
+      filled-as s hole_of (piece_at pieces) (outcome meaning s) h (each-piece pieces (holes h) (recursion_from_All (Stands pieces) (holes h) all))
 
   -- ---- by rising places
 
-  t_is : (b : Bool) → T b → b ≡ true
-  t_is true t = refl
-  t_is false t = absurd t
-
-  later : (job : Job V M) (pieces : Pieces V M) (others : List (Job V M)) → T (below_all place_cmp job.place (by_place others)) → Each (Stands pieces) others →
-      Each (Stands ((job.place, done meaning s job) ∷ pieces)) others
+  later : (job : Job V M) (pieces : Pieces V M) (others : List (Job V M)) → T (below_all node_place_cmp job.place (by_place others)) → Each (Stands pieces) others →
+      Each (Stands ((job.place, outcome meaning s job) ∷ pieces)) others
   later job pieces [] b e = tt
   later job pieces (other ∷ others) b e =
-      let less : place_cmp job.place other.place ≡ Less = is_less _ (t_is _ (t_first _ _ b)) in
-      let differs : eq_by_cmp place_cmp other.place job.place ≡ false =
+      let less : node_place_cmp job.place other.place ≡ Less = is_less _ (true_t _ (t_first _ _ b)) in
+      let differs : eq_by_cmp node_place_cmp other.place job.place ≡ false =
       ap is_eq (total_keys.antisymm (other.place.tree ∷ other.place.path) (job.place.tree ∷ job.place.path) ∙ ap ordering_reverse less) in
       (cond-false _ _ _ differs ∙ e.0, later job pieces others (t_second _ _ b) e.1)
 
-  each-stands : (jobs : List (Job V M)) → Rise jobs → Each (Stands (all_done meaning s jobs)) jobs
+  each-stands : (jobs : List (Job V M)) → Rise jobs → Each (Stands (outcomes meaning s jobs)) jobs
   each-stands [] r = tt
   each-stands (job ∷ jobs) r = (
     cond-true _ _ _ (ap is_eq (tied_itself total_keys (job.place.tree ∷ job.place.path))),
-    later job (all_done meaning s jobs) jobs (t_first _ _ r) (each-stands jobs (t_second _ _ r)),
+    later job (outcomes meaning s jobs) jobs (t_first _ _ r) (each-stands jobs (t_second _ _ r)),
   )
 
   -- what becomes of jobs at rising places stands at these
-  pub all-stand : (jobs : List (Job V M)) → Rise jobs → All (Stands (all_done meaning s jobs)) jobs
+  pub all-stand : (jobs : List (Job V M)) → Rise jobs → All (Stands (outcomes meaning s jobs)) jobs
   all-stand jobs r = All-from_recursion _ jobs (each-stands jobs r)

@@ -9,8 +9,7 @@ use Rattle.bt_messages.proofs.offered.Parts.{lie_length, parts_lie}
 use Rattle.bt_node.specs.Messages.{Messages}
 use Rattle.bt_node.specs.Trees.{Shape}
 use Rattle.bt_plan.specs.Pieces.{Holed, HoledChild, HoledFits, HoledNodes, IsSent, child, childless, hole, holes, holes_below, opened, pivots_below, whole, with_bins, with_holes, with_holes_below}
-use Rattle.bt_plan.proofs.Found.{each-first, each-rest}
-use Rattle.bt_plan.proofs.Places.{each-append}
+use Rattle.bt_plan.proofs.offered.Each.{each-append, each-first, each-rest}
 
 -- what is asked of a hole gives what is wanted of what it tells now
 abbrev pub Turns : {H G : Type 0} → (H → G) → (ℕ → Option Key → Option Key → H → Type 0) → (ℕ → Option Key → Option Key → G → Type 0) → H → Type 0

@@ -4,13 +4,14 @@ use Rattle.std.proofs.lemmas.Bool.{cond-false}
 use Rattle.std.proofs.lemmas.List.{length-map}
 use Rattle.std.specs.List.{flat_map, zip}
 use Rattle.bt_keycode.specs.Keys.{AllFrom, IsSorted, Key}
-use Rattle.bt_messages.specs.Bins.{LieBetween, added, each_with, joined, parts}
+use Rattle.bt_rowtype.specs.Lists.{concatenation}
+use Rattle.bt_messages.specs.Bins.{LieBetween, added, each_with, parts}
 use Rattle.bt_messages.specs.Parts.{parted, total}
 use Rattle.bt_messages.specs.Shares.{AreShares, counts}
 use Rattle.bt_messages.specs.declared.message.Message.{Message}
 use Rattle.bt_messages.specs.declared.share.Share.{Share}
 use Rattle.bt_messages.proofs.offered.Fronts.{sorted_take}
-use Rattle.bt_messages.proofs.offered.Parts.{added_lie, joined-added, lie_length}
+use Rattle.bt_messages.proofs.offered.Parts.{added_lie, concatenation-added, lie_length}
 use Rattle.bt_messages.proofs.offered.Placed.{alone}
 use Rattle.bt_messages.proofs.offered.Totals.{nothing_pending}
 use Rattle.bt_node.specs.Children.{beside}
@@ -21,10 +22,10 @@ use Rattle.bt_node.specs.Messages.{Messages, load, with_messages}
 use Rattle.bt_node.specs.Steps.{IsStep}
 use Rattle.bt_node.specs.Trees.{Shape, Siblings, Tree, behind, inner, leaf, nodes, pivots_of}
 use Rattle.bt_node.specs.Walks.{is_leaf}
-use Rattle.bt_node.specs.declared.mode.Mode.{Mode}
-use Rattle.bt_node.specs.declared.opening.Opened as code
-use Rattle.bt_node.specs.declared.opening.Step.{Step}
-use Rattle.bt_node.specs.declared.opening.Step.TheVariants.{Opens}
+use Rattle.bt_node.specs.declared.form.mode.Mode.{Mode}
+use Rattle.bt_node.specs.declared.flush.opening.Opened as code
+use Rattle.bt_node.specs.declared.flush.opening.Step.{Step}
+use Rattle.bt_node.specs.declared.flush.opening.Step.TheVariants.{Opens}
 use Rattle.bt_node.proofs.offered.FlushSteps.{beside-shared, bins-length, children-nodes, led-full, length-flush_marks, length-shared, pending-beside, pivots-beside, shares-length, some_length}
 use Rattle.bt_node.proofs.offered.FlushSteps.{from-back, from-joined, from-prefix}
 use Rattle.bt_plan.specs.Cuts.{Job, child_place, cut_out, hole_of, left_pending}
@@ -41,7 +42,8 @@ module _ {V M H : Type 0} where
   told-zip f (k ∷ ks) [] = refl
   told-zip f (k ∷ ks) (h ∷ hs) = ap (λ z. child k (with_holes f h) z) (told-zip f ks hs)
 
-  holes-zip : (ks : List Key) (hs : List (Holed V M H)) → length hs ≤ length ks → holes_below (holed_nodes (zip ks hs)) ≡ flat_map holes hs
+  -- the holes of an opened node are those of its children
+  pub holes-zip : (ks : List Key) (hs : List (Holed V M H)) → length hs ≤ length ks → holes_below (holed_nodes (zip ks hs)) ≡ flat_map holes hs
   holes-zip [] [] few = refl
   holes-zip [] (h ∷ hs) few = absurd (omega (arith, few))
   holes-zip (k ∷ ks) [] few = refl
@@ -50,11 +52,11 @@ module _ {V M H : Type 0} where
 -- ---- bins that are emptied
 
 module _ {M : Type 0} where
-  from-kept : (k : Key) (bs : List (Messages M)) (ms : List Bool) → AllFrom k (joined bs) → AllFrom k (joined (kept_bins bs ms))
+  from-kept : (k : Key) (bs : List (Messages M)) (ms : List Bool) → AllFrom k (concatenation bs) → AllFrom k (concatenation (kept_bins bs ms))
   from-kept k [] ms h = tt
   from-kept k (b ∷ bs) [] h = tt
-  from-kept k (b ∷ bs) (true ∷ ms) h = from-kept k bs ms (from-back k b (joined bs) h)
-  from-kept k (b ∷ bs) (false ∷ ms) h = from-joined k b (joined (kept_bins bs ms)) (from-prefix k b (joined bs) h) (from-kept k bs ms (from-back k b (joined bs) h))
+  from-kept k (b ∷ bs) (true ∷ ms) h = from-kept k bs ms (from-back k b (concatenation bs) h)
+  from-kept k (b ∷ bs) (false ∷ ms) h = from-joined k b (concatenation (kept_bins bs ms)) (from-prefix k b (concatenation bs) h) (from-kept k bs ms (from-back k b (concatenation bs) h))
 
   kept_lie : (ks : List Key) (bs : List (Messages M)) (ms : List Bool) → length ms ≡ length bs → LieBetween ks bs → LieBetween ks (kept_bins bs ms)
   kept_lie ks [] ms e h = absurd h
@@ -90,7 +92,7 @@ module _ {V M : Type 0} where
   rest-beside (x ∷ xs) [] e = absurd (omega (arith, e))
   rest-beside (x ∷ xs) (b ∷ bs) e = pivots-beside xs bs (omega (arith, e))
 
-  left-kept : (xs : Siblings V M) (bs : List (Messages M)) (ms : List Bool) → length bs ≡ length xs → left_pending (zip (beside xs bs) ms) ≡ joined (kept_bins bs ms)
+  left-kept : (xs : Siblings V M) (bs : List (Messages M)) (ms : List Bool) → length bs ≡ length xs → left_pending (zip (beside xs bs) ms) ≡ concatenation (kept_bins bs ms)
   left-kept [] [] ms e = refl
   left-kept [] (b ∷ bs) ms e = absurd (omega (arith, e))
   left-kept (x ∷ xs) [] ms e = absurd (omega (arith, e))
@@ -130,7 +132,7 @@ module _ {V M : Type 0} where
 
   -- an inner node is opened
   pub inner-cut : (weigh : Key × M → ℕ) (depth : ℕ) (mode : Mode) (s : Shape) (place : Place) {t : Tree V M} (xs : Siblings V M) (bins : List (Messages M)) {ms packet : Messages M} → 1 ≤ depth →
-      t ≡ inner (nodes xs) (joined bins) → ms ≡ packet → cut_out weigh (suc (depth - 1)) mode s place (inner (nodes xs) (joined bins)) ms ≡ cut_out weigh depth mode s place t packet
+      t ≡ inner (nodes xs) (concatenation bins) → ms ≡ packet → cut_out weigh (suc (depth - 1)) mode s place (inner (nodes xs) (concatenation bins)) ms ≡ cut_out weigh depth mode s place t packet
   inner-cut weigh depth mode s place xs bins some here all =
       let deep : suc (depth - 1) ≡ depth = omega (arith, some) in
       (λ i. cut_out weigh (deep i) mode s place (sym here i) (all i))
@@ -140,9 +142,9 @@ pub record IsOpen {V M : Type 0} (weigh : Key × M → ℕ) (mode : Mode) (s : S
     (ks : List Key) (bs : List (Messages M)) (ss : List Share) (ms : List Bool) : Type 0 where
   pub led : IsLed xs
   pub lie : LieBetween (pivots_of xs) bins
-  pub sized : IsSized weigh s (inner (nodes xs) (joined bins))
-  pub room : has_room mode s (load weigh s.measure (with_messages (take count stream) (joined bins))) ≡ false
-  pub marks : ms ≡ flush_marks mode s.buffer (loads weigh s (shared xs (with_messages (take count stream) (joined bins))))
+  pub sized : IsSized weigh s (inner (nodes xs) (concatenation bins))
+  pub room : has_room mode s (load weigh s.measure (with_messages (take count stream) (concatenation bins))) ≡ false
+  pub marks : ms ≡ flush_marks mode s.buffer (loads weigh s (shared xs (with_messages (take count stream) (concatenation bins))))
   pub left : rest ≡ stream
   pub all : total (counts ss) ≡ count
   pub weighed : AreShares weigh rest ss
@@ -154,7 +156,7 @@ pub record IsOpen {V M : Type 0} (weigh : Key × M → ℕ) (mode : Mode) (s : S
 -- so it is where the code opens it and takes its children apart
 module _ {V D : Type 0} {weigh : Key × Message V D → ℕ} (mode : Mode) {s : Shape} {xs : Siblings V (Message V D)} {bins : List (Messages (Message V D))} (stream : Messages (Message V D)) (count : ℕ)
     {rest : Messages (Message V D)} {step : Step V D} {node : code.Opened V D} {ts : List (Tree V (Message V D))} {ks : List Key} {bs : List (Messages (Message V D))} {ss : List Share} {ms : List Bool} where
-  pub is_open : step ≡ Opens node → IsStep weigh mode s xs bins stream count rest step → LieBetween (pivots_of xs) bins → IsSized weigh s (inner (nodes xs) (joined bins)) →
+  pub is_open : step ≡ Opens node → IsStep weigh mode s xs bins stream count rest step → LieBetween (pivots_of xs) bins → IsSized weigh s (inner (nodes xs) (concatenation bins)) →
       ts ≡ map (λ c. c.tree) node.children → ks ≡ map (λ c. c.pivot) (drop 1 node.children) → bs ≡ map (λ c. c.pending) node.children →
       ss ≡ node.shares.items → ms ≡ node.marks.items → IsOpen weigh mode s xs bins stream count rest ts ks bs ss ms
   is_open opens ensured lie sized trees pivots buffers shares marks =
@@ -206,9 +208,9 @@ module _ {V M : Type 0} {weigh : Key × M → ℕ} {mode : Mode} {s : Shape} {xs
 
   pub marks_long : length ms ≡ length ts
   marks_long =
-      let cs = shared xs (with_messages packet (joined bins)) in
+      let cs = shared xs (with_messages packet (concatenation bins)) in
       ap length opening.marks ∙ length-flush_marks mode s.buffer (loads weigh s cs) ∙ length-map cs (pending_load weigh s)
-      ∙ length-shared xs (with_messages packet (joined bins)) ∙ sym nodes_long
+      ∙ length-shared xs (with_messages packet (concatenation bins)) ∙ sym nodes_long
 
   -- its bins, once the shares have come into them
   abbrev after : List (Messages M)
@@ -223,11 +225,11 @@ module _ {V M : Type 0} {weigh : Key × M → ℕ} {mode : Mode} {s : Shape} {xs
   after_long : length after ≡ length ts
   after_long = omega (arith, lie_length ks after after_lies, pivots_long)
 
-  after-shared : beside xs after ≡ shared xs (with_messages packet (joined bins))
+  after-shared : beside xs after ≡ shared xs (with_messages packet (concatenation bins))
   after-shared =
       ap (beside xs) after-is
       ∙ beside-shared xs (added (pivots_of xs) packet bins) (added_lie (pivots_of xs) packet bins opening.lie)
-      ∙ ap (shared xs) (joined-added (pivots_of xs) packet bins opening.lie)
+      ∙ ap (shared xs) (concatenation-added (pivots_of xs) packet bins opening.lie)
 
   pub kept_divided : LieBetween ks (kept_bins after ms)
   kept_divided = kept_lie ks after ms (marks_long ∙ sym after_long) after_lies
@@ -239,20 +241,20 @@ module _ {V M : Type 0} {weigh : Key × M → ℕ} {mode : Mode} {s : Shape} {xs
     pub cuts_long : length cuts ≡ length ks + 1
     cuts_long = each-long weigh depth mode s place 0 ts after ms after_long marks_long ∙ pivots_long
 
-    node-cut : cut_out weigh (suc depth) mode s place (inner (nodes xs) (joined bins)) packet ≡ opened (holed_nodes (behind ks cuts)) (joined (kept_bins after ms))
+    node-cut : cut_out weigh (suc depth) mode s place (inner (nodes xs) (concatenation bins)) packet ≡ opened (holed_nodes (behind ks cuts)) (concatenation (kept_bins after ms))
     node-cut =
-        let all = with_messages packet (joined bins) in
+        let all = with_messages packet (concatenation bins) in
         let keys : map (λ x. x.0) xs ≡ [] ∷ ks = led_keys xs opening.led ∙ ap (λ js. [] ∷ js) (sym opening.pivots) in
         cond-false _ _ _ opening.room
         ∙ ap (λ ys. opened_node weigh depth mode s place (zip (shared ys all) (flush_marks mode s.buffer (loads weigh s (shared ys all))))) (children-nodes xs)
         ∙ (λ i. opened_node weigh depth mode s place (zip (sym after-shared i) (sym opening.marks i)))
         ∙ (λ i. opened (holed_nodes (each-opened weigh depth mode s place 0 xs after ms i)) (left-kept xs after ms (after_long ∙ nodes_long) i))
-        ∙ (λ i. opened (holed_nodes (zip (keys i) (cut_each weigh depth mode s place 0 (sym opening.trees i) after ms))) (joined (kept_bins after ms)))
+        ∙ (λ i. opened (holed_nodes (zip (keys i) (cut_each weigh depth mode s place 0 (sym opening.trees i) after ms))) (concatenation (kept_bins after ms)))
 
     -- what the holes tell
-    pub node-told : opened (holed_nodes (behind ks (map (with_holes hole_of) cuts))) (joined (kept_bins after ms))
-        ≡ with_holes hole_of (cut_out weigh (suc depth) mode s place (inner (nodes xs) (joined bins)) packet)
-    node-told = ap (λ hs. opened hs (joined (kept_bins after ms))) (sym (told-zip hole_of ([] ∷ ks) cuts)) ∙ ap (with_holes hole_of) (sym node-cut)
+    pub node-told : opened (holed_nodes (behind ks (map (with_holes hole_of) cuts))) (concatenation (kept_bins after ms))
+        ≡ with_holes hole_of (cut_out weigh (suc depth) mode s place (inner (nodes xs) (concatenation bins)) packet)
+    node-told = ap (λ hs. opened hs (concatenation (kept_bins after ms))) (sym (told-zip hole_of ([] ∷ ks) cuts)) ∙ ap (with_holes hole_of) (sym node-cut)
 
-    pub node-jobs : flat_map holes cuts ≡ holes (cut_out weigh (suc depth) mode s place (inner (nodes xs) (joined bins)) packet)
+    pub node-jobs : flat_map holes cuts ≡ holes (cut_out weigh (suc depth) mode s place (inner (nodes xs) (concatenation bins)) packet)
     node-jobs = sym (ap holes node-cut ∙ holes-zip ([] ∷ ks) cuts (omega (arith, cuts_long)))

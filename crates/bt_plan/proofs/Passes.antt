@@ -6,7 +6,7 @@ use Rattle.bt_messages.specs.Bins.{LieBetween}
 use Rattle.bt_node.specs.Children.{beside}
 use Rattle.bt_node.specs.Flushes.{Child, Flush, flushed, none_pending, pivot_first, shared}
 use Rattle.bt_node.specs.Trees.{Siblings, pivots_of}
-use Rattle.bt_node.specs.inside.Passes.{passed}
+use Rattle.bt_node.specs.Passes.{passed}
 use Rattle.bt_node.proofs.offered.FlushSteps.{ChildrenLie, all_pending, beside-shared, divided-lie, joined-pending, stripped}
 use Rattle.bt_plan.specs.Cuts.{left_pending}
 

@@ -13,31 +13,13 @@ use Rattle.bt_node.specs.Marks.{has_room}
 use Rattle.bt_keycode.specs.Keys.{Key}
 use Rattle.bt_node.specs.Messages.{Messages, load, with_messages}
 use Rattle.bt_node.specs.Trees.{Nodes, Shape, Tree, children, leaf, inner}
-use Rattle.bt_node.specs.declared.mode.Mode.{Mode}
+use Rattle.bt_node.specs.declared.form.mode.Mode.{Mode}
 use Rattle.bt_node.proofs.offered.FlushSteps.{slots}
-use Rattle.bt_plan.specs.Pieces.{Place, holed_nodes, holes, holes_below, place_cmp, whole}
+use Rattle.bt_node.proofs.offered.Truths.{t_both, t_first, t_second}
+use Rattle.bt_plan.specs.Pieces.{Place, holed_nodes, holes, holes_below, node_place_cmp, whole}
 use Rattle.bt_plan.specs.Cuts.{Job, child_place, cut_out}
 use Rattle.bt_plan.proofs.Filling.{opened_children, opened_node}
-
-pub each-append : {X : Type 0} (P : X → Type 0) (xs ys : List X) → Each P xs → Each P ys → Each P (xs ++ ys)
-each-append P [] ys u v = v
-each-append P (x ∷ xs) ys u v = (u.0, each-append P xs ys u.1 v)
-
-pub each-weaken : {X : Type 0} (P Q : X → Type 0) → ((x : X) → P x → Q x) → (xs : List X) → Each P xs → Each Q xs
-each-weaken P Q h [] u = tt
-each-weaken P Q h (x ∷ xs) u = (h x u.0, each-weaken P Q h xs u.1)
-
-pub t_both : (a b : Bool) → T a → T b → T (a && b)
-t_both true b p q = q
-t_both false b p q = absurd p
-
-pub t_first : (a b : Bool) → T (a && b) → T a
-t_first true b p = tt
-t_first false b p = absurd p
-
-pub t_second : (a b : Bool) → T (a && b) → T b
-t_second true b p = p
-t_second false b p = absurd p
+use Rattle.bt_plan.proofs.offered.Each.{each-append, each-weaken}
 
 -- ---- two places
 
@@ -71,7 +53,7 @@ by_place = map (λ job. (job.place, job))
 
 -- the places of jobs rise
 abbrev pub Rise : {V M : Type 0} → List (Job V M) → Type 0
-Rise jobs = T (is_sorted place_cmp (by_place jobs))
+Rise jobs = T (is_sorted node_place_cmp (by_place jobs))
 
 -- the places of the jobs of a cut so deep rise
 abbrev Rising : (V : Type 0) {M : Type 0} → (Key × M → ℕ) → ℕ → Mode → Shape → Type 0
@@ -121,18 +103,18 @@ module _ {V M : Type 0} where
     -- ---- order
 
     before-all : (place : Place) (i : ℕ) (job : Job V M) (others : List (Job V M)) → IsUnder (child_place place i) job → Each (IsPastChild place (suc i)) others →
-        T (below_all place_cmp job.place (by_place others))
+        T (below_all node_place_cmp job.place (by_place others))
     before-all place i job [] u v = tt
     before-all place i job (other ∷ others) u v =
         let mine = child-under place i job u in
-        let is : place_cmp job.place other.place ≡ Less =
-        ap (λ q. place_cmp q other.place) (u.1 ∙ ap (λ path. record { tree = place.tree; path = path }) (append_assoc place.path (i ∷ []) u.0))
-        ∙ ap (place_cmp (record { tree = place.tree; path = place.path ++ i ∷ u.0 })) v.0.3
+        let is : node_place_cmp job.place other.place ≡ Less =
+        ap (λ q. node_place_cmp q other.place) (u.1 ∙ ap (λ path. record { tree = place.tree; path = path }) (append_assoc place.path (i ∷ []) u.0))
+        ∙ ap (node_place_cmp (record { tree = place.tree; path = place.path ++ i ∷ u.0 })) v.0.3
         ∙ less-after (place.tree ∷ place.path) u.0 v.0.1 i v.0.0 (omega (arith, v.0.2)) in
         t_both _ _ (subst (λ o. T (is_lt o)) (sym is) tt) (before-all place i job others u v.1)
 
-    below-append : (place : Place) (jobs others : List (Job V M)) → T (below_all place_cmp place (by_place jobs)) → T (below_all place_cmp place (by_place others)) →
-        T (below_all place_cmp place (by_place (jobs ++ others)))
+    below-append : (place : Place) (jobs others : List (Job V M)) → T (below_all node_place_cmp place (by_place jobs)) → T (below_all node_place_cmp place (by_place others)) →
+        T (below_all node_place_cmp place (by_place (jobs ++ others)))
     below-append place [] others u v = v
     below-append place (job ∷ jobs) others u v = t_both _ _ (t_first _ _ u) (below-append place jobs others (t_second _ _ u) v)
 

@@ -1,6 +1,6 @@
 -- No more children are planned than there are.
 use Rattle.std.proofs.Common.{◌≡◌, ◌≤◌, ◌<◌, ◌++◌, ℕ, suc, true, false, cond, nat_le, List, [], ◌∷◌, length, length-append, refl, ap, arith, ◌+◌}
-use Rattle.bt_node.specs.declared.shape.TheConstants.{LARGEST_FANOUT}
+use Rattle.bt_node.specs.declared.form.shape.TheConstants.{LARGEST_FANOUT}
 use Rattle.bt_node.specs.Plans.{placed, planned, ranked, ranked_in, shortest, total_of}
 
 length-placed : (k : ℕ) (ns : List ℕ) → length (placed k ns) ≡ length ns

@@ -1,15 +1,15 @@
 -- One more child of a node that is opened, for the loop that cuts them one by one.
-use Rattle.std.proofs.Common.{◌≡◌, ◌<◌, ◌+◌, ℕ, Bool, false, cond, List, [], ◌∷◌, ◌++◌, ◌∙◌, None, append_assoc, ap, drop, get_or, length, map, sym, subst, take}
+use Rattle.std.proofs.Common.{◌≡◌, ◌<◌, ◌+◌, ℕ, Bool, false, cond, List, [], ◌∷◌, ◌++◌, ◌∙◌, None, append_assoc, ap, drop, get_or, length, map, sym, take}
 use Rattle.std.proofs.lemmas.List.{drop-drop, drop_more}
 use Rattle.std.specs.List.{flat_map}
 use Rattle.bt_messages.specs.Bins.{each_with}
 use Rattle.bt_messages.specs.Parts.{parted, total}
-use Rattle.bt_messages.specs.Shares.{AreShares, IsShare, counts}
+use Rattle.bt_messages.specs.Shares.{counts}
 use Rattle.bt_messages.specs.declared.share.Share.{Share}
 use Rattle.bt_keycode.specs.Keys.{Key}
 use Rattle.bt_node.specs.Messages.{Messages, with_messages}
 use Rattle.bt_node.specs.Trees.{Shape, Tree}
-use Rattle.bt_node.specs.declared.mode.Mode.{Mode}
+use Rattle.bt_node.specs.declared.form.mode.Mode.{Mode}
 use Rattle.bt_plan.specs.Cuts.{Job, child_place, cut_out}
 use Rattle.bt_plan.specs.Pieces.{Holed, Place, whole}
 use Rattle.bt_plan.specs.inside.Cutting.{cut_each, kept_bins}
@@ -39,11 +39,6 @@ abbrev pub no_share : Share
 no_share = record { count = 0; weight = None }
 
 module _ {M : Type 0} (shares : List Share) (i : ℕ) (ms : Messages M) (within : i < length shares) where
-  -- the one at a place, and those behind it, which are shares of what it leaves
-  pub share_here : (weigh : Key × M → ℕ) → AreShares weigh ms (drop i shares) →
-      IsShare weigh ms (get_or shares i no_share) × AreShares weigh (drop (get_or shares i no_share).count ms) (drop (i + 1) shares)
-  share_here weigh are = subst (AreShares weigh ms) (drop_more shares i no_share within) are
-
   module _ {rest : Messages M} (after : rest ≡ drop (get_or shares i no_share).count ms) where
     pub left_after : {left : Messages M} → drop (total (counts (drop i shares))) ms ≡ left → drop (total (counts (drop (i + 1) shares))) rest ≡ left
     left_after so_far =

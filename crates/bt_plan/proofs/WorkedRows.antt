@@ -1,53 +1,17 @@
 -- Worked trees: cut into a tree in pieces and jobs, and filled again with what becomes of these, computed.
-use Rattle.std.specs.Prelude.{◌≡◌, ℕ, List, [], ◌∷◌, ℤ, pos, neg_ℤ}
+use Rattle.std.specs.Prelude.{◌≡◌, ℕ, List, [], ◌∷◌, ℤ}
 use Rattle.std.proofs.Common.{refl}
-use Rattle.bt_keycode.specs.Keys.{Key}
-use Rattle.bt_messages.specs.Meanings.{Meaning, meaning_of}
 use Rattle.bt_messages.specs.declared.measure.Measure.TheVariants as measures
-use Rattle.bt_messages.specs.declared.message.Message.{Message}
-use Rattle.bt_messages.specs.declared.message.Message.TheVariants.{Put, Del}
+use Rattle.bt_messages.specs.declared.message.Message.TheVariants.{Put}
 use Rattle.bt_node.specs.Flushes.{absorb}
 use Rattle.bt_node.specs.Drains.{drain}
 use Rattle.bt_node.specs.Messages.{Messages}
 use Rattle.bt_node.specs.Trees.{Shape, Siblings, Tree, leaf, inner, none, node}
-use Rattle.bt_node.specs.declared.mode.Mode.{Mode}
-use Rattle.bt_node.specs.declared.mode.Mode.TheVariants.{Absorb, Drain}
+use Rattle.bt_node.specs.declared.form.mode.Mode.{Mode}
+use Rattle.bt_node.specs.declared.form.mode.Mode.TheVariants.{Absorb, Drain}
+use Rattle.bt_node.proofs.offered.SampleTrees.{Change, dels, entry, first_three, four_leaves, k, k_minus_1, last_two, meaning, minus_10, one_waits, puts, shape, three_high, two}
 use Rattle.bt_plan.specs.Pieces.{Holed, Place, whole, hole, opened, childless, child, filled}
-use Rattle.bt_plan.specs.Cuts.{Job, Pieced, all_done, cut}
-
--- a message of these trees; none of them is an upsert
-abbrev Change : Type 0
-Change = Message ℤ ℤ
-
--- beside its key of eight bytes a put carries 16
-abbrev meaning : Meaning ℤ Change
-meaning = meaning_of (record { merged = λ old n. n; payload = λ value. 16; delta_payload = λ n. 10 })
-
--- the code of a number from 0 to 255, and of -1
-abbrev k : ℕ → Key
-k n = 128 ∷ 0 ∷ 0 ∷ 0 ∷ 0 ∷ 0 ∷ 0 ∷ n ∷ []
-
-abbrev k_minus_1 : Key
-k_minus_1 = 127 ∷ 255 ∷ 255 ∷ 255 ∷ 255 ∷ 255 ∷ 255 ∷ 255 ∷ []
-
-abbrev minus_10 : ℤ
-minus_10 = neg_ℤ (pos 10)
-
-abbrev puts : ℕ → ℕ → Key × Change
-puts n v = (k n, Put (pos v))
-
-abbrev dels : ℕ → Key × Change
-dels n = (k n, Del)
-
-abbrev entry : ℕ → ℕ → Key × ℤ
-entry n v = (k n, pos v)
-
-abbrev two : ℕ → ℕ → ℕ → ℕ → Tree ℤ Change
-two a x b y = leaf (entry a x ∷ entry b y ∷ [])
-
--- at most four children, three pending messages, two rows
-abbrev shape : Shape
-shape = record { fanout = 4; buffer = 3; leaf = 2; measure = measures.Messages }
+use Rattle.bt_plan.specs.Cuts.{Job, Pieced, cut, outcomes}
 
 -- a job of tree 7
 abbrev job : List ℕ → Mode → Tree ℤ Change → Messages Change → Job ℤ Change
@@ -62,7 +26,7 @@ cut_of = cut meaning.weigh 7
 
 -- cut, run and filled
 abbrev together : Shape → Tree ℤ Change → Messages Change → ℕ → Mode → Siblings ℤ Change
-together s t packet depth mode = let c = cut_of s t packet depth mode in filled s c.holed (all_done meaning s c.jobs)
+together s t packet depth mode = let c = cut_of s t packet depth mode in filled s c.holed (outcomes meaning s c.jobs)
 
 -- ---- counts 4, 2 and 2: the first two children are flushed
 
@@ -92,15 +56,6 @@ two_jobs_filled : together shape three_leaves eight_puts 1 Absorb ≡ absorb mea
 two_jobs_filled = refl
 
 -- ---- the root sends three messages left, and that node, where one is pending, sends two on
-
-abbrev first_three : Tree ℤ Change
-first_three = inner (node [] (leaf ((k_minus_1, minus_10) ∷ entry 0 0 ∷ [])) (node (k 1) (two 1 11 2 20) (node (k 3) (two 3 30 4 40) none))) (puts 4 44 ∷ [])
-
-abbrev last_two : Tree ℤ Change
-last_two = inner (node [] (two 5 50 6 60) (node (k 7) (leaf (entry 7 70 ∷ [])) none)) (puts 8 80 ∷ [])
-
-abbrev three_high : Tree ℤ Change
-three_high = inner (node [] first_three (node (k 5) last_two none)) []
 
 abbrev four_puts : Messages Change
 four_puts = puts 1 12 ∷ puts 2 22 ∷ puts 3 33 ∷ puts 10 100 ∷ []
@@ -153,11 +108,6 @@ drained_filled_2 : together shape three_high [] 2 Drain ≡ drain meaning shape 
 drained_filled_2 = refl
 
 -- ---- the first child is flushed and splits
-
-abbrev four_leaves : Tree ℤ Change
-four_leaves = inner
-    (node [] (two 1 10 2 20) (node (k 3) (two 3 30 4 40) (node (k 5) (two 5 50 6 60) (node (k 7) (leaf (entry 7 70 ∷ [])) none))))
-    (puts 1 11 ∷ [])
 
 abbrev splitting : Messages Change
 splitting = (k_minus_1, Put minus_10) ∷ puts 0 0 ∷ puts 4 44 ∷ puts 8 80 ∷ []
@@ -213,9 +163,6 @@ seven_levels_filled_6 = refl
 
 abbrev weighed : Shape
 weighed = record { fanout = 4; buffer = 60; leaf = 2; measure = measures.Bytes }
-
-abbrev one_waits : Tree ℤ Change
-one_waits = inner (node [] (two 1 10 2 20) (node (k 3) (two 3 30 4 40) none)) (puts 1 11 ∷ [])
 
 -- weights 25 and 25: the root stays whole
 within_bytes : cut_of weighed one_waits (puts 4 41 ∷ []) 1 Absorb ≡ record {

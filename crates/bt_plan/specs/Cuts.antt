@@ -2,7 +2,7 @@
 use Rattle.std.specs.Prelude.{ℕ, zero, suc, Bool, cond, List, [], ◌∷◌, ◌++◌, map}
 use Rattle.std.specs.List.{flat_map, zip}
 use Rattle.bt_keycode.specs.Keys.{Key}
-use Rattle.bt_node.specs.declared.mode.Mode.{Mode}
+use Rattle.bt_node.specs.declared.form.mode.Mode.{Mode}
 use Rattle.bt_node.specs.Flushes.{Child, flush_in, loads, shared}
 use Rattle.bt_node.specs.Marks.{flush_marks, has_room}
 use Rattle.bt_node.specs.Messages.{Meaning, Messages, load, with_messages}
@@ -21,17 +21,17 @@ abbrev pub hole_of : {V M : Type 0} → Job V M → Place
 hole_of job = job.place
 
 -- what becomes of a job's node and packet
-abbrev pub done : {V M : Type 0} → Meaning V M → Shape → Job V M → Siblings V M
-done meaning shape job = flush_in meaning job.mode shape job.node job.packet
+abbrev pub outcome : {V M : Type 0} → Meaning V M → Shape → Job V M → Siblings V M
+outcome meaning shape job = flush_in meaning job.mode shape job.node job.packet
 
 -- what becomes of jobs, by their places
-abbrev pub all_done : {V M : Type 0} → Meaning V M → Shape → List (Job V M) → Pieces V M
-all_done meaning shape = map (λ job. (job.place, done meaning shape job))
+abbrev pub outcomes : {V M : Type 0} → Meaning V M → Shape → List (Job V M) → Pieces V M
+outcomes meaning shape = map (λ job. (job.place, outcome meaning shape job))
 
 -- each item with its number, counted from k
-abbrev pub numbered : {X : Type 0} → ℕ → List X → List (ℕ × X)
-numbered k [] = []
-numbered k (x ∷ xs) = (k, x) ∷ numbered (suc k) xs
+abbrev pub with_numbers : {X : Type 0} → ℕ → List X → List (ℕ × X)
+with_numbers k [] = []
+with_numbers k (x ∷ xs) = (k, x) ∷ with_numbers (suc k) xs
 
 -- the place of a child
 abbrev pub child_place : Place → ℕ → Place
@@ -53,7 +53,7 @@ cut_out weigh (suc depth) mode shape place (inner ns buffer) packet =
     let ss = zip cs (flush_marks mode shape.buffer (loads weigh shape cs)) in
     cond (has_room mode shape (load weigh shape.measure all)) (whole (inner ns all))
     (opened
-    (holed_nodes (map (λ s. (s.1.0.pivot, cond s.1.1 (cut_out weigh depth mode shape (child_place place s.0) s.1.0.tree s.1.0.pending) (whole s.1.0.tree))) (numbered 0 ss)))
+    (holed_nodes (map (λ s. (s.1.0.pivot, cond s.1.1 (cut_out weigh depth mode shape (child_place place s.0) s.1.0.tree s.1.0.pending) (whole s.1.0.tree))) (with_numbers 0 ss)))
     (left_pending ss))
 
 -- the place of a root

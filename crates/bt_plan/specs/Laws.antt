@@ -9,9 +9,9 @@ use Rattle.bt_node.specs.Fits.{NodeFits}
 use Rattle.bt_node.specs.Flushes.{flush_in}
 use Rattle.bt_node.specs.Messages.{Meaning, Messages}
 use Rattle.bt_node.specs.Trees.{Shape, Tree}
-use Rattle.bt_node.specs.declared.mode.Mode.{Mode}
-use Rattle.bt_plan.specs.Cuts.{Job, Pieced, done, hole_of}
-use Rattle.bt_plan.specs.Pieces.{Holed, HoledFits, Pieces, filled, holes, place_cmp, with_holes}
+use Rattle.bt_node.specs.declared.form.mode.Mode.{Mode}
+use Rattle.bt_plan.specs.Cuts.{Job, Pieced, hole_of, outcome}
+use Rattle.bt_plan.specs.Pieces.{Holed, HoledFits, Pieces, filled, holes, node_place_cmp, with_holes}
 
 module _ {V M : Type 0} (weigh : Key × M → ℕ) (shape : Shape) where
   -- a job's node, which has so many levels below it, and its packet, between the limits that the pivots around its hole set
@@ -29,10 +29,10 @@ module _ {V M : Type 0} (weigh : Key × M → ℕ) (shape : Shape) where
 
 -- the places of the jobs rise: no place comes twice
 abbrev pub PlacesRise : {V M : Type 0} → Pieced V M → Type 0
-PlacesRise c = T (is_sorted place_cmp (map (λ job. (job.place, job)) c.jobs))
+PlacesRise c = T (is_sorted node_place_cmp (map (λ job. (job.place, job)) c.jobs))
 
 -- Pieces in any order that have at the place of each job what becomes of it, fill the holes to what becomes of the whole.
 abbrev pub FillsUp : {V M : Type 0} → Meaning V M → Shape → Tree V M → Messages M → Mode → Pieced V M → Type 0
 FillsUp {V} {M} meaning shape root packet mode c =
-    (pieces : Pieces V M) → All (λ job. find place_cmp job.place pieces ≡ Some (done meaning shape job)) c.jobs →
+    (pieces : Pieces V M) → All (λ job. find node_place_cmp job.place pieces ≡ Some (outcome meaning shape job)) c.jobs →
     filled shape c.holed pieces ≡ flush_in meaning mode shape root packet

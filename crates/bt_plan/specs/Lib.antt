@@ -1,4 +1,5 @@
 pub mod Cuts
+pub mod DepthBounds
 pub mod Laws
 pub mod Pieces
 pub mod Views

@@ -20,8 +20,8 @@ pub record Place : Type 0 where
   pub path : List ℕ
 
 -- places by tree, and within a tree from left to right
-abbrev pub place_cmp : Place → Place → Ordering
-place_cmp p q = slice_cmp nat_cmp (p.tree ∷ p.path) (q.tree ∷ q.path)
+abbrev pub node_place_cmp : Place → Place → Ordering
+node_place_cmp p q = slice_cmp nat_cmp (p.tree ∷ p.path) (q.tree ∷ q.path)
 
 -- A node that stays with all that is below it, a node that has been moved out, and an inner node that stays and has holes below it, with what is left
 -- of its buffer. H says what a hole tells of the node that stood there.
@@ -122,7 +122,7 @@ Pieces V M = List (Place × Siblings V M)
 
 -- the siblings at a place, and none where it has none
 abbrev pub piece_at : {V M : Type 0} → Pieces V M → Place → Siblings V M
-piece_at pieces place = unwrap_or (find place_cmp place pieces) []
+piece_at pieces place = unwrap_or (find node_place_cmp place pieces) []
 
 -- a tree in pieces, each hole filled with the siblings at its place
 abbrev pub filled : {V M : Type 0} → Shape → Holed V M Place → Pieces V M → Siblings V M
@@ -130,4 +130,4 @@ filled shape holed pieces = filled_with shape (piece_at pieces) holed
 
 -- siblings that stand at the place of a hole fit there: they have as many levels below them as the node that stood there, and the pivots around it bound them
 abbrev pub FitsHole : {V M : Type 0} → (Key × M → ℕ) → Shape → Pieces V M → ℕ → Option Key → Option Key → Place → Type 0
-FitsHole {V} {M} weigh shape pieces levels low high place = (xs : Siblings V M) → find place_cmp place pieces ≡ Some xs → SiblingsFit weigh shape levels low high xs
+FitsHole {V} {M} weigh shape pieces levels low high place = (xs : Siblings V M) → find node_place_cmp place pieces ≡ Some xs → SiblingsFit weigh shape levels low high xs

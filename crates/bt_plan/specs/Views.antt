@@ -1,11 +1,12 @@
 -- What the values of the code stand for.
 use Rattle.std.specs.Prelude.{◌≡◌, ◌+◌, ℕ, List, length, map}
 use Rattle.bt_keycode.specs.Keys.{Key}
-use Rattle.bt_messages.specs.Bins.{LieBetween, joined}
+use Rattle.bt_rowtype.specs.Lists.{concatenation}
+use Rattle.bt_messages.specs.Bins.{LieBetween}
 use Rattle.bt_messages.specs.declared.message.Message.{Message}
 use Rattle.bt_node.specs.Messages.{Messages}
 use Rattle.bt_node.specs.Trees.{Shape, Tree, behind}
-use Rattle.bt_node.specs.declared.mode.Mode.{Mode}
+use Rattle.bt_node.specs.declared.form.mode.Mode.{Mode}
 use Rattle.bt_plan.specs.declared.holed.HoledParts.{HoledParts}
 use Rattle.bt_plan.specs.declared.holed.HoledParts.TheVariants.{Whole, Hole, Opened}
 use Rattle.bt_plan.specs.declared.job.Job as code
@@ -13,23 +14,23 @@ use Rattle.bt_plan.specs.declared.job.Place as code_place
 use Rattle.bt_plan.specs.Cuts.{Job, cut}
 use Rattle.bt_plan.specs.Pieces.{Holed, Place, whole, hole, opened, holed_nodes}
 
-abbrev pub place_of : code_place.Place → Place
-place_of place = record { tree = place.tree; path = place.path.items }
+abbrev pub node_place : code_place.Place → Place
+node_place place = record { tree = place.tree; path = place.path.items }
 
 abbrev pub job_of : {V D : Type 0} → code.Job V D → Job V (Message V D)
-job_of job = record { place = place_of job.place; node = job.node; packet = job.packet; mode = job.mode }
+job_of job = record { place = node_place job.place; node = job.node; packet = job.packet; mode = job.mode }
 
 -- the buffer of an opened node is its bins, one after the other
 abbrev pub holed_of : {V D : Type 0} → HoledParts V D → Holed V (Message V D) Place
 holed_of (Whole node) = whole node
-holed_of (Hole place) = hole (place_of place)
-holed_of (Opened children pivots bins) = opened (holed_nodes (behind pivots.items children.items)) (joined bins)
+holed_of (Hole place) = hole (node_place place)
+holed_of (Opened children pivots bins) = opened (holed_nodes (behind pivots.items children.items)) (concatenation bins)
 
 -- An opened node has a pivot between each two children, and each child a bin, whose messages lie between the pivots around the child.
-abbrev pub IsDivided : {V D : Type 0} → HoledParts V D → Type 0
-IsDivided (Whole node) = Unit {0}
-IsDivided (Hole place) = Unit {0}
-IsDivided (Opened children pivots bins) = (length children.items ≡ length pivots.items + 1) × LieBetween pivots.items bins
+abbrev pub HasPivotsAndBins : {V D : Type 0} → HoledParts V D → Type 0
+HasPivotsAndBins (Whole node) = Unit {0}
+HasPivotsAndBins (Hole place) = Unit {0}
+HasPivotsAndBins (Opened children pivots bins) = (length children.items ≡ length pivots.items + 1) × LieBetween pivots.items bins
 
 -- a tree in pieces, with its shape, and jobs are those of a cut
 abbrev pub IsCut : {V D : Type 0} → (Key × Message V D → ℕ) → Shape × Holed V (Message V D) Place → List (code.Job V D) → ℕ → Shape × Tree V (Message V D) → Messages (Message V D) → ℕ → Mode → Type 0

@@ -1,5 +1,4 @@
+pub mod CutNodes
 pub mod Cutting
-pub mod DepthBounds
-pub mod Entering
 pub mod Falls
 pub mod Stored

@@ -1,7 +1,8 @@
 //! How the flushes of a tree are moved out of it.
 ghost use Rattle.std.specs.Prelude.{◌≡◌, ◌≤◌, ◌<◌, ◌+◌, ◌++◌, ◌∷◌, [], IfOk, OnOk, cond, drop, length, map, suc, take};
 ghost use Rattle.std.specs.List.{flat_map};
-ghost use Rattle.bt_messages.specs.Bins.{LieBetween, each_with, joined};
+ghost use Rattle.bt_rowtype.specs.Lists.{concatenation};
+ghost use Rattle.bt_messages.specs.Bins.{LieBetween, each_with};
 ghost use Rattle.bt_messages.specs.Parts.{parted, total};
 ghost use Rattle.bt_messages.specs.Meanings.{meaning_of};
 ghost use Rattle.bt_messages.specs.Shares.{AreShares, IsShare, counts};
@@ -10,13 +11,13 @@ ghost use Rattle.bt_messages.specs.declared.message.Message.{Message};
 ghost use Rattle.bt_node.specs.Fits.{IsSized};
 ghost use Rattle.bt_node.specs.Messages.{with_messages};
 ghost use Rattle.bt_node.specs.Trees.{inner, nodes, pivots_of};
-ghost use Rattle.bt_plan.specs.Cuts.{cut, cut_out, hole_of};
+ghost use Rattle.bt_plan.specs.Cuts.{cut, hole_of};
 ghost use Rattle.bt_plan.specs.Laws.{FillsUp, PlacesRise, StandInHoles};
 ghost use Rattle.bt_plan.specs.Pieces.{holes, with_holes};
 ghost use Rattle.bt_plan.specs.Pieces as pieces;
-ghost use Rattle.bt_plan.specs.Views.{IsCut, job_of, place_of};
-ghost use Rattle.bt_plan.specs.inside.Cutting.{AreSizedNodes, cut_each, cut_job, kept_bins, sent};
-ghost use Rattle.bt_plan.specs.inside.Entering.{entered_job};
+ghost use Rattle.bt_plan.specs.Views.{IsCut, job_of, node_place};
+ghost use Rattle.bt_plan.specs.inside.Cutting.{AreSizedNodes, cut_job, cut_marked, kept_bins, sent};
+ghost use Rattle.bt_plan.specs.inside.CutNodes.{cut_above, cut_loaded, job_at};
 
 use crate::holed::{Holed, HoledNode};
 use crate::job::{Job, Place};
@@ -25,32 +26,17 @@ use bt_messages::{Bins, Buffer, Merge, Packet, Share, Stream};
 use bt_node::{LARGEST_FANOUT, Mode, Node, Opened, Parts, Shape, Siblings, Step, Tree, open};
 use std::alloc::{AllocError, Global};
 
-// A node that messages enter, with those that were pending for it.
+// How a node is cut, or the children of one: in which mode, how many levels above the cut, and where it stands.
 #[derive(Drop)]
-struct Entered<V: Merge> {
-    place: Place,
-    node: Node<V>,
-    pending: Buffer<V>,
-    mode: Mode,
-}
-
-// Messages and, after those of their key, the first ones of a stream.
-fn with_front<V: Merge>(
+struct Cutting {
     alloc: Global,
-    pending: Buffer<V>,
-    stream: &mut Stream<V>,
-    count: usize,
-) -> Result<Buffer<V>, AllocError>
-    requires { count ≤ length stream.old }
-    ensures all { IfOk result (λ all. all ≡ with_messages (take count stream.old) pending) }
-    ensures left { OnOk result (stream.new ≡ drop count stream.old) }
-{
-    let mut all = pending;
-    all.add_front(alloc, stream, Share::new(count))?;
-    Ok(all)
+    shape: Shape,
+    mode: Mode,
+    depth: usize,
+    place: Place,
 }
 
-// The same as a packet. Where there are none before those of the stream, whole runs of it go into the packet.
+// Messages and, after those of their key, the first ones of a stream. Where there are none before those of the stream, whole runs of it go into the packet.
 fn packet_of<V: Merge>(
     alloc: Global,
     pending: Buffer<V>,
@@ -65,29 +51,32 @@ fn packet_of<V: Merge>(
     if pending.is_empty() {
         return stream.take_front(alloc, count);
     }
-    let all = with_front(alloc, pending, stream, count)?;
+    let mut all = pending;
+    all.add_front(alloc, stream, Share::new(count))?;
     Ok(Packet::from_buffer(alloc, all))
 }
 
 // Moves a node out of its tree, with the messages that it has and, after those, the first ones of a stream, as a job, and leaves a hole.
 fn move_out<V: Merge>(
-    alloc: Global,
-    entered: Entered<V>,
+    at: Cutting,
+    node: Node<V>,
+    pending: Buffer<V>,
     stream: &mut Stream<V>,
     count: usize,
     jobs: &mut Vec<Job<V>>,
 ) -> Result<HoledNode<V>, AllocError>
     requires enough { count ≤ length stream.old }
-    ensures hole { IfOk result (λ hole. hole ≡ pieces.hole (place_of entered.place)) }
-    ensures job { OnOk result (map job_of jobs.new.items ≡ map job_of jobs.old.items ++ sent (take count stream.old) (entered_job entered) ∷ []) }
+    ensures hole { IfOk result (λ hole. hole ≡ pieces.hole (node_place at.place)) }
+    ensures job { OnOk result (map job_of jobs.new.items ≡ map job_of jobs.old.items ++ sent (take count stream.old) (job_at at node pending) ∷ []) }
     ensures left { OnOk result (stream.new ≡ drop count stream.old) }
 {
-    let Entered {
-        place,
-        node,
-        pending,
+    let Cutting {
+        alloc,
+        shape: _shape,
         mode,
-    } = entered;
+        depth: _depth,
+        place,
+    } = at;
     let packet = packet_of(alloc, pending, stream, count)?;
     let hole = HoledNode::hole(place.copy());
     jobs.push(Job {
@@ -102,21 +91,16 @@ fn move_out<V: Merge>(
 // A child that is not flushed, and what is in its bin then.
 fn keep<V: Merge>(
     alloc: Global,
-    child: Entered<V>,
+    node: Node<V>,
+    pending: Buffer<V>,
     stream: &mut Stream<V>,
     share: Share,
 ) -> Result<(HoledNode<V>, Buffer<V>), AllocError>
     requires share { IsShare (weigh_of V.terms) stream.old share }
-    ensures node { IfOk result (λ kept. kept.0 ≡ pieces.whole child.node) }
-    ensures bin { IfOk result (λ kept. kept.1 ≡ with_messages (take share.count stream.old) child.pending) }
+    ensures node { IfOk result (λ kept. kept.0 ≡ pieces.whole node) }
+    ensures bin { IfOk result (λ kept. kept.1 ≡ with_messages (take share.count stream.old) pending) }
     ensures left { OnOk result (stream.new ≡ drop share.count stream.old) }
 {
-    let Entered {
-        place: _place,
-        node,
-        pending,
-        mode: _mode,
-    } = child;
     let mut bin = pending;
     bin.add_front(alloc, stream, share)?;
     Ok((HoledNode::whole(node), bin))
@@ -125,38 +109,34 @@ fn keep<V: Merge>(
 // A child of a node that is opened, and what is in its bin then: where it is marked, it is cut with all that is pending for it.
 #[cycle(cuts)]
 fn cut_child<V: Merge>(
-    alloc: Global,
-    shape: Shape,
-    depth: usize,
-    child: Entered<V>,
+    at: Cutting,
+    node: Node<V>,
+    pending: Buffer<V>,
     marked: bool,
     stream: &mut Stream<V>,
     share: Share,
     jobs: &mut Vec<Job<V>>,
 ) -> Result<(HoledNode<V>, Buffer<V>), AllocError>
-    requires sized { IsSized (weigh_of V.terms) shape child.node }
-    requires path { length child.place.path.items + depth ≤ DEEPEST_CUT }
+    requires sized { IsSized (weigh_of V.terms) at.shape node }
+    requires path { length at.place.path.items + at.depth ≤ DEEPEST_CUT }
     requires share { IsShare (weigh_of V.terms) stream.old share }
-    ensures child { IfOk result (λ cut. cut.0 ≡ with_holes hole_of (cond marked (cut_job (weigh_of V.terms) depth shape (sent (take share.count stream.old) (entered_job child))) (pieces.whole child.node))) }
-    ensures kept { IfOk result (λ cut. cut.1 ≡ cond marked [] (with_messages (take share.count stream.old) child.pending)) }
-    ensures jobs { OnOk result (map job_of jobs.new.items ≡ map job_of jobs.old.items ++ holes (cond marked (cut_job (weigh_of V.terms) depth shape (sent (take share.count stream.old) (entered_job child))) (pieces.whole child.node))) }
+    ensures child { IfOk result (λ cut. cut.0 ≡ with_holes hole_of (cut_marked (weigh_of V.terms) at.depth at.shape marked (sent (take share.count stream.old) (job_at at node pending)))) }
+    ensures kept { IfOk result (λ cut. cut.1 ≡ cond marked [] (with_messages (take share.count stream.old) pending)) }
+    ensures jobs { OnOk result (map job_of jobs.new.items ≡ map job_of jobs.old.items ++ holes (cut_marked (weigh_of V.terms) at.depth at.shape marked (sent (take share.count stream.old) (job_at at node pending)))) }
     ensures left { OnOk result (stream.new ≡ drop share.count stream.old) }
 {
     if !marked {
-        return keep(alloc, child, stream, share);
+        return keep(at.alloc, node, pending, stream, share);
     }
-    let node = cut_node(alloc, shape, depth, child, stream, share.count, jobs)?;
+    let alloc = at.alloc;
+    let node = cut_node(at, node, pending, stream, share.count, jobs)?;
     Ok((node, Buffer::new(alloc)))
 }
 
 // The children of a node that is opened, cut one by one, and what is left in their bins.
 #[cycle(cuts)]
 fn cut_children<V: Merge>(
-    alloc: Global,
-    shape: Shape,
-    depth: usize,
-    mode: Mode,
-    place: &Place,
+    at: &Cutting,
     nodes: Vec<Node<V>>,
     buffers: Vec<Buffer<V>>,
     marks: &[bool],
@@ -164,37 +144,37 @@ fn cut_children<V: Merge>(
     shares: &[Share],
     jobs: &mut Vec<Job<V>>,
 ) -> Result<(Vec<HoledNode<V>>, Bins<V>), AllocError>
-    requires sized { AreSizedNodes (weigh_of V.terms) shape nodes.items }
+    requires sized { AreSizedNodes (weigh_of V.terms) at.now.shape nodes.items }
     requires few { length nodes.items ≤ LARGEST_FANOUT }
     requires buffers { length buffers.items ≡ length nodes.items }
     requires marks { length marks.now ≡ length nodes.items }
     requires shares { length shares.now ≡ length nodes.items }
     requires weighed { AreShares (weigh_of V.terms) stream.old shares.now }
-    requires path { length place.now.path.items + depth < DEEPEST_CUT }
-    ensures children { IfOk result (λ cut. cut.0.items ≡ map (with_holes hole_of) (cut_each (weigh_of V.terms) depth mode shape (place_of place.now) 0 nodes.items (each_with (parted (counts shares.now) stream.old) buffers.items) marks.now)) }
+    requires path { length at.now.place.path.items + at.now.depth < DEEPEST_CUT }
+    ensures children { IfOk result (λ cut. cut.0.items ≡ map (with_holes hole_of) (cut_loaded (weigh_of V.terms) at.now nodes.items buffers.items stream.old shares.now marks.now)) }
     ensures bins { IfOk result (λ cut. cut.1 ≡ kept_bins (each_with (parted (counts shares.now) stream.old) buffers.items) marks.now) }
-    ensures jobs { OnOk result (map job_of jobs.new.items ≡ map job_of jobs.old.items ++ flat_map holes (cut_each (weigh_of V.terms) depth mode shape (place_of place.now) 0 nodes.items (each_with (parted (counts shares.now) stream.old) buffers.items) marks.now)) }
+    ensures jobs { OnOk result (map job_of jobs.new.items ≡ map job_of jobs.old.items ++ flat_map holes (cut_loaded (weigh_of V.terms) at.now nodes.items buffers.items stream.old shares.now marks.now)) }
     ensures left { OnOk result (stream.new ≡ drop (total (counts shares.now)) stream.old) }
 {
-    let mut children = Vec::with_capacity(alloc, nodes.len())?;
-    let mut kept = Vec::with_capacity(alloc, nodes.len())?;
+    let mut children = Vec::with_capacity(at.alloc, nodes.len())?;
+    let mut kept = Vec::with_capacity(at.alloc, nodes.len())?;
     let mut buffers = buffers.into_iter();
     let mut number = 0;
     for node in nodes {
         let Some(pending) = buffers.next() else {
             unreachable!()
         };
-        let child = Entered {
-            place: place.child(number as u16),
-            node,
-            pending,
-            mode,
+        let below = Cutting {
+            alloc: at.alloc,
+            shape: at.shape,
+            mode: at.mode,
+            depth: at.depth,
+            place: at.place.child(number as u16),
         };
         let (child, left) = cut_child(
-            alloc,
-            shape,
-            depth,
-            child,
+            below,
+            node,
+            pending,
             marks[number],
             stream,
             shares[number],
@@ -207,15 +187,11 @@ fn cut_children<V: Merge>(
     Ok((children, Bins::from_buffers(kept)))
 }
 
-// What is left of an inner node and the first messages of a stream, so many levels above the cut: where messages go down from it, its children are cut one by
-// one.
+// What is left of an inner node and the first messages of a stream: where messages go down from it, its children are cut one by one, so many levels above the
+// cut.
 #[cycle(cuts)]
 fn cut_inner<V: Merge>(
-    alloc: Global,
-    shape: Shape,
-    depth: usize,
-    mode: Mode,
-    place: &Place,
+    at: &Cutting,
     children: Siblings<V>,
     bins: Bins<V>,
     stream: &mut Stream<V>,
@@ -223,14 +199,16 @@ fn cut_inner<V: Merge>(
     jobs: &mut Vec<Job<V>>,
 ) -> Result<HoledNode<V>, AllocError>
     requires lie { LieBetween (pivots_of children) bins }
-    requires sized { IsSized (weigh_of V.terms) shape (inner (nodes children) (joined bins)) }
-    requires path { length place.now.path.items + depth < DEEPEST_CUT }
+    requires sized { IsSized (weigh_of V.terms) at.now.shape (inner (nodes children) (concatenation bins)) }
+    requires path { length at.now.place.path.items + at.now.depth < DEEPEST_CUT }
     requires enough { count ≤ length stream.old }
-    ensures holed { IfOk result (λ holed. holed ≡ with_holes hole_of (cut_out (weigh_of V.terms) (suc depth) mode shape (place_of place.now) (inner (nodes children) (joined bins)) (take count stream.old))) }
-    ensures jobs { OnOk result (map job_of jobs.new.items ≡ map job_of jobs.old.items ++ holes (cut_out (weigh_of V.terms) (suc depth) mode shape (place_of place.now) (inner (nodes children) (joined bins)) (take count stream.old))) }
+    ensures holed { IfOk result (λ holed. holed ≡ with_holes hole_of (cut_above (weigh_of V.terms) at.now (inner (nodes children) (concatenation bins)) (take count stream.old))) }
+    ensures jobs { OnOk result (map job_of jobs.new.items ≡ map job_of jobs.old.items ++ holes (cut_above (weigh_of V.terms) at.now (inner (nodes children) (concatenation bins)) (take count stream.old))) }
     ensures left { OnOk result (stream.new ≡ drop count stream.old) }
 {
-    let opened = match open(alloc, shape, mode, children, bins, stream, count)? {
+    // Called for its contract: no shape has more children than a child's number can say.
+    let _most = at.shape.fanout();
+    let opened = match open(at.alloc, at.shape, at.mode, children, bins, stream, count)? {
         Step::Stays(node) => return Ok(HoledNode::whole(node)),
         Step::Opens(opened) => opened,
     };
@@ -241,11 +219,7 @@ fn cut_inner<V: Merge>(
     } = opened;
     let (nodes, pivots, buffers) = children.apart();
     let (children, bins) = cut_children(
-        alloc,
-        shape,
-        depth,
-        mode,
-        place,
+        at,
         nodes,
         buffers,
         marks.as_slice(),
@@ -256,57 +230,38 @@ fn cut_inner<V: Merge>(
     Ok(HoledNode::opened(children, pivots, bins))
 }
 
-// A node and the messages that it has, with the first ones of a stream after them, so many levels above the cut. Where it has none, those of the stream
-// stay there on the way down.
+// A node and the messages that it has, with the first ones of a stream after them. Where it has none, those of the stream stay there on the way down.
 #[cycle(cuts)]
 fn cut_node<V: Merge>(
-    alloc: Global,
-    shape: Shape,
-    depth: usize,
-    entered: Entered<V>,
+    at: Cutting,
+    node: Node<V>,
+    pending: Buffer<V>,
     stream: &mut Stream<V>,
     count: usize,
     jobs: &mut Vec<Job<V>>,
 ) -> Result<HoledNode<V>, AllocError>
-    requires sized { IsSized (weigh_of V.terms) shape entered.node }
-    requires path { length entered.place.path.items + depth ≤ DEEPEST_CUT }
+    requires sized { IsSized (weigh_of V.terms) at.shape node }
+    requires path { length at.place.path.items + at.depth ≤ DEEPEST_CUT }
     requires enough { count ≤ length stream.old }
-    ensures holed { IfOk result (λ holed. holed ≡ with_holes hole_of (cut_job (weigh_of V.terms) depth shape (sent (take count stream.old) (entered_job entered)))) }
-    ensures jobs { OnOk result (map job_of jobs.new.items ≡ map job_of jobs.old.items ++ holes (cut_job (weigh_of V.terms) depth shape (sent (take count stream.old) (entered_job entered)))) }
+    ensures holed { IfOk result (λ holed. holed ≡ with_holes hole_of (cut_job (weigh_of V.terms) at.depth at.shape (sent (take count stream.old) (job_at at node pending)))) }
+    ensures jobs { OnOk result (map job_of jobs.new.items ≡ map job_of jobs.old.items ++ holes (cut_job (weigh_of V.terms) at.depth at.shape (sent (take count stream.old) (job_at at node pending)))) }
     ensures left { OnOk result (stream.new ≡ drop count stream.old) }
 {
-    if depth == 0 {
-        return move_out(alloc, entered, stream, count, jobs);
+    if at.depth == 0 {
+        return move_out(at, node, pending, stream, count, jobs);
     }
     let _in_order = stream.len();
-    let Entered {
-        place,
-        node,
-        pending,
-        mode,
-    } = entered;
     match node.apart() {
-        Parts::Leaf(node) => {
-            let leaf = Entered {
-                place,
-                node,
-                pending,
-                mode,
-            };
-            move_out(alloc, leaf, stream, count, jobs)
-        }
+        Parts::Leaf(node) => move_out(at, node, pending, stream, count, jobs),
         Parts::Inner { children, bins } => {
-            let below = depth - 1;
+            let mut below = at;
+            below.depth -= 1;
             if pending.is_empty() {
-                return cut_inner(
-                    alloc, shape, below, mode, &place, children, bins, stream, count, jobs,
-                );
+                return cut_inner(&below, children, bins, stream, count, jobs);
             }
-            let mut own = with_front(alloc, pending, stream, count)?.into_stream();
+            let mut own = packet_of(below.alloc, pending, stream, count)?.into_stream();
             let count = own.len();
-            cut_inner(
-                alloc, shape, below, mode, &place, children, bins, &mut own, count, jobs,
-            )
+            cut_inner(&below, children, bins, &mut own, count, jobs)
         }
     }
 }
@@ -330,14 +285,15 @@ pub fn cut<V: Merge>(
 {
     let (shape, root) = tree.apart();
     let mut jobs = Vec::new(alloc);
-    let whole = Entered {
-        place: Place::root(tree_number),
-        node: root,
-        pending: Buffer::new(alloc),
+    let at = Cutting {
+        alloc,
+        shape,
         mode,
+        depth,
+        place: Place::root(tree_number),
     };
     let mut stream = packet.into_stream();
     let count = stream.len();
-    let root = cut_node(alloc, shape, depth, whole, &mut stream, count, &mut jobs)?;
+    let root = cut_node(at, root, Buffer::new(alloc), &mut stream, count, &mut jobs)?;
     Ok((Holed::new(shape, root), jobs))
 }

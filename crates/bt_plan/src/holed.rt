@@ -13,10 +13,11 @@
 //! node with holes below it is opened: it keeps its children, the pivots between them, and what is left in their bins. A contract sees the bins, one after the
 //! other, as the node's buffer.
 ghost use Rattle.std.specs.Prelude.{◌≡◌, ◌+◌, length};
-ghost use Rattle.bt_messages.specs.Bins.{LieBetween, joined};
+ghost use Rattle.bt_rowtype.specs.Lists.{concatenation};
+ghost use Rattle.bt_messages.specs.Bins.{LieBetween};
 ghost use Rattle.bt_node.specs.Trees.{behind};
 ghost use Rattle.bt_plan.specs.Pieces as pieces;
-ghost use Rattle.bt_plan.specs.Views.{IsDivided, holed_of, place_of};
+ghost use Rattle.bt_plan.specs.Views.{HasPivotsAndBins, holed_of, node_place};
 
 use crate::job::Place;
 use bt_keycode::Key;
@@ -60,11 +61,11 @@ impl<V: Merge> Model for HoledNode<V> {
 
     ghost view = { λ n. holed_of n.parts };
 
-    ghost use Rattle.bt_plan.specs.Views.{IsDivided};
+    ghost use Rattle.bt_plan.specs.Views.{HasPivotsAndBins};
 
-    ghost invariant = { λ n. IsDivided n.parts };
+    ghost invariant = { λ n. HasPivotsAndBins n.parts };
 
-    ghost use Rattle.bt_plan.specs.inside.DepthBounds.{depth_bound};
+    ghost use Rattle.bt_plan.specs.DepthBounds.{depth_bound};
 
     ghost size = { depth_bound };
 
@@ -85,7 +86,7 @@ impl<V: Merge> HoledNode<V> {
 
     /// A hole where a node stood.
     pub(crate) fn hole(place: Place) -> Self
-        ensures { result ≡ pieces.hole (place_of place) }
+        ensures { result ≡ pieces.hole (node_place place) }
     {
         HoledNode {
             parts: HoledParts::Hole(place),
@@ -96,7 +97,7 @@ impl<V: Merge> HoledNode<V> {
     pub(crate) fn opened(children: Vec<HoledNode<V>>, pivots: Vec<Key>, bins: Bins<V>) -> Self
         requires one_fewer { length children.items ≡ length pivots.items + 1 }
         requires divided { LieBetween pivots.items bins }
-        ensures { result ≡ pieces.opened (pieces.holed_nodes (behind pivots.items children.items)) (joined bins) }
+        ensures { result ≡ pieces.opened (pieces.holed_nodes (behind pivots.items children.items)) (concatenation bins) }
     {
         HoledNode {
             parts: HoledParts::Opened {
@@ -110,7 +111,7 @@ impl<V: Merge> HoledNode<V> {
     /// What the node consists of, to be looked at.
     pub fn parts(&self) -> &HoledParts<V>
         ensures parts { self.now ≡ holed_of result.now }
-        ensures divided { IsDivided result.now }
+        ensures divided { HasPivotsAndBins result.now }
     {
         &self.parts
     }
@@ -118,7 +119,7 @@ impl<V: Merge> HoledNode<V> {
     /// What the node consists of.
     pub fn into_parts(self) -> HoledParts<V>
         ensures parts { self ≡ holed_of result }
-        ensures divided { IsDivided result }
+        ensures divided { HasPivotsAndBins result }
     {
         let HoledNode { parts } = self;
         parts

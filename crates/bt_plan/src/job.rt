@@ -1,10 +1,10 @@
 //! What is moved out of a tree: a node with the messages that go down to it.
 ghost use Rattle.std.specs.Prelude.{◌≡◌, ◌<◌, length};
 ghost use Rattle.bt_plan.specs.Cuts.{child_place, root_place};
-ghost use Rattle.bt_plan.specs.Pieces.{place_cmp};
-ghost use Rattle.bt_plan.specs.Views.{place_of};
+ghost use Rattle.bt_plan.specs.Pieces.{node_place_cmp};
+ghost use Rattle.bt_plan.specs.Views.{node_place};
 
-use crate::copies::copied;
+use crate::arrays::array_copy;
 use arrayvec::ArrayVec;
 use bt_gang::DEEPEST_CUT;
 use bt_messages::{Merge, Packet};
@@ -21,7 +21,7 @@ pub struct Place {
 impl Place {
     // The root of a tree.
     pub(crate) fn root(tree: u16) -> Self
-        ensures { place_of result ≡ root_place tree }
+        ensures { node_place result ≡ root_place tree }
     {
         Place {
             tree,
@@ -31,17 +31,17 @@ impl Place {
 
     /// A copy of the place.
     pub fn copy(&self) -> Self
-        ensures { place_of result ≡ place_of self.now }
+        ensures { node_place result ≡ node_place self.now }
     {
         Place {
             tree: self.tree,
-            path: copied(self.path.as_slice()),
+            path: array_copy(self.path.as_slice()),
         }
     }
 
     /// The order of two places: by tree, and within a tree from left to right.
     pub fn compare(&self, other: &Place) -> Ordering
-        ensures { result ≡ place_cmp (place_of self.now) (place_of other.now) }
+        ensures { result ≡ node_place_cmp (node_place self.now) (node_place other.now) }
     {
         let by_path = self.path.as_slice().cmp(other.path.as_slice());
         self.tree.cmp(&other.tree).then(by_path)
@@ -50,7 +50,7 @@ impl Place {
     // The child with this number.
     pub(crate) fn child(&self, number: u16) -> Self
         requires { length self.now.path.items < DEEPEST_CUT }
-        ensures { place_of result ≡ child_place (place_of self.now) number }
+        ensures { node_place result ≡ child_place (node_place self.now) number }
     {
         let mut place = self.copy();
         place.path.push(number);

@@ -12,7 +12,7 @@ use Rattle.bt_rowtype.specs.declared.value.Form.{Form}
 use Rattle.bt_rowtype.specs.declared.value.Form.TheVariants as form
 use Rattle.bt_rowtype.specs.declared.value.Kind.{Kind}
 use Rattle.bt_rowtype.specs.declared.value.Value.{Value}
-use Rattle.bt_rowtype.specs.inside.Packing.{IsPacked, content_at, first_of, int_bytes, int_from, packed, packed_content, offset_of, packed_value, unpacked, unpacked_by, value_tagged, width_in, width_of, HasFirst, IsAt}
+use Rattle.bt_rowtype.specs.inside.Packing.{IsPacked, content_at, first_of, int_bytes, int_from, packed_values, packed_content, offset_of, packed_value, unpacked, unpacked_by, value_tagged, width_in, width_of, HasFirst, IsAt}
 use Rattle.bt_rowtype.proofs.offered.Kinds.{form_held, tagged, tagged_next, with_content}
 
 pub length_int_bytes : (n : ℤ) → length (int_bytes n) ≡ 8
@@ -85,30 +85,30 @@ step most v more fits =
     ∙ ap (λ z. z ∷ unpacked_by most (drop (width_of (packed_value v ++ more)) (packed_value v ++ more))) (first-packed v more fits)
     ∙ ap (λ z. v ∷ unpacked_by most z) (rest-packed v more)
 
-unpacked_by-packed : (most : ℕ) (vs : List Value) → AreInRange vs → length (packed vs) ≤ most → unpacked_by most (packed vs) ≡ vs
+unpacked_by-packed : (most : ℕ) (vs : List Value) → AreInRange vs → length (packed_values vs) ≤ most → unpacked_by most (packed_values vs) ≡ vs
 unfolding unpacked_by
 unpacked_by-packed zero [] fits enough = refl
 unpacked_by-packed (suc most) [] fits enough = refl
-unpacked_by-packed zero (v ∷ vs) fits enough = absurd (omega (arith, length-append (packed_value v) (packed vs), some_width v))
+unpacked_by-packed zero (v ∷ vs) fits enough = absurd (omega (arith, length-append (packed_value v) (packed_values vs), some_width v))
 unpacked_by-packed (suc most) (v ∷ vs) fits enough =
-    step most v (packed vs) fits.0 ∙ ap (λ z. v ∷ z) (unpacked_by-packed most vs fits.1 (omega (arith, length-append (packed_value v) (packed vs), some_width v)))
+    step most v (packed_values vs) fits.0 ∙ ap (λ z. v ∷ z) (unpacked_by-packed most vs fits.1 (omega (arith, length-append (packed_value v) (packed_values vs), some_width v)))
 
 -- values come back from their bytes
-pub unpacked-packed : (vs : List Value) → AreInRange vs → unpacked (packed vs) ≡ vs
+pub unpacked-packed : (vs : List Value) → AreInRange vs → unpacked (packed_values vs) ≡ vs
 unfolding unpacked
-unpacked-packed vs fits = unpacked_by-packed (length (packed vs)) vs fits (omega arith)
+unpacked-packed vs fits = unpacked_by-packed (length (packed_values vs)) vs fits (omega arith)
 
-pub are_packed : (vs : List Value) → AreInRange vs → IsPacked (packed vs)
+pub are_packed : (vs : List Value) → AreInRange vs → IsPacked (packed_values vs)
 are_packed vs fits = record {
   in_range = subst AreInRange (sym (unpacked-packed vs fits)) fits;
-  same = ap packed (unpacked-packed vs fits);
+  same = ap packed_values (unpacked-packed vs fits);
 }
 
 -- ---- values side by side
 
-pub packed-append : (vs ws : List Value) → packed (vs ++ ws) ≡ packed vs ++ packed ws
+pub packed-append : (vs ws : List Value) → packed_values (vs ++ ws) ≡ packed_values vs ++ packed_values ws
 packed-append [] ws = refl
-packed-append (v ∷ vs) ws = ap (λ z. packed_value v ++ z) (packed-append vs ws) ∙ sym (append_assoc (packed_value v) (packed vs) (packed ws))
+packed-append (v ∷ vs) ws = ap (λ z. packed_value v ++ z) (packed-append vs ws) ∙ sym (append_assoc (packed_value v) (packed_values vs) (packed_values ws))
 
 pub in_range-append : (vs ws : List Value) → AreInRange vs → AreInRange ws → AreInRange (vs ++ ws)
 in_range-append [] ws f g = g
@@ -126,25 +126,25 @@ in_range-drop (suc n) (v ∷ vs) f = in_range-drop n vs f.1
 
 -- ---- the first value
 
-has_first-packed : (v : Value) (vs : List Value) → AreInRange (v ∷ vs) → HasFirst (packed (v ∷ vs))
+has_first-packed : (v : Value) (vs : List Value) → AreInRange (v ∷ vs) → HasFirst (packed_values (v ∷ vs))
 has_first-packed v vs fits =
-    let width = width-packed v (packed vs) in
-    let first = first-packed v (packed vs) fits.0 in
-    let rest = rest-packed v (packed vs) in
+    let width = width-packed v (packed_values vs) in
+    let first = first-packed v (packed_values vs) fits.0 in
+    let rest = rest-packed v (packed_values vs) in
     record {
-      within = omega (arith, width, length-append (packed_value v) (packed vs));
+      within = omega (arith, width, length-append (packed_value v) (packed_values vs));
       some = omega (arith, width, some_width v);
       width = ap (λ z. length (packed_value z)) first ∙ sym width;
-      front = ap packed_value first ∙ sym (ap (λ w. take w (packed_value v ++ packed vs)) width ∙ take-append_seam (packed_value v) (packed vs));
+      front = ap packed_value first ∙ sym (ap (λ w. take w (packed_value v ++ packed_values vs)) width ∙ take-append_seam (packed_value v) (packed_values vs));
       values =
           unpacked-packed (v ∷ vs) fits
-          ∙ sym (ap (λ z. z ∷ unpacked (drop (width_of (packed_value v ++ packed vs)) (packed_value v ++ packed vs))) first
+          ∙ sym (ap (λ z. z ∷ unpacked (drop (width_of (packed_value v ++ packed_values vs)) (packed_value v ++ packed_values vs))) first
           ∙ ap (λ z. v ∷ unpacked z) rest ∙ ap (λ z. v ∷ z) (unpacked-packed vs fits.1));
       in_range = subst IsInRange (sym first) fits.0;
       rest = subst IsPacked (sym rest) (are_packed vs fits.1);
     }
 
-has_first_of : (vs : List Value) → AreInRange vs → 0 < length (packed vs) → HasFirst (packed vs)
+has_first_of : (vs : List Value) → AreInRange vs → 0 < length (packed_values vs) → HasFirst (packed_values vs)
 has_first_of [] fits some = absurd (omega arith)
 has_first_of (v ∷ vs) fits some = has_first-packed v vs fits
 
@@ -153,16 +153,16 @@ has_first bytes h some = subst HasFirst h.same (has_first_of (unpacked bytes) h.
 
 -- ---- the value at a place
 
-seam : (n : ℕ) (vs : List Value) → packed vs ≡ packed (take n vs) ++ packed (drop n vs)
-seam n vs = ap packed (sym (take-append-drop n vs)) ∙ packed-append (take n vs) (drop n vs)
+seam : (n : ℕ) (vs : List Value) → packed_values vs ≡ packed_values (take n vs) ++ packed_values (drop n vs)
+seam n vs = ap packed_values (sym (take-append-drop n vs)) ∙ packed-append (take n vs) (drop n vs)
 
-is_at-packed : (vs : List Value) (n : ℕ) → AreInRange vs → IsAt (packed vs) n (offset_of n vs)
+is_at-packed : (vs : List Value) (n : ℕ) → AreInRange vs → IsAt (packed_values vs) n (offset_of n vs)
 is_at-packed vs n fits =
     let back = unpacked-packed vs fits in
-    let rest : drop (offset_of n vs) (packed vs) ≡ packed (drop n vs) = ap (drop (offset_of n vs)) (seam n vs) ∙ drop-append_seam (packed (take n vs)) (packed (drop n vs)) in
+    let rest : drop (offset_of n vs) (packed_values vs) ≡ packed_values (drop n vs) = ap (drop (offset_of n vs)) (seam n vs) ∙ drop-append_seam (packed_values (take n vs)) (packed_values (drop n vs)) in
     record {
-      within = omega (arith, ap length (seam n vs), length-append (packed (take n vs)) (packed (drop n vs)));
-      front = ap (λ z. packed (take n z)) back ∙ sym (ap (take (offset_of n vs)) (seam n vs) ∙ take-append_seam (packed (take n vs)) (packed (drop n vs)));
+      within = omega (arith, ap length (seam n vs), length-append (packed_values (take n vs)) (packed_values (drop n vs)));
+      front = ap (λ z. packed_values (take n z)) back ∙ sym (ap (take (offset_of n vs)) (seam n vs) ∙ take-append_seam (packed_values (take n vs)) (packed_values (drop n vs)));
       values = ap unpacked rest ∙ unpacked-packed (drop n vs) (in_range-drop n vs fits) ∙ sym (ap (drop n) back);
       rest = subst IsPacked (sym rest) (are_packed (drop n vs) (in_range-drop n vs fits));
     }
@@ -171,5 +171,5 @@ pub is_at : (bytes : List ℕ) (place : ℕ) → IsPacked bytes → IsAt bytes p
 is_at bytes place h = subst (λ z. IsAt z place (offset_of place (unpacked bytes))) h.same (is_at-packed (unpacked bytes) place h.in_range)
 
 -- the number of the bytes of values
-pub length_packed : (v : Value) (vs : List Value) → length (packed (v ∷ vs)) ≡ length (packed_value v) + length (packed vs)
-length_packed v vs = length-append (packed_value v) (packed vs)
+pub length_packed : (v : Value) (vs : List Value) → length (packed_values (v ∷ vs)) ≡ length (packed_value v) + length (packed_values vs)
+length_packed v vs = length-append (packed_value v) (packed_values vs)

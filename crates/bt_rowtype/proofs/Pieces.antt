@@ -3,38 +3,38 @@ use Rattle.std.proofs.Common.{◌≡◌, ℕ, zero, suc, ◌-◌, ◌<◌, ◌�
 use Rattle.std.proofs.lemmas.List.{drop_all, take-append-le, drop-append-le}
 use Rattle.std.proofs.Math.Seq.{drop-append_seam, take-length}
 use Rattle.bt_rowtype.specs.inside.Pieces.{LieWithin, part, pieces}
-use Rattle.bt_rowtype.specs.declared.fields.Place.{Place}
+use Rattle.bt_rowtype.specs.declared.record.fields.FieldSpan.{FieldSpan}
 
-pub length_pieces : (bytes : List ℕ) (places : List Place) → length (pieces bytes places) ≡ length places
+pub length_pieces : (bytes : List ℕ) (spans : List FieldSpan) → length (pieces bytes spans) ≡ length spans
 length_pieces bytes [] = refl
 length_pieces bytes (p ∷ ps) = ap suc (length_pieces bytes ps)
 
-pub piece_at : (bytes : List ℕ) (places : List Place) (i : ℕ) (d : Place) → i < length places → slice_get (pieces bytes places) i ≡ Some (part bytes (get_or places i d))
+pub piece_at : (bytes : List ℕ) (spans : List FieldSpan) (i : ℕ) (d : FieldSpan) → i < length spans → slice_get (pieces bytes spans) i ≡ Some (part bytes (get_or spans i d))
 piece_at bytes [] i d within = absurd (omega (arith, within))
 piece_at bytes (p ∷ ps) zero d within = refl
 piece_at bytes (p ∷ ps) (suc i) d within = piece_at bytes ps i d (omega (arith, within))
 
-pub in_bounds : (size : ℕ) (places : List Place) (i : ℕ) (d : Place) → LieWithin size places → i < length places → ((get_or places i d).start ≤ (get_or places i d).end) × ((get_or places i d).end ≤ size)
+pub in_bounds : (size : ℕ) (spans : List FieldSpan) (i : ℕ) (d : FieldSpan) → LieWithin size spans → i < length spans → ((get_or spans i d).start ≤ (get_or spans i d).end) × ((get_or spans i d).end ≤ size)
 in_bounds size [] i d within l = absurd (omega (arith, l))
 in_bounds size (p ∷ ps) zero d within l = (within.0, within.1)
 in_bounds size (p ∷ ps) (suc i) d within l = in_bounds size ps i d within.2 (omega (arith, l))
 
--- places within a size lie within a greater one
-pub wider : (size more : ℕ) (places : List Place) → size ≤ more → LieWithin size places → LieWithin more places
+-- spans within a size lie within a greater one
+pub wider : (size more : ℕ) (spans : List FieldSpan) → size ≤ more → LieWithin size spans → LieWithin more spans
 wider size more [] le within = tt
 wider size more (p ∷ ps) le within = (within.0, omega (arith, le, within.1), wider size more ps le within.2)
 
 -- one more place
-pub more_places : (size : ℕ) (places : List Place) (p : Place) → LieWithin size places → p.start ≤ p.end → p.end ≤ size → LieWithin size (places ++ p ∷ [])
-more_places size [] p within s e = (s, e, tt)
-more_places size (q ∷ qs) p within s e = (within.0, within.1, more_places size qs p within.2 s e)
+pub more_spans : (size : ℕ) (spans : List FieldSpan) (p : FieldSpan) → LieWithin size spans → p.start ≤ p.end → p.end ≤ size → LieWithin size (spans ++ p ∷ [])
+more_spans size [] p within s e = (s, e, tt)
+more_spans size (q ∷ qs) p within s e = (within.0, within.1, more_spans size qs p within.2 s e)
 
-pub more_pieces : (bytes : List ℕ) (places : List Place) (p : Place) → pieces bytes (places ++ p ∷ []) ≡ pieces bytes places ++ part bytes p ∷ []
+pub more_pieces : (bytes : List ℕ) (spans : List FieldSpan) (p : FieldSpan) → pieces bytes (spans ++ p ∷ []) ≡ pieces bytes spans ++ part bytes p ∷ []
 more_pieces bytes [] p = refl
 more_pieces bytes (q ∷ qs) p = ap (λ (l : List (List ℕ)). part bytes q ∷ l) (more_pieces bytes qs p)
 
--- more bytes behind places leave the parts as they are
-pub more_bytes : (bytes more : List ℕ) (places : List Place) → LieWithin (length bytes) places → pieces (bytes ++ more) places ≡ pieces bytes places
+-- more bytes behind spans leave the parts as they are
+pub more_bytes : (bytes more : List ℕ) (spans : List FieldSpan) → LieWithin (length bytes) spans → pieces (bytes ++ more) spans ≡ pieces bytes spans
 more_bytes bytes more [] within = refl
 more_bytes bytes more (p ∷ ps) within =
     let first : part (bytes ++ more) p ≡ part bytes p =
@@ -47,48 +47,48 @@ pub last_part : (bytes : List ℕ) (start : ℕ) → take (length bytes - start)
 last_part bytes start = ap (λ n. take n (drop start bytes)) (sym (length-drop start bytes)) ∙ take-length (drop start bytes)
 
 -- one more part, behind bytes that are added for it
-pub pushed : (bytes more : List ℕ) (places : List Place) (p : Place) → LieWithin (length bytes) places → p.start ≡ length bytes → p.end ≡ length (bytes ++ more)
-    → pieces (bytes ++ more) (places ++ p ∷ []) ≡ pieces bytes places ++ more ∷ []
-pushed bytes more places p within starts ends =
+pub pushed : (bytes more : List ℕ) (spans : List FieldSpan) (p : FieldSpan) → LieWithin (length bytes) spans → p.start ≡ length bytes → p.end ≡ length (bytes ++ more)
+    → pieces (bytes ++ more) (spans ++ p ∷ []) ≡ pieces bytes spans ++ more ∷ []
+pushed bytes more spans p within starts ends =
     let start : drop p.start (bytes ++ more) ≡ more = ap (λ n. drop n (bytes ++ more)) starts ∙ drop-append_seam bytes more in
     let size : p.end - p.start ≡ length more = omega (arith, starts, ends, length-append bytes more) in
     let last : part (bytes ++ more) p ≡ more = rw (size, start) (take-length more) in
-    more_pieces (bytes ++ more) places p ∙ ap (λ (f : List ℕ). pieces (bytes ++ more) places ++ f ∷ []) last ∙ ap (λ (l : List (List ℕ)). l ++ more ∷ []) (more_bytes bytes more places within)
+    more_pieces (bytes ++ more) spans p ∙ ap (λ (f : List ℕ). pieces (bytes ++ more) spans ++ f ∷ []) last ∙ ap (λ (l : List (List ℕ)). l ++ more ∷ []) (more_bytes bytes more spans within)
 
-pub pushed_within : (bytes more : List ℕ) (places : List Place) (p : Place) → LieWithin (length bytes) places → p.start ≡ length bytes → p.end ≡ length (bytes ++ more)
-    → LieWithin (length (bytes ++ more)) (places ++ p ∷ [])
-pushed_within bytes more places p within starts ends =
+pub pushed_within : (bytes more : List ℕ) (spans : List FieldSpan) (p : FieldSpan) → LieWithin (length bytes) spans → p.start ≡ length bytes → p.end ≡ length (bytes ++ more)
+    → LieWithin (length (bytes ++ more)) (spans ++ p ∷ [])
+pushed_within bytes more spans p within starts ends =
     let grown : length bytes ≤ length (bytes ++ more) = omega (arith, length-append bytes more) in
-    more_places (length (bytes ++ more)) places p (wider (length bytes) (length (bytes ++ more)) places grown within) (omega (arith, starts, ends, grown)) (omega (arith, ends))
+    more_spans (length (bytes ++ more)) spans p (wider (length bytes) (length (bytes ++ more)) spans grown within) (omega (arith, starts, ends, grown)) (omega (arith, ends))
 
 -- ---- the bytes of fields one after the other, and those of the field at hand behind them
 
-pub same_fields : (bytes new : List ℕ) (places places_new : List Place) → new ≡ bytes → places_new ≡ places → pieces new places_new ≡ pieces bytes places
-same_fields bytes new places places_new b p = rw (b, p) refl
+pub same_fields : (bytes new : List ℕ) (spans spans_new : List FieldSpan) → new ≡ bytes → spans_new ≡ spans → pieces new spans_new ≡ pieces bytes spans
+same_fields bytes new spans spans_new b p = rw (b, p) refl
 
 pub same_field : (bytes new : List ℕ) (start start_new : ℕ) → new ≡ bytes → start_new ≡ start → drop start_new new ≡ drop start bytes
 same_field bytes new start start_new b s = rw (b, s) refl
 
 -- one more byte of the field at hand
-pub copied_fields : (bytes new : List ℕ) (places places_new : List Place) (start byte : ℕ) → LieWithin start places → start ≤ length bytes → new ≡ bytes ++ byte ∷ [] → places_new ≡ places
-    → pieces new places_new ≡ pieces bytes places
-copied_fields bytes new places places_new start byte within starts b p = rw (b, p) (more_bytes bytes (byte ∷ []) places (wider start (length bytes) places starts within))
+pub copied_fields : (bytes new : List ℕ) (spans spans_new : List FieldSpan) (start byte : ℕ) → LieWithin start spans → start ≤ length bytes → new ≡ bytes ++ byte ∷ [] → spans_new ≡ spans
+    → pieces new spans_new ≡ pieces bytes spans
+copied_fields bytes new spans spans_new start byte within starts b p = rw (b, p) (more_bytes bytes (byte ∷ []) spans (wider start (length bytes) spans starts within))
 
 pub copied_field : (bytes new : List ℕ) (start start_new byte : ℕ) → start ≤ length bytes → new ≡ bytes ++ byte ∷ [] → start_new ≡ start → drop start_new new ≡ drop start bytes ++ byte ∷ []
 copied_field bytes new start start_new byte starts b s = rw (b, s) (drop-append-le start bytes (byte ∷ []) starts)
 
 -- the end of the field at hand
-pub ended_fields : (bytes new : List ℕ) (places places_new : List Place) (start end : ℕ) → new ≡ bytes → places_new ≡ places ++ record { start = start; end = end } ∷ [] → end ≡ length bytes
-    → pieces new places_new ≡ pieces bytes places ++ drop start bytes ∷ []
-ended_fields bytes new places places_new start end b p e =
-    let q : Place = record { start = start; end = end } in
+pub ended_fields : (bytes new : List ℕ) (spans spans_new : List FieldSpan) (start end : ℕ) → new ≡ bytes → spans_new ≡ spans ++ record { start = start; end = end } ∷ [] → end ≡ length bytes
+    → pieces new spans_new ≡ pieces bytes spans ++ drop start bytes ∷ []
+ended_fields bytes new spans spans_new start end b p e =
+    let q : FieldSpan = record { start = start; end = end } in
     let last : part bytes q ≡ drop start bytes = ap (λ n. take (n - start) (drop start bytes)) e ∙ last_part bytes start in
-    same_fields bytes new (places ++ q ∷ []) places_new b p ∙ more_pieces bytes places q ∙ ap (λ (f : List ℕ). pieces bytes places ++ f ∷ []) last
+    same_fields bytes new (spans ++ q ∷ []) spans_new b p ∙ more_pieces bytes spans q ∙ ap (λ (f : List ℕ). pieces bytes spans ++ f ∷ []) last
 
-pub ended_within : (size : ℕ) (places places_new : List Place) (start end : ℕ) → LieWithin start places → start ≤ end → end ≡ size → places_new ≡ places ++ record { start = start; end = end } ∷ []
-    → LieWithin size places_new
-ended_within size places places_new start end within starts e p =
-    rw p (more_places size places (record { start = start; end = end }) (wider start size places (omega (arith, starts, e)) within) starts (omega (arith, e)))
+pub ended_within : (size : ℕ) (spans spans_new : List FieldSpan) (start end : ℕ) → LieWithin start spans → start ≤ end → end ≡ size → spans_new ≡ spans ++ record { start = start; end = end } ∷ []
+    → LieWithin size spans_new
+ended_within size spans spans_new start end within starts e p =
+    rw p (more_spans size spans (record { start = start; end = end }) (wider start size spans (omega (arith, starts, e)) within) starts (omega (arith, e)))
 
 pub none_left : (bytes new : List ℕ) (start : ℕ) → new ≡ bytes → start ≡ length bytes → drop start new ≡ []
 none_left bytes new start b s = rw b (drop_all start bytes (omega (arith, s)))

@@ -11,7 +11,7 @@ use Rattle.csv.proofs.RoundTrip.{start-same, record-same}
 use Rattle.bt_rowtype.specs.inside.Pieces.{part, pieces}
 use Rattle.bt_rowtype.specs.Records.{csv_record}
 use Rattle.bt_rowtype.specs.inside.RecordParts.{fields_in, is_special, parts_of}
-use Rattle.bt_rowtype.specs.declared.fields.Place.{Place}
+use Rattle.bt_rowtype.specs.declared.record.fields.FieldSpan.{FieldSpan}
 use Rattle.bt_rowtype.proofs.Pieces.{more_pieces}
 
 or-left : (a b : Bool) → (a || b) ≡ false → a ≡ false
@@ -99,46 +99,46 @@ part_none : (text : List ℕ) (place : ℕ) → part text (record { start = plac
 part_none text place = let none : place - place ≡ 0 = omega arith in ap (λ n. take n (drop place text)) none
 
 -- the parts so far, the part at hand, and those of what is left
-abbrev pub Cut : List ℕ → List Place → ℕ → ℕ → Type 0
-Cut text places start place = parts_of text ≡ pieces text places ++ before_first_part (part text (record { start = start; end = place })) (parts_of (drop place text))
+abbrev pub Cut : List ℕ → List FieldSpan → ℕ → ℕ → Type 0
+Cut text spans start place = parts_of text ≡ pieces text spans ++ before_first_part (part text (record { start = start; end = place })) (parts_of (drop place text))
 
 pub cut_start : (text : List ℕ) → Cut text [] 0 0
 cut_start text = sym (nil-first (parts_of text))
 
-pub cut_comma : (text : List ℕ) (places : List Place) (start place : ℕ) → place < length text → get_or text place 0 ≡ 44 → Cut text places start place
-    → Cut text (places ++ record { start = start; end = place } ∷ []) (place + 1) (place + 1)
-cut_comma text places start place within comma so_far =
-    let p : Place = record { start = start; end = place } in
+pub cut_comma : (text : List ℕ) (spans : List FieldSpan) (start place : ℕ) → place < length text → get_or text place 0 ≡ 44 → Cut text spans start place
+    → Cut text (spans ++ record { start = start; end = place } ∷ []) (place + 1) (place + 1)
+cut_comma text spans start place within comma so_far =
+    let p : FieldSpan = record { start = start; end = place } in
     let rest = parts_of (drop (place + 1) text) in
     let split : parts_of (get_or text place 0 ∷ drop (place + 1) text) ≡ [] ∷ rest = rw comma refl in
     let here : parts_of (drop place text) ≡ [] ∷ rest = parts_here text place within ∙ split in
-    so_far ∙ ap (λ (l : List (List ℕ)). pieces text places ++ before_first_part (part text p) l) here
-    ∙ ap (λ (f : List ℕ). pieces text places ++ f ∷ rest) (append-nil (part text p))
-    ∙ sym (append_assoc (pieces text places) (part text p ∷ []) rest)
-    ∙ ap (λ (l : List (List ℕ)). l ++ rest) (sym (more_pieces text places p))
-    ∙ ap (λ (l : List (List ℕ)). pieces text (places ++ p ∷ []) ++ l) (sym (nil-first rest))
-    ∙ ap (λ (f : List ℕ). pieces text (places ++ p ∷ []) ++ before_first_part f rest) (sym (part_none text (place + 1)))
+    so_far ∙ ap (λ (l : List (List ℕ)). pieces text spans ++ before_first_part (part text p) l) here
+    ∙ ap (λ (f : List ℕ). pieces text spans ++ f ∷ rest) (append-nil (part text p))
+    ∙ sym (append_assoc (pieces text spans) (part text p ∷ []) rest)
+    ∙ ap (λ (l : List (List ℕ)). l ++ rest) (sym (more_pieces text spans p))
+    ∙ ap (λ (l : List (List ℕ)). pieces text (spans ++ p ∷ []) ++ l) (sym (nil-first rest))
+    ∙ ap (λ (f : List ℕ). pieces text (spans ++ p ∷ []) ++ before_first_part f rest) (sym (part_none text (place + 1)))
 
-pub cut_other : (text : List ℕ) (places : List Place) (start place : ℕ) → start ≤ place → place < length text → (get_or text place 0 == 44) ≡ false → Cut text places start place
-    → Cut text places start (place + 1)
-cut_other text places start place le within other so_far =
+pub cut_other : (text : List ℕ) (spans : List FieldSpan) (start place : ℕ) → start ≤ place → place < length text → (get_or text place 0 == 44) ≡ false → Cut text spans start place
+    → Cut text spans start (place + 1)
+cut_other text spans start place le within other so_far =
     let b = get_or text place 0 in
     let rest = parts_of (drop (place + 1) text) in
     let split : parts_of (b ∷ drop (place + 1) text) ≡ onto_first b rest = rw other refl in
     let here : parts_of (drop place text) ≡ onto_first b rest = parts_here text place within ∙ split in
     let some = parts-some (drop (place + 1) text) in
     let field = part text (record { start = start; end = place }) in
-    so_far ∙ ap (λ (l : List (List ℕ)). pieces text places ++ before_first_part field l) here
-    ∙ ap (λ (l : List (List ℕ)). pieces text places ++ l) (sym (more-first field b rest some.0 some.1 some.2))
-    ∙ ap (λ (f : List ℕ). pieces text places ++ before_first_part f rest) (sym (part_more text start place le within))
+    so_far ∙ ap (λ (l : List (List ℕ)). pieces text spans ++ before_first_part field l) here
+    ∙ ap (λ (l : List (List ℕ)). pieces text spans ++ l) (sym (more-first field b rest some.0 some.1 some.2))
+    ∙ ap (λ (f : List ℕ). pieces text spans ++ before_first_part f rest) (sym (part_more text start place le within))
 
-pub cut_end : (text : List ℕ) (places : List Place) (start place : ℕ) → place ≡ length text → Cut text places start place → parts_of text ≡ pieces text (places ++ record { start = start; end = length text } ∷ [])
-cut_end text places start place end so_far =
-    let p : Place = record { start = start; end = place } in
+pub cut_end : (text : List ℕ) (spans : List FieldSpan) (start place : ℕ) → place ≡ length text → Cut text spans start place → parts_of text ≡ pieces text (spans ++ record { start = start; end = length text } ∷ [])
+cut_end text spans start place end so_far =
+    let p : FieldSpan = record { start = start; end = place } in
     let none : drop place text ≡ [] = drop_all place text (omega (arith, end)) in
-    so_far ∙ ap (λ (l : List ℕ). pieces text places ++ before_first_part (part text p) (parts_of l)) none
-    ∙ ap (λ (f : List ℕ). pieces text places ++ f ∷ []) (append-nil (part text p))
-    ∙ sym (more_pieces text places p) ∙ ap (λ n. pieces text (places ++ record { start = start; end = n } ∷ [])) end
+    so_far ∙ ap (λ (l : List ℕ). pieces text spans ++ before_first_part (part text p) (parts_of l)) none
+    ∙ ap (λ (f : List ℕ). pieces text spans ++ f ∷ []) (append-nil (part text p))
+    ∙ sym (more_pieces text spans p) ∙ ap (λ n. pieces text (spans ++ record { start = start; end = n } ∷ [])) end
 
 -- a byte that is none of the special ones
 pub plain_more : (text : List ℕ) (place : ℕ) → place < length text → is_special (get_or text place 0) ≡ false → list_any is_special (drop place text) ≡ list_any is_special (drop (place + 1) text)

@@ -17,7 +17,7 @@ use Rattle.bt_rowtype.specs.Records.{csv_record}
 use Rattle.bt_rowtype.specs.Ops.{all_read, both_read, is_upsert, key_as, most_ops, op_of, ops_as, ops_of, upsert_as}
 use Rattle.bt_rowtype.specs.Schemas.{Schema}
 use Rattle.bt_rowtype.specs.Values.{or_refused, value_of, values_of}
-use Rattle.bt_rowtype.specs.declared.op.Op.{Op}
+use Rattle.bt_rowtype.specs.declared.upsert.op.Op.{Op}
 use Rattle.bt_rowtype.specs.declared.refusal.Refusal.TheVariants.{BadField, BadLength}
 use Rattle.bt_rowtype.specs.declared.refusal.Refusal.{Refusal}
 use Rattle.bt_rowtype.proofs.ReadFits.{both_true}

@@ -12,9 +12,9 @@ use Rattle.bt_rowtype.specs.Ops.{action_fault, at_column, both_read, making_of, 
 use Rattle.bt_rowtype.specs.inside.Fits.{OpFits, OpsFit}
 use Rattle.bt_rowtype.specs.Schemas.{Schema, fit_columns, fits_kind}
 use Rattle.bt_rowtype.specs.Values.{value_of, with_first}
-use Rattle.bt_rowtype.specs.declared.op.Arithmetic.{Arithmetic}
-use Rattle.bt_rowtype.specs.declared.op.Op.{Op}
-use Rattle.bt_rowtype.specs.declared.op.Op.TheVariants.{Set}
+use Rattle.bt_rowtype.specs.declared.upsert.op.Arithmetic.{Arithmetic}
+use Rattle.bt_rowtype.specs.declared.upsert.op.Op.{Op}
+use Rattle.bt_rowtype.specs.declared.upsert.op.Op.TheVariants.{Set}
 use Rattle.bt_rowtype.specs.declared.refusal.Refusal.{Refusal}
 use Rattle.bt_rowtype.specs.declared.refusal.Refusal.TheVariants.{BadField}
 use Rattle.bt_rowtype.specs.declared.schema.Column.{Column}

@@ -4,13 +4,13 @@ use Rattle.std.proofs.lemmas.List.{drop-drop, drop_all}
 use Rattle.bt_rowtype.specs.Arithmetic.{Makes, new_number, new_value}
 use Rattle.bt_rowtype.specs.Kinds.{form_of, kind_of, kind_of_tag, tag_of}
 use Rattle.bt_rowtype.specs.Ops.{after_action}
-use Rattle.bt_rowtype.specs.declared.op.Arithmetic.{Arithmetic}
+use Rattle.bt_rowtype.specs.declared.upsert.op.Arithmetic.{Arithmetic}
 use Rattle.bt_rowtype.specs.declared.value.Kind.TheVariants as kind
 use Rattle.bt_rowtype.specs.declared.value.Value.{Value}
 use Rattle.bt_rowtype.specs.declared.value.Value.TheVariants as value
-use Rattle.bt_rowtype.specs.inside.Numbers.{number_of}
+use Rattle.bt_rowtype.specs.inside.Numbers.{int_number}
 use Rattle.bt_rowtype.specs.Values.{AreInRange, IsInRange}
-use Rattle.bt_rowtype.specs.inside.Packing.{IsAt, IsPacked, content_at, first_of, int_bytes, int_from, packed, packed_value, unpacked, value_tagged, width_in, width_of}
+use Rattle.bt_rowtype.specs.inside.Packing.{IsAt, IsPacked, content_at, first_of, int_bytes, int_from, packed_values, packed_value, unpacked, value_tagged, width_in, width_of}
 use Rattle.bt_rowtype.proofs.offered.Kinds.{int_tag, kind_with, number_kind}
 use Rattle.bt_rowtype.proofs.Packing.{are_packed, has_first, in_range-append, in_range-take, packed-append, unpacked-packed}
 use Rattle.bt_rowtype.proofs.Walks.{take_one_more, unpacked_none}
@@ -26,7 +26,7 @@ set_dropped (suc n) [] v w rest e = (cc)
 set_dropped (suc n) (u ∷ vs) v w rest e = ap (λ z. u ∷ z) (set_dropped n vs v w rest e)
 
 replaced_are : (old : List ℕ) (place at : ℕ) (v : Value) → IsPacked old → IsAt old place at → at < length old → IsInRange v →
-    AreInRange (set (unpacked old) place v) × (packed (set (unpacked old) place v) ≡ take at old ++ (packed_value v ++ drop (at + width_of (drop at old)) old))
+    AreInRange (set (unpacked old) place v) × (packed_values (set (unpacked old) place v) ≡ take at old ++ (packed_value v ++ drop (at + width_of (drop at old)) old))
 replaced_are old place at v h here more fits =
     let vs = unpacked old in
     let first = has_first (drop at old) here.rest (omega (arith, length-drop at old)) in
@@ -36,8 +36,8 @@ replaced_are old place at v h here more fits =
     let replaced = set_dropped place (unpacked old) _ v rest values in
     let fits_rest : AreInRange rest = first.rest.in_range in (
       subst AreInRange (sym replaced) (in_range-append (take place (unpacked old)) (v ∷ rest) (in_range-take place (unpacked old) h.in_range) (fits, fits_rest)),
-      ap packed replaced ∙ packed-append (take place (unpacked old)) (v ∷ rest)
-          ∙ ap (λ z. z ++ (packed_value v ++ packed rest)) here.front
+      ap packed_values replaced ∙ packed-append (take place (unpacked old)) (v ∷ rest)
+          ∙ ap (λ z. z ++ (packed_value v ++ packed_values rest)) here.front
           ∙ ap (λ z. take at old ++ (packed_value v ++ z)) (first.rest.same ∙ drop-drop width at old),
     )
 
@@ -70,11 +70,11 @@ width_fits [] h = omega arith
 width_fits (b ∷ bs) h = (has_first (b ∷ bs) h (omega arith)).within
 
 -- the tag of an int
-tag_of_int : (tag : ℕ) (bs : List ℕ) (n : ℤ) → number_of (first_of (tag ∷ bs)) ≡ Some n → kind_of_tag tag ≡ kind.Int
+tag_of_int : (tag : ℕ) (bs : List ℕ) (n : ℤ) → int_number (first_of (tag ∷ bs)) ≡ Some n → kind_of_tag tag ≡ kind.Int
 tag_of_int tag bs n e =
     sym (kind_with (kind_of_tag tag) (content_at (form_of (kind_of_tag tag)) (tag == tag_of (kind_of_tag tag) + 1) bs)) ∙ ap kind_of (number_kind (first_of (tag ∷ bs)) n e)
 
-int_first : (bytes : List ℕ) (n : ℤ) → number_of (first_of bytes) ≡ Some n → (first_of bytes ≡ value.Int n) × (width_of bytes ≡ 9) × (bytes ≡ 0 ∷ drop 1 bytes)
+int_first : (bytes : List ℕ) (n : ℤ) → int_number (first_of bytes) ≡ Some n → (first_of bytes ≡ value.Int n) × (width_of bytes ≡ 9) × (bytes ≡ 0 ∷ drop 1 bytes)
 int_first [] n e = absurd (cc)
 int_first (tag ∷ bs) n e =
     let k = tag_of_int tag bs n e in
@@ -84,14 +84,14 @@ int_first (tag ∷ bs) n e =
 pub int_width : (tag : ℕ) (bs : List ℕ) → kind_of_tag tag ≡ kind.Int → width_of (tag ∷ bs) ≡ 9
 int_width tag bs is = ap (λ k. width_in (form_of k) bs) is
 
-pub is_number : (tag : ℕ) (bs : List ℕ) → kind_of_tag tag ≡ kind.Int → Some (int_from bs) ≡ number_of (first_of (tag ∷ bs))
-is_number tag bs is = sym (ap (λ k. number_of (value_tagged k tag bs)) is)
+pub is_number : (tag : ℕ) (bs : List ℕ) → kind_of_tag tag ≡ kind.Int → Some (int_from bs) ≡ int_number (first_of (tag ∷ bs))
+is_number tag bs is = sym (ap (λ k. int_number (value_tagged k tag bs)) is)
 
 -- what begins with another tag is no int
-pub no_number : (tag : ℕ) (bs : List ℕ) → (kind_of_tag tag ≡ kind.Int → ⊥) → None ≡ number_of (first_of (tag ∷ bs))
-no_number tag bs other = by_number (number_of (first_of (tag ∷ bs))) refl
+pub no_number : (tag : ℕ) (bs : List ℕ) → (kind_of_tag tag ≡ kind.Int → ⊥) → None ≡ int_number (first_of (tag ∷ bs))
+no_number tag bs other = by_number (int_number (first_of (tag ∷ bs))) refl
   where
-    by_number : (o : Option ℤ) → number_of (first_of (tag ∷ bs)) ≡ o → None ≡ o
+    by_number : (o : Option ℤ) → int_number (first_of (tag ∷ bs)) ≡ o → None ≡ o
     by_number None e = refl
     by_number (Some n) e = absurd (other (tag_of_int tag bs n e))
 
@@ -109,7 +109,7 @@ pub record HasInt (bytes : List ℕ) (place at : ℕ) (m : ℤ) : Type 0 where
   pub front : take (at + 1) bytes ≡ take at bytes ++ 0 ∷ []
   pub old : (d : Value) → get_or (unpacked bytes) place d ≡ value.Int m
 
-pub has_int : (bytes : List ℕ) (place at : ℕ) (m : ℤ) → IsAt bytes place at → number_of (first_of (drop at bytes)) ≡ Some m → HasInt bytes place at m
+pub has_int : (bytes : List ℕ) (place at : ℕ) (m : ℤ) → IsAt bytes place at → int_number (first_of (drop at bytes)) ≡ Some m → HasInt bytes place at m
 has_int bytes place at m here e =
     let found = int_first (drop at bytes) m e in
     let fits = width_fits (drop at bytes) here.rest in
@@ -130,13 +130,13 @@ written old new place at m k has e = record {
       ∙ ap (λ w. take at old ++ (0 ∷ (int_bytes k ++ drop (at + w) old))) (sym has.width);
 }
 
-pub made_packed : (old new : List ℕ) (place at : ℕ) (m k : ℤ) → IsPacked old → IsAt old place at → number_of (first_of (drop at old)) ≡ Some m → SFits w64 k →
+pub made_packed : (old new : List ℕ) (place at : ℕ) (m k : ℤ) → IsPacked old → IsAt old place at → int_number (first_of (drop at old)) ≡ Some m → SFits w64 k →
     new ≡ take (at + 1) old ++ (int_bytes k ++ drop (at + 9) old) → IsPacked new
 made_packed old new place at m k h here e fits r =
     let has = has_int old place at m here e in
     replaced_packed old new place at (value.Int k) h here has.more fits (written old new place at m k has r)
 
-pub made_values : (old new : List ℕ) (arithmetic : Arithmetic) (place at : ℕ) (m n k : ℤ) → IsPacked old → IsAt old place at → number_of (first_of (drop at old)) ≡ Some m → SFits w64 k →
+pub made_values : (old new : List ℕ) (arithmetic : Arithmetic) (place at : ℕ) (m n k : ℤ) → IsPacked old → IsAt old place at → int_number (first_of (drop at old)) ≡ Some m → SFits w64 k →
     k ≡ new_number arithmetic m n → new ≡ take (at + 1) old ++ (int_bytes k ++ drop (at + 9) old) → unpacked new ≡ after_action (unpacked old) (Makes arithmetic place n)
 made_values old new arithmetic place at m n k h here e fits is r =
     let has = has_int old place at m here e in

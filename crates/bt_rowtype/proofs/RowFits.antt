@@ -8,8 +8,8 @@ use Rattle.bt_rowtype.specs.Ops.{action_fault, after_action, after_op, number_fa
 use Rattle.bt_rowtype.specs.inside.Fits.{OpFits}
 use Rattle.bt_rowtype.specs.Schemas.{Schema, fit_columns, fits_kind}
 use Rattle.bt_rowtype.specs.Values.{default_of}
-use Rattle.bt_rowtype.specs.declared.op.Arithmetic.{Arithmetic}
-use Rattle.bt_rowtype.specs.declared.op.Op.{Op}
+use Rattle.bt_rowtype.specs.declared.upsert.op.Arithmetic.{Arithmetic}
+use Rattle.bt_rowtype.specs.declared.upsert.op.Op.{Op}
 use Rattle.bt_rowtype.specs.declared.refusal.Refusal.TheVariants.{BadField}
 use Rattle.bt_rowtype.specs.declared.schema.Column.{Column}
 use Rattle.bt_rowtype.specs.declared.value.Kind.{Kind}

@@ -5,7 +5,7 @@ use Rattle.std.proofs.lemmas.Bool.{cases_lt, ne_eqb}
 use Rattle.std.proofs.lemmas.List.{take_all, drop_all}
 use Rattle.bt_rowtype.specs.declared.value.Value.{Value}
 use Rattle.bt_rowtype.specs.Values.{IsInRange}
-use Rattle.bt_rowtype.specs.inside.Packing.{IsAt, IsPacked, first_of, offset_of, packed, packed_value, unpacked, unpacked_by, width_of}
+use Rattle.bt_rowtype.specs.inside.Packing.{IsAt, IsPacked, first_of, offset_of, packed_values, packed_value, unpacked, unpacked_by, width_of}
 use Rattle.bt_rowtype.proofs.Packing.{are_packed, has_first, in_range-append, in_range-take, is_at, packed-append, unpacked-packed}
 
 pub unpacked_none : unpacked [] ≡ []
@@ -37,8 +37,8 @@ next_offset bytes passed h more =
     let first = has_first (drop at bytes) here.rest (omega (arith, length-drop at bytes)) in
     let values : drop passed (unpacked bytes) ≡ first_of (drop at bytes) ∷ unpacked (drop (width_of (drop at bytes)) (drop at bytes)) = sym here.values ∙ first.values in
     let taken = take_one_more passed (unpacked bytes) _ _ values in
-    let joined = ap packed taken ∙ packed-append (take passed (unpacked bytes)) (first_of (drop at bytes) ∷ []) in (
-      omega (arith, ap length joined, length-append (packed (take passed (unpacked bytes))) (packed_value (first_of (drop at bytes)) ++ []), length-append (packed_value (first_of (drop at bytes))) [], first.width),
+    let joined = ap packed_values taken ∙ packed-append (take passed (unpacked bytes)) (first_of (drop at bytes) ∷ []) in (
+      omega (arith, ap length joined, length-append (packed_values (take passed (unpacked bytes))) (packed_value (first_of (drop at bytes)) ++ []), length-append (packed_value (first_of (drop at bytes))) [], first.width),
       omega (arith, ap length values, length-drop passed (unpacked bytes)),
     )
 
@@ -69,7 +69,7 @@ pub walk_ended : (bytes : List ℕ) (passed at place : ℕ) → IsPacked bytes �
 walk_ended bytes passed at place h w all up_to =
     let count = walked_all bytes passed at h w all in
     let same : at ≡ offset_of place (unpacked bytes) =
-    w.offset ∙ ap (λ z. length (packed z)) (take_all passed (unpacked bytes) (omega (arith, count)) ∙ sym (take_all place (unpacked bytes) (omega (arith, count, up_to)))) in
+    w.offset ∙ ap (λ z. length (packed_values z)) (take_all passed (unpacked bytes) (omega (arith, count)) ∙ sym (take_all place (unpacked bytes) (omega (arith, count, up_to)))) in
     subst (IsAt bytes place) (sym same) (is_at bytes place h)
 
 first_dropped : (n : ℕ) (vs : List Value) (v : Value) (rest : List Value) → drop n vs ≡ v ∷ rest → slice_get vs n ≡ Some v
@@ -127,13 +127,13 @@ none_packed = are_packed [] tt
 
 pub pushed_packed : (bytes : List ℕ) (v : Value) → IsPacked bytes → IsInRange v → IsPacked (bytes ++ packed_value v)
 pushed_packed bytes v h fits =
-    let joined : packed (unpacked bytes ++ v ∷ []) ≡ bytes ++ packed_value v =
+    let joined : packed_values (unpacked bytes ++ v ∷ []) ≡ bytes ++ packed_value v =
     packed-append (unpacked bytes) (v ∷ []) ∙ ap (λ z. z ++ (packed_value v ++ [])) h.same ∙ ap (λ z. bytes ++ z) (append-nil (packed_value v)) in
     subst IsPacked joined (are_packed _ (in_range-append (unpacked bytes) (v ∷ []) h.in_range (fits, tt)))
 
 pub pushed : (bytes : List ℕ) (v : Value) → IsPacked bytes → IsInRange v → unpacked (bytes ++ packed_value v) ≡ unpacked bytes ++ v ∷ []
 pushed bytes v h fits =
-    let joined : packed (unpacked bytes ++ v ∷ []) ≡ bytes ++ packed_value v =
+    let joined : packed_values (unpacked bytes ++ v ∷ []) ≡ bytes ++ packed_value v =
     packed-append (unpacked bytes) (v ∷ []) ∙ ap (λ z. z ++ (packed_value v ++ [])) h.same ∙ ap (λ z. bytes ++ z) (append-nil (packed_value v)) in
     sym (ap unpacked joined) ∙ unpacked-packed _ (in_range-append (unpacked bytes) (v ∷ []) h.in_range (fits, tt))
 
@@ -146,8 +146,8 @@ pub set_parts : (n : ℕ) (vs : List Value) (v : Value) → n < length vs → (t
 set_parts n vs v within = ap (λ z. (take n vs ++ v ∷ []) ++ drop (n + 1) z) (take_all (length vs) vs (omega arith)) ∙ set_around n vs v within
 
 -- bytes of values behind bytes of values
-join : (first second : List ℕ) → IsPacked first → IsPacked second → packed (unpacked first ++ unpacked second) ≡ first ++ second
-join first second f g = packed-append (unpacked first) (unpacked second) ∙ ap (λ z. z ++ packed (unpacked second)) f.same ∙ ap (λ z. first ++ z) g.same
+join : (first second : List ℕ) → IsPacked first → IsPacked second → packed_values (unpacked first ++ unpacked second) ≡ first ++ second
+join first second f g = packed-append (unpacked first) (unpacked second) ∙ ap (λ z. z ++ packed_values (unpacked second)) f.same ∙ ap (λ z. first ++ z) g.same
 
 pub joined_packed : (first second : List ℕ) → IsPacked first → IsPacked second → IsPacked (first ++ second)
 joined_packed first second f g = subst IsPacked (join first second f g) (are_packed _ (in_range-append (unpacked first) (unpacked second) f.in_range g.in_range))

@@ -4,7 +4,7 @@ use Rattle.bt_rowtype.proofs.offered.OnLiterals.{rowtype_on_literals}
 use Rattle.bt_rowtype.specs.Kinds.{text_of, value_of}
 use Rattle.bt_rowtype.specs.Ops.{after_ops, checked_ops, default_row, merged, ops_as, upsert_as}
 use Rattle.bt_rowtype.specs.Schemas.{Schema}
-use Rattle.bt_rowtype.specs.declared.op.Op.TheVariants.{Add, Max, Min, Set}
+use Rattle.bt_rowtype.specs.declared.upsert.op.Op.TheVariants.{Add, Max, Min, Set}
 use Rattle.bt_rowtype.specs.declared.refusal.Refusal.TheVariants.{BadField, BadLength, NoSuchColumn, NotInt}
 use Rattle.bt_rowtype.specs.declared.schema.Column.{Column}
 use Rattle.bt_rowtype.specs.declared.value.Kind.{Kind}

@@ -4,6 +4,7 @@ pub mod Arithmetic
 pub mod Hex
 pub mod Ints
 pub mod Kinds
+pub mod Lists
 pub mod Loads
 pub mod Ops
 pub mod Paddings

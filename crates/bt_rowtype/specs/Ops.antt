@@ -8,9 +8,9 @@ use Rattle.bt_rowtype.specs.Ints.{int_of}
 use Rattle.bt_rowtype.specs.Refusals.{least, lesser}
 use Rattle.bt_rowtype.specs.Schemas.{Schema, fits_kind}
 use Rattle.bt_rowtype.specs.Values.{default_of, or_refused, value_of, values_of}
-use Rattle.bt_rowtype.specs.declared.op.Arithmetic.{Arithmetic}
-use Rattle.bt_rowtype.specs.declared.op.Op.{Op}
-use Rattle.bt_rowtype.specs.declared.op.Op.TheVariants.{Set}
+use Rattle.bt_rowtype.specs.declared.upsert.op.Arithmetic.{Arithmetic}
+use Rattle.bt_rowtype.specs.declared.upsert.op.Op.{Op}
+use Rattle.bt_rowtype.specs.declared.upsert.op.Op.TheVariants.{Set}
 use Rattle.bt_rowtype.specs.declared.refusal.Refusal.{Refusal}
 use Rattle.bt_rowtype.specs.declared.refusal.Refusal.TheVariants.{BadField, BadLength, NoSuchColumn, NotInt}
 use Rattle.bt_rowtype.specs.declared.schema.Column.{Column}
@@ -25,11 +25,12 @@ use Rattle.bt_rowtype.specs.declared.value.Value.TheVariants as value
 abbrev pub default_row : Schema → List Value → List Value
 default_row schema key = key ++ map (λ c. default_of c.kind) (drop schema.keys schema.columns)
 
--- a row after one operation; a place that the row hasn't stays as it is
+-- a row after what one operation does; a place that the row hasn't stays as it is
 abbrev pub after_action : List Value → Action → List Value
 after_action row (Sets place new) = set row place new
 after_action row (Makes arithmetic place n) = set row place (new_value arithmetic n (get_or row place (value.Int (pos 0))))
 
+-- a row after an operation
 abbrev pub after_op : List Value → Op → List Value
 after_op row op = after_action row (action_of op)
 
@@ -42,19 +43,22 @@ after_ops (op ∷ ops) row = after_ops ops (after_op row op)
 abbrev pub set_word : List ℕ
 set_word = codes "set"
 
--- the word of an operation, its place, and its argument: the value that it sets, or its number
+-- the word of an operation
 abbrev pub word_in : Action → List ℕ
 word_in (Sets place new) = set_word
 word_in (Makes arithmetic place n) = word_of arithmetic
 
+-- the place of the column that is changed
 abbrev pub place_in : Action → ℕ
 place_in (Sets place new) = place
 place_in (Makes arithmetic place n) = place
 
+-- the value that is set, or the number
 abbrev pub argument_in : Action → Value
 argument_in (Sets place new) = new
 argument_in (Makes arithmetic place n) = value.Int n
 
+-- the same of an operation
 abbrev pub argument_of : Op → Value
 argument_of op = argument_in (action_of op)
 
@@ -88,6 +92,7 @@ abbrev pub making_of_kind : Arithmetic → ℕ → List ℕ → ℕ → Kind →
 making_of_kind arithmetic item argument place kind.Int = or_refused (BadField item) (option_map (op_making arithmetic place) (int_of argument))
 making_of_kind arithmetic item argument place other = Err NotInt
 
+-- the same at a column, by its place and kind
 abbrev pub making_of : Arithmetic → ℕ → List ℕ → ℕ × Kind → Result Op Refusal
 making_of arithmetic item argument column = making_of_kind arithmetic item argument column.0 column.1
 
@@ -158,20 +163,23 @@ upsert_as schema item fields =
 abbrev pub open_kind : Schema → ℕ → Option Kind
 open_kind schema place = if nat_le schema.keys place then option_map (λ c. c.kind) (slice_get schema.columns place) else None
 
--- the fault of an operation, if it has one
+-- the fault of setting a value, in a column of this kind; no kind stands for no column that may be changed
 abbrev pub set_fault : ℕ → Value → Option Kind → Option Refusal
 set_fault item new None = Some NoSuchColumn
 set_fault item new (Some kind) = if fits_kind kind new then None else Some (BadField item)
 
+-- the same of making a number
 abbrev pub number_fault : Option Kind → Option Refusal
 number_fault None = Some NoSuchColumn
 number_fault (Some kind.Int) = None
 number_fault (Some other) = Some NotInt
 
+-- the fault of what an operation does, if it has one
 abbrev pub action_fault : Schema → ℕ → Action → Option Refusal
 action_fault schema item (Sets place new) = set_fault item new (open_kind schema place)
 action_fault schema item (Makes arithmetic place n) = number_fault (open_kind schema place)
 
+-- the fault of an operation, if it has one
 abbrev pub fault_of : Schema → ℕ → Op → Option Refusal
 fault_of schema item op = action_fault schema item (action_of op)
 

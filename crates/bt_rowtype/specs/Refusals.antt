@@ -60,6 +60,7 @@ item_of other = None
 abbrev pub is_lesser : Refusal → Refusal → Bool
 is_lesser a b = if number_of a == number_of b then nat_lt (unwrap_or (item_of a) 0) (unwrap_or (item_of b) 0) else nat_lt (number_of a) (number_of b)
 
+-- which of two is answered, the first where they are equal
 abbrev pub lesser : Refusal → Refusal → Refusal
 lesser a b = if is_lesser b a then b else a
 

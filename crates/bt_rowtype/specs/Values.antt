@@ -27,6 +27,7 @@ values_of [] (field ∷ fields) = None
 values_of (column ∷ columns) [] = None
 values_of (column ∷ columns) (field ∷ fields) = with_first (value_of column.kind field) (values_of columns fields)
 
+-- what was read, or this refusal where nothing was
 abbrev pub or_refused : {T : Type 0} → Refusal → Option T → Result T Refusal
 or_refused refusal None = Err refusal
 or_refused refusal (Some value) = Ok value
@@ -68,10 +69,11 @@ same_content a b = false
 abbrev pub same_kind : Kind → Kind → Bool
 same_kind a b = tag_of a == tag_of b
 
--- whether two values, and whether two lists of values, are the same
+-- whether two values are the same
 abbrev pub same_value : Value → Value → Bool
 same_value a b = same_kind (kind_of a) (kind_of b) && same_content (content_of a) (content_of b)
 
+-- whether two lists of values are
 abbrev pub same_values : List Value → List Value → Bool
 same_values = pointwise same_value
 
@@ -87,6 +89,7 @@ AreTaken kind (Number n) = Unit {0}
 AreTaken kind (Bytes bytes) = takes kind bytes ≡ true
 AreTaken kind (Bit bit) = Unit {0}
 
+-- the same of a value
 abbrev pub HasBytes : Value → Type 0
 HasBytes v = AreTaken (kind_of v) (content_of v)
 

@@ -2,8 +2,8 @@
 use Rattle.bt_rowtype.specs.Arithmetic as arithmetic
 use Rattle.bt_rowtype.specs.Kinds.{Content, Number, Bytes, Bit}
 pub use Rattle.bt_rowtype.specs.Kinds.{shown}
-use Rattle.bt_rowtype.specs.declared.op.Action as lent_action
-use Rattle.bt_rowtype.specs.declared.op.Action.TheVariants as action
+use Rattle.bt_rowtype.specs.declared.upsert.op.Action as lent_action
+use Rattle.bt_rowtype.specs.declared.upsert.op.Action.TheVariants as action
 use Rattle.bt_rowtype.specs.declared.value.Content as lent
 use Rattle.bt_rowtype.specs.declared.value.Content.TheVariants as lent_in
 

@@ -6,7 +6,7 @@ ghost use Rattle.bt_rowtype.specs.Ops.{unless};
 ghost use Rattle.bt_rowtype.specs.Refusals.{least_from};
 
 use crate::refusal::{Refusal, least_with};
-use crate::sequence::Sequence;
+use crate::value::sequence::Sequence;
 use std::alloc::{AllocError, Global};
 
 /// What was read so far.

@@ -1,12 +1,15 @@
 //! Which rows of a table are asked for, as a script spells it.
-use crate::bytes::Bytes;
-use crate::text::Text;
+use crate::value::bytes::Bytes;
+use crate::value::text::Text;
 
 /// How the value of a column is compared with a constant.
 #[derive(Clone, Copy, Debug, PartialEq, Eq)]
 pub enum Test {
+    /// The value is the constant.
     Equal,
+    /// It comes before it in the order of its kind.
     Less,
+    /// It is the constant or comes after it.
     AtLeast,
 }
 
@@ -15,6 +18,7 @@ pub enum Test {
 pub struct Filter {
     /// The name of the column.
     pub column: Text,
+    /// How its value is compared.
     pub test: Test,
     /// The bytes of a field, which spells a value of the column.
     pub constant: Bytes,

@@ -3,11 +3,12 @@
 //! A field of a record is read by the kind of its column and becomes a [`Value`]: an int, a text, a flag or bytes. A record
 //! becomes a [`Row`], or is refused with a number, a name and the item at fault. A row is printed as one record. The record of
 //! an upsert becomes a key and operations ([`Op`]), which change single columns of a row, or with the row to begin with a [`Change`].
-//! The records of a CSV text are lent one after the other ([`Records`]).
+//! The records of a CSV text are lent one after the other ([`Records`]). A [`RecordReader`] reads lines without owned fields between;
+//! [`read_row`], [`read_key`], [`read_ops`] and [`read_upsert`] answer the same of [`Fields`] that a caller has.
 //!
 //! A kind has a form ([`Form`]): its values are kept, ordered and coded as a number, as bytes or as a bit ([`Content`]). What is
-//! said of single kinds stands in one file, `value.rt`, and of single operations in `op.rt`; elsewhere, operations that make a number,
-//! and sums, ask whether a value is an int.
+//! said of single kinds stands in one file, `value.rt`, and of single operations in `upsert/op.rt`; elsewhere, operations that make a
+//! number, and sums, ask whether a value is an int.
 //!
 //! ```text
 //! let mut columns = Columns::new(alloc);
@@ -31,73 +32,48 @@
 //! ```
 #![tactic(auto)]
 
-// Values with their bytes.
-mod binary;
-mod bytes;
-mod copies;
-mod field;
-mod hex;
-mod int;
-mod packed;
+// Values, and rows of them.
 mod row;
-mod row_bytes;
-mod sequence;
-mod text;
 mod value;
-mod values;
 
 // Records, over csv.
-mod cut;
-mod fields;
-mod line;
-mod plain_field;
-mod reader;
-mod record_writer;
-mod records;
+mod record;
 
 // Schemas, operations and refusals, and reading records by these.
-mod apply;
-mod arguments;
-mod arithmetic;
-mod change;
 mod collected;
 mod filter;
-mod header;
 mod item;
-mod lent_row;
-mod op;
-mod op_faults;
-mod plain_row;
 mod record_reader;
 mod refusal;
-mod row_reader;
 mod schema;
 mod upsert;
 
-pub use apply::{apply_ops, default_row};
-pub use arguments::Arguments;
-pub use binary::Binary;
-pub use bytes::Bytes;
-pub use change::{Change, copy_change};
 pub use collected::Collected;
-pub use copies::{TryClone, clone_all};
-pub use field::read_field;
-pub use fields::Fields;
 pub use filter::{Filter, Test};
-pub use hex::write_hex;
 pub use item::Item;
-pub use line::{RecordLine, read_record};
-pub use op::{Action, Arithmetic, MOST_OPS, Op, Ops};
-pub use op_faults::check_ops;
+pub use record::fields::Fields;
+pub use record::line::{RecordLine, read_record};
+pub use record::record_writer::{write_record, write_row};
+pub use record::records::Records;
 pub use record_reader::RecordReader;
-pub use record_writer::{write_record, write_row};
-pub use records::Records;
 pub use refusal::{Refusal, least_with};
+pub use row::row_reader::{read_key, read_row};
 pub use row::{Row, copy_row};
-pub use row_reader::{read_key, read_row};
 pub use schema::{Column, Columns, MOST_COLUMNS, MOST_KEYS, Schema, find_column};
-pub use sequence::Sequence;
-pub use text::{MOST_VALUE_BYTES, Text, Texts};
+pub use upsert::apply::{apply_ops, default_row};
+pub use upsert::arguments::Arguments;
+pub use upsert::change::{Change, copy_change};
+pub use upsert::op::{Action, Arithmetic, MOST_OPS, Op, Ops};
+pub use upsert::op_faults::check_ops;
 pub use upsert::{Upsert, read_ops, read_upsert};
+pub use value::binary::Binary;
+pub use value::bytes::{Bytes, SHORT_BYTES};
+pub use value::field::read_field;
+pub use value::growing_bytes::GrowingBytes;
+pub use value::hex::write_hex;
+pub use value::number::write_number;
+pub use value::sequence::Sequence;
+pub use value::text::{MOST_VALUE_BYTES, Text, Texts};
+pub use value::try_clone::{TryClone, clone_all};
+pub use value::values::{Values, compare_values, same_values};
 pub use value::{Content, Form, Kind, Value, ValueRef};
-pub use values::{Values, compare_values, same_values};

@@ -1,5 +1,5 @@
 //! Reading lines by a schema, one after the other.
-ghost use Rattle.std.specs.Prelude.{◌≡◌, ◌<◌, is_some, length, take, true, IfNone, IfOk, IfSome};
+ghost use Rattle.std.specs.Prelude.{◌≡◌, ◌≢◌, ◌<◌, ◌≤◌, is_some, length, take, true, IfErr, IfNone, IfOk, IfSome};
 ghost use Rattle.std.specs.Result.{result_map_both};
 ghost use Rattle.bt_rowtype.specs.Answers.{Answers};
 ghost use Rattle.bt_rowtype.specs.Loads as loads;
@@ -8,28 +8,28 @@ ghost use Rattle.bt_rowtype.specs.Records.{csv_record};
 ghost use Rattle.bt_rowtype.specs.inside.RecordParts.{fields_in};
 ghost use Rattle.bt_rowtype.specs.Values.{prefix_as, read_as};
 
-use crate::apply::default_row;
-use crate::change::Change;
-use crate::cut::cut_plain;
-use crate::fields::{FieldsRef, Place};
-use crate::header::are_names;
-use crate::line::RecordLine;
-use crate::op::{MOST_OPS, one_op};
-use crate::plain_row::read_plain_row;
-use crate::reader::unescape;
+use crate::record::commas::cut_plain;
+use crate::record::csv_states::cut_quoted;
+use crate::record::fields::{FieldSpan, FieldsRef};
+use crate::record::header::are_names;
+use crate::record::line::RecordLine;
 use crate::refusal::Refusal;
 use crate::row::Row;
-use crate::row_reader::{read_prefix, read_values};
+use crate::row::plain_row::read_plain_row;
+use crate::row::row_reader::{read_fields, read_values};
 use crate::schema::{Column, Schema};
+use crate::upsert::apply::default_row;
+use crate::upsert::change::Change;
+use crate::upsert::op::{MOST_OPS, one_op};
 use crate::upsert::{Upsert, read_plain_upsert, read_upsert_record};
 use std::alloc::{AllocError, Global};
 
-/// What lines are cut into, one after the other: the places of the fields, and the bytes of the fields where the line has
+/// What lines are cut into, one after the other: the spans of the fields, and the bytes of the fields where the line has
 /// quotes. A line takes no memory that one before it has taken, and one of too many fields no more than one of the most.
 #[derive(Drop)]
 pub struct RecordReader {
     bytes: Vec<u8>,
-    places: Vec<Place>,
+    spans: Vec<FieldSpan>,
 }
 
 impl RecordReader {
@@ -37,7 +37,7 @@ impl RecordReader {
     pub fn new(alloc: Global) -> Self {
         RecordReader {
             bytes: Vec::new(alloc),
-            places: Vec::new(alloc),
+            spans: Vec::new(alloc),
         }
     }
 
@@ -45,22 +45,40 @@ impl RecordReader {
     //
     // A text without quotes lends its own bytes, and is cut at its commas; any other, which is dearer, is read byte by byte, by
     // the states of csv's reader.
-    fn read<'a>(
+    fn fields<'a>(
         &'a mut self,
         text: &'a [u8],
         most: usize,
     ) -> Result<Option<FieldsRef<'a>>, AllocError>
         requires { is_some (csv_record text.now) ≡ true }
-        ensures few { IfOk result (λ found. IfSome found (λ fields. fields ≡ fields_in text.now)) }
+        ensures fields { IfOk result (λ found. IfSome found (λ fields. fields ≡ fields_in text.now)) }
+        ensures few { IfOk result (λ found. IfSome found (λ fields. length fields ≤ most)) }
         ensures many { IfOk result (λ found. IfNone found (most < length (fields_in text.now))) }
     {
-        if cut_plain(&mut self.places, text, most)? {
-            return Ok(Some(FieldsRef::new(text, self.places.as_slice())));
+        if cut_plain(&mut self.spans, text, most)? {
+            return Ok(Some(FieldsRef::new(text, self.spans.as_slice())));
         }
-        if unescape(&mut self.bytes, &mut self.places, text, most)? {
-            return Ok(Some(FieldsRef::new(self.bytes.as_slice(), self.places.as_slice())));
+        if cut_quoted(&mut self.bytes, &mut self.spans, text, most)? {
+            return Ok(Some(FieldsRef::new(self.bytes.as_slice(), self.spans.as_slice())));
         }
         Ok(None)
+    }
+
+    // The fields of a line, or `BadLength` of this item where they are more than these.
+    fn bounded_fields<'b>(
+        &'b mut self,
+        item: u64,
+        line: &'b RecordLine<'_>,
+        most: usize,
+    ) -> Result<FieldsRef<'b>, Refusal>
+        ensures fields { IfOk result (λ fields. fields ≡ line.now) }
+        ensures few { IfOk result (λ fields. length fields ≤ most) }
+        ensures many { IfErr result (λ e. e ≢ Refusal.OutOfMemory → (e ≡ Refusal.BadLength item) × (most < length line.now)) }
+    {
+        match self.fields(line.text(), most)? {
+            Some(fields) => Ok(fields),
+            None => Err(Refusal::BadLength(item)),
+        }
     }
 
     /// Whether a line spells the names of these columns, in order.
@@ -71,7 +89,7 @@ impl RecordReader {
     ) -> Result<bool, AllocError>
         ensures { IfOk result (λ same. same ≡ loads.is_header columns.now line.now) }
     {
-        match self.read(line.text(), columns.len())? {
+        match self.fields(line.text(), columns.len())? {
             Some(fields) => Ok(are_names(columns, &fields)),
             None => Ok(false),
         }
@@ -93,10 +111,8 @@ impl RecordReader {
         if let Some(row) = read_plain_row(alloc, columns, line.text())? {
             return Ok(row);
         }
-        match self.read(line.text(), columns.len())? {
-            Some(fields) => read_values(alloc, columns, item, &fields),
-            None => Err(Refusal::BadLength(item)),
-        }
+        let fields = self.bounded_fields(item, line, columns.len())?;
+        read_values(alloc, columns, item, &fields)
     }
 
     /// The row that a line spells, as `read_row` reads it of the line's fields.
@@ -136,10 +152,11 @@ impl RecordReader {
     ) -> Result<Row, Refusal>
         ensures { Answers (prefix_as columns.now item line.now) result }
     {
-        match self.read(line.text(), columns.len())? {
-            Some(fields) => read_prefix(alloc, columns, item, &fields),
-            None => Err(Refusal::BadLength(item)),
+        let fields = self.bounded_fields(item, line, columns.len())?;
+        if fields.len() == 0 {
+            return Err(Refusal::BadLength(item));
         }
+        read_fields(alloc, &columns[..fields.len()], item, &fields)
     }
 
     /// The key and the operations that a line spells, as `read_upsert` reads them of the line's fields.
@@ -194,9 +211,7 @@ impl RecordReader {
         ensures { Answers (spec.upsert_as schema.now item line.now) (result_map_both (λ upsert. (upsert.key, upsert.ops)) (λ e. e) result) }
     {
         let keys = schema.key_columns().len();
-        match self.read(line.text(), keys + 3 * MOST_OPS)? {
-            Some(fields) => read_upsert_record(alloc, schema, item, &fields),
-            None => Err(Refusal::BadLength(item)),
-        }
+        let fields = self.bounded_fields(item, line, keys + 3 * MOST_OPS)?;
+        read_upsert_record(alloc, schema, item, &fields)
     }
 }

@@ -4,15 +4,21 @@ ghost use Rattle.bt_rowtype.specs.Arithmetic.{Makes, Sets};
 ghost use Rattle.bt_rowtype.specs.Kinds.{Number, Bytes, Bit};
 ghost use Rattle.bt_rowtype.specs.Ops.{after_action};
 ghost use Rattle.bt_rowtype.specs.Values.{HasBytes, IsInRange};
-ghost use Rattle.bt_rowtype.specs.inside.Packing.{IsPacked, int_bytes, packed, packed_content, packed_value, unpacked};
+ghost use Rattle.bt_rowtype.specs.inside.Packing.{IsPacked, int_bytes, packed_values, packed_content, packed_value, unpacked};
 ghost use Rattle.bt_rowtype.specs.Views.{shown};
 
-use crate::op::Arithmetic;
-use crate::packed::{count, front, offset, tail, value_at, width_at};
-use crate::row_bytes::RowBytes;
-use crate::text::MOST_VALUE_BYTES;
+pub(crate) mod lent_row;
+pub(crate) mod packed_values;
+pub(crate) mod plain_field;
+pub(crate) mod plain_row;
+pub(crate) mod row_reader;
+
+use crate::row::packed_values::{count, first_at, front, offset, tail, width_at};
+use crate::upsert::op::Arithmetic;
+use crate::value::growing_bytes::GrowingBytes;
+use crate::value::text::MOST_VALUE_BYTES;
+use crate::value::values::Values;
 use crate::value::{Content, Value, ValueRef};
-use crate::values::Values;
 use std::alloc::{AllocError, Global};
 use std::marker::Model;
 
@@ -23,7 +29,7 @@ use std::marker::Model;
 /// own. A row has the size of four words.
 #[derive(Debug, Drop)]
 pub struct Row {
-    bytes: RowBytes,
+    bytes: GrowingBytes,
 }
 
 const _: () = prove!(size_of::<Row>() == 32);
@@ -52,7 +58,12 @@ fn bytes_of_int(number: i64) -> [u8; 8]
 
 // Adds the bytes of a number behind a tag. An `Err` changes nothing.
 #[inline(always)]
-fn add_number(bytes: &mut RowBytes, alloc: Global, tag: u8, number: i64) -> Result<(), AllocError>
+fn add_number(
+    bytes: &mut GrowingBytes,
+    alloc: Global,
+    tag: u8,
+    number: i64,
+) -> Result<(), AllocError>
     ensures ok { OnOk result (bytes.new ≡ bytes.old ++ packed_content tag (Number number)) }
     ensures err { OnErr result (bytes.new ≡ bytes.old) }
 {
@@ -61,7 +72,12 @@ fn add_number(bytes: &mut RowBytes, alloc: Global, tag: u8, number: i64) -> Resu
 
 // Adds bytes behind a tag and their length. An `Err` changes nothing.
 #[inline(always)]
-fn add_bytes(bytes: &mut RowBytes, alloc: Global, tag: u8, more: &[u8]) -> Result<(), AllocError>
+fn add_bytes(
+    bytes: &mut GrowingBytes,
+    alloc: Global,
+    tag: u8,
+    more: &[u8],
+) -> Result<(), AllocError>
     requires { length more.now ≤ MOST_VALUE_BYTES }
     ensures ok { OnOk result (bytes.new ≡ bytes.old ++ packed_content tag (Bytes more.now)) }
     ensures err { OnErr result (bytes.new ≡ bytes.old) }
@@ -71,7 +87,7 @@ fn add_bytes(bytes: &mut RowBytes, alloc: Global, tag: u8, more: &[u8]) -> Resul
 
 // Adds the byte of a bit. An `Err` changes nothing.
 #[inline(always)]
-fn add_bit(bytes: &mut RowBytes, alloc: Global, tag: u8, bit: bool) -> Result<(), AllocError>
+fn add_bit(bytes: &mut GrowingBytes, alloc: Global, tag: u8, bit: bool) -> Result<(), AllocError>
     requires { tag < 255 }
     ensures ok { OnOk result (bytes.new ≡ bytes.old ++ packed_content tag (Bit bit)) }
     ensures err { OnErr result (bytes.new ≡ bytes.old) }
@@ -83,7 +99,7 @@ fn add_bit(bytes: &mut RowBytes, alloc: Global, tag: u8, bit: bool) -> Result<()
 // Adds the bytes of a value. An `Err` changes nothing.
 #[inline(always)]
 #[tactic(auto, using(crate::proofs::offered::Kinds::bytes_length, crate::proofs::offered::Kinds::low_tag))]
-fn add_value(bytes: &mut RowBytes, alloc: Global, value: ValueRef<'_>) -> Result<(), AllocError>
+fn add_value(bytes: &mut GrowingBytes, alloc: Global, value: ValueRef<'_>) -> Result<(), AllocError>
     requires { HasBytes (shown value) }
     ensures ok { OnOk result (bytes.new ≡ bytes.old ++ packed_value (shown value.entry)) }
     ensures err { OnErr result (bytes.new ≡ bytes.old) }
@@ -97,7 +113,7 @@ fn add_value(bytes: &mut RowBytes, alloc: Global, value: ValueRef<'_>) -> Result
     }
 }
 
-// How many bytes a value takes.
+/// How many bytes a value takes.
 #[tactic(auto, using(crate::proofs::Packing::length_int_bytes))]
 pub(crate) fn width_of_value(value: ValueRef<'_>) -> usize
     ensures { result ≡ length (packed_value (shown value.entry)) }
@@ -110,13 +126,13 @@ pub(crate) fn width_of_value(value: ValueRef<'_>) -> usize
 }
 
 // The bytes with those of a value in place of what stands between two places.
-fn replaced(
+fn replacement(
     alloc: Global,
     bytes: &[u8],
     at: usize,
     end: usize,
     value: ValueRef<'_>,
-) -> Result<RowBytes, AllocError>
+) -> Result<GrowingBytes, AllocError>
     requires order { at ≤ end }
     requires within { end ≤ length bytes.now }
     requires bytes { HasBytes (shown value) }
@@ -127,7 +143,7 @@ fn replaced(
     let room = width_of_value(value)
         .saturating_add(at)
         .saturating_add(rest.len());
-    let mut new = RowBytes::with_room(alloc, room)?;
+    let mut new = GrowingBytes::with_room(alloc, room)?;
     new.push(alloc, front(bytes, at), &[])?;
     add_value(&mut new, alloc, value)?;
     new.push(alloc, rest, &[])?;
@@ -141,17 +157,17 @@ impl Row {
         ensures { result ≡ [] }
     {
         Row {
-            bytes: RowBytes::new(),
+            bytes: GrowingBytes::new(),
         }
     }
 
-    // The row of no value, with room for so many bytes.
+    /// The row of no value, with room for so many bytes.
     #[tactic(auto, using(crate::proofs::Walks::unpacked_none, crate::proofs::Walks::none_packed))]
     pub(crate) fn with_room(alloc: Global, room: usize) -> Result<Self, AllocError>
         ensures { IfOk result (λ row. row ≡ []) }
     {
         Ok(Row {
-            bytes: RowBytes::with_room(alloc, room)?,
+            bytes: GrowingBytes::with_room(alloc, room)?,
         })
     }
 
@@ -159,14 +175,14 @@ impl Row {
     pub fn from_values(alloc: Global, values: &[Value]) -> Result<Self, AllocError>
         ensures { IfOk result (λ row. row ≡ values.now) }
     {
-        let mut row = Row::with_room(alloc, room_for(values))?;
+        let mut row = Row::with_room(alloc, room_for_values(values))?;
         for value in values {
             row.push(alloc, value.as_ref())?;
         }
         Ok(row)
     }
 
-    // Whether the row keeps in itself one more value at the end. That only chooses how values are read, and no promise hangs on it.
+    /// Whether the row keeps in itself one more value at the end. That only chooses how values are read, and no promise hangs on it.
     #[inline(always)]
     pub(crate) fn has_room(&self, value: ValueRef<'_>) -> bool {
         self.bytes.has_room(width_of_value(value))
@@ -183,17 +199,28 @@ impl Row {
         Ok(())
     }
 
-    // The same row, with room for so many bytes more.
-    pub(crate) fn widened(self, alloc: Global, room: usize) -> Result<Self, AllocError>
+    /// Adds the first values of another row at the end, or all where there are fewer. After an `Err` some of them may have been added.
+    pub fn push_first(&mut self, alloc: Global, row: &Row, count: usize) -> Result<(), AllocError>
+        ensures { OnOk result (self.new ≡ self.old ++ take count row.now) }
+    {
+        let mut rest = row.first_values(count);
+        while let Some(value) = rest.next() {
+            self.push(alloc, value)?;
+        }
+        Ok(())
+    }
+
+    /// The same row, with room for so many bytes more.
+    pub(crate) fn with_more_room(self, alloc: Global, room: usize) -> Result<Self, AllocError>
         ensures { IfOk result (λ row. row ≡ self) }
     {
         let bytes = self.bytes.as_slice();
-        let mut wider = RowBytes::with_room(alloc, bytes.len().saturating_add(room))?;
+        let mut wider = GrowingBytes::with_room(alloc, bytes.len().saturating_add(room))?;
         wider.push(alloc, bytes, &[])?;
         Ok(Row { bytes: wider })
     }
 
-    // The bytes of the values.
+    /// The bytes of the values.
     pub(crate) fn as_bytes(&self) -> &[u8]
         ensures packed { IsPacked result.now }
         ensures values { unpacked result.now ≡ self.now }
@@ -216,7 +243,7 @@ impl Row {
     {
         let bytes = self.as_bytes();
         let at = offset(bytes, place);
-        value_at(bytes, at)
+        first_at(bytes, at)
     }
 
     /// The values, to go through.
@@ -253,7 +280,7 @@ impl Row {
             return Ok(());
         }
         let end = at + width_at(bytes, at);
-        let new = replaced(alloc, bytes, at, end, value)?;
+        let new = replacement(alloc, bytes, at, end, value)?;
         self.bytes = new;
         Ok(())
     }
@@ -268,8 +295,8 @@ impl Row {
 
 // The bytes that values take.
 #[tactic(auto, using(crate::proofs::Packing::length_packed))]
-fn room_for(values: &[Value]) -> usize
-    ensures { result ≤ length (packed values.now) }
+fn room_for_values(values: &[Value]) -> usize
+    ensures { result ≤ length (packed_values values.now) }
 {
     let mut room: usize = 0;
     for value in values {

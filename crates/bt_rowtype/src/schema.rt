@@ -6,10 +6,10 @@ ghost use Rattle.bt_rowtype.specs.Views.{shown};
 
 use crate::refusal::Refusal;
 use crate::row::Row;
-use crate::sequence::Sequence;
-use crate::text::Text;
+use crate::value::sequence::Sequence;
+use crate::value::text::Text;
+use crate::value::values::Values;
 use crate::value::{Kind, ValueRef};
-use crate::values::Values;
 use std::marker::Model;
 
 /// The most columns of a table.
@@ -21,7 +21,9 @@ pub const MOST_KEYS: usize = 4;
 /// A column: its name, and what its values are.
 #[derive(Debug, Drop)]
 pub struct Column {
+    /// Its name, which no other column of a schema has.
     pub name: Text,
+    /// What its values are.
     pub kind: Kind,
 }
 
@@ -127,12 +129,14 @@ fn are_of_columns(columns: &[Column], values: Values<'_>) -> bool
     rest.is_empty()
 }
 
+/// Whether a value is one of a kind.
 pub(crate) fn is_of_kind(kind: Kind, value: ValueRef<'_>) -> bool
     ensures { result ≡ fits_kind kind (shown value.entry) }
 {
     value.kind().tag() == kind.tag() && kind.takes(value.content())
 }
 
+// Whether these columns, of which the first `keys` are the key, are a schema.
 fn is_schema_of(columns: &[Column], keys: usize) -> bool
     ensures { result ≡ is_schema columns.now keys }
 {

@@ -11,18 +11,25 @@ ghost use Rattle.bt_rowtype.specs.Values.{or_refused};
 ghost use Rattle.bt_rowtype.specs.inside.RecordParts.{fields_in};
 ghost use Rattle.bt_rowtype.specs.declared.value.Value.{Value};
 
+pub(crate) mod apply;
+pub(crate) mod arguments;
+pub(crate) mod arithmetic;
+pub(crate) mod change;
+pub(crate) mod op;
+pub(crate) mod op_faults;
+
 use crate::collected::Collected;
-use crate::field::read_value;
-use crate::fields::{Fields, FieldsRef};
-use crate::int::read_int;
-use crate::op::{Arithmetic, MOST_OPS, Op, Ops, SET_WORD};
-use crate::plain_field::plain_group;
-use crate::plain_row::read_plain_columns;
+use crate::record::fields::{Fields, FieldsRef};
 use crate::refusal::Refusal;
 use crate::row::Row;
-use crate::row_reader::read_fields;
+use crate::row::plain_field::plain_group;
+use crate::row::plain_row::read_plain_columns;
+use crate::row::row_reader::read_fields;
 use crate::schema::{Schema, find_column};
+use crate::upsert::op::{Arithmetic, MOST_OPS, Op, Ops, SET_WORD};
 use crate::value::Kind;
+use crate::value::field::read_value;
+use crate::value::int::read_int;
 use std::alloc::{AllocError, Global};
 
 /// The key and the operations of an upsert.
@@ -176,19 +183,6 @@ pub fn read_ops(alloc: Global, schema: &Schema, item: u64, fields: &Fields) -> R
     read_ops_record(alloc, schema, item, &fields.as_ref())
 }
 
-// The values of the key that the first fields spell, or their refusal as this item.
-fn read_key_fields(
-    alloc: Global,
-    schema: &Schema,
-    item: u64,
-    fields: &FieldsRef<'_>,
-) -> Result<Row, Refusal>
-    requires { schema.now.keys ≤ length fields.now }
-    ensures { Answers (spec.key_as schema.now item fields.now) result }
-{
-    read_fields(alloc, schema.key_columns(), item, fields)
-}
-
 // The lesser of the key's refusal and that of the operations, if they have one.
 fn refusal_with_ops(
     alloc: Global,
@@ -230,7 +224,7 @@ pub(crate) fn read_plain_upsert(
     }
 }
 
-// The key and the operations that the record of an upsert spells.
+/// The key and the operations that the record of an upsert spells.
 pub(crate) fn read_upsert_record(
     alloc: Global,
     schema: &Schema,
@@ -243,7 +237,7 @@ pub(crate) fn read_upsert_record(
     if !is_upsert(schema.keys(), fields.len()) {
         return Err(Refusal::BadLength(item));
     }
-    match read_key_fields(alloc, schema, item, fields) {
+    match read_fields(alloc, schema.key_columns(), item, fields) {
         Ok(key) => {
             let ops = read_ops_record(alloc, schema, item, fields)?;
             Ok(Upsert { key, ops })

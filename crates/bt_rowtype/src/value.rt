@@ -9,14 +9,26 @@ ghost use Rattle.bt_rowtype.specs.Values.{HasBytes, IsInRange, takes_content};
 ghost use Rattle.bt_rowtype.specs.Views.{held, shown};
 ghost use Rattle.bt_rowtype.specs.inside.PlainFields.{EndsPlain};
 
-use crate::binary::{Binary, is_binary, read_binary};
-use crate::copies::TryClone;
-use crate::field::{read_flag, read_text};
-use crate::int::read_int;
-use crate::packed::front;
-use crate::plain_field::{plain_end, plain_int, plain_text};
-use crate::record_writer::{write_binary, write_flag, write_int, write_text};
-use crate::text::{MOST_VALUE_BYTES, Text, is_text};
+pub(crate) mod binary;
+pub(crate) mod bytes;
+pub(crate) mod field;
+pub(crate) mod growing_bytes;
+pub(crate) mod hex;
+pub(crate) mod int;
+pub(crate) mod number;
+pub(crate) mod sequence;
+pub(crate) mod text;
+pub(crate) mod try_clone;
+pub(crate) mod values;
+
+use crate::record::record_writer::{write_binary, write_flag, write_int, write_text};
+use crate::row::packed_values::front;
+use crate::row::plain_field::{plain_end, plain_int, plain_text_end};
+use crate::value::binary::{Binary, is_binary, read_binary};
+use crate::value::field::{read_flag, read_text};
+use crate::value::int::read_int;
+use crate::value::text::{MOST_VALUE_BYTES, Text, is_text};
+use crate::value::try_clone::TryClone;
 use std::alloc::{AllocError, Global};
 
 /// What the values of a column are.
@@ -72,8 +84,11 @@ pub enum ValueRef<'a> {
 /// What a value holds, in the form of its kind. Its bytes stay where they are.
 #[derive(Clone, Copy, Debug, Drop)]
 pub enum Content<'a> {
+    /// A number of 64 bits.
     Number(i64),
+    /// At most 255 bytes.
     Bytes(&'a [u8]),
+    /// A bit.
     Bit(bool),
 }
 
@@ -82,19 +97,13 @@ impl Kind {
     pub fn from_word(word: &[u8]) -> Option<Self>
         ensures { result ≡ kind_of_word word.now }
     {
-        if word == b"int".as_slice() {
-            return Some(Kind::Int);
+        match word {
+            b"int" => Some(Kind::Int),
+            b"text" => Some(Kind::Text),
+            b"flag" => Some(Kind::Flag),
+            b"bytes" => Some(Kind::Bytes),
+            _ => None,
         }
-        if word == b"text".as_slice() {
-            return Some(Kind::Text);
-        }
-        if word == b"flag".as_slice() {
-            return Some(Kind::Flag);
-        }
-        if word == b"bytes".as_slice() {
-            return Some(Kind::Bytes);
-        }
-        None
     }
 
     /// The form of its values.
@@ -110,7 +119,7 @@ impl Kind {
         }
     }
 
-    // The number by which a row keeps it.
+    /// The number by which a row keeps it.
     #[inline(always)]
     pub(crate) fn tag(self) -> u8
         ensures { result ≡ tag_of self }
@@ -123,7 +132,7 @@ impl Kind {
         }
     }
 
-    // The kind of such a number.
+    /// The kind of such a number.
     #[inline(always)]
     pub(crate) fn from_tag(tag: u8) -> Self
         ensures { result ≡ kind_of_tag tag }
@@ -157,7 +166,7 @@ impl Kind {
         }
     }
 
-    // The value of a column in which nothing was set.
+    /// The value of a column in which nothing was set.
     #[tactic(auto, using(crate::proofs::offered::Texts::no_bytes))]
     pub(crate) fn default_value<'a>(self) -> ValueRef<'a>
         ensures value { shown result ≡ default_of self }
@@ -171,7 +180,7 @@ impl Kind {
         }
     }
 
-    // Whether a field spells other bytes than its own, so that a value is read into room.
+    /// Whether a field spells other bytes than its own, so that a value is read into room.
     #[inline(always)]
     pub(crate) fn needs_room(self) -> bool
         ensures { result ≡ needs_room self }
@@ -179,7 +188,7 @@ impl Kind {
         matches!(self, Kind::Bytes)
     }
 
-    // The value that a field spells in a column of this kind, which needs no room. Its bytes are lent from the field.
+    /// The value that a field spells in a column of this kind, which needs no room. Its bytes are lent from the field.
     pub(crate) fn read_lent(self, field: &[u8]) -> Option<ValueRef<'_>>
         requires { needs_room self ≡ false }
         ensures value { option_map shown result ≡ value_of self field.now }
@@ -193,8 +202,8 @@ impl Kind {
         }
     }
 
-    // The value that a field spells in a column of this kind. Its bytes are lent from the field, or from `room` where the field
-    // spells them.
+    /// The value that a field spells in a column of this kind. Its bytes are lent from the field, or from `room` where the field
+    /// spells them.
     pub(crate) fn read<'a: 'b, 'b>(
         self,
         field: &'a [u8],
@@ -209,8 +218,8 @@ impl Kind {
         }
     }
 
-    // The value that the first field of a text spells in a column of this kind, and where the field ends, if it is plain. Its bytes are
-    // lent from the text; a field that spells bytes has none to lend.
+    /// The value that the first field of a text spells in a column of this kind, and where the field ends, if it is plain. Its bytes are
+    /// lent from the text; a field that spells bytes has none to lend.
     #[inline(always)]
     pub(crate) fn read_plain<'a>(self, text: &'a [u8]) -> Option<(ValueRef<'a>, usize)>
         ensures value { IfSome result (λ found. value_of self (take found.1 text.now) ≡ Some (shown found.0)) }
@@ -223,7 +232,7 @@ impl Kind {
                 Some((ValueRef::Int(number), end))
             }
             Kind::Text => {
-                let end = plain_text(text)?;
+                let end = plain_text_end(text)?;
                 Some((ValueRef::Text(front(text, end)), end))
             }
             Kind::Flag => {
@@ -316,7 +325,7 @@ impl<'a> ValueRef<'a> {
         }
     }
 
-    // Adds the text of the value, as a field of a record.
+    /// Adds the text of the value, as a field of a record.
     pub(crate) fn write(self, out: &mut Vec<u8>) -> Result<(), AllocError>
         ensures ok { OnOk result (out.new.items ≡ out.old.items ++ field_text default_writer (text_of (shown self.entry))) }
         ensures err { OnErr result (out.new.items ≡ out.old.items) }

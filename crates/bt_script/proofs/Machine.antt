@@ -1,13 +1,15 @@
 -- Steps of the cutting of lines into commands. Serves the parser, which goes by places of a script.
-use Rattle.std.proofs.Common.{ℕ, Bool, List, [], ◌∷◌, ◌++◌, ◌≡◌, ◌==◌, ◌∙◌, refl, sym, ap, subst, true, false, not, Option, Some, None, drop, length, map, filter, ◌≤◌, arith, inl, inr}
+use Rattle.std.proofs.Common.{ℕ, Bool, List, [], ◌∷◌, ◌++◌, ◌≡◌, ◌==◌, ◌∙◌, refl, sym, ap, subst, true, false, not, Option, Some, None, drop, length, map, filter, ◌<◌, ◌≤◌, arith, inl, inr}
 use Rattle.std.proofs.lemmas.Bool.{cases_Bool}
 use Rattle.std.proofs.lemmas.List.{append-nil, drop_all, map-append}
 use Rattle.std.proofs.lemmas.List.Elements.{filter-append}
 use Rattle.std.proofs.lemmas.List.Sums.{fold-append}
 use Rattle.std.specs.Prelude.{option_map}
-use Rattle.bt_script.specs.inside.Blocks.{FindsHeaded, IsBlock, and_line, ended, headed, with_last}
+use Rattle.bt_script.specs.inside.Blocks.{FindsHeaded, IsBlock, and_line, block_answer, headed, is_closed, place_after, with_last}
 use Rattle.bt_script.specs.Commands.{Answer, Finds, Inside, Outside, all_some, and_bound, bounds_of, closing_of, command_of, commands, commands_from, is_blank_line, is_word, item_of_line, items_of, line_step, load_command, or_syntax, unbounded, unfinished}
 use Rattle.bt_script.specs.Lines.{lines, words, without_return}
+use Rattle.bt_script.specs.declared.blocks.BlockEnd.{BlockEnd}
+use Rattle.bt_script.specs.declared.blocks.BlockEnd.TheVariants.{Closed, CutOff}
 use Rattle.bt_script.specs.declared.command.Command.{Command}
 use Rattle.bt_script.specs.declared.command.Parsed.{Parsed}
 
@@ -58,34 +60,65 @@ inside-cut head closing block = refl
 abbrev pub Leads : List ℕ → ℕ → ℕ → List ℕ → List (List ℕ) → Type 0
 Leads script start at closing block = (head : List ℕ) → commands_from (Inside head closing []) (lines (drop start script)) ≡ commands_from (Inside head closing block) (lines (drop at script))
 
-pub leads-more : (script : List ℕ) (start at next : ℕ) (closing line : List ℕ) (block : List (List ℕ)) → Leads script start at closing block
+leads-more : (script : List ℕ) (start at next : ℕ) (closing line : List ℕ) (block : List (List ℕ)) → Leads script start at closing block
     → lines (drop at script) ≡ line ∷ lines (drop next script) → is_word (without_return line) closing ≡ false → Leads script start next closing (block ++ line ∷ [])
 leads-more script start at next closing line block so_far first other head =
     so_far head ∙ ap (commands_from (Inside head closing block)) first ∙ inside-more head closing block line (lines (drop next script)) other
 
-pub leads-closed : (script : List ℕ) (start at next : ℕ) (closing line : List ℕ) (block : List (List ℕ)) → Leads script start at closing block
-    → lines (drop at script) ≡ line ∷ lines (drop next script) → is_word (without_return line) closing ≡ true → IsBlock script start closing block true next
+leads-closed : (script : List ℕ) (start at next : ℕ) (closing line : List ℕ) (block : List (List ℕ)) → Leads script start at closing block
+    → lines (drop at script) ≡ line ∷ lines (drop next script) → is_word (without_return line) closing ≡ true → IsBlock script start closing block (Closed next)
 leads-closed script start at next closing line block so_far first closes head =
     so_far head ∙ ap (commands_from (Inside head closing block)) first ∙ inside-closed head closing block line (lines (drop next script)) closes
 
-pub leads-cut : (script : List ℕ) (start at : ℕ) (closing : List ℕ) (block : List (List ℕ)) → Leads script start at closing block
-    → length script ≤ at → IsBlock script start closing block false (length script)
+leads-cut : (script : List ℕ) (start at : ℕ) (closing : List ℕ) (block : List (List ℕ)) → Leads script start at closing block
+    → length script ≤ at → IsBlock script start closing block (CutOff (length script))
 leads-cut script start at closing block so_far past head =
     let none : drop at script ≡ [] = drop_all at script past in
     let left : drop (length script) script ≡ [] = drop_all (length script) script (omega arith) in
     so_far head ∙ ap (λ (rest : List ℕ). commands_from (Inside head closing block) (lines rest)) (none ∙ sym left) ∙ rw left (inside-cut head closing block)
 
--- the test of the code is that of the definition
-pub tested : (line inner closing : List ℕ) (found answer : Bool) → inner ≡ without_return line → found ≡ is_word inner closing → found ≡ answer → is_word (without_return line) closing ≡ answer
+-- the lines of a block are read from its start up to a place, and something is made of them
+abbrev pub HasRead : List ℕ → ℕ → ℕ → List ℕ → (List (List ℕ) → Type 0) → Type 0
+HasRead script start at closing IsMade = record {
+  within : at ≤ length script;
+  past : start ≤ at;
+  so_far : (block : List (List ℕ)) × IsMade block × Leads script start at closing block;
+}
+
+-- the test of the code, of a line without its return, is that of the definition
+tested : (line inner closing : List ℕ) (found answer : Bool) → inner ≡ without_return line → found ≡ is_word inner closing → found ≡ answer → is_word (without_return line) closing ≡ answer
 tested line inner closing found answer cut test is = ap (λ (l : List ℕ). is_word l closing) (sym cut) ∙ sym test ∙ is
 
+module _ (script : List ℕ) (start at : ℕ) (closing : List ℕ) (IsMade : List (List ℕ) → Type 0) (so_far : HasRead script start at closing IsMade) where
+  -- by a line more, of which more is made
+  pub read-more : (next : ℕ) (line inner : List ℕ) (found : Bool) (IsMadeNow : List (List ℕ) → Type 0) → lines (drop at script) ≡ line ∷ lines (drop next script) → (at < next) × (next ≤ length script)
+      → inner ≡ without_return line → found ≡ is_word inner closing → found ≡ false → ((block : List (List ℕ)) → IsMade block → IsMadeNow (block ++ line ∷ [])) → HasRead script start next closing IsMadeNow
+  read-more next line inner found IsMadeNow first moves cut test other makes =
+      let block = so_far.so_far in
+      record {
+        within = moves.1;
+        past = omega (arith, moves.0, so_far.past);
+        so_far = (block.0 ++ line ∷ [], makes block.0 block.1, leads-more script start at next closing line block.0 block.2 first (tested line inner closing found false cut test other));
+      }
+
+  -- up to the closing line
+  pub read-closed : (next : ℕ) (line inner : List ℕ) (found : Bool) → lines (drop at script) ≡ line ∷ lines (drop next script) → inner ≡ without_return line → found ≡ is_word inner closing → found ≡ true
+      → (block : List (List ℕ)) × IsMade block × IsBlock script start closing block (Closed next)
+  read-closed next line inner found first cut test closes =
+      let block = so_far.so_far in
+      (block.0, block.1, leads-closed script start at next closing line block.0 block.2 first (tested line inner closing found true cut test closes))
+
+  -- up to the end of the script
+  pub read-cut : length script ≤ at → (block : List (List ℕ)) × IsMade block × IsBlock script start closing block (CutOff (length script))
+  read-cut past = let block = so_far.so_far in (block.0, block.1, leads-cut script start at closing block.0 block.2 past)
+
 -- the head line of a command with a block: what was found is the command that the block makes
-pub headed-block : (parsed : Parsed) (script head closing : List ℕ) (at next : ℕ) (block : List (List ℕ)) (closed : Bool) (command : Option Command)
-    → closing_of (words head) ≡ Some closing → IsBlock script at closing block closed next → ended closed (command_of head block) ≡ ended closed command
-    → Finds parsed script (ended closed command ∷ commands (drop next script)) → FindsHeaded parsed script head at
-headed-block parsed script head closing at next block closed command closes stands makes found =
-    let all : headed head (lines (drop at script)) ≡ ended closed (command_of head block) ∷ commands (drop next script) = rw closes (stands head) in
-    subst (Finds parsed script) (sym (all ∙ ap (λ (answer : Answer). answer ∷ commands (drop next script)) makes)) found
+pub headed-block : (parsed : Parsed) (script head closing : List ℕ) (at : ℕ) (block : List (List ℕ)) (end : BlockEnd) (command : Option Command)
+    → closing_of (words head) ≡ Some closing → IsBlock script at closing block end → block_answer end (command_of head block) ≡ block_answer end command
+    → Finds parsed script (block_answer end command ∷ commands (drop (place_after end) script)) → FindsHeaded parsed script head at
+headed-block parsed script head closing at block end command closes stands makes found =
+    let all : headed head (lines (drop at script)) ≡ block_answer end (command_of head block) ∷ commands (drop (place_after end) script) = rw closes (stands head) in
+    subst (Finds parsed script) (sym (all ∙ ap (λ (answer : Answer). answer ∷ commands (drop (place_after end) script)) makes)) found
 
 -- the head line of any other command
 pub headed-line : (parsed : Parsed) (script head : List ℕ) (at : ℕ) (command : Option Command) → closing_of (words head) ≡ None → command ≡ command_of head []
@@ -93,9 +126,9 @@ pub headed-line : (parsed : Parsed) (script head : List ℕ) (at : ℕ) (command
 headed-line parsed script head at command closes makes found = rw (closes, sym makes) found
 
 -- the text of a block that is not closed does not count
-pub ended-load : (closed : Bool) (ws : List (List ℕ)) (found text : List ℕ) → (closed ≡ true → found ≡ text) → ended closed (load_command ws text) ≡ ended closed (load_command ws found)
-ended-load true ws found text same = ap (λ (t : List ℕ). or_syntax (load_command ws t)) (sym (same refl))
-ended-load false ws found text same = elim (cases_Bool (length ws == 1)) [
+pub load-answer : (end : BlockEnd) (ws : List (List ℕ)) (found text : List ℕ) → (is_closed end ≡ true → found ≡ text) → block_answer end (load_command ws text) ≡ block_answer end (load_command ws found)
+load-answer (Closed next) ws found text same = ap (λ (t : List ℕ). or_syntax (load_command ws t)) (sym (same refl))
+load-answer (CutOff next) ws found text same = elim (cases_Bool (length ws == 1)) [
   | inl alone ↦ rw alone refl
   | inr more ↦ rw more refl
 ]

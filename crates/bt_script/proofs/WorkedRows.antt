@@ -5,21 +5,21 @@ use Rattle.bt_rowtype.specs.declared.refusal.Refusal.TheVariants.{Syntax, Unfini
 use Rattle.bt_rowtype.specs.declared.filter.Test.TheVariants as test
 use Rattle.bt_rowtype.specs.declared.value.Kind.TheVariants as kind
 use Rattle.bt_rowtype.proofs.offered.OnLiterals.{rowtype_on_literals}
-use Rattle.bt_script.specs.Commands.{build_command, closing_of, command_of, commands, commands_from, column_of, filter_of, form_of, index_command, index_from, line_step, names_of, table_command}
+use Rattle.bt_script.specs.Commands.{build_command, closing_of, command_of, commands, commands_from, column_of, filter_of, table_from, index_command, index_from, line_step, names_of, table_command}
 use Rattle.bt_script.specs.Lines.{behind_words, text_of_lines}
 use Rattle.bt_script.specs.declared.command.Capacity.TheVariants.{Bytes, Messages}
 use Rattle.bt_script.specs.declared.command.Command.TheVariants.{Build, Drain, Drop, Load, Rebuild}
 
 -- buffers of three messages, of 60 bytes, and of the greatest number that is read as one
-pub buffer_of_messages : command_of (codes "table 4 3 2 1 id:int") [] ≡ Some (form_of 4 (Messages 3) 2 1 (record { name = codes "id"; kind = kind.Int } ∷ []))
+pub buffer_of_messages : command_of (codes "table 4 3 2 1 id:int") [] ≡ Some (table_from 4 (Messages 3) 2 1 (record { name = codes "id"; kind = kind.Int } ∷ []))
 unfolding command_of table_command column_of rowtype_on_literals
 buffer_of_messages = refl
 
-pub buffer_of_bytes : command_of (codes "table 4 60b 2 1 id:int") [] ≡ Some (form_of 4 (Bytes 60) 2 1 (record { name = codes "id"; kind = kind.Int } ∷ []))
+pub buffer_of_bytes : command_of (codes "table 4 60b 2 1 id:int") [] ≡ Some (table_from 4 (Bytes 60) 2 1 (record { name = codes "id"; kind = kind.Int } ∷ []))
 unfolding command_of table_command column_of rowtype_on_literals
 buffer_of_bytes = refl
 
-pub most_bytes : command_of (codes "table 4 999999999b 2 1 id:int") [] ≡ Some (form_of 4 (Bytes 999999999) 2 1 (record { name = codes "id"; kind = kind.Int } ∷ []))
+pub most_bytes : command_of (codes "table 4 999999999b 2 1 id:int") [] ≡ Some (table_from 4 (Bytes 999999999) 2 1 (record { name = codes "id"; kind = kind.Int } ∷ []))
 unfolding command_of table_command column_of rowtype_on_literals
 most_bytes = refl
 

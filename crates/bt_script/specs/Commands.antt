@@ -76,14 +76,14 @@ last_byte word = get_or word (length word - 1) 0
 abbrev pub capacity_of_word : List ℕ → Option Capacity
 capacity_of_word word = if last_byte word == 98 then option_map Bytes (number_of_word (take (length word - 1) word)) else option_map Messages (number_of_word word)
 
-abbrev pub form_of : ℕ → Capacity → ℕ → ℕ → List Column → Command
-form_of fanout buffer leaf keys columns = Table (record { fanout = fanout; buffer = buffer; leaf = leaf; keys = keys; columns = columns })
+abbrev pub table_from : ℕ → Capacity → ℕ → ℕ → List Column → Command
+table_from fanout buffer leaf keys columns = Table (record { fanout = fanout; buffer = buffer; leaf = leaf; keys = keys; columns = columns })
 
 -- table, four numbers, of which the second may have a `b` behind it, and one column or more
 unfoldable pub table_command : List (List ℕ) → Option Command
 table_command ws =
     if nat_le 6 (length ws) then
-    option_and_then (λ fanout. option_and_then (λ buffer. option_and_then (λ leaf. option_and_then (λ keys. option_map (form_of fanout buffer leaf keys)
+    option_and_then (λ fanout. option_and_then (λ buffer. option_and_then (λ leaf. option_and_then (λ keys. option_map (table_from fanout buffer leaf keys)
     (all_some (map column_of (drop 5 ws)))) (number_of_word (word_at ws 4))) (number_of_word (word_at ws 3))) (capacity_of_word (word_at ws 2))) (number_of_word (word_at ws 1))
     else None
 
@@ -261,12 +261,12 @@ abbrev pub opened : List ℕ → Option (List ℕ) → Place × List Answer
 opened head None = (Outside, or_syntax (command_of head []) ∷ [])
 opened head (Some closing) = (Inside head closing [], [])
 
-abbrev pub begun : List ℕ → Place × List Answer
-begun head = opened head (closing_of (words head))
+abbrev pub head_step : List ℕ → Place × List Answer
+head_step head = opened head (closing_of (words head))
 
 -- one line: where the next one stands, and the command that ends here, if one does
 unfoldable pub line_step : Place → List ℕ → Place × List Answer
-line_step Outside line = if is_blank_line line then (Outside, []) else begun (without_return line)
+line_step Outside line = if is_blank_line line then (Outside, []) else head_step (without_return line)
 line_step (Inside head closing block) line =
     if is_word (without_return line) closing then (Outside, or_syntax (command_of head block) ∷ [])
     else (Inside head closing (block ++ line ∷ []), [])

@@ -1,6 +1,6 @@
 //! The blocks of batches, scans and sums.
 ghost use Rattle.std.specs.Prelude.{◌≡◌, ◌≤◌, IfOk, List, codes, length, ℕ};
-ghost use Rattle.bt_script.specs.inside.Blocks.{IsBlock, and_line};
+ghost use Rattle.bt_script.specs.inside.Blocks.{IsBlock, and_line, place_after};
 ghost use Rattle.bt_script.specs.Commands as spec;
 
 use crate::command::{Bounds, Items};
@@ -44,23 +44,31 @@ fn and_item<'a>(items: Option<Items<'a>>, line: &'a [u8]) -> Result<Option<Items
     Ok(Some(items))
 }
 
-/// What was made of the lines of a block, the place behind it, and whether its closing line is there.
-pub struct Block<T> {
-    pub content: T,
-    pub next: usize,
-    pub closed: bool,
+/// How a block ends, and the place behind it.
+#[derive(Clone, Copy)]
+pub(crate) enum BlockEnd {
+    /// With its closing line.
+    Closed(usize),
+    /// With the script, which has no closing line for it.
+    CutOff(usize),
+}
+
+/// What was made of the lines of a block, and how it ends.
+pub(crate) struct Block<T> {
+    pub(crate) content: T,
+    pub(crate) end: BlockEnd,
 }
 
 /// The block of a batch: its messages, or `None` where a line is wrong.
-pub fn read_items<'a>(
+pub(crate) fn read_items<'a>(
     alloc: Global,
     script: &'a [u8],
     start: usize,
 ) -> Result<Block<Option<Items<'a>>>, AllocError>
     requires { start ≤ length script.now }
     ensures block { IfOk result (λ read. (block : List (List ℕ)) × (read.content ≡ spec.items_of block)
-        × IsBlock script.now start (codes "end") block read.closed read.next) }
-    ensures within { IfOk result (λ read. (start ≤ read.next) × (read.next ≤ length script.now)) }
+        × IsBlock script.now start (codes "end") block read.end) }
+    ensures within { IfOk result (λ read. (start ≤ place_after read.end) × (place_after read.end ≤ length script.now)) }
 {
     let mut items = Some(Items::new(alloc));
     let mut at = start;
@@ -70,8 +78,7 @@ pub fn read_items<'a>(
         if is_word(line, b"end") {
             return Ok(Block {
                 content: items,
-                next,
-                closed: true,
+                end: BlockEnd::Closed(next),
             });
         }
         items = and_item(items, line)?;
@@ -79,8 +86,7 @@ pub fn read_items<'a>(
     }
     Ok(Block {
         content: items,
-        next: script.len(),
-        closed: false,
+        end: BlockEnd::CutOff(script.len()),
     })
 }
 
@@ -117,11 +123,11 @@ fn and_bound<'a>(bounds: Option<Bounds<'a>>, line: &'a [u8]) -> Option<Bounds<'a
 }
 
 /// The block of a scan or of sums: its bounds, or `None` where a line is wrong.
-pub fn read_bounds<'a>(script: &'a [u8], start: usize) -> Block<Option<Bounds<'a>>>
+pub(crate) fn read_bounds<'a>(script: &'a [u8], start: usize) -> Block<Option<Bounds<'a>>>
     requires { start ≤ length script.now }
     ensures block { (block : List (List ℕ)) × (result.content ≡ spec.bounds_of block)
-        × IsBlock script.now start (codes "go") block result.closed result.next }
-    ensures within { (start ≤ result.next) × (result.next ≤ length script.now) }
+        × IsBlock script.now start (codes "go") block result.end }
+    ensures within { (start ≤ place_after result.end) × (place_after result.end ≤ length script.now) }
 {
     let mut bounds = Some(Bounds {
         from: None,
@@ -134,8 +140,7 @@ pub fn read_bounds<'a>(script: &'a [u8], start: usize) -> Block<Option<Bounds<'a
         if is_word(line, b"go") {
             return Block {
                 content: bounds,
-                next,
-                closed: true,
+                end: BlockEnd::Closed(next),
             };
         }
         bounds = and_bound(bounds, line);
@@ -143,7 +148,6 @@ pub fn read_bounds<'a>(script: &'a [u8], start: usize) -> Block<Option<Bounds<'a
     }
     Block {
         content: bounds,
-        next: script.len(),
-        closed: false,
+        end: BlockEnd::CutOff(script.len()),
     }
 }

@@ -85,7 +85,7 @@ fn table_command<'a>(alloc: Global, words: &[&[u8]]) -> Result<Option<Command<'a
 }
 
 /// The command of a batch: its messages, and no word behind the first one.
-pub fn batch_command<'a>(words: &[&[u8]], items: Option<Items<'a>>) -> Option<Command<'a>>
+pub(crate) fn batch_command<'a>(words: &[&[u8]], items: Option<Items<'a>>) -> Option<Command<'a>>
     ensures { result ≡ spec.batch_command (map (λ w. w.now) words.now) items.entry }
 {
     if words.len() == 1 {
@@ -96,7 +96,7 @@ pub fn batch_command<'a>(words: &[&[u8]], items: Option<Items<'a>>) -> Option<Co
 }
 
 /// The command of a load: the text of its block, and no word behind the first one.
-pub fn load_command<'a>(words: &[&[u8]], text: BlockText<'a>) -> Option<Command<'a>>
+pub(crate) fn load_command<'a>(words: &[&[u8]], text: BlockText<'a>) -> Option<Command<'a>>
     ensures { result ≡ spec.load_command (map (λ w. w.now) words.now) text.entry }
 {
     if words.len() == 1 {
@@ -106,18 +106,25 @@ pub fn load_command<'a>(words: &[&[u8]], text: BlockText<'a>) -> Option<Command<
     }
 }
 
+// The name that stands behind the first word, with no other word behind it.
+fn only_name(alloc: Global, words: &[&[u8]]) -> Result<Option<Text>, AllocError>
+    ensures { IfOk result (λ name. name ≡ spec.only_name (map (λ w. w.now) words.now)) }
+{
+    if words.len() != 2 {
+        return Ok(None);
+    }
+    parse_name(alloc, word_at(words, 1))
+}
+
 /// The command of a scan: the name of a tree, and bounds.
-pub fn scan_command<'a>(
+pub(crate) fn scan_command<'a>(
     alloc: Global,
     words: &[&[u8]],
     bounds: Option<Bounds<'a>>,
 ) -> Result<Option<Command<'a>>, AllocError>
     ensures { IfOk result (λ command. command ≡ spec.scan_command (map (λ w. w.now) words.now) bounds.entry) }
 {
-    if words.len() != 2 {
-        return Ok(None);
-    }
-    let Some(tree) = parse_name(alloc, word_at(words, 1))? else {
+    let Some(tree) = only_name(alloc, words)? else {
         return Ok(None);
     };
     match bounds {
@@ -147,7 +154,7 @@ fn parse_summed(alloc: Global, words: &[&[u8]]) -> Result<Option<(Text, u32, Tex
 
 /// The command of sums: the name of a tree, a number and the name of a column, and bounds.
 #[tactic(auto, unfolding(crate::specs::Commands::sums_command))]
-pub fn sums_command<'a>(
+pub(crate) fn sums_command<'a>(
     alloc: Global,
     words: &[&[u8]],
     bounds: Option<Bounds<'a>>,
@@ -172,16 +179,6 @@ fn get_command(head: &[u8]) -> Option<Command<'_>>
     ensures { result ≡ spec.get_command head.now }
 {
     record_behind(b"get ", without_spaces(head)).map(Command::Get)
-}
-
-// The name that stands behind the first word, with no other word behind it.
-fn only_name(alloc: Global, words: &[&[u8]]) -> Result<Option<Text>, AllocError>
-    ensures { IfOk result (λ name. name ≡ spec.only_name (map (λ w. w.now) words.now)) }
-{
-    if words.len() != 2 {
-        return Ok(None);
-    }
-    parse_name(alloc, word_at(words, 1))
 }
 
 // The command that a name makes with the word before it.
@@ -381,7 +378,7 @@ fn build_command<'a>(alloc: Global, words: &[&[u8]]) -> Result<Option<Command<'a
 
 /// The command of a head line that has no block.
 #[tactic(auto, unfolding(crate::specs::Commands::closing_of))]
-pub fn line_command<'a>(
+pub(crate) fn line_command<'a>(
     alloc: Global,
     head: &'a [u8],
     words: &[&[u8]],

@@ -21,7 +21,7 @@ fn line_len(text: &[u8]) -> usize
 }
 
 /// The line that stands at a place, and the place after it.
-pub fn next_line(script: &[u8], at: usize) -> (&[u8], usize)
+pub(crate) fn next_line(script: &[u8], at: usize) -> (&[u8], usize)
     requires { at < length script.now }
     ensures line { text.lines (drop at script.now) ≡ result.0.now ∷ text.lines (drop result.1 script.now) }
     // Where the script goes on behind the line, a line feed stands there.
@@ -39,7 +39,7 @@ pub fn next_line(script: &[u8], at: usize) -> (&[u8], usize)
     (&rest[..end], next)
 }
 
-pub fn without_return(line: &[u8]) -> &[u8]
+pub(crate) fn without_return(line: &[u8]) -> &[u8]
     ensures { result.now ≡ text.without_return line.now }
 {
     match line {
@@ -55,21 +55,21 @@ fn space_count(line: &[u8]) -> usize
     line.iter().take_while(|byte| **byte == b' ').count()
 }
 
-pub fn without_spaces(line: &[u8]) -> &[u8]
+pub(crate) fn without_spaces(line: &[u8]) -> &[u8]
     ensures { result.now ≡ text.without_spaces line.now }
 {
     &line[space_count(line)..]
 }
 
 /// Whether a line has spaces only, or nothing.
-pub fn is_blank(line: &[u8]) -> bool
+pub(crate) fn is_blank(line: &[u8]) -> bool
     ensures { result ≡ text.is_blank line.now }
 {
     line.iter().all(|byte| *byte == b' ')
 }
 
 /// The words of a line.
-pub fn words(alloc: Global, line: &[u8]) -> Result<Vec<&[u8]>, AllocError>
+pub(crate) fn words(alloc: Global, line: &[u8]) -> Result<Vec<&[u8]>, AllocError>
     ensures { IfOk result (λ words. map (λ w. w.now) words.items ≡ text.words line.now) }
 {
     line.split(|byte| *byte == b' ')
@@ -77,14 +77,14 @@ pub fn words(alloc: Global, line: &[u8]) -> Result<Vec<&[u8]>, AllocError>
         .collect(alloc)
 }
 
-pub fn is_word(text: &[u8], word: &[u8]) -> bool
+pub(crate) fn is_word(text: &[u8], word: &[u8]) -> bool
     ensures { result ≡ spec.is_word text.now word.now }
 {
     text == word
 }
 
 /// The word at a place, or the empty one.
-pub fn word_at<'a>(words: &[&'a [u8]], place: usize) -> &'a [u8]
+pub(crate) fn word_at<'a>(words: &[&'a [u8]], place: usize) -> &'a [u8]
     ensures { result.now ≡ spec.word_at (map (λ w. w.now) words.now) place }
 {
     match words.get(place) {
@@ -93,20 +93,20 @@ pub fn word_at<'a>(words: &[&'a [u8]], place: usize) -> &'a [u8]
     }
 }
 
-pub fn begins(words: &[&[u8]], word: &[u8]) -> bool
+pub(crate) fn begins(words: &[&[u8]], word: &[u8]) -> bool
     ensures { result ≡ spec.begins (map (λ w. w.now) words.now) word.now }
 {
     is_word(word_at(words, 0), word)
 }
 
 /// What stands behind a prefix, where the line begins with it.
-pub fn behind_prefix<'a>(prefix: &[u8], line: &'a [u8]) -> Option<&'a [u8]>
+pub(crate) fn behind_prefix<'a>(prefix: &[u8], line: &'a [u8]) -> Option<&'a [u8]>
     ensures { option_map (λ s. s.now) result ≡ spec.behind_prefix prefix.now line.now }
 {
     line.strip_prefix(prefix)
 }
 
-pub fn record_behind<'a>(prefix: &[u8], line: &'a [u8]) -> Option<RecordLine<'a>>
+pub(crate) fn record_behind<'a>(prefix: &[u8], line: &'a [u8]) -> Option<RecordLine<'a>>
     ensures { result ≡ spec.record_behind prefix.now line.now }
 {
     match behind_prefix(prefix, line) {
@@ -116,7 +116,7 @@ pub fn record_behind<'a>(prefix: &[u8], line: &'a [u8]) -> Option<RecordLine<'a>
 }
 
 /// What stands in a word between bytes that separate.
-pub fn parts(alloc: Global, word: &[u8], separator: u8) -> Result<Vec<&[u8]>, AllocError>
+pub(crate) fn parts(alloc: Global, word: &[u8], separator: u8) -> Result<Vec<&[u8]>, AllocError>
     ensures { IfOk result (λ parts. map (λ p. p.now) parts.items ≡ slice_split (λ b. b == separator) word.now) }
 {
     word.split(|byte| *byte == separator).collect(alloc)
@@ -139,7 +139,7 @@ fn behind_word(line: &[u8]) -> &[u8]
 
 /// What stands behind so many words of a line.
 #[tactic(auto, using(crate::proofs::Behind::behind_none, crate::proofs::Behind::behind_more))]
-pub fn behind_words(line: &[u8], count: usize) -> &[u8]
+pub(crate) fn behind_words(line: &[u8], count: usize) -> &[u8]
     ensures { result.now ≡ text.behind_words count line.now }
 {
     if count == 0 {
@@ -167,7 +167,7 @@ fn digits_value(word: &[u8]) -> u32
 }
 
 /// The number that a word of 1 to 9 digits writes.
-pub fn parse_number(word: &[u8]) -> Option<u32>
+pub(crate) fn parse_number(word: &[u8]) -> Option<u32>
     ensures { result ≡ text.number_of_word word.now }
 {
     if word.is_empty() || word.len() > 9 || !has_digits(word) {
@@ -212,7 +212,7 @@ fn name_text(word: &[u8]) -> Option<&str>
 }
 
 /// The name that a word is: 1 to 32 letters, digits and `_`, the first one a letter.
-pub fn parse_name(alloc: Global, word: &[u8]) -> Result<Option<Text>, AllocError>
+pub(crate) fn parse_name(alloc: Global, word: &[u8]) -> Result<Option<Text>, AllocError>
     ensures { IfOk result (λ name. name ≡ text.name_of_word word.now) }
 {
     match name_text(word) {
@@ -223,7 +223,7 @@ pub fn parse_name(alloc: Global, word: &[u8]) -> Result<Option<Text>, AllocError
 
 /// The names that commas join.
 #[tactic(auto, unfolding(crate::specs::Commands::names_of))]
-pub fn parse_names(alloc: Global, word: &[u8]) -> Result<Option<Texts>, AllocError>
+pub(crate) fn parse_names(alloc: Global, word: &[u8]) -> Result<Option<Texts>, AllocError>
     ensures { IfOk result (λ names. names ≡ spec.names_of word.now) }
 {
     let parts = parts(alloc, word, b',')?;

@@ -1,9 +1,9 @@
 //! The block of a load.
 ghost use Rattle.std.specs.Prelude.{◌≡◌, ◌≤◌, List, codes, length, true, ℕ};
-ghost use Rattle.bt_script.specs.inside.Blocks.{IsBlock};
+ghost use Rattle.bt_script.specs.inside.Blocks.{IsBlock, is_closed, place_after};
 ghost use Rattle.bt_script.specs.Lines.{text_of_lines};
 
-use crate::blocks::Block;
+use crate::blocks::{Block, BlockEnd};
 use crate::lines::{is_word, next_line, without_return};
 use std::marker::Model;
 
@@ -31,11 +31,11 @@ impl<'a> BlockText<'a> {
 }
 
 /// The block of a load: its text, or all that the script has left where no line closes it. No memory is taken.
-pub fn read_text(script: &[u8], start: usize) -> Block<BlockText<'_>>
+pub(crate) fn read_block_text(script: &[u8], start: usize) -> Block<BlockText<'_>>
     requires { start ≤ length script.now }
-    ensures block { (block : List (List ℕ)) × (result.closed ≡ true → result.content ≡ text_of_lines block)
-        × IsBlock script.now start (codes ".") block result.closed result.next }
-    ensures within { (start ≤ result.next) × (result.next ≤ length script.now) }
+    ensures block { (block : List (List ℕ)) × (is_closed result.end ≡ true → result.content ≡ text_of_lines block)
+        × IsBlock script.now start (codes ".") block result.end }
+    ensures within { (start ≤ place_after result.end) × (place_after result.end ≤ length script.now) }
 {
     let mut at = start;
     while at < script.len() {
@@ -45,8 +45,7 @@ pub fn read_text(script: &[u8], start: usize) -> Block<BlockText<'_>>
                 content: BlockText {
                     bytes: &script[start..at],
                 },
-                next,
-                closed: true,
+                end: BlockEnd::Closed(next),
             };
         }
         at = next;
@@ -55,7 +54,6 @@ pub fn read_text(script: &[u8], start: usize) -> Block<BlockText<'_>>
         content: BlockText {
             bytes: &script[start..],
         },
-        next: script.len(),
-        closed: false,
+        end: BlockEnd::CutOff(script.len()),
     }
 }

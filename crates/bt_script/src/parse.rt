@@ -1,34 +1,35 @@
 //! The parser of commands: what stands at a place of a script.
 ghost use Rattle.std.specs.Prelude.{◌≡◌, ◌∷◌, ◌<◌, ◌≤◌, IfOk, List, drop, length, ℕ};
-ghost use Rattle.bt_script.specs.inside.Blocks.{FindsHeaded, NextBehind, ended};
+ghost use Rattle.bt_script.specs.inside.Blocks.{FindsHeaded, NextBehind, block_answer, place_after};
 ghost use Rattle.bt_script.specs.Commands as spec;
 
-use crate::blocks::{Block, read_bounds, read_items};
+use crate::blocks::{Block, BlockEnd, read_bounds, read_items};
 use crate::command::{Command, Parsed};
 use crate::forms::{batch_command, line_command, load_command, scan_command, sums_command};
 use crate::lines::{begins, is_blank, next_line, without_return, words};
-use crate::load::read_text;
+use crate::load::read_block_text;
 use bt_rowtype::Refusal;
 use std::alloc::{AllocError, Global};
 
-fn parsed<'a>(command: Option<Command<'a>>, closed: bool, next: usize) -> Parsed<'a>
-    ensures found { (script : List ℕ) → spec.Finds result script (ended closed command.entry ∷ spec.commands (drop next script)) }
-    ensures past { (at : ℕ) (script : List ℕ) → at < next → next ≤ length script → spec.NextPast result at script }
+// What stands at the place of a command, whose block, where it has one, ends so.
+fn parsed(command: Option<Command<'_>>, end: BlockEnd) -> Parsed<'_>
+    ensures found { (script : List ℕ) → spec.Finds result script (block_answer end command.entry ∷ spec.commands (drop (place_after end) script)) }
+    ensures past { (at : ℕ) (script : List ℕ) → at < place_after end → place_after end ≤ length script → spec.NextPast result at script }
 {
-    let Some(command) = command else {
-        return Parsed::Bad {
+    match (command, end) {
+        (None, BlockEnd::Closed(next) | BlockEnd::CutOff(next)) => Parsed::Bad {
             refusal: Refusal::Syntax,
             next,
-        };
-    };
-    if !closed {
-        drop(command);
-        return Parsed::Bad {
-            refusal: Refusal::Unfinished,
-            next,
-        };
+        },
+        (Some(command), BlockEnd::CutOff(next)) => {
+            drop(command);
+            Parsed::Bad {
+                refusal: Refusal::Unfinished,
+                next,
+            }
+        }
+        (Some(command), BlockEnd::Closed(next)) => Parsed::Good { command, next },
     }
-    Parsed::Good { command, next }
 }
 
 // The command of a head line, behind which its block starts at a place.
@@ -45,41 +46,25 @@ fn parse_headed<'a>(
 {
     let words = words(alloc, head)?;
     if begins(&words, b"batch") {
-        let Block {
-            content,
-            next,
-            closed,
-        } = read_items(alloc, script, at)?;
-        return Ok(parsed(batch_command(&words, content), closed, next));
+        let Block { content, end } = read_items(alloc, script, at)?;
+        return Ok(parsed(batch_command(&words, content), end));
     }
     if begins(&words, b"scan") {
-        let Block {
-            content,
-            next,
-            closed,
-        } = read_bounds(script, at);
+        let Block { content, end } = read_bounds(script, at);
         let command = scan_command(alloc, &words, content)?;
-        return Ok(parsed(command, closed, next));
+        return Ok(parsed(command, end));
     }
     if begins(&words, b"sums") {
-        let Block {
-            content,
-            next,
-            closed,
-        } = read_bounds(script, at);
+        let Block { content, end } = read_bounds(script, at);
         let command = sums_command(alloc, &words, content)?;
-        return Ok(parsed(command, closed, next));
+        return Ok(parsed(command, end));
     }
     if begins(&words, b"load") {
-        let Block {
-            content,
-            next,
-            closed,
-        } = read_text(script, at);
-        return Ok(parsed(load_command(&words, content), closed, next));
+        let Block { content, end } = read_block_text(script, at);
+        return Ok(parsed(load_command(&words, content), end));
     }
     let command = line_command(alloc, head, &words)?;
-    Ok(parsed(command, true, at))
+    Ok(parsed(command, BlockEnd::Closed(at)))
 }
 
 /// The command that stands at a place of a script, or its refusal, `Syntax` or `Unfinished`, and the place behind it.

@@ -13,11 +13,11 @@ use clap::{Arg, ArgAction, ArgMatches, Command, Error};
 use std::alloc::{AllocError, Global};
 
 /// The number of workers where the words name none.
-pub const DEFAULT_WORKERS: usize = 4;
+pub(crate) const DEFAULT_WORKERS: usize = 4;
 /// The depth at which trees are cut into jobs where the words name none.
-pub const DEFAULT_CUT: usize = 2;
+pub(crate) const DEFAULT_CUT: usize = 2;
 /// The grain where the words name none.
-pub const DEFAULT_GRAIN: usize = 64;
+pub(crate) const DEFAULT_GRAIN: usize = 64;
 
 /// What the words say.
 #[derive(Drop)]
@@ -82,6 +82,8 @@ A script is a list of commands:
   drop NAME                   takes an index away
   drain TREE                  empties the buffers of a tree
   rebuild TREE                packs the rows of a tree anew
+A kind is int, text, flag or bytes.
+An operation is set, add, max or min, followed by a column and its argument.
 A command that cannot be carried out is answered by 'refused', a number and a name.
 docs/SCRIPT.md has the whole language, and examples/ has scripts.";
 
@@ -149,7 +151,7 @@ fn text_of(
 }
 
 // What an error of clap says.
-fn fault_of(alloc: Global, error: &Error) -> WordsError
+fn words_error(alloc: Global, error: &Error) -> WordsError
     ensures { ComesOf (kind_of error.now) result }
 {
     match error.kind() {
@@ -180,6 +182,6 @@ pub fn read_words(alloc: Global, words: &Texts) -> Result<Words, WordsError>
             cut: matches.get_one("cut").unwrap_or(DEFAULT_CUT),
             grain: matches.get_one("grain").unwrap_or(DEFAULT_GRAIN),
         }),
-        Err(error) => Err(fault_of(alloc, &error)),
+        Err(error) => Err(words_error(alloc, &error)),
     }
 }

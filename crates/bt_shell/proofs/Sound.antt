@@ -26,19 +26,15 @@ use Rattle.bt_table.specs.Tables.{Intact, Lost, TableState}
 use Rattle.bt_table.specs.declared.reply.Reply.{Reply}
 use Rattle.bt_table.proofs.offered.Steps.{empty_is_sound, shape_is_roomy, sound_hold, step_keeps_sound}
 
-shape_allowed : (exists schema shape : Bool) → least (one_if exists TableExists ++ (one_if (not schema) BadSchema ++ one_if (not shape) BadShape)) ≡ None → shape ≡ true
-shape_allowed exists schema true none = refl
-shape_allowed true true false none = absurd cc
-shape_allowed true false false none = absurd cc
-shape_allowed false true false none = absurd cc
-shape_allowed false false false none = absurd cc
-
-schema_allowed : (exists schema shape : Bool) → least (one_if exists TableExists ++ (one_if (not schema) BadSchema ++ one_if (not shape) BadShape)) ≡ None → schema ≡ true
-schema_allowed exists true shape none = refl
-schema_allowed true false true none = absurd cc
-schema_allowed true false false none = absurd cc
-schema_allowed false false true none = absurd cc
-schema_allowed false false false none = absurd cc
+-- a table that no refusal applies to has a schema and a shape
+both_allowed : (exists schema shape : Bool) → least (one_if exists TableExists ++ (one_if (not schema) BadSchema ++ one_if (not shape) BadShape)) ≡ None → (schema ≡ true) × (shape ≡ true)
+both_allowed exists true true none = (refl, refl)
+both_allowed true true false none = absurd cc
+both_allowed true false true none = absurd cc
+both_allowed true false false none = absurd cc
+both_allowed false true false none = absurd cc
+both_allowed false false true none = absurd cc
+both_allowed false false false none = absurd cc
 
 few_keys : (columns : List Column) (keys : ℕ) → is_schema columns keys ≡ true → keys ≤ length columns
 few_keys columns keys test = grind (arith, nat_tests)
@@ -55,9 +51,8 @@ form_keeps_sound : (state : State) (form : TableForm) → IsSoundAfter (outcome 
 form_keeps_sound state form =
     when_allowed (least (form_refusals state form)) (Some (table_of form), count_line (codes "table ") (length form.columns)) (λ none.
     let shape = shape_of form.fanout form.buffer form.leaf in
-    let allowed = shape_allowed _ (is_schema form.columns form.keys) (is_allowed shape) none in
-    let few = few_keys form.columns form.keys (schema_allowed _ (is_schema form.columns form.keys) (is_allowed shape) none) in
-    empty_is_sound (record { columns = form.columns; keys = form.keys }) shape few (shape_is_roomy shape allowed))
+    let allowed = both_allowed _ (is_schema form.columns form.keys) (is_allowed shape) none in
+    empty_is_sound (record { columns = form.columns; keys = form.keys }) shape (few_keys form.columns form.keys allowed.0) (shape_is_roomy shape allowed.1))
 
 told_keeps_sound : (after : Result (TableState × Reply) Refusal) → IfOk after (λ (step : TableState × Reply). IsSound step.0) → IsSoundAfter (told after)
 told_keeps_sound (Ok step) sound = sound

@@ -8,7 +8,7 @@ use Rattle.bt_script.specs.declared.counted.Counted.{Counted}
 use Rattle.bt_script.proofs.offered.Streams.{prefix-all, prefix-done, prefix-more, Took-kept, Took-nil, Took-trans}
 use Rattle.bt_shell.specs.inside.Turns.{IsTurn}
 use Rattle.bt_shell.specs.Runs.{IsScriptOf, TookReplies, WritesPrefix, WritesReplies, WritesRun, after_commands, one_where, refused_count, replies, run}
-use Rattle.bt_shell.specs.Steps.{State, is_refused, turn}
+use Rattle.bt_shell.specs.Steps.{State, has_refusal, turn}
 
 pub replies-append : (state : State) (done more : List Answer) → replies state (done ++ more) ≡ replies state done ++ replies (after_commands state done) more
 unfolding replies after_commands
@@ -99,7 +99,7 @@ module _ {W : Type 0} (contents : W → Option (List ℕ)) (old : Counted W) (be
       let all_done : all ≡ so_far.done = so_far.split ∙ ap (λ (l : List Answer). so_far.done ++ l) none ∙ append-nil so_far.done in
       so_far.left ∙ ap (after_commands begin) (sym all_done)
 
-count-one : (state : State) (answer : Answer) (more : List Answer) → refused_count state (answer ∷ more) ≡ one_where (is_refused state answer) + refused_count (turn state answer).0 more
+count-one : (state : State) (answer : Answer) (more : List Answer) → refused_count state (answer ∷ more) ≡ one_where (has_refusal state answer) + refused_count (turn state answer).0 more
 unfolding refused_count
 count-one state answer more = refl
 

@@ -4,13 +4,13 @@ use Rattle.std.specs.Prelude.{Ok, Some, None, pos}
 use Rattle.std.specs.Char.{encode_utf8}
 use Rattle.std.specs.Str.{chars, is_utf8}
 use Rattle.bt_rowtype.specs.Schemas.{Schema}
-use Rattle.bt_rowtype.specs.declared.op.Op.TheVariants as op
+use Rattle.bt_rowtype.specs.declared.upsert.op.Op.TheVariants as op
 use Rattle.bt_rowtype.specs.declared.value.Kind.TheVariants as kind
 use Rattle.bt_rowtype.specs.declared.value.Value.TheVariants as value
 use Rattle.bt_rowtype.proofs.offered.OnLiterals.{rowtype_on_literals}
 use Rattle.bt_messages.specs.declared.message.Message.TheVariants as message
 use Rattle.bt_script.specs.declared.command.Capacity.TheVariants.{Messages}
-use Rattle.bt_script.specs.Commands.{bounds_of, closing_of, column_of, command_of, commands_from, form_of, index_command, item_of_line, items_of, line_step, names_of, sums_command, table_command}
+use Rattle.bt_script.specs.Commands.{bounds_of, closing_of, column_of, command_of, commands_from, index_command, item_of_line, items_of, line_step, names_of, sums_command, table_command, table_from}
 use Rattle.bt_keycode.specs.Codes.{eight_bytes}
 use Rattle.bt_node.specs.Trees.{inner, leaf, node, none}
 use Rattle.bt_view.specs.Images.{change_text, entry_image, entry_text, leaf_row_line, message_line, row_text}
@@ -38,7 +38,7 @@ date_column = refl
 
 -- a table with two key columns
 pub two_key_columns : command_of (codes "table 4 3 2 2 id:int ok:flag") []
-    ≡ Some (form_of 4 (Messages 3) 2 2 (record { name = codes "id"; kind = kind.Int } ∷ record { name = codes "ok"; kind = kind.Flag } ∷ []))
+    ≡ Some (table_from 4 (Messages 3) 2 2 (record { name = codes "id"; kind = kind.Int } ∷ record { name = codes "ok"; kind = kind.Flag } ∷ []))
 unfolding command_of table_command column_of rowtype_on_literals
 two_key_columns = refl
 

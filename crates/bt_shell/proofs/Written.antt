@@ -5,7 +5,7 @@ use Rattle.std.proofs.lemmas.List.Concat.{flat_map-cons}
 use Rattle.bt_script.specs.Streams.{Took, TookPrefix}
 use Rattle.bt_script.specs.declared.counted.Counted.{Counted}
 use Rattle.bt_script.proofs.offered.Streams.{prefix-more, Took-trans}
-use Rattle.bt_shell.specs.inside.Pieces.{bytes_of}
+use Rattle.bt_shell.specs.inside.Pieces.{text_of_pieces}
 
 -- A writer took some of a text, and the rest is still to be written.
 pub record HasWritten {W : Type 0} (contents : W → Option (List ℕ)) (old new : Counted W) (all rest : List ℕ) : Type 0 where
@@ -38,7 +38,7 @@ module _ {W : Type 0} (contents : W → Option (List ℕ)) (old : Counted W) whe
       subst (λ (text : List ℕ). Took contents old new text) (sym all_done) so_far.took
 
 -- what is left of pieces begins with the next one
-pub piece_next : (pieces : List (Vec ℕ Global)) (i : ℕ) (piece : Vec ℕ Global) → i < length pieces → piece ≡ get_or pieces i piece → bytes_of (drop i pieces) ≡ piece.items ++ bytes_of (drop (i + 1) pieces)
+pub piece_next : (pieces : List (Vec ℕ Global)) (i : ℕ) (piece : Vec ℕ Global) → i < length pieces → piece ≡ get_or pieces i piece → text_of_pieces (drop i pieces) ≡ piece.items ++ text_of_pieces (drop (i + 1) pieces)
 piece_next pieces i piece within is =
     let more = drop (i + 1) pieces in
-    at_drop_more bytes_of pieces i piece within ∙ ap (λ (p : Vec ℕ Global). bytes_of (p ∷ more)) (sym is) ∙ flat_map-cons (λ (p : Vec ℕ Global). p.items) piece more
+    at_drop_more text_of_pieces pieces i piece within ∙ ap (λ (p : Vec ℕ Global). text_of_pieces (p ∷ more)) (sym is) ∙ flat_map-cons (λ (p : Vec ℕ Global). p.items) piece more

@@ -6,8 +6,8 @@ use Rattle.bt_script.specs.declared.counted.Counted.{Counted}
 use Rattle.bt_script.specs.declared.streams.RunFault.TheVariants.{OutOfMemory, Read, Write}
 use Rattle.bt_script.specs.declared.streams.TheConstants.{SCRIPT_LIMIT}
 use Rattle.bt_shell.specs.Runs.{WritesPrefix, WritesReplies, WritesRun}
-use Rattle.bt_shell.specs.declared.entry.ProgramFault.{ProgramFault}
-use Rattle.bt_shell.specs.declared.entry.ProgramFault.TheVariants.{Run, Words}
+use Rattle.bt_shell.specs.declared.program_run.ProgramFault.{ProgramFault}
+use Rattle.bt_shell.specs.declared.program_run.ProgramFault.TheVariants.{Run, Words}
 
 -- the words are read, and name a script to run
 abbrev pub IsToRun : List (List ℕ) → Type 0

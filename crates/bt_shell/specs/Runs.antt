@@ -4,7 +4,7 @@ use Rattle.bt_script.specs.Commands.{Answer, Outside, Place, commands, line_step
 use Rattle.bt_script.specs.Lines.{lines}
 use Rattle.bt_script.specs.Streams.{Gave, Took, TookPrefix, source_of}
 use Rattle.bt_script.specs.declared.counted.Counted.{Counted}
-use Rattle.bt_shell.specs.Steps.{State, is_refused, turn}
+use Rattle.bt_shell.specs.Steps.{State, has_refusal, turn}
 
 -- what is written for commands in turn, from a table on
 unfoldable pub replies : State → List Answer → List ℕ
@@ -23,7 +23,7 @@ one_where applies = if applies then 1 else 0
 -- how many of commands in turn are refused
 unfoldable pub refused_count : State → List Answer → ℕ
 refused_count state [] = 0
-refused_count state (answer ∷ more) = one_where (is_refused state answer) + refused_count (turn state answer).0 more
+refused_count state (answer ∷ more) = one_where (has_refusal state answer) + refused_count (turn state answer).0 more
 
 -- what a script writes: the replies to its commands, which begin with no table
 abbrev pub run : List ℕ → List ℕ
@@ -74,6 +74,6 @@ module _ {W : Type 0} (contents : W → Option (List ℕ)) where
   WritesReplies known old new = (script : List ℕ) × IsScriptOf known script × TookReplies None old new script
 
 -- a reader gave a script, all that it had, and a writer took all that it is answered
-abbrev pub Runs : {R W : Type 0} → (R → Option (List ℕ)) → (W → Option (List ℕ)) → Counted R → Counted R → Counted W → Counted W → Type 0
-Runs remaining contents reader read writer written =
+abbrev pub IsWholeRun : {R W : Type 0} → (R → Option (List ℕ)) → (W → Option (List ℕ)) → Counted R → Counted R → Counted W → Counted W → Type 0
+IsWholeRun remaining contents reader read writer written =
     (script : List ℕ) × Gave remaining reader read script × IsScriptOf (remaining (source_of reader)) script × Took contents writer written (run script)

@@ -3,8 +3,8 @@ use Rattle.std.specs.Prelude.{◌≡◌, ◌⊎◌, ℕ, true, List, Option, cod
 use Rattle.bt_script.specs.Streams.{Took, TookPrefix, has_failed}
 use Rattle.bt_script.specs.declared.counted.Counted.{Counted}
 use Rattle.bt_script.specs.declared.streams.RunFault.TheVariants.{OutOfMemory, Read, Write}
-use Rattle.bt_shell.specs.declared.entry.ProgramFault.{ProgramFault}
-use Rattle.bt_shell.specs.declared.entry.ProgramFault.TheVariants.{Run, Words}
+use Rattle.bt_shell.specs.declared.program_run.ProgramFault.{ProgramFault}
+use Rattle.bt_shell.specs.declared.program_run.ProgramFault.TheVariants.{Run, Words}
 
 -- the status of a fault
 abbrev pub status_of : ProgramFault → ℕ

@@ -106,6 +106,6 @@ turn state (Err refusal) = (state, refused_text refusal)
 turn state (Ok command) = done_or_refused state (outcome state command)
 
 -- whether it is refused
-abbrev pub is_refused : State → Answer → Bool
-is_refused state (Err refusal) = true
-is_refused state (Ok command) = is_err (outcome state command)
+abbrev pub has_refusal : State → Answer → Bool
+has_refusal state (Err refusal) = true
+has_refusal state (Ok command) = is_err (outcome state command)

@@ -16,11 +16,11 @@
 #![tactic(auto)]
 
 mod context;
-mod entry;
-mod pieces;
-mod reply;
-mod run;
-mod session;
+mod program_run;
+mod replies;
+mod reply_text;
+mod script_run;
+mod turn;
 mod workforce;
 
 pub use bt_gang::{Crew, Gate, NoGate};
@@ -29,7 +29,7 @@ pub use bt_script::{
     SCRIPT_LIMIT, SumsForm, TableForm, Words, WordsError, parse_command, read_words,
 };
 pub use bt_table::{Alone, Workforce};
-pub use entry::{ProgramFault, program};
-pub use reply::Lines;
-pub use run::{run_commands, run_script};
+pub use program_run::{ProgramFault, program};
+pub use replies::Lines;
+pub use script_run::{run_commands, run_script};
 pub use workforce::ScriptWorkforce;

@@ -7,7 +7,7 @@ ghost use Rattle.bt_view.specs.Ranges as ranges;
 ghost use Rattle.bt_shell.specs.Replies.{row_line};
 ghost use Rattle.bt_shell.specs.inside.Lines.{with_line};
 
-use crate::reply::Lines;
+use crate::replies::Lines;
 use bt_gang::{Crew, Gate, NoGate};
 use bt_rowtype::{Refusal, Sequence, Text};
 use bt_script::{Bounds, SumsForm};

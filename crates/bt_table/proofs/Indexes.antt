@@ -16,7 +16,7 @@ use Rattle.bt_node.specs.Flushes.{holds, sunk}
 use Rattle.bt_node.specs.Trees.{Shape}
 use Rattle.bt_node.proofs.offered.PackedTrees.{packed-has_shape, packed-holds}
 use Rattle.bt_node.proofs.offered.ShapedTrees.{sunk-has_shape, sunk-holds}
-use Rattle.bt_fanout.specs.Covers.{is_covered, next_rows, wider}
+use Rattle.bt_fanout.specs.Covers.{cover_after, is_covered, next_rows, wider}
 use Rattle.bt_fanout.specs.Definitions.{kinds_of}
 use Rattle.bt_fanout.specs.Effects.{EntryMessage, SuitsEffect, effects_of, effects_within, entry_effect, entry_meaning, row_effect, sent_for_all}
 use Rattle.bt_fanout.specs.Entries.{Definition, IsWithin, StandsUnder, SuitsKinds, entry_of}
@@ -30,17 +30,30 @@ use Rattle.bt_fanout.proofs.offered.Standing.{stands_under}
 use Rattle.bt_fanout.proofs.offered.Suiting.{all_more, all_none, of_whole, suits_effects, suits_row}
 use Rattle.bt_fanout.proofs.offered.Turns.{packet_turns}
 use Rattle.bt_batch.specs.Batches.{RowMessages}
-use Rattle.bt_table.specs.Indexes.{EntryTree, Index, building_packet, built_index, index_named_from, index_with, indexes_after, indexes_of, is_complete, is_name_of, packed_index, packet_of, sent_count, sunk_index}
-use Rattle.bt_table.specs.inside.IndexTrees.{covers_all, entry_tree, packet_for, sent_for, sunk_tree, sunk_trees, widest}
+use Rattle.bt_table.specs.Indexes.{EntryTree, Index, advanced, building_packet, built_index, index_named_from, index_with, indexes_after, indexes_of, is_complete, is_name_of, packed_index, packet_of, sent_count, sunk_index}
+use Rattle.bt_table.specs.inside.IndexTrees.{covers_all, entry_tree, packet_for, count_for, sunk_tree, sunk_trees, widest}
 use Rattle.bt_table.specs.Standing.{AllStand, AreSoundIndexes, HoldsSelection, IsSoundIndex}
 use Rattle.bt_fanout.specs.declared.cover.Cover.{Cover}
 use Rattle.bt_fanout.specs.declared.cover.Cover.TheVariants.{Nothing}
+use Rattle.bt_fanout.specs.declared.effect.Effect.{Effect}
 use Rattle.bt_table.specs.declared.index.IndexHead.{IndexHead}
 
 -- rows of a schema stand as the laws of an index ask
 stand : (schema : Schema) (def : Definition) → def.keys ≡ schema.keys → (rows : Rows (List Value)) → AllStand schema rows → selection.AllStand (StandsUnder def (kinds_of schema.columns)) rows
 stand schema def keys [] all = tt
 stand schema def keys (row ∷ rows) all = (stands_under schema def row.0 row.1 keys all.0.fits all.0.placed, stand schema def keys rows all.1)
+
+-- an index is sound after a packet that makes of its entries those of other rows, or of more rows that it covers
+advanced-sound : (schema : Schema) (shape : Shape) (old new : Rows (List Value)) (index : Index) → IsSoundIndex schema shape old index → (packet : Messages EntryMessage) (cover : Cover)
+    → rows_after entry_effect packet (index_of index.def index.cover old) ≡ index_of index.def cover new → IsSoundIndex schema shape new (advanced index packet cover)
+advanced-sound schema shape old new index sound packet cover turned = record {
+  suits = sound.suits;
+  keys = sound.keys;
+  shaped = sound.shaped;
+  tree = subst (λ s. HasShape entry_meaning.weigh shape (sunk entry_meaning s index.tree.1 packet)) (sym sound.shaped) (sunk-has_shape entry_meaning shape index.tree.1 sound.tree packet);
+  held = ap (λ s. holds entry_effect (sunk entry_meaning s index.tree.1 packet)) sound.shaped ∙ sunk-holds entry_meaning shape index.tree.1 sound.tree packet
+      ∙ ap (rows_after entry_effect packet) sound.held ∙ turned;
+}
 
 module _ (schema : Schema) (shape : Shape) (rows : Rows (List Value)) (batch : RowMessages) (sorted : T (is_sorted key_cmp rows)) (before : AllStand schema rows) (after : AllStand schema (rows_after row_effect batch rows)) where
   turns : (index : Index) → IsSoundIndex schema shape rows index → Turns index.def index.cover batch rows (sorted_batch (sent_for_all index.def index.cover (effects_of batch rows)))
@@ -60,7 +73,7 @@ module _ (schema : Schema) (shape : Shape) (rows : Rows (List Value)) (batch : R
   sunk_is (head ∷ heads) (tree ∷ trees) sound = λ i. index_with head (sunk_tree tree (packet_is head tree sound.0 i)) ∷ sunk_is heads trees sound.1 i
 
   pub counts_are : (heads : List IndexHead) (trees : List (Shape × EntryTree)) → length trees ≡ length heads → AreSoundIndexes schema shape rows (indexes_of heads trees) →
-      map (sent_for (effects_of (sorted_batch batch) rows)) heads ≡ map (λ index. sent_count index (packet_of rows batch index)) (indexes_of heads trees)
+      map (count_for (effects_of (sorted_batch batch) rows)) heads ≡ map (λ index. sent_count index (packet_of rows batch index)) (indexes_of heads trees)
   counts_are [] trees many sound = refl
   counts_are (head ∷ heads) [] many sound = absurd (omega (arith, many))
   counts_are (head ∷ heads) (tree ∷ trees) many sound =
@@ -81,17 +94,9 @@ module _ (schema : Schema) (shape : Shape) (rows : Rows (List Value)) (batch : R
 
   index_stays_sound : (index : Index) → IsSoundIndex schema shape rows index → IsSoundIndex schema shape (rows_after row_effect batch rows) (sunk_index index (packet_of rows batch index))
   index_stays_sound index sound =
-      let packet = packet_of rows batch index in
       let turned = turns index sound in
-      record {
-        suits = sound.suits;
-        keys = sound.keys;
-        shaped = sound.shaped;
-        tree = subst (λ s. HasShape entry_meaning.weigh shape (sunk entry_meaning s index.tree.1 packet)) (sym sound.shaped) (sunk-has_shape entry_meaning shape index.tree.1 sound.tree packet);
-        held = ap (λ s. holds entry_effect (sunk entry_meaning s index.tree.1 packet)) sound.shaped ∙ sunk-holds entry_meaning shape index.tree.1 sound.tree packet
-            ∙ ap (rows_after entry_effect packet) sound.held
-            ∙ subst (λ p. rows_after entry_effect p (index_of index.def index.cover rows) ≡ index_of index.def index.cover (rows_after row_effect batch rows)) turned.messages turned.index;
-      }
+      advanced-sound schema shape rows (rows_after row_effect batch rows) index sound (packet_of rows batch index) index.cover
+      (subst (λ p. rows_after entry_effect p (index_of index.def index.cover rows) ≡ index_of index.def index.cover (rows_after row_effect batch rows)) turned.messages turned.index)
 
   pub indexes_stay_sound : (indexes : List Index) → AreSoundIndexes schema shape rows indexes → AreSoundIndexes schema shape (rows_after row_effect batch rows) (indexes_after rows batch indexes)
   indexes_stay_sound [] sound = tt
@@ -118,15 +123,8 @@ module _ (schema : Schema) (shape : Shape) (rows : Rows (List Value)) (sorted : 
 
   pub built-sound : (n : ℕ) (index : Index) → IsSoundIndex schema shape rows index → IsSoundIndex schema shape rows (built_index n rows index)
   built-sound n index sound =
-      let packet = building_packet n rows index in
-      record {
-        suits = sound.suits;
-        keys = sound.keys;
-        shaped = sound.shaped;
-        tree = subst (λ s. HasShape entry_meaning.weigh shape (sunk entry_meaning s index.tree.1 packet)) (sym sound.shaped) (sunk-has_shape entry_meaning shape index.tree.1 sound.tree packet);
-        held = ap (λ s. holds entry_effect (sunk entry_meaning s index.tree.1 packet)) sound.shaped ∙ sunk-holds entry_meaning shape index.tree.1 sound.tree packet
-            ∙ ap (rows_after entry_effect packet) sound.held ∙ step_builds index.def (kinds_of schema.columns) rows sorted (stands index sound.keys) n index.cover;
-      }
+      advanced-sound schema shape rows rows index sound (building_packet n rows index) (cover_after n index.cover rows)
+      (step_builds index.def (kinds_of schema.columns) rows sorted (stands index sound.keys) n index.cover)
 
   -- each row has the columns that a definition names
   all_within : (def : Definition) → SuitsKinds def (kinds_of schema.columns) → (some : Rows (List Value)) → selection.AllStand (StandsUnder def (kinds_of schema.columns)) some
@@ -305,17 +303,25 @@ module _ (batch : RowMessages) (rows : Rows (List Value)) where
   packet-within : (head : IndexHead) (wide : Cover) → IsAmong head.cover wide → packet_for (effects_within wide batch rows) head ≡ packet_for (effects_of batch rows) head
   packet-within head wide among = ap sorted_batch (sent-within head.def head.cover wide among (effects_of batch rows))
 
-  pub packets-within : (cover : Cover) (heads : List IndexHead) → map (packet_for (effects_within (widest cover heads) batch rows)) heads ≡ map (packet_for (effects_of batch rows)) heads
+  packets-within : (cover : Cover) (heads : List IndexHead) → map (packet_for (effects_within (widest cover heads) batch rows)) heads ≡ map (packet_for (effects_of batch rows)) heads
   packets-within cover [] = refl
   packets-within cover (head ∷ heads) =
       let wide = wider cover head.cover in
       λ i. packet-within head (widest wide heads) (λ k is. stays_among wide heads k (second_among_wider cover head.cover k is)) i ∷ packets-within wide heads i
 
-  pub counts-within : (cover : Cover) (heads : List IndexHead) → map (sent_for (effects_within (widest cover heads) batch rows)) heads ≡ map (sent_for (effects_of batch rows)) heads
+  counts-within : (cover : Cover) (heads : List IndexHead) → map (count_for (effects_within (widest cover heads) batch rows)) heads ≡ map (count_for (effects_of batch rows)) heads
   counts-within cover [] = refl
   counts-within cover (head ∷ heads) =
       let wide = wider cover head.cover in
       λ i. record { name = head.name; count = length (packet-within head (widest wide heads) (λ k is. stays_among wide heads k (second_among_wider cover head.cover k is)) i) } ∷ counts-within wide heads i
+
+  -- so the effects within the widest cover send each index what all effects do
+  module _ (heads : List IndexHead) (wide : Cover) (wide_is : wide ≡ widest Nothing heads) (effects : List Effect) (effects_are : effects ≡ effects_within wide batch rows) where
+    pub all_packets : map (packet_for effects) heads ≡ map (packet_for (effects_of batch rows)) heads
+    all_packets = ap (λ effects. map (packet_for effects) heads) (effects_are ∙ ap (λ wide. effects_within wide batch rows) wide_is) ∙ packets-within Nothing heads
+
+    pub all_counts : map (count_for effects) heads ≡ map (count_for (effects_of batch rows)) heads
+    all_counts = ap (λ effects. map (count_for effects) heads) (effects_are ∙ ap (λ wide. effects_within wide batch rows) wide_is) ∙ counts-within Nothing heads
 
   -- where no key is covered, there are no effects on those that are
   pub none_within : (cover : Cover) → cover ≡ Nothing → [] ≡ effects_within cover batch rows

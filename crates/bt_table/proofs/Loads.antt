@@ -7,8 +7,8 @@ use Rattle.bt_rowtype.specs.declared.refusal.Refusal.TheVariants.{DuplicateKey}
 use Rattle.bt_rowtype.specs.declared.value.Value.{Value}
 use Rattle.bt_keycode.specs.Keys.{key_cmp}
 use Rattle.bt_keycode.proofs.offered.Order.{total_keys}
-use Rattle.bt_load.specs.Maps.{RowMap, key_of, map_of, map_with_rows}
-use Rattle.bt_load.specs.Standing.{AreOf}
+use Rattle.bt_keycode.specs.Standing.{AreOf, RowMap, row_key}
+use Rattle.bt_load.specs.Maps.{map_of, map_with_rows}
 use Rattle.bt_table.specs.Standing.{AllStand}
 use Rattle.bt_table.proofs.Standing.{put-stand}
 
@@ -17,10 +17,10 @@ with_rows-sorted keys item m [] map is sorted =
     let same : m ≡ map = cc in
     subst (λ (x : RowMap). T (is_sorted key_cmp x)) same sorted
 with_rows-sorted keys item m (row ∷ others) map is sorted =
-    elim (is_some (find key_cmp (key_of keys row) m))
-    as (λ b. (if b then Err (DuplicateKey item) else map_with_rows keys (item + 1) (put key_cmp (key_of keys row) row m) others) ≡ Ok map → T (is_sorted key_cmp map)) [
+    elim (is_some (find key_cmp (row_key keys row) m))
+    as (λ b. (if b then Err (DuplicateKey item) else map_with_rows keys (item + 1) (put key_cmp (row_key keys row) row m) others) ≡ Ok map → T (is_sorted key_cmp map)) [
       | true ↦ λ refused. cc
-      | false ↦ λ rest. with_rows-sorted keys (item + 1) (put key_cmp (key_of keys row) row m) others map rest (is_sorted-put key_cmp total_keys (key_of keys row) row m sorted)
+      | false ↦ λ rest. with_rows-sorted keys (item + 1) (put key_cmp (row_key keys row) row m) others map rest (is_sorted-put key_cmp total_keys (row_key keys row) row m sorted)
     ] is
 
 pub map_of-sorted : (keys : ℕ) (rows : List (List Value)) (map : RowMap) → map_of keys rows ≡ Ok map → T (is_sorted key_cmp map)
@@ -32,11 +32,11 @@ with_rows-stand schema item m [] map fit is stand =
     let same : m ≡ map = cc in
     subst (AllStand schema) same stand
 with_rows-stand schema item m (row ∷ others) map fit is stand =
-    elim (is_some (find key_cmp (key_of schema.keys row) m))
-    as (λ b. (if b then Err (DuplicateKey item) else map_with_rows schema.keys (item + 1) (put key_cmp (key_of schema.keys row) row m) others) ≡ Ok map → AllStand schema map) [
+    elim (is_some (find key_cmp (row_key schema.keys row) m))
+    as (λ b. (if b then Err (DuplicateKey item) else map_with_rows schema.keys (item + 1) (put key_cmp (row_key schema.keys row) row m) others) ≡ Ok map → AllStand schema map) [
       | true ↦ λ refused. cc
-      | false ↦ λ rest. with_rows-stand schema (item + 1) (put key_cmp (key_of schema.keys row) row m) others map fit.1 rest
-          (put-stand schema (key_of schema.keys row) row m (record { placed = refl; fits = fit.0.fits; in_range = fit.0.in_range }) stand)
+      | false ↦ λ rest. with_rows-stand schema (item + 1) (put key_cmp (row_key schema.keys row) row m) others map fit.1 rest
+          (put-stand schema (row_key schema.keys row) row m (record { placed = refl; fits = fit.0.fits; in_range = fit.0.in_range }) stand)
     ] is
 
 pub map_of-stand : (schema : Schema) (rows : List (List Value)) (map : RowMap) → AreOf schema.columns rows → map_of schema.keys rows ≡ Ok map → AllStand schema map

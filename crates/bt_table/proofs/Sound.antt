@@ -7,7 +7,7 @@ use Rattle.bt_rowtype.specs.Ops.{after_ops, default_row, upsert_as}
 use Rattle.bt_rowtype.specs.inside.Fits.{OpsFit}
 use Rattle.bt_rowtype.specs.Schemas.{Schema, fit_columns}
 use Rattle.bt_rowtype.specs.Values.{AreInRange, read_as}
-use Rattle.bt_rowtype.specs.declared.op.Op.{Op}
+use Rattle.bt_rowtype.specs.declared.upsert.op.Op.{Op}
 use Rattle.bt_rowtype.specs.Refusals.{least}
 use Rattle.bt_rowtype.specs.declared.refusal.Refusal.{Refusal}
 use Rattle.bt_rowtype.specs.declared.refusal.Refusal.TheVariants.{Building, NotEmpty}
@@ -30,7 +30,7 @@ use Rattle.bt_table.specs.Standing.{AllStand, AreOfSchema, IsOfSchema, IsSoundIn
 use Rattle.bt_table.specs.Tables.{Intact, PlainTable, after_batch}
 use Rattle.bt_fanout.specs.Entries.{Definition}
 use Rattle.bt_fanout.proofs.offered.Suiting.{of_nothing}
-use Rattle.bt_table.specs.Calls.{Upkeep, Draining, Rebuilding, renewed, renewed_index, with_index, with_index_at, with_renewed_index, with_renewed_rows, with_rows, without_index}
+use Rattle.bt_table.specs.Calls.{Upkeep, Draining, Rebuilding, renewed_tree, renewed_index, with_index, with_index_at, with_renewed_index, with_renewed_rows, with_rows, without_index}
 use Rattle.bt_table.specs.Indexes.{Index, built_index, empty_index, index_named, is_complete}
 use Rattle.bt_table.proofs.Indexes.{all_packed-sound, built-sound, indexes_stay_sound, sound-append, sound-found, sound-remove, sound-set}
 use Rattle.bt_table.proofs.Sinks.{has_shape-after_batch, holds-after_batch}
@@ -155,11 +155,11 @@ with_rows-sound table rows stand sorted complete sound = record {
 }
 
 module _ {V M : Type 0} (meaning : Meaning V M) (shape : Shape) (t : Tree V M) (has : HasShape meaning.weigh shape t) where
-  pub renewed-has_shape : (upkeep : Upkeep) → HasShape meaning.weigh shape (renewed upkeep meaning shape t)
+  pub renewed-has_shape : (upkeep : Upkeep) → HasShape meaning.weigh shape (renewed_tree upkeep meaning shape t)
   renewed-has_shape Draining = drained-has_shape meaning shape t has
   renewed-has_shape Rebuilding = rebuilt-has_shape meaning shape t has
 
-  pub renewed-holds : (upkeep : Upkeep) → holds meaning.effect (renewed upkeep meaning shape t) ≡ holds meaning.effect t
+  pub renewed-holds : (upkeep : Upkeep) → holds meaning.effect (renewed_tree upkeep meaning shape t) ≡ holds meaning.effect t
   renewed-holds Draining = drained-holds meaning shape t has
   renewed-holds Rebuilding = rebuilt-holds meaning shape t has
 
@@ -178,8 +178,8 @@ renewed_index-sound upkeep schema shape rows index sound = record {
   suits = sound.suits;
   keys = sound.keys;
   shaped = sound.shaped;
-  tree = subst (λ (s : Shape). HasShape entry_meaning.weigh shape (renewed upkeep entry_meaning s index.tree.1)) (sym sound.shaped) (renewed-has_shape entry_meaning shape index.tree.1 sound.tree upkeep);
-  held = ap (λ (s : Shape). holds entry_effect (renewed upkeep entry_meaning s index.tree.1)) sound.shaped ∙ renewed-holds entry_meaning shape index.tree.1 sound.tree upkeep ∙ sound.held;
+  tree = subst (λ (s : Shape). HasShape entry_meaning.weigh shape (renewed_tree upkeep entry_meaning s index.tree.1)) (sym sound.shaped) (renewed-has_shape entry_meaning shape index.tree.1 sound.tree upkeep);
+  held = ap (λ (s : Shape). holds entry_effect (renewed_tree upkeep entry_meaning s index.tree.1)) sound.shaped ∙ renewed-holds entry_meaning shape index.tree.1 sound.tree upkeep ∙ sound.held;
 }
 
 -- a table with a sound index at a place

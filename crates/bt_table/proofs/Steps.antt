@@ -1,5 +1,5 @@
 -- A table with these trees takes a batch, gets, builds or loses an index, loads rows, gets another tree, or is shown. Serves the calls of a table.
-use Rattle.std.proofs.Common.{ℕ, zero, suc, arith, ◌≤◌, ◌<◌, ◌≡◌, ◌∙◌, ◌++◌, Bool, T, true, false, List, [], ◌∷◌, Option, Some, None, Ok, Err, ap, sym, refl, subst, length, length-set, map, option_map, set, slice_get, if◌then◌else◌, ◌+◌, ◌||◌, is_some, nat_le}
+use Rattle.std.proofs.Common.{ℕ, zero, suc, arith, ◌≤◌, ◌<◌, ◌≡◌, ◌∙◌, ◌++◌, Bool, T, true, false, List, [], ◌∷◌, Option, Some, None, Ok, Err, ap, sym, refl, subst, length, length-set, map, option_map, set, slice_get, if◌then◌else◌, ◌+◌, ◌||◌, is_some, nat_le, IfSome}
 use Rattle.std.proofs.lemmas.Bool.{leb-false}
 use Rattle.std.proofs.lemmas.List.{length-map, length_push}
 use Rattle.std.specs.Prelude.{IsSome}
@@ -23,15 +23,15 @@ use Rattle.bt_node.specs.Flushes.{sunk}
 use Rattle.bt_node.specs.Trees.{Shape, leaf}
 use Rattle.bt_node.proofs.offered.PackedTrees.{packed-holds}
 use Rattle.bt_fanout.specs.Covers.{cover_after, next_rows}
-use Rattle.bt_fanout.specs.Effects.{EntryMessage, SuitsEffect, effects_of, row_effect, row_meaning}
+use Rattle.bt_fanout.specs.Effects.{EntryMessage, SuitsEffect, effects_of, entry_meaning, row_effect, row_meaning}
 use Rattle.bt_rowtype.specs.declared.item.Item.{Item}
 use Rattle.bt_batch.specs.Batches.{RowMessages, and_then, batch_refusals, made, messages_of, one_if}
 use Rattle.bt_fanout.specs.Entries.{Definition, IsWithin}
 use Rattle.bt_fanout.specs.Promises.{SuitsRows, own_puts}
 use Rattle.bt_fanout.specs.declared.cover.Cover.{Cover}
-use Rattle.bt_table.specs.Calls.{Apply, BuildStep, Call, CreateIndex, Drain, Draining, DropIndex, IsStep, Load, Primary, Rebuild, Rebuilding, Secondary, ShowsIndex, ShowsRows, Upkeep, after_build, after_load, built, dropped, index_refusals, is_bare, is_primary, load_refusals, renewed, renewed_index, secondary, step, tree_named, unless_any, with_index, with_index_at, with_renewed, with_renewed_index, with_renewed_rows, with_rows, without_index}
+use Rattle.bt_table.specs.Calls.{Apply, BuildStep, Call, CreateIndex, Drain, Draining, DropIndex, IsStep, Load, Primary, Rebuild, Rebuilding, Secondary, ShowsIndex, ShowsRows, Upkeep, after_build, after_load, built, dropped, index_refusals, is_bare, is_primary, load_refusals, renewed_tree, renewed_index, secondary, step, tree_named, unless_any, with_index, with_index_at, with_renewed, with_renewed_index, with_renewed_rows, with_rows, without_index}
 use Rattle.bt_table.specs.Indexes.{EntryTree, Index, advanced, built_index, index_named, index_of_ref, index_with, indexes_of, is_complete, packet_of, sent_count}
-use Rattle.bt_table.specs.inside.IndexTrees.{empty_head, entry_tree, packet_for, sent_for, sunk_tree, sunk_trees, with_cover}
+use Rattle.bt_table.specs.inside.IndexTrees.{empty_head, entry_tree, packet_for, count_for, sunk_tree, sunk_trees, with_cover}
 use Rattle.bt_table.specs.inside.Parts.{AreSoundParts}
 use Rattle.bt_table.specs.Standing.{AllStand, IsSoundIndex, IsSoundTable, Suits}
 use Rattle.bt_table.specs.Tables.{PlainTable, TableState, Intact, after_batch, held_by, state_of}
@@ -42,7 +42,7 @@ use Rattle.bt_table.specs.declared.reply.Reply.TheVariants.{Batch, Built, Create
 use Rattle.bt_table.specs.declared.reply.SentCount.{SentCount}
 use Rattle.bt_table.specs.declared.table.TheConstants.{MOST_INDEXES}
 use Rattle.bt_table.specs.declared.trees.Trees.{Trees}
-use Rattle.bt_table.proofs.Indexes.{building_packet-is, counts_are, each_suits, holds_selection, indexes_of-append, indexes_of-remove, indexes_of-set, indexes_suit, length-indexes_of, length-remove_same, length-sunk, rows_within, sunk_is, with_entry_trees}
+use Rattle.bt_table.proofs.Indexes.{building_packet-is, counts_are, each_suits, holds_selection, indexes_of-append, indexes_of-remove, indexes_of-set, indexes_suit, length-indexes_of, length-remove_same, length-sunk, put_again, rows_within, set_same, sunk_is, with_entry_trees}
 use Rattle.bt_table.proofs.offered.KeyOrder.{keys_rise}
 use Rattle.bt_table.proofs.Sinks.{stepped}
 use Rattle.bt_table.proofs.Sound.{batch_keeps_sound, batch_of_schema, found-sound, none_building, renewed-holds, rows_sorted, with_built_index-sound, with_renewed_index-sound, with_renewed_rows-sound, with_rows-sound, with_index-sound, without_index-sound}
@@ -111,13 +111,6 @@ module _ (schema : Schema) (heads : List IndexHead) (kept : Option Trees) (trees
   few_indexes : length heads ≤ MOST_INDEXES
   few_indexes = (subst (AreSoundParts schema heads) is sound).1.1
 
-  -- so there are few trees in a round
-  pub few_trees : (taken : Trees) → kept ≡ Some taken → length taken.entries.items ≤ 65535
-  few_trees taken took =
-      let same_number : length taken.entries.items ≡ length heads = ap (λ (t : Trees). length t.entries.items) (same is took) ∙ each_has_tree in
-      let few = few_indexes in
-      omega arith
-
   module _ (items : List Item) where
     abbrev batch : RowMessages
     batch = messages_of schema items
@@ -135,7 +128,7 @@ module _ (schema : Schema) (heads : List IndexHead) (kept : Option Trees) (trees
       pub each_has_packet : length packets ≡ length taken.entries.items
       each_has_packet = ap length packets_are ∙ length-map heads sent_by ∙ sym (ap (λ (t : Trees). length t.entries.items) (same is took) ∙ each_has_tree)
 
-      module _ (sent : List SentCount) (sent_are : sent ≡ map (sent_for (effects_of (sorted_batch batch) before.rows)) heads) (new : Trees) (after : Option Trees) (put : after ≡ Some new)
+      module _ (sent : List SentCount) (sent_are : sent ≡ map (count_for (effects_of (sorted_batch batch) before.rows)) heads) (new : Trees) (after : Option Trees) (put : after ≡ Some new)
           (rows_are : new.rows ≡ (taken.rows.0, sunk row_meaning taken.rows.0 taken.rows.1 (sorted_batch batch))) (entries_are : new.entries.items ≡ sunk_trees taken.entries.items packets) where
         trees_are : new.entries.items ≡ sunk_trees trees.entries.items (map sent_by heads)
         trees_are = entries_are ∙ (λ i. sunk_trees (same is took i).entries.items (packets_are i))
@@ -291,12 +284,12 @@ module _ (schema : Schema) (heads : List IndexHead) (kept : Option Trees) (trees
       renewed_step = ap (λ s. step s (upkeep_call upkeep name)) state_is ∙ upkeep_step upkeep before name
 
       module _ (taken from new : Trees) (took : kept ≡ Some taken) (whole : kept ≡ Some from) (after : Option Trees) (put : after ≡ Some new)
-          (rows_are : new.rows ≡ (from.rows.0, renewed upkeep row_meaning from.rows.0 from.rows.1)) (entries_are : new.entries.items ≡ taken.entries.items) where
+          (rows_are : new.rows ≡ (from.rows.0, renewed_tree upkeep row_meaning from.rows.0 from.rows.1)) (entries_are : new.entries.items ≡ taken.entries.items) where
         rows_to : held_by schema new.rows (indexes_of heads new.entries.items) ≡ with_renewed_rows upkeep before
         rows_to =
             (λ i. held_by schema (rows_are i) (indexes_of heads (entries_are i)))
-            ∙ (λ i. held_by schema ((same is whole i).rows.0, renewed upkeep row_meaning (same is whole i).rows.0 (same is whole i).rows.1) (indexes_of heads (same is took i).entries.items))
-            ∙ (λ i. record { schema = schema; shape = trees.rows.0; rows = renewed-holds row_meaning trees.rows.0 trees.rows.1 was_sound.tree upkeep i; tree = renewed upkeep row_meaning trees.rows.0 trees.rows.1; indexes = indexes })
+            ∙ (λ i. held_by schema ((same is whole i).rows.0, renewed_tree upkeep row_meaning (same is whole i).rows.0 (same is whole i).rows.1) (indexes_of heads (same is took i).entries.items))
+            ∙ (λ i. record { schema = schema; shape = trees.rows.0; rows = renewed-holds row_meaning trees.rows.0 trees.rows.1 was_sound.tree upkeep i; tree = renewed_tree upkeep row_meaning trees.rows.0 trees.rows.1; indexes = indexes })
 
         pub renewed_rows_is_sound : AreSoundParts schema heads after
         renewed_rows_is_sound =
@@ -321,15 +314,11 @@ module _ (schema : Schema) (heads : List IndexHead) (kept : Option Trees) (trees
       pub found_within : All (λ row. IsWithin shown.def (length row.1)) before.rows
       found_within = rows_within schema before.shape before.rows (rows_sorted before was_sound) was_sound.rows shown index_found.suits index_found.keys
 
-      pub step_change : (n : ℕ) (packet : Messages EntryMessage) (cover : Cover) → packet ≡ sorted_batch (own_puts shown.def (next_rows n shown.cover before.rows))
+      step_change : (n : ℕ) (packet : Messages EntryMessage) (cover : Cover) → packet ≡ sorted_batch (own_puts shown.def (next_rows n shown.cover before.rows))
           → cover ≡ cover_after n shown.cover before.rows → index_with (with_cover index.head.now cover) (sunk_tree index.tree.now packet) ≡ built_index n before.rows shown
       step_change n packet cover packet_is cover_is =
           let sent = packet_is ∙ building_packet-is schema before.shape before.rows (rows_sorted before was_sound) was_sound.rows n shown index_found in
           λ i. advanced shown (sent i) (cover_is i)
-
-      -- the tree that is taken out of its place is its own
-      pub own_tree : (taken : Trees) → kept ≡ Some taken → slice_get trees.entries.items place ≡ Some index.tree.now → (tree : Shape × EntryTree) → slice_get taken.entries.items place ≡ Some tree → tree ≡ index.tree.now
-      own_tree taken took there tree out = same there (subst (λ (t : Trees). slice_get t.entries.items place ≡ Some tree) (same is took) out)
 
       -- it is changed in its place
       module _ (taken new : Trees) (took : kept ≡ Some taken) (after : Option Trees) (put : after ≡ Some new) (rows_are : new.rows ≡ taken.rows) (others : List IndexHead) (head : IndexHead) (tree : Shape × EntryTree)
@@ -368,14 +357,52 @@ module _ (schema : Schema) (heads : List IndexHead) (kept : Option Trees) (trees
           built_to : held_by schema new.rows (indexes_of others new.entries.items) ≡ with_index_at before place (built_index n before.rows shown)
           built_to = index_to ∙ ap (with_index_at before place) change_is
 
-          pub built_index_is_sound : AreSoundParts schema others after
+          built_index_is_sound : AreSoundParts schema others after
           built_index_is_sound = put_is_sound schema others after new put (subst IsSoundTable (sym built_to) (with_built_index-sound before name (place, shown) found was_sound n)) one_each few_still
 
-          pub build_is_step : (own : List ℕ) (read : ℕ) (complete : Bool) → own ≡ name → read ≡ length (next_rows n shown.cover before.rows) → complete ≡ is_complete (built_index n before.rows shown)
+          build_is_step : (own : List ℕ) (read : ℕ) (complete : Bool) → own ≡ name → read ≡ length (next_rows n shown.cover before.rows) → complete ≡ is_complete (built_index n before.rows shown)
               → is_complete shown ≡ false → IsStep state (state_of schema others after) (BuildStep name n) (Built own read complete)
           build_is_step own read complete named read_is complete_is building =
               ap (λ s. step s (BuildStep name n)) state_is ∙ ap (built before name n) found ∙ ap (λ b. if b then Err AlreadyComplete else Ok (after_build before name n (place, shown))) building
               ∙ (λ i. Ok (sym (state_is_put schema others after new put (with_index_at before place (built_index n before.rows shown)) built_to) i, Built (sym named i) (sym read_is i) (sym complete_is i)))
+
+      -- its tree is taken out of its place, and another one is put there
+      module _ (taken new : Trees) (took : kept ≡ Some taken) (after : Option Trees) (put : after ≡ Some new) (rows_are : new.rows ≡ taken.rows) (head_there : slice_get heads place ≡ Some index.head.now)
+          (tree_there : slice_get trees.entries.items place ≡ Some index.tree.now) (out : Shape × EntryTree) (is_out : slice_get taken.entries.items place ≡ Some out) (hole : Shape × EntryTree) (others : List (Shape × EntryTree))
+          (others_are : others ≡ set taken.entries.items place hole) (tree : Shape × EntryTree) (entries_are : new.entries.items ≡ set others place tree) where
+        out_is : out ≡ index.tree.now
+        out_is = same tree_there (subst (λ (t : Trees). slice_get t.entries.items place ≡ Some out) (same is took) is_out)
+
+        back : new.entries.items ≡ set taken.entries.items place tree
+        back = put_again place taken.entries.items others new.entries.items hole tree others_are entries_are
+
+        module _ (tree_is : tree ≡ (out.0, renewed_tree Draining entry_meaning out.0 out.1)) where
+          drained_is : index_with index.head.now tree ≡ renewed_index Draining shown
+          drained_is = ap (index_with index.head.now) tree_is ∙ ap (λ t. renewed_index Draining (index_with index.head.now t)) out_is
+
+          heads_stay : heads ≡ set heads place index.head.now
+          heads_stay = sym (set_same place heads index.head.now head_there)
+
+          pub drained_index_is_sound : AreSoundParts schema heads after
+          drained_index_is_sound = renewed_index_is_sound taken new took after put rows_are heads index.head.now tree heads_stay back Draining drained_is
+
+          pub drained_index_is_step : (own : List ℕ) → own ≡ name → is_primary name ≡ false → IsStep state (state_of schema heads after) (Drain name) (Drained own)
+          drained_index_is_step = renewed_index_is_step taken new took after put rows_are heads index.head.now tree heads_stay back Draining drained_is
+
+        module _ (n : ℕ) (packet : Messages EntryMessage) (cover : Cover) (packet_is : packet ≡ sorted_batch (own_puts shown.def (next_rows n shown.cover before.rows))) (cover_is : cover ≡ cover_after n shown.cover before.rows)
+            (newer : List IndexHead) (newer_are : IfSome (slice_get heads place) (λ head. newer ≡ set heads place (with_cover head cover))) (tree_is : tree ≡ sunk_tree out packet) where
+          newer_is : newer ≡ set heads place (with_cover index.head.now cover)
+          newer_is = subst (λ o. IfSome o (λ head. newer ≡ set heads place (with_cover head cover))) head_there newer_are
+
+          built_is : index_with (with_cover index.head.now cover) tree ≡ built_index n before.rows shown
+          built_is = ap (index_with (with_cover index.head.now cover)) (tree_is ∙ ap (λ t. sunk_tree t packet) out_is) ∙ step_change n packet cover packet_is cover_is
+
+          pub advanced_index_is_sound : AreSoundParts schema newer after
+          advanced_index_is_sound = built_index_is_sound taken new took after put rows_are newer (with_cover index.head.now cover) tree newer_is back n built_is
+
+          pub advance_is_step : (own : List ℕ) (read : ℕ) (complete : Bool) → own ≡ name → read ≡ length (next_rows n shown.cover before.rows) → complete ≡ is_complete (built_index n before.rows shown)
+              → is_complete shown ≡ false → IsStep state (state_of schema newer after) (BuildStep name n) (Built own read complete)
+          advance_is_step = build_is_step taken new took after put rows_are newer (with_cover index.head.now cover) tree newer_is back n built_is
 
     -- ---- what is shown
 

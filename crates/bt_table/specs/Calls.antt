@@ -134,17 +134,17 @@ pub data Upkeep : Type 0 where
   Rebuilding : Upkeep
 
 -- a tree after it
-abbrev pub renewed : {V M : Type 0} → Upkeep → Meaning V M → Shape → Tree V M → Tree V M
-renewed Draining meaning shape t = drained meaning shape t
-renewed Rebuilding meaning shape t = rebuilt meaning.effect shape t
+abbrev pub renewed_tree : {V M : Type 0} → Upkeep → Meaning V M → Shape → Tree V M → Tree V M
+renewed_tree Draining meaning shape t = drained meaning shape t
+renewed_tree Rebuilding meaning shape t = rebuilt meaning.effect shape t
 
 -- an index after it
 abbrev pub renewed_index : Upkeep → Index → Index
-renewed_index upkeep index = with_tree index (index.tree.0, renewed upkeep entry_meaning index.tree.0 index.tree.1)
+renewed_index upkeep index = with_tree index (index.tree.0, renewed_tree upkeep entry_meaning index.tree.0 index.tree.1)
 
 -- a table after it was done for the tree of its rows, and for the index that was found at a place
 abbrev pub with_renewed_rows : Upkeep → PlainTable → PlainTable
-with_renewed_rows upkeep table = record table { tree = renewed upkeep row_meaning table.shape table.tree }
+with_renewed_rows upkeep table = record table { tree = renewed_tree upkeep row_meaning table.shape table.tree }
 
 abbrev pub with_renewed_index : Upkeep → PlainTable → ℕ × Index → PlainTable
 with_renewed_index upkeep table found = with_index_at table found.0 (renewed_index upkeep found.1)

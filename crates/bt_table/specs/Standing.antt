@@ -18,7 +18,7 @@ use Rattle.bt_batch.specs.Batches.{KeyedMessage, RowMessages}
 use Rattle.bt_table.specs.Indexes.{Index, is_complete}
 use Rattle.bt_table.specs.Tables.{PlainTable, TableState, Intact, Lost}
 -- each of the rows stands under the code of its key columns, and is of the schema: one value of each column's kind, within the range of its kind
-pub use Rattle.bt_load.specs.Standing.{AllStand, Stands}
+pub use Rattle.bt_keycode.specs.Standing.{AllStand, Stands}
 
 -- an index is sound beside rows: its definition is one of the schema, its tree fits the shape of the table and holds what its definition selects of the rows that it covers
 pub record IsSoundIndex (schema : Schema) (shape : Shape) (rows : Rows (List Value)) (index : Index) : Type 0 where

@@ -8,7 +8,7 @@ ghost use Rattle.bt_fanout.specs.Covers.{is_whole};
 ghost use Rattle.bt_fanout.specs.Promises.{SuitsRows};
 ghost use Rattle.bt_table.specs.Indexes as spec;
 ghost use Rattle.bt_table.specs.Indexes.{index_of_ref, indexes_of};
-ghost use Rattle.bt_table.specs.inside.IndexTrees.{covers_all, empty_head, entry_tree, packet_for, sent_for, widest, with_cover};
+ghost use Rattle.bt_table.specs.inside.IndexTrees.{covers_all, empty_head, entry_tree, packet_for, count_for, widest, with_cover};
 
 use crate::reply::SentCount;
 use crate::workforce::Workforce;
@@ -38,7 +38,7 @@ pub struct IndexRef<'a> {
 }
 
 /// Adds an index that has no row yet behind the others. An `Err` changes none.
-pub fn add_index(
+pub(crate) fn add_index(
     alloc: Global,
     heads: &mut Vec<IndexHead>,
     entries: &mut Vec<Tree<Entry>>,
@@ -60,14 +60,14 @@ pub fn add_index(
 }
 
 /// Whether an index with this cover is complete: it has each row.
-pub fn is_whole(cover: &Cover) -> bool
+pub(crate) fn is_whole(cover: &Cover) -> bool
     ensures { result ≡ is_whole cover.now }
 {
     matches!(cover, Cover::Whole)
 }
 
 /// Whether all indexes are.
-pub fn are_complete(heads: &[IndexHead]) -> bool
+pub(crate) fn are_complete(heads: &[IndexHead]) -> bool
     ensures { result ≡ list_all covers_all heads.now }
 {
     for head in heads {
@@ -79,7 +79,7 @@ pub fn are_complete(heads: &[IndexHead]) -> bool
 }
 
 /// The index of this name, and its place, counted from 0.
-pub fn find_index<'a>(
+pub(crate) fn find_index<'a>(
     heads: &'a [IndexHead],
     entries: &'a [Tree<Entry>],
     name: &Text,
@@ -101,9 +101,9 @@ pub fn find_index<'a>(
 }
 
 /// What a batch sends to indexes: a packet for each, and how many messages it has.
-pub struct FanOut {
-    pub packets: Vec<Packet<Entry>>,
-    pub sent: Sequence<SentCount>,
+pub(crate) struct FanOut {
+    pub(crate) packets: Vec<Packet<Entry>>,
+    pub(crate) sent: Sequence<SentCount>,
 }
 
 // What effects on rows send to indexes.
@@ -117,7 +117,7 @@ fn packets_for<T, W: Workforce<T>>(
     requires ready { W.accepts workforce.now }
     requires suits { All (λ head. All (SuitsEffect head.def) effects.now) heads.now }
     ensures packets { IfOk result (λ out. out.packets.items ≡ map (packet_for effects.now) heads.now) }
-    ensures sent { IfOk result (λ out. out.sent ≡ map (sent_for effects.now) heads.now) }
+    ensures sent { IfOk result (λ out. out.sent ≡ map (count_for effects.now) heads.now) }
 {
     let mut packets = Vec::new(alloc);
     let mut sent = Sequence::new(alloc);
@@ -145,7 +145,7 @@ fn widest_cover<'a>(cover: &'a Cover, heads: &'a [IndexHead]) -> &'a Cover
 
 /// What a packet of rows sends to the indexes of a table with this tree of rows. No key that none of them covers is looked up, and nothing is read
 /// where they cover none.
-pub fn fan_out<T, W: Workforce<T>>(
+pub(crate) fn fan_out<T, W: Workforce<T>>(
     rt: &T,
     alloc: Global,
     tree: &Tree<Row>,
@@ -156,7 +156,7 @@ pub fn fan_out<T, W: Workforce<T>>(
     requires ready { W.accepts workforce.now }
     requires suits { All (λ head. All (SuitsEffect head.def) (effects_of packet.now (holds row_effect tree.now.1))) heads.now }
     ensures packets { IfOk result (λ out. out.packets.items ≡ map (packet_for (effects_of packet.now (holds row_effect tree.now.1))) heads.now) }
-    ensures sent { IfOk result (λ out. out.sent ≡ map (sent_for (effects_of packet.now (holds row_effect tree.now.1))) heads.now) }
+    ensures sent { IfOk result (λ out. out.sent ≡ map (count_for (effects_of packet.now (holds row_effect tree.now.1))) heads.now) }
 {
     let nothing = Cover::Nothing;
     let cover = widest_cover(&nothing, heads);
@@ -168,7 +168,7 @@ pub fn fan_out<T, W: Workforce<T>>(
 }
 
 /// Takes out the tree at a place, and leaves an empty one there.
-pub fn take_tree(alloc: Global, entries: &mut Vec<Tree<Entry>>, place: usize) -> Tree<Entry>
+pub(crate) fn take_tree(alloc: Global, entries: &mut Vec<Tree<Entry>>, place: usize) -> Tree<Entry>
     requires { place < length entries.old.items }
     ensures taken { slice_get entries.old.items place ≡ Some result }
     ensures empty { entries.new.items ≡ set entries.old.items place (result.0, leaf []) }
@@ -178,7 +178,7 @@ pub fn take_tree(alloc: Global, entries: &mut Vec<Tree<Entry>>, place: usize) ->
 }
 
 /// Puts a tree in the place of another one.
-pub fn put_tree(entries: &mut Vec<Tree<Entry>>, place: usize, tree: Tree<Entry>)
+pub(crate) fn put_tree(entries: &mut Vec<Tree<Entry>>, place: usize, tree: Tree<Entry>)
     requires { place < length entries.old.items }
     ensures { entries.new.items ≡ set entries.old.items place tree }
 {
@@ -186,7 +186,7 @@ pub fn put_tree(entries: &mut Vec<Tree<Entry>>, place: usize, tree: Tree<Entry>)
 }
 
 /// Has the index at a place cover other keys.
-pub fn put_cover(heads: &mut Vec<IndexHead>, place: usize, cover: Cover)
+pub(crate) fn put_cover(heads: &mut Vec<IndexHead>, place: usize, cover: Cover)
     requires { place < length heads.old.items }
     ensures { IfSome (slice_get heads.old.items place) (λ head. heads.new.items ≡ set heads.old.items place (with_cover head cover)) }
 {
@@ -208,7 +208,7 @@ fn packed_entries(
 }
 
 /// For each index the packed tree of the entries of rows.
-pub fn pack_entries(
+pub(crate) fn pack_entries(
     alloc: Global,
     shape: Shape,
     heads: &[IndexHead],

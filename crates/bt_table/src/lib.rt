@@ -20,13 +20,15 @@
 //! `Standing` what is true of a table between any two calls.
 #![tactic(auto)]
 
+mod alone;
 mod index;
 mod reply;
 mod table;
 mod trees;
 mod workforce;
 
+pub use alone::Alone;
 pub use index::{IndexHead, IndexRef};
 pub use reply::{Reply, SentCount};
 pub use table::{MOST_INDEXES, Table, TreeRef};
-pub use workforce::{Alone, Workforce};
+pub use workforce::Workforce;

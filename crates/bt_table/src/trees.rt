@@ -5,6 +5,7 @@ ghost use Rattle.bt_node.specs.Flushes.{sunk};
 ghost use Rattle.bt_fanout.specs.Effects.{row_meaning};
 ghost use Rattle.bt_table.specs.inside.IndexTrees.{sunk_tree, sunk_trees};
 
+use crate::table::MOST_INDEXES;
 use crate::workforce::Workforce;
 use bt_messages::{Entry, Packet};
 use bt_node::Tree;
@@ -25,10 +26,7 @@ pub(crate) fn take_trees(trees: &mut Option<Trees>) -> Trees
     ensures taken { trees.old ≡ Some result }
     ensures none { trees.new ≡ None }
 {
-    let Some(taken) = trees.take() else {
-        unreachable!()
-    };
-    taken
+    trees.take().unwrap()
 }
 
 /// Puts trees into a table, in place of those that it has.
@@ -40,12 +38,12 @@ pub(crate) fn put_trees(trees: &mut Option<Trees>, put: Trees)
 
 /// Room for trees with their packets. It is asked for before the trees leave the table.
 #[derive(Drop)]
-pub(crate) struct Room {
+pub(crate) struct TreeRoom {
     pub(crate) rows: Vec<(Tree<Row>, Packet<Row>)>,
     pub(crate) entries: Vec<(Tree<Entry>, Packet<Entry>)>,
 }
 
-impl Room {
+impl TreeRoom {
     /// Room for so many trees of rows and of entries.
     pub(crate) fn new(alloc: Global, rows: usize, entries: usize) -> Result<Self, AllocError>
         ensures rows { IfOk result (λ room. (room.rows.items ≡ []) × (rows ≤ vec_capacity room.rows)) }
@@ -53,7 +51,7 @@ impl Room {
     {
         let rows = Vec::with_capacity(alloc, rows)?;
         let entries = Vec::with_capacity(alloc, entries)?;
-        Ok(Room { rows, entries })
+        Ok(TreeRoom { rows, entries })
     }
 }
 
@@ -70,9 +68,7 @@ fn with_packets(
     let mut pairs = room;
     let mut packets = packets.into_iter();
     for tree in trees {
-        let Some(packet) = packets.next() else {
-            unreachable!()
-        };
+        let packet = packets.next().unwrap();
         pairs.push_reserved((tree, packet));
     }
     pairs
@@ -83,20 +79,20 @@ pub(crate) fn sunk_all<T, W: Workforce<T>>(
     rt: &T,
     alloc: Global,
     workforce: &W,
-    room: Room,
+    room: TreeRoom,
     trees: Trees,
     packet: Packet<Row>,
     packets: Vec<Packet<Entry>>,
 ) -> Result<Trees, AllocError>
     requires ready { W.accepts workforce.now }
     requires same { length packets.items ≡ length trees.entries.items }
-    requires few { length trees.entries.items ≤ 65535 }
+    requires few { length trees.entries.items ≤ MOST_INDEXES }
     requires rows_room { (room.rows.items ≡ []) × (1 ≤ vec_capacity room.rows) }
     requires room { (room.entries.items ≡ []) × (length trees.entries.items ≤ vec_capacity room.entries) }
     ensures rows { IfOk result (λ after. after.rows ≡ (trees.rows.0, sunk row_meaning trees.rows.0 trees.rows.1 packet)) }
     ensures entries { IfOk result (λ after. after.entries.items ≡ sunk_trees trees.entries.items packets.items) }
 {
-    let Room {
+    let TreeRoom {
         mut rows,
         entries: entry_room,
     } = room;
@@ -107,9 +103,7 @@ pub(crate) fn sunk_all<T, W: Workforce<T>>(
     rows.push_reserved((tree, packet));
     let entries = with_packets(entries, packets, entry_room);
     let (mut rows, entries) = workforce.sink(rt, alloc, rows, entries)?;
-    let Some(rows) = rows.pop() else {
-        unreachable!()
-    };
+    let rows = rows.pop().unwrap();
     Ok(Trees { rows, entries })
 }
 
@@ -118,7 +112,7 @@ pub(crate) fn sunk_one<T, W: Workforce<T>>(
     rt: &T,
     alloc: Global,
     workforce: &W,
-    room: Room,
+    room: TreeRoom,
     tree: Tree<Entry>,
     packet: Packet<Entry>,
 ) -> Result<Tree<Entry>, AllocError>
@@ -127,12 +121,9 @@ pub(crate) fn sunk_one<T, W: Workforce<T>>(
     requires room { (room.entries.items ≡ []) × (1 ≤ vec_capacity room.entries) }
     ensures tree { IfOk result (λ after. after ≡ sunk_tree tree packet) }
 {
-    let Room { rows, mut entries } = room;
+    let TreeRoom { rows, mut entries } = room;
     entries.push_reserved((tree, packet));
     let (rows, mut entries) = workforce.sink(rt, alloc, rows, entries)?;
     drop(rows);
-    let Some(tree) = entries.pop() else {
-        unreachable!()
-    };
-    Ok(tree)
+    Ok(entries.pop().unwrap())
 }

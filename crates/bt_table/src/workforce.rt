@@ -1,7 +1,6 @@
 //! Who works for a table: the caller alone, or a crew.
 ghost use Rattle.std.specs.Prelude.{◌≡◌, ◌≢◌, ◌≤◌, ◌+◌, ◌++◌, IfErr, IfOk, IsErrOf, None, OnErr, OnOk, Some, length};
 ghost use Rattle.std.specs.List.{All};
-ghost use Rattle.bt_messages.specs.Meanings.{meaning_of};
 ghost use Rattle.bt_messages.specs.Messages.{sorted_batch};
 ghost use Rattle.bt_node.specs.Drains.{drained, rebuilt};
 ghost use Rattle.bt_node.specs.Flushes.{holds};
@@ -16,14 +15,11 @@ ghost use Rattle.bt_table.specs.Tables.{Lost};
 
 use crate::reply::Reply;
 use crate::table::Table;
-use bt_batch::{read_packet, read_packet_alone};
-use bt_fanout::{
-    Cover, Effect, IndexDef, effects, effects_alone, index_packet, index_packet_alone,
-};
+use bt_batch::read_packet;
+use bt_fanout::{Cover, Effect, IndexDef, effects, index_packet};
 use bt_gang::{Crew, Gate, NoGate};
-use bt_gather::{drain, rebuild, sink};
-use bt_load::{InThreads, InTurn};
-use bt_messages::{Entry, Merge, Packet};
+use bt_gather::{MOST_TREES, drain, rebuild, sink};
+use bt_messages::{Entry, Packet};
 use bt_node::Tree;
 use bt_rowtype::{Item, Refusal, Row, Schema};
 use std::alloc::{AllocError, Global};
@@ -33,8 +29,8 @@ use std::thread::Threads;
 /// Who works in the calls of a table. A library for C may start no thread, and a program has a crew: what is generic in a workforce has one body
 /// for both, and starts threads and waits only where its workforce does. Whoever it is, the calls have the same clauses.
 ///
-/// Two work: [`Alone`], and a [`Crew`], where the runtime has threads. A crew has no gate, or one that is lent as `&(dyn Gate + Sync)`: inside an `impl` it
-/// is not known of a type parameter that all workers may call its methods, so the type of a gate has to be named.
+/// Two work: [`Alone`](crate::Alone), and a [`Crew`], where the runtime has threads. A crew has no gate, or one that is lent as `&(dyn Gate + Sync)`: inside
+/// an `impl` it is not known of a type parameter that all workers may call its methods, so the type of a gate has to be named.
 pub trait Workforce<T> {
     /// What is asked of a workforce: of a crew, that the runtime may be shared by its workers.
     ghost accepts: { Self → Type 0 };
@@ -86,7 +82,7 @@ pub trait Workforce<T> {
         entries: Vec<(Tree<Entry>, Packet<Entry>)>,
     ) -> Result<(Vec<Tree<Row>>, Vec<Tree<Entry>>), AllocError>
         requires ready { accepts self.now }
-        requires few { length rows.items + length entries.items ≤ 65536 }
+        requires few { length rows.items + length entries.items ≤ MOST_TREES }
         ensures rows { IfOk result (λ trees. trees.0.items ≡ all_sunk row_meaning rows.items) }
         ensures entries { IfOk result (λ trees. trees.1.items ≡ all_sunk entry_meaning entries.items) };
 
@@ -129,115 +125,6 @@ pub trait Workforce<T> {
         ensures failed { table.old ≡ Lost → IsErrOf result refusal.Failed }
         ensures complete { CompleteIndexesHold table.new }
         ensures sound { IsSoundUnlessLost table.new };
-}
-
-/// The caller alone: no thread is started, and nothing waits.
-#[derive(Drop)]
-pub struct Alone;
-
-// Each tree after its packet.
-fn sink_each<V: Merge>(
-    alloc: Global,
-    trees: Vec<(Tree<V>, Packet<V>)>,
-) -> Result<Vec<Tree<V>>, AllocError>
-    ensures { IfOk result (λ sunk. sunk.items ≡ all_sunk (meaning_of V.terms) trees.items) }
-{
-    let mut sunk = Vec::with_capacity(alloc, trees.len())?;
-    for (tree, packet) in trees {
-        sunk.push_reserved(tree.sink(alloc, packet)?);
-    }
-    Ok(sunk)
-}
-
-impl<T> Workforce<T> for Alone {
-    ghost use Rattle.std.specs.Prelude.{⊤};
-
-    ghost accepts = { λ _. ⊤ };
-
-    fn read_packet(
-        &self,
-        _rt: &T,
-        alloc: Global,
-        schema: &Schema,
-        items: &[Item<'_>],
-    ) -> Result<Packet<Row>, Refusal> {
-        read_packet_alone(alloc, schema, items)
-    }
-
-    fn effects(
-        &self,
-        _rt: &T,
-        alloc: Global,
-        tree: &Tree<Row>,
-        packet: &Packet<Row>,
-        cover: &Cover,
-    ) -> Result<Vec<Effect>, AllocError> {
-        effects_alone(alloc, tree, packet, cover)
-    }
-
-    fn index_packet(
-        &self,
-        _rt: &T,
-        alloc: Global,
-        def: &IndexDef,
-        cover: &Cover,
-        effects: &[Effect],
-    ) -> Result<Packet<Entry>, AllocError> {
-        index_packet_alone(alloc, def, cover, effects)
-    }
-
-    fn sink(
-        &self,
-        _rt: &T,
-        alloc: Global,
-        rows: Vec<(Tree<Row>, Packet<Row>)>,
-        entries: Vec<(Tree<Entry>, Packet<Entry>)>,
-    ) -> Result<(Vec<Tree<Row>>, Vec<Tree<Entry>>), AllocError> {
-        let rows = sink_each(alloc, rows)?;
-        let entries = sink_each(alloc, entries)?;
-        Ok((rows, entries))
-    }
-
-    fn drain_rows(&self, _rt: &T, alloc: Global, tree: Tree<Row>) -> Result<Tree<Row>, AllocError> {
-        tree.drain(alloc)
-    }
-
-    fn drain_entries(
-        &self,
-        _rt: &T,
-        alloc: Global,
-        tree: Tree<Entry>,
-    ) -> Result<Tree<Entry>, AllocError> {
-        tree.drain(alloc)
-    }
-
-    fn rebuild_rows(
-        &self,
-        _rt: &T,
-        alloc: Global,
-        tree: &Tree<Row>,
-    ) -> Result<Tree<Row>, AllocError> {
-        tree.rebuild(alloc)
-    }
-
-    fn rebuild_entries(
-        &self,
-        _rt: &T,
-        alloc: Global,
-        tree: &Tree<Entry>,
-    ) -> Result<Tree<Entry>, AllocError> {
-        tree.rebuild(alloc)
-    }
-
-    fn load(
-        &self,
-        _rt: &T,
-        alloc: Global,
-        table: &mut Table,
-        text: &[u8],
-    ) -> Result<Reply, Refusal> {
-        table.load_by(&InTurn, alloc, text)
-    }
 }
 
 impl<T: Threads + Wait + Sync> Workforce<T> for Crew<NoGate> {

@@ -13,7 +13,7 @@ use Rattle.bt_rowtype.specs.declared.value.Kind.{Kind}
 use Rattle.bt_rowtype.specs.declared.value.Value.{Value}
 use Rattle.bt_rowtype.proofs.offered.Kinds.{fits_kind_of, same_kind-itself}
 use Rattle.bt_keycode.specs.Codes.{IsCodeOf, IsNoCode, code_of, kind_of}
-use Rattle.bt_keycode.specs.inside.Decoding.{decoded}
+use Rattle.bt_keycode.specs.Decodings.{decoded}
 use Rattle.bt_keycode.specs.Keys.{Key}
 use Rattle.bt_keycode.proofs.offered.Decoded.{decoded_again}
 use Rattle.bt_view.specs.inside.Entries.{has_bits, if_coded, is_of_kind, values_coded}

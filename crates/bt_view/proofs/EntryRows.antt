@@ -15,7 +15,9 @@ use Rattle.bt_node.specs.Messages.{Rows, between}
 use Rattle.bt_fanout.specs.Selections.{with_entry}
 use Rattle.bt_view.specs.inside.Entries.{after_entry, row_of_entry, rows_of_entries}
 use Rattle.bt_view.specs.inside.EntryParts.{shown}
+use Rattle.bt_view.specs.inside.Shown.{rows_shown}
 use Rattle.bt_view.specs.declared.range.KeyRange.{KeyRange}
+use Rattle.bt_view.specs.declared.shown.Shown.{Shown}
 
 module _ (kinds : List Kind) where
   -- rows under the keys of entries, each what its entry shows
@@ -76,8 +78,8 @@ module _ (kinds : List Kind) where
       ap (λ row. cons_option (option_map (λ row. (e.0, row)) row) (rows_of_entries kinds es)) all.1
       ∙ ap (λ k. (k, r.1) ∷ rows_of_entries kinds es) all.0 ∙ ap (λ rows. r ∷ rows) (shown-rows es rs all.2)
 
--- what a visitor of rows is after entries
-pub gone-through : {S : Type 0} (visited : S → Key × List Value → S) (kinds : List Kind) (visitor : S) (entries : Rows (List Value)) (old new : List Kind × S) → ◌≡◌ {A = List Kind × S} old (kinds, visitor)
-    → ◌≡◌ {A = List Kind × S} new (fold (after_entry visited) old entries) → new.1 ≡ fold visited visitor (rows_of_entries kinds entries)
-gone-through {S} visited kinds visitor entries old new begins is =
-    ap (λ (r : List Kind × S). r.1) (is ∙ ap (λ (r : List Kind × S). fold (after_entry visited) r entries) begins ∙ shown visited (kinds, visitor) entries)
+-- what a visitor of rows is after the entries by which rows are shown
+pub gone-through : {S : Type 0} (visited : S → Key × List Value → S) (rows : Shown) (visitor : S) (kinds : List Kind) (entries : Rows (List Value)) (old new : List Kind × S) → rows_shown rows ≡ rows_of_entries kinds entries
+    → ◌≡◌ {A = List Kind × S} old (kinds, visitor) → ◌≡◌ {A = List Kind × S} new (fold (after_entry visited) old entries) → new.1 ≡ fold visited visitor (rows_shown rows)
+gone-through {S} visited rows visitor kinds entries old new shows begins is =
+    ap (λ (r : List Kind × S). r.1) (is ∙ ap (λ (r : List Kind × S). fold (after_entry visited) r entries) begins ∙ shown visited (kinds, visitor) entries) ∙ ap (fold visited visitor) (sym shows)

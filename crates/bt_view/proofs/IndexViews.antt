@@ -1,11 +1,11 @@
 -- What a range of an index is answered with. Serves scans and sums of an index.
-use Rattle.std.proofs.Common.{◌≡◌, ◌∙◌, ◌≤◌, ◌<◌, ℕ, arith, length, Bool, true, false, List, [], Option, Some, Result, Ok, Err, ap, fold, map, refl, subst, sym, take, if◌then◌else◌}
+use Rattle.std.proofs.Common.{◌≡◌, ◌≢◌, ◌∙◌, ◌≤◌, ◌<◌, ℕ, arith, length, Bool, true, false, List, [], Option, Some, Result, Ok, Err, ap, fold, map, refl, subst, sym, take, if◌then◌else◌}
 use Rattle.std.proofs.lemmas.List.{length-map}
 use Rattle.std.specs.List.{All}
 use Rattle.bt_rowtype.specs.Schemas.{Schema}
 use Rattle.bt_rowtype.specs.declared.refusal.Refusal.{Refusal}
 use Rattle.bt_rowtype.specs.Values.{or_refused}
-use Rattle.bt_rowtype.specs.declared.refusal.Refusal.TheVariants.{Building, TooMany}
+use Rattle.bt_rowtype.specs.declared.refusal.Refusal.TheVariants.{Building, OutOfMemory, TooMany}
 use Rattle.bt_rowtype.specs.declared.schema.Column.{Column}
 use Rattle.bt_rowtype.specs.declared.value.Value.{Value}
 use Rattle.bt_node.specs.Flushes.{holds}
@@ -22,7 +22,7 @@ use Rattle.bt_table.specs.Indexes.{Index}
 use Rattle.bt_table.proofs.offered.KeyOrder.{keys_rise}
 use Rattle.bt_view.specs.inside.Entries.{index_kinds, rows_of_entries}
 use Rattle.bt_view.specs.Groups.{groups_of, summed_place, sums_of}
-use Rattle.bt_view.specs.inside.Neighbours.{with_row}
+use Rattle.bt_view.specs.inside.Neighbours.{after_row}
 use Rattle.bt_view.specs.Ranges.{index_row, index_schema, range_as, rows_within, scan_with_keys_of, when_whole}
 use Rattle.bt_view.specs.declared.range.KeyRange.{KeyRange}
 use Rattle.bt_view.proofs.EntryRows.{shown-between, shown-rows}
@@ -61,9 +61,10 @@ module _ (table : PlainTable) (index : Index) (from to : Option (List (List ℕ)
   range_by schema = range_as (take (index_schema schema index.def).keys (index_schema schema index.def).columns) from to
 
   module _ (schema : Schema) (shows : ShowsIndex table schema index) where
-    pub scan_refused : (refusal : Refusal) → and_then (when_whole index.cover) (range_by schema) ≡ Err refusal → scan_with_keys_of from to (Secondary table index) ≡ Err refusal
-    scan_refused refusal is =
-        refused range (is_whole index.cover) refusal (subst (λ s. and_then (when_whole index.cover) (range_by s) ≡ Err refusal) shows.schema_is is)
+    -- unless memory was wanting
+    pub scan_refused : (refusal : Refusal) → (refusal ≢ OutOfMemory → and_then (when_whole index.cover) (range_by schema) ≡ Err refusal) → refusal ≢ OutOfMemory → scan_with_keys_of from to (Secondary table index) ≡ Err refusal
+    scan_refused refusal is certain =
+        refused range (is_whole index.cover) refusal (subst (λ s. and_then (when_whole index.cover) (range_by s) ≡ Err refusal) shows.schema_is (is certain))
 
     -- the entries of a range, as they are shown
     abbrev pub entries_by : Schema → KeyRange → Rows (List Value)
@@ -105,9 +106,9 @@ module _ (table : PlainTable) (index : Index) (from to : Option (List (List ℕ)
       has_range (Ok range) false own is = cc
       has_range (Err e) whole own is = cc
 
-      pub sums_refused : (refusal : Refusal) → and_then (when_whole index.cover) (range_by schema) ≡ Err refusal → sums_of grouping column from to (Secondary table index) ≡ Err refusal
-      sums_refused refusal is =
-          no_range range (is_whole index.cover) refusal (subst (λ s. and_then (when_whole index.cover) (range_by s) ≡ Err refusal) shows.schema_is is)
+      pub sums_refused : (refusal : Refusal) → (refusal ≢ OutOfMemory → and_then (when_whole index.cover) (range_by schema) ≡ Err refusal) → refusal ≢ OutOfMemory → sums_of grouping column from to (Secondary table index) ≡ Err refusal
+      sums_refused refusal is certain =
+          no_range range (is_whole index.cover) refusal (subst (λ s. and_then (when_whole index.cover) (range_by s) ≡ Err refusal) shows.schema_is (is certain))
 
       pub no_place : (refusal : Refusal) (own : KeyRange) → and_then (when_whole index.cover) (range_by schema) ≡ Ok own → place_by schema ≡ Err refusal
           → sums_of grouping column from to (Secondary table index) ≡ Err refusal
@@ -116,7 +117,7 @@ module _ (table : PlainTable) (index : Index) (from to : Option (List (List ℕ)
           ∙ ap (λ p. and_then (λ place. groups_of grouping place (rows_within own rows)) p) (subst (λ s. place_by s ≡ Err refusal) shows.schema_is none)
 
       pub sums_done : (place : ℕ) (own : KeyRange) → and_then (when_whole index.cover) (range_by schema) ≡ Ok own → place_by schema ≡ Ok place → grouping ≤ (index_schema schema index.def).keys
-          → sums_of grouping column from to (Secondary table index) ≡ or_refused TooMany (fold with_row (grouping, place, Some []) (entries_by schema own)).2
+          → sums_of grouping column from to (Secondary table index) ≡ or_refused TooMany (fold after_row (grouping, place, Some []) (entries_by schema own)).2
       sums_done place own is placed few =
           let on = under table.schema.columns index.def.on shows.suits.within.on in
           let include = under table.schema.columns index.def.include shows.suits.within.include in
@@ -126,4 +127,4 @@ module _ (table : PlainTable) (index : Index) (from to : Option (List (List ℕ)
           let ascending = ascend (index_schema table.schema index.def) grouping (subst (λ s. grouping ≤ (index_schema s index.def).keys) shows.schema_is few) own rows stand rise in
           ranged.1 ∙ ap (λ p. and_then (λ place. groups_of grouping place (rows_within own rows)) p) (subst (λ s. place_by s ≡ Ok place) shows.schema_is placed)
           ∙ of_rows grouping place (map (λ c. c.kind) (take grouping (index_schema table.schema index.def).columns)) (between own.from own.to rows) ascending
-          ∙ ap (λ rows. or_refused TooMany (fold with_row (grouping, place, Some []) rows).2) (sym (through own ranged.0))
+          ∙ ap (λ rows. or_refused TooMany (fold after_row (grouping, place, Some []) rows).2) (sym (through own ranged.0))

@@ -1,5 +1,5 @@
 -- The groups of the rows of a range come one after the other. Serves grouped sums.
-use Rattle.std.proofs.Common.{◌≡◌, ◌∙◌, ◌≤◌, ℕ, zero, suc, arith, Bool, true, false, T, List, [], ◌∷◌, ◌⊎◌, inl, inr, refl, sym, ap, subst, cond, map, take, ◌&&◌}
+use Rattle.std.proofs.Common.{◌≡◌, ◌∙◌, ◌≤◌, ℕ, zero, suc, arith, Bool, true, false, T, List, [], ◌∷◌, ◌⊎◌, inl, inr, refl, sym, ap, subst, cond, map, take}
 use Rattle.std.specs.FinMap.Entries.{below_all}
 use Rattle.std.specs.Ordering.{is_eq, is_lt, ordering_then}
 use Rattle.std.specs.declared.cmp.Ordering.{Ordering}
@@ -14,6 +14,7 @@ use Rattle.bt_keycode.proofs.offered.Codes.{codes_ordered}
 use Rattle.bt_keycode.proofs.offered.Order.{not_after, not_before_itself, same_key}
 use Rattle.bt_keycode.proofs.offered.Ranges.{take_in_range}
 use Rattle.bt_node.specs.Messages.{Rows, between}
+use Rattle.bt_node.proofs.offered.Truths.{t_first, t_second}
 use Rattle.bt_table.specs.Standing.{AllStand, KeysRise, Stands}
 use Rattle.bt_table.proofs.offered.Kinds.{key_kinds}
 use Rattle.bt_view.specs.inside.Neighbours.{Ascend, IsOfKinds, NoneBefore}
@@ -56,14 +57,6 @@ take_fewer (suc n) zero row few = absurd (omega (arith, few))
 take_fewer (suc n) (suc keys) [] few = refl
 take_fewer (suc n) (suc keys) (v ∷ vs) few = ap (λ vs. v ∷ vs) (take_fewer n keys vs (omega (arith, few)))
 
-first : (a b : Bool) → T (a && b) → T a
-first true b p = tt
-first false b p = absurd p
-
-second : (a b : Bool) → T (a && b) → T b
-second true b p = p
-second false b p = absurd p
-
 module _ (schema : Schema) (columns : ℕ) (few : columns ≤ schema.keys) (range : KeyRange) where
   abbrev kinds : List Kind
   kinds = map (λ c. c.kind) (take columns schema.columns)
@@ -77,7 +70,7 @@ module _ (schema : Schema) (columns : ℕ) (few : columns ≤ schema.keys) (rang
   none_before : (key : Key) (row : List Value) (rows : Rows (List Value)) → Stands schema key row → AllStand schema rows → T (below_all values_cmp (take schema.keys row) (keyed rows))
       → NoneBefore columns (code_of (take columns row)) (rows_within range rows)
   none_before key row [] stands all below = tt
-  none_before key row (other ∷ rows) stands all below = by_test (is_between range.from range.to other.0) (none_before key row rows stands all.1 (second _ _ below))
+  none_before key row (other ∷ rows) stands all below = by_test (is_between range.from range.to other.0) (none_before key row rows stands all.1 (t_second _ _ below))
     where
       left : IsOfKinds columns kinds row
       left = of_kinds key row stands
@@ -88,7 +81,7 @@ module _ (schema : Schema) (columns : ℕ) (few : columns ≤ schema.keys) (rang
       order : NotBehind (values_cmp (take columns row) (take columns other.1))
       order =
           subst NotBehind (λ i. values_cmp (take_fewer columns schema.keys row few i) (take_fewer columns schema.keys other.1 few i))
-          (firsts columns (take schema.keys row) (take schema.keys other.1) (first _ _ below))
+          (firsts columns (take schema.keys row) (take schema.keys other.1) (t_first _ _ below))
 
       by_test : (b : Bool) → NoneBefore columns (code_of (take columns row)) (rows_within range rows) → NoneBefore columns (code_of (take columns row)) (map (λ r. r.1) (cond b (other ∷ between range.from range.to rows) (between range.from range.to rows)))
       by_test true more = (not_before (take columns row) (take columns other.1) (left.of_kinds ∙ sym right.of_kinds) left.in_range right.in_range order, more)
@@ -96,8 +89,8 @@ module _ (schema : Schema) (columns : ℕ) (few : columns ≤ schema.keys) (rang
 
   pub ascend : (rows : Rows (List Value)) → AllStand schema rows → KeysRise schema rows → Ascend columns kinds (rows_within range rows)
   ascend [] all rise = tt
-  ascend (row ∷ rows) all rise = by_test (is_between range.from range.to row.0) (ascend rows all.1 (second _ _ rise))
+  ascend (row ∷ rows) all rise = by_test (is_between range.from range.to row.0) (ascend rows all.1 (t_second _ _ rise))
     where
       by_test : (b : Bool) → Ascend columns kinds (rows_within range rows) → Ascend columns kinds (map (λ r. r.1) (cond b (row ∷ between range.from range.to rows) (between range.from range.to rows)))
-      by_test true more = (of_kinds row.0 row.1 all.0, none_before row.0 row.1 rows all.0 all.1 (first _ _ rise), more)
+      by_test true more = (of_kinds row.0 row.1 all.0, none_before row.0 row.1 rows all.0 all.1 (t_first _ _ rise), more)
       by_test false more = more

@@ -16,7 +16,7 @@ use Rattle.bt_table.specs.Calls.{Primary, ShowsRows, tree_named}
 use Rattle.bt_table.specs.Tables.{PlainTable, RowTree, TableState}
 use Rattle.bt_view.specs.Groups.{groups_of, summed_place, sums, sums_of}
 use Rattle.bt_view.specs.inside.GroupParts.{beside}
-use Rattle.bt_view.specs.inside.Neighbours.{Ascend, Groups, grouped, with_row}
+use Rattle.bt_view.specs.inside.Neighbours.{Ascend, Groups, grouped, after_row}
 use Rattle.bt_view.specs.Ranges.{range_as, rows_within}
 use Rattle.bt_view.specs.declared.groups.Sum.{Sum}
 use Rattle.bt_view.specs.declared.range.KeyRange.{KeyRange}
@@ -24,17 +24,17 @@ use Rattle.bt_view.proofs.GroupOrder.{by_neighbours}
 use Rattle.bt_view.proofs.RowOrder.{ascend}
 
 pub of_rows : (columns place : ℕ) (kinds : List Kind) (rows : Rows (List Value)) → Ascend columns kinds (map (λ row. row.1) rows)
-    → groups_of columns place (map (λ row. row.1) rows) ≡ or_refused TooMany (fold with_row (columns, place, Some []) rows).2
+    → groups_of columns place (map (λ row. row.1) rows) ≡ or_refused TooMany (fold after_row (columns, place, Some []) rows).2
 of_rows columns place kinds rows ascend =
     sym (by_neighbours columns place kinds (map (λ row. row.1) rows) ascend)
     ∙ ap (or_refused TooMany) (fold-map (grouped columns place) (λ row. row.1) (Some []) rows)
     ∙ sym (ap (λ (g : ℕ × ℕ × Groups). or_refused TooMany g.2) (beside columns place (Some []) rows))
 
 -- what is shown is these rows, and is grouped so
-pub of_shown : (answer : Result (List Sum) Refusal) (begin groups : ℕ × ℕ × Groups) (rows shown : Rows (List Value)) → answer ≡ or_refused TooMany (fold with_row begin rows).2
-    → ◌≡◌ {A = ℕ × ℕ × Groups} groups begin → shown ≡ rows → answer ≡ or_refused TooMany (fold with_row groups shown).2
+pub of_shown : (answer : Result (List Sum) Refusal) (begin groups : ℕ × ℕ × Groups) (rows shown : Rows (List Value)) → answer ≡ or_refused TooMany (fold after_row begin rows).2
+    → ◌≡◌ {A = ℕ × ℕ × Groups} groups begin → shown ≡ rows → answer ≡ or_refused TooMany (fold after_row groups shown).2
 of_shown answer begin groups rows shown is begins shows =
-    is ∙ sym (ap (λ (g : ℕ × ℕ × Groups). or_refused TooMany (fold with_row g rows).2) begins) ∙ sym (ap (λ rows. or_refused TooMany (fold with_row groups rows).2) shows)
+    is ∙ sym (ap (λ (g : ℕ × ℕ × Groups). or_refused TooMany (fold after_row g rows).2) begins) ∙ sym (ap (λ rows. or_refused TooMany (fold after_row groups rows).2) shows)
 
 -- of what is refused for too many rows alone, no other refusal comes
 pub only_too_many : (P : Refusal → Type 0) (answer : Result (List Sum) Refusal) (groups : Groups) → answer ≡ or_refused TooMany groups → IfErr answer (λ refusal. refusal ≢ TooMany → P refusal)
@@ -53,11 +53,11 @@ module _ (table : PlainTable) (schema : Schema) (tree : Shape × RowTree) (shows
   place_by schema = summed_place schema.columns schema.keys grouping column
 
   pub sums_of_rows : (state : TableState) (name : List ℕ) (own : KeyRange) (place : ℕ) → tree_named state name ≡ Ok (Primary table) → range_by schema ≡ Ok own → place_by schema ≡ Ok place → grouping ≤ schema.keys
-      → sums state name grouping column from to ≡ or_refused TooMany (fold with_row (grouping, place, Some []) (between own.from own.to (holds row_effect tree.1))).2
+      → sums state name grouping column from to ≡ or_refused TooMany (fold after_row (grouping, place, Some []) (between own.from own.to (holds row_effect tree.1))).2
   sums_of_rows state name own place named is placed few =
       ap (and_then (sums_of grouping column from to)) named
       ∙ ap (and_then (λ range. and_then (λ place. groups_of grouping place (rows_within range table.rows)) (place_by table.schema))) (subst (λ s. range_by s ≡ Ok own) shows.schema_is is)
       ∙ ap (and_then (λ place. groups_of grouping place (rows_within own table.rows))) (subst (λ s. place_by s ≡ Ok place) shows.schema_is placed)
       ∙ of_rows grouping place (map (λ c. c.kind) (take grouping table.schema.columns)) (between own.from own.to table.rows)
       (ascend table.schema grouping (subst (λ s. grouping ≤ s.keys) shows.schema_is few) own table.rows shows.stand shows.order)
-      ∙ ap (λ rows. or_refused TooMany (fold with_row (grouping, place, Some []) (between own.from own.to rows)).2) (sym shows.held)
+      ∙ ap (λ rows. or_refused TooMany (fold after_row (grouping, place, Some []) (between own.from own.to rows)).2) (sym shows.held)

@@ -4,7 +4,7 @@ use Rattle.bt_rowtype.specs.Records.{record_text}
 use Rattle.bt_rowtype.specs.Values.{text_of}
 use Rattle.bt_rowtype.specs.Arithmetic.{action_of}
 use Rattle.bt_rowtype.specs.Ops.{Change, argument_of, place_in, word_in}
-use Rattle.bt_rowtype.specs.declared.op.Op.{Op}
+use Rattle.bt_rowtype.specs.declared.upsert.op.Op.{Op}
 use Rattle.bt_rowtype.specs.declared.refusal.Refusal.{Refusal}
 use Rattle.bt_rowtype.specs.declared.schema.Column.{Column}
 use Rattle.bt_rowtype.specs.declared.value.Value.{Value}

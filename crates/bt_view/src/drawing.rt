@@ -30,7 +30,7 @@ pub(crate) trait Drawing<V: Merge> {
 }
 
 // Adds the record of values behind a space.
-fn write_values(out: &mut Vec<u8>, values: &Row) -> Result<(), AllocError>
+fn write_row_text(out: &mut Vec<u8>, values: &Row) -> Result<(), AllocError>
     ensures { OnOk result (out.new.items ≡ out.old.items ++ spec.row_text values.now) }
 {
     out.push(b' ')?;
@@ -114,7 +114,7 @@ impl<'a> Drawing<Row> for RowDrawing<'a> {
     ghost delta_text = { λ d. spec.change_text d.columns.now };
 
     fn write_value(&self, out: &mut Vec<u8>, row: &Row) -> Result<(), AllocError> {
-        write_values(out, row)
+        write_row_text(out, row)
     }
 
     fn write_delta(
@@ -126,7 +126,7 @@ impl<'a> Drawing<Row> for RowDrawing<'a> {
         let ops = change.ops(alloc)?;
         let values = values_of_ops(alloc, self.columns, ops.as_slice())?;
         let row = Row::from_values(alloc, values.as_slice())?;
-        write_values(out, &row)
+        write_row_text(out, &row)
     }
 }
 
@@ -138,7 +138,7 @@ fn write_entry(out: &mut Vec<u8>, entry: &Entry) -> Result<(), AllocError>
     if values.len() == 0 {
         return Ok(());
     }
-    write_values(out, values)
+    write_row_text(out, values)
 }
 
 /// How index values are drawn.

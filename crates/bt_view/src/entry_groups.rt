@@ -10,7 +10,7 @@ ghost use Rattle.bt_view.specs.inside.Entries.{after_entry, row_of_entry};
 ghost use Rattle.bt_view.specs.inside.EntryParts.{entries_as_one};
 ghost use Rattle.bt_view.specs.inside.Fronts.{IsLastOf};
 ghost use Rattle.bt_view.specs.inside.GroupParts.{groups_as_one};
-ghost use Rattle.bt_view.specs.inside.Neighbours.{joined_with, with_row};
+ghost use Rattle.bt_view.specs.inside.Neighbours.{joined_with, after_row};
 
 use crate::entry_rows::row_of_entry;
 use crate::groups::{Grouping, number_in};
@@ -123,7 +123,7 @@ impl<'a> EntryGroups<'a> {
 }
 
 impl<'a> Visitor<Entry> for EntryGroups<'a> {
-    ghost visited = { after_entry with_row };
+    ghost visited = { after_entry after_row };
 
     fn visit(&mut self, alloc: Global, key: &Key, entry: &Entry) -> Result<(), AllocError> {
         if let Some(number) = self.number_in_last(alloc, key, entry)? {
@@ -155,5 +155,5 @@ impl<'a> ForkVisitor<Entry> for EntryGroups<'a> {
         self.groups.join(alloc, groups)
     }
 
-    ghost as_one = { λ e entries behind. entries_as_one with_row (λ g. (g.0, g.1, Some [])) joined_with groups_as_one e entries behind };
+    ghost as_one = { λ e entries behind. entries_as_one after_row (λ g. (g.0, g.1, Some [])) joined_with groups_as_one e entries behind };
 }

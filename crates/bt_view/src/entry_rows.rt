@@ -3,7 +3,6 @@ ghost use Rattle.std.specs.Prelude.{◌≡◌, IfOk};
 ghost use Rattle.bt_view.specs.inside.Entries.{row_of_entry, after_entry};
 ghost use Rattle.bt_view.specs.inside.EntryParts.{entries_as_one};
 
-use bt_fanout::add_first;
 use bt_keycode::{DecodeError, Key, decode_onto};
 use bt_messages::Entry;
 use bt_node::{ForkVisitor, Visitor};
@@ -43,7 +42,7 @@ pub(crate) fn row_of_entry(
         Err(DecodeError::OutOfMemory) => return Err(AllocError),
     }
     let included = entry.as_row();
-    add_first(alloc, &mut row, included, included.len())?;
+    row.push_first(alloc, included, included.len())?;
     Ok(Some(row))
 }
 

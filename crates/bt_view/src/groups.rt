@@ -7,9 +7,8 @@ ghost use Rattle.bt_view.specs.Groups as spec;
 ghost use Rattle.bt_rowtype.specs.declared.value.Value.{Value as value};
 ghost use Rattle.bt_view.specs.inside.Fronts.{IsLastOf};
 ghost use Rattle.bt_view.specs.inside.GroupParts.{groups_as_one};
-ghost use Rattle.bt_view.specs.inside.Neighbours.{AreBounded, IsBounded, grouped, groups_then, joined_with, with_row};
+ghost use Rattle.bt_view.specs.inside.Neighbours.{AreBounded, IsBounded, grouped, groups_then, joined_with, after_row};
 
-use bt_fanout::add_first;
 use bt_keycode::Key;
 use bt_node::{ForkVisitor, Visitor};
 use bt_rowtype::{Kind, Refusal, Row, Sequence, ValueRef, same_values};
@@ -53,7 +52,7 @@ fn first_of(alloc: Global, row: &Row, count: usize) -> Result<Row, AllocError>
     ensures { IfOk result (λ first. first ≡ take count row.now) }
 {
     let mut first = Row::new();
-    add_first(alloc, &mut first, row, count)?;
+    first.push_first(alloc, row, count)?;
     Ok(first)
 }
 
@@ -233,7 +232,7 @@ impl Grouping {
 }
 
 impl Visitor<Row> for Grouping {
-    ghost visited = { with_row };
+    ghost visited = { after_row };
 
     fn visit(&mut self, alloc: Global, _key: &Key, row: &Row) -> Result<(), AllocError> {
         if self.is_over {
@@ -275,7 +274,7 @@ impl ForkVisitor<Row> for Grouping {
 
 /// The place of a column that is summed, where one of its name was found. `NoSuchColumn` where a group is not that of at least one and at most all key
 /// columns, or where none was found, `NotInt` where it is not int. Takes no memory.
-pub fn summed_place(
+pub(crate) fn summed_place(
     found: Option<(usize, Kind)>,
     keys: usize,
     grouping: u32,

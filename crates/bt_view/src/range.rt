@@ -15,6 +15,16 @@ pub struct KeyRange {
     pub to: Option<Key>,
 }
 
+impl KeyRange {
+    /// The lower bound and the upper one.
+    pub(crate) fn bounds(&self) -> (Option<&Key>, Option<&Key>)
+        ensures from { option_copied result.0 ≡ self.now.from }
+        ensures to { option_copied result.1 ≡ self.now.to }
+    {
+        (self.from.as_ref(), self.to.as_ref())
+    }
+}
+
 // The key that a bound spells, where there is one.
 fn read_bound(
     alloc: Global,
@@ -35,7 +45,7 @@ fn read_bound(
 
 /// The range between two bounds of these key columns, each of which spells at least one of the first of them. Of their refusals, `BadField` and
 /// `BadLength` with item 1 for `from` and 2 for `to`, the least is answered. Where there is no bound no memory is asked for.
-pub fn read_range(
+pub(crate) fn read_range(
     alloc: Global,
     columns: &[Column],
     from: Option<&RecordLine<'_>>,

@@ -12,7 +12,7 @@ ghost use Rattle.bt_table.specs.Tables.{PlainTable};
 ghost use Rattle.bt_view.specs.Groups as groups;
 ghost use Rattle.bt_view.specs.Ranges as spec;
 ghost use Rattle.bt_view.specs.inside.Entries.{index_kinds, rows_of_entries};
-ghost use Rattle.bt_view.specs.inside.Neighbours.{with_row};
+ghost use Rattle.bt_view.specs.inside.Neighbours.{after_row};
 ghost use Rattle.bt_view.specs.inside.Shown.{AnswersRows, AnswersSums, rows_shown};
 
 use crate::columns::{find_index_column, index_columns, index_kinds, key_columns, key_count};
@@ -64,17 +64,18 @@ pub(crate) fn show_alone<S: Visitor<Row>>(
 {
     match shown {
         Shown::Rows { tree, range } => {
+            let (from, to) = range.bounds();
             let mut visitor = visitor;
-            tree.walk().visit(alloc, range.from.as_ref(), range.to.as_ref(), &mut visitor)?;
+            tree.walk().visit(alloc, from, to, &mut visitor)?;
             Ok(visitor)
         }
         Shown::Entries { tree, kinds, range } => {
+            let (from, to) = range.bounds();
             let mut rows = EntryRows {
                 kinds: kinds.as_slice(),
                 visitor,
             };
-            tree.walk()
-                .visit(alloc, range.from.as_ref(), range.to.as_ref(), &mut rows)?;
+            tree.walk().visit(alloc, from, to, &mut rows)?;
             let EntryRows { visitor, .. } = rows;
             Ok(visitor)
         }
@@ -92,29 +93,17 @@ pub(crate) fn show<S: ForkVisitor<Row> + Send, G: Gate + Sync, T: Threads + Wait
     ensures { IfOk result (λ after. after ≡ fold S.visited visitor (rows_shown shown.entry)) }
 {
     match shown {
-        Shown::Rows { tree, range } => read(
-            rt,
-            alloc,
-            tree,
-            range.from.as_ref(),
-            range.to.as_ref(),
-            visitor,
-            crew,
-        ),
+        Shown::Rows { tree, range } => {
+            let (from, to) = range.bounds();
+            read(rt, alloc, tree, from, to, visitor, crew)
+        }
         Shown::Entries { tree, kinds, range } => {
+            let (from, to) = range.bounds();
             let rows = EntryRows {
                 kinds: kinds.as_slice(),
                 visitor,
             };
-            let EntryRows { visitor, .. } = read(
-                rt,
-                alloc,
-                tree,
-                range.from.as_ref(),
-                range.to.as_ref(),
-                rows,
-                crew,
-            )?;
+            let EntryRows { visitor, .. } = read(rt, alloc, tree, from, to, rows, crew)?;
             Ok(visitor)
         }
     }
@@ -122,13 +111,14 @@ pub(crate) fn show<S: ForkVisitor<Row> + Send, G: Gate + Sync, T: Threads + Wait
 
 /// The groups of the rows, by the caller.
 pub(crate) fn sum_alone(alloc: Global, summed: Summed<'_>) -> Result<Grouping, AllocError>
-    ensures { IfOk result (λ groups. groups ≡ fold with_row summed.entry.groups (rows_shown summed.entry.shown)) }
+    ensures { IfOk result (λ groups. groups ≡ fold after_row summed.entry.groups (rows_shown summed.entry.shown)) }
 {
     let Summed { shown, groups } = summed;
     match shown {
         Shown::Entries { tree, kinds, range } => {
+            let (from, to) = range.bounds();
             let mut entries = EntryGroups::new(kinds.as_slice(), groups);
-            tree.walk().visit(alloc, range.from.as_ref(), range.to.as_ref(), &mut entries)?;
+            tree.walk().visit(alloc, from, to, &mut entries)?;
             Ok(entries.into_groups())
         }
         rows => show_alone(alloc, rows, groups),
@@ -142,21 +132,14 @@ pub(crate) fn sum<G: Gate + Sync, T: Threads + Wait + Sync>(
     summed: Summed<'_>,
     crew: &Crew<G>,
 ) -> Result<Grouping, AllocError>
-    ensures { IfOk result (λ groups. groups ≡ fold with_row summed.entry.groups (rows_shown summed.entry.shown)) }
+    ensures { IfOk result (λ groups. groups ≡ fold after_row summed.entry.groups (rows_shown summed.entry.shown)) }
 {
     let Summed { shown, groups } = summed;
     match shown {
         Shown::Entries { tree, kinds, range } => {
             let entries = EntryGroups::new(kinds.as_slice(), groups);
-            let entries = read(
-                rt,
-                alloc,
-                tree,
-                range.from.as_ref(),
-                range.to.as_ref(),
-                entries,
-                crew,
-            )?;
+            let (from, to) = range.bounds();
+            let entries = read(rt, alloc, tree, from, to, entries, crew)?;
             Ok(entries.into_groups())
         }
         rows => show(rt, alloc, rows, groups, crew),

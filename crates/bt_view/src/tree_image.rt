@@ -1,16 +1,15 @@
 //! The text of a tree.
-ghost use Rattle.std.specs.Prelude.{◌≡◌, ◌<◌, ◌-◌, ◌^◌, ◌++◌, ◌∷◌, [], IfOk, OnOk, codes, flat_map, length, min, slice_get};
+ghost use Rattle.std.specs.Prelude.{◌≡◌, ◌<◌, ◌-◌, ◌^◌, ◌++◌, ◌∷◌, [], IfOk, OnOk, flat_map, length, min, slice_get};
 ghost use Rattle.bt_node.specs.Trees as trees;
 ghost use Rattle.bt_node.specs.Walks.{children_of, messages_of, rows_of};
 ghost use Rattle.bt_view.specs.inside.Drawings.{own_text, pivot_text};
 ghost use Rattle.bt_view.specs.Images as spec;
 
 use crate::drawing::Drawing;
-use crate::number::write_number;
 use bt_keycode::Key;
 use bt_messages::{Merge, Message};
 use bt_node::Walk;
-use bt_rowtype::Text;
+use bt_rowtype::{Text, write_number};
 use itoa::Buffer;
 use std::alloc::{AllocError, Global};
 
@@ -58,23 +57,6 @@ fn write_value_line<V: Merge, D: Drawing<V>>(
     Ok(())
 }
 
-// Adds the line of an upsert that is pending.
-fn write_upsert_line<V: Merge, D: Drawing<V>>(
-    alloc: Global,
-    out: &mut Vec<u8>,
-    drawing: &D,
-    indent: &[u8],
-    key: &Key,
-    delta: &V::Delta,
-) -> Result<(), AllocError>
-    ensures { OnOk result (out.new.items ≡ out.old.items ++ spec.key_line indent.now (codes "~") key.now (D.delta_text drawing.now delta.now)) }
-{
-    write_key(out, indent, b'~', key)?;
-    drawing.write_delta(alloc, out, delta)?;
-    out.push(b'\n')?;
-    Ok(())
-}
-
 // Adds the line of a message that is pending.
 fn write_message_line<V: Merge, D: Drawing<V>>(
     alloc: Global,
@@ -89,12 +71,17 @@ fn write_message_line<V: Merge, D: Drawing<V>>(
     match message {
         Message::Put(value) => write_value_line(out, drawing, indent, b'+', key, value),
         Message::Del => write_key_line(out, indent, b'-', key),
-        Message::Ups(delta) => write_upsert_line(alloc, out, drawing, indent, key, delta),
+        Message::Ups(delta) => {
+            write_key(out, indent, b'~', key)?;
+            drawing.write_delta(alloc, out, delta)?;
+            out.push(b'\n')?;
+            Ok(())
+        }
     }
 }
 
-/// Adds the first line of a leaf.
-pub fn write_leaf_line(out: &mut Vec<u8>, indent: &[u8], rows: usize) -> Result<(), AllocError>
+// Adds the first line of a leaf.
+fn write_leaf_line(out: &mut Vec<u8>, indent: &[u8], rows: usize) -> Result<(), AllocError>
     ensures { OnOk result (out.new.items ≡ out.old.items ++ spec.leaf_line indent.now rows) }
 {
     out.extend_from_slice(indent)?;
@@ -104,8 +91,8 @@ pub fn write_leaf_line(out: &mut Vec<u8>, indent: &[u8], rows: usize) -> Result<
     Ok(())
 }
 
-/// Adds the first line of an inner node.
-pub fn write_inner_line(
+// Adds the first line of an inner node.
+fn write_inner_line(
     out: &mut Vec<u8>,
     indent: &[u8],
     children: usize,
@@ -122,8 +109,8 @@ pub fn write_inner_line(
     Ok(())
 }
 
-/// Adds the first line of an image.
-pub fn write_first_line(out: &mut Vec<u8>, name: &Text, height: u64) -> Result<(), AllocError>
+// Adds the first line of an image.
+fn write_first_line(out: &mut Vec<u8>, name: &Text, height: u64) -> Result<(), AllocError>
     ensures { OnOk result (out.new.items ≡ out.old.items ++ spec.first_line name.now height) }
 {
     out.extend_from_slice(b"image ")?;

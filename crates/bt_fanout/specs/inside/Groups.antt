@@ -28,14 +28,14 @@ with_next (Some m) ms = m ∷ ms
 -- ---- keys, each once, and beside each how many messages it has behind its first one
 
 -- with a message to a key before the others
-abbrev pub with_first : Key → List (Key × ℕ) → List (Key × ℕ)
-with_first k [] = (k, 0) ∷ []
-with_first k (g ∷ gs) = if eq_by_cmp key_cmp k g.0 then (k, suc g.1) ∷ gs else (k, 0) ∷ g ∷ gs
+abbrev pub with_key : Key → List (Key × ℕ) → List (Key × ℕ)
+with_key k [] = (k, 0) ∷ []
+with_key k (g ∷ gs) = if eq_by_cmp key_cmp k g.0 then (k, suc g.1) ∷ gs else (k, 0) ∷ g ∷ gs
 
 -- those of sorted messages
 abbrev pub groups : {M : Type 0} → Messages M → List (Key × ℕ)
 groups [] = []
-groups (m ∷ ms) = with_first m.0 (groups ms)
+groups (m ∷ ms) = with_key m.0 (groups ms)
 
 -- and those that a cover covers
 abbrev pub groups_within : {M : Type 0} → Cover → Messages M → List (Key × ℕ)

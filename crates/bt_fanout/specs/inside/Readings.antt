@@ -24,16 +24,16 @@ abbrev pub entry_within : Definition → List Value → Option (Key × List Valu
 entry_within def row = if is_within def (length row) then own_entry def (Some row) else None
 
 -- with one more row
-abbrev pub with_row : Definition → RowsRead → Key × List Value → RowsRead
-with_row def read row = record {
+abbrev pub after_row : Definition → RowsRead → Key × List Value → RowsRead
+after_row def read row = record {
   messages = read.messages ++ put_of_entry (entry_within def row.1);
   left = read.left - 1;
   last = if read.left == 1 then Some row.0 else read.last;
 }
 
 -- and beside it the definition
-abbrev pub and_row : Definition × RowsRead → Key × List Value → Definition × RowsRead
-and_row read row = (read.0, with_row read.0 read.1 row)
+abbrev pub builder_after_row : Definition × RowsRead → Key × List Value → Definition × RowsRead
+builder_after_row read row = (read.0, after_row read.0 read.1 row)
 
 -- a cover moved up to a key, if there is one
 abbrev pub moved_by : Cover → Option Key → Cover

@@ -1,12 +1,13 @@
 -- The places of answers, one for each job.
-use Rattle.std.specs.Prelude.{◌≡◌, ℕ, ◌<◌, List, [], ◌∷◌, ◌++◌, length, Option, Some, None, Result, Ok, Err, set, ⊤}
+use Rattle.std.specs.Prelude.{◌≡◌, ℕ, ◌<◌, ◌≤◌, List, [], ◌∷◌, ◌++◌, length, Option, Some, None, Result, Ok, Err, set, replicate, vec_capacity, ⊤}
 use mathlib.Core.Option.{some}
 use lib.ListN.{get_elem?}
 use Rattle.bt_gang.specs.declared.answers.Answer.{Answer}
 use Rattle.bt_gang.specs.declared.answers.Answers.{Answers}
-use Rattle.bt_gang.specs.declared.run.GangFault.{GangFault}
-use Rattle.bt_gang.specs.declared.run.GangFault.TheVariants.{OutOfMemory, Job}
-use Rattle.bt_gang.specs.Numbers.{times}
+use Rattle.bt_gang.specs.declared.job_runs.GangFault.{GangFault}
+use Rattle.bt_gang.specs.declared.job_runs.GangFault.TheVariants.{OutOfMemory, Job}
+use Rattle.bt_gang.specs.declared.run_room.Places.{Places}
+use Rattle.bt_gang.specs.Numbers.{occurrences}
 use Rattle.bt_gang.specs.Numbered.{numbered, present}
 use Rattle.bt_gang.specs.Answers.{MayAnswer}
 
@@ -39,6 +40,12 @@ module _ {D F : Type 0} where
   abbrev pub IsFull : List (Option (Result D F)) → Type 0
   IsFull slots = (place : ℕ) → ¬ (get_elem? slots place ≡ some None)
 
+  -- places for what so many workers make of so many jobs, in which nothing stands
+  pub record AreEmptyPlaces (workers jobs : ℕ) (places : Places D F) : Type 0 where
+    pub slots : places.slots.items ≡ replicate jobs None
+    pub taken : (places.taken.items ≡ []) × (workers ≤ vec_capacity places.taken)
+    pub done : (places.done.items ≡ []) × (jobs ≤ vec_capacity places.done)
+
   -- what a fault says of the places: want of memory, that one is empty; the fault of a job, that none is empty, that it stands at its number, and that values stand before it
   abbrev pub IsFaultAmong : List (Option (Result D F)) → GangFault F → Type 0
   IsFaultAmong slots = elim [
@@ -51,5 +58,5 @@ module _ {J D F : Type 0} (allows : J → Result D F → Type 0) where
   pub record Filled (jobs : List J) (slots : List (Option (Result D F))) (came : List ℕ) : Type 0 where
     pub size : length slots ≡ length jobs
     pub may : (i : ℕ) (value : Result D F) → get_elem? slots i ≡ some (Some value) → MayAnswer allows jobs i value
-    pub full : (i : ℕ) (value : Result D F) → get_elem? slots i ≡ some (Some value) → 0 < times i came
-    pub empty : (i : ℕ) → get_elem? slots i ≡ some None → times i came ≡ 0
+    pub full : (i : ℕ) (value : Result D F) → get_elem? slots i ≡ some (Some value) → 0 < occurrences i came
+    pub empty : (i : ℕ) → get_elem? slots i ≡ some None → occurrences i came ≡ 0

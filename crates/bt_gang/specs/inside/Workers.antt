@@ -1,7 +1,6 @@
 -- What a worker has before and after its loop.
-use Rattle.std.specs.Prelude.{◌≡◌, ℕ, suc, ◌+◌, ◌<◌, List, [], ◌∷◌, ◌++◌, length, map, drop, get_or, nat_eq, if◌then◌else◌, Option, Some, None, Result, ⊤}
-use mathlib.Core.Option.{some}
-use lib.ListN.{get_elem?}
+use Rattle.std.specs.Prelude.{◌≡◌, ℕ, suc, ◌+◌, ◌<◌, List, [], ◌∷◌, ◌++◌, length, map, drop, nat_eq, if◌then◌else◌, Option, Some, None, IfSome, Result, ⊤}
+use Rattle.std.specs.declared.thread.PromisedHandle.{PromisedHandle}
 use Rattle.crossbeam_queue.specs.Passes.{view, IsPassOf}
 use Rattle.bt_gang.specs.declared.answers.Answers.{Answers}
 use Rattle.bt_gang.specs.declared.jobs.Jobs.{Jobs}
@@ -19,14 +18,14 @@ abbrev pub TakenLists : Type 0
 TakenLists = List TakenList
 
 -- the numbers in the list of this worker; none where there is no such list
-abbrev pub list_of : ℕ → TakenLists → List ℕ
-list_of worker [] = []
-list_of worker (l ∷ ls) = if nat_eq l.worker worker then l.numbers else list_of worker ls
+abbrev pub own_list : ℕ → TakenLists → List ℕ
+own_list worker [] = []
+own_list worker (l ∷ ls) = if nat_eq l.worker worker then l.numbers else own_list worker ls
 
 -- P of each item with its number, where this is the number of the first
-abbrev pub AllFrom : {X : Type 0} → (ℕ → X → Type 0) → ℕ → List X → Type 0
-AllFrom P first [] = ⊤
-AllFrom P first (x ∷ xs) = P first x × AllFrom P (suc first) xs
+abbrev pub AllByNumber : {X : Type 0} → (ℕ → X → Type 0) → ℕ → List X → Type 0
+AllByNumber P first [] = ⊤
+AllByNumber P first (x ∷ xs) = P first x × AllByNumber P (suc first) xs
 
 -- the lists of the workers from this one on, of which none took a job
 abbrev pub lists_left : ℕ → ℕ → TakenLists
@@ -55,9 +54,9 @@ module _ {J D F : Type 0} where
     pub knows : view worker.pass ≡ known all (taken_list number (numbered (present worker.out.list)) ∷ others)
     pub may : AllMay allows all (present worker.out.list)
 
-  -- a worker that was not started has an empty list, where that of the caller stands before those of the workers
-  abbrev pub AreEmptyWhereAbsent : List (Option (Worker J D F)) → List (List ℕ) → Type 0
-  AreEmptyWhereAbsent workers lists = (place : ℕ) → get_elem? workers place ≡ some None → get_or lists (suc place) [] ≡ []
+  -- what came back of the worker with this number, where it was started
+  abbrev pub HasServedIfStarted : (J → Result D F → Type 0) → Jobs J D F → List J → ℕ → Option (Worker J D F) → Type 0
+  HasServedIfStarted allows jobs all number back = IfSome back (HasServed allows jobs all [] number)
 
   -- the answers of a worker; none where it was not started
   abbrev pub out_of : Option (Worker J D F) → Option (Answers D F)
@@ -71,19 +70,23 @@ pub record IsPromise {W J D F : Type 0} (work : W) (jobs : Jobs J D F) (all : Li
   pub all_is : promise.all.value.value.items ≡ all
   pub number_is : promise.number ≡ number
 
+-- the thread of the worker with this number, where it was started
+abbrev pub IsChild : {W J D F : Type 0} → W → Jobs J D F → List J → ℕ → Option (PromisedHandle (Worker J D F) (GivesBack W J D F)) → Type 0
+IsChild work jobs all number child = IfSome child (λ h. IsPromise work jobs all number h.promise)
+
 module _ {J : Type 0} where
   -- what the caller's pass knows after this many passes were split off: its own list, and those of the workers that have no pass
   pub record IsCaller (all : List J) (given_away : ℕ) (v : Known J) : Type 0 where
     pub knows : v ≡ known all (taken_list 0 [] ∷ lists_left MOST_WORKERS (suc given_away))
     pub few : given_away < MOST_WORKERS
 
-  -- the lists of the workers whose answers came back are in the pass, beside those that it had
-  abbrev pub TookIn : {D F : Type 0} → Known J → Known J → List (Option (Answers D F)) → Type 0
-  TookIn before after outs = after ≡ known before.jobs (before.lists ++ lists_back 1 outs)
+  -- the lists of the workers whose answers came back, from the one with this number on, are in the pass, beside those that it had
+  abbrev pub TookInFrom : {D F : Type 0} → ℕ → Known J → Known J → List (Option (Answers D F)) → Type 0
+  TookInFrom first before after outs = after ≡ known before.jobs (before.lists ++ lists_back first outs)
 
-  -- at the place of each worker stands its list in the pass, and nothing where the pass has no such list
-  abbrev pub AreListsOf : Known J → List (List ℕ) → Type 0
-  AreListsOf v lists = (worker : ℕ) → get_or lists worker [] ≡ list_of worker v.lists
+  -- those of all workers but the caller
+  abbrev pub TookIn : {D F : Type 0} → Known J → Known J → List (Option (Answers D F)) → Type 0
+  TookIn before after outs = TookInFrom 1 before after outs
 
 module _ {J D F : Type 0} where
   -- the caller before its loop, after this many passes were split off

@@ -1,5 +1,6 @@
 -- What becomes of the jobs of a cut can fill it.
 use Rattle.std.proofs.Common.{◌≡◌, ◌&&◌, T, List, [], ◌∷◌, ◌++◌, map, ap, subst, sym, refl, ◌∙◌}
+use Rattle.std.proofs.lemmas.List.{map-append}
 use Rattle.std.specs.FinMap.{is_sorted}
 use Rattle.std.specs.FinMap.Entries.{below_all}
 use Rattle.std.specs.List.{All}
@@ -9,14 +10,10 @@ use Rattle.bt_node.specs.Messages.{Meaning}
 use Rattle.bt_node.specs.Trees.{Shape}
 use Rattle.bt_plan.specs.Cuts.{Job, Pieced, hole_of}
 use Rattle.bt_plan.specs.Laws.{PlacesRise, StandInHoles}
-use Rattle.bt_plan.specs.Pieces.{Holed, HoledNodes, Pieces, Place, child, childless, hole, holes, holes_below, opened, place_cmp, whole, with_holes, with_holes_below}
+use Rattle.bt_plan.specs.Pieces.{Holed, HoledNodes, Pieces, Place, child, childless, hole, holes, holes_below, node_place_cmp, opened, whole, with_holes, with_holes_below}
 use Rattle.bt_plan.proofs.offered.Cuts.{Answers, pieces-fit}
 use Rattle.bt_gather.specs.Laws.{IsFillable}
 use Rattle.bt_gather.specs.Misfits.{AreRisingPlaces}
-
-map-both : {H G : Type 0} (told : H → G) (xs ys : List H) → map told (xs ++ ys) ≡ map told xs ++ map told ys
-map-both told [] ys = refl
-map-both told (x ∷ xs) ys = ap (λ z. told x ∷ z) (map-both told xs ys)
 
 module _ {V M H G : Type 0} (told : H → G) where
   mutual
@@ -28,19 +25,19 @@ module _ {V M H G : Type 0} (told : H → G) where
     below-told : (hs : HoledNodes V M H) → holes_below (with_holes_below told hs) ≡ map told (holes_below hs)
     below-told childless = refl
     below-told (child k h hs) =
-        ap (λ z. z ++ holes_below (with_holes_below told hs)) (holes-told h) ∙ ap (λ z. map told (holes h) ++ z) (below-told hs) ∙ sym (map-both told (holes h) (holes_below hs))
+        ap (λ z. z ++ holes_below (with_holes_below told hs)) (holes-told h) ∙ ap (λ z. map told (holes h) ++ z) (below-told hs) ∙ sym (map-append told (holes h) (holes_below hs))
 
 module _ {V M : Type 0} where
   -- the same places, beside jobs or beside themselves
-  below-same : (place : Place) (jobs : List (Job V M)) → below_all place_cmp place (map (λ job. (job.place, job)) jobs) ≡ below_all place_cmp place (map (λ p. (p, p)) (map hole_of jobs))
+  below-same : (place : Place) (jobs : List (Job V M)) → below_all node_place_cmp place (map (λ job. (job.place, job)) jobs) ≡ below_all node_place_cmp place (map (λ p. (p, p)) (map hole_of jobs))
   below-same place [] = refl
-  below-same place (job ∷ jobs) = ap (λ b. is_lt (place_cmp place job.place) && b) (below-same place jobs)
+  below-same place (job ∷ jobs) = ap (λ b. is_lt (node_place_cmp place job.place) && b) (below-same place jobs)
 
-  sorted-same : (jobs : List (Job V M)) → is_sorted place_cmp (map (λ job. (job.place, job)) jobs) ≡ is_sorted place_cmp (map (λ p. (p, p)) (map hole_of jobs))
+  sorted-same : (jobs : List (Job V M)) → is_sorted node_place_cmp (map (λ job. (job.place, job)) jobs) ≡ is_sorted node_place_cmp (map (λ p. (p, p)) (map hole_of jobs))
   sorted-same [] = refl
   sorted-same (job ∷ jobs) =
-      ap (λ b. b && is_sorted place_cmp (map (λ job. (job.place, job)) jobs)) (below-same job.place jobs)
-      ∙ ap (λ b. below_all place_cmp job.place (map (λ p. (p, p)) (map hole_of jobs)) && b) (sorted-same jobs)
+      ap (λ b. b && is_sorted node_place_cmp (map (λ job. (job.place, job)) jobs)) (below-same job.place jobs)
+      ∙ ap (λ b. below_all node_place_cmp job.place (map (λ p. (p, p)) (map hole_of jobs)) && b) (sorted-same jobs)
 
   -- a tree that is cut can be filled by pieces that have at the place of each job what becomes of it, or nothing
   pub cut-fillable : (meaning : Meaning V M) (shape : Shape) → IsRoomy shape → (c : Pieced V M) → StandInHoles meaning.weigh shape c → PlacesRise c → (pieces : Pieces V M) →

@@ -1,6 +1,7 @@
 -- Keys that are shared by portions.
 use Rattle.std.specs.Borrow.{Bor}
 use Rattle.std.specs.Prelude.{ℕ, suc, cond, List, [], ◌∷◌, map}
+use Rattle.std.specs.List.{flat_map}
 use Rattle.std.specs.declared.option.Option.{Option}
 use Rattle.bt_keycode.specs.Keys.{Key}
 use Rattle.bt_node.specs.Parts.{AreRising}
@@ -19,3 +20,7 @@ module _ {V M : Type 0} where
   -- what the portion of a job has at the keys of the job
   abbrev pub values_there : (Option V → M → Option V) → Portion V M × Bor (List (Bor Key)) → List (Option V)
   values_there effect job = map (λ k. value_in effect k.now job.0) job.1.now
+
+  -- that of jobs, one after the other
+  abbrev pub values_of_jobs : (Option V → M → Option V) → List (Portion V M × Bor (List (Bor Key))) → List (Option V)
+  values_of_jobs effect = flat_map (values_there effect)

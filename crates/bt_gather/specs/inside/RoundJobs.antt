@@ -7,7 +7,7 @@ use Rattle.bt_node.specs.Messages.{Meaning}
 use Rattle.bt_node.specs.Trees.{Shape, Siblings}
 use Rattle.bt_plan.specs.declared.job.Job as code_job
 use Rattle.bt_plan.specs.declared.job.Place as code_place
-use Rattle.bt_plan.specs.Cuts.{done}
+use Rattle.bt_plan.specs.Cuts.{outcome}
 use Rattle.bt_plan.specs.Pieces.{Pieces}
 use Rattle.bt_plan.specs.Views.{job_of}
 use Rattle.bt_gather.specs.declared.flush_work.ShapedJob.{ShapedJob}
@@ -28,7 +28,7 @@ module _ {V D : Type 0} where
   module _ (meaning : Meaning V (Message V D)) where
     -- what becomes of a job, at its place
     abbrev pub piece_of : ShapedJob V D → code_place.Place × Siblings V (Message V D)
-    piece_of shaped = (shaped.job.place, done meaning shaped.shape (job_of shaped.job))
+    piece_of shaped = (shaped.job.place, outcome meaning shaped.shape (job_of shaped.job))
 
     -- what becomes of jobs, each at its place
     abbrev pub all_pieces : List (ShapedJob V D) → Pieces V (Message V D)

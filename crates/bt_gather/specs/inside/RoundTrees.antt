@@ -17,8 +17,8 @@ use Rattle.bt_gather.specs.Misfits.{misfit}
 use Rattle.bt_gather.specs.inside.RoundJobs.{AreRunnable, all_pieces}
 
 -- an empty list with room for so many
-abbrev pub HasRoom : {X : Type 0} → Vec X Global → ℕ → Type 0
-HasRoom room count = (room.items ≡ []) × (count ≤ vec_capacity room)
+abbrev pub IsEmptyWithRoom : {X : Type 0} → Vec X Global → ℕ → Type 0
+IsEmptyWithRoom room count = (room.items ≡ []) × (count ≤ vec_capacity room)
 
 module _ {V D : Type 0} where
   -- how many jobs it has
@@ -35,7 +35,7 @@ module _ {V D : Type 0} where
   pub record IsCutFilledBy (weigh : Key × Message V D → ℕ) (holed : Shape × Holed V (Message V D) Place) (jobs : ℕ) (room : Vec (code_place.Place × Siblings V (Message V D)) Global)
       (pieces : Pieces V (Message V D)) : Type 0 where
     pub count : length pieces ≡ jobs
-    pub roomy : HasRoom room jobs
+    pub roomy : IsEmptyWithRoom room jobs
     pub fillable : IsFillable weigh holed.0 holed.1 pieces
     pub fit : misfit holed.1 pieces ≡ None
 

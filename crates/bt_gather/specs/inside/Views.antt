@@ -2,7 +2,7 @@
 use Rattle.std.specs.Prelude.{List, map}
 use Rattle.bt_plan.specs.declared.job.Place as code_place
 use Rattle.bt_plan.specs.Pieces.{Place}
-use Rattle.bt_plan.specs.Views.{place_of}
+use Rattle.bt_plan.specs.Views.{node_place}
 
-abbrev pub places_of : List code_place.Place → List Place
-places_of = map place_of
+abbrev pub node_places : List code_place.Place → List Place
+node_places = map node_place

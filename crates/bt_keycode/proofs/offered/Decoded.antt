@@ -9,7 +9,8 @@ use Rattle.bt_rowtype.specs.declared.value.Value.{Value}
 use Rattle.bt_rowtype.specs.Kinds.{Content, Number, Bytes, Bit, content_of, form_in, value_with}
 use Rattle.bt_rowtype.proofs.offered.Kinds.{form_held, with_content}
 use Rattle.bt_keycode.specs.Codes.{code_of, code_of_content, code_of_value, eight_bytes, kind_of, raised}
-use Rattle.bt_keycode.specs.inside.Decoding.{HasBits, decoded, first_content, first_value, lowered, unescaped}
+use Rattle.bt_keycode.specs.Decodings.{decoded, first_content, first_value, lowered, unescaped}
+use Rattle.bt_keycode.specs.inside.CodeBeginnings.{HasBits}
 use Rattle.bt_keycode.proofs.Codes.{has_bits}
 use Rattle.bt_keycode.proofs.DecodingInts.{raised_below}
 use Rattle.bt_keycode.proofs.DecodingBytes.{read_again, split_end}

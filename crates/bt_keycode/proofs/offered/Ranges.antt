@@ -11,9 +11,9 @@ use Rattle.bt_rowtype.specs.Ops.{after_action, after_op, after_ops, all_read, ar
 use Rattle.bt_rowtype.specs.Values.{AreInRange, IsInRange, default_of, or_refused, read_as, value_of, values_of, with_first}
 use Rattle.bt_rowtype.specs.Refusals.{least}
 use Rattle.bt_rowtype.specs.Schemas.{Schema}
-use Rattle.bt_rowtype.specs.declared.op.Arithmetic.{Arithmetic}
-use Rattle.bt_rowtype.specs.declared.op.Op.{Op}
-use Rattle.bt_rowtype.specs.declared.op.Op.TheVariants.{Set}
+use Rattle.bt_rowtype.specs.declared.upsert.op.Arithmetic.{Arithmetic}
+use Rattle.bt_rowtype.specs.declared.upsert.op.Op.{Op}
+use Rattle.bt_rowtype.specs.declared.upsert.op.Op.TheVariants.{Set}
 use Rattle.bt_rowtype.specs.declared.refusal.Refusal.{Refusal}
 use Rattle.bt_rowtype.specs.declared.refusal.Refusal.TheVariants.{BadField, BadLength}
 use Rattle.bt_rowtype.specs.declared.schema.Column.{Column}

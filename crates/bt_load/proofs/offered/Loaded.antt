@@ -8,7 +8,7 @@ use Rattle.bt_rowtype.specs.declared.refusal.Refusal.TheVariants.{BadSchema}
 use Rattle.bt_rowtype.specs.declared.schema.Column.{Column}
 use Rattle.bt_rowtype.specs.declared.value.Value.{Value}
 use Rattle.bt_load.specs.Loads.{loaded, typed_from, under_header}
-use Rattle.bt_load.specs.Standing.{AreOf}
+use Rattle.bt_keycode.specs.Standing.{AreOf}
 use Rattle.bt_load.proofs.Rows.{read_rows}
 
 under_header-of : (columns : List Column) (found : List (List (List ℕ))) (rows : List (List Value)) → under_header columns found ≡ Ok rows → AreOf columns rows

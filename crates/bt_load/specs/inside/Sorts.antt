@@ -1,18 +1,17 @@
 -- The keys of rows with the places of the rows, and what of them stands next to each other in order.
-use Rattle.std.specs.Prelude.{ℕ, ◌≡◌, ◌≢◌, ◌==◌, ◌+◌, ◌-◌, ◌<◌, ◌≤◌, cond, Bool, true, List, [], ◌∷◌, get_or, length, min, Option, Some, None, MatchOption}
-use Rattle.std.specs.List.{sum_by}
+use Rattle.std.specs.Prelude.{ℕ, ◌≡◌, ◌≢◌, ◌+◌, ◌-◌, ◌<◌, ◌≤◌, Bool, true, List, [], ◌∷◌, get_or, length, map, min, Option, Some, None, MatchOption}
 use Rattle.std.specs.Ordering.{eq_by_cmp}
 use Rattle.std.specs.declared.cmp.Ordering.TheVariants.{Less}
 use Rattle.bt_rowtype.specs.declared.value.Value.{Value}
 use Rattle.bt_keycode.specs.Keys.{Key, key_cmp}
-use Rattle.bt_load.specs.Maps.{key_of}
+use Rattle.bt_keycode.specs.Standing.{row_key}
 use Rattle.bt_load.specs.Steps.{no_key}
 use Rattle.bt_load.specs.declared.placed.Placed.{Placed}
 
 -- the keys of rows, the first of which has this place
 abbrev pub placed_from : ℕ → ℕ → List (List Value) → List Placed
 placed_from keys place [] = []
-placed_from keys place (row ∷ rows) = record { key = key_of keys row; place = place } ∷ placed_from keys (place + 1) rows
+placed_from keys place (row ∷ rows) = record { key = row_key keys row; place = place } ∷ placed_from keys (place + 1) rows
 
 -- no key is empty
 abbrev pub HaveKeys : List Placed → Type 0
@@ -22,9 +21,9 @@ HaveKeys placed = (k : ℕ) → k < length placed → (get_or placed k no_key).k
 abbrev pub IsKeyBelow : Placed → Placed → Type 0
 IsKeyBelow a b = key_cmp a.key b.key ≡ Less
 
--- how many times a place is among these
-abbrev pub times : ℕ → List Placed → ℕ
-times place = sum_by (λ p. cond (p.place == place) 1 0)
+-- the places of rows that stand beside their keys
+abbrev pub places_of : List Placed → List ℕ
+places_of = map (λ p. p.place)
 
 -- a key with the row at its place
 abbrev pub pair_at : List (List Value) → Placed → Key × List Value

@@ -2,7 +2,7 @@
 use Rattle.std.proofs.Common.{◌≡◌, ℕ, ◌<◌, ◌≤◌, ◌+◌, ◌*◌, true, false, if◌then◌else◌, List, [], ◌∷◌, ◌++◌, drop, length, map, refl, arith}
 use Rattle.std.proofs.lemmas.List.{length-append, length-drop}
 use Rattle.bt_keycode.specs.Keys.{Key, is_before}
-use Rattle.bt_messages.specs.Bins.{joined}
+use Rattle.bt_rowtype.specs.Lists.{concatenation}
 use Rattle.bt_messages.specs.Messages.{Messages, with_message, with_messages}
 use Rattle.bt_messages.specs.Parts.{total}
 use Rattle.bt_messages.specs.Shares.{AreShares, counts}
@@ -35,9 +35,9 @@ module _ {X : Type 0} (weigh : X → ℕ) where
   load-more measure x xs = load-append measure (x ∷ []) xs
 
   -- bins one after the other
-  pub load-joined : (measure : Measure) (bs : List (List X)) → load weigh measure (joined bs) ≡ total (map (load weigh measure) bs)
-  load-joined measure [] = load-none measure
-  load-joined measure (b ∷ bs) = omega (arith, load-append measure b (joined bs), load-joined measure bs)
+  pub load-concatenation : (measure : Measure) (bs : List (List X)) → load weigh measure (concatenation bs) ≡ total (map (load weigh measure) bs)
+  load-concatenation measure [] = load-none measure
+  load-concatenation measure (b ∷ bs) = omega (arith, load-append measure b (concatenation bs), load-concatenation measure bs)
 
   -- shares that messages have are no more than they are
   pub shares-within : (ms : List X) (ss : List Share) → AreShares weigh ms ss → total (counts ss) ≤ length ms

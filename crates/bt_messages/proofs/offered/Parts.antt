@@ -7,7 +7,8 @@ use Rattle.bt_messages.specs.Messages.{Messages, messages_before, messages_from,
 use Rattle.bt_keycode.proofs.offered.Order.{before_later, from_earlier, not_after, not_before_itself}
 use Rattle.bt_messages.proofs.offered.Placed.{sorted-with_messages}
 use Rattle.bt_messages.proofs.Cuts.{behind, filter_sorted}
-use Rattle.bt_messages.specs.Bins.{AllBefore, LieBetween, added, each_with, joined, parts}
+use Rattle.bt_rowtype.specs.Lists.{concatenation}
+use Rattle.bt_messages.specs.Bins.{AllBefore, LieBetween, added, each_with, parts}
 use Rattle.bt_messages.specs.Parts.{total}
 
 module _ {M : Type 0} where
@@ -73,14 +74,14 @@ module _ {M : Type 0} where
       (parts-with ks (messages_from k p) (messages_from k b) (filter_sorted (λ (m : List ℕ × M). not (is_before m.0 k)) b h))
 
   -- the parts of sorted messages are all of them
-  pub joined-parts : (ks : List (List ℕ)) (b : Messages M) → IsSorted b → joined (parts ks b) ≡ b
-  joined-parts [] b h = append-none b
+  pub concatenation-parts : (ks : List (List ℕ)) (b : Messages M) → IsSorted b → concatenation (parts ks b) ≡ b
+  concatenation-parts [] b h = append-none b
     where
       append-none : (xs : Messages M) → xs ++ [] ≡ xs
       append-none [] = refl
       append-none (x ∷ xs) = ap (λ ys. x ∷ ys) (append-none xs)
-  joined-parts (k ∷ ks) b h =
-      ap (λ zs. messages_before k b ++ zs) (joined-parts ks (messages_from k b) (filter_sorted (λ (m : List ℕ × M). not (is_before m.0 k)) b h))
+  concatenation-parts (k ∷ ks) b h =
+      ap (λ zs. messages_before k b ++ zs) (concatenation-parts ks (messages_from k b) (filter_sorted (λ (m : List ℕ × M). not (is_before m.0 k)) b h))
       ∙ behind k [] b tt h
 
   -- ---- bins between pivots
@@ -102,33 +103,33 @@ module _ {M : Type 0} where
       )
 
   -- what lies from a key on lies behind what is before it
-  all_from-joined : (k q : List ℕ) (b c : Messages M) → is_before q k ≡ true → AllFrom q b → AllFrom k c → AllFrom q (b ++ c)
-  all_from-joined k q [] c p h f = from_earlier q k c (not_after q k p) f
-  all_from-joined k q (m ∷ ms) c p h f = (h.0, all_from-joined k q ms c p h.1 f)
+  all_from-concatenation : (k q : List ℕ) (b c : Messages M) → is_before q k ≡ true → AllFrom q b → AllFrom k c → AllFrom q (b ++ c)
+  all_from-concatenation k q [] c p h f = from_earlier q k c (not_after q k p) f
+  all_from-concatenation k q (m ∷ ms) c p h f = (h.0, all_from-concatenation k q ms c p h.1 f)
 
-  sorted-joined : (k : List ℕ) (b c : Messages M) → IsSorted b → AllBefore k b → AllFrom k c → IsSorted c → IsSorted (b ++ c)
-  sorted-joined k [] c s h f t = t
-  sorted-joined k (m ∷ ms) c s h f t = (all_from-joined k m.0 ms c h.0 s.0 f, sorted-joined k ms c s.1 h.1 f t)
+  sorted-concatenation : (k : List ℕ) (b c : Messages M) → IsSorted b → AllBefore k b → AllFrom k c → IsSorted c → IsSorted (b ++ c)
+  sorted-concatenation k [] c s h f t = t
+  sorted-concatenation k (m ∷ ms) c s h f t = (all_from-concatenation k m.0 ms c h.0 s.0 f, sorted-concatenation k ms c s.1 h.1 f t)
 
   append-nothing : (xs : Messages M) → xs ++ [] ≡ xs
   append-nothing [] = refl
   append-nothing (x ∷ xs) = ap (λ ys. x ∷ ys) (append-nothing xs)
 
   -- bins that lie between pivots are the parts of what they hold together
-  pub parts-joined : (ks : List (List ℕ)) (bs : List (Messages M)) → LieBetween ks bs → parts ks (joined bs) ≡ bs
-  parts-joined ks [] h = absurd h
-  parts-joined [] (b ∷ []) h = ap (λ zs. zs ∷ []) (append-nothing b)
-  parts-joined [] (b ∷ c ∷ bs) h = absurd h
-  parts-joined (k ∷ ks) (b ∷ bs) h =
-      let cut = cut_at k b (joined bs) h.1 h.2 in
-      ap (λ zs. zs ∷ parts ks (messages_from k (b ++ joined bs))) cut.0 ∙ ap (λ zs. b ∷ parts ks zs) cut.1
-      ∙ ap (λ zs. b ∷ zs) (parts-joined ks bs h.3)
+  pub parts-concatenation : (ks : List (List ℕ)) (bs : List (Messages M)) → LieBetween ks bs → parts ks (concatenation bs) ≡ bs
+  parts-concatenation ks [] h = absurd h
+  parts-concatenation [] (b ∷ []) h = ap (λ zs. zs ∷ []) (append-nothing b)
+  parts-concatenation [] (b ∷ c ∷ bs) h = absurd h
+  parts-concatenation (k ∷ ks) (b ∷ bs) h =
+      let cut = cut_at k b (concatenation bs) h.1 h.2 in
+      ap (λ zs. zs ∷ parts ks (messages_from k (b ++ concatenation bs))) cut.0 ∙ ap (λ zs. b ∷ parts ks zs) cut.1
+      ∙ ap (λ zs. b ∷ zs) (parts-concatenation ks bs h.3)
 
-  pub joined_sorted : (ks : List (List ℕ)) (bs : List (Messages M)) → LieBetween ks bs → IsSorted (joined bs)
-  joined_sorted ks [] h = absurd h
-  joined_sorted [] (b ∷ []) h = subst IsSorted (sym (append-nothing b)) h
-  joined_sorted [] (b ∷ c ∷ bs) h = absurd h
-  joined_sorted (k ∷ ks) (b ∷ bs) h = sorted-joined k b (joined bs) h.0 h.1 h.2 (joined_sorted ks bs h.3)
+  pub concatenation_sorted : (ks : List (List ℕ)) (bs : List (Messages M)) → LieBetween ks bs → IsSorted (concatenation bs)
+  concatenation_sorted ks [] h = absurd h
+  concatenation_sorted [] (b ∷ []) h = subst IsSorted (sym (append-nothing b)) h
+  concatenation_sorted [] (b ∷ c ∷ bs) h = absurd h
+  concatenation_sorted (k ∷ ks) (b ∷ bs) h = sorted-concatenation k b (concatenation bs) h.0 h.1 h.2 (concatenation_sorted ks bs h.3)
 
   pub kept_before : (k : List ℕ) (ms : Messages M) → AllBefore k (messages_before k ms)
   kept_before k [] = tt
@@ -151,23 +152,23 @@ module _ {M : Type 0} where
       let later = filter_sorted (λ (m : List ℕ × M). not (is_before m.0 k)) b h in (
         filter_sorted (λ (m : List ℕ × M). is_before m.0 k) b h,
         kept_before k b,
-        subst (AllFrom k) (sym (joined-parts ks (messages_from k b) later)) (kept_from k b),
+        subst (AllFrom k) (sym (concatenation-parts ks (messages_from k b) later)) (kept_from k b),
         parts_lie ks (messages_from k b) later,
       )
 
   -- ---- a packet added to bins
 
-  pub added_is : (ks : List (List ℕ)) (p : Messages M) (bs : List (Messages M)) → LieBetween ks bs → added ks p bs ≡ parts ks (with_messages p (joined bs))
-  added_is ks p bs h = sym (parts-with ks p (joined bs) (joined_sorted ks bs h) ∙ ap (each_with (parts ks p)) (parts-joined ks bs h))
+  pub added_is : (ks : List (List ℕ)) (p : Messages M) (bs : List (Messages M)) → LieBetween ks bs → added ks p bs ≡ parts ks (with_messages p (concatenation bs))
+  added_is ks p bs h = sym (parts-with ks p (concatenation bs) (concatenation_sorted ks bs h) ∙ ap (each_with (parts ks p)) (parts-concatenation ks bs h))
 
   pub added_lie : (ks : List (List ℕ)) (p : Messages M) (bs : List (Messages M)) → LieBetween ks bs → LieBetween ks (added ks p bs)
   added_lie ks p bs h =
-      subst (LieBetween ks) (sym (added_is ks p bs h)) (parts_lie ks (with_messages p (joined bs)) (sorted-with_messages p (joined bs) (joined_sorted ks bs h)))
+      subst (LieBetween ks) (sym (added_is ks p bs h)) (parts_lie ks (with_messages p (concatenation bs)) (sorted-with_messages p (concatenation bs) (concatenation_sorted ks bs h)))
 
   -- the bins hold together what they held, with the packet
-  pub joined-added : (ks : List (List ℕ)) (p : Messages M) (bs : List (Messages M)) → LieBetween ks bs → joined (added ks p bs) ≡ with_messages p (joined bs)
-  joined-added ks p bs h =
-      ap joined (added_is ks p bs h) ∙ joined-parts ks (with_messages p (joined bs)) (sorted-with_messages p (joined bs) (joined_sorted ks bs h))
+  pub concatenation-added : (ks : List (List ℕ)) (p : Messages M) (bs : List (Messages M)) → LieBetween ks bs → concatenation (added ks p bs) ≡ with_messages p (concatenation bs)
+  concatenation-added ks p bs h =
+      ap concatenation (added_is ks p bs h) ∙ concatenation-parts ks (with_messages p (concatenation bs)) (sorted-with_messages p (concatenation bs) (concatenation_sorted ks bs h))
 
   -- ---- bins and pivots
 
@@ -185,10 +186,10 @@ module _ {M : Type 0} where
   from_both k [] c d h f = f
   from_both k (m ∷ ms) c d h f = (h.0, from_both k ms c d h.1 f)
 
-  emptied_from : (k : List ℕ) (bs : List (Messages M)) (i : ℕ) → AllFrom k (joined bs) → AllFrom k (joined (set bs i []))
+  emptied_from : (k : List ℕ) (bs : List (Messages M)) (i : ℕ) → AllFrom k (concatenation bs) → AllFrom k (concatenation (set bs i []))
   emptied_from k [] i h = tt
-  emptied_from k (b ∷ bs) zero h = from_right k b (joined bs) h
-  emptied_from k (b ∷ bs) (suc i) h = from_both k b (joined bs) (joined (set bs i [])) h (emptied_from k bs i (from_right k b (joined bs) h))
+  emptied_from k (b ∷ bs) zero h = from_right k b (concatenation bs) h
+  emptied_from k (b ∷ bs) (suc i) h = from_both k b (concatenation bs) (concatenation (set bs i [])) h (emptied_from k bs i (from_right k b (concatenation bs) h))
 
   -- a bin may be emptied
   pub emptied_lie : (ks : List (List ℕ)) (bs : List (Messages M)) (i : ℕ) → LieBetween ks bs → LieBetween ks (set bs i [])
@@ -200,7 +201,7 @@ module _ {M : Type 0} where
   emptied_lie (k ∷ ks) (b ∷ bs) (suc i) h = (h.0, h.1, emptied_from k bs i h.2, emptied_lie ks bs i h.3)
 
   -- an empty bin may become two, with a pivot between them before which nothing lies later
-  pub spread_lie : (k : List ℕ) (ks : List (List ℕ)) (bs : List (Messages M)) → AllFrom k (joined bs) → LieBetween ks ([] ∷ bs) → LieBetween (k ∷ ks) ([] ∷ [] ∷ bs)
+  pub spread_lie : (k : List ℕ) (ks : List (List ℕ)) (bs : List (Messages M)) → AllFrom k (concatenation bs) → LieBetween ks ([] ∷ bs) → LieBetween (k ∷ ks) ([] ∷ [] ∷ bs)
   spread_lie k ks bs f h = (tt, tt, f, h)
 
   -- ---- how many messages
@@ -216,6 +217,6 @@ module _ {M : Type 0} where
   length-with_messages [] older = omega arith
   length-with_messages (m ∷ ms) older = omega (arith, length-with_messages ms (with_message m older), length-with_message m older)
 
-  pub length-joined : (bs : List (Messages M)) → length (joined bs) ≡ total (map length bs)
-  length-joined [] = refl
-  length-joined (b ∷ bs) = omega (arith, length-append b (joined bs), length-joined bs)
+  pub length-concatenation : (bs : List (Messages M)) → length (concatenation bs) ≡ total (map length bs)
+  length-concatenation [] = refl
+  length-concatenation (b ∷ bs) = omega (arith, length-append b (concatenation bs), length-concatenation bs)

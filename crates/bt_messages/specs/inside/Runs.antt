@@ -1,7 +1,7 @@
 -- Sorted messages in runs, one list after the other, so that whole lists of them can be given away.
 use Rattle.std.specs.Prelude.{ℕ, ◌≡◌, ◌<◌, ◌^◌, Bool, false, List, [], ◌∷◌, ◌++◌, length}
 use Rattle.bt_keycode.specs.Keys.{IsSorted, Key, is_before}
-use Rattle.bt_messages.specs.Bins.{joined}
+use Rattle.bt_rowtype.specs.Lists.{concatenation}
 use Rattle.bt_messages.specs.Messages.{Messages}
 
 -- none of these lists is empty
@@ -17,6 +17,6 @@ begins_before k (m ∷ ms) = is_before m.0 k
 -- a list and runs behind it, none of which is empty, are sorted together, and so many messages
 pub record AreRuns {M : Type 0} (first : Messages M) (rest : List (Messages M)) (n : ℕ) : Type 0 where
   pub some : AreSome rest
-  pub sorted : IsSorted (first ++ joined rest)
-  pub count : n ≡ length (first ++ joined rest)
+  pub sorted : IsSorted (first ++ concatenation rest)
+  pub count : n ≡ length (first ++ concatenation rest)
   pub bound : n < 2 ^ 63

@@ -7,7 +7,7 @@ use Rattle.bt_node.specs.Fits.{HasShape, IsRoomy, SiblingsFit}
 use Rattle.bt_node.specs.Flushes.{holds, leaves}
 use Rattle.bt_node.specs.Messages.{Meaning, Rows}
 use Rattle.bt_node.specs.Trees.{Shape, Tree}
-use Rattle.bt_node.specs.declared.mode.Mode.TheVariants.{Drain}
+use Rattle.bt_node.specs.declared.form.mode.Mode.TheVariants.{Drain}
 use Rattle.bt_node.proofs.lemmas.crowns.CrownedRows.{crown-fits, crown-holds}
 use Rattle.bt_node.proofs.lemmas.flushes.Groups.{leaves-hold}
 use Rattle.bt_node.proofs.lemmas.flushes.Laws.{fit_there, hold_rows_after, leaves-fit}

@@ -7,7 +7,7 @@ use Rattle.bt_keycode.specs.Keys.{Key, key_cmp}
 use Rattle.bt_node.specs.Messages.{Meaning, Messages, load, rows_after}
 use Rattle.bt_node.specs.Laws.{FitThere}
 use Rattle.bt_node.specs.Trees.{Shape, Tree, Siblings, inner, nodes}
-use Rattle.bt_node.specs.declared.mode.Mode.TheVariants.{Absorb}
+use Rattle.bt_node.specs.declared.form.mode.Mode.TheVariants.{Absorb}
 use Rattle.bt_node.proofs.lemmas.crowns.CrownedRows.{crown-fits, crown-holds}
 use Rattle.bt_node.proofs.lemmas.flushes.Groups.{children-nodes}
 use Rattle.bt_node.proofs.lemmas.flushes.Laws.{anywhere, fit_there, hold_rows_after}

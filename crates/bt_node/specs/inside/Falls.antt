@@ -4,14 +4,14 @@ use Rattle.std.specs.List.{zip}
 use Rattle.std.proofs.Common.{arith}
 use denote.Param.Weighed.{most}
 use Rattle.bt_messages.specs.declared.message.Merge.{Ghosts}
-use Rattle.bt_node.specs.declared.node.Kind.{Kind}
-use Rattle.bt_node.specs.declared.node.Kind.TheVariants.{Leaf, Inner}
-use Rattle.bt_node.specs.declared.node.Node.TheDeep.{deep-Kind}
+use Rattle.bt_node.specs.declared.form.node.NodeKind.{NodeKind}
+use Rattle.bt_node.specs.declared.form.node.NodeKind.TheVariants.{Leaf, Inner}
+use Rattle.bt_node.specs.declared.form.node.Node.TheDeep.{deep-NodeKind}
 use Rattle.bt_keycode.specs.Keys.{Key}
 use Rattle.bt_node.specs.Trees.{Tree, behind, height, height_below, nodes}
-use Rattle.bt_node.specs.inside.Kinds.{tree_of}
+use Rattle.bt_node.specs.inside.NodeKinds.{tree_of}
 
-pub below_node : {V D : Type 0} (merge : Ghosts V D) (k : Kind V D) → max (deep-Kind V D merge k) 0 ≤ 2 * height (tree_of k)
+pub below_node : {V D : Type 0} (merge : Ghosts V D) (k : NodeKind V D) → max (deep-NodeKind V D merge k) 0 ≤ 2 * height (tree_of k)
 below_node merge (Leaf rows) = omega arith
 below_node merge (Inner children bins) = omega arith
 

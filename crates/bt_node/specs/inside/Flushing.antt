@@ -4,8 +4,8 @@ use Rattle.bt_node.specs.Fits.{IsInOrder}
 use Rattle.bt_node.specs.Flushes.{Child}
 use Rattle.bt_node.specs.Messages.{Messages, with_messages}
 use Rattle.bt_node.specs.Trees.{Tree}
-use Rattle.bt_node.specs.declared.mode.Mode.{Mode}
-use Rattle.bt_node.specs.declared.mode.Mode.TheVariants.{Absorb, Drain}
+use Rattle.bt_node.specs.declared.form.mode.Mode.{Mode}
+use Rattle.bt_node.specs.declared.form.mode.Mode.TheVariants.{Absorb, Drain}
 
 module _ {V M : Type 0} where
   -- where messages may stay on the way, the keys are in order

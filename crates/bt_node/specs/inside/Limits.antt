@@ -2,9 +2,9 @@
 use Rattle.std.specs.Prelude.{ℕ, zero, suc, List, Option, Some, None, take}
 
 -- the first rows, as many as the limit lets
-abbrev pub first_of : {R : Type 0} → Option ℕ → List R → List R
-first_of None rows = rows
-first_of (Some most) rows = take most rows
+abbrev pub first_rows : {R : Type 0} → Option ℕ → List R → List R
+first_rows None rows = rows
+first_rows (Some most) rows = take most rows
 
 -- what a row makes of a visitor, and of the number of rows that it may still be shown
 abbrev pub limited : {S R : Type 0} → (S → R → S) → S × Option ℕ → R → S × Option ℕ

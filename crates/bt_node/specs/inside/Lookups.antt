@@ -11,14 +11,14 @@ module _ {V M : Type 0} (effect : Option V → M → Option V) where
   -- A leaf has the value among its rows. An inner node has what its messages make of the value that the child has to which the key belongs: the one
   -- after the last pivot that is at most the key, or the first.
   abbrev mutual
-    pub value_at : Key → Tree V M → Option V
-    value_at k (leaf rows) = find key_cmp k rows
-    value_at k (inner ns buffer) = value_after effect k buffer (value_below k ns)
+    pub tree_value : Key → Tree V M → Option V
+    tree_value k (leaf rows) = find key_cmp k rows
+    tree_value k (inner ns buffer) = value_after effect k buffer (value_below k ns)
 
     pub value_below : Key → Nodes V M → Option V
     value_below k none = None
-    value_below k (node p t none) = value_at k t
-    value_below k (node p t (node q u ns)) = cond (is_before k q) (value_at k t) (value_below k (node q u ns))
+    value_below k (node p t none) = tree_value k t
+    value_below k (node p t (node q u ns)) = cond (is_before k q) (tree_value k t) (value_below k (node q u ns))
 
 -- how many of the first pivots are at most a key
 abbrev pub pivots_up_to : Key → List Key → ℕ

@@ -1,7 +1,7 @@
 -- Keys that are looked up together.
 use Rattle.std.specs.Prelude.{◌≡◌, ℕ, suc, cond, List, [], ◌∷◌, map, Option}
 use Rattle.bt_keycode.specs.Keys.{Key, is_between}
-use Rattle.bt_node.specs.inside.Lookups.{pivots_up_to, value_at}
+use Rattle.bt_node.specs.inside.Lookups.{pivots_up_to, tree_value}
 use Rattle.bt_node.specs.Messages.{Messages, value_after}
 use Rattle.bt_node.specs.Trees.{Tree}
 
@@ -22,5 +22,5 @@ values_after effect ms (k ∷ ks) [] = []
 values_after effect ms (k ∷ ks) (old ∷ olds) = value_after effect k ms old ∷ values_after effect ms ks olds
 
 -- the values at keys
-abbrev pub values_at : {V M : Type 0} → (Option V → M → Option V) → List Key → Tree V M → List (Option V)
-values_at effect ks t = map (λ k. value_at effect k t) ks
+abbrev pub tree_values : {V M : Type 0} → (Option V → M → Option V) → List Key → Tree V M → List (Option V)
+tree_values effect ks t = map (λ k. tree_value effect k t) ks

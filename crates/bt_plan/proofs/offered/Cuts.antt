@@ -10,11 +10,11 @@ use Rattle.bt_node.specs.Fits.{HasShape, IsInOrder, IsRoomy, SiblingsFit}
 use Rattle.bt_node.specs.Flushes.{flush_in}
 use Rattle.bt_node.specs.Messages.{Meaning, Messages}
 use Rattle.bt_node.specs.Trees.{Shape, Siblings, Tree}
-use Rattle.bt_node.specs.declared.mode.Mode.{Mode}
+use Rattle.bt_node.specs.declared.form.mode.Mode.{Mode}
 use Rattle.bt_node.proofs.offered.FlushSteps.{anywhere, fit_there}
-use Rattle.bt_plan.specs.Cuts.{Job, Pieced, all_done, cut, cut_out, done, hole_of, root_place}
+use Rattle.bt_plan.specs.Cuts.{Job, Pieced, cut, cut_out, hole_of, outcome, outcomes, root_place}
 use Rattle.bt_plan.specs.Laws.{FillsUp, JobFits, PlacesRise, StandInHoles}
-use Rattle.bt_plan.specs.Pieces.{FitsHole, HoledFits, Pieces, filled, holes, place_cmp}
+use Rattle.bt_plan.specs.Pieces.{FitsHole, HoledFits, Pieces, filled, holes, node_place_cmp}
 use Rattle.bt_plan.proofs.Filling.{cut-filled}
 use Rattle.bt_plan.proofs.Fits.{cut-fits}
 use Rattle.bt_plan.proofs.Found.{all-stand, filled-standing}
@@ -24,6 +24,8 @@ use Rattle.bt_plan.proofs.Places.{cut-rises}
 pub use Rattle.bt_plan.proofs.Passes.{all_pending-none, lies-divides, stripped-none}
 -- what becomes of jobs at rising places stands at these
 pub use Rattle.bt_plan.proofs.Found.{all-stand}
+-- the holes below an opened node
+pub use Rattle.bt_plan.proofs.Opening.{holes-zip}
 -- trees in pieces whose holes tell something else
 pub use Rattle.bt_plan.proofs.Found.{filled-as}
 pub use Rattle.bt_plan.proofs.Holes.{bins-long, told-fits}
@@ -52,23 +54,23 @@ module _ {V M : Type 0} (meaning : Meaning V M) (number : ℕ) (shape : Shape) (
       has.fits.lies has.fits.sized (anywhere packet)
 
   -- so the jobs, each run, and filled in
-  pub cut-done : filled shape (cut meaning.weigh number shape root packet depth mode).holed (all_done meaning shape (cut meaning.weigh number shape root packet depth mode).jobs) ≡ flush_in meaning mode shape root packet
-  cut-done = cut-fills_up _ (all-stand meaning shape _ cut-places_rise)
+  pub cut-outcome : filled shape (cut meaning.weigh number shape root packet depth mode).holed (outcomes meaning shape (cut meaning.weigh number shape root packet depth mode).jobs) ≡ flush_in meaning mode shape root packet
+  cut-outcome = cut-fills_up _ (all-stand meaning shape _ cut-places_rise)
 
 -- what stands at the place of a job is what becomes of it
 abbrev pub Answers : {V M : Type 0} → Meaning V M → Shape → Pieces V M → Job V M → Type 0
-Answers {V} {M} meaning shape pieces job = (xs : Siblings V M) → find place_cmp job.place pieces ≡ Some xs → xs ≡ done meaning shape job
+Answers {V} {M} meaning shape pieces job = (xs : Siblings V M) → find node_place_cmp job.place pieces ≡ Some xs → xs ≡ outcome meaning shape job
 
 module _ {V M : Type 0} (meaning : Meaning V M) (shape : Shape) (roomy : IsRoomy shape) where
   -- what becomes of a job fits its hole
-  done-fits : (job : Job V M) (levels : ℕ) (low high : Option Key) → JobFits meaning.weigh shape levels low high job → SiblingsFit meaning.weigh shape levels low high (done meaning shape job)
-  done-fits job levels low high fits = fit_there meaning job.mode shape roomy job.node job.packet _ refl levels low high fits.0 fits.1
+  outcome-fits : (job : Job V M) (levels : ℕ) (low high : Option Key) → JobFits meaning.weigh shape levels low high job → SiblingsFit meaning.weigh shape levels low high (outcome meaning shape job)
+  outcome-fits job levels low high fits = fit_there meaning job.mode shape roomy job.node job.packet _ refl levels low high fits.0 fits.1
 
   each-fits : (pieces : Pieces V M) (jobs : List (Job V M)) → Each (Answers meaning shape pieces) jobs →
       Each (λ job. (levels : ℕ) (low high : Option Key) → JobFits meaning.weigh shape levels low high job → FitsHole meaning.weigh shape pieces levels low high (hole_of job)) jobs
   each-fits pieces [] e = tt
   each-fits pieces (job ∷ jobs) e =
-      ((λ levels low high fits xs found. subst (SiblingsFit meaning.weigh shape levels low high) (sym (e.0 xs found)) (done-fits job levels low high fits)), each-fits pieces jobs e.1)
+      ((λ levels low high fits xs found. subst (SiblingsFit meaning.weigh shape levels low high) (sym (e.0 xs found)) (outcome-fits job levels low high fits)), each-fits pieces jobs e.1)
 
   -- so it fits the hole
   pub pieces-fit : (c : Pieced V M) (stand : StandInHoles meaning.weigh shape c) (pieces : Pieces V M) → All (Answers meaning shape pieces) c.jobs → HoledFits meaning.weigh (FitsHole meaning.weigh shape pieces) shape stand.levels None None c.holed

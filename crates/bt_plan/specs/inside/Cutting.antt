@@ -4,7 +4,7 @@ use Rattle.bt_keycode.specs.Keys.{Key}
 use Rattle.bt_node.specs.Fits.{IsSized}
 use Rattle.bt_node.specs.Messages.{Messages, with_messages}
 use Rattle.bt_node.specs.Trees.{Shape, Tree}
-use Rattle.bt_node.specs.declared.mode.Mode.{Mode}
+use Rattle.bt_node.specs.declared.form.mode.Mode.{Mode}
 use Rattle.bt_plan.specs.Cuts.{Job, child_place, cut_out}
 use Rattle.bt_plan.specs.Pieces.{Holed, Place, whole}
 
@@ -16,6 +16,10 @@ module _ {V M : Type 0} where
   -- a job that is cut, so many levels above the cut
   abbrev pub cut_job : (Key × M → ℕ) → ℕ → Shape → Job V M → Holed V M (Job V M)
   cut_job weigh depth shape job = cut_out weigh depth job.mode shape job.place job.node job.packet
+
+  -- a job that is cut where it is marked, and whose node else stays
+  abbrev pub cut_marked : (Key × M → ℕ) → ℕ → Shape → Bool → Job V M → Holed V M (Job V M)
+  cut_marked weigh depth shape marked job = cond marked (cut_job weigh depth shape job) (whole job.node)
 
   -- the children from the i-th on, each with its bin and its mark
   abbrev pub cut_each : (Key × M → ℕ) → ℕ → Mode → Shape → Place → ℕ → List (Tree V M) → List (Messages M) → List Bool → List (Holed V M (Job V M))

@@ -8,24 +8,24 @@ use Rattle.bt_keycode.specs.Keys.{Key}
 use Rattle.bt_messages.specs.declared.message.Message.{Message}
 use Rattle.bt_node.specs.Messages.{Messages}
 use Rattle.bt_node.specs.Trees.{Shape, Tree}
-use Rattle.bt_node.specs.inside.Stored.{message_code, shape_code, tree_code}
+use Rattle.bt_node.specs.Stored.{message_code, shape_code, tree_code}
 use Rattle.bt_plan.specs.Pieces.{Holed, HoledNodes, Place, whole, hole, opened, childless, child}
 
 -- a node of a tree in pieces behind its pivot, told by the tree that stays, by what a hole tells or by what is left of a buffer, or nothing: the end of nodes side by
 -- side
-abbrev pub Token : Type 0 → Type 0 → Type 0 → Type 0
-Token V M H = Option (Key × (Tree V M ⊎ (H ⊎ Messages M)))
+abbrev pub HoledToken : Type 0 → Type 0 → Type 0 → Type 0
+HoledToken V M H = Option (Key × (Tree V M ⊎ (H ⊎ Messages M)))
 
 module _ {V M H : Type 0} where
   -- the tokens of nodes side by side, each node's before those of its children, and then more
-  abbrev pub tokens_before : List (Token V M H) → HoledNodes V M H → List (Token V M H)
+  abbrev pub tokens_before : List (HoledToken V M H) → HoledNodes V M H → List (HoledToken V M H)
   tokens_before more childless = None ∷ more
   tokens_before more (child k (whole t) hs) = Some (k, inl t) ∷ tokens_before more hs
   tokens_before more (child k (hole h) hs) = Some (k, inr (inl h)) ∷ tokens_before more hs
   tokens_before more (child k (opened below buffer) hs) = Some (k, inr (inr buffer)) ∷ tokens_before (tokens_before more hs) below
 
   -- a token read in front of others, which gave these lists of nodes
-  abbrev pub with_token : Token V M H → List (HoledNodes V M H) → List (HoledNodes V M H)
+  abbrev pub with_token : HoledToken V M H → List (HoledNodes V M H) → List (HoledNodes V M H)
   with_token None read = childless ∷ read
   with_token (Some (k, inl t)) [] = []
   with_token (Some (k, inl t)) (hs ∷ read) = child k (whole t) hs ∷ read
@@ -36,11 +36,11 @@ module _ {V M H : Type 0} where
   with_token (Some (k, inr (inr buffer))) (below ∷ hs ∷ read) = child k (opened below buffer) hs ∷ read
 
   -- the lists of nodes that tokens give
-  abbrev pub nodes_of : List (Token V M H) → List (HoledNodes V M H)
+  abbrev pub nodes_of : List (HoledToken V M H) → List (HoledNodes V M H)
   nodes_of [] = []
   nodes_of (x ∷ xs) = with_token x (nodes_of xs)
 
-  pub nodes_of-tokens_before : (more : List (Token V M H)) (hs : HoledNodes V M H) → nodes_of (tokens_before more hs) ≡ hs ∷ nodes_of more
+  pub nodes_of-tokens_before : (more : List (HoledToken V M H)) (hs : HoledNodes V M H) → nodes_of (tokens_before more hs) ≡ hs ∷ nodes_of more
   nodes_of-tokens_before more childless = refl
   nodes_of-tokens_before more (child k (whole t) hs) = ap (with_token (Some (k, inl t))) (nodes_of-tokens_before more hs)
   nodes_of-tokens_before more (child k (hole h) hs) = ap (with_token (Some (k, inr (inl h)))) (nodes_of-tokens_before more hs)
@@ -49,7 +49,7 @@ module _ {V M H : Type 0} where
       (nodes_of-tokens_before (tokens_before more hs) below ∙ ap (λ read. below ∷ read) (nodes_of-tokens_before more hs))
 
   -- a tree in pieces as the one node behind the empty key
-  abbrev pub holed_tokens : Holed V M H → List (Token V M H)
+  abbrev pub holed_tokens : Holed V M H → List (HoledToken V M H)
   holed_tokens h = tokens_before [] (child [] h childless)
 
   -- the first node, or an opened one without children where there is none
@@ -66,7 +66,7 @@ abbrev pub place_code : Coded Place
 place_code = code_by (ℕ × List ℕ) (coded× coded_ℕ (coded_list coded_ℕ)) (λ p. (p.tree, p.path)) (λ p. record { tree = p.0; path = p.1 }) (λ _. refl)
 
 module _ {V D : Type 0} (value : Coded V) (delta : Coded D) where
-  abbrev pub token_code : Coded (Token V (Message V D) Place)
+  abbrev pub token_code : Coded (HoledToken V (Message V D) Place)
   token_code =
       coded_option
       (coded× (coded_list coded_ℕ)
@@ -74,7 +74,7 @@ module _ {V D : Type 0} (value : Coded V) (delta : Coded D) where
 
   -- a tree in pieces is stored as its tokens
   abbrev pub holed_code : Coded (Holed V (Message V D) Place)
-  holed_code = code_by (List (Token V (Message V D) Place)) (coded_list token_code) holed_tokens (λ xs. first_node (nodes_of xs)) first_node-holed_tokens
+  holed_code = code_by (List (HoledToken V (Message V D) Place)) (coded_list token_code) holed_tokens (λ xs. first_node (nodes_of xs)) first_node-holed_tokens
 
   -- one with its shape
   abbrev pub shaped_holed_code : Coded (Shape × Holed V (Message V D) Place)

@@ -9,7 +9,7 @@ use Rattle.bt_rowtype.specs.Kinds.{Content, Number, Bytes, Bit, binary_of, conte
 use Rattle.bt_rowtype.specs.Schemas.{fits_kind}
 use Rattle.bt_rowtype.specs.Texts.{is_binary, is_text, most_value_bytes}
 use Rattle.bt_rowtype.specs.Values.{AreTaken, HasBytes, IsInRange, LiesInRange, same_kind, takes_content}
-use Rattle.bt_rowtype.specs.inside.Numbers.{number_of}
+use Rattle.bt_rowtype.specs.inside.Numbers.{int_number}
 use Rattle.bt_rowtype.specs.declared.value.Form.TheVariants as form
 use Rattle.bt_rowtype.specs.declared.value.Kind.{Kind}
 use Rattle.bt_rowtype.specs.declared.value.Kind.TheVariants as kind
@@ -33,18 +33,7 @@ form_held (value.Flag flag) = refl
 form_held (value.Bytes bytes) = refl
 
 pub kind_with : (k : Kind) (c : Content) → kind_of (value_with k c) ≡ k
-kind_with kind.Int (Number n) = refl
-kind_with kind.Int (Bytes bytes) = refl
-kind_with kind.Int (Bit bit) = refl
-kind_with kind.Text (Number n) = refl
-kind_with kind.Text (Bytes bytes) = refl
-kind_with kind.Text (Bit bit) = refl
-kind_with kind.Flag (Number n) = refl
-kind_with kind.Flag (Bytes bytes) = refl
-kind_with kind.Flag (Bit bit) = refl
-kind_with kind.Bytes (Number n) = refl
-kind_with kind.Bytes (Bytes bytes) = refl
-kind_with kind.Bytes (Bit bit) = refl
+kind_with k c = grind arith
 
 pub content_with : (k : Kind) (c : Content) → form_in c ≡ form_of k → content_of (value_with k c) ≡ c
 content_with kind.Int (Number n) same = refl
@@ -96,7 +85,7 @@ same_kind-itself kind.Bytes = refl
 
 -- ---- ints
 
-pub number_kind : (v : Value) (n : ℤ) → number_of v ≡ Some n → v ≡ value.Int n
+pub number_kind : (v : Value) (n : ℤ) → int_number v ≡ Some n → v ≡ value.Int n
 number_kind (value.Int m) n e = cc
 number_kind v n e = absurd cc
 

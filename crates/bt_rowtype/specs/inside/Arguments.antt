@@ -1,7 +1,7 @@
 -- The arguments of operations that are gone through.
 use Rattle.std.specs.Prelude.{List, ◌∷◌, map, Option, Some, None, ℤ}
 use Rattle.bt_rowtype.specs.Ops.{argument_of}
-use Rattle.bt_rowtype.specs.declared.op.Op.{Op}
+use Rattle.bt_rowtype.specs.declared.upsert.op.Op.{Op}
 use Rattle.bt_rowtype.specs.declared.value.Value.{Value}
 use Rattle.bt_rowtype.specs.declared.value.Value.TheVariants as value
 

@@ -1,11 +1,11 @@
 -- The operations that a change keeps.
 use Rattle.std.specs.Prelude.{List, [], ◌∷◌}
 use Rattle.bt_rowtype.specs.Arithmetic.{op_making}
-use Rattle.bt_rowtype.specs.declared.change.Work.{Work}
-use Rattle.bt_rowtype.specs.declared.change.Work.TheVariants as work
-use Rattle.bt_rowtype.specs.declared.op.Op.{Op}
+use Rattle.bt_rowtype.specs.declared.upsert.change.ChangeOps.{ChangeOps}
+use Rattle.bt_rowtype.specs.declared.upsert.change.ChangeOps.TheVariants as kept
+use Rattle.bt_rowtype.specs.declared.upsert.op.Op.{Op}
 
 -- one that makes a number, or those of a list
-abbrev pub ops_of : Work → List Op
-ops_of (work.One arithmetic place number) = op_making arithmetic place number ∷ []
-ops_of (work.List ops) = ops.value
+abbrev pub ops_in : ChangeOps → List Op
+ops_in (kept.One arithmetic place number) = op_making arithmetic place number ∷ []
+ops_in (kept.List ops) = ops.value

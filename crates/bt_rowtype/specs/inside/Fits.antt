@@ -2,7 +2,7 @@
 use Rattle.std.specs.Prelude.{ℕ, ◌≡◌, ◌∷◌, true, List, [], None}
 use Rattle.bt_rowtype.specs.Ops.{fault_of}
 use Rattle.bt_rowtype.specs.Schemas.{Schema, is_schema}
-use Rattle.bt_rowtype.specs.declared.op.Op.{Op}
+use Rattle.bt_rowtype.specs.declared.upsert.op.Op.{Op}
 use Rattle.bt_rowtype.specs.declared.schema.Column.{Column}
 
 -- columns, of which so many are the key, are a schema

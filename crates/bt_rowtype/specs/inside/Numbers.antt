@@ -4,6 +4,6 @@ use Rattle.bt_rowtype.specs.declared.value.Value.{Value}
 use Rattle.bt_rowtype.specs.declared.value.Value.TheVariants as value
 
 -- the number that a value is, if it is an int
-abbrev pub number_of : Value → Option ℤ
-number_of (value.Int n) = Some n
-number_of other = None
+abbrev pub int_number : Value → Option ℤ
+int_number (value.Int n) = Some n
+int_number other = None

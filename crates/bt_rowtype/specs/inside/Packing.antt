@@ -25,13 +25,14 @@ packed_content tag (Number n) = tag ∷ int_bytes n
 packed_content tag (Bytes bytes) = tag ∷ length bytes ∷ bytes
 packed_content tag (Bit bit) = (if bit then tag + 1 else tag) ∷ []
 
+-- the bytes of a value
 abbrev pub packed_value : Value → List ℕ
 packed_value v = packed_content (tag_of (kind_of v)) (content_of v)
 
 -- the bytes of values, one after another
-abbrev pub packed : List Value → List ℕ
-packed [] = []
-packed (v ∷ vs) = packed_value v ++ packed vs
+abbrev pub packed_values : List Value → List ℕ
+packed_values [] = []
+packed_values (v ∷ vs) = packed_value v ++ packed_values vs
 
 -- ---- from bytes to values
 
@@ -74,11 +75,11 @@ unpacked bytes = unpacked_by (length bytes) bytes
 -- bytes are those of a list of values within range
 pub record IsPacked (bytes : List ℕ) : Type 0 where
   pub in_range : AreInRange (unpacked bytes)
-  pub same : packed (unpacked bytes) ≡ bytes
+  pub same : packed_values (unpacked bytes) ≡ bytes
 
 -- where a value begins, or the end where there are fewer
 abbrev pub offset_of : ℕ → List Value → ℕ
-offset_of place vs = length (packed (take place vs))
+offset_of place vs = length (packed_values (take place vs))
 
 -- what bytes of values begin with
 pub record HasFirst (bytes : List ℕ) : Type 0 where
@@ -93,6 +94,6 @@ pub record HasFirst (bytes : List ℕ) : Type 0 where
 -- the value at a place, counted from 0, begins at this byte; or both are the end
 pub record IsAt (bytes : List ℕ) (place at : ℕ) : Type 0 where
   pub within : at ≤ length bytes
-  pub front : packed (take place (unpacked bytes)) ≡ take at bytes
+  pub front : packed_values (take place (unpacked bytes)) ≡ take at bytes
   pub values : unpacked (drop at bytes) ≡ drop place (unpacked bytes)
   pub rest : IsPacked (drop at bytes)

@@ -1,16 +1,16 @@
--- Fields as parts of bytes, by the places where they stand.
+-- Fields as parts of bytes, by the spans in which they stand.
 use Rattle.std.specs.Prelude.{ℕ, ◌≤◌, ◌-◌, List, [], ◌∷◌, take, drop, map, ⊤}
-use Rattle.bt_rowtype.specs.declared.fields.Place.{Place}
+use Rattle.bt_rowtype.specs.declared.record.fields.FieldSpan.{FieldSpan}
 
--- the part of bytes at a place
-abbrev pub part : List ℕ → Place → List ℕ
-part bytes place = take (place.end - place.start) (drop place.start bytes)
+-- the part of bytes in a span
+abbrev pub part : List ℕ → FieldSpan → List ℕ
+part bytes span = take (span.end - span.start) (drop span.start bytes)
 
--- the parts of bytes at places
-abbrev pub pieces : List ℕ → List Place → List (List ℕ)
-pieces bytes places = map (λ place. part bytes place) places
+-- the parts of bytes in spans
+abbrev pub pieces : List ℕ → List FieldSpan → List (List ℕ)
+pieces bytes spans = map (λ span. part bytes span) spans
 
--- places that lie within so many bytes
-abbrev pub LieWithin : ℕ → List Place → Type 0
+-- spans that lie within so many bytes
+abbrev pub LieWithin : ℕ → List FieldSpan → Type 0
 LieWithin size [] = ⊤
-LieWithin size (place ∷ places) = (place.start ≤ place.end) × (place.end ≤ size) × LieWithin size places
+LieWithin size (span ∷ spans) = (span.start ≤ span.end) × (span.end ≤ size) × LieWithin size spans

@@ -2,8 +2,8 @@
 use Rattle.std.specs.Prelude.{List}
 use Rattle.bt_rowtype.specs.inside.Packing.{IsPacked, unpacked}
 use Rattle.bt_rowtype.specs.declared.value.Value.{Value}
-use Rattle.bt_rowtype.specs.declared.values.Source.{Source}
-use Rattle.bt_rowtype.specs.declared.values.Source.TheVariants.{Listed, Packed}
+use Rattle.bt_rowtype.specs.declared.value.values.Source.{Source}
+use Rattle.bt_rowtype.specs.declared.value.values.Source.TheVariants.{Listed, Packed}
 
 -- the values that are left
 abbrev pub left : Source → List Value

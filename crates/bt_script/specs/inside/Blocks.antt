@@ -2,6 +2,8 @@
 use Rattle.std.specs.Prelude.{ℕ, ◌<◌, ◌≡◌, Bool, true, false, List, [], ◌∷◌, ◌++◌, Option, Some, None, if◌then◌else◌, drop}
 use Rattle.bt_script.specs.Commands.{Answer, Finds, Inside, NextPast, closing_of, command_of, commands, commands_from, item_from, opened, or_syntax, unfinished}
 use Rattle.bt_script.specs.Lines.{is_blank, lines, without_spaces, words}
+use Rattle.bt_script.specs.declared.blocks.BlockEnd.{BlockEnd}
+use Rattle.bt_script.specs.declared.blocks.BlockEnd.TheVariants.{Closed, CutOff}
 use Rattle.bt_script.specs.declared.command.Command.{Command}
 use Rattle.bt_rowtype.specs.declared.item.Item.{Item}
 use Rattle.bt_script.specs.declared.command.Parsed.{Parsed}
@@ -16,15 +18,25 @@ with_last (Some xs) (Some x) = Some (xs ++ x ∷ [])
 abbrev pub and_line : Option (List Item) → List ℕ → Option (List Item)
 and_line items line = if is_blank line then items else with_last items (item_from (without_spaces line))
 
--- the command of a block that is closed, or that the end of the script cuts off
-abbrev pub ended : Bool → Option Command → Answer
-ended true command = or_syntax command
-ended false command = unfinished command
+-- whether a block has its closing line
+abbrev pub is_closed : BlockEnd → Bool
+is_closed (Closed next) = true
+is_closed (CutOff next) = false
 
--- a block of these lines stands at a place, with its closing line or without; behind it the script goes on at the next place
-abbrev pub IsBlock : List ℕ → ℕ → List ℕ → List (List ℕ) → Bool → ℕ → Type 0
-IsBlock script at closing block closed next = (head : List ℕ)
-    → commands_from (Inside head closing []) (lines (drop at script)) ≡ ended closed (command_of head block) ∷ commands (drop next script)
+-- the place behind a block
+abbrev pub place_after : BlockEnd → ℕ
+place_after (Closed next) = next
+place_after (CutOff next) = next
+
+-- the command of a block that is closed, or that the end of the script cuts off
+abbrev pub block_answer : BlockEnd → Option Command → Answer
+block_answer (Closed next) command = or_syntax command
+block_answer (CutOff next) command = unfinished command
+
+-- a block of these lines stands at a place and ends so; behind it the script goes on
+abbrev pub IsBlock : List ℕ → ℕ → List ℕ → List (List ℕ) → BlockEnd → Type 0
+IsBlock script at closing block end = (head : List ℕ)
+    → commands_from (Inside head closing []) (lines (drop at script)) ≡ block_answer end (command_of head block) ∷ commands (drop (place_after end) script)
 
 -- the commands of a head line and the lines behind it
 abbrev pub headed : List ℕ → List (List ℕ) → List Answer

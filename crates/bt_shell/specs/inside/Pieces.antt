@@ -3,5 +3,5 @@ use Rattle.std.specs.Prelude.{ℕ, List, Vec, flat_map}
 use Rattle.std.specs.Global.{Global}
 
 -- the bytes of pieces, one after the other
-abbrev pub bytes_of : List (Vec ℕ Global) → List ℕ
-bytes_of pieces = flat_map (λ (piece : Vec ℕ Global). piece.items) pieces
+abbrev pub text_of_pieces : List (Vec ℕ Global) → List ℕ
+text_of_pieces pieces = flat_map (λ (piece : Vec ℕ Global). piece.items) pieces

@@ -1,5 +1,5 @@
 -- Rows whose codes strictly rise have key columns whose values strictly rise. Serves the order of a table's rows.
-use Rattle.std.proofs.Common.{◌≡◌, Bool, true, false, ◌&&◌, T, List, [], ◌∷◌, sym, subst, ◌∙◌, map, take}
+use Rattle.std.proofs.Common.{◌≡◌, T, List, [], ◌∷◌, sym, subst, ◌∙◌, map, take}
 use Rattle.std.specs.Ordering.{is_lt}
 use Rattle.std.specs.FinMap.{is_sorted}
 use Rattle.std.specs.FinMap.Entries.{below_all}
@@ -10,6 +10,7 @@ use Rattle.bt_keycode.specs.Codes.{HaveSameKinds, code_of}
 use Rattle.bt_keycode.proofs.offered.Codes.{codes_ordered}
 use Rattle.bt_keycode.specs.Keys.{Key, key_cmp}
 use Rattle.bt_node.specs.Messages.{Rows}
+use Rattle.bt_node.proofs.offered.Truths.{t_both, t_first, t_second}
 use Rattle.bt_keycode.proofs.offered.Ranges.{take_in_range}
 use Rattle.bt_table.specs.Standing.{AllStand, KeysRise, Stands}
 use Rattle.bt_table.proofs.offered.Kinds.{key_kinds}
@@ -24,26 +25,14 @@ pair-rises schema k l row other left right rises =
     let codes : key_cmp k l ≡ key_cmp (code_of (take schema.keys row)) (code_of (take schema.keys other)) = λ i. key_cmp (left.placed i) (right.placed i) in
     subst (λ o. T (is_lt o)) (codes ∙ same) rises
 
-both : (a b : Bool) → T a → T b → T (a && b)
-both true b p q = q
-both false b p q = absurd p
-
-first : (a b : Bool) → T (a && b) → T a
-first true b p = tt
-first false b p = absurd p
-
-second : (a b : Bool) → T (a && b) → T b
-second true b p = p
-second false b p = absurd p
-
 below-rise : (schema : Schema) (k : Key) (row : List Value) (rows : Rows (List Value)) → Stands schema k row → AllStand schema rows → T (below_all key_cmp k rows)
     → T (below_all values_cmp (take schema.keys row) (map (λ r. (take schema.keys r.1, r.1)) rows))
 below-rise schema k row [] stands all below = tt
 below-rise schema k row (r ∷ rs) stands all below =
-    both _ _ (pair-rises schema k r.0 row r.1 stands all.0 (first _ _ below)) (below-rise schema k row rs stands all.1 (second _ _ below))
+    t_both _ _ (pair-rises schema k r.0 row r.1 stands all.0 (t_first _ _ below)) (below-rise schema k row rs stands all.1 (t_second _ _ below))
 
 -- rows by rising code are rows by rising key
 pub keys_rise : (schema : Schema) (rows : Rows (List Value)) → AllStand schema rows → T (is_sorted key_cmp rows) → KeysRise schema rows
 keys_rise schema [] all sorted = tt
 keys_rise schema (r ∷ rs) all sorted =
-    both _ _ (below-rise schema r.0 r.1 rs all.0 all.1 (first _ _ sorted)) (keys_rise schema rs all.1 (second _ _ sorted))
+    t_both _ _ (below-rise schema r.0 r.1 rs all.0 all.1 (t_first _ _ sorted)) (keys_rise schema rs all.1 (t_second _ _ sorted))

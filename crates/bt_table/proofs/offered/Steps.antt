@@ -19,7 +19,7 @@ use Rattle.bt_node.specs.Trees.{Shape}
 use Rattle.bt_load.specs.Loads.{loaded}
 use Rattle.bt_load.specs.Maps.{map_of}
 use Rattle.bt_load.proofs.offered.Loaded.{loaded-of}
-use Rattle.bt_load.specs.Standing.{AreOf}
+use Rattle.bt_keycode.specs.Standing.{AreOf}
 use Rattle.bt_table.proofs.Loads.{map_of-sorted, map_of-stand}
 use Rattle.bt_batch.specs.Batches.{and_then, batch_refusals, made, messages_of, read_key}
 use Rattle.bt_table.specs.Calls.{after_build, after_load, built, Call, Apply, BuildStep, CreateIndex, Drain, DropIndex, Get, Load, Rebuild, Upkeep, Draining, Rebuilding, dropped, is_bare, is_primary, load_refusals, name_refusals, sent_counts, step, unless_any, with_index, with_renewed, with_renewed_index, with_renewed_rows}

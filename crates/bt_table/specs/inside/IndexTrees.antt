@@ -42,8 +42,8 @@ covers_all head = is_whole head.cover
 abbrev pub packet_for : List Effect → IndexHead → Messages EntryMessage
 packet_for effects head = sorted_batch (sent_for_all head.def head.cover effects)
 
-abbrev pub sent_for : List Effect → IndexHead → SentCount
-sent_for effects head = record { name = head.name; count = length (packet_for effects head) }
+abbrev pub count_for : List Effect → IndexHead → SentCount
+count_for effects head = record { name = head.name; count = length (packet_for effects head) }
 
 -- a tree of entries after a packet
 abbrev pub sunk_tree : Shape × EntryTree → Messages EntryMessage → Shape × EntryTree

@@ -8,7 +8,7 @@ use Rattle.bt_rowtype.specs.Schemas.{Schema, fits_kind}
 use Rattle.bt_rowtype.specs.declared.value.Kind.{Kind}
 use Rattle.bt_rowtype.specs.declared.value.Value.{Value}
 use Rattle.bt_keycode.specs.Codes.{code_of}
-use Rattle.bt_keycode.specs.inside.Decoding.{decoded}
+use Rattle.bt_keycode.specs.Decodings.{decoded}
 use Rattle.bt_keycode.specs.Keys.{Key}
 use Rattle.bt_fanout.specs.Entries.{Definition}
 use Rattle.bt_view.specs.Ranges.{index_schema}

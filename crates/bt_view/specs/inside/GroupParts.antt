@@ -9,7 +9,7 @@ use Rattle.bt_rowtype.proofs.offered.SameValues.{same_values-sound}
 use Rattle.bt_keycode.specs.Keys.{Key}
 use Rattle.bt_node.specs.Folds.{joined_as_one}
 use Rattle.bt_view.specs.Groups.{group_of, most_rows, with_more}
-use Rattle.bt_view.specs.inside.Neighbours.{Groups, grouped, groups_then, joined_groups, joined_with, with_row}
+use Rattle.bt_view.specs.inside.Neighbours.{Groups, grouped, groups_then, joined_groups, joined_with, after_row}
 use Rattle.bt_view.specs.declared.groups.Sum.{Sum}
 
 -- ---- joining groups
@@ -159,7 +159,7 @@ module _ (columns place : ℕ) where
   taken groups row = grouped columns place groups row.1
 
   -- the columns and the place stay
-  pub beside : (groups : Groups) (rows : List (Key × List Value)) → ◌≡◌ {A = ℕ × ℕ × Groups} (fold with_row (columns, place, groups) rows) (columns, place, fold taken groups rows)
+  pub beside : (groups : Groups) (rows : List (Key × List Value)) → ◌≡◌ {A = ℕ × ℕ × Groups} (fold after_row (columns, place, groups) rows) (columns, place, fold taken groups rows)
   beside groups [] = refl
   beside groups (row ∷ rows) = beside (taken groups row) rows
 
@@ -167,9 +167,9 @@ module _ (columns place : ℕ) where
   parts groups rows behind = joined_as_one joined_groups (λ (row : Key × List Value). Some (group_of columns place row.1 ∷ [])) (Some []) groups_assoc groups_unit groups rows behind
 
 pub groups_as_one : (g : ℕ × ℕ × Groups) (rows behind : List (Key × List Value))
-    → ◌≡◌ {A = ℕ × ℕ × Groups} (joined_with (fold with_row g rows) (fold with_row (g.0, g.1, Some []) behind)) (fold with_row g (rows ++ behind))
+    → ◌≡◌ {A = ℕ × ℕ × Groups} (joined_with (fold after_row g rows) (fold after_row (g.0, g.1, Some []) behind)) (fold after_row g (rows ++ behind))
 groups_as_one g rows behind =
-    ap (λ (h : ℕ × ℕ × Groups). joined_with h (fold with_row (g.0, g.1, Some []) behind)) (beside g.0 g.1 g.2 rows)
+    ap (λ (h : ℕ × ℕ × Groups). joined_with h (fold after_row (g.0, g.1, Some []) behind)) (beside g.0 g.1 g.2 rows)
     ∙ ap (λ (h : ℕ × ℕ × Groups). joined_with (g.0, g.1, fold (taken g.0 g.1) g.2 rows) h) (beside g.0 g.1 (Some []) behind)
     ∙ ap (λ (groups : Groups). (g.0, g.1, groups)) (parts g.0 g.1 g.2 rows behind)
     ∙ sym (beside g.0 g.1 g.2 (rows ++ behind))

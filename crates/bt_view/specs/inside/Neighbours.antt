@@ -41,8 +41,8 @@ abbrev pub grouped : ℕ → ℕ → Groups → List Value → Groups
 grouped columns place groups row = joined_groups groups (Some (group_of columns place row ∷ []))
 
 -- the same with the columns and the place by which they are grouped, of rows by their keys
-abbrev pub with_row : ℕ × ℕ × Groups → Key × List Value → ℕ × ℕ × Groups
-with_row g row = (g.0, g.1, grouped g.0 g.1 g.2 row.1)
+abbrev pub after_row : ℕ × ℕ × Groups → Key × List Value → ℕ × ℕ × Groups
+after_row g row = (g.0, g.1, grouped g.0 g.1 g.2 row.1)
 
 abbrev pub joined_with : ℕ × ℕ × Groups → ℕ × ℕ × Groups → ℕ × ℕ × Groups
 joined_with g behind = (g.0, g.1, joined_groups g.2 behind.2)

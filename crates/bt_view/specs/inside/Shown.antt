@@ -12,7 +12,7 @@ use Rattle.bt_view.specs.declared.shown.Shown.{Shown}
 use Rattle.bt_view.specs.declared.shown.Shown.TheVariants as shown
 use Rattle.bt_view.specs.declared.shown.Summed.{Summed}
 use Rattle.bt_view.specs.inside.Entries.{rows_of_entries}
-use Rattle.bt_view.specs.inside.Neighbours.{with_row}
+use Rattle.bt_view.specs.inside.Neighbours.{after_row}
 
 -- the rows that are shown, by their keys
 abbrev pub rows_shown : Shown → Rows (List Value)
@@ -26,5 +26,5 @@ AnswersRows answer (Err refusal) = refusal ≢ OutOfMemory → answer ≡ Err re
 
 -- the groups of what is shown are this answer, or memory was wanting
 abbrev pub AnswersSums : Result (List Sum) Refusal → Result Summed Refusal → Type 0
-AnswersSums answer (Ok summed) = answer ≡ or_refused TooMany (fold with_row summed.groups (rows_shown summed.shown)).2
+AnswersSums answer (Ok summed) = answer ≡ or_refused TooMany (fold after_row summed.groups (rows_shown summed.shown)).2
 AnswersSums answer (Err refusal) = refusal ≢ OutOfMemory → answer ≡ Err refusal

@@ -2,10 +2,10 @@ use Rattle.std.proofs.Common.{rules, ◌≡◌, ◌∙◌, IsPermutation, ap, su
 use Rattle.std.proofs.lemmas.List.Sorted.{answers_always}
 use Rattle.std.specs.FinMap.{is_sorted}
 use Rattle.bt_keycode.specs.Keys.{key_cmp}
+use Rattle.bt_node.proofs.offered.Truths.{true_t}
 use Rattle.bt_messages.proofs.offered.Stable.{earlier, earlier_ranks, from_sorted}
 use Rattle.bt_fanout.specs.Entries.{entry_of}
 use Rattle.bt_fanout.specs.Selections.{select}
-use Rattle.bt_fanout.proofs.Builds.{true_t}
 use Rattle.bt_fanout.proofs.Lookups.{sorted-select}
 use Rattle.bt_fanout.proofs.SortedEntries.{sorted_entries-are}
 use Rattle.bt_fanout.proofs.building.sorted_entries.Goals as goal

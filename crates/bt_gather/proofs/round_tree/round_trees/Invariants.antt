@@ -1,11 +1,12 @@
-use Rattle.std.proofs.Common.{◌≡◌, ◌+◌, ◌≤◌, ◌++◌, [], vec_capacity, vec_len}
+use Rattle.std.proofs.Common.{◌≡◌, ◌+◌, ◌≤◌, ◌++◌, vec_capacity, vec_len}
 use Rattle.std.specs.List.{All}
 use Rattle.std.specs.Vec.Iter.{into_iter_len}
 use Rattle.bt_messages.specs.Meanings.{meaning_of}
 use Rattle.bt_node.specs.Fits.{HasShape}
 use Rattle.bt_gather.specs.Rounds.{all_sunk}
 use Rattle.bt_gather.specs.inside.RoundJobs.{AreRunnable, all_pieces}
-use Rattle.bt_gather.specs.inside.RoundTrees.{AreFilledBy, trees_with}
+use Rattle.bt_gather.specs.declared.round_tree.TheConstants.{MOST_TREES}
+use Rattle.bt_gather.specs.inside.RoundTrees.{AreFilledBy, IsEmptyWithRoom, trees_with}
 use Rattle.bt_gather.proofs.round_tree.round_trees.Given as goal
 
 -- what the trees so far become, and then those that are left
@@ -16,8 +17,7 @@ invariant-loop-tree g l =
       fill : AreFilledBy meaning.weigh l.list.items (all_pieces meaning l.jobs.items);
       give : trees_with l.list.items (all_pieces meaning l.jobs.items) ++ all_sunk meaning l.tree-iterator.rest.items ≡ all_sunk meaning l.fn.trees.items;
       fit : All (λ x. HasShape meaning.weigh x.0.0 x.0.1) l.tree-iterator.rest.items → All (λ x. HasShape meaning.weigh x.0.0 x.0.1) l.fn.trees.items;
-      number : l.number + into_iter_len l.tree-iterator ≤ 65536;
+      number : l.number + into_iter_len l.tree-iterator ≤ MOST_TREES;
       space : vec_len l.list + into_iter_len l.tree-iterator ≤ vec_capacity l.list;
-      empty : l.room.items ≡ [];
-      room : vec_len l.list + into_iter_len l.tree-iterator ≤ vec_capacity l.room;
+      room : IsEmptyWithRoom l.room (vec_len l.list + into_iter_len l.tree-iterator);
     }

@@ -1,6 +1,6 @@
 use Rattle.std.proofs.Common.{◌≡◌, ◌++◌, List, take}
 use Rattle.bt_rowtype.specs.declared.value.Value.{Value}
-use Rattle.bt_keycode.specs.inside.Decoding.{BeginsWithAll}
+use Rattle.bt_keycode.specs.inside.CodeBeginnings.{BeginsWithAll}
 use Rattle.bt_keycode.proofs.decoder.decode_onto.Given as goal
 
 -- the values that were added are those of the kinds so far, and the bytes that are left come after them

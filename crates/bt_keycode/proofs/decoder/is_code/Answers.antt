@@ -3,7 +3,7 @@ use Rattle.std.proofs.lemmas.Bool.{eqb-false, eqb-true}
 use Rattle.bt_rowtype.specs.Views.{shown}
 use Rattle.bt_rowtype.specs.declared.value.Kind.TheVariants as kind
 use Rattle.bt_keycode.proofs.Decoding.{goes_on, goes_past, no_values, none_begins, nothing, nothing_past, of_all}
-use Rattle.bt_keycode.specs.inside.Decoding.{BeginsWithAll}
+use Rattle.bt_keycode.specs.inside.CodeBeginnings.{BeginsWithAll}
 use Rattle.bt_keycode.proofs.decoder.is_code.Goals as goal
 
 pub returns-in_default-clause-no : goal.returns-in_default-clause-no

@@ -1,6 +1,6 @@
 use Rattle.std.proofs.Common.{List, take}
 use Rattle.bt_rowtype.specs.declared.value.Value.{Value}
-use Rattle.bt_keycode.specs.inside.Decoding.{BeginsWithAll}
+use Rattle.bt_keycode.specs.inside.CodeBeginnings.{BeginsWithAll}
 use Rattle.bt_keycode.proofs.decoder.is_code.Given as goal
 
 -- the kinds so far have values, and the bytes that are left come after them

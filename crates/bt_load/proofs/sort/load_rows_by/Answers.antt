@@ -1,51 +1,29 @@
-use Rattle.std.proofs.Common.{rules, length}
-use Rattle.std.specs.List.{AllAdjacentBelow}
-use Rattle.std.specs.List.Sorted.{IsPermutation}
-use Rattle.bt_load.specs.inside.Sorts.{IsKeyBelow, placed_from}
+use Rattle.std.proofs.Common.{rules}
 use Rattle.bt_load.proofs.Maps.{is_true, sorted_is_map}
-use Rattle.bt_load.proofs.Places.{moved-once, moved-past}
-use Rattle.bt_load.proofs.Repeats.{pairs_are, pairs_rise}
+use Rattle.bt_load.proofs.Places.{distinct_placed}
+use Rattle.bt_load.proofs.Repeats.{sorted_pairs}
 use Rattle.bt_load.proofs.Stands.{all_stand, all_under}
 use Rattle.bt_load.proofs.sort.load_rows_by.Goals as goal
 
-pub with_rows-requires-clause-once : goal.with_rows-requires-clause-once
-with_rows-requires-clause-once g c =
-    let moved : IsPermutation (placed_from c.keys.result 0 c.args.rows.items) c.in_ok-placed.placed.items = search rules in
-    moved-once c.keys.result c.args.rows.items c.in_ok-placed.placed.items moved
-
-pub with_rows-requires-clause-within : goal.with_rows-requires-clause-within
-with_rows-requires-clause-within g c =
-    let moved : IsPermutation (placed_from c.keys.result 0 c.args.rows.items) c.in_ok-placed.placed.items = search rules in
-    moved-past c.keys.result c.args.rows.items c.in_ok-placed.placed.items moved
+pub with_rows-requires : goal.with_rows-requires
+with_rows-requires g c = distinct_placed c.keys.result c.args.rows.items c.in_ok-placed.placed.items (search rules)
 
 pub returns-clause-answer : goal.returns-clause-answer
 returns-clause-answer g c =
-    let keys = c.args.schema.now.keys in
-    let rows = c.args.rows.items in
-    let placed = c.in_ok-placed.placed.items in
-    let moved : IsPermutation (placed_from keys 0 rows) placed = search rules in
-    let rising : AllAdjacentBelow IsKeyBelow placed (length placed) = search rules in
-    let is = c.in_ok-with_rows.ensures in
-    sorted_is_map keys rows c.in_ok-with_rows.field-0.items (pairs_are keys rows placed _ is moved) (pairs_rise rows placed _ is rising)
+    let given = sorted_pairs c.args.schema.now.keys c.args.rows.items c.in_ok-placed.placed.items _ c.in_ok-with_rows.ensures (search rules) (search rules) in
+    sorted_is_map c.args.schema.now.keys c.args.rows.items c.in_ok-with_rows.field-0.items given.moved given.rising
 
 pub returns-clause-rising : goal.returns-clause-rising
 returns-clause-rising g c =
-    let placed = c.in_ok-placed.placed.items in
-    let rising : AllAdjacentBelow IsKeyBelow placed (length placed) = search rules in
-    is_true _ (pairs_rise c.args.rows.items placed _ c.in_ok-with_rows.ensures rising)
+    let given = sorted_pairs c.args.schema.now.keys c.args.rows.items c.in_ok-placed.placed.items _ c.in_ok-with_rows.ensures (search rules) (search rules) in
+    is_true _ given.rising
 
 pub returns-clause-keys : goal.returns-clause-keys
 returns-clause-keys g c =
-    let keys = c.args.schema.now.keys in
-    let rows = c.args.rows.items in
-    let placed = c.in_ok-placed.placed.items in
-    let moved : IsPermutation (placed_from keys 0 rows) placed = search rules in
-    all_under keys rows c.in_ok-with_rows.field-0.items (pairs_are keys rows placed _ c.in_ok-with_rows.ensures moved)
+    let given = sorted_pairs c.args.schema.now.keys c.args.rows.items c.in_ok-placed.placed.items _ c.in_ok-with_rows.ensures (search rules) (search rules) in
+    all_under c.args.schema.now.keys c.args.rows.items c.in_ok-with_rows.field-0.items given.moved
 
 pub returns-clause-stand : goal.returns-clause-stand
 returns-clause-stand g c =
-    let schema = c.args.schema.now in
-    let rows = c.args.rows.items in
-    let placed = c.in_ok-placed.placed.items in
-    let moved : IsPermutation (placed_from schema.keys 0 rows) placed = search rules in
-    λ are. all_stand schema rows c.in_ok-with_rows.field-0.items (pairs_are schema.keys rows placed _ c.in_ok-with_rows.ensures moved) are
+    let given = sorted_pairs c.args.schema.now.keys c.args.rows.items c.in_ok-placed.placed.items _ c.in_ok-with_rows.ensures (search rules) (search rules) in
+    λ are. all_stand c.args.schema.now c.args.rows.items c.in_ok-with_rows.field-0.items given.moved are

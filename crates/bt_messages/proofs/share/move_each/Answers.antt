@@ -3,7 +3,8 @@ use Rattle.bt_messages.specs.Shares.{counts}
 use Rattle.bt_messages.specs.Weights.{weigh_of}
 use Rattle.bt_messages.specs.declared.share.Share.{Share}
 use Rattle.bt_messages.proofs.Sharing.{left_next, moved_next, room_here, room_later}
-use Rattle.bt_messages.proofs.Weighing.{count_here, length-counts, share_here}
+use Rattle.bt_messages.proofs.Weighing.{count_here, length-counts}
+use Rattle.bt_messages.proofs.offered.Shares.{share_at}
 use Rattle.bt_messages.proofs.share.move_each.Goals as goal
 
 pub loop-place-preserved : goal.loop-place-preserved
@@ -33,7 +34,7 @@ loop-place-preserved g c =
       rooms_len = omega (arith, c.loop-place.invariant.rooms_len, length-set rs i left);
       room = room_later ns bs rs i n old new room left s s' within here below value beside room_is c.loop-place.invariant.room;
       left = left_next ns bs rs i n old new room left s s' within here below value beside room_is _ c.gain.ensures.left c.loop-place.invariant.left;
-      shares = (share_here (weigh_of g.V.Merge.terms) ss i none s s' c.loop-place-test.true c.gain.ensures.left c.loop-place.invariant.shares).1;
+      shares = (share_at (weigh_of g.V.Merge.terms) ss i none s s' c.loop-place-test.true c.gain.ensures.left c.loop-place.invariant.shares).1;
     }
 
 pub gain-requires-clause-room : goal.gain-requires-clause-room

@@ -1,5 +1,5 @@
 use Rattle.std.proofs.Common.{◌≡◌, ◌+◌, ◌<◌, ap, arith, length, suc, take}
-use Rattle.bt_messages.specs.Bins.{joined}
+use Rattle.bt_rowtype.specs.Lists.{concatenation}
 use Rattle.bt_messages.proofs.RunLists.{one_more_run, run_within}
 use Rattle.bt_messages.proofs.stream.count_of.Goals as goal
 
@@ -14,7 +14,7 @@ loop-run-preserved g c =
       c.count-messages.ensures.count,
       ap length c.index.ensures,
       one_more_run runs c.loop-run.run c.index.result.now within,
-      ap (λ n. length (joined (take n runs))) next,
+      ap (λ n. length (concatenation (take n runs))) next,
     )
 
 pub overflow_add-messages : goal.overflow_add-messages

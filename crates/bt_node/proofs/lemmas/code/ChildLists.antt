@@ -4,7 +4,8 @@ use Rattle.std.proofs.lemmas.Bool.{ne_eqb}
 use Rattle.std.proofs.lemmas.List.{nil_from_length}
 use Rattle.std.specs.List.{zip}
 use Rattle.bt_keycode.specs.Keys.{Key}
-use Rattle.bt_messages.specs.Bins.{LieBetween, joined}
+use Rattle.bt_rowtype.specs.Lists.{concatenation}
+use Rattle.bt_messages.specs.Bins.{LieBetween}
 use Rattle.bt_node.specs.Children.{AreDivided, beside, behind_pivot}
 use Rattle.bt_node.specs.Fits.{IsLed}
 use Rattle.bt_node.specs.Flushes.{Child, gathered, none_pending}
@@ -153,23 +154,23 @@ module _ {V M : Type 0} where
   -- ---- one node of them
 
   module _ (first : Key) (ps : List Key) (ts : List (Tree V M)) (bs : List (Messages M)) (long : length bs ≡ length ts) (one : length ts ≡ length ps + 1) where
-    gathered-is : gathered (beside (zip (first ∷ ps) ts) bs) ≡ (first, inner (nodes (behind ps ts)) (joined bs))
+    gathered-is : gathered (beside (zip (first ∷ ps) ts) bs) ≡ (first, inner (nodes (behind ps ts)) (concatenation bs))
     gathered-is = of ts bs long one
       where
         of : (ts : List (Tree V M)) (bs : List (Messages M)) → length bs ≡ length ts → length ts ≡ length ps + 1 →
-            gathered (beside (zip (first ∷ ps) ts) bs) ≡ (first, inner (nodes (behind ps ts)) (joined bs))
+            gathered (beside (zip (first ∷ ps) ts) bs) ≡ (first, inner (nodes (behind ps ts)) (concatenation bs))
         of [] bs long one = absurd (omega (arith, one))
         of (t ∷ ts) [] long one = absurd (omega (arith, long))
         of (t ∷ ts) (b ∷ bs) long one =
             let xs = zip ps ts in
             let same : length bs ≡ length xs = omega (arith, long, zip-length ps ts (omega (arith, one))) in
             ap (λ ys. (first, inner (nodes (([], t) ∷ ys)) (b ++ all_pending (beside xs bs)))) (stripped-beside xs bs same)
-            ∙ ap (λ ms. (first, inner (nodes (([], t) ∷ xs)) (b ++ ms))) (sym (joined-pending (beside xs bs)) ∙ ap joined (pending-beside xs bs same))
+            ∙ ap (λ ms. (first, inner (nodes (([], t) ∷ xs)) (b ++ ms))) (sym (joined-pending (beside xs bs)) ∙ ap concatenation (pending-beside xs bs same))
 
-    pub node_of_all : (t : Tree V M) (xs : Siblings V M) (ds : List (Messages M)) → xs ≡ behind ps ts → ds ≡ bs → t ≡ inner (nodes xs) (joined ds) →
+    pub node_of_all : (t : Tree V M) (xs : Siblings V M) (ds : List (Messages M)) → xs ≡ behind ps ts → ds ≡ bs → t ≡ inner (nodes xs) (concatenation ds) →
         (first, t) ≡ gathered (beside (zip (first ∷ ps) ts) bs)
     node_of_all t xs ds children bins is =
-        ap (λ u. (first, u)) (is ∙ ap (λ ys. inner (nodes ys) (joined ds)) children ∙ ap (λ es. inner (nodes (behind ps ts)) (joined es)) bins) ∙ sym gathered-is
+        ap (λ u. (first, u)) (is ∙ ap (λ ys. inner (nodes ys) (concatenation ds)) children ∙ ap (λ es. inner (nodes (behind ps ts)) (concatenation es)) bins) ∙ sym gathered-is
 
     pub bins_lie : (xs : Siblings V M) → xs ≡ behind ps ts → AreDivided (beside (zip (first ∷ ps) ts) bs) → LieBetween (pivots_of xs) bs
     bins_lie xs children h = subst (λ ys. LieBetween (pivots_of ys) bs) (sym children) (of ts bs long one h)

@@ -1,14 +1,14 @@
 -- Siblings put under inner nodes, as the code does it: fewer, and with the same crown.
 use Rattle.std.proofs.Common.{◌≡◌, ◌<◌, ◌≤◌, List, [], ◌∷◌, length, map, refl, sym, ap, subst, ◌∙◌, arith}
 use Rattle.std.proofs.lemmas.List.{length-map}
-use Rattle.bt_messages.specs.Bins.{joined}
+use Rattle.bt_rowtype.specs.Lists.{concatenation}
 use Rattle.bt_node.specs.Children.{AreDivided}
 use Rattle.bt_node.specs.Trees.{Shape, Siblings, Tree}
 use Rattle.bt_node.specs.Flushes.{Child, crown, grouped, none_pending}
 use Rattle.bt_node.proofs.lemmas.flushes.Divisions.{divided-none}
 use Rattle.bt_node.proofs.lemmas.crowns.Levels.{crown-again, raised-shorter}
 
-nothing-pending : {V M : Type 0} (xs : Siblings V M) → joined (map (λ c. c.pending) (none_pending xs)) ≡ []
+nothing-pending : {V M : Type 0} (xs : Siblings V M) → concatenation (map (λ c. c.pending) (none_pending xs)) ≡ []
 nothing-pending [] = refl
 nothing-pending (x ∷ xs) = nothing-pending xs
 

@@ -3,7 +3,8 @@ use Rattle.std.proofs.Common.{◌≡◌, ◌∙◌, ◌<◌, ◌≤◌, ◌+◌,
 use Rattle.std.proofs.lemmas.List.{append-nil, length-map}
 use Rattle.std.specs.Option.{option_or}
 use Rattle.bt_keycode.specs.Keys.{AllWithin, IsSorted, Key, is_before_lower, is_before_upper, is_between}
-use Rattle.bt_messages.specs.Bins.{LieBetween, joined}
+use Rattle.bt_rowtype.specs.Lists.{concatenation}
+use Rattle.bt_messages.specs.Bins.{LieBetween}
 use Rattle.bt_messages.specs.Messages.{messages_outside as outside}
 use Rattle.bt_messages.specs.declared.message.Message.{Message}
 use Rattle.bt_node.specs.Fits.{IsInOrder}
@@ -12,9 +13,9 @@ use Rattle.bt_node.specs.Messages.{Messages, between, rows_after, value_after, w
 use Rattle.bt_node.specs.Portions.{Divide, Portion, rows_of, value_in}
 use Rattle.bt_node.specs.Trees.{Siblings, Tree, height, inner, nodes, pivots_of}
 use Rattle.bt_node.specs.inside.Bounds.{next_bound}
-use Rattle.bt_node.specs.declared.node.Kind.{Kind}
-use Rattle.bt_node.specs.declared.node.Kind.TheVariants.{Inner}
-use Rattle.bt_node.specs.inside.Kinds.{IsDivided, tree_of}
+use Rattle.bt_node.specs.declared.form.node.NodeKind.{NodeKind}
+use Rattle.bt_node.specs.declared.form.node.NodeKind.TheVariants.{Inner}
+use Rattle.bt_node.specs.inside.NodeKinds.{HasBins, tree_of}
 use Rattle.bt_node.specs.inside.Lookups.{first_place, pivots_up_to}
 use Rattle.bt_node.specs.inside.Openings.{children_left, pivots_in}
 use Rattle.bt_node.proofs.lemmas.code.ChildBounds.{belongs, next_begins, next_below, next_from, next_within}
@@ -26,7 +27,8 @@ use Rattle.bt_node.proofs.lemmas.flushes.Groups.{children-nodes}
 use Rattle.bt_node.proofs.lemmas.keys.SortedLists.{sorted-where}
 use Rattle.bt_node.proofs.lemmas.lookups.BinOfKey.{bin-between}
 use Rattle.bt_node.proofs.lemmas.rows.Between.{between-within, cut-within, rest-within}
-use Rattle.bt_node.proofs.lemmas.rows.Buffers.{sorted-with_messages, within-with_messages}
+use Rattle.bt_messages.proofs.offered.Placed.{sorted-with_messages}
+use Rattle.bt_node.proofs.lemmas.rows.Buffers.{within-with_messages}
 
 -- a tree between two bounds, with newer messages to it
 abbrev portion_of : {V D : Type 0} → Option Key → Option Key → Tree V (Message V D) → Messages (Message V D) → Portion V (Message V D)
@@ -53,7 +55,7 @@ pub record FirstChild {V D : Type 0} (portion : Portion V (Message V D)) : Type 
   pub order : IsInOrder tree
   pub sorted : IsSorted newer
   pub within : AllWithin low to newer
-  pub here : tree ≡ inner (nodes xs) (joined bins)
+  pub here : tree ≡ inner (nodes xs) (concatenation bins)
   pub lie : LieBetween ps bins
   pub items : ts ≡ map (λ x. x.1) xs
   pub pivots : ps ≡ pivots_of xs
@@ -69,9 +71,9 @@ pub record FirstChild {V D : Type 0} (portion : Portion V (Message V D)) : Type 
   pub merged_is : merged ≡ with_messages above own
 
 -- from what the code knows of it
-abbrev pub first_child : {V D : Type 0} {portion : Portion V (Message V D)} {low to next high : Option Key} {tree child : Tree V (Message V D)} {newer above own merged : Messages (Message V D)} {kind : Kind V D}
+abbrev pub first_child : {V D : Type 0} {portion : Portion V (Message V D)} {low to next high : Option Key} {tree child : Tree V (Message V D)} {newer above own merged : Messages (Message V D)} {kind : NodeKind V D}
     {xs : Siblings V (Message V D)} {bins : List (Messages (Message V D))} {ts : List (Tree V (Message V D))} {ps : List Key} {place : ℕ} →
-    portion_of low to tree newer ≡ portion → IsInOrder tree × IsSorted newer × AllWithin low to newer → tree ≡ tree_of kind → IsDivided kind → kind ≡ Inner xs bins →
+    portion_of low to tree newer ≡ portion → IsInOrder tree × IsSorted newer × AllWithin low to newer → tree ≡ tree_of kind → HasBins kind → kind ≡ Inner xs bins →
     ts ≡ map (λ x. x.1) xs → ps ≡ pivots_of xs → 1 ≤ length xs → place ≡ first_place low ps → place ≤ length ps → next ≡ next_bound to place ps → high ≡ option_or next to → child ≡ get_or ts place child →
     above ≡ between None high newer → own ≡ between low high (get_or bins place []) → IsSorted own → merged ≡ with_messages above own → FirstChild portion
 first_child {low = low} {to = to} {next = next} {high = high} {tree = tree} {child = child} {newer = newer} {above = above} {own = own} {merged = merged} {xs = xs} {bins = bins} {ts = ts} {ps = ps} {place = place}
@@ -96,7 +98,7 @@ first_child {low = low} {to = to} {next = next} {high = high} {tree = tree} {chi
       sorted = meets.1;
       within = meets.2;
       here = tree_is ∙ ap tree_of kind_is;
-      lie = subst (λ ps. LieBetween ps bins) (sym pivots) (subst IsDivided kind_is divided);
+      lie = subst (λ ps. LieBetween ps bins) (sym pivots) (subst HasBins kind_is divided);
       items = items;
       pivots = pivots;
       some = some;
@@ -116,11 +118,11 @@ module _ {V D : Type 0} {portion : Portion V (Message V D)} (f : FirstChild port
   there = omega (arith, f.bound, f.some, ap length f.pivots, ap length f.items, length-map f.xs (λ x. x.1), length-map (drop 1 f.xs) (λ x. x.0), length-drop 1 f.xs)
 
   in_order : IsInOrder f.child
-  in_order = child_in_order f.tree f.xs (joined f.bins) f.here f.ts f.items f.place f.child there f.at f.order
+  in_order = child_in_order f.tree f.xs (concatenation f.bins) f.here f.ts f.items f.place f.child there f.at f.order
 
   -- the child stands lower, and what is said of portions holds of it
   pub lower : height f.child < height portion.tree
-  lower = subst (λ n. height f.child < n) (ap (λ p. height p.tree) f.seen) (child_lower f.tree f.xs (joined f.bins) f.here f.ts f.items f.place f.child there f.at)
+  lower = subst (λ n. height f.child < n) (ap (λ p. height p.tree) f.seen) (child_lower f.tree f.xs (concatenation f.bins) f.here f.ts f.items f.place f.child there f.at)
 
   pub child_meets : IsInOrder f.child × IsSorted f.merged × AllWithin f.low f.high f.merged
   child_meets =
@@ -142,17 +144,17 @@ module _ {V D : Type 0} {portion : Portion V (Message V D)} (f : FirstChild port
   all_of = record { low = f.low; high = f.to; tree = f.tree; newer = f.newer }
 
   module _ (effect : Option V → Message V D → Option V) where
-    own_does : (q : Key) → is_between f.low f.high q ≡ true → (old : Option V) → value_after effect q f.own old ≡ value_after effect q (joined f.bins) old
+    own_does : (q : Key) → is_between f.low f.high q ≡ true → (old : Option V) → value_after effect q f.own old ≡ value_after effect q (concatenation f.bins) old
     own_does q inside = bin-between effect f.low f.high f.ps f.bins f.place f.own f.lie f.own_is q inside (belongs_there q inside)
 
     found : (q : Key) → is_between f.low f.high q ≡ true → value_in effect q child_portion ≡ value_in effect q all_of
-    found = child_found effect f.tree f.xs (joined f.bins) f.here f.order f.ts f.ps f.place f.child f.items f.pivots f.some there f.at
+    found = child_found effect f.tree f.xs (concatenation f.bins) f.here f.order f.ts f.ps f.place f.child f.items f.pivots f.some there f.at
         f.low f.high f.newer f.above f.own f.merged belongs_there own_does f.own_sorted f.above_is f.merged_is
 
     -- the last child is all that is left
     pub last_child : f.next ≡ None → Divide effect (portion ∷ []) (child_portion ∷ [])
     last_child none = let last : f.high ≡ f.to = f.high_is ∙ ap (λ n. option_or n f.to) none in subst (λ p. Divide effect (p ∷ []) (child_portion ∷ [])) f.seen record {
-      rows = ap (λ l. l ++ []) (last_rows effect f.tree f.xs (joined f.bins) f.here f.order f.ts f.ps f.place f.child f.items f.pivots f.some there f.at
+      rows = ap (λ l. l ++ []) (last_rows effect f.tree f.xs (concatenation f.bins) f.here f.order f.ts f.ps f.place f.child f.items f.pivots f.some there f.at
           f.low f.high f.newer f.above f.own f.merged belongs_there own_does f.own_sorted f.above_is f.merged_is f.to last);
       owned = λ q. ap {B = ℕ} (λ h. cond (is_between f.low h q) 1 0) last;
       values = λ q value have. ((λ inside. found q inside ∙ have.0 (ap (λ h. is_between f.low h q) (sym last) ∙ inside)), tt);
@@ -189,7 +191,7 @@ module _ {V D : Type 0} {portion : Portion V (Message V D)} (f : FirstChild port
     pub fewer_left : (others.tree ≡ portion.tree) × (children_left others < children_left portion)
     fewer_left =
         let pivots_are : pivots_in f.tree ≡ f.ps = ap pivots_in f.here ∙ ap pivots_of (children-nodes f.xs) ∙ sym f.pivots in
-        let rising = pivots_rise f.tree f.xs (joined f.bins) f.ps f.here f.pivots f.order in
+        let rising = pivots_rise f.tree f.xs (concatenation f.bins) f.ps f.here f.pivots f.order in
         let others_left : length (pivots_in f.tree) - first_place f.next (pivots_in f.tree) ≡ length f.ps - first_place f.next f.ps = ap (λ ps. length ps - first_place f.next ps) pivots_are in
         let all_left : length (pivots_in f.tree) - first_place f.low (pivots_in f.tree) ≡ length f.ps - first_place f.low f.ps = ap (λ ps. length ps - first_place f.low ps) pivots_are in
         let begins = next_begins f.low f.to p f.ps f.place bound_is rising in
@@ -205,7 +207,7 @@ module _ {V D : Type 0} {portion : Portion V (Message V D)} (f : FirstChild port
 
     module _ (effect : Option V → Message V D → Option V) where
       others_found : (q : Key) → is_between (Some p) f.to q ≡ true → value_in effect q others ≡ value_in effect q all_of
-      others_found = rest_found effect f.tree f.xs (joined f.bins) f.here f.order f.ts f.ps f.place f.child f.items f.pivots f.some there f.at
+      others_found = rest_found effect f.tree f.xs (concatenation f.bins) f.here f.order f.ts f.ps f.place f.child f.items f.pivots f.some there f.at
           f.low f.high f.newer f.above f.own f.merged belongs_there (own_does effect) f.own_sorted f.above_is f.merged_is f.to p left ends left_is
 
       -- the child, and then the others
@@ -213,7 +215,7 @@ module _ {V D : Type 0} {portion : Portion V (Message V D)} (f : FirstChild port
       child_and_others = subst (λ q. Divide effect (q ∷ []) (child_portion ∷ others ∷ [])) f.seen record {
         rows = ap (λ n. rows_of effect child_portion ++ (between n f.to (rows_after effect left (holds effect f.tree)) ++ [])) key.1
             ∙ ap (λ l. rows_of effect child_portion ++ l) (append-nil (between (Some p) f.to (rows_after effect left (holds effect f.tree))))
-            ∙ next_rows effect f.tree f.xs (joined f.bins) f.here f.order f.ts f.ps f.place f.child f.items f.pivots f.some there f.at
+            ∙ next_rows effect f.tree f.xs (concatenation f.bins) f.here f.order f.ts f.ps f.place f.child f.items f.pivots f.some there f.at
             f.low f.high f.newer f.above f.own f.merged belongs_there (own_does effect) f.own_sorted f.above_is f.merged_is f.to p left ends left_is from_low below_to
             ∙ sym (append-nil (rows_of effect all_of));
         owned = λ q. owners-append q (child_portion ∷ []) (others ∷ [])

@@ -28,9 +28,13 @@ module _ {V M : Type 0} where
     pub fit : total ns ≤ length cs
     pub divided : AreDivided cs
 
-  -- all sizes at first
-  pub all_left : (n k : ℕ) (cs : List (Child V M)) → 1 ≤ k → k ≤ n → n ≡ length cs → AreDivided cs → AreLeft (even n k) cs
-  all_left n k cs some few same divided = record { some = positive-even n k some few; fit = omega (arith, total-even n k some, same); divided = divided }
+  -- all sizes at first, for the same children as these
+  pub all_left : (n k : ℕ) (cs whole : List (Child V M)) → 1 ≤ k → k ≤ length whole → n ≡ length whole → cs ≡ whole → AreDivided whole → AreLeft (even n k) cs
+  all_left n k cs whole some few count same divided = record {
+    some = positive-even n k some (omega (arith, few, count));
+    fit = omega (arith, total-even n k some, count, ap length same);
+    divided = subst AreDivided (sym same) divided;
+  }
 
   module _ (n : ℕ) (ns all : List ℕ) (cs : List (Child V M)) (next : all ≡ n ∷ ns) (left : AreLeft all cs) where
     pub next_some : 1 ≤ n

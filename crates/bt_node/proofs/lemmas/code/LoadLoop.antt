@@ -2,7 +2,8 @@
 use Rattle.std.proofs.Common.{◌≡◌, ◌<◌, ◌≤◌, ◌+◌, ℕ, zero, suc, Bool, true, false, nat_le, List, [], ◌∷◌, ◌++◌, ◌∙◌, arith, ap, drop, get_or, length, map, refl, replicate, subst, sym, take}
 use Rattle.std.proofs.lemmas.List.{length-drop, length-map, length-take, take_all}
 use Rattle.bt_keycode.specs.Keys.{Key}
-use Rattle.bt_messages.specs.Bins.{LieBetween, added, each_with, joined, parts}
+use Rattle.bt_rowtype.specs.Lists.{concatenation}
+use Rattle.bt_messages.specs.Bins.{LieBetween, added, each_with, parts}
 use Rattle.bt_messages.specs.Parts.{parted, total}
 use Rattle.bt_messages.specs.Messages.{Messages, with_messages}
 use Rattle.bt_messages.specs.Shares.{counts, load_of, share_of}
@@ -13,13 +14,13 @@ use Rattle.bt_messages.specs.declared.measure.Measure.TheVariants as measures
 use Rattle.bt_messages.specs.declared.message.Message.{Message}
 use Rattle.bt_messages.specs.declared.share.Share.{Share}
 use Rattle.bt_messages.proofs.offered.Loads.{load-with_messages, weight-small}
-use Rattle.bt_messages.proofs.offered.Parts.{added_lie, joined-added, joined_sorted, lie_length}
+use Rattle.bt_messages.proofs.offered.Parts.{added_lie, concatenation-added, concatenation_sorted, lie_length}
 use Rattle.bt_messages.proofs.offered.Placed.{sorted-with_messages}
 use Rattle.bt_node.specs.Flushes.{loads as of_children, pending_load, shared}
 use Rattle.bt_node.specs.Marks.{flush_marks, has_room}
 use Rattle.bt_node.specs.Trees.{Shape, Siblings, pivots_of}
-use Rattle.bt_node.specs.declared.mode.Mode.{Mode}
-use Rattle.bt_node.specs.declared.mode.Mode.TheVariants.{Absorb, Drain}
+use Rattle.bt_node.specs.declared.form.mode.Mode.{Mode}
+use Rattle.bt_node.specs.declared.form.mode.Mode.TheVariants.{Absorb, Drain}
 use Rattle.bt_node.proofs.lemmas.flushes.Divisions.{bins-length, loads-are}
 use Rattle.bt_node.proofs.lemmas.flushes.EmptyPackets.{all_pending-shared}
 use Rattle.bt_node.proofs.lemmas.flushes.NodeSizes.{total-loads}
@@ -145,37 +146,37 @@ module _ {V D : Type 0} {weigh : Key × Message V D → ℕ} {s : Shape} {xs : S
   pub after_lie : (made : List (Messages (Message V D))) → made ≡ each_with (parted (counts shares) stream) bins → LieBetween (pivots_of xs) made
   after_lie made is = subst (LieBetween (pivots_of xs)) (sym (is ∙ bins_after)) (added_lie (pivots_of xs) (take count stream) bins come.lie)
 
-  pub after_joined : (made : List (Messages (Message V D))) → made ≡ each_with (parted (counts shares) stream) bins → joined made ≡ with_messages (take count stream) (joined bins)
-  after_joined made is = ap joined (is ∙ bins_after) ∙ joined-added (pivots_of xs) (take count stream) bins come.lie
+  pub after_joined : (made : List (Messages (Message V D))) → made ≡ each_with (parted (counts shares) stream) bins → concatenation made ≡ with_messages (take count stream) (concatenation bins)
+  after_joined made is = ap concatenation (is ∙ bins_after) ∙ concatenation-added (pivots_of xs) (take count stream) bins come.lie
 
   -- how much is pending for each child then, and for all
-  pub loads_after : (made : List ℕ) → made ≡ map (load weigh measure) (each_with (parted (counts shares) stream) bins) → made ≡ of_children weigh s (shared xs (with_messages (take count stream) (joined bins)))
+  pub loads_after : (made : List ℕ) → made ≡ map (load weigh measure) (each_with (parted (counts shares) stream) bins) → made ≡ of_children weigh s (shared xs (with_messages (take count stream) (concatenation bins)))
   loads_after made is =
       is ∙ ap (λ m. map (load weigh m) (each_with (parted (counts shares) stream) bins)) come.measured
       ∙ loads-are weigh s xs bins (counts shares) stream (take count stream) come.lie at_pivots bin_each (omega (arith, length-map shares (λ (s : Share). s.count), share_each))
 
-  pub loads_total : total (of_children weigh s (shared xs (with_messages (take count stream) (joined bins)))) ≡ load weigh s.measure (with_messages (take count stream) (joined bins))
+  pub loads_total : total (of_children weigh s (shared xs (with_messages (take count stream) (concatenation bins)))) ≡ load weigh s.measure (with_messages (take count stream) (concatenation bins))
   loads_total =
-      total-loads weigh s (shared xs (with_messages (take count stream) (joined bins)))
-      ∙ ap (load weigh s.measure) (all_pending-shared xs (with_messages (take count stream) (joined bins)) come.some (sorted-with_messages (take count stream) (joined bins) (joined_sorted (pivots_of xs) bins come.lie)))
+      total-loads weigh s (shared xs (with_messages (take count stream) (concatenation bins)))
+      ∙ ap (load weigh s.measure) (all_pending-shared xs (with_messages (take count stream) (concatenation bins)) come.some (sorted-with_messages (take count stream) (concatenation bins) (concatenation_sorted (pivots_of xs) bins come.lie)))
 
   -- the code's test whether there is room for all
   pub room_test : (made : List ℕ) (room : ℕ) (test : Bool) → made ≡ map (load weigh measure) (each_with (parted (counts shares) stream) bins) → room ≡ s.buffer → test ≡ nat_le (total made) room →
-      nat_le (load weigh s.measure (with_messages (take count stream) (joined bins))) s.buffer ≡ test
+      nat_le (load weigh s.measure (with_messages (take count stream) (concatenation bins))) s.buffer ≡ test
   room_test made room test is same tested =
-      sym (tested ∙ ap (λ ns. nat_le (total ns) room) (loads_after made is) ∙ ap (λ n. nat_le n room) loads_total ∙ ap (nat_le (load weigh s.measure (with_messages (take count stream) (joined bins)))) same)
+      sym (tested ∙ ap (λ ns. nat_le (total ns) room) (loads_after made is) ∙ ap (λ n. nat_le n room) loads_total ∙ ap (nat_le (load weigh s.measure (with_messages (take count stream) (concatenation bins)))) same)
 
   -- the code's marks of the children
   pub marks_planned : (mode : Mode) (made : List ℕ) (room : ℕ) (marks : List Bool) → mode ≡ Absorb → made ≡ map (load weigh measure) (each_with (parted (counts shares) stream) bins) → room ≡ s.buffer →
-      marks ≡ flush_marks Absorb room made → marks ≡ flush_marks mode s.buffer (of_children weigh s (shared xs (with_messages (take count stream) (joined bins))))
+      marks ≡ flush_marks Absorb room made → marks ≡ flush_marks mode s.buffer (of_children weigh s (shared xs (with_messages (take count stream) (concatenation bins))))
   marks_planned mode made room marks absorbs is same marked =
       marked ∙ ap (λ n. flush_marks Absorb n made) same ∙ ap (flush_marks Absorb s.buffer) (loads_after made is)
-      ∙ ap (λ m. flush_marks m s.buffer (of_children weigh s (shared xs (with_messages (take count stream) (joined bins))))) (sym absorbs)
+      ∙ ap (λ m. flush_marks m s.buffer (of_children weigh s (shared xs (with_messages (take count stream) (concatenation bins))))) (sym absorbs)
 
   pub marks_all : (mode : Mode) (n : ℕ) (marks : List Bool) → mode ≡ Drain → n ≡ length shares → marks ≡ replicate n true →
-      marks ≡ flush_marks mode s.buffer (of_children weigh s (shared xs (with_messages (take count stream) (joined bins))))
+      marks ≡ flush_marks mode s.buffer (of_children weigh s (shared xs (with_messages (take count stream) (concatenation bins))))
   marks_all mode n marks drains as_many marked =
-      let cs = shared xs (with_messages (take count stream) (joined bins)) in
+      let cs = shared xs (with_messages (take count stream) (concatenation bins)) in
       let long : n ≡ length (of_children weigh s cs) =
-      omega (arith, as_many, share_each, bin_each, length-map cs (pending_load weigh s), length-shared xs (with_messages (take count stream) (joined bins))) in
+      omega (arith, as_many, share_each, bin_each, length-map cs (pending_load weigh s), length-shared xs (with_messages (take count stream) (concatenation bins))) in
       marked ∙ ap (λ k. replicate k true) long ∙ all-marked (of_children weigh s cs) ∙ ap (λ m. flush_marks m s.buffer (of_children weigh s cs)) (sym drains)

@@ -10,9 +10,9 @@ use Rattle.bt_keycode.specs.Keys.{AllFrom, Key, key_cmp, is_before, IsSorted}
 use Rattle.bt_messages.specs.declared.message.Message.{Message}
 use Rattle.bt_node.specs.Messages.{Messages, from, value_after}
 use Rattle.bt_node.specs.Trees.{Siblings, Tree, inner, nodes}
-use Rattle.bt_node.specs.inside.Lookups.{pivots_up_to, value_at, value_below}
-use Rattle.bt_node.specs.inside.Held.{BeginsWith, Resets, begun, value_of}
-use Rattle.bt_node.specs.declared.held.Held.{Held}
+use Rattle.bt_node.specs.inside.Lookups.{pivots_up_to, tree_value, value_below}
+use Rattle.bt_node.specs.inside.ValuesSoFar.{BeginsWith, Resets, start_value, option_of}
+use Rattle.bt_node.specs.declared.read.value_so_far.ValueSoFar.{ValueSoFar}
 use Rattle.bt_keycode.proofs.offered.Order.{all_within-from, apart_back, not_before_itself, total_keys}
 use Rattle.bt_node.proofs.lemmas.rows.Values.{value-above, value-append}
 
@@ -32,40 +32,40 @@ module _ {V D : Type 0} (effect : Option V → Message V D → Option V) where
 
   -- what is below a node is found in the child with the last pivot that is at most the key
   one_child : (k : Key) (x : Key × Tree V (Message V D)) (xs : Siblings V (Message V D)) (d : Tree V (Message V D)) →
-      value_below effect k (nodes (x ∷ xs)) ≡ value_at effect k (get_or (map (λ y. y.1) (x ∷ xs)) (pivots_up_to k (map (λ y. y.0) xs)) d)
+      value_below effect k (nodes (x ∷ xs)) ≡ tree_value effect k (get_or (map (λ y. y.1) (x ∷ xs)) (pivots_up_to k (map (λ y. y.0) xs)) d)
   one_child k x [] d = refl
   one_child k x (y ∷ ys) d = elim (is_before k y.0) as (λ b.
-      cond b (value_at effect k x.1) (value_below effect k (nodes (y ∷ ys))) ≡ value_at effect k (get_or (map (λ z. z.1) (x ∷ y ∷ ys)) (cond b 0 (suc (pivots_up_to k (map (λ z. z.0) ys)))) d)) [
+      cond b (tree_value effect k x.1) (value_below effect k (nodes (y ∷ ys))) ≡ tree_value effect k (get_or (map (λ z. z.1) (x ∷ y ∷ ys)) (cond b 0 (suc (pivots_up_to k (map (λ z. z.0) ys)))) d)) [
         | true ↦ refl
         | false ↦ one_child k y ys d
       ]
 
   pub child_at : (k : Key) (xs : Siblings V (Message V D)) (d : Tree V (Message V D)) → 1 ≤ length xs →
-      value_below effect k (nodes xs) ≡ value_at effect k (get_or (map (λ y. y.1) xs) (pivots_up_to k (map (λ y. y.0) (drop 1 xs))) d)
+      value_below effect k (nodes xs) ≡ tree_value effect k (get_or (map (λ y. y.1) xs) (pivots_up_to k (map (λ y. y.0) (drop 1 xs))) d)
   child_at k [] d some = absurd (omega (arith, some))
   child_at k (x ∷ xs) d some = one_child k x xs d
 
   -- the value at a key in an inner node, from the one in that child
   pub along : (k : Key) (xs : Siblings V (Message V D)) (buffer : Messages (Message V D)) (node : Tree V (Message V D)) (ts : List (Tree V (Message V D))) (ps : List Key) (place : ℕ) (child : Tree V (Message V D)) (old : Option V) →
-      node ≡ inner (nodes xs) buffer → ts ≡ map (λ y. y.1) xs → ps ≡ map (λ y. y.0) (drop 1 xs) → 1 ≤ length xs → place ≡ pivots_up_to k ps → child ≡ get_or ts place child → old ≡ value_at effect k child →
-      value_after effect k buffer old ≡ value_at effect k node
+      node ≡ inner (nodes xs) buffer → ts ≡ map (λ y. y.1) xs → ps ≡ map (λ y. y.0) (drop 1 xs) → 1 ≤ length xs → place ≡ pivots_up_to k ps → child ≡ get_or ts place child → old ≡ tree_value effect k child →
+      value_after effect k buffer old ≡ tree_value effect k node
   along k xs buffer node ts ps place child old here items pivots some is at below =
       ap (value_after effect k buffer)
-      (below ∙ ap (value_at effect k) (at ∙ ap (λ ys. get_or ys place child) items ∙ ap (λ i. get_or (map (λ y. y.1) xs) i child) (is ∙ ap (pivots_up_to k) pivots))
+      (below ∙ ap (tree_value effect k) (at ∙ ap (λ ys. get_or ys place child) items ∙ ap (λ i. get_or (map (λ y. y.1) xs) i child) (is ∙ ap (pivots_up_to k) pivots))
       ∙ sym (child_at k xs child some))
-      ∙ sym (ap (value_at effect k) here)
+      ∙ sym (ap (tree_value effect k) here)
 
   -- ---- messages
 
   -- what messages with a start make of the value below
-  pub begins_at : (k : Key) (buffer left : Messages (Message V D)) (start at : Option (Held V D)) (value : Option V) → BeginsWith effect k buffer start left → start ≡ at →
-      value_after effect k left (begun at value) ≡ value_after effect k buffer value
-  begins_at k buffer left start at value begins is = sym (begins value ∙ ap (λ s. value_after effect k left (begun s value)) is)
+  pub begins_at : (k : Key) (buffer left : Messages (Message V D)) (start at : Option (ValueSoFar V D)) (value : Option V) → BeginsWith effect k buffer start left → start ≡ at →
+      value_after effect k left (start_value at value) ≡ value_after effect k buffer value
+  begins_at k buffer left start at value begins is = sym (begins value ∙ ap (λ s. value_after effect k left (start_value s value)) is)
 
   -- the value in an inner node whose messages leave nothing of the one below
-  pub along_reset : (k : Key) (xs : Siblings V (Message V D)) (buffer left : Messages (Message V D)) (node : Tree V (Message V D)) (start : Option (Held V D)) (held : Held V D) →
-      node ≡ inner (nodes xs) buffer → BeginsWith effect k buffer start left → start ≡ Some held → value_after effect k left (value_of held) ≡ value_at effect k node
-  along_reset k xs buffer left node start held here begins is = begins_at k buffer left start (Some held) (value_below effect k (nodes xs)) begins is ∙ sym (ap (value_at effect k) here)
+  pub along_reset : (k : Key) (xs : Siblings V (Message V D)) (buffer left : Messages (Message V D)) (node : Tree V (Message V D)) (start : Option (ValueSoFar V D)) (held : ValueSoFar V D) →
+      node ≡ inner (nodes xs) buffer → BeginsWith effect k buffer start left → start ≡ Some held → value_after effect k left (option_of held) ≡ tree_value effect k node
+  along_reset k xs buffer left node start held here begins is = begins_at k buffer left start (Some held) (value_below effect k (nodes xs)) begins is ∙ sym (ap (tree_value effect k) here)
 
   -- what all messages make of a value at a key, those that are left make of some value
   abbrev pub LeadsTo : Key → Messages (Message V D) → Messages (Message V D) → Type 0
@@ -112,11 +112,11 @@ module _ {V D : Type 0} (effect : Option V → Message V D → Option V) where
     goes_on test buffer leads old = let so_far = leads old in (effect so_far.0 m, so_far.1 ∙ one_more test so_far.0 (effect so_far.0 m) refl)
 
     -- and begins anew where the message leaves nothing of the value
-    pub begins_anew : false ≡ not (ordering_index o == 1) → (buffer left : Messages (Message V D)) (held : Held V D) → LeadsTo k buffer ms → Resets effect m (value_of held) → left ≡ rest →
+    pub begins_anew : false ≡ not (ordering_index o == 1) → (buffer left : Messages (Message V D)) (held : ValueSoFar V D) → LeadsTo k buffer ms → Resets effect m (option_of held) → left ≡ rest →
         BeginsWith effect k buffer (Some held) left
     begins_anew test buffer left held leads resets is old =
         let so_far = leads old in
-        so_far.1 ∙ one_more test so_far.0 (value_of held) (sym (resets so_far.0)) ∙ ap (λ zs. value_after effect k zs (value_of held)) (sym is)
+        so_far.1 ∙ one_more test so_far.0 (option_of held) (sym (resets so_far.0)) ∙ ap (λ zs. value_after effect k zs (option_of held)) (sym is)
 
     pub rest_from : AllFrom k ms → AllFrom k rest
     rest_from all = (subst (AllFrom k) here all).1

@@ -5,19 +5,20 @@ use Rattle.std.proofs.lemmas.List.{length-map}
 use Rattle.std.specs.List.{zip}
 use Rattle.std.specs.declared.option.Option.TheVariants.{None}
 use Rattle.bt_keycode.specs.Keys.{IsSorted}
-use Rattle.bt_messages.specs.Bins.{LieBetween, joined}
+use Rattle.bt_rowtype.specs.Lists.{concatenation}
+use Rattle.bt_messages.specs.Bins.{LieBetween}
 use Rattle.bt_messages.specs.Meanings.{Meaning}
 use Rattle.bt_messages.specs.Parts.{total}
 use Rattle.bt_messages.specs.Shares.{AreShares, counts}
 use Rattle.bt_messages.specs.declared.message.Message.{Message}
 use Rattle.bt_messages.specs.declared.share.Share.{Share}
-use Rattle.bt_messages.proofs.offered.Parts.{joined_sorted}
+use Rattle.bt_messages.proofs.offered.Parts.{concatenation_sorted}
 use Rattle.bt_messages.proofs.offered.Placed.{sorted-with_messages}
-use Rattle.bt_node.specs.declared.mode.Mode.{Mode}
-use Rattle.bt_node.specs.declared.mode.Mode.TheVariants.{Absorb, Drain}
-use Rattle.bt_node.specs.declared.opening.Opened as code
-use Rattle.bt_node.specs.declared.opening.Step.{Step}
-use Rattle.bt_node.specs.declared.opening.Step.TheVariants.{Stays, Opens}
+use Rattle.bt_node.specs.declared.form.mode.Mode.{Mode}
+use Rattle.bt_node.specs.declared.form.mode.Mode.TheVariants.{Absorb, Drain}
+use Rattle.bt_node.specs.declared.flush.opening.Opened as code
+use Rattle.bt_node.specs.declared.flush.opening.Step.{Step}
+use Rattle.bt_node.specs.declared.flush.opening.Step.TheVariants.{Stays, Opens}
 use Rattle.bt_node.specs.Children.{AreDivided}
 use Rattle.bt_node.specs.Fits.{IsInOrder, IsLed}
 use Rattle.bt_node.specs.Flushes.{Child, Flush, flush_in, flushed, flushed_in, grouped, loads, none_pending, pending_load, pivot_first, shared}
@@ -25,7 +26,7 @@ use Rattle.bt_node.specs.Messages.{Messages, with_messages}
 use Rattle.bt_node.specs.Steps.{IsKept, IsOpened, IsStep}
 use Rattle.bt_node.specs.Trees.{Shape, Siblings, Tree, height, height_below, inner, nodes, pivots_of}
 use Rattle.bt_node.specs.inside.Flushing.{AreReady, IsReady, loaded}
-use Rattle.bt_node.specs.inside.Passes.{passed}
+use Rattle.bt_node.specs.Passes.{passed}
 use Rattle.bt_node.proofs.lemmas.deals.Parts.{NonEmpty}
 use Rattle.bt_node.proofs.lemmas.flushes.Children.{ChildrenLie}
 use Rattle.bt_node.proofs.lemmas.flushes.Divisions.{beside-ready, bins-length, divided-lie, divided-none, joined-pending, length-beside, loaded-shared, shares-length, stripped-beside}
@@ -56,7 +57,7 @@ among c cs ds bound e h = let all = ap highest e in (omega (arith, all, h), omeg
 pub record Enters {V D : Type 0} (mode : Mode) (s : Shape) (xs : Siblings V (Message V D)) (bins : List (Messages (Message V D))) (ms : Messages (Message V D)) (count : ℕ) (node : Tree V (Message V D)) : Type 0 where
   pub fanout : 2 ≤ s.fanout
   pub leaf : 1 ≤ s.leaf
-  pub here : node ≡ inner (nodes xs) (joined bins)
+  pub here : node ≡ inner (nodes xs) (concatenation bins)
   pub lie : LieBetween (pivots_of xs) bins
   pub enough : count ≤ length ms
   pub ready : IsReady mode node
@@ -67,18 +68,18 @@ module _ {V D : Type 0} (meaning : Meaning V (Message V D)) {mode : Mode} {s : S
   f = flush_in meaning mode s
 
   abbrev after : Messages (Message V D)
-  after = with_messages (take count ms) (joined bins)
+  after = with_messages (take count ms) (concatenation bins)
 
   -- its children with what is pending for each then
   abbrev cs : List (Child V (Message V D))
   cs = shared xs after
 
   after-sorted : IsSorted after
-  after-sorted = sorted-with_messages (take count ms) (joined bins) (joined_sorted (pivots_of xs) bins entered.lie)
+  after-sorted = sorted-with_messages (take count ms) (concatenation bins) (concatenation_sorted (pivots_of xs) bins entered.lie)
 
   becomes : f node (take count ms) ≡ grouped s (flushed_in meaning.weigh s mode f cs)
   becomes =
-      ap (λ t. f t (take count ms)) entered.here ∙ flush_recurs meaning mode s (nodes xs) (joined bins) (take count ms)
+      ap (λ t. f t (take count ms)) entered.here ∙ flush_recurs meaning mode s (nodes xs) (concatenation bins) (take count ms)
       ∙ ap (λ ys. grouped s (flushed_in meaning.weigh s mode f (shared ys after))) (children-nodes xs)
 
   -- ---- it stays
@@ -139,7 +140,7 @@ module _ {V D : Type 0} (meaning : Meaning V (Message V D)) {mode : Mode} {s : S
 
     -- messages may enter them
     pub children_ready : AreReady mode o.children
-    children_ready = subst (AreReady mode) (sym opened.children) (beside-ready mode node xs (joined bins) bins entered.here entered.ready)
+    children_ready = subst (AreReady mode) (sym opened.children) (beside-ready mode node xs (concatenation bins) bins entered.here entered.ready)
 
     -- they are lower than the node
     pub children_lower : 4 * highest o.children + 3 < 4 * height node
@@ -175,7 +176,7 @@ module _ {V D : Type 0} (meaning : Meaning V (Message V D)) {mode : Mode} {s : S
               subst AreDivided (sym all) (divided-none parts (joined-pending parts ∙ all_pending-flushed f cs))
           of Absorb is =
               let order : IsInOrder node = subst (λ n. IsReady n node) is entered.ready in
-              let side = siblings_widest node xs (joined bins) entered.here order in
+              let side = siblings_widest node xs (concatenation bins) entered.here order in
               let placed = shared-lie side.0 None None xs after side.1 (anywhere after) after-sorted in
               let keeps : Keeps meaning.effect side.0 f =
               λ low high t p lies within. flush-keeps meaning mode s (omega (arith, entered.leaf)) (omega (arith, entered.fanout)) side.0 low high t p lies within in

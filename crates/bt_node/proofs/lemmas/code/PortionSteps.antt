@@ -6,16 +6,16 @@ use Rattle.std.specs.declared.option.Option.TheVariants.{Some}
 use Rattle.bt_keycode.specs.Keys.{Key, key_cmp, is_before, is_before_lower, is_before_upper, is_between}
 use Rattle.bt_messages.specs.declared.message.Message.{Message}
 use Rattle.bt_node.specs.Fits.{Lies}
-use Rattle.bt_messages.specs.inside.Merges.{messages_past}
+use Rattle.bt_messages.specs.Messages.{messages_past}
 use Rattle.bt_node.specs.Messages.{Messages, rows_after, value_after}
 use Rattle.bt_node.specs.Parts.{AreRising}
-use Rattle.bt_node.specs.inside.Together.{values_after, values_at}
+use Rattle.bt_node.specs.inside.Together.{values_after, tree_values}
 use Rattle.bt_node.specs.Trees.{Tree}
 use Rattle.bt_node.specs.Flushes.{holds}
 use Rattle.bt_node.specs.Portions.{Chained, Portion, Divide, HaveThere, all_rows, owners, owns, rows_of}
 use Rattle.bt_keycode.proofs.offered.Order.{before_chain}
 use Rattle.bt_node.proofs.lemmas.code.LentMessages.{value_past}
-use Rattle.bt_node.proofs.lemmas.lookups.HeldValues.{value_at-held}
+use Rattle.bt_node.proofs.lemmas.lookups.HeldValues.{tree_value-held}
 use Rattle.bt_node.proofs.lemmas.rows.Values.{find-rows}
 use Rattle.bt_node.proofs.lemmas.rows.Between.{earlier_below, later_from, outside_upper, same_upper}
 
@@ -171,9 +171,9 @@ module _ {V D : Type 0} (effect : Option V → Message V D → Option V) (newer 
 
   -- what the messages make of what keys have below
   pub values_held : {K : Type 0} (key : K → Key) (t : Tree V (Message V D)) (levels : ℕ) (low high : Option Key) → Lies levels low high t → (ks : List K) →
-      values_after effect newer (map key ks) (values_at effect (map key ks) t) ≡ map (λ k. find key_cmp (key k) (rows_after effect newer (holds effect t))) ks
+      values_after effect newer (map key ks) (tree_values effect (map key ks) t) ≡ map (λ k. find key_cmp (key k) (rows_after effect newer (holds effect t))) ks
   values_held key t levels low high lies [] = refl
   values_held key t levels low high lies (k ∷ ks) =
-      ap (λ v. value_after effect (key k) newer v ∷ values_after effect newer (map key ks) (values_at effect (map key ks) t)) (value_at-held effect levels low high t (key k) lies)
-      ∙ ap (λ v. v ∷ values_after effect newer (map key ks) (values_at effect (map key ks) t)) (sym (find-rows effect (key k) newer (holds effect t)))
+      ap (λ v. value_after effect (key k) newer v ∷ values_after effect newer (map key ks) (tree_values effect (map key ks) t)) (tree_value-held effect levels low high t (key k) lies)
+      ∙ ap (λ v. v ∷ values_after effect newer (map key ks) (tree_values effect (map key ks) t)) (sym (find-rows effect (key k) newer (holds effect t)))
       ∙ ap (λ vs. find key_cmp (key k) (rows_after effect newer (holds effect t)) ∷ vs) (values_held key t levels low high lies ks)

@@ -5,7 +5,7 @@ use Rattle.std.proofs.lemmas.List.{take_min}
 use Rattle.std.specs.Prelude.{MatchOption, min}
 use Rattle.std.specs.declared.option.Option.{Option}
 use Rattle.std.specs.declared.option.Option.TheVariants.{None, Some}
-use Rattle.bt_node.specs.inside.Limits.{first_of, limited}
+use Rattle.bt_node.specs.inside.Limits.{first_rows, limited}
 
 module _ {S R : Type 0} (visited : S → R → S) where
   none_at_zero : (s : S) (rows : List R) → fold (limited visited) (s, Some 0) rows ≡ (s, Some 0)
@@ -42,6 +42,6 @@ module _ {S R : Type 0} (visited : S → R → S) where
       ∙ sym (first_shown s n rows)
 
   -- what is shown are the first rows, as many as the limit lets
-  pub first_rows_shown : (s shown : S) (limit left : Option ℕ) (rows : List R) → (shown, left) ≡ fold (limited visited) (s, limit) rows → shown ≡ fold visited s (first_of limit rows)
+  pub first_rows_shown : (s shown : S) (limit left : Option ℕ) (rows : List R) → (shown, left) ≡ fold (limited visited) (s, limit) rows → shown ≡ fold visited s (first_rows limit rows)
   first_rows_shown s shown None left rows show = ap (λ x. x.0) (show ∙ all_shown s rows)
   first_rows_shown s shown (Some n) left rows show = ap (λ x. x.0) (show ∙ first_shown s n rows)

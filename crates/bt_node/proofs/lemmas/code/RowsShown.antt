@@ -8,16 +8,17 @@ use Rattle.bt_messages.specs.Messages.{messages_outside as outside}
 use Rattle.bt_messages.specs.declared.message.Message.{Message}
 use Rattle.bt_node.specs.Fits.{IsInOrder, SiblingsLie}
 use Rattle.bt_node.specs.Flushes.{all_hold, holds}
-use Rattle.bt_node.specs.inside.Lookups.{pivots_up_to, value_at}
+use Rattle.bt_node.specs.inside.Lookups.{pivots_up_to, tree_value}
 use Rattle.bt_node.specs.Messages.{Messages, Rows, between, rows_after, value_after, with_messages}
 use Rattle.bt_node.specs.Trees.{Siblings, Tree, children, inner, nodes, pivots_of}
 use Rattle.bt_node.proofs.lemmas.flushes.Groups.{children-nodes}
 use Rattle.bt_node.proofs.lemmas.flushes.RowsKept.{holds-lie}
-use Rattle.bt_node.proofs.lemmas.lookups.HeldValues.{value_at-held, value_below-held}
+use Rattle.bt_node.proofs.lemmas.lookups.HeldValues.{tree_value-held, value_below-held}
 use Rattle.bt_node.proofs.lemmas.lookups.Outside.{nodes_hold-children}
 use Rattle.bt_node.proofs.lemmas.rows.Between.{all-between, between_below, between_from, between-sorted, in_order, rows-between, same-between, split-between, value-inside}
 use Rattle.bt_node.proofs.lemmas.rows.Buffers.{value-with_messages}
-use Rattle.bt_node.proofs.lemmas.rows.RowsAfter.{rows-sorted, rows_after-sorted, true_t}
+use Rattle.bt_node.proofs.lemmas.rows.RowsAfter.{rows-sorted, rows_after-sorted}
+use Rattle.bt_node.proofs.offered.Truths.{true_t}
 use Rattle.bt_node.proofs.lemmas.rows.Values.{find-rows}
 use Rattle.bt_node.proofs.lemmas.code.LookupPath.{child_at, value_after-later}
 use Rattle.bt_node.proofs.lemmas.code.RowsOfChildren.{child_in_order, siblings_lie}
@@ -52,8 +53,8 @@ module _ {V D : Type 0} (effect : Option V → Message V D → Option V) where
       child_has q is =
           let side = siblings_lie t xs buffer here order in
           let lie : SiblingsLie side.0 side.1 side.2 (children (nodes xs)) = subst (SiblingsLie side.0 side.1 side.2) (sym (children-nodes xs)) side.3 in
-          sym (value_at-held effect child-order.0 child-order.1 child-order.2 child q child-order.3)
-          ∙ ap (value_at effect q) (at ∙ ap (λ ys. get_or ys place child) items ∙ ap (λ i. get_or (map (λ x. x.1) xs) i child) (is ∙ ap (pivots_up_to q) pivots))
+          sym (tree_value-held effect child-order.0 child-order.1 child-order.2 child q child-order.3)
+          ∙ ap (tree_value effect q) (at ∙ ap (λ ys. get_or ys place child) items ∙ ap (λ i. get_or (map (λ x. x.1) xs) i child) (is ∙ ap (pivots_up_to q) pivots))
           ∙ sym (child_at effect q xs child some)
           ∙ value_below-held effect side.0 side.1 side.2 (nodes xs) q lie
           ∙ ap (λ ys. find key_cmp q (all_hold effect ys)) (children-nodes xs)

@@ -5,12 +5,12 @@ use Rattle.std.specs.List.{zip}
 use Rattle.bt_node.specs.Fits.{IsLed}
 use Rattle.bt_node.specs.Flushes.{pivot_first}
 use Rattle.bt_keycode.specs.Keys.{Key}
-use Rattle.bt_node.specs.inside.Kinds.{tree_of}
+use Rattle.bt_node.specs.inside.NodeKinds.{tree_of}
 use Rattle.bt_node.specs.Messages.{Messages}
 use Rattle.bt_node.specs.Trees.{Siblings, Tree, behind}
 use Rattle.bt_node.specs.Walks.{children_of}
-use Rattle.bt_node.specs.declared.node.Kind.{Kind}
-use Rattle.bt_node.specs.declared.node.Kind.TheVariants.{Inner}
+use Rattle.bt_node.specs.declared.form.node.NodeKind.{NodeKind}
+use Rattle.bt_node.specs.declared.form.node.NodeKind.TheVariants.{Inner}
 use Rattle.bt_messages.specs.declared.message.Message.{Message}
 use Rattle.bt_node.proofs.lemmas.flushes.Groups.{children-nodes}
 
@@ -74,7 +74,7 @@ module _ {X : Type 0} where
   one-more ks js xs ys k x fewer e f = ap (λ ls. behind ls ys) e ∙ ap (behind (ks ++ k ∷ [])) f ∙ behind-more ks xs fewer k x
 
 -- the children that are seen of an inner node
-pub children_seen : {V D : Type 0} (t n : Tree V (Message V D)) (k : Kind V D) (xs : Siblings V (Message V D)) (bins : List (Messages (Message V D))) →
+pub children_seen : {V D : Type 0} (t n : Tree V (Message V D)) (k : NodeKind V D) (xs : Siblings V (Message V D)) (bins : List (Messages (Message V D))) →
     n ≡ t → n ≡ tree_of k → k ≡ Inner xs bins → children_of t ≡ xs
 children_seen t n k xs bins view is kind = ap children_of (sym view ∙ is ∙ ap tree_of kind) ∙ children-nodes xs
 

@@ -7,19 +7,20 @@ use Rattle.std.specs.Prelude.{slice_get}
 use Rattle.std.specs.declared.option.Option.{Option}
 use Rattle.std.specs.declared.option.Option.TheVariants.{None, Some}
 use Rattle.bt_keycode.specs.Keys.{Key, is_between, key_cmp}
-use Rattle.bt_messages.specs.Bins.{LieBetween, joined}
+use Rattle.bt_rowtype.specs.Lists.{concatenation}
+use Rattle.bt_messages.specs.Bins.{LieBetween}
 use Rattle.bt_messages.specs.declared.message.Message.{Message}
 use Rattle.bt_node.specs.Fits.{Lies}
 use Rattle.bt_node.specs.Flushes.{holds}
-use Rattle.bt_node.specs.inside.Lookups.{pivots_up_to, value_at}
+use Rattle.bt_node.specs.inside.Lookups.{pivots_up_to, tree_value}
 use Rattle.bt_node.specs.Messages.{Messages, Rows, from, value_after}
 use Rattle.bt_node.specs.Trees.{Siblings, Tree, inner, leaf, nodes}
 use Rattle.bt_node.specs.inside.Bounds.{where_before}
-use Rattle.bt_node.specs.inside.Together.{AllBelong, count_between, values_after, values_at}
+use Rattle.bt_node.specs.inside.Together.{AllBelong, count_between, values_after, tree_values}
 use Rattle.bt_node.proofs.lemmas.code.ChildBounds.{belongs}
 use Rattle.bt_node.proofs.lemmas.code.LookupPath.{along, all_left}
 use Rattle.bt_node.proofs.lemmas.lookups.BinOfKey.{value-bin}
-use Rattle.bt_node.proofs.lemmas.lookups.HeldValues.{value_at-held}
+use Rattle.bt_node.proofs.lemmas.lookups.HeldValues.{tree_value-held}
 
 -- ---- keys between bounds
 
@@ -71,29 +72,29 @@ run_belongs key first (k ∷ ks) others own ps place c count next some is behind
     subst (AllBelong ps place) (sym own_keys) (here, belong (key first) ps place next here next_is (take c (map key ks)) between)
 
 module _ {V D : Type 0} (effect : Option V → Message V D → Option V) (xs : Siblings V (Message V D)) (bins : List (Messages (Message V D))) (node : Tree V (Message V D))
-    (ts : List (Tree V (Message V D))) (ps : List Key) (place : ℕ) (child : Tree V (Message V D)) (here : node ≡ inner (nodes xs) (joined bins)) (items : ts ≡ map (λ y. y.1) xs)
+    (ts : List (Tree V (Message V D))) (ps : List Key) (place : ℕ) (child : Tree V (Message V D)) (here : node ≡ inner (nodes xs) (concatenation bins)) (items : ts ≡ map (λ y. y.1) xs)
     (pivots : ps ≡ map (λ y. y.0) (drop 1 xs)) (some : 1 ≤ length xs) (lie : LieBetween ps bins) (at : child ≡ get_or ts place child) where
   -- what the bin of a child makes of the values there
-  values_above : (ks : List Key) → AllBelong ps place ks → values_after effect (get_or bins place []) ks (values_at effect ks child) ≡ values_at effect ks node
+  values_above : (ks : List Key) → AllBelong ps place ks → values_after effect (get_or bins place []) ks (tree_values effect ks child) ≡ tree_values effect ks node
   values_above [] h = refl
   values_above (k ∷ ks) h =
-      ap (λ v. v ∷ values_after effect (get_or bins place []) ks (values_at effect ks child))
-      (ap (λ i. value_after effect k (get_or bins i []) (value_at effect k child)) h.0
-      ∙ value-bin effect k ps bins (value_at effect k child) lie
-      ∙ along effect k xs (joined bins) node ts ps place child (value_at effect k child) here items pivots some h.0 at refl)
-      ∙ ap (λ vs. value_at effect k node ∷ vs) (values_above ks h.1)
+      ap (λ v. v ∷ values_after effect (get_or bins place []) ks (tree_values effect ks child))
+      (ap (λ i. value_after effect k (get_or bins i []) (tree_value effect k child)) h.0
+      ∙ value-bin effect k ps bins (tree_value effect k child) lie
+      ∙ along effect k xs (concatenation bins) node ts ps place child (tree_value effect k child) here items pivots some h.0 at refl)
+      ∙ ap (λ vs. tree_value effect k node ∷ vs) (values_above ks h.1)
 
   -- the values of the first keys, which go down together, and those of the others
   pub next_run : {K : Type 0} (key : K → Key) (rest own later : List K) (values new below : List (Option V)) (wanted : List (Option V)) →
-      AllBelong ps place (map key own) → own ++ later ≡ rest → below ≡ values_at effect (map key own) child →
+      AllBelong ps place (map key own) → own ++ later ≡ rest → below ≡ tree_values effect (map key own) child →
       new ≡ values ++ values_after effect (get_or bins place []) (map key own) below →
-      values ++ values_at effect (map key rest) node ≡ wanted → new ++ values_at effect (map key later) node ≡ wanted
+      values ++ tree_values effect (map key rest) node ≡ wanted → new ++ tree_values effect (map key later) node ≡ wanted
   next_run key rest own later values new below wanted all parts below_is new_is so_far =
-      let here_are : new ≡ values ++ values_at effect (map key own) node =
+      let here_are : new ≡ values ++ tree_values effect (map key own) node =
       new_is ∙ ap (λ b. values ++ values_after effect (get_or bins place []) (map key own) b) below_is ∙ ap (λ vs. values ++ vs) (values_above (map key own) all) in
-      ap (λ vs. vs ++ values_at effect (map key later) node) here_are
-      ∙ append_assoc values (values_at effect (map key own) node) (values_at effect (map key later) node)
-      ∙ ap (λ vs. values ++ vs) (sym (map-append (λ k. value_at effect k node) (map key own) (map key later)) ∙ ap (λ ks. values_at effect ks node) (sym (map-append key own later) ∙ ap (map key) parts))
+      ap (λ vs. vs ++ tree_values effect (map key later) node) here_are
+      ∙ append_assoc values (tree_values effect (map key own) node) (tree_values effect (map key later) node)
+      ∙ ap (λ vs. values ++ vs) (sym (map-append (λ k. tree_value effect k node) (map key own) (map key later)) ∙ ap (λ ks. tree_values effect ks node) (sym (map-append key own later) ∙ ap (map key) parts))
       ∙ so_far
 
 -- one value more, and one key fewer
@@ -120,10 +121,10 @@ none_pending effect key value bin ks values new below none same is =
     ∙ ap (λ vs. map value values ++ vs) (sym (ap (λ b. values_after effect b (map key ks) (map value below)) none ∙ unchanged effect (map key ks) (map value below) (length-map below value ∙ same ∙ sym (length-map ks key))))
 
 -- as many values as keys
-pub as_many : {V D K H : Type 0} (effect : Option V → Message V D → Option V) (key : K → Key) (value : H → Option V) (ks : List K) (below : List H) (t : Tree V (Message V D)) → map value below ≡ values_at effect (map key ks) t →
+pub as_many : {V D K H : Type 0} (effect : Option V → Message V D → Option V) (key : K → Key) (value : H → Option V) (ks : List K) (below : List H) (t : Tree V (Message V D)) → map value below ≡ tree_values effect (map key ks) t →
     length below ≡ length ks
 as_many effect key value ks below t is =
-    sym (length-map below value) ∙ ap length is ∙ length-map (map key ks) (λ k. value_at effect k t) ∙ length-map ks key
+    sym (length-map below value) ∙ ap length is ∙ length-map (map key ks) (λ k. tree_value effect k t) ∙ length-map ks key
 
 -- no value is left
 pub none_after : {V D : Type 0} (effect : Option V → Message V D → Option V) (bin : Messages (Message V D)) (ks : List Key) (values wanted : List (Option V)) → wanted ≡ values ++ values_after effect bin ks [] → values ≡ wanted
@@ -141,17 +142,17 @@ from_there xs own done is = ap (λ zs. zs ++ drop (done + length own) xs) is ∙
 
 -- what a leaf has at keys
 pub leaf_values : {V D K : Type 0} (effect : Option V → Message V D → Option V) (key : K → Key) (ks : List K) (rows : Rows V) (t : Tree V (Message V D)) → t ≡ leaf rows →
-    map (λ k. find key_cmp (key k) rows) ks ≡ values_at effect (map key ks) t
+    map (λ k. find key_cmp (key k) rows) ks ≡ tree_values effect (map key ks) t
 leaf_values effect key [] rows t is = refl
 leaf_values effect key (k ∷ ks) rows t is =
-    ap (λ v. v ∷ map (λ j. find key_cmp (key j) rows) ks) (sym (ap (value_at effect (key k)) is)) ∙ ap (λ vs. value_at effect (key k) t ∷ vs) (leaf_values effect key ks rows t is)
+    ap (λ v. v ∷ map (λ j. find key_cmp (key j) rows) ks) (sym (ap (tree_value effect (key k)) is)) ∙ ap (λ vs. tree_value effect (key k) t ∷ vs) (leaf_values effect key ks rows t is)
 
 -- the values along the paths are those in the map that the tree holds
 pub all_held : {V D K : Type 0} (effect : Option V → Message V D → Option V) (key : K → Key) (levels : ℕ) (low high : Option Key) (t : Tree V (Message V D)) (ks : List K) → Lies levels low high t →
-    values_at effect (map key ks) t ≡ map (λ k. find key_cmp (key k) (holds effect t)) ks
+    tree_values effect (map key ks) t ≡ map (λ k. find key_cmp (key k) (holds effect t)) ks
 all_held effect key levels low high t [] lies = refl
 all_held effect key levels low high t (k ∷ ks) lies =
-    ap (λ v. v ∷ values_at effect (map key ks) t) (value_at-held effect levels low high t (key k) lies) ∙ ap (λ vs. find key_cmp (key k) (holds effect t) ∷ vs) (all_held effect key levels low high t ks lies)
+    ap (λ v. v ∷ tree_values effect (map key ks) t) (tree_value-held effect levels low high t (key k) lies) ∙ ap (λ vs. find key_cmp (key k) (holds effect t) ∷ vs) (all_held effect key levels low high t ks lies)
 
 pub run_within : {X : Type 0} (xs left own : List X) (done : ℕ) → done ≤ length xs → left ≡ drop done xs → length own ≤ length left → done + length own ≤ length xs
 run_within xs left own done within is few = omega (arith, within, few, ap length is, length-drop done xs)

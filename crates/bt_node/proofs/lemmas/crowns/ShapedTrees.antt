@@ -8,7 +8,7 @@ use Rattle.bt_node.specs.Trees.{Shape, Tree, Siblings}
 use Rattle.bt_node.specs.Flushes.{crown, holds, all_hold}
 use Rattle.bt_node.specs.Fits.{AreFit, HasShape, IsRoomy}
 use Rattle.bt_node.specs.Shapes.{is_shape, largest_buffer}
-use Rattle.bt_node.specs.declared.shape.TheConstants.{SMALLEST_FANOUT, LARGEST_FANOUT, SMALLEST_BUFFER, SMALLEST_LEAF, LARGEST_LEAF}
+use Rattle.bt_node.specs.declared.form.shape.TheConstants.{SMALLEST_FANOUT, LARGEST_FANOUT, SMALLEST_BUFFER, SMALLEST_LEAF, LARGEST_LEAF}
 use Rattle.bt_node.proofs.lemmas.crowns.CrownedRows.{crown-fits, crown-holds}
 
 both : (a b : Bool) → a && b ≡ true → (a ≡ true) × (b ≡ true)

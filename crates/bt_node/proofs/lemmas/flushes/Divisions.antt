@@ -4,17 +4,18 @@ use Rattle.std.proofs.lemmas.List.{length-map}
 use Rattle.std.specs.declared.option.Option.{Option}
 use Rattle.std.specs.declared.option.Option.TheVariants.{None, Some}
 use Rattle.bt_keycode.specs.Keys.{AllFrom, AllWithin, IsSorted, Key}
-use Rattle.bt_messages.specs.Bins.{AllBefore, LieBetween, each_with, joined, parts}
+use Rattle.bt_rowtype.specs.Lists.{concatenation}
+use Rattle.bt_messages.specs.Bins.{AllBefore, LieBetween, each_with, parts}
 use Rattle.bt_messages.specs.Parts.{parted}
-use Rattle.bt_messages.proofs.offered.Parts.{added_is, lie_length, parts-joined}
+use Rattle.bt_messages.proofs.offered.Parts.{added_is, lie_length, parts-concatenation}
 use Rattle.bt_node.specs.Fits.{SiblingsLie}
 use Rattle.bt_node.specs.Flushes.{Child, loads, shared}
 use Rattle.bt_node.specs.Messages.{Messages, before, from, load, with_messages}
 use Rattle.bt_node.specs.Trees.{Shape, Siblings, Tree, inner, nodes, pivots_of}
 use Rattle.bt_node.specs.Children.{AreDivided, beside}
 use Rattle.bt_node.specs.inside.Flushing.{AreReady, IsReady, loaded}
-use Rattle.bt_node.specs.declared.mode.Mode.{Mode}
-use Rattle.bt_node.specs.declared.mode.Mode.TheVariants.{Absorb, Drain}
+use Rattle.bt_node.specs.declared.form.mode.Mode.{Mode}
+use Rattle.bt_node.specs.declared.form.mode.Mode.TheVariants.{Absorb, Drain}
 use Rattle.bt_node.proofs.lemmas.flushes.Children.{ChildrenLie, all_pending}
 use Rattle.bt_node.proofs.lemmas.flushes.Groups.{all_pending-within, stripped}
 use Rattle.bt_node.proofs.lemmas.flushes.Widest.{siblings_widest}
@@ -48,8 +49,8 @@ module _ {V M : Type 0} where
   beside-parts (x ∷ y ∷ ys) b = ap (λ z. record { pivot = x.0; tree = x.1; pending = before y.0 b } ∷ z) (beside-parts (y ∷ ys) (from y.0 b))
 
   -- bins between pivots are the shares of all their messages
-  pub beside-shared : (xs : Siblings V M) (bs : List (Messages M)) → LieBetween (pivots_of xs) bs → beside xs bs ≡ shared xs (joined bs)
-  beside-shared xs bs h = ap (beside xs) (sym (parts-joined (pivots_of xs) bs h)) ∙ beside-parts xs (joined bs)
+  pub beside-shared : (xs : Siblings V M) (bs : List (Messages M)) → LieBetween (pivots_of xs) bs → beside xs bs ≡ shared xs (concatenation bs)
+  beside-shared xs bs h = ap (beside xs) (sym (parts-concatenation (pivots_of xs) bs h)) ∙ beside-parts xs (concatenation bs)
 
   loaded-beside : (xs : Siblings V M) (bs : List (Messages M)) (ns : List ℕ) (ms : Messages M) → loaded (beside xs bs) ns ms ≡ beside xs (each_with (parted ns ms) bs)
   loaded-beside [] bs ns ms = refl
@@ -61,10 +62,10 @@ module _ {V M : Type 0} where
 
   -- bins with the shares of a packet are the shares of all messages
   pub loaded-shared : (xs : Siblings V M) (bs : List (Messages M)) (ns : List ℕ) (ms packet : Messages M) → LieBetween (pivots_of xs) bs →
-      parted ns ms ≡ parts (pivots_of xs) packet → loaded (beside xs bs) ns ms ≡ shared xs (with_messages packet (joined bs))
+      parted ns ms ≡ parts (pivots_of xs) packet → loaded (beside xs bs) ns ms ≡ shared xs (with_messages packet (concatenation bs))
   loaded-shared xs bs ns ms packet h sizes =
       loaded-beside xs bs ns ms ∙ ap (λ ps. beside xs (each_with ps bs)) sizes
-      ∙ ap (beside xs) (added_is (pivots_of xs) packet bs h) ∙ beside-parts xs (with_messages packet (joined bs))
+      ∙ ap (beside xs) (added_is (pivots_of xs) packet bs h) ∙ beside-parts xs (with_messages packet (concatenation bs))
 
   pub stripped-beside : (xs : Siblings V M) (bs : List (Messages M)) → length bs ≡ length xs → stripped (beside xs bs) ≡ xs
   stripped-beside [] bs e = refl
@@ -104,7 +105,7 @@ module _ {V M : Type 0} where
 
   -- bins with their shares have what is pending for the children
   pub loads-are : (weigh : Key × M → ℕ) (s : Shape) (xs : Siblings V M) (bs : List (Messages M)) (ns : List ℕ) (ms packet : Messages M) → LieBetween (pivots_of xs) bs → parted ns ms ≡ parts (pivots_of xs) packet →
-      length bs ≡ length xs → length ns ≡ length bs → map (load weigh s.measure) (each_with (parted ns ms) bs) ≡ loads weigh s (shared xs (with_messages packet (joined bs)))
+      length bs ≡ length xs → length ns ≡ length bs → map (load weigh s.measure) (each_with (parted ns ms) bs) ≡ loads weigh s (shared xs (with_messages packet (concatenation bs)))
   loads-are weigh s xs bs ns ms packet h sizes e few =
       sym (loads-beside weigh s xs (each_with (parted ns ms) bs) (omega (arith, each-long ns ms bs few, e)))
       ∙ ap (loads weigh s) (sym (loaded-beside xs bs ns ms) ∙ loaded-shared xs bs ns ms packet h sizes)
@@ -135,7 +136,7 @@ module _ {V M : Type 0} where
 
   -- ---- between the pivots
 
-  pub joined-pending : (cs : List (Child V M)) → joined (map (λ c. c.pending) cs) ≡ all_pending cs
+  pub joined-pending : (cs : List (Child V M)) → concatenation (map (λ c. c.pending) cs) ≡ all_pending cs
   joined-pending [] = refl
   joined-pending (c ∷ cs) = ap (λ z. c.pending ++ z) (joined-pending cs)
 
@@ -170,10 +171,10 @@ module _ {V M : Type 0} where
       subst (λ ks. LieBetween ks (b ∷ map (λ c. c.pending) (beside xs bs))) (sym (pivots-beside xs bs same))
       (subst (λ cs. LieBetween (map (λ y. y.0) xs) (b ∷ cs)) (sym (pending-beside xs bs same)) h)
 
-  first_from : (k : Key) (cs ds : List (Child V M)) → AllFrom k (joined (map (λ c. c.pending) (cs ++ ds))) → AllFrom k (joined (map (λ c. c.pending) cs))
+  first_from : (k : Key) (cs ds : List (Child V M)) → AllFrom k (concatenation (map (λ c. c.pending) (cs ++ ds))) → AllFrom k (concatenation (map (λ c. c.pending) cs))
   first_from k [] ds h = tt
   first_from k (c ∷ cs) ds h =
-      let more = joined (map (λ c. c.pending) (cs ++ ds)) in
+      let more = concatenation (map (λ c. c.pending) (cs ++ ds)) in
       from-joined k c.pending _ (from-prefix k c.pending more h) (first_from k cs ds (from-back k c.pending more h))
 
   -- the first of children
@@ -193,7 +194,7 @@ module _ {V M : Type 0} where
   divided-rest (c ∷ cs) ds h = divided-rest cs ds (one_less c (cs ++ ds) h)
 
   -- children for which nothing is pending
-  pub divided-none : (cs : List (Child V M)) → joined (map (λ c. c.pending) cs) ≡ [] → AreDivided cs
+  pub divided-none : (cs : List (Child V M)) → concatenation (map (λ c. c.pending) cs) ≡ [] → AreDivided cs
   divided-none [] e = tt
   divided-none (c ∷ cs) e = go c cs e
     where
@@ -201,10 +202,10 @@ module _ {V M : Type 0} where
       empty [] c e = (refl, e)
       empty (m ∷ ms) c e = absurd (omega (arith, ap length e))
 
-      go : (c : Child V M) (cs : List (Child V M)) → joined (map (λ c. c.pending) (c ∷ cs)) ≡ [] → AreDivided (c ∷ cs)
+      go : (c : Child V M) (cs : List (Child V M)) → concatenation (map (λ c. c.pending) (c ∷ cs)) ≡ [] → AreDivided (c ∷ cs)
       go c [] e = subst IsSorted (sym (empty c.pending [] e).0) tt
       go c (d ∷ cs) e =
-          let both = empty c.pending (joined (map (λ c. c.pending) (d ∷ cs))) e in (
+          let both = empty c.pending (concatenation (map (λ c. c.pending) (d ∷ cs))) e in (
             subst IsSorted (sym both.0) tt,
             subst (AllBefore d.pivot) (sym both.0) tt,
             subst (AllFrom d.pivot) (sym both.1) tt,

@@ -4,7 +4,7 @@ use Rattle.std.specs.List.{flat_map}
 use Rattle.bt_keycode.specs.Keys.{Key}
 use Rattle.bt_node.specs.Messages.{Rows, Meaning, Messages, rows_after}
 use Rattle.bt_node.specs.Deals.{deal}
-use Rattle.bt_node.specs.declared.mode.Mode.TheVariants.{Drain}
+use Rattle.bt_node.specs.declared.form.mode.Mode.TheVariants.{Drain}
 use Rattle.bt_node.specs.Trees.{Shape, Tree, leaf, inner, Siblings, nodes, height, height_below}
 use Rattle.bt_node.specs.Flushes.{Child, Flush, pivot_first, none_pending, flushed, flush_at, gathered, grouped, leaves, crowned, crown}
 use Rattle.bt_node.specs.Drains.{drain, IsDry, AreDry}

@@ -4,7 +4,7 @@ use Rattle.std.specs.declared.option.Option.{Option}
 use Rattle.bt_keycode.specs.Keys.{Key, is_before, AllFrom, IsSorted}
 use Rattle.bt_node.specs.Messages.{Meaning, Messages, before, from, load}
 use Rattle.bt_node.specs.Plans.{total}
-use Rattle.bt_node.specs.declared.mode.Mode.TheVariants.{Absorb}
+use Rattle.bt_node.specs.declared.form.mode.Mode.TheVariants.{Absorb}
 use Rattle.bt_node.specs.Trees.{Shape, Tree, leaf, inner, Nodes, Siblings, children, nodes}
 use Rattle.bt_node.specs.Flushes.{Child, Flush, pivot_first, loads, pending_load, shared, flushed, flushed_in, flush_at, gathered, grouped, absorb}
 use Rattle.bt_node.specs.Fits.{IsLed, Lies, IsSized, NodeFits, IsRoomy}

@@ -6,7 +6,7 @@ use Rattle.std.specs.declared.option.Option.TheVariants.{None, Some}
 use Rattle.bt_keycode.specs.Keys.{Key, key_cmp, AllWithin}
 use Rattle.bt_node.specs.Messages.{Rows, Meaning, Messages}
 use Rattle.bt_node.specs.Plans.{total}
-use Rattle.bt_node.specs.declared.mode.Mode.{Mode}
+use Rattle.bt_node.specs.declared.form.mode.Mode.{Mode}
 use Rattle.bt_node.specs.Trees.{Shape, Tree, Siblings}
 use Rattle.bt_node.specs.Flushes.{loads, pending_load, flushed, flush_in, absorb, leaves, all_hold}
 use Rattle.bt_node.specs.Fits.{SiblingsLie, SiblingsFit, AreHigh, IsRoomy}

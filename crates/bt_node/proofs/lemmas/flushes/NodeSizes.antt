@@ -7,9 +7,9 @@ use Rattle.bt_messages.proofs.offered.Loads.{load-append, load-none}
 use Rattle.bt_node.specs.Messages.{Rows, Meaning, Messages, load, rows_after, with_messages, from}
 use Rattle.bt_node.specs.Deals.{deal}
 use Rattle.bt_node.specs.Plans.{total}
-use Rattle.bt_node.specs.declared.mode.Mode.{Mode}
-use Rattle.bt_node.specs.declared.mode.Mode.TheVariants.{Absorb, Drain}
-use Rattle.bt_node.specs.inside.Passes.{passed}
+use Rattle.bt_node.specs.declared.form.mode.Mode.{Mode}
+use Rattle.bt_node.specs.declared.form.mode.Mode.TheVariants.{Absorb, Drain}
+use Rattle.bt_node.specs.Passes.{passed}
 use Rattle.bt_node.specs.Trees.{Shape, Tree, leaf, inner, Nodes, none, node, Siblings, children, nodes}
 use Rattle.bt_node.specs.Flushes.{Child, Flush, pivot_first, loads, pending_load, shared, flushed, flushed_in, flush_at, flush_in, gathered, grouped, leaves, none_pending}
 use Rattle.bt_node.specs.Fits.{Lies, IsSized, AreSized}

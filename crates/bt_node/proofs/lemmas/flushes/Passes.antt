@@ -10,9 +10,9 @@ use Rattle.bt_messages.proofs.offered.Loads.{load-none}
 use Rattle.bt_node.specs.Messages.{Messages, value_after}
 use Rattle.bt_node.specs.Plans.{total, planned}
 use Rattle.bt_node.specs.Marks.{flush_marks}
-use Rattle.bt_node.specs.declared.mode.Mode.{Mode}
-use Rattle.bt_node.specs.declared.mode.Mode.TheVariants.{Absorb, Drain}
-use Rattle.bt_node.specs.inside.Passes.{passed, IsLight}
+use Rattle.bt_node.specs.declared.form.mode.Mode.{Mode}
+use Rattle.bt_node.specs.declared.form.mode.Mode.TheVariants.{Absorb, Drain}
+use Rattle.bt_node.specs.Passes.{passed, IsLight}
 use Rattle.bt_node.specs.Trees.{Shape, Tree, Siblings}
 use Rattle.bt_node.specs.Flushes.{Child, Flush, pivot_first, loads, none_pending, pending_load, flushed, flushed_in, holds, all_hold}
 use Rattle.bt_node.specs.Fits.{IsLed, Lies, SiblingsLie}

@@ -2,8 +2,8 @@
 use Rattle.std.proofs.Common.{◌≡◌, ℕ, zero, suc, ◌<◌, ◌≤◌, Bool, true, false, cond, List, [], ◌∷◌, ◌++◌, refl, sym, ap, subst, ◌∙◌, arith, le_refl}
 use Rattle.bt_keycode.specs.Keys.{Key}
 use Rattle.bt_node.specs.Messages.{Meaning, Messages, from, with_messages}
-use Rattle.bt_node.specs.declared.mode.Mode.{Mode}
-use Rattle.bt_node.specs.inside.Passes.{passed}
+use Rattle.bt_node.specs.declared.form.mode.Mode.{Mode}
+use Rattle.bt_node.specs.Passes.{passed}
 use Rattle.bt_node.specs.Trees.{Shape, Tree, leaf, inner, Nodes, none, node, children, height, height_below}
 use Rattle.bt_node.specs.Fits.{IsLed}
 use Rattle.bt_node.specs.Flushes.{Child, Flush, pivot_first, shared, flushed, flushed_in, flush_at, flush_in, gathered, grouped, none_pending}

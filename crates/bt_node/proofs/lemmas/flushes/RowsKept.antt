@@ -6,13 +6,14 @@ use Rattle.std.specs.declared.option.Option.{Option}
 use Rattle.std.specs.declared.option.Option.TheVariants.{Some}
 use Rattle.bt_keycode.specs.Keys.{Key, key_cmp, IsPast, IsBelow, AllWithin}
 use Rattle.bt_node.specs.Messages.{Meaning, Rows, Messages, rows_after}
-use Rattle.bt_node.specs.declared.mode.Mode.{Mode}
+use Rattle.bt_node.specs.declared.form.mode.Mode.{Mode}
 use Rattle.bt_node.specs.Trees.{Shape, Tree, leaf, inner, Nodes, none, node, Siblings, children, height, height_below}
 use Rattle.bt_node.specs.Flushes.{flush_at, flush_in, holds, nodes_hold, all_hold}
 use Rattle.bt_node.specs.Fits.{RowsLie, Lies, SiblingsLie}
 use Rattle.bt_keycode.proofs.offered.Order.{total_keys}
 use Rattle.bt_node.proofs.lemmas.keys.Limits.{within-append, within-below, within-from}
-use Rattle.bt_node.proofs.lemmas.rows.RowsAfter.{rows-within, rows-sorted, rows-lie, rows_after-lie, all_below, t_both, t_first, t_second}
+use Rattle.bt_node.proofs.lemmas.rows.RowsAfter.{rows-within, rows-sorted, rows-lie, rows_after-lie, all_below}
+use Rattle.bt_node.proofs.offered.Truths.{t_both, t_first, t_second}
 use Rattle.bt_node.proofs.lemmas.rows.Values.{find-rows}
 use Rattle.bt_node.proofs.lemmas.lookups.Outside.{nodes_hold-children}
 use Rattle.bt_node.proofs.lemmas.flushes.Passes.{Kept}

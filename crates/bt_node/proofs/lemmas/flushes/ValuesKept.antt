@@ -5,14 +5,15 @@ use Rattle.std.specs.declared.option.Option.{Option}
 use Rattle.bt_keycode.specs.Keys.{Key, key_cmp, AllWithin}
 use Rattle.bt_node.specs.Messages.{Meaning, Rows, Messages, rows_after, value_after, with_messages}
 use Rattle.bt_node.specs.Deals.{deal}
-use Rattle.bt_node.specs.declared.mode.Mode.{Mode}
+use Rattle.bt_node.specs.declared.form.mode.Mode.{Mode}
 use Rattle.bt_node.specs.Trees.{Shape, leaf, inner, Nodes, Siblings, children}
 use Rattle.bt_node.specs.Flushes.{Child, Flush, shared, flushed_in, gathered, grouped, leaves, flush_at, holds, nodes_hold, all_hold}
 use Rattle.bt_node.specs.Fits.{IsLed, Lies, SiblingsLie}
 use Rattle.bt_node.proofs.lemmas.deals.Parts.{NonEmpty, joined-deal}
 use Rattle.bt_node.proofs.lemmas.rows.RowsAfter.{rows_after-lie}
 use Rattle.bt_node.proofs.lemmas.rows.Values.{find-rows}
-use Rattle.bt_node.proofs.lemmas.rows.Buffers.{within-with_messages, sorted-with_messages, value-with_messages}
+use Rattle.bt_node.proofs.lemmas.rows.Buffers.{within-with_messages, value-with_messages}
+use Rattle.bt_messages.proofs.offered.Placed.{sorted-with_messages}
 use Rattle.bt_node.proofs.lemmas.plans.OnePass.{names}
 use Rattle.bt_node.proofs.lemmas.lookups.Outside.{nodes_hold-children}
 use Rattle.bt_node.proofs.lemmas.flushes.Children.{ChildrenLie, all_pending, seen_in, value-below-seen}

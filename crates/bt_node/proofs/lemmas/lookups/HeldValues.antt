@@ -8,14 +8,14 @@ use Rattle.bt_node.specs.Messages.{value_after}
 use Rattle.bt_node.specs.Trees.{Tree, leaf, inner, Nodes, none, node, children}
 use Rattle.bt_node.specs.Flushes.{holds, nodes_hold, all_hold}
 use Rattle.bt_node.specs.Fits.{Lies, SiblingsLie}
-use Rattle.bt_node.specs.inside.Lookups.{value_at, value_below}
+use Rattle.bt_node.specs.inside.Lookups.{tree_value, value_below}
 use Rattle.bt_keycode.proofs.offered.Order.{sides}
 use Rattle.bt_node.proofs.lemmas.rows.Values.{find-append, find-rows, or_else, or_else-None}
 use Rattle.bt_node.proofs.lemmas.lookups.Outside.{Outside, nodes_hold-children, tree-outside, all-outside}
 
 module _ {V M : Type 0} (effect : Option V → M → Option V) (q : Key) where
   abbrev Found : ℕ → Type 0
-  Found levels = (low high : Option Key) (t : Tree V M) → Lies levels low high t → value_at effect q t ≡ find key_cmp q (holds effect t)
+  Found levels = (low high : Option Key) (t : Tree V M) → Lies levels low high t → tree_value effect q t ≡ find key_cmp q (holds effect t)
 
   found-below : (levels : ℕ) → Found levels → (low high : Option Key) (ns : Nodes V M) → SiblingsLie levels low high (children ns) → value_below effect q ns ≡ find key_cmp q (all_hold effect (children ns))
   found-below levels each low high none b = refl
@@ -25,14 +25,14 @@ module _ {V M : Type 0} (effect : Option V → M → Option V) (q : Key) where
       elim (sides q j) [
         | inl left ↦
             let out : Outside (Some j) high q = inl left in
-            ap (λ c. cond c (value_at effect q t) (value_below effect q (node j u ns))) left
+            ap (λ c. cond c (tree_value effect q t) (value_below effect q (node j u ns))) left
             ∙ each low (Some j) t b.2
             ∙ sym (find-append q (holds effect t) (all_hold effect rest)
             ∙ ap (or_else (find key_cmp q (holds effect t))) (all-outside effect levels q (Some j) high rest b.3 out)
             ∙ or_else-None (find key_cmp q (holds effect t)))
         | inr right ↦
             let out : Outside low (Some j) q = inr right in
-            ap (λ c. cond c (value_at effect q t) (value_below effect q (node j u ns))) right
+            ap (λ c. cond c (tree_value effect q t) (value_below effect q (node j u ns))) right
             ∙ found-below levels each (Some j) high (node j u ns) b.3
             ∙ sym (find-append q (holds effect t) (all_hold effect rest) ∙ ap (λ z. or_else z (find key_cmp q (all_hold effect rest))) (tree-outside effect levels q low (Some j) t b.2 out))
       ]
@@ -52,6 +52,6 @@ pub value_below-held : {V M : Type 0} (effect : Option V → M → Option V) (le
 value_below-held effect levels low high ns k lie = found-below effect k levels (found effect k levels) low high ns lie
 
 -- the value along one path is the one in the map that the tree holds
-pub value_at-held : {V M : Type 0} (effect : Option V → M → Option V) (levels : ℕ) (low high : Option Key) (t : Tree V M) (k : Key) → Lies levels low high t →
-    value_at effect k t ≡ find key_cmp k (holds effect t)
-value_at-held effect levels low high t k lies = found effect k levels low high t lies
+pub tree_value-held : {V M : Type 0} (effect : Option V → M → Option V) (levels : ℕ) (low high : Option Key) (t : Tree V M) (k : Key) → Lies levels low high t →
+    tree_value effect k t ≡ find key_cmp k (holds effect t)
+tree_value-held effect levels low high t k lies = found effect k levels low high t lies

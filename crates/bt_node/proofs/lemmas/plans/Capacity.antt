@@ -3,7 +3,7 @@ use Rattle.std.proofs.Common.{◌≡◌, ℕ, zero, suc, ◌+◌, ◌<◌, ◌�
 use Rattle.std.proofs.lemmas.Bool.{le-leb, lt-leb, cond-true, cond-false, eqb-true, eqb-false}
 use Rattle.bt_node.specs.Plans.{total, most, place_of, fullest}
 use Rattle.bt_node.specs.Loops.{opened_at, settled}
-use Rattle.bt_node.specs.inside.Passes.{IsLight}
+use Rattle.bt_node.specs.Passes.{IsLight}
 use Rattle.bt_node.proofs.lemmas.plans.RenewedChoice.{le_or_lt, nothing}
 use Rattle.bt_node.proofs.lemmas.plans.OnePass.{settled-planned, total-light}
 

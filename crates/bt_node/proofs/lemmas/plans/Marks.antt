@@ -4,10 +4,10 @@ use Rattle.std.proofs.lemmas.List.{length-map}
 use Rattle.std.specs.List.{zip}
 use Rattle.bt_node.specs.Plans.{placed, planned}
 use Rattle.bt_node.specs.Marks.{flush_marks, is_among}
-use Rattle.bt_node.specs.declared.mode.Mode.{Mode}
-use Rattle.bt_node.specs.declared.mode.Mode.TheVariants.{Absorb, Drain}
+use Rattle.bt_node.specs.declared.form.mode.Mode.{Mode}
+use Rattle.bt_node.specs.declared.form.mode.Mode.TheVariants.{Absorb, Drain}
 use Rattle.bt_node.specs.inside.Marks.{marks_of, set_all}
-use Rattle.bt_node.specs.inside.Passes.{marked, marked_all, unmarked}
+use Rattle.bt_node.specs.Passes.{marked, marked_all, unmarked}
 use Rattle.bt_node.proofs.lemmas.plans.OnePass.{names}
 
 -- ---- marks beside items, and items with marks

@@ -3,7 +3,7 @@ use Rattle.std.proofs.Common.{◌≡◌, ℕ, zero, suc, ◌<◌, ◌≤◌, Boo
 use Rattle.std.proofs.lemmas.Bool.{le-leb, lt-leb, cond-true, cond-false}
 use Rattle.bt_node.specs.Plans.{total, most, place_of, fullest, planned, renewed}
 use Rattle.bt_node.specs.Loops.{opened_at, settled, replaced, items_at}
-use Rattle.bt_node.specs.inside.Passes.{passed, IsLight, marked, marked_all, unmarked}
+use Rattle.bt_node.specs.Passes.{passed, IsLight, marked, marked_all, unmarked}
 use Rattle.bt_node.proofs.lemmas.plans.RenewedChoice.{le_or_lt, nothing, renewed-planned}
 
 -- the items without their marks

@@ -3,9 +3,10 @@ use Rattle.std.proofs.Common.{◌≡◌, true, false, cond, [], ◌∷◌, refl,
 use Rattle.std.specs.Ordering.{eq_by_cmp}
 use Rattle.std.specs.declared.option.Option.{Option}
 use Rattle.std.specs.declared.option.Option.TheVariants.{None, Some}
-use Rattle.bt_keycode.specs.Keys.{Key, key_cmp, is_before, Within, AllFrom, AllWithin, IsSorted}
+use Rattle.bt_keycode.specs.Keys.{Key, key_cmp, is_before, Within, AllWithin, IsSorted}
 use Rattle.bt_node.specs.Messages.{Messages, value_after, with_message, with_messages}
-use Rattle.bt_keycode.proofs.offered.Order.{all_within-from, from_earlier, same_key, not_after, not_before_itself}
+use Rattle.bt_keycode.proofs.offered.Order.{all_within-from, same_key, not_before_itself}
+use Rattle.bt_messages.proofs.offered.Placed.{sorted-with_messages}
 use Rattle.bt_node.proofs.lemmas.rows.Values.{value-above}
 
 module _ {M : Type 0} where
@@ -19,24 +20,6 @@ module _ {M : Type 0} where
   pub within-with_messages : (low high : Option Key) (p b : Messages M) → AllWithin low high p → AllWithin low high b → AllWithin low high (with_messages p b)
   within-with_messages low high [] b p h = h
   within-with_messages low high (m ∷ ms) b p h = within-with_messages low high ms (with_message m b) p.1 (within-with_message low high m b p.0 h)
-
-  from-with_message : (k : Key) (m : Key × M) (b : Messages M) → is_before m.0 k ≡ false → AllFrom k b → AllFrom k (with_message m b)
-  from-with_message k m [] l h = (l, tt)
-  from-with_message k m (e ∷ es) l h = elim (is_before m.0 e.0) as (λ t. AllFrom k (cond t (m ∷ e ∷ es) (e ∷ with_message m es))) [
-    | true ↦ (l, h)
-    | false ↦ (h.0, from-with_message k m es l h.1)
-  ]
-
-  sorted-with_message : (m : Key × M) (b : Messages M) → IsSorted b → IsSorted (with_message m b)
-  sorted-with_message m [] r = (tt, tt)
-  sorted-with_message m (e ∷ es) r = elim (is_before m.0 e.0) as (λ t. is_before m.0 e.0 ≡ t → IsSorted (cond t (m ∷ e ∷ es) (e ∷ with_message m es))) [
-    | true ↦ λ t. let low = not_after m.0 e.0 t in ((low, from_earlier m.0 e.0 es low r.0), r)
-    | false ↦ λ t. (from-with_message e.0 m es t r.0, sorted-with_message m es r.1)
-  ] refl
-
-  pub sorted-with_messages : (p b : Messages M) → IsSorted b → IsSorted (with_messages p b)
-  sorted-with_messages [] b r = r
-  sorted-with_messages (m ∷ ms) b r = sorted-with_messages ms (with_message m b) (sorted-with_message m b r)
 
 module _ {V M : Type 0} (effect : Option V → M → Option V) where
   value-with_message : (q : Key) (m : Key × M) (b : Messages M) (o : Option V) → IsSorted b → value_after effect q (with_message m b) o ≡ value_after effect q (m ∷ []) (value_after effect q b o)
@@ -57,4 +40,4 @@ module _ {V M : Type 0} (effect : Option V → M → Option V) where
   -- the buffer's messages have their effect, and then the packet's
   pub value-with_messages : (q : Key) (p b : Messages M) (o : Option V) → IsSorted b → value_after effect q (with_messages p b) o ≡ value_after effect q p (value_after effect q b o)
   value-with_messages q [] b o r = refl
-  value-with_messages q (m ∷ ms) b o r = value-with_messages q ms (with_message m b) o (sorted-with_message m b r) ∙ ap (value_after effect q ms) (value-with_message q m b o r)
+  value-with_messages q (m ∷ ms) b o r = value-with_messages q ms (with_message m b) o (sorted-with_messages (m ∷ []) b r) ∙ ap (value_after effect q ms) (value-with_message q m b o r)

@@ -1,5 +1,5 @@
 -- Rows stay in order and within limits when messages change them.
-use Rattle.std.proofs.Common.{◌≡◌, Bool, true, false, ◌&&◌, T, [], ◌∷◌, refl, sym, subst}
+use Rattle.std.proofs.Common.{◌≡◌, true, T, [], ◌∷◌}
 use Rattle.std.specs.FinMap.{find, put, is_sorted}
 use Rattle.std.specs.FinMap.Entries.{below_all, is_sorted-put, is_sorted-where_key, by_order}
 use Rattle.std.specs.declared.cmp.Ordering.TheVariants.{Less, Equal, Greater}
@@ -10,25 +10,7 @@ use Rattle.bt_node.specs.Messages.{Rows, Messages, with_value, rows_after}
 use Rattle.bt_node.specs.Fits.{RowsLie}
 use Rattle.bt_keycode.proofs.offered.Order.{total_keys, before_later, not_after, not_before_itself, below-below, past-from}
 use Rattle.bt_node.proofs.lemmas.keys.Limits.{within-from, within-where}
-
-pub t_both : (a b : Bool) → T a → T b → T (a && b)
-t_both true b p q = q
-t_both false b p q = p
-
-pub t_first : (a b : Bool) → T (a && b) → T a
-t_first true b p = tt
-t_first false b p = p
-
-pub t_second : (a b : Bool) → T (a && b) → T b
-t_second true b p = p
-t_second false b p = absurd p
-
-pub t_true : (b : Bool) → b ≡ true → T b
-t_true b e = subst T (sym e) tt
-
-pub true_t : (b : Bool) → T b → b ≡ true
-true_t true h = refl
-true_t false h = absurd h
+use Rattle.bt_node.proofs.offered.Truths.{t_both, t_first, t_second, t_true, true_t}
 
 pub rows-within : {V : Type 0} (low high : Option Key) (rs : Rows V) → RowsLie low high rs → AllWithin low high rs
 rows-within low high [] b = tt

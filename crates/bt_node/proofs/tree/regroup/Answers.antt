@@ -1,9 +1,9 @@
 use Rattle.std.proofs.Common.{◌∙◌, ap, arith, length, rules, subst, sym}
 use Rattle.std.proofs.lemmas.Result.{IfOk-weaker}
-use Rattle.bt_messages.specs.Bins.{joined}
+use Rattle.bt_rowtype.specs.Lists.{concatenation}
 use Rattle.bt_messages.specs.Effects.{effect_of}
 use Rattle.bt_messages.specs.Weights.{weigh_of}
-use Rattle.bt_messages.proofs.offered.Parts.{joined_sorted}
+use Rattle.bt_messages.proofs.offered.Parts.{concatenation_sorted}
 use Rattle.bt_node.specs.Children.{AreDivided}
 use Rattle.bt_node.specs.Fits.{IsRoomy}
 use Rattle.bt_node.specs.Flushes.{grouped}
@@ -30,13 +30,13 @@ returns-clause-nodes g c =
 pub returns-clause-fits : goal.returns-clause-fits
 returns-clause-fits g c =
     let roomy : IsRoomy c.args.shape = search (has_room, rules) in
-    let sorted = joined_sorted _ c.args.bins c.requires.divided in
-    IfOk-weaker c.close.result _ _ (λ nodes is. fit_above (weigh_of g.V.Merge.terms) c.args.shape roomy c.args.siblings (joined c.args.bins) c.requires.several sorted nodes is c.requires.capacity)
+    let sorted = concatenation_sorted _ c.args.bins c.requires.divided in
+    IfOk-weaker c.close.result _ _ (λ nodes is. fit_above (weigh_of g.V.Merge.terms) c.args.shape roomy c.args.siblings (concatenation c.args.bins) c.requires.several sorted nodes is c.requires.capacity)
     (returns-clause-nodes g c)
 
 pub returns-clause-rows : goal.returns-clause-rows
 returns-clause-rows g c =
     let roomy : IsRoomy c.args.shape = search (has_room, rules) in
-    let sorted = joined_sorted _ c.args.bins c.requires.divided in
-    IfOk-weaker c.close.result _ _ (λ nodes is. hold_all_after (weigh_of g.V.Merge.terms) c.args.shape roomy c.args.siblings (joined c.args.bins) c.requires.several sorted nodes is (effect_of g.V.Merge.terms.merged))
+    let sorted = concatenation_sorted _ c.args.bins c.requires.divided in
+    IfOk-weaker c.close.result _ _ (λ nodes is. hold_all_after (weigh_of g.V.Merge.terms) c.args.shape roomy c.args.siblings (concatenation c.args.bins) c.requires.several sorted nodes is (effect_of g.V.Merge.terms.merged))
     (returns-clause-nodes g c)

@@ -4,7 +4,7 @@ use Rattle.std.specs.List.{filter_map}
 use Rattle.std.specs.Result.{result_err, result_ok}
 use Rattle.bt_rowtype.specs.Ops.{ops_of}
 use Rattle.bt_rowtype.specs.Refusals.{least_from}
-use Rattle.bt_rowtype.specs.declared.op.Op.{Op}
+use Rattle.bt_rowtype.specs.declared.upsert.op.Op.{Op}
 use Rattle.bt_rowtype.specs.declared.refusal.Refusal.{Refusal}
 use Rattle.bt_rowtype.proofs.offered.Readings.{is_answer, with_refusal, with_value}
 use Rattle.bt_rowtype.proofs.Groups.{op_of_fields, ops_end, ops_more}
@@ -41,18 +41,10 @@ loop-group-preserved c =
 
 pub returns-clause-values : goal.returns-clause-values
 returns-clause-values c =
-    let schema = c.args.schema.now in
-    let fields = c.args.fields.now in
-    let place = c.keys-keys.result + 3 * c.loop-group.group in
-    let short : length fields < place + 3 = omega arith in
-    let none = ops_end schema c.args.item fields place short in
+    let none = ops_end c.args.schema.now c.args.item c.args.fields.now (c.keys-keys.result + 3 * c.loop-group.group) (omega arith) in
     sym (c.loop-group.invariant.values ∙ ap (λ (l : List (Result Op Refusal)). c.loop-group.reading.values ++ filter_map result_ok l) none ∙ append-nil c.loop-group.reading.values)
 
 pub returns-clause-refusal : goal.returns-clause-refusal
 returns-clause-refusal c =
-    let schema = c.args.schema.now in
-    let fields = c.args.fields.now in
-    let place = c.keys-keys.result + 3 * c.loop-group.group in
-    let short : length fields < place + 3 = omega arith in
-    let none = ops_end schema c.args.item fields place short in
+    let none = ops_end c.args.schema.now c.args.item c.args.fields.now (c.keys-keys.result + 3 * c.loop-group.group) (omega arith) in
     sym (c.loop-group.invariant.refusal ∙ ap (λ (l : List (Result Op Refusal)). least_from c.loop-group.reading.refusal (filter_map result_err l)) none)

@@ -1,9 +1,9 @@
-use Rattle.std.proofs.Common.{List, Option, Some, [], ◌∷◌, ◌++◌, ◌≡◌, ◌∙◌, refl, sym, ap, rules, codes, true, false}
+use Rattle.std.proofs.Common.{List, Option, Some, [], ◌≡◌, ◌∙◌, refl, sym, ap, rules, codes}
 use Rattle.bt_script.specs.inside.Blocks.{and_line}
 use Rattle.bt_script.specs.Commands.{items_of}
 use Rattle.bt_script.specs.Lines.{without_return}
 use Rattle.bt_rowtype.specs.declared.item.Item.{Item}
-use Rattle.bt_script.proofs.Machine.{items-more, leads-closed, leads-cut, leads-more, tested}
+use Rattle.bt_script.proofs.Machine.{items-more, read-closed, read-cut, read-more}
 use Rattle.bt_script.proofs.blocks.read_items.Goals as goal
 
 no_items : items_of [] ≡ Some []
@@ -15,27 +15,17 @@ loop-at-init c = record { within = search rules; past = search rules; so_far = (
 
 pub loop-at-preserved : goal.loop-at-preserved
 loop-at-preserved c =
-    let block = c.loop-at.invariant.so_far in
-    let line = c.next_line-next.result.0.now in
-    let other = tested line c.without_return-line.result.now (codes "end") c.is_word.result false c.without_return-line.ensures c.is_word.ensures c.if-is_word.false in
-    record {
-      within = search rules;
-      past = search rules;
-      so_far = (
-        block.0 ++ line ∷ [],
-        c.in_ok-items.ensures ∙ ap (and_line c.loop-at.items) c.without_return-line.ensures ∙ ap (λ (items : Option (List Item)). and_line items (without_return line)) block.1 ∙ sym (items-more block.0 line),
-        leads-more c.args.script.now c.args.start c.loop-at.at c.next_line-next.result.1 (codes "end") line block.0 block.2 c.next_line-next.ensures.line other,
-      );
-    }
+    let read = c.next_line-next in
+    let line = read.result.0.now in
+    read-more c.args.script.now c.args.start c.loop-at.at (codes "end") _ c.loop-at.invariant read.result.1 line c.without_return-line.result.now c.is_word.result _ read.ensures.line
+    (read.ensures.past, read.ensures.within) c.without_return-line.ensures c.is_word.ensures c.if-is_word.false (λ block made.
+    c.in_ok-items.ensures ∙ ap (and_line c.loop-at.items) c.without_return-line.ensures ∙ ap (λ (items : Option (List Item)). and_line items (without_return line)) made ∙ sym (items-more block line))
 
 pub returns-then-is_word-clause-block : goal.returns-then-is_word-clause-block
 returns-then-is_word-clause-block c =
-    let block = c.loop-at.invariant.so_far in
-    let line = c.next_line-next.result.0.now in
-    let closes = tested line c.without_return-line.result.now (codes "end") c.is_word.result true c.without_return-line.ensures c.is_word.ensures c.if-is_word.true in
-    (block.0, block.1, leads-closed c.args.script.now c.args.start c.loop-at.at c.next_line-next.result.1 (codes "end") line block.0 block.2 c.next_line-next.ensures.line closes)
+    let read = c.next_line-next in
+    read-closed c.args.script.now c.args.start c.loop-at.at (codes "end") _ c.loop-at.invariant read.result.1 read.result.0.now c.without_return-line.result.now c.is_word.result read.ensures.line
+    c.without_return-line.ensures c.is_word.ensures c.if-is_word.true
 
 pub returns-clause-block : goal.returns-clause-block
-returns-clause-block c =
-    let block = c.loop-at.invariant.so_far in
-    (block.0, block.1, leads-cut c.args.script.now c.args.start c.loop-at.at (codes "end") block.0 block.2 c.loop-at-test.false)
+returns-clause-block c = read-cut c.args.script.now c.args.start c.loop-at.at (codes "end") _ c.loop-at.invariant c.loop-at-test.false

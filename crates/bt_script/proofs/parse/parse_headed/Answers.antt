@@ -1,8 +1,8 @@
 use Rattle.std.proofs.Common.{[], ◌≡◌, ◌∙◌, None, Some, codes, ap, rules}
-use Rattle.bt_script.specs.inside.Blocks.{ended}
+use Rattle.bt_script.specs.inside.Blocks.{block_answer}
 use Rattle.bt_script.specs.Commands.{closing_of, command_of, load_command}
 use Rattle.bt_script.specs.Lines.{text_of_lines, words}
-use Rattle.bt_script.proofs.Machine.{ended-load, headed-block, headed-line}
+use Rattle.bt_script.proofs.Machine.{load-answer, headed-block, headed-line}
 use Rattle.bt_script.proofs.parse.parse_headed.Goals as goal
 
 pub returns-then-begins-clause-found : goal.returns-then-begins-clause-found
@@ -12,7 +12,7 @@ returns-then-begins-clause-found c =
     let block = c.in_ok-content.ensures.block in
     let closes : closing_of (words head) ≡ Some (codes "end") = search rules in
     let made : command_of head block.0 ≡ c.batch_command.result = search rules in
-    headed-block _ c.args.script.now head _ c.args.at _ _ _ _ closes block.2 (ap (ended _) made) (c.parsed.ensures.found _)
+    headed-block _ c.args.script.now head _ c.args.at _ _ _ closes block.2 (ap (block_answer _) made) (c.parsed.ensures.found _)
 
 pub returns-then-begins-2-clause-found : goal.returns-then-begins-2-clause-found
 unfolding closing_of command_of
@@ -21,7 +21,7 @@ returns-then-begins-2-clause-found c =
     let block = c.read_bounds-content.ensures.block in
     let closes : closing_of (words head) ≡ Some (codes "go") = search rules in
     let made : command_of head block.0 ≡ c.in_ok-command.command = search rules in
-    headed-block _ c.args.script.now head _ c.args.at _ _ _ _ closes block.2 (ap (ended _) made) (c.parsed-then-begins-2.ensures.found _)
+    headed-block _ c.args.script.now head _ c.args.at _ _ _ closes block.2 (ap (block_answer _) made) (c.parsed-then-begins-2.ensures.found _)
 
 pub returns-then-begins-3-clause-found : goal.returns-then-begins-3-clause-found
 unfolding closing_of command_of
@@ -30,19 +30,19 @@ returns-then-begins-3-clause-found c =
     let block = c.read_bounds-content-then-begins-3.ensures.block in
     let closes : closing_of (words head) ≡ Some (codes "go") = search rules in
     let made : command_of head block.0 ≡ c.in_ok-command-2.command = search rules in
-    headed-block _ c.args.script.now head _ c.args.at _ _ _ _ closes block.2 (ap (ended _) made) (c.parsed-then-begins-3.ensures.found _)
+    headed-block _ c.args.script.now head _ c.args.at _ _ _ closes block.2 (ap (block_answer _) made) (c.parsed-then-begins-3.ensures.found _)
 
 pub returns-then-begins-4-clause-found : goal.returns-then-begins-4-clause-found
 unfolding closing_of command_of
 returns-then-begins-4-clause-found c =
     let head = c.args.head.now in
-    let read = c.read_text-content.result in
-    let block = c.read_text-content.ensures.block in
+    let read = c.read_block_text-content.result in
+    let block = c.read_block_text-content.ensures.block in
     let closes : closing_of (words head) ≡ Some (codes ".") = search rules in
     let found : command_of head block.0 ≡ load_command (words head) (text_of_lines block.0) = search rules in
     let made : load_command (words head) read.content ≡ c.load_command.result = search rules in
-    let same = ap (ended read.closed) found ∙ ended-load read.closed (words head) read.content (text_of_lines block.0) block.1 ∙ ap (ended read.closed) made in
-    headed-block _ c.args.script.now head _ c.args.at _ _ _ _ closes block.2 same (c.parsed-then-begins-4.ensures.found _)
+    let same = ap (block_answer read.end) found ∙ load-answer read.end (words head) read.content (text_of_lines block.0) block.1 ∙ ap (block_answer read.end) made in
+    headed-block _ c.args.script.now head _ c.args.at _ _ _ closes block.2 same (c.parsed-then-begins-4.ensures.found _)
 
 pub returns-clause-found : goal.returns-clause-found
 unfolding closing_of command_of

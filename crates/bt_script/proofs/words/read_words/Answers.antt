@@ -23,7 +23,7 @@ has_fault words kind OutOfMemory given comes = tt
 pub returns-in-Err-clause-err : goal.returns-in-Err-clause-err
 returns-in-Err-clause-err c =
     let given = subst (λ (words : List Text). HasKind (kinds_of_words words) c.in-Err.error) c.as_slice.ensures c.in-Err.ensures.kinds in
-    has_fault c.args.words.now (kind_of c.in-Err.error) c.fault_of.result given c.fault_of.ensures
+    has_fault c.args.words.now (kind_of c.in-Err.error) c.words_error.result given c.words_error.ensures
 
 pub returns-in_ok-text_of-in-Ok : goal.returns-in_ok-text_of-in-Ok
 returns-in_ok-text_of-in-Ok c =

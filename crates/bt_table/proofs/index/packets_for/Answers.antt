@@ -1,7 +1,7 @@
 use Rattle.std.proofs.Common.{◌∙◌, ◌++◌, ◌∷◌, [], ap, arith, length, subst, sym}
 use Rattle.std.specs.List.{All}
 use Rattle.bt_fanout.specs.Effects.{SuitsEffect}
-use Rattle.bt_table.specs.inside.IndexTrees.{packet_for, sent_for}
+use Rattle.bt_table.specs.inside.IndexTrees.{packet_for, count_for}
 use Rattle.bt_table.proofs.Mapped.{mapped_next}
 use Rattle.bt_table.proofs.index.packets_for.Goals as goal
 
@@ -18,5 +18,5 @@ loop-head-preserved g c =
       sent =
           let name = ap (λ n. record { name = n; count = c.len-count.result }) c.in_ok-name.ensures in
           let count = ap (λ k. record { name = head.name; count = k }) (c.len-count.ensures.count ∙ ap length c.in_ok-packet.ensures.packet) in
-          mapped_next (sent_for effects) c.args.heads.now c.loop-head.sent _ c.loop-head.head-index head _ (omega arith) c.loop-head.invariant.sent c.head-item.is (name ∙ count) c.in_ok-push.ensures.ok;
+          mapped_next (count_for effects) c.args.heads.now c.loop-head.sent _ c.loop-head.head-index head _ (omega arith) c.loop-head.invariant.sent c.head-item.is (name ∙ count) c.in_ok-push.ensures.ok;
     }

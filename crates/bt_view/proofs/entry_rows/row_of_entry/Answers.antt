@@ -17,7 +17,7 @@ returns c =
     let key = c.args.key.now in
     let included = c.args.entry.now in
     let read : (values : List Value) × ((c.decode_onto.new.row ≡ c.new-row.result ++ values) × IsCodeOf kinds key values) = c.in-Ok.ensures.code in
-    let added : c.add_first.new.values ≡ c.decode_onto.new.row ++ take (length included) included = search rules in
+    let added : c.push_first.new.self ≡ c.decode_onto.new.row ++ take (length included) included = search rules in
     sym (
     ap (option_map (λ values. values ++ included)) (values_of_code kinds key read.0 read.1.1)
     ∙ ap (λ more. Some (read.0 ++ more)) (sym (take-length included))

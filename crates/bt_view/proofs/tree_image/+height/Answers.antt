@@ -4,9 +4,7 @@ use Rattle.bt_view.proofs.Drawings.{child_below, highest_last, highest_next}
 use Rattle.bt_view.proofs.tree_image.+height.Goals as goal
 
 pub height-requires : goal.height-requires
-height-requires g t c κs within =
-    let lower = child_below c.args.walk.now c.child-child.result c.loop-place.place c.child-child.ensures in
-    (omega (arith, lower, c.decreases), within)
+height-requires g t c κs within = (omega (arith, child_below c.args.walk.now c.child-child.result c.loop-place.place c.child-child.ensures, c.decreases), within)
 
 pub loop-place-preserved : goal.loop-place-preserved
 loop-place-preserved g t c =

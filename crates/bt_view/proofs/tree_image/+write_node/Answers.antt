@@ -5,9 +5,7 @@ use Rattle.bt_view.proofs.Drawings.{child_below, child_written, node_written}
 use Rattle.bt_view.proofs.tree_image.+write_node.Goals as goal
 
 pub write_node-requires : goal.write_node-requires
-write_node-requires g t c κs within =
-    let lower = child_below c.args.walk.now c.child-child.result c.loop-place.place c.child-child.ensures in
-    (omega (arith, lower, c.decreases), within)
+write_node-requires g t c κs within = (omega (arith, child_below c.args.walk.now c.child-child.result c.loop-place.place c.child-child.ensures, c.decreases), within)
 
 pub loop-place-preserved : goal.loop-place-preserved
 loop-place-preserved g t c =

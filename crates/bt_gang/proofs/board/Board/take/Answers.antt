@@ -1,7 +1,7 @@
 use Rattle.std.proofs.Common.{◌≡◌, ◌<◌, [], ◌∷◌, None, Some, length, length-append, set, get_or, drop, ap, refl, sym, ◌∙◌, arith, subst}
 use Rattle.std.proofs.lemmas.List.{drop_all}
 use Rattle.bt_gang.specs.Numbers.{below}
-use Rattle.bt_gang.specs.Board.{after_take, held_by, IsAccounted}
+use Rattle.bt_gang.specs.Board.{after_take, held_job, IsAccounted}
 use Rattle.bt_gang.proofs.Numbers.{length-below}
 use Rattle.bt_gang.proofs.Accounts.{accounts}
 use Rattle.bt_gang.proofs.Takers.{front_waits, kept_take, take_reached}
@@ -21,7 +21,7 @@ pub invariant_of-self : goal.invariant_of-self
 invariant_of-self c =
     let i = c.self.invariant in
     let items = c.push_reserved.ensures.items in
-    let none : get_or c.self.inside.held.items c.args.worker None ≡ None = ap (λ b. held_by c.args.worker b.state) c.self.view_is ∙ c.requires.free in
+    let none : get_or c.self.inside.held.items c.args.worker None ≡ None = ap (λ b. held_job c.args.worker b.state) c.self.view_is ∙ c.requires.free in
     let here : c.args.worker < length c.self.inside.held.items = omega (arith, ap (λ b. length b.state.held) c.self.view_is, c.requires.worker) in
     let front : c.len-front.result ≡ length c.self.inside.takers.items = omega (arith, c.len-front.ensures, c.self.inside.takers.ok.0) in
     let free : length c.self.inside.takers.items < c.self.inside.put = omega (arith, front, c.if-front-self.false, i.2) in (

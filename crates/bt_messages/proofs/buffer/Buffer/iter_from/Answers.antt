@@ -7,4 +7,4 @@ pub of_sorted-requires : goal.of_sorted-requires
 of_sorted-requires g c =
     let same = c.deref.ensures.value ∙ sym c.as_slice.ensures.value in
     let sorted : IsSorted c.as_slice.result.now = search rules in
-    tail_sorted c.args.key.now c.as_slice.result.now _ c.place_of-place.result sorted (ap (drop c.place_of-place.result) same ∙ c.place_of-place.ensures.from)
+    tail_sorted c.args.key.now c.as_slice.result.now _ c.count_before-place.result sorted (ap (drop c.count_before-place.result) same ∙ c.count_before-place.ensures.from)

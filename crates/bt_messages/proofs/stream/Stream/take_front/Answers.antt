@@ -1,5 +1,5 @@
 use Rattle.std.proofs.Common.{◌≤◌, ◌-◌, ◌++◌, ◌∙◌, ap, arith, subst, sym, take}
-use Rattle.bt_messages.specs.Bins.{joined}
+use Rattle.bt_rowtype.specs.Lists.{concatenation}
 use Rattle.bt_messages.specs.inside.Runs.{AreSome}
 use Rattle.bt_messages.proofs.RunLists.{all_runs, enough_left, none_left, run_taken, some-push}
 use Rattle.bt_messages.proofs.stream.Stream.take_front.Goals as goal
@@ -11,7 +11,7 @@ loop-left-preserved g c =
     let few : c.count-left.result ≤ c.loop-left.left = omega (arith, c.in_ok-run.ensures.few, c.count-left.ensures.count) in
     let next = run_taken c.loop-left.self c.pop_some.new.self run runs c.loop-left.left c.count-left.result _ _ c.in_ok-run.ensures.taken c.count-left.ensures.count few c.loop-left.invariant.taken c.loop-left.invariant.left in
     record {
-      taken = ap (λ rs. joined rs ++ take (c.loop-left.left - c.count-left.result) c.pop_some.new.self) c.in_ok-push.ensures.items ∙ next.0;
+      taken = ap (λ rs. concatenation rs ++ take (c.loop-left.left - c.count-left.result) c.pop_some.new.self) c.in_ok-push.ensures.items ∙ next.0;
       left = next.1;
       enough = enough_left c.loop-left.self c.pop_some.new.self run c.loop-left.left c.count-left.result c.in_ok-run.ensures.taken c.count-left.ensures.count c.loop-left.invariant.enough;
       some = subst AreSome (sym c.in_ok-push.ensures.items) (some-push runs run c.loop-left.invariant.some c.in_ok-run.ensures.some);
@@ -25,7 +25,7 @@ from_runs-requires g c =
 pub returns-clause-taken : goal.returns-clause-taken
 returns-clause-taken g c =
     let done = none_left c.loop-left.runs.items c.loop-left.self _ _ c.loop-left.left c.loop-left-test.false c.loop-left.invariant.taken c.loop-left.invariant.left in
-    c.from_runs.ensures ∙ ap (λ ms. ms ++ joined c.loop-left.runs.items) c.new.ensures ∙ done.0
+    c.from_runs.ensures ∙ ap (λ ms. ms ++ concatenation c.loop-left.runs.items) c.new.ensures ∙ done.0
 
 pub returns-clause-left : goal.returns-clause-left
 returns-clause-left g c = (none_left c.loop-left.runs.items c.loop-left.self _ _ c.loop-left.left c.loop-left-test.false c.loop-left.invariant.taken c.loop-left.invariant.left).1

@@ -1,11 +1,11 @@
 use Rattle.std.proofs.Common.{◌≡◌, ◌≤◌, ◌++◌, drop, length, take}
-use Rattle.bt_messages.specs.Bins.{joined}
+use Rattle.bt_rowtype.specs.Lists.{concatenation}
 use Rattle.bt_messages.specs.inside.Runs.{AreSome}
 use Rattle.bt_messages.proofs.stream.Stream.take_front.Given as goal
 
 abbrev pub invariant-loop-left : goal.invariant-loop-left
 invariant-loop-left g l = record {
-  taken : joined l.runs.items ++ take l.left l.self ≡ take l.count l.fn.self;
+  taken : concatenation l.runs.items ++ take l.left l.self ≡ take l.count l.fn.self;
   left : drop l.left l.self ≡ drop l.count l.fn.self;
   enough : l.left ≤ length l.self;
   some : AreSome l.runs.items;

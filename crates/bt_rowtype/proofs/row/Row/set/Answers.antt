@@ -21,12 +21,12 @@ overflow_add-end c =
     let end = ends_within c.as_slice-bytes.result.now c.offset-at.result c.width_at.result c.offset-at.ensures.within c.offset-at.ensures.rest c.width_at.ensures in
     search (arith, end)
 
-pub replaced-requires-clause-within : goal.replaced-requires-clause-within
-replaced-requires-clause-within c = ends_within c.as_slice-bytes.result.now c.offset-at.result c.width_at.result c.offset-at.ensures.within c.offset-at.ensures.rest c.width_at.ensures
+pub replacement-requires-clause-within : goal.replacement-requires-clause-within
+replacement-requires-clause-within c = ends_within c.as_slice-bytes.result.now c.offset-at.result c.width_at.result c.offset-at.ensures.within c.offset-at.ensures.rest c.width_at.ensures
 
 -- how the new bytes come from the old ones
-with_value : (bytes new : List ℕ) (at width : ℕ) (v : Value) → new ≡ take at bytes ++ (packed_value v ++ drop (at + width) bytes) → width ≡ width_of (drop at bytes) → Replaces bytes new at v
-with_value bytes new at width v is wide = record { bytes = is ∙ ap (λ w. take at bytes ++ (packed_value v ++ drop (at + w) bytes)) wide }
+replaces_value : (bytes new : List ℕ) (at width : ℕ) (v : Value) → new ≡ take at bytes ++ (packed_value v ++ drop (at + width) bytes) → width ≡ width_of (drop at bytes) → Replaces bytes new at v
+replaces_value bytes new at width v is wide = record { bytes = is ∙ ap (λ w. take at bytes ++ (packed_value v ++ drop (at + w) bytes)) wide }
 
 begins : (bytes : List ℕ) (at : ℕ) → at ≤ length bytes → (at ≡ length bytes → ⊥) → at < length bytes
 begins bytes at within other = omega (arith, within, other)
@@ -38,7 +38,7 @@ invariant_of-self c =
     replaced_packed bytes c.in_ok-new.new c.args.place c.offset-at.result (shown c.args.value) is c.offset-at.ensures
     (begins bytes c.offset-at.result c.offset-at.ensures.within c.if-at-bytes.false)
     c.in_ok-new.ensures.in_range
-    (with_value bytes c.in_ok-new.new c.offset-at.result c.width_at.result (shown c.args.value) c.in_ok-new.ensures.bytes c.width_at.ensures)
+    (replaces_value bytes c.in_ok-new.new c.offset-at.result c.width_at.result (shown c.args.value) c.in_ok-new.ensures.bytes c.width_at.ensures)
 
 pub returns-clause-ok : goal.returns-clause-ok
 returns-clause-ok c =
@@ -48,5 +48,5 @@ returns-clause-ok c =
     replaced bytes c.in_ok-new.new c.args.place c.offset-at.result (shown c.args.value) is c.offset-at.ensures
     (begins bytes c.offset-at.result c.offset-at.ensures.within c.if-at-bytes.false)
     c.in_ok-new.ensures.in_range
-    (with_value bytes c.in_ok-new.new c.offset-at.result c.width_at.result (shown c.args.value) c.in_ok-new.ensures.bytes c.width_at.ensures)
+    (replaces_value bytes c.in_ok-new.new c.offset-at.result c.width_at.result (shown c.args.value) c.in_ok-new.ensures.bytes c.width_at.ensures)
     ∙ ap (λ (row : List Value). set row c.args.place (shown c.args.value)) same

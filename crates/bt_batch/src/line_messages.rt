@@ -1,0 +1,102 @@
+//! The messages that the records of a batch spell.
+ghost use Rattle.std.specs.Prelude.{◌≡◌, ◌+◌, ◌<◌, ◌^◌, ◌∷◌, [], Some, IfOk, length};
+ghost use Rattle.std.specs.List.{filter_map};
+ghost use Rattle.std.specs.Result.{result_err, result_ok};
+ghost use Rattle.bt_rowtype.specs.Answers.{Answers};
+ghost use Rattle.bt_rowtype.specs.Refusals.{least, least_from};
+ghost use Rattle.bt_batch.specs.Batches as spec;
+
+use bt_keycode::{Key, encode_row};
+use bt_messages::Message;
+use bt_rowtype::{Collected, Item, RecordReader, Refusal, Row, Schema, least_with};
+use std::alloc::{AllocError, Global};
+
+/// The most messages of a batch.
+pub const MOST_MESSAGES: usize = 65_536;
+
+// The message that a line spells, or its refusal as this item.
+fn read_message(
+    alloc: Global,
+    reader: &mut RecordReader,
+    schema: &Schema,
+    item: u64,
+    line: &Item<'_>,
+) -> Result<(Key, Message<Row>), Refusal>
+    ensures { Answers (spec.read_message schema.now item line.now) result }
+{
+    match line {
+        Item::Put(fields) => {
+            let row = reader.read_row(alloc, schema, item, fields)?;
+            let key = encode_row(alloc, &row, schema.keys())?;
+            Ok((key, Message::Put(row)))
+        }
+        Item::Del(fields) => {
+            let key = reader.read_key(alloc, schema, item, fields)?;
+            Ok((encode_row(alloc, &key, key.len())?, Message::Del))
+        }
+        Item::Ups(fields) => {
+            let change = reader.read_change(alloc, schema, item, fields)?;
+            let key = encode_row(alloc, change.base(), schema.keys())?;
+            Ok((key, Message::Ups(change)))
+        }
+    }
+}
+
+/// What lines of a batch spell that stand behind so many others: their messages, and the least refusal if one of them is refused.
+pub(crate) fn read_lines(
+    alloc: Global,
+    schema: &Schema,
+    before: usize,
+    lines: &[Item<'_>],
+) -> Result<Collected<(Key, Message<Row>)>, AllocError>
+    requires { before + length lines.now < 2 ^ 63 }
+    ensures messages { IfOk result (λ read. read.values ≡ filter_map result_ok (spec.read_batch schema.now (before + 1) lines.now)) }
+    ensures refusal { IfOk result (λ read. read.refusal ≡ least (filter_map result_err (spec.read_batch schema.now (before + 1) lines.now))) }
+{
+    let mut reader = RecordReader::new(alloc);
+    let mut reading = Collected::new(alloc);
+    for (place, line) in lines.iter().enumerate() {
+        let item = before as u64 + place as u64 + 1;
+        reading.add(read_message(alloc, &mut reader, schema, item, line))?;
+    }
+    Ok(reading)
+}
+
+// The refusal of a line as this item, if it spells no message.
+fn refusal_of(
+    alloc: Global,
+    reader: &mut RecordReader,
+    schema: &Schema,
+    item: u64,
+    line: &Item<'_>,
+) -> Result<Option<Refusal>, AllocError>
+    ensures { IfOk result (λ refusal. refusal ≡ result_err (spec.read_message schema.now item line.now)) }
+{
+    match read_message(alloc, reader, schema, item, line) {
+        Ok(message) => {
+            drop(message);
+            Ok(None)
+        }
+        Err(Refusal::OutOfMemory) => Err(AllocError),
+        Err(other) => Ok(Some(other)),
+    }
+}
+
+/// The refusal of a batch that has too many lines: no message is kept, and the least of the lines' refusals goes before the
+/// limit's where it is less.
+pub(crate) fn refuse_many(
+    alloc: Global,
+    schema: &Schema,
+    items: &[Item<'_>],
+) -> Result<Refusal, AllocError>
+    ensures { IfOk result (λ refusal. least_from (least (filter_map result_err (spec.read_batch schema.now 1 items.now))) (Refusal.TooMany ∷ []) ≡ Some refusal) }
+{
+    let mut reader = RecordReader::new(alloc);
+    let mut found = None;
+    for (place, line) in items.iter().enumerate() {
+        if let Some(refusal) = refusal_of(alloc, &mut reader, schema, place as u64 + 1, line)? {
+            found = Some(least_with(found, refusal));
+        }
+    }
+    Ok(least_with(found, Refusal::TooMany))
+}

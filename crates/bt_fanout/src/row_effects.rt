@@ -1,0 +1,177 @@
+//! What messages do to the rows of their keys.
+ghost use Rattle.std.specs.Prelude.{◌≡◌, ◌+◌, ◌<◌, ◌^◌, IfOk, OnOk, drop, length, map, option_map};
+ghost use Rattle.bt_keycode.specs.Keys.{IsSorted};
+ghost use Rattle.bt_node.specs.Flushes.{holds};
+ghost use Rattle.bt_fanout.specs.Effects.{effects_within, row_effect};
+ghost use Rattle.bt_fanout.specs.inside.Groups.{behind_group, effects_in, group_count, groups_within, value_after_first, with_next};
+
+use crate::cover::{Cover, covers};
+use crate::effect::Effect;
+use bt_gang::{Crew, Gate};
+use bt_gather::values;
+use bt_keycode::Key;
+use bt_messages::{BufferMessages, Message, Packet, effect_borrowed};
+use bt_node::Tree;
+use bt_rowtype::{Row, copy_row};
+use std::alloc::{AllocError, Global};
+use std::cmp::Ordering;
+use std::sync::Wait;
+use std::thread::Threads;
+
+// ---- the keys
+
+// The keys that a packet names, each once and in order, and beside each how many messages it has behind its first one.
+#[derive(Drop)]
+struct NamedKeys<'a> {
+    keys: Vec<&'a Key>,
+    others: Vec<usize>,
+}
+
+// How many messages are to this key before the first to another one, and that one, from which on messages are left.
+fn messages_behind<'a>(
+    key: &Key,
+    messages: &mut BufferMessages<'a, Row>,
+) -> (usize, Option<(&'a Key, &'a Message<Row>)>)
+    requires { length messages.old < 2 ^ 63 }
+    ensures count { result.0 ≡ group_count key.now messages.old }
+    ensures rest { with_next (option_map (λ m. (m.0.now, m.1.now)) result.1) messages.new ≡ behind_group key.now messages.old }
+{
+    let mut count = 0;
+    while let Some((at, message)) = messages.next() {
+        if key.compare(at) != Ordering::Equal {
+            return (count, Some((at, message)));
+        }
+        count += 1;
+    }
+    (count, None)
+}
+
+// The keys that a packet names, as far as a cover goes: behind the first that it doesn't cover none is looked at.
+fn named_keys<'a>(
+    alloc: Global,
+    packet: &'a Packet<Row>,
+    cover: &Cover,
+) -> Result<NamedKeys<'a>, AllocError>
+    ensures keys { IfOk result (λ named. map (λ k. k.now) named.keys.items ≡ map (λ g. g.0) (groups_within cover.now packet.now)) }
+    ensures others { IfOk result (λ named. named.others.items ≡ map (λ g. g.1) (groups_within cover.now packet.now)) }
+    ensures sorted { IsSorted packet.now }
+{
+    let mut keys = Vec::new(alloc);
+    let mut others = Vec::new(alloc);
+    let _bound = packet.len();
+    let mut messages = packet.iter();
+    let mut next = messages.next();
+    while let Some((key, _message)) = next {
+        if !covers(cover, key) {
+            return Ok(NamedKeys { keys, others });
+        }
+        let (count, other) = messages_behind(key, &mut messages);
+        keys.push(key)?;
+        others.push(count)?;
+        next = other;
+    }
+    Ok(NamedKeys { keys, others })
+}
+
+// ---- the effects
+
+// A copy of a row, if there is one.
+fn copy_of(alloc: Global, row: &Option<Row>) -> Result<Option<Row>, AllocError>
+    ensures { IfOk result (λ copy. copy ≡ row.now) }
+{
+    match row {
+        Some(row) => Ok(Some(copy_row(alloc, row)?)),
+        None => Ok(None),
+    }
+}
+
+// What a message makes of a row, or of none, that stays. Only an upsert looks at it, so it is copied for that alone.
+fn effect_on(
+    alloc: Global,
+    before: &Option<Row>,
+    message: &Message<Row>,
+) -> Result<Option<Row>, AllocError>
+    ensures { IfOk result (λ after. after ≡ row_effect before.now message.now) }
+{
+    match message {
+        Message::Put(row) => Ok(Some(copy_row(alloc, row)?)),
+        Message::Del => Ok(None),
+        Message::Ups(_) => effect_borrowed(alloc, copy_of(alloc, before)?, message),
+    }
+}
+
+// What the next message, and so many others behind it, make of a row, or of none, that stays.
+fn row_after(
+    alloc: Global,
+    before: &Option<Row>,
+    others: usize,
+    messages: &mut BufferMessages<'_, Row>,
+) -> Result<Option<Row>, AllocError>
+    ensures value { IfOk result (λ after. after ≡ value_after_first row_effect (others + 1) messages.old before.now) }
+    ensures rest { OnOk result (messages.new ≡ drop (others + 1) messages.old) }
+{
+    let Some((_key, first)) = messages.next() else {
+        return copy_of(alloc, before);
+    };
+    let mut after = effect_on(alloc, before, first)?;
+    for _ in 0..others {
+        let Some((_key, message)) = messages.next() else {
+            return Ok(after);
+        };
+        after = effect_borrowed(alloc, after, message)?;
+    }
+    Ok(after)
+}
+
+// The effects of a packet on its keys, which had these rows. No keys are compared.
+fn effects_on(
+    alloc: Global,
+    packet: &Packet<Row>,
+    named: &NamedKeys<'_>,
+    rows: Vec<Option<Row>>,
+) -> Result<Vec<Effect>, AllocError>
+    requires keys { length named.now.keys.items ≡ length rows.items }
+    requires others { length named.now.others.items ≡ length rows.items }
+    ensures { IfOk result (λ effects. effects.items ≡ effects_in (map (λ k. k.now) named.now.keys.items) named.now.others.items rows.items packet.now) }
+{
+    let mut effects = Vec::with_capacity(alloc, rows.len())?;
+    let mut messages = packet.iter();
+    for before in rows {
+        let place = effects.len();
+        let after = row_after(alloc, &before, named.others[place], &mut messages)?;
+        let key = named.keys[place].copy(alloc)?;
+        effects.push(Effect { key, before, after })?;
+    }
+    Ok(effects)
+}
+
+/// What the messages of a packet do to the rows of a tree, which doesn't have them yet: for each key that they name and the cover covers, the row
+/// before and the row after, in order of the keys. The rows are looked up by a crew; other keys are neither looked up nor copied.
+pub fn effects<G: Gate + Sync, T: Threads + Wait + Sync>(
+    rt: &T,
+    alloc: Global,
+    tree: &Tree<Row>,
+    packet: &Packet<Row>,
+    cover: &Cover,
+    crew: &Crew<G>,
+) -> Result<Vec<Effect>, AllocError>
+    ensures { IfOk result (λ effects. effects.items ≡ effects_within cover.now packet.now (holds row_effect tree.now.1)) }
+{
+    let named = named_keys(alloc, packet, cover)?;
+    let rows = values(rt, alloc, tree, named.keys.as_slice(), crew)?;
+    effects_on(alloc, packet, &named, rows)
+}
+
+/// The same, where the caller alone looks the rows up: it goes through the tree once, and only where these keys lead.
+pub fn effects_alone(
+    alloc: Global,
+    tree: &Tree<Row>,
+    packet: &Packet<Row>,
+    cover: &Cover,
+) -> Result<Vec<Effect>, AllocError>
+    ensures { IfOk result (λ effects. effects.items ≡ effects_within cover.now packet.now (holds row_effect tree.now.1)) }
+{
+    let named = named_keys(alloc, packet, cover)?;
+    let rows = tree.walk().values(alloc, named.keys.as_slice())?;
+    effects_on(alloc, packet, &named, rows)
+}

@@ -1,0 +1,8 @@
+-- Pieces of a list, one behind the other.
+use Rattle.std.specs.Prelude.{◌≡◌, ℕ, ◌+◌, List, [], ◌∷◌, length, ⊤}
+use Rattle.bt_gang.specs.declared.piece.Piece.{Piece}
+
+-- the first of the pieces stands behind this many items, and each other behind those of the pieces before it too
+abbrev pub AreInRow : {T : Type 0} → ℕ → List (Piece T) → Type 0
+AreInRow before [] = ⊤
+AreInRow before (p ∷ ps) = (p.before ≡ before) × AreInRow (before + length p.items.now) ps

@@ -1,0 +1,42 @@
+-- Rows of columns, and rows that stand under their keys.
+use Rattle.std.specs.Prelude.{ℕ, ◌≡◌, true, List, [], ◌∷◌, take}
+use Rattle.bt_rowtype.specs.Values.{AreInRange}
+use Rattle.bt_rowtype.specs.Schemas.{Schema, fit_columns}
+use Rattle.bt_rowtype.specs.declared.schema.Column.{Column}
+use Rattle.bt_rowtype.specs.declared.value.Value.{Value}
+use Rattle.bt_keycode.specs.Codes.{code_of}
+use Rattle.bt_keycode.specs.Keys.{Key}
+
+-- rows by their keys
+abbrev pub RowMap : Type 0
+RowMap = List (Key × List Value)
+
+-- the key of a row: the code of its first values
+abbrev pub row_key : ℕ → List Value → Key
+row_key keys row = code_of (take keys row)
+
+-- a row is of columns: one value of each column's kind, within the range of its kind
+pub record IsOf (columns : List Column) (row : List Value) : Type 0 where
+  pub fits : fit_columns columns row ≡ true
+  pub in_range : AreInRange row
+
+-- each of the rows is
+abbrev pub AreOf : List Column → List (List Value) → Type 0
+AreOf columns [] = Unit {0}
+AreOf columns (row ∷ rows) = IsOf columns row × AreOf columns rows
+
+-- each of the rows stands under its key
+abbrev pub AllAreUnder : ℕ → RowMap → Type 0
+AllAreUnder keys [] = Unit {0}
+AllAreUnder keys (pair ∷ pairs) = (pair.0 ≡ row_key keys pair.1) × AllAreUnder keys pairs
+
+-- a row stands under its key, and is of the schema
+pub record Stands (schema : Schema) (key : Key) (row : List Value) : Type 0 where
+  pub placed : key ≡ row_key schema.keys row
+  pub fits : fit_columns schema.columns row ≡ true
+  pub in_range : AreInRange row
+
+-- each of the rows does
+abbrev pub AllStand : Schema → RowMap → Type 0
+AllStand schema [] = Unit {0}
+AllStand schema (pair ∷ pairs) = Stands schema pair.0 pair.1 × AllStand schema pairs

@@ -1,9 +1,0 @@
-use Rattle.std.proofs.Common.{◌≡◌, ◌++◌, length}
-use Rattle.bt_messages.specs.Bins.{joined}
-use Rattle.bt_messages.proofs.joined.JoinedIterator.next.Given as goal
-
-abbrev pub invariant-loop-self : goal.invariant-loop-self
-invariant-loop-self g l = l.self-inside.first ++ joined l.self-inside.others.now ≡ l.fn.self
-
-abbrev pub decreases-loop-self : goal.decreases-loop-self
-decreases-loop-self g l = length l.self-inside.others.now

@@ -1,0 +1,98 @@
+//! Sorted messages cut at keys and at bounds.
+ghost use Rattle.std.specs.Prelude.{◌≡◌, ◌+◌, ◌≤◌, ◌++◌, IfOk, MatchOption, OnOk, OnErr, drop, length, take, vec_len, vec_capacity};
+ghost use Rattle.bt_keycode.specs.Keys.{IsSorted};
+ghost use Rattle.bt_messages.specs.Messages.{messages_before, messages_between, messages_from, messages_outside, messages_past, messages_up_to};
+ghost use Rattle.std.specs.Option.{option_copied};
+
+use crate::message::{Merge, Message};
+use bt_keycode::Key;
+use std::alloc::{AllocError, Global};
+use std::cmp::Ordering;
+use std::collections::VecDeque;
+
+/// How many of sorted messages have a key before this one.
+pub(crate) fn count_before<X>(messages: &[(Key, X)], key: &Key) -> usize
+    requires { IsSorted messages.now }
+    ensures bound { result ≤ length messages.now }
+    ensures before { take result messages.now ≡ messages_before key.now messages.now }
+    ensures from { drop result messages.now ≡ messages_from key.now messages.now }
+{
+    messages.partition_point(|entry| entry.0.compare(key) == Ordering::Less)
+}
+
+/// Moves the first messages, as far as their keys are not past this one.
+pub(crate) fn move_up_to<V: Merge>(
+    merged: &mut Vec<(Key, Message<V>)>,
+    older: &mut VecDeque<(Key, Message<V>)>,
+    key: &Key,
+)
+    requires { vec_len merged.old + length older.old.items ≤ vec_capacity merged.old }
+    ensures moved { merged.new.items ≡ merged.old.items ++ messages_up_to key.now older.old.items }
+    ensures left { older.new.items ≡ messages_past key.now older.old.items }
+    ensures len { vec_len merged.new + length older.new.items ≡ vec_len merged.old + length older.old.items }
+    ensures capacity { vec_capacity merged.new ≡ vec_capacity merged.old }
+{
+    while let Some(first) = older.front() {
+        if key.compare(&first.0) == Ordering::Less {
+            break;
+        }
+        if let Some(entry) = older.pop_front() {
+            merged.push_reserved(entry);
+        }
+    }
+}
+
+// How many of sorted messages have a key before a bound, or so many as are given for want of one.
+fn count_before_bound<X>(messages: &[(Key, X)], bound: Option<&Key>, absent: usize) -> usize
+    requires sorted { IsSorted messages.now }
+    requires within { absent ≤ length messages.now }
+    ensures within { result ≤ length messages.now }
+    ensures cut { MatchOption (option_copied bound.entry) (result ≡ absent) (λ key. (take result messages.now ≡ messages_before key messages.now) × (drop result messages.now ≡ messages_from key messages.now)) }
+{
+    match bound {
+        Some(key) => count_before(messages, key),
+        None => absent,
+    }
+}
+
+/// The entries with a key at or past `from` and before `to`, found by halving. A bound that is absent doesn't limit.
+pub fn between<'a, X>(
+    entries: &'a [(Key, X)],
+    from: Option<&Key>,
+    to: Option<&Key>,
+) -> &'a [(Key, X)]
+    requires { IsSorted entries.now }
+    ensures between { result.now ≡ messages_between (option_copied from.entry) (option_copied to.entry) entries.now }
+    ensures sorted { IsSorted result.now }
+{
+    let before = &entries[..count_before_bound(entries, to, entries.len())];
+    &before[count_before_bound(before, from, 0)..]
+}
+
+/// Takes out the messages with a key at or past the first bound and before the second one.
+pub(crate) fn take_between<V: Merge>(
+    messages: &mut Vec<(Key, Message<V>)>,
+    from: Option<&Key>,
+    to: Option<&Key>,
+) -> Result<Vec<(Key, Message<V>)>, AllocError>
+    requires { IsSorted messages.old.items }
+    ensures kept { OnOk result (messages.new.items ≡ messages_outside (option_copied from.entry) (option_copied to.entry) messages.old.items) }
+    ensures kept_sorted { IsSorted messages.new.items }
+    ensures taken { IfOk result (λ taken. taken.items ≡ messages_between (option_copied from.entry) (option_copied to.entry) messages.old.items) }
+    ensures taken_sorted { IfOk result (λ taken. IsSorted taken.items) }
+    ensures err { OnErr result (messages.new.items ≡ messages.old.items) }
+{
+    let end = count_before_bound(messages.as_slice(), to, messages.len());
+    let mut later = messages.split_off(end)?;
+    let start = count_before_bound(messages.as_slice(), from, 0);
+    match messages.split_off(start) {
+        Ok(taken) => {
+            messages.append(&mut later)?;
+            Ok(taken)
+        }
+        Err(error) => {
+            messages.append(&mut later)?;
+            Err(error)
+        }
+    }
+}

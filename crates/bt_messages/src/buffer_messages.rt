@@ -1,0 +1,95 @@
+//! The messages of several buffers, gone through one buffer after the other.
+ghost use Rattle.std.specs.Prelude.{◌≡◌, ◌<◌, ◌≤◌, ◌++◌, [], MatchOption, length, true};
+ghost use Rattle.std.specs.Iterator.{YieldsFirstBy, item_count};
+ghost use Rattle.bt_rowtype.specs.Lists.{concatenation};
+
+use crate::buffer::Buffer;
+use crate::iter::Messages;
+use crate::message::{Merge, Message};
+use bt_keycode::Key;
+use std::marker::Model;
+
+/// The messages of buffers, one buffer after the other. A contract sees the list of those that are left.
+#[derive(Drop)]
+pub struct BufferMessages<'a, V: Merge> {
+    first: Messages<'a, V>,
+    others: &'a [Buffer<V>],
+}
+
+impl<'a, V: Merge> Model for BufferMessages<'a, V> {
+    ghost use Rattle.std.specs.Prelude.{◌++◌, List, ℕ};
+    ghost use Rattle.bt_rowtype.specs.Lists.{concatenation};
+    ghost use Rattle.bt_messages.specs.declared.message.Message.{Message};
+
+    ghost Value = { List (List ℕ × Message V V.Delta) };
+
+    ghost view = { λ j. j.first ++ concatenation j.others.now };
+}
+
+impl<'a, V: Merge> BufferMessages<'a, V> {
+    /// No message.
+    pub fn none() -> Self
+        ensures { result ≡ [] }
+    {
+        BufferMessages {
+            first: Messages::none(),
+            others: &[],
+        }
+    }
+
+    // The messages of these buffers.
+    pub(crate) fn of(buffers: &'a [Buffer<V>]) -> Self
+        ensures { result ≡ concatenation buffers.now }
+    {
+        BufferMessages {
+            first: Messages::none(),
+            others: buffers,
+        }
+    }
+
+    // Whether no message is left.
+    pub(crate) fn is_done(&self) -> bool
+        ensures { result ≡ true → self.now ≡ [] }
+    {
+        self.first.count_left() == 0 && self.others.is_empty()
+    }
+
+    // Takes off the next buffer, where none of its messages is gone through yet and it has no more than so many, but some.
+    pub(crate) fn next_whole(&mut self, most: usize) -> Option<&'a Buffer<V>>
+        ensures { MatchOption result (self.new ≡ self.old) (λ buffer. (self.old ≡ buffer.now ++ self.new) × (0 < length buffer.now) × (length buffer.now ≤ most)) }
+    {
+        if self.first.count_left() > 0 {
+            return None;
+        }
+        let (buffer, others) = self.others.split_first()?;
+        if buffer.is_empty() || buffer.count() > most {
+            return None;
+        }
+        self.others = others;
+        Some(buffer)
+    }
+
+    // These messages, and those of the buffers behind them.
+    pub(crate) fn behind(first: Messages<'a, V>, others: &'a [Buffer<V>]) -> Self
+        ensures { result ≡ first.entry ++ concatenation others.now }
+    {
+        BufferMessages { first, others }
+    }
+}
+
+impl<'a, V: Merge> Iterator for BufferMessages<'a, V> {
+    type Item = (&'a Key, &'a Message<V>);
+
+    ghost next_gives = { YieldsFirstBy (λ m. (m.0.now, m.1.now)) (λ left. left) };
+
+    ghost remaining = { item_count (λ left. left) };
+
+    fn next(&mut self) -> Option<(&'a Key, &'a Message<V>)> {
+        while self.first.count_left() == 0 {
+            let (buffer, others) = self.others.split_first()?;
+            self.first = buffer.iter();
+            self.others = others;
+        }
+        self.first.next()
+    }
+}

@@ -1,0 +1,128 @@
+//! The messages of a stream, gone through while they stay in it.
+ghost use Rattle.std.specs.Prelude.{◌≡◌, ◌∷◌, ◌++◌, ◌<◌, ◌≤◌, ◌^◌, [], MatchOption, drop, length, map, take};
+ghost use Rattle.bt_messages.specs.Parts.{parted, total};
+ghost use Rattle.bt_messages.specs.Shares.{counts, share_of};
+ghost use Rattle.bt_messages.specs.Weights.{weigh_of, weight};
+
+use crate::buffer::Buffer;
+use crate::buffer_messages::BufferMessages;
+use crate::measure::Measure;
+use crate::message::{Merge, Message};
+use crate::share::Share;
+use bt_keycode::Key;
+use std::marker::Model;
+
+/// Messages in three pieces, one after the other. A contract sees the list of those that are left.
+#[derive(Drop)]
+pub(crate) struct StreamMessages<'a, V: Merge> {
+    first: BufferMessages<'a, V>,
+    second: BufferMessages<'a, V>,
+    third: BufferMessages<'a, V>,
+}
+
+impl<'a, V: Merge> Model for StreamMessages<'a, V> {
+    ghost use Rattle.std.specs.Prelude.{◌++◌, List, ℕ};
+    ghost use Rattle.bt_messages.specs.declared.message.Message.{Message};
+
+    ghost Value = { List (List ℕ × Message V V.Delta) };
+
+    ghost view = { λ w. w.first ++ (w.second ++ w.third) };
+}
+
+impl<'a, V: Merge> StreamMessages<'a, V> {
+    /// The messages of these, one after the other.
+    pub(crate) fn of(
+        first: BufferMessages<'a, V>,
+        second: BufferMessages<'a, V>,
+        third: BufferMessages<'a, V>,
+    ) -> Self
+        ensures { result ≡ first.entry ++ (second.entry ++ third.entry) }
+    {
+        StreamMessages {
+            first,
+            second,
+            third,
+        }
+    }
+
+    // The next message.
+    fn next(&mut self) -> Option<(&'a Key, &'a Message<V>)>
+        ensures { MatchOption result ((self.old ≡ []) × (self.new ≡ [])) (λ m. self.old ≡ (m.0.now, m.1.now) ∷ self.new) }
+    {
+        if let Some(entry) = self.first.next() {
+            return Some(entry);
+        }
+        if let Some(entry) = self.second.next() {
+            return Some(entry);
+        }
+        self.third.next()
+    }
+
+    // The next run, where none of its messages is gone through yet and it has no more than so many.
+    fn next_run(&mut self, most: usize) -> Option<&'a Buffer<V>>
+        ensures { MatchOption result (self.new ≡ self.old) (λ run. (self.old ≡ run.now ++ self.new) × (0 < length run.now) × (length run.now ≤ most)) }
+    {
+        if !self.first.is_done() {
+            return self.first.next_whole(most);
+        }
+        if !self.second.is_done() {
+            return self.second.next_whole(most);
+        }
+        self.third.next_whole(most)
+    }
+
+    // What the next message weighs, or the next run, where it has no more messages than so many: what it keeps, if it keeps it. And
+    // how many messages these are.
+    fn weigh_some(&mut self, most: usize) -> (usize, u128)
+        requires some { 0 < most }
+        requires enough { most ≤ length self.old }
+        ensures some { 0 < result.0 }
+        ensures most { result.0 ≤ most }
+        ensures weight { result.1 ≡ weight (weigh_of V.terms) (take result.0 self.old) }
+        ensures left { self.new ≡ drop result.0 self.old }
+    {
+        if let Some(run) = self.next_run(most) {
+            return (run.count(), run.weight());
+        }
+        match self.next() {
+            Some((key, message)) => (1, u128::from(message.weight(key))),
+            None => unreachable!(),
+        }
+    }
+
+    // What the next messages weigh together.
+    fn weigh_next(&mut self, count: usize) -> u128
+        requires count { count ≤ length self.old }
+        requires bound { length self.old < 2 ^ 63 }
+        ensures weight { result ≡ weight (weigh_of V.terms) (take count self.old) }
+        ensures left { self.new ≡ drop count self.old }
+    {
+        let mut sum = 0;
+        let mut left = count;
+        while left > 0 {
+            let (messages, weight) = self.weigh_some(left);
+            sum += weight;
+            left -= messages;
+        }
+        sum
+    }
+
+    /// Shares of the messages, in order, with what they weigh.
+    pub(crate) fn weighed_shares(self, shares: Vec<Share>) -> Vec<Share>
+        requires enough { total (counts shares.items) ≤ length self }
+        requires bound { length self < 2 ^ 63 }
+        ensures { result.items ≡ map (share_of (weigh_of V.terms) Measure.Bytes) (parted (counts shares.items) self.entry) }
+    {
+        let mut left = self;
+        let mut shares = shares;
+        for place in 0..shares.len() {
+            let count = shares[place].count;
+            let sum = left.weigh_next(count);
+            shares[place] = Share {
+                count,
+                weight: Some(sum),
+            };
+        }
+        shares
+    }
+}

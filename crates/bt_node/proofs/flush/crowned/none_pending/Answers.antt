@@ -1,0 +1,15 @@
+use Rattle.std.proofs.Common.{◌++◌, ◌∙◌, ap, refl}
+use Rattle.bt_node.specs.Children.{behind_pivot}
+use Rattle.bt_node.proofs.lemmas.code.ChildLists.{behind_pivot-nothing}
+use Rattle.bt_node.proofs.flush.crowned.none_pending.Goals as goal
+
+pub same-siblings : goal.same-siblings
+same-siblings g c = refl
+
+pub returns : goal.returns
+returns g c =
+    c.in_ok-append.ensures ∙ ap (λ cs. cs ++ behind_pivot c.new.result c.new-2.result c.args.siblings) c.in_ok-children.ensures
+    ∙ behind_pivot-nothing c.args.siblings c.new.result c.new-2.result c.new.ensures c.new-2.ensures c.len.ensures.led
+
+pub same-children : goal.same-children
+same-children g c = refl

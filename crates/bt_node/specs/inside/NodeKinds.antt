@@ -1,0 +1,17 @@
+-- The tree that a node stands for, by what the node is made of.
+use Rattle.bt_node.specs.declared.form.node.NodeKind.{NodeKind}
+use Rattle.bt_node.specs.declared.form.node.NodeKind.TheVariants.{Leaf, Inner}
+use Rattle.bt_rowtype.specs.Lists.{concatenation}
+use Rattle.bt_messages.specs.Bins.{LieBetween}
+use Rattle.bt_messages.specs.declared.message.Message.{Message}
+use Rattle.bt_node.specs.Trees.{Tree, leaf, inner, nodes, pivots_of}
+
+-- the buffer of an inner node is its bins, one after the other
+abbrev pub tree_of : {V D : Type 0} → NodeKind V D → Tree V (Message V D)
+tree_of (Leaf rows) = leaf rows
+tree_of (Inner children bins) = inner (nodes children) (concatenation bins)
+
+-- each child of an inner node has a bin, whose messages lie between the pivots around the child
+abbrev pub HasBins : {V D : Type 0} → NodeKind V D → Type 0
+HasBins (Leaf rows) = Unit {0}
+HasBins (Inner children bins) = LieBetween (pivots_of children) bins

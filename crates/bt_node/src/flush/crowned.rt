@@ -1,0 +1,37 @@
+//! One node above siblings.
+ghost use Rattle.std.specs.Prelude.{◌≡◌, IfOk};
+ghost use Rattle.bt_node.specs.Flushes.{crown, none_pending};
+
+use crate::flush::group::close;
+use crate::form::children::Children;
+use crate::form::node::{Node, Siblings};
+use crate::form::shape::Shape;
+use bt_keycode::Key;
+use bt_messages::{Buffer, Merge};
+use std::alloc::{AllocError, Global};
+
+// Siblings as children for which nothing is pending.
+fn none_pending<V: Merge>(alloc: Global, siblings: Siblings<V>) -> Result<Children<V>, AllocError>
+    ensures { IfOk result (λ children. children ≡ none_pending siblings) }
+{
+    let mut children = Children::with_capacity(alloc, siblings.len())?;
+    children.append(alloc, Key::new(), siblings, Buffer::new(alloc))?;
+    Ok(children)
+}
+
+/// One node stands for itself. More are dealt by the fanout under inner nodes with empty buffers, again until one is left.
+pub(crate) fn crowned<V: Merge>(
+    alloc: Global,
+    shape: Shape,
+    siblings: Siblings<V>,
+) -> Result<Node<V>, AllocError>
+    ensures { IfOk result (λ node. node ≡ crown shape siblings) }
+{
+    let mut level = siblings;
+    // The label is the loop's name in its proof.
+    'levels: while level.len() > 1 {
+        let children = none_pending(alloc, level)?;
+        level = close(alloc, shape, children)?;
+    }
+    Ok(level.into_only())
+}

@@ -1,0 +1,125 @@
+//! How messages go down a node: as the first ones of a stream.
+ghost use Rattle.std.specs.Prelude.{◌≡◌, ◌≤◌, ◌++◌, IfOk, OnOk, drop, length, take};
+ghost use Rattle.std.specs.List.{zip};
+ghost use Rattle.bt_messages.specs.Parts.{total};
+ghost use Rattle.bt_messages.specs.Shares.{AreShares, IsShare, counts};
+ghost use Rattle.bt_messages.specs.Weights.{weigh_of};
+ghost use Rattle.bt_messages.specs.Meanings.{meaning_of};
+ghost use Rattle.bt_node.specs.Flushes.{flush_in, flushed};
+ghost use Rattle.bt_node.specs.Messages.{with_messages};
+ghost use Rattle.bt_node.specs.inside.Flushing.{AreReady, IsReady, loaded};
+ghost use Rattle.bt_node.specs.Passes.{passed};
+
+use crate::flush::group::{close, leaves};
+use crate::flush::opening::{Opened, Step, open};
+use crate::form::children::Children;
+use crate::form::mode::Mode;
+use crate::form::node::{Node, NodeKind, Siblings};
+use crate::form::shape::Shape;
+use bt_messages::{Buffer, Merge, Share, Stream};
+use std::alloc::{AllocError, Global};
+
+// What becomes of a child when its messages go down: those that are pending for it, and its share of those that come. Where none is
+// pending, the share goes down in the stream as it is.
+#[cycle(flushes)]
+fn flush_child<V: Merge>(
+    alloc: Global,
+    shape: Shape,
+    mode: Mode,
+    node: Node<V>,
+    pending: Buffer<V>,
+    stream: &mut Stream<V>,
+    share: Share,
+) -> Result<Siblings<V>, AllocError>
+    requires share { IsShare (weigh_of V.terms) stream.old share }
+    requires ready { IsReady mode node }
+    ensures siblings { IfOk result (λ siblings. siblings ≡ flush_in (meaning_of V.terms) mode shape node (with_messages (take share.count stream.old) pending)) }
+    ensures left { OnOk result (stream.new ≡ drop share.count stream.old) }
+{
+    // For its fact: a stream is sorted.
+    let _in_order = stream.len();
+    if pending.is_empty() {
+        return flush(alloc, shape, mode, node, stream, share.count);
+    }
+    let mut all = pending;
+    all.add_front(alloc, stream, share)?;
+    let mut all = all.into_stream();
+    let count = all.len();
+    flush(alloc, shape, mode, node, &mut all, count)
+}
+
+// What becomes of the children of an opened node: of the marked ones when what is pending for them goes down, while the others keep
+// their shares of what comes.
+#[cycle(flushes)]
+fn flush_marked<V: Merge>(
+    alloc: Global,
+    shape: Shape,
+    mode: Mode,
+    opened: Opened<V>,
+    stream: &mut Stream<V>,
+) -> Result<Children<V>, AllocError>
+    requires weighed { AreShares (weigh_of V.terms) stream.old opened.shares.items }
+    requires ready { AreReady mode opened.children }
+    requires shares { length opened.shares.items ≡ length opened.children }
+    requires marks { length opened.marks.items ≡ length opened.children }
+    ensures children { IfOk result (λ parts. parts ≡ passed (flushed (flush_in (meaning_of V.terms) mode shape)) (zip (loaded opened.children (counts opened.shares.items) stream.old) opened.marks.items)) }
+    ensures left { OnOk result (stream.new ≡ drop (total (counts opened.shares.items)) stream.old) }
+{
+    let Opened {
+        children,
+        shares,
+        marks,
+    } = opened;
+    let mut parts = Children::with_capacity(alloc, children.len())?;
+    let mut children = children.into_iter();
+    let mut shares = shares.into_iter();
+    let mut marks = marks.into_iter();
+    while let Some((pivot, node, pending)) = children.next() {
+        // Each child has a share and a mark, so neither list ends before the children do.
+        let (Some(share), Some(marked)) = (shares.next(), marks.next()) else {
+            unreachable!()
+        };
+        if marked {
+            let siblings = flush_child(alloc, shape, mode, node, pending, stream, share)?;
+            parts.append(alloc, pivot, siblings, Buffer::new(alloc))?;
+        } else {
+            let mut pending = pending;
+            pending.add_front(alloc, stream, share)?;
+            parts.push(pivot, node, pending)?;
+        }
+    }
+    Ok(parts)
+}
+
+/// What becomes of a node and the first messages of a stream, which are gone from it.
+///
+/// A leaf's rows after the messages are dealt anew. An inner node stays as it is where its buffer has room for all. Else it is opened,
+/// the messages for some of its children, or for all, go down to them, and the children are dealt anew, each with its bin. Rows, keys
+/// and messages are moved, never copied, but for a leaf's least key as its pivot.
+#[cycle(flushes)]
+pub(crate) fn flush<V: Merge>(
+    alloc: Global,
+    shape: Shape,
+    mode: Mode,
+    node: Node<V>,
+    stream: &mut Stream<V>,
+    count: usize,
+) -> Result<Siblings<V>, AllocError>
+    requires enough { count ≤ length stream.old }
+    requires ready { IsReady mode node }
+    ensures siblings { IfOk result (λ siblings. siblings ≡ flush_in (meaning_of V.terms) mode shape node (take count stream.old)) }
+    ensures left { OnOk result (stream.new ≡ drop count stream.old) }
+{
+    match node.into_kind() {
+        NodeKind::Leaf(rows) => leaves(alloc, shape, rows.after(alloc, stream, count)?),
+        NodeKind::Inner { children, bins } => {
+            match open(alloc, shape, mode, children, bins, stream, count)? {
+                Step::Stays(node) => Siblings::with_capacity(alloc, node, 1),
+                Step::Opens(opened) => {
+                    let parts = flush_marked(alloc, shape, mode, opened, stream)?;
+                    close(alloc, shape, parts)
+                }
+            }
+        }
+    }
+}

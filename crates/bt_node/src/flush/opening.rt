@@ -1,0 +1,106 @@
+//! How messages come to an inner node: they stay there, or the node is opened, for messages to go down to its children.
+ghost use Rattle.std.specs.Prelude.{◌≡◌, ◌+◌, ◌<◌, ◌≤◌, IfOk, get_or, length, map};
+ghost use Rattle.bt_messages.specs.Bins.{LieBetween, each_with};
+ghost use Rattle.bt_messages.specs.Parts.{parted, total};
+ghost use Rattle.bt_messages.specs.Shares.{counts, share_of};
+ghost use Rattle.bt_messages.specs.Weights.{load, weigh_of};
+ghost use Rattle.bt_node.specs.Marks.{flush_marks};
+ghost use Rattle.bt_node.specs.Steps.{IsStep};
+ghost use Rattle.bt_node.specs.Trees.{pivots_of};
+
+use crate::flush::planning::{are_within, next_planned};
+use crate::form::children::Children;
+use crate::form::mode::Mode;
+use crate::form::node::{Node, Siblings};
+use crate::form::shape::Shape;
+use bt_messages::{Bins, Measure, Merge, Share, Stream};
+use std::alloc::{AllocError, Global};
+
+/// An inner node from which messages go down.
+#[derive(Drop)]
+pub struct Opened<V: Merge> {
+    /// Its children, each with its bin.
+    pub children: Children<V>,
+    /// How many of the messages that come are for each child.
+    pub shares: Vec<Share>,
+    /// Whether what is pending for each child goes down to it.
+    pub marks: Vec<bool>,
+}
+
+/// What an inner node does with the messages that come to it.
+#[derive(Drop)]
+pub enum Step<V: Merge> {
+    /// It has room for all, and none goes down. They are in its bins.
+    Stays(Node<V>),
+    /// Messages go down from it. Those that come are still in the stream.
+    Opens(Opened<V>),
+}
+
+// How much is pending for each child: what is in its bin, and its share of the messages that come. None is moved for that.
+fn loads<V: Merge>(
+    alloc: Global,
+    measure: Measure,
+    bins: &Bins<V>,
+    stream: &Stream<V>,
+    shares: &[Share],
+) -> Result<Vec<u128>, AllocError>
+    requires len { length shares.now ≡ length bins.now }
+    requires weighed { shares.now ≡ map (share_of (weigh_of V.terms) measure) (parted (counts shares.now) stream.now) }
+    ensures { IfOk result (λ loads. loads.items ≡ map (load (weigh_of V.terms) measure) (each_with (parted (counts shares.now) stream.now) bins.now)) }
+{
+    // For its fact: a stream has fewer than 2^63 messages, so that the sums below are within a `u128`.
+    let _bound = stream.len();
+    let mut loads = Vec::with_capacity(alloc, shares.len())?;
+    for child in 0..shares.len() {
+        loads.push_reserved(bins.load(child, measure) + shares[child].load(measure));
+    }
+    Ok(loads)
+}
+
+// Whether each child is planned, where so much is pending for each. The loads of those that are planned are 0 then.
+fn planned_marks(alloc: Global, loads: &mut [u128], capacity: u64) -> Result<Vec<bool>, AllocError>
+    ensures { IfOk result (λ found. found.items ≡ flush_marks Mode.Absorb capacity loads.old) }
+{
+    let mut marks = vec![in alloc; false; loads.len()]?;
+    while let Some(place) = next_planned(loads, capacity) {
+        marks[place] = true;
+    }
+    Ok(marks)
+}
+
+/// What an inner node does with the first messages of a stream. Where it has room for them all, they go to its bins, and are gone from
+/// the stream. Else the fullest child is to be flushed, until there is room for what is left; or each child is. After an `Err` some
+/// messages may be gone.
+pub fn open<V: Merge>(
+    alloc: Global,
+    shape: Shape,
+    mode: Mode,
+    children: Siblings<V>,
+    bins: Bins<V>,
+    stream: &mut Stream<V>,
+    count: usize,
+) -> Result<Step<V>, AllocError>
+    requires enough { count ≤ length stream.old }
+    requires divided { LieBetween (pivots_of children) bins }
+    ensures { IfOk result (IsStep (weigh_of V.terms) mode shape children bins stream.old count stream.new) }
+{
+    let (measure, room) = (shape.measure(), shape.buffer() as u64);
+    let shares = stream.shares(alloc, measure, count, children.pivots())?;
+    let marks = match mode {
+        Mode::Absorb => {
+            let mut loads = loads(alloc, measure, &bins, stream, shares.as_slice())?;
+            if children.len() <= shape.fanout() && are_within(loads.as_slice(), room) {
+                let mut bins = bins;
+                bins.add_shares(alloc, stream, shares.as_slice())?;
+                return Ok(Step::Stays(Node::inner(children, bins)));
+            }
+            planned_marks(alloc, loads.as_mut_slice(), room)?
+        }
+        Mode::Drain => vec![in alloc; true; shares.len()]?,
+    };
+    Ok(Step::Opens(Opened {
+        children: Children::beside(children, bins),
+        shares,
+        marks,
+    }))
+}

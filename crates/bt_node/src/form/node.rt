@@ -1,0 +1,248 @@
+//! Nodes, and nodes side by side.
+//!
+//! ```text
+//!                  bins:   5 put |       | 9 del, 9 ups
+//!     inner        pivots:       6       9
+//!                  nodes:    a   |   b   |   c
+//!                            /        |        \
+//!     leaves             1 3 5       6 8       9 12
+//! ```
+//!
+//! A key belongs to the node after the last pivot that is at most the key, or to the first node. Siblings are one node or more, and one pivot
+//! fewer than nodes; an inner node keeps its children in the same way, and for each of them a bin: the messages that are pending for it. A contract
+//! sees siblings as a list of nodes, each behind the pivot before it and the first behind the empty key, and the bins, one after the other, as the
+//! node's buffer.
+ghost use Rattle.std.specs.Prelude.{◌≡◌, ◌∷◌, ◌++◌, ◌+◌, ◌≤◌, [], IfOk, OnOk, MatchOption, length, map, drop};
+ghost use Rattle.bt_node.specs.Fits.{IsLed};
+ghost use Rattle.bt_node.specs.Flushes.{pivot_first};
+ghost use Rattle.bt_node.specs.Parts.{AreRising, IsApart};
+ghost use Rattle.bt_node.specs.Trees.{behind, pivots_of};
+ghost use Rattle.bt_node.specs.Trees as trees;
+ghost use Rattle.bt_node.specs.inside.NodeKinds.{HasBins, tree_of};
+ghost use Rattle.bt_rowtype.specs.Lists.{concatenation};
+ghost use Rattle.bt_messages.specs.Bins.{LieBetween};
+
+use crate::form::rows::Rows;
+use bt_keycode::Key;
+use bt_messages::{Bins, Buffer, Merge};
+use std::alloc::{AllocError, Global};
+use std::marker::Model;
+use std::mem;
+use std::vec::IntoIter;
+
+/// A node with all that is below it. A contract sees the tree that it stands for.
+#[cycle(nodes)]
+#[derive(Drop)]
+pub struct Node<V: Merge> {
+    kind: NodeKind<V>,
+}
+
+/// What a node is made of: rows, or children with a bin of pending messages for each.
+#[cycle(nodes)]
+#[derive(Drop)]
+pub(crate) enum NodeKind<V: Merge> {
+    Leaf(Rows<V>),
+    Inner {
+        children: Siblings<V>,
+        bins: Bins<V>,
+    },
+}
+
+/// Nodes side by side, with a pivot between each two neighbours.
+#[cycle(nodes)]
+#[derive(Drop)]
+pub struct Siblings<V: Merge> {
+    nodes: Vec<Node<V>>,
+    pivots: Vec<Key>,
+}
+
+/// What a node consists of: a leaf is one whole, an inner node its children and their bins.
+#[derive(Drop)]
+pub enum Parts<V: Merge> {
+    Leaf(Node<V>),
+    Inner {
+        children: Siblings<V>,
+        bins: Bins<V>,
+    },
+}
+
+impl<V: Merge> Model for Node<V> {
+    ghost use Rattle.std.specs.Prelude.{◌*◌};
+    ghost use Rattle.bt_messages.specs.declared.message.Message.{Message};
+    ghost use Rattle.bt_node.specs.Trees as trees;
+    ghost use Rattle.bt_node.specs.Stored.{message_code, tree_code};
+
+    ghost Value = { trees.Tree V (Message V V.Delta) };
+
+    ghost coded = { tree_code V.code (message_code V.code V.Delta.code) };
+
+    ghost use Rattle.bt_node.specs.inside.NodeKinds.{tree_of};
+
+    ghost view = { λ n. tree_of n.kind };
+
+    ghost use Rattle.bt_node.specs.inside.NodeKinds.{HasBins};
+
+    ghost invariant = { λ n. HasBins n.kind };
+
+    ghost size = { λ t. 2 * trees.height t };
+
+    ghost use Rattle.bt_node.specs.inside.Falls.{below_node};
+
+    ghost size_decreases = { λ n h. below_node V.Merge n.kind };
+}
+
+impl<V: Merge> Model for Siblings<V> {
+    ghost use Rattle.std.specs.Prelude.{◌*◌, ◌+◌, ◌≡◌, length};
+    ghost use Rattle.std.specs.Coded.{coded×, coded_list, coded_ℕ};
+    ghost use Rattle.bt_messages.specs.declared.message.Message.{Message};
+    ghost use Rattle.bt_node.specs.Trees as trees;
+    ghost use Rattle.bt_node.specs.Trees.{behind};
+    ghost use Rattle.bt_node.specs.Stored.{message_code, tree_code};
+
+    ghost Value = { trees.Siblings V (Message V V.Delta) };
+
+    ghost coded = { coded_list (coded× (coded_list coded_ℕ) (tree_code V.code (message_code V.code V.Delta.code))) };
+
+    ghost view = { λ s. behind s.pivots.items s.nodes.items };
+
+    ghost invariant = { λ s. length s.nodes.items ≡ length s.pivots.items + 1 };
+
+    ghost size = { λ xs. 2 * trees.height_below (trees.nodes xs) + 1 };
+
+    ghost use Rattle.bt_node.specs.inside.Falls.{below_siblings};
+
+    ghost size_decreases = { λ s h. below_siblings s.pivots.items s.nodes.items h };
+}
+
+impl<V: Merge> Node<V> {
+    pub(crate) fn leaf(rows: Rows<V>) -> Self
+        ensures { result ≡ trees.leaf rows }
+    {
+        Node {
+            kind: NodeKind::Leaf(rows),
+        }
+    }
+
+    pub(crate) fn inner(children: Siblings<V>, bins: Bins<V>) -> Self
+        requires { LieBetween (pivots_of children) bins }
+        ensures { result ≡ trees.inner (trees.nodes children) (concatenation bins) }
+    {
+        Node {
+            kind: NodeKind::Inner { children, bins },
+        }
+    }
+
+    pub(crate) fn kind(&self) -> &NodeKind<V>
+        ensures tree { self.now ≡ tree_of result.now }
+        ensures divided { HasBins result.now }
+    {
+        &self.kind
+    }
+
+    pub(crate) fn into_kind(self) -> NodeKind<V>
+        ensures tree { self ≡ tree_of result }
+        ensures divided { HasBins result }
+    {
+        let Node { kind } = self;
+        kind
+    }
+
+    /// The children of an inner node and their bins; a leaf is given back.
+    pub fn apart(self) -> Parts<V>
+        ensures { IsApart self result }
+    {
+        match self.into_kind() {
+            NodeKind::Leaf(rows) => Parts::Leaf(Node::leaf(rows)),
+            NodeKind::Inner { children, bins } => Parts::Inner { children, bins },
+        }
+    }
+}
+
+impl<V: Merge> Siblings<V> {
+    pub(crate) fn from_parts(nodes: Vec<Node<V>>, pivots: Vec<Key>) -> Self
+        requires { length nodes.items ≡ length pivots.items + 1 }
+        ensures { result ≡ behind pivots.items nodes.items }
+    {
+        Siblings { nodes, pivots }
+    }
+
+    /// Nodes with a pivot between each two neighbours.
+    pub fn new(nodes: Vec<Node<V>>, pivots: Vec<Key>) -> Self
+        requires one_fewer { length nodes.items ≡ length pivots.items + 1 }
+        requires rising { AreRising pivots.items }
+        ensures { result ≡ behind pivots.items nodes.items }
+    {
+        Siblings::from_parts(nodes, pivots)
+    }
+
+    /// The nodes, and the pivots between them.
+    pub fn apart(self) -> (Vec<Node<V>>, Vec<Key>)
+        ensures parts { self ≡ behind result.1.items result.0.items }
+        ensures one_fewer { length result.0.items ≡ length result.1.items + 1 }
+    {
+        let Siblings { nodes, pivots } = self;
+        (nodes, pivots)
+    }
+
+    /// One node, with room for so many in all.
+    pub(crate) fn with_capacity(
+        alloc: Global,
+        node: Node<V>,
+        count: usize,
+    ) -> Result<Self, AllocError>
+        ensures { IfOk result (λ siblings. siblings ≡ ([], node) ∷ []) }
+    {
+        let mut nodes = Vec::with_capacity(alloc, count)?;
+        nodes.push(node)?;
+        let pivots = Vec::with_capacity(alloc, count.saturating_sub(1))?;
+        Ok(Siblings { nodes, pivots })
+    }
+
+    /// Adds a node behind a pivot.
+    pub(crate) fn push(&mut self, pivot: Key, node: Node<V>) -> Result<(), AllocError>
+        ensures { OnOk result (self.new ≡ self.old ++ (pivot, node) ∷ []) }
+    {
+        self.nodes.reserve(1)?;
+        self.pivots.reserve(1)?;
+        self.nodes.push_reserved(node);
+        self.pivots.push_reserved(pivot);
+        Ok(())
+    }
+
+    pub(crate) fn len(&self) -> usize
+        ensures count { result ≡ length self.now }
+        ensures some { 1 ≤ result }
+        ensures led { IsLed self.now }
+    {
+        self.nodes.len()
+    }
+
+    pub(crate) fn nodes(&self) -> &[Node<V>]
+        ensures { result.now ≡ map (λ x. x.1) self.now }
+    {
+        self.nodes.as_slice()
+    }
+
+    /// The pivots between the nodes.
+    pub fn pivots(&self) -> &[Key]
+        ensures pivots { result.now ≡ map (λ x. x.0) (drop 1 self.now) }
+        ensures some { 1 ≤ length self.now }
+    {
+        self.pivots.as_slice()
+    }
+
+    /// The one node.
+    pub(crate) fn into_only(self) -> Node<V>
+        requires { length self ≡ 1 }
+        ensures { self ≡ ([], result) ∷ [] }
+    {
+        let Siblings {
+            mut nodes,
+            pivots: _pivots,
+        } = self;
+        match nodes.pop() {
+            Some(node) => node,
+            None => unreachable!(),
+        }
+    }
+}

@@ -1,0 +1,53 @@
+//! How far rows are shown.
+ghost use Rattle.std.specs.Prelude.{◌≡◌, ◌↔◌, ◌-◌, IsTrue, MatchOption, None, Some, min};
+
+use std::marker::Model;
+
+/// How many rows may still be shown. A contract sees that number, or none where there is no limit.
+#[derive(Drop)]
+pub(crate) struct RowLimit {
+    left: Option<usize>,
+}
+
+impl Model for RowLimit {
+    ghost use Rattle.std.specs.Prelude.{Option, ℕ};
+
+    ghost Value = { Option ℕ };
+
+    ghost view = { λ l. l.left };
+}
+
+impl RowLimit {
+    /// All rows.
+    pub(crate) fn none() -> Self
+        ensures { result ≡ None }
+    {
+        RowLimit { left: None }
+    }
+
+    /// So many rows.
+    pub(crate) fn rows(count: usize) -> Self
+        ensures { result ≡ Some count }
+    {
+        RowLimit { left: Some(count) }
+    }
+
+    /// Whether no more rows may be shown.
+    pub(crate) fn is_reached(&self) -> bool
+        ensures { IsTrue result ↔ (self.now ≡ Some 0) }
+    {
+        self.left == Some(0)
+    }
+
+    /// Counts so many more rows, as far as they may be shown, and gives how many that are.
+    pub(crate) fn count_up_to(&mut self, rows: usize) -> usize
+        ensures { MatchOption self.old ((result ≡ rows) × (self.new ≡ None)) (λ left. (result ≡ min left rows) × (self.new ≡ Some (left - rows))) }
+    {
+        let Some(left) = self.left else {
+            return rows;
+        };
+        let counted = left.min(rows);
+        self.left = Some(left - counted);
+        counted
+    }
+}

@@ -1,0 +1,225 @@
+//! What can be seen of a tree, node by node.
+ghost use Rattle.std.specs.Prelude.{◌≡◌, ◌<◌, cond, None, Some, fold, length, map, option_map, slice_get, take, true, IfOk, IsTrue, OnOk};
+ghost use Rattle.std.specs.FinMap.{find, is_sorted};
+ghost use Rattle.std.specs.Option.{option_copied};
+ghost use Rattle.bt_keycode.specs.Keys.{Key, is_between, key_cmp};
+ghost use Rattle.bt_messages.specs.Effects.{effect_of};
+ghost use Rattle.bt_node.specs.Fits.{IsInOrder};
+ghost use Rattle.bt_node.specs.Flushes.{holds};
+ghost use Rattle.bt_node.specs.Messages.{between};
+ghost use Rattle.bt_node.specs.Portions.{Chained, HaveThere, all_rows, owners};
+ghost use Rattle.bt_node.specs.Walks as walk;
+
+use crate::form::node::{Node, NodeKind};
+use crate::read::joint_lookup::{into_values, tree_values};
+use crate::read::lent_messages::is_empty_range;
+use crate::read::lookup::tree_value;
+use crate::read::portions::{Portion, portions_at};
+use crate::read::row_limit::RowLimit;
+use crate::read::visitor::{Copies, Visitor};
+use crate::read::visits::visit_between;
+use bt_keycode::Key;
+use bt_messages::{BufferMessages, Merge};
+use std::alloc::{AllocError, Global};
+use std::marker::Model;
+
+/// A node to be looked at, with all that is below it.
+#[derive(Drop)]
+pub struct Walk<'a, V: Merge> {
+    node: &'a Node<V>,
+}
+
+impl<'a, V: Merge> Model for Walk<'a, V> {
+    ghost use Rattle.bt_messages.specs.declared.message.Message.{Message};
+    ghost use Rattle.bt_node.specs.Trees as trees;
+    ghost use Rattle.bt_node.specs.Stored.{message_code, tree_code};
+
+    ghost Value = { trees.Tree V (Message V V.Delta) };
+
+    ghost coded = { tree_code V.code (message_code V.code V.Delta.code) };
+
+    ghost view = { λ w. w.node.now };
+}
+
+impl<'a, V: Merge> Walk<'a, V> {
+    pub(crate) fn new(node: &'a Node<V>) -> Self
+        ensures { result ≡ node.now }
+    {
+        Walk { node }
+    }
+
+    /// Whether it is a leaf: it has rows, and no messages and no children.
+    pub fn is_leaf(&self) -> bool
+        ensures { result ≡ walk.is_leaf self.now }
+    {
+        match self.node.kind() {
+            NodeKind::Leaf(_) => true,
+            NodeKind::Inner { .. } => false,
+        }
+    }
+
+    /// The number of rows of a leaf, and 0 of an inner node.
+    pub fn row_count(&self) -> usize
+        ensures { result ≡ length (walk.rows_of self.now) }
+    {
+        match self.node.kind() {
+            NodeKind::Leaf(rows) => rows.len(),
+            NodeKind::Inner { .. } => 0,
+        }
+    }
+
+    /// The key and the value of a leaf's row, counted from 0.
+    pub fn row(&self, place: usize) -> (&'a Key, &'a V)
+        requires { place < length (walk.rows_of self.now) }
+        ensures { slice_get (walk.rows_of self.now) place ≡ Some (result.0.now, result.1.now) }
+    {
+        match self.node.kind() {
+            NodeKind::Leaf(rows) => rows.get(place),
+            NodeKind::Inner { .. } => unreachable!(),
+        }
+    }
+
+    /// The number of messages in the buffer of an inner node, and 0 of a leaf.
+    pub fn message_count(&self) -> u128
+        ensures { result ≡ length (walk.messages_of self.now) }
+    {
+        match self.node.kind() {
+            NodeKind::Leaf(_) => 0,
+            NodeKind::Inner { bins, .. } => bins.total(),
+        }
+    }
+
+    /// The messages in the buffer of an inner node with their keys, in order, and none of a leaf.
+    pub fn messages(&self) -> BufferMessages<'a, V>
+        ensures { result ≡ walk.messages_of self.now }
+    {
+        let NodeKind::Inner { bins, .. } = self.node.kind() else {
+            return BufferMessages::none();
+        };
+        bins.iter()
+    }
+
+    /// The number of children of an inner node, and 0 of a leaf.
+    pub fn child_count(&self) -> usize
+        ensures { result ≡ length (walk.children_of self.now) }
+    {
+        match self.node.kind() {
+            NodeKind::Leaf(_) => 0,
+            NodeKind::Inner { children, .. } => children.len(),
+        }
+    }
+
+    /// A child, counted from 0.
+    pub fn child(&self, place: usize) -> Walk<'a, V>
+        requires { place < length (walk.children_of self.now) }
+        ensures { option_map (λ x. x.1) (slice_get (walk.children_of self.now) place) ≡ Some result }
+    {
+        match self.node.kind() {
+            NodeKind::Leaf(_) => unreachable!(),
+            NodeKind::Inner { children, .. } => { Walk::new(&children.nodes()[place]) }
+        }
+    }
+
+    /// The pivot before a child that is not the first, counted from 0.
+    pub fn pivot(&self, place: usize) -> &'a Key
+        requires not_first { 0 < place }
+        requires within { place < length (walk.children_of self.now) }
+        ensures { option_map (λ x. x.0) (slice_get (walk.children_of self.now) place) ≡ Some result.now }
+    {
+        match self.node.kind() {
+            NodeKind::Leaf(_) => unreachable!(),
+            NodeKind::Inner { children, .. } => &children.pivots()[place - 1],
+        }
+    }
+
+    /// The value at a key when all messages here and below have had their effect, found along one path.
+    pub fn get(&self, alloc: Global, key: &Key) -> Result<Option<V>, AllocError>
+        requires { IsInOrder self.now }
+        ensures { IfOk result (λ value. value ≡ find key_cmp key.now (holds (effect_of V.terms.merged) self.now)) }
+    {
+        tree_value(alloc, self.node, key)?.into_value(alloc)
+    }
+
+    /// The values at keys when all messages here and below have had their effect. Neighbours that belong to one child go down together, so
+    /// keys that rise enter each node on the way once.
+    pub fn values<'k>(
+        &self,
+        alloc: Global,
+        keys: &'k [&'k Key],
+    ) -> Result<Vec<Option<V>>, AllocError>
+        requires { IsInOrder self.now }
+        ensures { IfOk result (λ values. values.items ≡ map (λ k. find key_cmp k.now (holds (effect_of V.terms.merged) self.now)) keys.now) }
+    {
+        into_values(alloc, tree_values(alloc, self.node, keys)?)
+    }
+
+    /// Shows a visitor the rows with a key at or past `from` and before `to`, when all messages here and below have had their effect, by
+    /// rising key. A bound that is absent doesn't limit. Values are lent from where they stand, and copied where an upsert changes them;
+    /// subtrees outside of the bounds are not entered. An `Err` is the visitor's, or for want of memory.
+    pub fn visit<S: Visitor<V>>(
+        &self,
+        alloc: Global,
+        from: Option<&Key>,
+        to: Option<&Key>,
+        visitor: &mut S,
+    ) -> Result<(), AllocError>
+        requires { IsInOrder self.now }
+        ensures { OnOk result (visitor.new ≡ fold S.visited visitor.old (between (option_copied from.entry) (option_copied to.entry) (holds (effect_of V.terms.merged) self.now))) }
+    {
+        visit_between(alloc, self.node, from, to, visitor, RowLimit::none())
+    }
+
+    /// Shows a visitor the first rows, at most `count`, with a key at or past `from`, when all messages here and below have had their
+    /// effect, by rising key. A bound that is absent doesn't limit. Values are lent and copied as in `visit`. Subtrees behind the last row
+    /// that is shown are not entered. An `Err` is the visitor's, or for want of memory.
+    pub fn visit_first<S: Visitor<V>>(
+        &self,
+        alloc: Global,
+        from: Option<&Key>,
+        count: usize,
+        visitor: &mut S,
+    ) -> Result<(), AllocError>
+        requires { IsInOrder self.now }
+        ensures { OnOk result (visitor.new ≡ fold S.visited visitor.old (take count (between (option_copied from.entry) None (holds (effect_of V.terms.merged) self.now)))) }
+    {
+        visit_between(alloc, self.node, from, None, visitor, RowLimit::rows(count))
+    }
+
+    /// Copies of the rows with a key at or past `from` and before `to`, when all messages here and below have had their effect, by
+    /// rising key. A bound that is absent doesn't limit. Nothing outside of the bounds is copied.
+    pub fn rows(
+        &self,
+        alloc: Global,
+        from: Option<&Key>,
+        to: Option<&Key>,
+    ) -> Result<Vec<(Key, V)>, AllocError>
+        requires { IsInOrder self.now }
+        ensures rows { IfOk result (λ rows. rows.items ≡ between (option_copied from.entry) (option_copied to.entry) (holds (effect_of V.terms.merged) self.now)) }
+        ensures sorted { IfOk result (λ rows. IsTrue (is_sorted key_cmp rows.items)) }
+    {
+        let mut copies = Copies::new(alloc);
+        self.visit(alloc, from, to, &mut copies)?;
+        Ok(copies.into_rows())
+    }
+
+    /// The tree in portions, which can be read side by side: the subtrees at a depth, and leaves at less depth, that meet the bounds, each with the
+    /// messages above it that are for it. A bound that is absent doesn't limit. Nothing is copied. There is none where `to` is at or before `from`.
+    pub fn portions(
+        &self,
+        alloc: Global,
+        depth: usize,
+        from: Option<&'a Key>,
+        to: Option<&'a Key>,
+    ) -> Result<Vec<Portion<'a, V>>, AllocError>
+        requires { IsInOrder self.now }
+        ensures rows { IfOk result (λ parts. all_rows (effect_of V.terms.merged) parts.items ≡ between (option_copied from.entry) (option_copied to.entry) (holds (effect_of V.terms.merged) self.now)) }
+        ensures owners { IfOk result (λ parts. (key : Key) → owners key parts.items ≡ cond (is_between (option_copied from.entry) (option_copied to.entry) key) 1 0) }
+        ensures chained { IfOk result (λ parts. (key : Key) → is_between (option_copied from.entry) (option_copied to.entry) key ≡ true → Chained (option_copied from.entry) parts.items (option_copied to.entry)) }
+        ensures values { IfOk result (λ parts. (key : Key) → HaveThere (effect_of V.terms.merged) key (find key_cmp key (holds (effect_of V.terms.merged) self.now)) parts.items) }
+    {
+        if is_empty_range(from, to) {
+            return Ok(Vec::new(alloc));
+        }
+        portions_at(alloc, self.node, depth, from, to)
+    }
+}

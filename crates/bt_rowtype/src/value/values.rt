@@ -1,0 +1,178 @@
+//! Going through values, in a list of them or in a row.
+ghost use Rattle.std.specs.Prelude.{◌≡◌, ◌∷◌, ◌==◌, [], Some, IfSome, IfNone, length};
+ghost use Rattle.bt_rowtype.specs.Values.{HasBytes, IsInRange};
+ghost use Rattle.bt_rowtype.specs.inside.Packing.{IsPacked, unpacked};
+ghost use Rattle.bt_rowtype.specs.inside.Sources.{IsSource, left};
+ghost use Rattle.bt_rowtype.specs.Values as spec;
+ghost use Rattle.bt_rowtype.specs.Views.{held, shown};
+
+use crate::row::packed_values::{first, tail, width};
+use crate::value::{Content, Value, ValueRef};
+use std::cmp::Ordering;
+use std::marker::Model;
+
+// Where the values lie.
+#[derive(Clone, Copy, Drop)]
+enum Source<'a> {
+    // a list of values
+    Listed(&'a [Value]),
+    // the bytes of a row
+    Packed(&'a [u8]),
+}
+
+/// The values that are left. A contract sees the list of them.
+#[derive(Drop)]
+pub struct Values<'a> {
+    source: Source<'a>,
+}
+
+impl<'a> Model for Values<'a> {
+    ghost use Rattle.std.specs.Prelude.{List};
+    ghost use Rattle.bt_rowtype.specs.declared.value.Value.{Value as value};
+    ghost use Rattle.bt_rowtype.specs.inside.Sources.{IsSource, left};
+
+    ghost Value = { List value };
+
+    ghost view = { λ a. left a.source };
+
+    ghost invariant = { λ a. IsSource a.source };
+}
+
+// The first value of bytes, and the bytes behind it.
+fn next_packed(bytes: &[u8]) -> Option<(ValueRef<'_>, &[u8])>
+    requires { IsPacked bytes.now }
+    ensures some { IfSome result (λ read. unpacked bytes.now ≡ shown read.0 ∷ unpacked read.1.now) }
+    ensures in_range { IfSome result (λ read. IsInRange (shown read.0)) }
+    ensures packed { IfSome result (λ read. IsPacked read.1.now) }
+    ensures none { IfNone result (unpacked bytes.now ≡ []) }
+{
+    if bytes.is_empty() {
+        return None;
+    }
+    Some((first(bytes), tail(bytes, width(bytes))))
+}
+
+// Whether bytes are those of no value.
+fn holds_none(bytes: &[u8]) -> bool
+    requires { IsPacked bytes.now }
+    ensures { result ≡ (length (unpacked bytes.now) == 0) }
+{
+    bytes.is_empty()
+}
+
+// Whether two values hold the same.
+fn same_content(left: Content<'_>, right: Content<'_>) -> bool
+    ensures { result ≡ spec.same_content (held left.entry) (held right.entry) }
+{
+    match (left, right) {
+        (Content::Number(a), Content::Number(b)) => a == b,
+        (Content::Bytes(a), Content::Bytes(b)) => a == b,
+        (Content::Bit(a), Content::Bit(b)) => a == b,
+        _ => false,
+    }
+}
+
+// Whether two values are of one kind and hold the same.
+fn same_value(left: ValueRef<'_>, right: ValueRef<'_>) -> bool
+    ensures { result ≡ spec.same_value (shown left.entry) (shown right.entry) }
+{
+    left.kind().tag() == right.kind().tag() && same_content(left.content(), right.content())
+}
+
+// The order of what two values of a kind hold.
+fn compare_contents(left: Content<'_>, right: Content<'_>) -> Ordering
+    ensures { result ≡ spec.content_cmp (held left.entry) (held right.entry) }
+{
+    match (left, right) {
+        (Content::Number(a), Content::Number(b)) => a.cmp(&b),
+        (Content::Bytes(a), Content::Bytes(b)) => a.cmp(b),
+        (Content::Bit(a), Content::Bit(b)) => a.cmp(&b),
+        _ => Ordering::Equal,
+    }
+}
+
+/// The order of two values of a kind: ints by size, texts and bytes byte by byte, `false` before `true`.
+pub fn compare_values(left: ValueRef<'_>, right: ValueRef<'_>) -> Ordering
+    ensures { result ≡ spec.value_cmp (shown left.entry) (shown right.entry) }
+{
+    compare_contents(left.content(), right.content())
+}
+
+/// Whether values are the same, one by one.
+pub fn same_values(left: Values<'_>, right: Values<'_>) -> bool
+    ensures { result ≡ spec.same_values left.entry right.entry }
+{
+    let mut lefts = left;
+    let mut rights = right;
+    while let Some(a) = lefts.next() {
+        let Some(b) = rights.next() else {
+            return false;
+        };
+        if !same_value(a, b) {
+            return false;
+        }
+    }
+    rights.is_empty()
+}
+
+impl<'a> Values<'a> {
+    /// These values.
+    pub fn of(values: &'a [Value]) -> Self
+        ensures { result ≡ values.now }
+    {
+        Values {
+            source: Source::Listed(values),
+        }
+    }
+
+    /// The values of these bytes.
+    pub(crate) fn of_bytes(bytes: &'a [u8]) -> Self
+        requires { IsPacked bytes.now }
+        ensures { result ≡ unpacked bytes.now }
+    {
+        Values {
+            source: Source::Packed(bytes),
+        }
+    }
+
+    /// The same values, to go through once more.
+    pub fn copy(&self) -> Self
+        ensures { result ≡ self.now }
+    {
+        Values {
+            source: self.source,
+        }
+    }
+
+    /// Whether no value is left.
+    pub fn is_empty(&self) -> bool
+        ensures { result ≡ (length self.now == 0) }
+    {
+        match self.source {
+            Source::Listed(values) => values.is_empty(),
+            Source::Packed(bytes) => holds_none(bytes),
+        }
+    }
+
+    /// The next value, if one is left.
+    pub fn next(&mut self) -> Option<ValueRef<'a>>
+        ensures some { IfSome result (λ value. self.old ≡ shown value ∷ self.new) }
+        ensures bytes { IfSome result (λ value. HasBytes (shown value)) }
+        ensures none { IfNone result ((self.old ≡ []) × (self.new ≡ [])) }
+    {
+        match self.source {
+            Source::Listed(values) => {
+                let [value, rest @ ..] = values else {
+                    return None;
+                };
+                self.source = Source::Listed(rest);
+                Some(value.as_ref())
+            }
+            Source::Packed(bytes) => {
+                let (value, rest) = next_packed(bytes)?;
+                self.source = Source::Packed(rest);
+                Some(value)
+            }
+        }
+    }
+}

@@ -1,0 +1,265 @@
+//! The program over any runtime and streams.
+ghost use Rattle.std.specs.Prelude.{◌≡◌, ◌≤◌, ◌+◌, ◌≢◌, ◌⊎◌, [], false, true, IfSome, OnOk, OnErr, IsErrOf, ℕ, List};
+ghost use Rattle.bt_script.specs.Options.{AreWithinLimits, AsksHelp, IsFaulty, IsToReadInput, MustBeRefused};
+ghost use Rattle.bt_script.specs.Streams.{FailsToGive, GaveAtMost, GivesWithin, Took, count_of, has_failed, has_unflushed, source_of};
+ghost use Rattle.bt_shell.specs.Programs.{AnswersPrefix, AnswersReplies, AnswersScript, AreHealthy, HasCause, IsToRun, LeavesInput};
+ghost use Rattle.bt_shell.specs.Runs.{IsWholeRun, WritesPrefix, WritesReplies, WritesRun, state_after_commands};
+ghost use Rattle.bt_shell.specs.Statuses.{TookLine, line_of, status_of};
+ghost use Rattle.bt_shell.specs.declared.program_run.ProgramFault.{ProgramFault};
+ghost use Rattle.bt_table.specs.Standing.{CompleteIndexesHold, IsSound};
+ghost use Rattle.std.specs.declared.option.Option.TheVariants.{None};
+
+use crate::context::Context;
+use crate::script_run::{RunMemory, flush_output};
+use bt_gang::{Crew, NoGate};
+use bt_rowtype::Texts;
+use bt_script::{Counted, RunFault, SCRIPT_LIMIT, Words, WordsError, read_words, write_text};
+use std::alloc::AllocError;
+use std::io::{Read, Write};
+use std::rt::Files;
+use std::sync::Wait;
+use std::thread::Threads;
+use std::{fs, mem};
+
+/// Why the program ends with a status other than 0.
+#[derive(Debug, Drop)]
+pub enum ProgramFault {
+    /// The command line says nothing to run.
+    Words,
+    /// The run ended early.
+    Run(RunFault),
+}
+
+impl From<RunFault> for ProgramFault {
+    ghost use Rattle.std.specs.Prelude.{◌≡◌};
+    ghost use Rattle.bt_shell.specs.declared.program_run.ProgramFault.TheVariants.{Run};
+
+    ghost from_gives = { λ fault e. e ≡ Run fault };
+
+    fn from(fault: RunFault) -> ProgramFault {
+        ProgramFault::Run(fault)
+    }
+}
+
+impl From<AllocError> for ProgramFault {
+    ghost use Rattle.std.specs.Prelude.{◌≡◌};
+    ghost use Rattle.bt_shell.specs.declared.program_run.ProgramFault.TheVariants.{Run};
+    ghost use Rattle.bt_script.specs.declared.streams.RunFault.TheVariants.{OutOfMemory};
+
+    ghost from_gives = { λ _ e. e ≡ Run OutOfMemory };
+
+    fn from(_e: AllocError) -> ProgramFault {
+        ProgramFault::Run(RunFault::OutOfMemory)
+    }
+}
+
+impl ProgramFault {
+    // The fault as a line of standard error.
+    fn line(&self) -> &'static str
+        ensures { result.now ≡ line_of self.now }
+    {
+        match self {
+            ProgramFault::Words => "betable: faulty command line\n",
+            ProgramFault::Run(RunFault::Read) => "betable: read failed\n",
+            ProgramFault::Run(RunFault::Write) => "betable: write failed\n",
+            ProgramFault::Run(RunFault::OutOfMemory) => "betable: out of memory\n",
+        }
+    }
+
+    /// Writes the fault as one line, after `betable: `, and answers the exit status: 2 for the command line, and 1 for a
+    /// run. An error of the stream is let go.
+    pub fn report<E: Write>(&self, errors: &mut Counted<E>) -> u8
+        ensures status { result ≡ status_of self.now }
+        ensures line { TookLine E.contents errors.old errors.new self.now }
+    {
+        let _ = write_text(errors, self.line().as_bytes());
+        match self {
+            ProgramFault::Words => 2,
+            ProgramFault::Run(_) => 1,
+        }
+    }
+}
+
+// Runs the script of a file. One that does not open is a read that fails.
+fn run_file<R: Files + AllocGlobal + Threads + Wait + Sync, W: Write>(
+    rt: &R,
+    path: &str,
+    crew: &Crew<NoGate>,
+    memory: &mut RunMemory,
+    output: &mut Counted<W>,
+) -> Result<(), RunFault>
+    requires writes { has_failed output.old ≡ false }
+    ensures ok { OnOk result (WritesRun W.contents None output.old output.new) }
+    ensures err { OnErr result (WritesPrefix W.contents None output.old output.new) }
+    ensures healthy { OnOk result (has_failed output.new ≡ false) }
+    ensures flushed { OnOk result (has_unflushed output.new ≡ false) }
+    ensures unread { IsErrOf result RunFault.Read → output.new ≡ output.old }
+    ensures write { IsErrOf result RunFault.Write → has_failed output.new ≡ true }
+    ensures memory { IsErrOf result RunFault.OutOfMemory → has_failed output.new ≡ false }
+    ensures replies { IsErrOf result RunFault.OutOfMemory → WritesReplies W.contents None output.old output.new }
+{
+    let Ok(file) = fs::open(rt, path) else {
+        return Err(RunFault::Read);
+    };
+    let alloc = rt.alloc();
+    let context = Context { rt, alloc, crew };
+    memory.run(&context, &mut Counted::new(file), output)
+}
+
+// The crew that words ask for.
+fn crew_of(words: &Words) -> Crew<NoGate>
+    requires { AreWithinLimits words.now.workers words.now.cut words.now.grain }
+    ensures sizes { (result.workers ≡ words.now.workers) × (result.cut ≡ words.now.cut) × (result.grain ≡ words.now.grain) }
+{
+    match Crew::new(words.workers, words.cut, words.grain, NoGate) {
+        Ok(crew) => crew,
+        Err(_) => unreachable!(),
+    }
+}
+
+// Does what the words ask for. After a fault what was written is not flushed.
+fn run_words<R: Files + AllocGlobal + Threads + Wait + Sync, I: Read, W: Write>(
+    rt: &R,
+    words: &Texts,
+    memory: &mut RunMemory,
+    input: &mut Counted<I>,
+    output: &mut Counted<W>,
+) -> Result<(), ProgramFault>
+    requires reads { has_failed input.old ≡ false }
+    requires writes { has_failed output.old ≡ false }
+    ensures ok { OnOk result (AnswersScript I.remaining W.contents words.now input.old output.old output.new) }
+    ensures input { OnOk result (IsToReadInput words.now → IsWholeRun I.remaining W.contents input.old input.new output.old output.new) }
+    ensures err { OnErr result (AnswersPrefix I.remaining W.contents words.now input.old output.old output.new) }
+    ensures healthy { OnOk result (AreHealthy input.new output.new) }
+    ensures words { OnOk result (IsToRun words.now ⊎ AsksHelp words.now) }
+    ensures short { OnOk result (GaveAtMost I.remaining input.old input.new SCRIPT_LIMIT) }
+
+    // Which fault it is, and what it leaves.
+    ensures faulty { IsErrOf result ProgramFault.Words → IsFaulty words.now }
+    ensures refused { MustBeRefused words.now → IsErrOf result ProgramFault.Words ⊎ IsErrOf result (ProgramFault.Run RunFault.OutOfMemory) }
+    ensures unwritten { MustBeRefused words.now → output.new ≡ output.old }
+    ensures asked { IsErrOf result (ProgramFault.Run RunFault.Read) → IsToRun words.now }
+    ensures read { IsErrOf result (ProgramFault.Run RunFault.Read) → IsToReadInput words.now → FailsToGive I.remaining input.old input.new SCRIPT_LIMIT }
+    ensures unread { IsErrOf result (ProgramFault.Run RunFault.Read) → output.new ≡ output.old }
+    ensures write { IsErrOf result (ProgramFault.Run RunFault.Write) → has_failed output.new ≡ true }
+    ensures given { IsErrOf result (ProgramFault.Run RunFault.Write) → GivesWithin I.remaining input.old input.new SCRIPT_LIMIT }
+    ensures memory { IsErrOf result (ProgramFault.Run RunFault.OutOfMemory) → AreHealthy input.new output.new }
+    ensures within { IsErrOf result (ProgramFault.Run RunFault.OutOfMemory) → GaveAtMost I.remaining input.old input.new SCRIPT_LIMIT }
+    ensures replies { IsErrOf result (ProgramFault.Run RunFault.OutOfMemory) → AnswersReplies I.remaining W.contents words.now input.old output.old output.new }
+
+    // What is read.
+    ensures untouched { LeavesInput words.now input.old input.new }
+    ensures at_most { GaveAtMost I.remaining input.old input.new (SCRIPT_LIMIT + 1) }
+{
+    let said = match read_words(rt.alloc(), words) {
+        Ok(said) => said,
+        Err(WordsError::Faulty) => return Err(ProgramFault::Words),
+        Err(WordsError::Help(text)) => return Ok(write_text(output, text.as_bytes())?),
+        Err(WordsError::OutOfMemory) => return Err(ProgramFault::Run(RunFault::OutOfMemory)),
+    };
+    let crew = crew_of(&said);
+    match &said.script {
+        None => {
+            let alloc = rt.alloc();
+            let context = Context {
+                rt,
+                alloc,
+                crew: &crew,
+            };
+            Ok(memory.run(&context, input, output)?)
+        }
+        Some(path) => Ok(run_file(rt, path.as_str(), &crew, memory, output)?),
+    }
+}
+
+// Does what the words ask for, and flushes what was written, also after a fault.
+fn run_and_flush<R: Files + AllocGlobal + Threads + Wait + Sync, I: Read, W: Write>(
+    rt: &R,
+    words: &Texts,
+    memory: &mut RunMemory,
+    input: &mut Counted<I>,
+    output: &mut Counted<W>,
+) -> Result<(), ProgramFault>
+    requires reads { has_failed input.old ≡ false }
+    requires writes { has_failed output.old ≡ false }
+    ensures ok { OnOk result (AnswersScript I.remaining W.contents words.now input.old output.old output.new) }
+    ensures input { OnOk result (IsToReadInput words.now → IsWholeRun I.remaining W.contents input.old input.new output.old output.new) }
+    ensures err { OnErr result (AnswersPrefix I.remaining W.contents words.now input.old output.old output.new) }
+    ensures healthy { OnOk result (AreHealthy input.new output.new) }
+    ensures flushed { OnOk result (has_unflushed output.new ≡ false) }
+    ensures words { OnOk result (IsToRun words.now ⊎ AsksHelp words.now) }
+    ensures short { OnOk result (GaveAtMost I.remaining input.old input.new SCRIPT_LIMIT) }
+
+    // Which fault it is, and what it leaves.
+    ensures faulty { IsErrOf result ProgramFault.Words → IsFaulty words.now }
+    ensures refused { MustBeRefused words.now → IsErrOf result ProgramFault.Words ⊎ IsErrOf result (ProgramFault.Run RunFault.OutOfMemory) }
+    ensures unwritten { MustBeRefused words.now → Took W.contents output.old output.new [] }
+    ensures asked { IsErrOf result (ProgramFault.Run RunFault.Read) → IsToRun words.now }
+    ensures read { IsErrOf result (ProgramFault.Run RunFault.Read) → IsToReadInput words.now → FailsToGive I.remaining input.old input.new SCRIPT_LIMIT }
+    ensures unread { IsErrOf result (ProgramFault.Run RunFault.Read) → Took W.contents output.old output.new [] }
+    ensures write { IsErrOf result (ProgramFault.Run RunFault.Write) → has_failed output.new ≡ true }
+    ensures given { IsErrOf result (ProgramFault.Run RunFault.Write) → GivesWithin I.remaining input.old input.new SCRIPT_LIMIT }
+    ensures memory { IsErrOf result (ProgramFault.Run RunFault.OutOfMemory) → GivesWithin I.remaining input.old input.new SCRIPT_LIMIT }
+    ensures replies { IsErrOf result (ProgramFault.Run RunFault.OutOfMemory) → AnswersReplies I.remaining W.contents words.now input.old output.old output.new }
+
+    // What is read.
+    ensures untouched { LeavesInput words.now input.old input.new }
+    ensures at_most { GaveAtMost I.remaining input.old input.new (SCRIPT_LIMIT + 1) }
+{
+    let ended = run_words(rt, words, memory, input, output);
+    let flushed = flush_output(output);
+    ended?;
+    Ok(flushed?)
+}
+
+/// Runs the program over its words, its name first, and three streams, and answers its exit status. 0: the script ran, or
+/// the help text was printed. 1: `read failed`, `write failed` or `out of memory`. 2: `faulty command line`. For a status
+/// other than 0 the error stream gets that as one line, after `betable: `.
+///
+/// Where the words name no file, the input is the script: with status 0 the output has gained its replies, and with any
+/// other status a prefix of them.
+pub fn program<R: Files + AllocGlobal + Threads + Wait + Sync, I: Read, W: Write, E: Write>(
+    rt: &R,
+    words: &Texts,
+    input: &mut Counted<I>,
+    output: &mut Counted<W>,
+    errors: &mut Counted<E>,
+) -> u8
+    requires reads { has_failed input.old ≡ false }
+    requires writes { has_failed output.old ≡ false }
+    ensures status { result ≤ 2 }
+
+    // What the words name is the script: the input, or a file, whose bytes no contract knows.
+    ensures ok { result ≡ 0 → AnswersScript I.remaining W.contents words.now input.old output.old output.new }
+    ensures input { result ≡ 0 → IsToReadInput words.now → IsWholeRun I.remaining W.contents input.old input.new output.old output.new }
+    ensures prefix { AnswersPrefix I.remaining W.contents words.now input.old output.old output.new }
+
+    // What each status says.
+    ensures words { result ≡ 0 → IsToRun words.now ⊎ AsksHelp words.now }
+    ensures healthy { result ≡ 0 → AreHealthy input.new output.new }
+    ensures short { result ≡ 0 → GaveAtMost I.remaining input.old input.new SCRIPT_LIMIT }
+    ensures flushed { result ≡ 0 → has_unflushed output.new ≡ false }
+    ensures quiet { result ≡ 0 → errors.new ≡ errors.old }
+    ensures told { result ≢ 0 → (fault : ProgramFault) × (result ≡ status_of fault) × HasCause I.remaining W.contents words.now input.old input.new output.old output.new fault
+        × TookLine E.contents errors.old errors.new fault }
+    ensures faulty { result ≡ 2 → IsFaulty words.now }
+    ensures refused { MustBeRefused words.now → (result ≡ 2) ⊎ (result ≡ 1) }
+    ensures unwritten { MustBeRefused words.now → Took W.contents output.old output.new [] }
+
+    // Between any two commands of any script the table, where there is one, is sound.
+    ensures sound { (script : List ℕ) (n : ℕ) → IfSome (state_after_commands script n) IsSound }
+    ensures complete { (script : List ℕ) (n : ℕ) → IfSome (state_after_commands script n) CompleteIndexesHold }
+
+    // What is read.
+    ensures untouched { LeavesInput words.now input.old input.new }
+    ensures at_most { GaveAtMost I.remaining input.old input.new (SCRIPT_LIMIT + 1) }
+{
+    let mut memory = RunMemory::new(rt.alloc());
+    let ended = run_and_flush(rt, words, &mut memory, input, output);
+    // The process ends now, which gives the memory back at once: the nodes of the table are not walked for it.
+    mem::forget(memory);
+    match ended {
+        Ok(()) => 0,
+        Err(fault) => fault.report(errors),
+    }
+}

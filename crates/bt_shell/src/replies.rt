@@ -1,0 +1,290 @@
+//! The texts of replies.
+ghost use Rattle.std.specs.Prelude.{◌≡◌, ◌++◌, ◌+◌, [], IfOk, OnOk, flat_map};
+ghost use Rattle.bt_shell.specs.Replies.{count_line, item_text, refused_text, row_line, sum_line};
+ghost use Rattle.bt_shell.specs.Replies as spec;
+ghost use Rattle.bt_shell.specs.inside.Lines.{lines_as_one, with_line, with_lines};
+
+use crate::reply_text::ReplyText;
+use bt_keycode::Key;
+use bt_node::{ForkVisitor, Visitor};
+use bt_rowtype::{Refusal, Row, Text, write_number, write_row};
+use bt_table::{Reply, SentCount};
+use bt_view::Sum;
+use itoa::Buffer;
+use std::alloc::{AllocError, Global};
+use std::marker::Model;
+use std::mem;
+
+/// Adds a word, a number and a line end.
+pub(crate) fn write_count(out: &mut Vec<u8>, word: &[u8], count: usize) -> Result<(), AllocError>
+    ensures { OnOk result (out.new.items ≡ out.old.items ++ count_line word.now count) }
+{
+    out.extend_from_slice(word)?;
+    write_number(out, count as u64)?;
+    out.push(b'\n')?;
+    Ok(())
+}
+
+/// The reply that is a word, a number and a line end.
+pub(crate) fn count_reply(alloc: Global, word: &[u8], count: usize) -> Result<ReplyText, AllocError>
+    ensures { IfOk result (λ text. text ≡ count_line word.now count) }
+{
+    let mut text = Vec::new(alloc);
+    write_count(&mut text, word, count)?;
+    Ok(ReplyText::new(alloc, text))
+}
+
+fn write_row_line(out: &mut Vec<u8>, row: &Row) -> Result<(), AllocError>
+    ensures { OnOk result (out.new.items ≡ out.old.items ++ row_line row.now) }
+{
+    out.extend_from_slice(b"row ")?;
+    write_row(out, row)?;
+    out.push(b'\n')?;
+    Ok(())
+}
+
+// The reply that is the row of a key, where it has one.
+fn row_reply(alloc: Global, row: Option<Row>) -> Result<ReplyText, AllocError>
+    ensures { IfOk result (λ text. text ≡ spec.row_reply row) }
+{
+    let Some(row) = row else {
+        return Ok(ReplyText::new(alloc, Vec::from_slice(alloc, b"none\n")?));
+    };
+    let mut text = Vec::new(alloc);
+    write_row_line(&mut text, &row)?;
+    Ok(ReplyText::new(alloc, text))
+}
+
+// Adds the name of an index and how many messages it was sent, behind a space.
+fn write_sent(out: &mut Vec<u8>, sent: &SentCount) -> Result<(), AllocError>
+    ensures { OnOk result (out.new.items ≡ out.old.items ++ spec.sent_text sent.now) }
+{
+    out.push(b' ')?;
+    out.extend_from_slice(sent.name.as_bytes())?;
+    out.push(b':')?;
+    write_number(out, sent.count as u64)
+}
+
+// Adds those of each index.
+fn write_each_sent(out: &mut Vec<u8>, sent: &[SentCount]) -> Result<(), AllocError>
+    ensures { OnOk result (out.new.items ≡ out.old.items ++ flat_map spec.sent_text sent.now) }
+{
+    for one in sent {
+        write_sent(out, one)?;
+    }
+    Ok(())
+}
+
+// The reply that is the number of messages of a batch, and that of each index.
+fn batch_reply(alloc: Global, count: usize, sent: &[SentCount]) -> Result<ReplyText, AllocError>
+    ensures { IfOk result (λ text. text ≡ spec.batch_reply count sent.now) }
+{
+    let mut text = Vec::from_slice(alloc, b"batch ")?;
+    write_number(&mut text, count as u64)?;
+    write_each_sent(&mut text, sent)?;
+    text.push(b'\n')?;
+    Ok(ReplyText::new(alloc, text))
+}
+
+// The reply that is a word, a name and a line end.
+fn name_reply(alloc: Global, word: &[u8], name: &Text) -> Result<ReplyText, AllocError>
+    ensures { IfOk result (λ text. text ≡ spec.name_line word.now name.now) }
+{
+    let mut text = Vec::from_slice(alloc, word)?;
+    text.extend_from_slice(name.as_bytes())?;
+    text.push(b'\n')?;
+    Ok(ReplyText::new(alloc, text))
+}
+
+// The reply that is the name of an index, how many rows a step of its building read, and whether it is complete.
+fn build_reply(
+    alloc: Global,
+    name: &Text,
+    read: usize,
+    complete: bool,
+) -> Result<ReplyText, AllocError>
+    ensures { IfOk result (λ text. text ≡ spec.build_line name.now read complete) }
+{
+    let mut text = Vec::from_slice(alloc, b"build ")?;
+    text.extend_from_slice(name.as_bytes())?;
+    text.push(b' ')?;
+    write_number(&mut text, read as u64)?;
+    let progress = if complete {
+        b" complete\n"
+    } else {
+        b" building\n"
+    };
+    text.extend_from_slice(progress)?;
+    Ok(ReplyText::new(alloc, text))
+}
+
+/// The text of what a call on a table answers.
+pub(crate) fn reply_text(alloc: Global, reply: Reply) -> Result<ReplyText, AllocError>
+    ensures { IfOk result (λ text. text ≡ spec.reply_text reply) }
+{
+    match reply {
+        Reply::Batch { count, sent } => batch_reply(alloc, count, sent.as_slice()),
+        Reply::Row(row) => row_reply(alloc, row),
+        Reply::Created(name) => name_reply(alloc, b"index ", &name),
+        Reply::Built {
+            name,
+            read,
+            complete,
+        } => build_reply(alloc, &name, read, complete),
+        Reply::Dropped(name) => name_reply(alloc, b"dropped ", &name),
+        Reply::Loaded(count) => count_reply(alloc, b"loaded ", count),
+        Reply::Drained(name) => name_reply(alloc, b"drained ", &name),
+        Reply::Rebuilt(name) => name_reply(alloc, b"rebuilt ", &name),
+    }
+}
+
+// Adds the line of a group.
+fn write_sum_line(out: &mut Vec<u8>, sum: &Sum) -> Result<(), AllocError>
+    ensures { OnOk result (out.new.items ≡ out.old.items ++ sum_line sum.now) }
+{
+    out.extend_from_slice(b"sum ")?;
+    write_number(out, sum.count)?;
+    out.push(b' ')?;
+    out.extend_from_slice(Buffer::new().format(sum.total).as_bytes())?;
+    out.push(b' ')?;
+    write_row(out, &sum.group)?;
+    out.push(b'\n')?;
+    Ok(())
+}
+
+// Adds the lines of groups.
+fn write_sum_lines(out: &mut Vec<u8>, sums: &[Sum]) -> Result<(), AllocError>
+    ensures { OnOk result (out.new.items ≡ out.old.items ++ flat_map sum_line sums.now) }
+{
+    for sum in sums {
+        write_sum_line(out, sum)?;
+    }
+    Ok(())
+}
+
+/// The reply that is the lines of groups, and then their number. It is written into the room that a list has, whose bytes are gone.
+pub(crate) fn sums_reply(
+    alloc: Global,
+    sums: &[Sum],
+    room: Vec<u8>,
+) -> Result<ReplyText, AllocError>
+    ensures { IfOk result (λ text. text ≡ spec.sums_reply sums.now) }
+{
+    let mut text = room;
+    text.clear();
+    write_sum_lines(&mut text, sums)?;
+    write_count(&mut text, b"sums ", sums.len())?;
+    Ok(ReplyText::new(alloc, text))
+}
+
+/// Lines, written as the rows that they show come: one text, or where rows are gone through in parts, the text of each part, which no join copies. A contract
+/// sees all bytes and the number of lines.
+#[derive(Drop)]
+pub struct Lines {
+    // The texts before the one at hand, in order.
+    pieces: Vec<Vec<u8>>,
+    text: Vec<u8>,
+    count: usize,
+}
+
+impl Model for Lines {
+    ghost use Rattle.std.specs.Prelude.{List, ◌++◌, ℕ};
+    ghost use Rattle.bt_shell.specs.inside.Pieces.{text_of_pieces};
+
+    ghost Value = { List ℕ × ℕ };
+
+    ghost view = { λ l. (text_of_pieces l.pieces.items ++ l.text.items, l.count) };
+}
+
+// The number of lines with more of them. Each has a byte at least, and no memory holds more bytes than are counted.
+fn add_count(count: usize, more: usize) -> Result<usize, AllocError>
+    ensures { IfOk result (λ sum. sum ≡ count + more) }
+{
+    count.checked_add(more).ok_or(AllocError)
+}
+
+impl Lines {
+    /// No line, with the room that a list has, whose bytes are gone. Takes no memory.
+    pub fn in_room(alloc: Global, room: Vec<u8>) -> Self
+        ensures { result ≡ ([], 0) }
+    {
+        let mut text = room;
+        text.clear();
+        Lines {
+            pieces: Vec::new(alloc),
+            text,
+            count: 0,
+        }
+    }
+
+    /// The lines, and then a word and their number.
+    pub fn into_reply(self, word: &[u8]) -> Result<ReplyText, AllocError>
+        ensures { IfOk result (λ text. text ≡ self.0 ++ count_line word.now self.1) }
+    {
+        let Lines {
+            pieces,
+            mut text,
+            count,
+        } = self;
+        write_count(&mut text, word, count)?;
+        Ok(ReplyText::from_pieces(pieces, text))
+    }
+}
+
+impl Visitor<Row> for Lines {
+    ghost visited = { with_line (λ row. spec.row_line row.1) };
+
+    fn visit(&mut self, _alloc: Global, _key: &Key, row: &Row) -> Result<(), AllocError> {
+        write_row_line(&mut self.text, row)?;
+        self.count = add_count(self.count, 1)?;
+        Ok(())
+    }
+}
+
+impl ForkVisitor<Row> for Lines {
+    ghost forked = { λ _. ([], 0) };
+
+    ghost joined = { with_lines };
+
+    fn fork(&self, alloc: Global) -> Self {
+        Lines::in_room(alloc, Vec::new(alloc))
+    }
+
+    fn join(&mut self, _alloc: Global, behind: Self) -> Result<(), AllocError> {
+        let Lines {
+            mut pieces,
+            text,
+            count,
+        } = behind;
+        self.pieces.push(mem::replace(&mut self.text, text))?;
+        self.pieces.append(&mut pieces)?;
+        self.count = add_count(self.count, count)?;
+        Ok(())
+    }
+
+    ghost as_one = { λ lines rows behind. lines_as_one (λ row. spec.row_line row.1) lines rows behind };
+}
+
+// Adds the item of a refusal behind a space, where it has one.
+fn write_item(out: &mut Vec<u8>, item: Option<u64>) -> Result<(), AllocError>
+    ensures { OnOk result (out.new.items ≡ out.old.items ++ item_text item) }
+{
+    let Some(item) = item else {
+        return Ok(());
+    };
+    out.push(b' ')?;
+    write_number(out, item)
+}
+
+/// The reply to what is refused.
+pub(crate) fn refusal_reply(alloc: Global, refusal: Refusal) -> Result<ReplyText, AllocError>
+    ensures { IfOk result (λ text. text ≡ refused_text refusal) }
+{
+    let mut text = Vec::from_slice(alloc, b"refused ")?;
+    write_number(&mut text, u64::from(refusal.number()))?;
+    text.push(b' ')?;
+    text.extend_from_slice(refusal.name().as_bytes())?;
+    write_item(&mut text, refusal.item())?;
+    text.push(b'\n')?;
+    Ok(ReplyText::new(alloc, text))
+}

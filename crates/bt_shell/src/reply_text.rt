@@ -1,0 +1,72 @@
+//! The text of a reply, in pieces.
+ghost use Rattle.std.specs.Prelude.{◌≡◌, ◌++◌, true, IsErrOf, OnErr, OnOk};
+ghost use Rattle.bt_script.specs.Streams.{Took, TookPrefix, has_failed};
+ghost use Rattle.bt_shell.specs.inside.Pieces.{text_of_pieces};
+
+use bt_script::{Counted, RunFault, write_text};
+use std::alloc::Global;
+use std::io::Write;
+use std::marker::Model;
+
+/// The text of a reply. It may stand in several pieces, which are written one after the other and never copied into one. A contract sees all its bytes.
+#[derive(Drop)]
+pub struct ReplyText {
+    // The pieces before the last one, in order.
+    pieces: Vec<Vec<u8>>,
+    last: Vec<u8>,
+}
+
+impl Model for ReplyText {
+    ghost use Rattle.std.specs.Prelude.{List, ◌++◌, ℕ};
+    ghost use Rattle.bt_shell.specs.inside.Pieces.{text_of_pieces};
+
+    ghost Value = { List ℕ };
+
+    ghost view = { λ t. text_of_pieces t.pieces.items ++ t.last.items };
+}
+
+// Writes pieces one after the other. After an error a prefix of their bytes is written.
+fn write_pieces<W: Write>(writer: &mut Counted<W>, pieces: &[Vec<u8>]) -> Result<(), RunFault>
+    ensures ok { OnOk result (Took W.contents writer.old writer.new (text_of_pieces pieces.now)) }
+    ensures healthy { OnOk result (has_failed writer.new ≡ has_failed writer.old) }
+    ensures err { OnErr result (TookPrefix W.contents writer.old writer.new (text_of_pieces pieces.now)) }
+    ensures fault { OnErr result (IsErrOf result RunFault.Write × (has_failed writer.new ≡ true)) }
+{
+    for piece in pieces {
+        write_text(writer, piece.as_slice())?;
+    }
+    Ok(())
+}
+
+impl ReplyText {
+    /// A text in one piece. Takes no memory.
+    pub fn new(alloc: Global, text: Vec<u8>) -> Self
+        ensures { result ≡ text.items }
+    {
+        ReplyText::from_pieces(Vec::new(alloc), text)
+    }
+
+    /// Pieces, and then the last one.
+    pub fn from_pieces(pieces: Vec<Vec<u8>>, last: Vec<u8>) -> Self
+        ensures { result ≡ text_of_pieces pieces.items ++ last.items }
+    {
+        ReplyText { pieces, last }
+    }
+
+    /// Writes all of the text. After an error a prefix of it is written. A write that fails is not tried again.
+    pub fn write_to<W: Write>(&self, writer: &mut Counted<W>) -> Result<(), RunFault>
+        ensures ok { OnOk result (Took W.contents writer.old writer.new self.now) }
+        ensures healthy { OnOk result (has_failed writer.new ≡ has_failed writer.old) }
+        ensures err { OnErr result (TookPrefix W.contents writer.old writer.new self.now) }
+        ensures fault { OnErr result (IsErrOf result RunFault.Write × (has_failed writer.new ≡ true)) }
+    {
+        write_pieces(writer, self.pieces.as_slice())?;
+        write_text(writer, self.last.as_slice())
+    }
+
+    /// The last piece, whose room a later text can take.
+    pub fn into_room(self) -> Vec<u8> {
+        let ReplyText { last, .. } = self;
+        last
+    }
+}

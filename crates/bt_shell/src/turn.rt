@@ -1,0 +1,252 @@
+//! The table between commands, and the reply to each.
+ghost use Rattle.std.specs.Prelude.{◌≡◌, ◌<◌, ◌≤◌, false, true, None, Ok, Some, IfErr, IfOk, IfNone, IfSome, OnOk, [], drop, length};
+ghost use Rattle.bt_script.specs.Commands.{commands};
+ghost use Rattle.bt_script.specs.declared.command.Command.TheVariants as command;
+ghost use Rattle.bt_shell.specs.inside.Turns.{CarriesOut, IsTurn};
+ghost use Rattle.bt_shell.specs.Replies as spec;
+ghost use Rattle.bt_shell.specs.Replies.{refused_text};
+ghost use Rattle.bt_shell.specs.Steps as step;
+ghost use Rattle.bt_rowtype.specs.Answers.{Answers};
+ghost use Rattle.bt_batch.specs.Batches.{made};
+ghost use Rattle.bt_table.specs.Standing.{Suits};
+
+use crate::context::Context;
+use crate::replies::{Lines, count_reply, refusal_reply, reply_text, sums_reply};
+use crate::reply_text::ReplyText;
+use crate::workforce::ScriptWorkforce;
+use bt_fanout::IndexDef;
+use bt_node::Shape;
+use bt_rowtype::{Refusal, Schema, Text, least_with};
+use bt_script::{Bounds, Capacity, Command, IndexForm, Parsed, SumsForm, TableForm, parse_command};
+use bt_table::{Reply, Table};
+use std::alloc::{AllocError, Global};
+
+// A shape whose buffers have this capacity, within the limits.
+fn shape_of(fanout: u32, buffer: Capacity, leaf: u32) -> Result<Shape, Refusal>
+    ensures ok { IfOk result (λ shape. shape ≡ step.shape_of fanout buffer leaf) }
+    ensures allowed { IfOk result (λ _. step.is_allowed (step.shape_of fanout buffer leaf) ≡ true) }
+    ensures refused { IfErr result (λ e. (e ≡ Refusal.BadShape) × (step.is_allowed (step.shape_of fanout buffer leaf) ≡ false)) }
+{
+    match buffer {
+        Capacity::Messages(most) => Shape::new(fanout, most, leaf),
+        Capacity::Bytes(most) => Shape::weighed(fanout, most, leaf),
+    }
+}
+
+// The text of what a call on the table answers.
+fn call_text(alloc: Global, reply: Result<Reply, Refusal>) -> Result<ReplyText, Refusal>
+    ensures { Answers (made spec.reply_text reply) result }
+{
+    Ok(reply_text(alloc, reply?)?)
+}
+
+// The definition of a new index, or the least refusal of its name and of what it is made of.
+fn index_def(alloc: Global, table: &Table, form: &IndexForm) -> Result<IndexDef, Refusal>
+    ensures answer { Answers (step.definition_of table.now form.now) result }
+    ensures suits { IfOk result (λ def. Suits table.now def) }
+{
+    let schema = table.schema()?;
+    let free = table.check_index(&form.name);
+    match IndexDef::new(alloc, schema, &form.on, &form.include, form.filter.as_ref()) {
+        Err(Refusal::OutOfMemory) => Err(Refusal::OutOfMemory),
+        Err(refusal) => match free {
+            Ok(()) => Err(refusal),
+            Err(other) => Err(least_with(Some(other), refusal)),
+        },
+        Ok(def) => match free {
+            Ok(()) => Ok(def),
+            Err(other) => {
+                drop(def);
+                Err(other)
+            }
+        },
+    }
+}
+
+// Creates an index.
+fn create_index(alloc: Global, table: &mut Table, form: IndexForm) -> Result<ReplyText, Refusal>
+    ensures { CarriesOut (Some table.old) (Some table.new) (command.Index form) result }
+{
+    let def = index_def(alloc, table, &form);
+    let IndexForm {
+        name,
+        on,
+        include,
+        filter,
+    } = form;
+    drop((on, include, filter));
+    call_text(alloc, table.create_index(alloc, name, def?))
+}
+
+// Writes the rows of a range as lines, into the room of a list.
+fn scan<T, C: ScriptWorkforce<T>>(
+    context: &Context<'_, T, C>,
+    table: &Table,
+    name: &Text,
+    bounds: &Bounds<'_>,
+    room: Vec<u8>,
+) -> Result<ReplyText, Refusal>
+    requires ready { C.accepts context.now.crew.now }
+    ensures { CarriesOut (Some table.now) (Some table.now) (command.Scan name.now bounds.now) result }
+{
+    let Context { rt, alloc, crew } = *context;
+    let lines = crew.scan(rt, alloc, table, name, bounds, Lines::in_room(alloc, room))?;
+    Ok(lines.into_reply(b"rows ")?)
+}
+
+// Writes the groups of a range as lines, into the room of a list.
+fn sums<T, C: ScriptWorkforce<T>>(
+    context: &Context<'_, T, C>,
+    table: &Table,
+    form: &SumsForm<'_>,
+    room: Vec<u8>,
+) -> Result<ReplyText, Refusal>
+    requires ready { C.accepts context.now.crew.now }
+    ensures { CarriesOut (Some table.now) (Some table.now) (command.Sums form.now) result }
+{
+    let Context { rt, alloc, crew } = *context;
+    let sums = crew.sums(rt, alloc, table, form)?;
+    Ok(sums_reply(alloc, sums.as_slice(), room)?)
+}
+
+fn image(alloc: Global, table: &Table, name: &Text) -> Result<ReplyText, Refusal>
+    ensures { CarriesOut (Some table.now) (Some table.now) (command.Image name.now) result }
+{
+    Ok(ReplyText::new(alloc, bt_view::image(alloc, table, name)?))
+}
+
+// The reply to a command where there is a table, or its refusal. Where a reply has many lines, they are written into the room of a list.
+fn reply_of_table<T, C: ScriptWorkforce<T>>(
+    context: &Context<'_, T, C>,
+    table: &mut Table,
+    command: Command<'_>,
+    room: Vec<u8>,
+) -> Result<ReplyText, Refusal>
+    requires ready { C.accepts context.now.crew.now }
+    ensures { CarriesOut (Some table.old) (Some table.new) command.entry result }
+{
+    let Context { rt, alloc, crew } = *context;
+    match command {
+        Command::Table(_form) => Err(Refusal::TableExists),
+        Command::Batch(items) => call_text(alloc, table.apply(rt, alloc, items.as_slice(), crew)),
+        Command::Get(fields) => call_text(alloc, table.get(alloc, &fields)),
+        Command::Scan(tree, bounds) => scan(context, table, &tree, &bounds, room),
+        Command::Sums(form) => sums(context, table, &form, room),
+        Command::Image(tree) => image(alloc, table, &tree),
+        Command::Index(form) => create_index(alloc, table, form),
+        Command::Build(name, count) => call_text(
+            alloc,
+            table.build_step(rt, alloc, &name, count as usize, crew),
+        ),
+        Command::Drop(name) => call_text(alloc, table.drop_index(&name)),
+        Command::Load(text) => call_text(alloc, crew.load(rt, alloc, table, text.as_bytes())),
+        Command::Drain(tree) => call_text(alloc, table.drain(rt, alloc, &tree, crew)),
+        Command::Rebuild(tree) => call_text(alloc, table.rebuild(rt, alloc, &tree, crew)),
+    }
+}
+
+// Makes the table, where there is none so far.
+fn create_table(
+    alloc: Global,
+    table: &mut Option<Table>,
+    form: TableForm,
+) -> Result<ReplyText, Refusal>
+    requires { table.old ≡ None }
+    ensures { CarriesOut table.old table.new (command.Table form) result }
+{
+    let count = form.columns.len();
+    let Ok(schema) = Schema::new(form.columns, form.keys as usize) else {
+        return Err(Refusal::BadSchema);
+    };
+    let shape = shape_of(form.fanout, form.buffer, form.leaf)?;
+    *table = Some(Table::new(alloc, schema, shape));
+    Ok(count_reply(alloc, b"table ", count)?)
+}
+
+// The reply to a command that is not refused, or its refusal.
+fn command_reply<T, C: ScriptWorkforce<T>>(
+    context: &Context<'_, T, C>,
+    table: &mut Option<Table>,
+    command: Command<'_>,
+    room: Vec<u8>,
+) -> Result<ReplyText, Refusal>
+    requires ready { C.accepts context.now.crew.now }
+    ensures { CarriesOut table.old table.new command.entry result }
+{
+    if let Some(table) = table {
+        return reply_of_table(context, table, command, room);
+    }
+    match command {
+        Command::Table(form) => create_table(context.alloc, table, form),
+        _ => Err(Refusal::NoTable),
+    }
+}
+
+/// The reply to a command, and whether it is a refusal.
+#[derive(Drop)]
+pub(crate) struct CommandReply {
+    pub(crate) text: ReplyText,
+    pub(crate) refused: bool,
+}
+
+// The reply that is a refusal.
+fn refusal_answer(alloc: Global, refusal: Refusal) -> Result<CommandReply, AllocError>
+    ensures text { IfOk result (λ reply. reply.text ≡ refused_text refusal) }
+    ensures refused { IfOk result (λ reply. reply.refused ≡ true) }
+{
+    Ok(CommandReply {
+        text: refusal_reply(alloc, refusal)?,
+        refused: true,
+    })
+}
+
+// The reply to a command, and what the command does. An `Err` is for want of memory.
+fn take_turn<T, C: ScriptWorkforce<T>>(
+    context: &Context<'_, T, C>,
+    table: &mut Option<Table>,
+    command: Command<'_>,
+    room: Vec<u8>,
+) -> Result<CommandReply, AllocError>
+    requires ready { C.accepts context.now.crew.now }
+    ensures text { IfOk result (λ reply. reply.text ≡ (step.turn table.old (Ok command.entry)).1) }
+    ensures refused { IfOk result (λ reply. reply.refused ≡ step.has_refusal table.old (Ok command.entry)) }
+    ensures state { OnOk result (table.new ≡ (step.turn table.old (Ok command.entry)).0) }
+{
+    match command_reply(context, table, command, room) {
+        Ok(text) => Ok(CommandReply {
+            text,
+            refused: false,
+        }),
+        Err(Refusal::OutOfMemory) => Err(AllocError),
+        Err(refusal) => refusal_answer(context.alloc, refusal),
+    }
+}
+
+/// The reply to the command that stands at a place, with the place behind it, or `None` where no further one does. An `Err` is for want of memory.
+///
+/// A reply of many lines takes the room of a list, such as the reply before it, so that scans one after the other ask for it once.
+pub(crate) fn next_reply<T, C: ScriptWorkforce<T>>(
+    context: &Context<'_, T, C>,
+    script: &[u8],
+    table: &mut Option<Table>,
+    at: usize,
+    room: Vec<u8>,
+) -> Result<Option<(CommandReply, usize)>, AllocError>
+    requires ready { C.accepts context.now.crew.now }
+    ensures step { IfOk result (λ found. IfSome found (λ f. IsTurn table.old table.new (commands (drop at script.now)) (commands (drop f.1 script.now)) f.0.text f.0.refused)) }
+    ensures end { IfOk result (λ found. IfNone found (commands (drop at script.now) ≡ [])) }
+    ensures kept { IfOk result (λ found. IfNone found (table.new ≡ table.old)) }
+    ensures past { IfOk result (λ found. IfSome found (λ f. (at < f.1) × (f.1 ≤ length script.now))) }
+{
+    match parse_command(context.alloc, script, at)? {
+        Parsed::End => Ok(None),
+        Parsed::Bad { refusal, next } => {
+            let reply = refusal_answer(context.alloc, refusal)?;
+            Ok(Some((reply, next)))
+        }
+        Parsed::Good { command, next } => {
+            let reply = take_turn(context, table, command, room)?;
+            Ok(Some((reply, next)))
+        }
+    }
+}
