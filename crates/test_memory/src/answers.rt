@@ -1,9 +1,9 @@
 //! The texts of answers, as the program that runs scripts prints them.
-use bt_rowtype::{Refusal, Sequence, Text, write_row};
+use bt_rowtype::{Refusal, Sequence, Text, write_number, write_row};
 use bt_script::Counted;
 use bt_shell::Lines;
 use bt_table::{Reply, SentCount};
-use bt_view::{Sum, write_number};
+use bt_view::Sum;
 use std::alloc::{AllocError, Global};
 
 /// What a call answers where it is not refused.
