@@ -1,7 +1,7 @@
 //! Trees of rows, and of index values.
 use crate::samples::{Sample, Sent, add_message, add_value, is_text, key, packet};
 use bt_keycode::Key;
-use bt_messages::{Bins, Entry, BufferMessages, Packet};
+use bt_messages::{Bins, BufferMessages, Entry, Packet};
 use bt_node::{
     Node, Parts, Portion, Shape, Siblings, Tree, Walk, absorb_alone, crown, pack, regroup,
 };
