@@ -25,9 +25,9 @@ abbrev pub RowMessages : Type 0
 RowMessages = List KeyedMessage
 
 -- what is made of a value, where it could be read
-abbrev pub made : {A B : Type 0} → (A → B) → Result A Refusal → Result B Refusal
-made make (Ok value) = Ok (make value)
-made make (Err refusal) = Err refusal
+abbrev pub map_ok : {A B : Type 0} → (A → B) → Result A Refusal → Result B Refusal
+map_ok make (Ok value) = Ok (make value)
+map_ok make (Err refusal) = Err refusal
 
 -- what is answered for a value, where it could be had
 abbrev pub and_then : {A B : Type 0} → (A → Result B Refusal) → Result A Refusal → Result B Refusal
@@ -52,9 +52,9 @@ ups_of schema upsert = (code_of upsert.0, message.Ups (record { base = default_r
 
 -- the message that a record spells in a table, or its refusal as this item
 abbrev pub read_message : Schema → ℕ → Item → Result KeyedMessage Refusal
-read_message schema item (Put fields) = made (put_of schema.keys) (read_as schema.columns item fields)
-read_message schema item (Del fields) = made del_of (read_key schema item fields)
-read_message schema item (Ups fields) = made (ups_of schema) (upsert_as schema item fields)
+read_message schema item (Put fields) = map_ok (put_of schema.keys) (read_as schema.columns item fields)
+read_message schema item (Del fields) = map_ok del_of (read_key schema item fields)
+read_message schema item (Ups fields) = map_ok (ups_of schema) (upsert_as schema item fields)
 
 -- what the records of a batch spell, counted from an item on
 abbrev pub read_batch : Schema → ℕ → List Item → List (Result KeyedMessage Refusal)

@@ -23,4 +23,4 @@ mod merging;
 
 pub use batch_packet::{read_packet, read_packet_alone};
 pub use line_messages::MOST_MESSAGES;
-pub use merging::merged;
+pub use merging::merged_pieces;

@@ -8,7 +8,7 @@ use Rattle.bt_keycode.specs.Keys.{key_cmp}
 use Rattle.bt_messages.specs.Messages.{Messages, sorted_batch}
 use Rattle.bt_keycode.proofs.offered.Order.{same_key, total_keys}
 use Rattle.bt_messages.proofs.offered.Rows.{find-rows_after, rows_after-sorted_batch, sorted-rows_after}
-use Rattle.bt_fanout.specs.Selections.{AllStand, AreApart, between, covered, entry_in, index_messages, named, select, sent}
+use Rattle.bt_fanout.specs.Selections.{AllStand, AreApart, between, covered, entry_changes, entry_in, index_messages, named, select}
 use Rattle.bt_fanout.proofs.Lookups.{sorted-select}
 use Rattle.bt_fanout.proofs.Owners.{owner}
 use Rattle.bt_fanout.proofs.Sendings.{sends}
@@ -46,20 +46,20 @@ module _ {X M : Type 0} (effect : Option X → M → Option X) where
 
 module _ {X E D : Type 0} (entry : List ℕ → X → Option (List ℕ × E)) (same : E → E → Bool) where
   -- what is sent for covered keys looks at covered rows alone
-  sent-covered : (covers : List ℕ → Bool) (old new : Rows X) (ks : Rows (Unit {0})) →
-      sent entry {D = D} same (λ k. find key_cmp k old) (λ k. find key_cmp k new) (covered covers ks)
-      ≡ sent entry {D = D} same (λ k. find key_cmp k (covered covers old)) (λ k. find key_cmp k (covered covers new)) (covered covers ks)
-  sent-covered covers old new [] = refl
-  sent-covered covers old new (k ∷ ks) = elim (covers k.0) as (λ b. covers k.0 ≡ b →
-      sent entry {D = D} same (λ k. find key_cmp k old) (λ k. find key_cmp k new) (cond b (k ∷ covered covers ks) (covered covers ks))
-      ≡ sent entry {D = D} same (λ k. find key_cmp k (covered covers old)) (λ k. find key_cmp k (covered covers new)) (cond b (k ∷ covered covers ks) (covered covers ks))) [
+  entry_changes-covered : (covers : List ℕ → Bool) (old new : Rows X) (ks : Rows (Unit {0})) →
+      entry_changes entry {D = D} same (λ k. find key_cmp k old) (λ k. find key_cmp k new) (covered covers ks)
+      ≡ entry_changes entry {D = D} same (λ k. find key_cmp k (covered covers old)) (λ k. find key_cmp k (covered covers new)) (covered covers ks)
+  entry_changes-covered covers old new [] = refl
+  entry_changes-covered covers old new (k ∷ ks) = elim (covers k.0) as (λ b. covers k.0 ≡ b →
+      entry_changes entry {D = D} same (λ k. find key_cmp k old) (λ k. find key_cmp k new) (cond b (k ∷ covered covers ks) (covered covers ks))
+      ≡ entry_changes entry {D = D} same (λ k. find key_cmp k (covered covers old)) (λ k. find key_cmp k (covered covers new)) (cond b (k ∷ covered covers ks) (covered covers ks))) [
         | true ↦ λ b.
             let was = find-covered covers k.0 old ∙ ap (λ t. cond t (find key_cmp k.0 old) None) b in
             let is = find-covered covers k.0 new ∙ ap (λ t. cond t (find key_cmp k.0 new) None) b in
-            ap (λ ms. between {D = D} same (entry_in entry k.0 (find key_cmp k.0 old)) (entry_in entry k.0 (find key_cmp k.0 new)) ++ ms) (sent-covered covers old new ks)
-            ∙ ap (λ x. between {D = D} same (entry_in entry k.0 x) (entry_in entry k.0 (find key_cmp k.0 new)) ++ sent entry {D = D} same (λ k. find key_cmp k (covered covers old)) (λ k. find key_cmp k (covered covers new)) (covered covers ks)) (sym was)
-            ∙ ap (λ x. between {D = D} same (entry_in entry k.0 (find key_cmp k.0 (covered covers old))) (entry_in entry k.0 x) ++ sent entry {D = D} same (λ k. find key_cmp k (covered covers old)) (λ k. find key_cmp k (covered covers new)) (covered covers ks)) (sym is)
-        | false ↦ λ b. sent-covered covers old new ks
+            ap (λ ms. between {D = D} same (entry_in entry k.0 (find key_cmp k.0 old)) (entry_in entry k.0 (find key_cmp k.0 new)) ++ ms) (entry_changes-covered covers old new ks)
+            ∙ ap (λ x. between {D = D} same (entry_in entry k.0 x) (entry_in entry k.0 (find key_cmp k.0 new)) ++ entry_changes entry {D = D} same (λ k. find key_cmp k (covered covers old)) (λ k. find key_cmp k (covered covers new)) (covered covers ks)) (sym was)
+            ∙ ap (λ x. between {D = D} same (entry_in entry k.0 (find key_cmp k.0 (covered covers old))) (entry_in entry k.0 x) ++ entry_changes entry {D = D} same (λ k. find key_cmp k (covered covers old)) (λ k. find key_cmp k (covered covers new)) (covered covers ks)) (sym is)
+        | false ↦ λ b. entry_changes-covered covers old new ks
       ] refl
 
 module _ {X E D : Type 0} (entry : List ℕ → X → Option (List ℕ × E)) (same : E → E → Bool) (sound : (a b : E) → same a b ≡ true → a ≡ b) (merged : Option E → D → E) (Stands : List ℕ → X → Type 0) (apart : AreApart Stands entry) where
@@ -70,7 +70,7 @@ module _ {X E D : Type 0} (entry : List ℕ → X → Option (List ℕ × E)) (s
   index_turns effect covers batch map s before after =
       let new = rows_after effect batch map in
       rows_after-sorted_batch (effect_of merged) (index_messages entry same effect covers batch map) (select entry (covered covers map)) (sorted-select entry (covered covers map))
-      ∙ ap (λ ms. rows_after (effect_of merged) ms (select entry (covered covers map))) (sent-covered {D = D} entry same covers map new (named batch))
+      ∙ ap (λ ms. rows_after (effect_of merged) ms (select entry (covered covers map))) (entry_changes-covered {D = D} entry same covers map new (named batch))
       ∙ sends entry same sound merged (covered covers map) (covered covers new) (covered covers (named batch))
       (is_sorted-where_key key_cmp covers map s) (is_sorted-where_key key_cmp covers new (sorted-rows_after effect batch map s))
       (same_row effect covers batch map)

@@ -12,7 +12,7 @@ use Rattle.bt_keycode.proofs.offered.Order.{apart as apart_keys, before_chain, n
 use Rattle.bt_node.proofs.offered.Truths.{t_both, t_first, t_second, t_true, true_t}
 use Rattle.bt_messages.proofs.offered.Rows.{rows_after-sorted_batch}
 use Rattle.bt_fanout.specs.Covers.{cover_after, is_covered, last_key, moved_to, next_rows, put_of_entry, puts_of}
-use Rattle.bt_fanout.specs.Selections.{AllStand, AreApart, between, covered, entry_in, keys_of, select, sent}
+use Rattle.bt_fanout.specs.Selections.{AllStand, AreApart, between, covered, entry_changes, entry_in, keys_of, select}
 use Rattle.bt_fanout.specs.declared.cover.Cover.{Cover}
 use Rattle.bt_fanout.specs.declared.cover.Cover.TheVariants.{Nothing, UpTo, Whole}
 use Rattle.bt_fanout.proofs.Batches.{find-covered, stand-covered}
@@ -190,12 +190,12 @@ module _ {X E D : Type 0} (entry : List ℕ → X → Option (List ℕ × E)) (s
 
   -- the puts of rows that are new are what is sent for their keys
   puts_are_sent : (cover next : Cover) (rows read : Rows X) → Step cover next rows read → (some : Rows X) → EachFound read some →
-      puts_of entry some ≡ sent entry {D = D} same (λ k. find key_cmp k (covered (is_covered cover) rows)) (λ k. find key_cmp k (covered (is_covered next) rows)) (keys_of some)
+      puts_of entry some ≡ entry_changes entry {D = D} same (λ k. find key_cmp k (covered (is_covered cover) rows)) (λ k. find key_cmp k (covered (is_covered next) rows)) (keys_of some)
   puts_are_sent cover next rows read s [] f = refl
   puts_are_sent cover next rows read s (r ∷ some) f =
       let old = covered (is_covered cover) rows in
       let new = covered (is_covered next) rows in
-      let rest = sent entry {D = D} same (λ k. find key_cmp k old) (λ k. find key_cmp k new) (keys_of some) in
+      let rest = entry_changes entry {D = D} same (λ k. find key_cmp k old) (λ k. find key_cmp k new) (keys_of some) in
       let was : find key_cmp r.0 old ≡ None = (s r.0).1 (ap is_some f.0) in
       let is : find key_cmp r.0 new ≡ Some r.1 = (s r.0).0 ∙ ap (λ y. cond (is_some y) y (find key_cmp r.0 old)) f.0 in
       ap (λ ms. put_of_entry {D = D} (entry r.0 r.1) ++ ms) (puts_are_sent cover next rows read s some f.1)

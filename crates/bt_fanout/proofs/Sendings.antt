@@ -10,7 +10,7 @@ use Rattle.bt_messages.specs.Messages.{Messages}
 use Rattle.bt_messages.specs.declared.message.Message.TheVariants.{Put, Del}
 use Rattle.bt_keycode.proofs.offered.Order.{same_key, total_keys}
 use Rattle.bt_messages.proofs.offered.Rows.{find-rows_after, same_rows, sorted-rows_after}
-use Rattle.bt_fanout.specs.Selections.{between, entry_in, select, sent}
+use Rattle.bt_fanout.specs.Selections.{between, entry_changes, entry_in, select}
 use Rattle.bt_fanout.proofs.Lookups.{IsOwner, find-select, is_at, not-owner, sorted-select, value_at}
 
 -- messages behind others come after them
@@ -85,15 +85,15 @@ turned j k e = (eq_by_cmp_equiv total_keys).symm k j ∙ e
 
 module _ {X E D : Type 0} (entry : List ℕ → X → Option (List ℕ × E)) (same : E → E → Bool) (sound : (a b : E) → same a b ≡ true → a ≡ b) (merged : Option E → D → E) where
   -- of the keys, the one that has the entry at q decides, and else nothing is sent to q
-  sent-at : (q k : List ℕ) (old new : Rows X) → IsOwner entry q k old → IsOwner entry q k new → (ks : Rows (Unit {0})) (o : Option E) →
+  entry_changes-at : (q k : List ℕ) (old new : Rows X) → IsOwner entry q k old → IsOwner entry q k new → (ks : Rows (Unit {0})) (o : Option E) →
       (o ≡ value_at q (entry_in entry k (find key_cmp k old))) ⊎ (o ≡ value_at q (entry_in entry k (find key_cmp k new))) →
-      value_after (effect_of merged) q (sent entry same (λ j. find key_cmp j old) (λ j. find key_cmp j new) ks) o
+      value_after (effect_of merged) q (entry_changes entry same (λ j. find key_cmp j old) (λ j. find key_cmp j new) ks) o
       ≡ cond (is_some (find key_cmp k ks)) (value_at q (entry_in entry k (find key_cmp k new))) o
-  sent-at q k old new c d [] o h = refl
-  sent-at q k old new c d (j ∷ ks) o h =
+  entry_changes-at q k old new c d [] o h = refl
+  entry_changes-at q k old new c d (j ∷ ks) o h =
       let a = entry_in entry j.0 (find key_cmp j.0 old) in
       let b = entry_in entry j.0 (find key_cmp j.0 new) in
-      let rest = sent entry same (λ i. find key_cmp i old) (λ i. find key_cmp i new) ks in
+      let rest = entry_changes entry same (λ i. find key_cmp i old) (λ i. find key_cmp i new) ks in
       let wanted = value_at q (entry_in entry k (find key_cmp k new)) in
       value_after-append (effect_of merged) q (between same a b) rest o ∙ elim (eq_by_cmp key_cmp k j.0) as (λ t. eq_by_cmp key_cmp k j.0 ≡ t →
       value_after (effect_of merged) q rest (value_after (effect_of merged) q (between same a b) o) ≡ cond (is_some (cond t (Some j.1) (find key_cmp k ks))) wanted o) [
@@ -101,28 +101,28 @@ module _ {X E D : Type 0} (entry : List ℕ → X → Option (List ℕ × E)) (s
             let one : k ≡ j.0 = same_key k j.0 t in
             let sent_here = subst (λ i. (o ≡ value_at q (entry_in entry i (find key_cmp i old))) ⊎ (o ≡ value_at q (entry_in entry i (find key_cmp i new)))) one h in
             let done = here same sound merged q a b o sent_here ∙ ap (λ i. value_at q (entry_in entry i (find key_cmp i new))) (sym one) in
-            ap (value_after (effect_of merged) q rest) done ∙ sent-at q k old new c d ks wanted (inr refl) ∙ alike (is_some (find key_cmp k ks)) wanted
+            ap (value_after (effect_of merged) q rest) done ∙ entry_changes-at q k old new c d ks wanted (inr refl) ∙ alike (is_some (find key_cmp k ks)) wanted
         | false ↦ λ t.
             let other = turned k j.0 t in
-            ap (value_after (effect_of merged) q rest) (elsewhere same sound merged q a b o (not-owner entry q k j.0 old c other) (not-owner entry q k j.0 new d other)) ∙ sent-at q k old new c d ks o h
+            ap (value_after (effect_of merged) q rest) (elsewhere same sound merged q a b o (not-owner entry q k j.0 old c other) (not-owner entry q k j.0 new d other)) ∙ entry_changes-at q k old new c d ks o h
       ] refl
 
   -- Between two maps in which each key q has one owner, what is sent for all keys at which they differ takes the index of the one to the index of the other.
   pub sends : (old new : Rows X) (ks : Rows (Unit {0})) → T (is_sorted key_cmp old) → T (is_sorted key_cmp new) →
       ((k : List ℕ) → is_some (find key_cmp k ks) ≡ false → find key_cmp k old ≡ find key_cmp k new) →
       ((q : List ℕ) → (k : List ℕ) × (IsOwner entry q k old × IsOwner entry q k new)) →
-      rows_after (effect_of merged) (sent entry same (λ j. find key_cmp j old) (λ j. find key_cmp j new) ks) (select entry old) ≡ select entry new
+      rows_after (effect_of merged) (entry_changes entry same (λ j. find key_cmp j old) (λ j. find key_cmp j new) ks) (select entry old) ≡ select entry new
   sends old new ks s t others owner =
-      same_rows (effect_of merged) _ _ (sorted-rows_after (effect_of merged) (sent entry same (λ j. find key_cmp j old) (λ j. find key_cmp j new) ks) (select entry old) (sorted-select entry old)) (sorted-select entry new)
+      same_rows (effect_of merged) _ _ (sorted-rows_after (effect_of merged) (entry_changes entry same (λ j. find key_cmp j old) (λ j. find key_cmp j new) ks) (select entry old) (sorted-select entry old)) (sorted-select entry new)
       (λ q. at q (owner q).0 (owner q).1.0 (owner q).1.1)
     where
       at : (q k : List ℕ) → IsOwner entry q k old → IsOwner entry q k new →
-          find key_cmp q (rows_after (effect_of merged) (sent entry same (λ j. find key_cmp j old) (λ j. find key_cmp j new) ks) (select entry old)) ≡ find key_cmp q (select entry new)
+          find key_cmp q (rows_after (effect_of merged) (entry_changes entry same (λ j. find key_cmp j old) (λ j. find key_cmp j new) ks) (select entry old)) ≡ find key_cmp q (select entry new)
       at q k c d =
           let was = find-select entry q k old s c in
           let is = find-select entry q k new t d in
-          find-rows_after (effect_of merged) q (sent entry same (λ j. find key_cmp j old) (λ j. find key_cmp j new) ks) (select entry old)
-          ∙ sent-at q k old new c d ks (find key_cmp q (select entry old)) (inl was)
+          find-rows_after (effect_of merged) q (entry_changes entry same (λ j. find key_cmp j old) (λ j. find key_cmp j new) ks) (select entry old)
+          ∙ entry_changes-at q k old new c d ks (find key_cmp q (select entry old)) (inl was)
           ∙ elim (is_some (find key_cmp k ks)) as (λ b. is_some (find key_cmp k ks) ≡ b → cond b (value_at q (entry_in entry k (find key_cmp k new))) (find key_cmp q (select entry old)) ≡ value_at q (entry_in entry k (find key_cmp k new))) [
             | true ↦ λ b. refl
             | false ↦ λ b. was ∙ ap (λ x. value_at q (entry_in entry k x)) (others k b)

@@ -15,7 +15,7 @@ use Rattle.bt_fanout.specs.Covers.{is_covered}
 use Rattle.bt_fanout.specs.Effects.{EntryMessage, effects_at, entry_effect, row_effect, sent_for, sent_for_all}
 use Rattle.bt_fanout.specs.Entries.{Definition, StandsUnder, entry_of, own_entry, same_values}
 use Rattle.bt_fanout.specs.Promises.{TurnsIndex, index_of}
-use Rattle.bt_fanout.specs.Selections.{AllStand, between, covered, entry_in, index_messages, named, sent}
+use Rattle.bt_fanout.specs.Selections.{AllStand, between, covered, entry_changes, entry_in, index_messages, named}
 use Rattle.bt_fanout.specs.declared.cover.Cover.{Cover}
 use Rattle.bt_fanout.specs.declared.effect.Effect.{Effect}
 use Rattle.bt_fanout.proofs.Batches.{index_turns}
@@ -33,13 +33,13 @@ module _ (def : Definition) (kinds : List Kind) where
 
   sent_for_all-is : (cover : Cover) (old new : Rows (List Value)) → AllStand (StandsUnder def kinds) old → AllStand (StandsUnder def kinds) new → (ks : Rows (Unit {0})) →
       sent_for_all def cover (effects_at (λ k. find key_cmp k old) (λ k. find key_cmp k new) ks)
-      ≡ sent (entry_of def) {D = List Value} same_values (λ k. find key_cmp k old) (λ k. find key_cmp k new) (covered (is_covered cover) ks)
+      ≡ entry_changes (entry_of def) {D = List Value} same_values (λ k. find key_cmp k old) (λ k. find key_cmp k new) (covered (is_covered cover) ks)
   sent_for_all-is cover old new s t [] = refl
   sent_for_all-is cover old new s t (k ∷ ks) =
       let rest = sent_for_all def cover (effects_at (λ k. find key_cmp k old) (λ k. find key_cmp k new) ks) in
       elim (is_covered cover k.0) as (λ b.
       (if b then between {D = List Value} same_values (own_entry def (find key_cmp k.0 old)) (own_entry def (find key_cmp k.0 new)) else []) ++ rest
-      ≡ sent (entry_of def) {D = List Value} same_values (λ k. find key_cmp k old) (λ k. find key_cmp k new) (cond b (k ∷ covered (is_covered cover) ks) (covered (is_covered cover) ks))) [
+      ≡ entry_changes (entry_of def) {D = List Value} same_values (λ k. find key_cmp k old) (λ k. find key_cmp k new) (cond b (k ∷ covered (is_covered cover) ks) (covered (is_covered cover) ks))) [
         | true ↦
             ap (λ o. between {D = List Value} same_values o (own_entry def (find key_cmp k.0 new)) ++ rest) (own-is k.0 old s)
             ∙ ap (λ o. between {D = List Value} same_values (entry_in (entry_of def) k.0 (find key_cmp k.0 old)) o ++ rest) (own-is k.0 new t)
@@ -66,5 +66,5 @@ one_more def cover effects i effect whole old new within is so more =
     ∙ ap (λ ms. ms ++ sent_for_all def cover (drop (i + 1) effects)) (sym more)
 
 -- none are left
-pub all_sent : (def : Definition) (cover : Cover) (effects : List Effect) (i : ℕ) (whole sent : Messages EntryMessage) → length effects ≤ i → whole ≡ sent ++ sent_for_all def cover (drop i effects) → sent ≡ whole
+pub all_sent : (def : Definition) (cover : Cover) (effects : List Effect) (i : ℕ) (whole sent : Messages EntryMessage) → length effects ≤ i → whole ≡ sent ++ sent_for_all def cover (drop i effects) → entry_changes ≡ whole
 all_sent def cover effects i whole sent past e = sym (e ∙ ap (λ es. sent ++ sent_for_all def cover es) (drop_of_length-le effects past) ∙ append-nil sent)

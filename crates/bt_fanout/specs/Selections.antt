@@ -54,14 +54,14 @@ module _ {X E : Type 0} (entry : Key → X → Option (Key × E)) where
 
   module _ {D : Type 0} (same : E → E → Bool) where
     -- what is sent to the index for keys, with the row before and the row after of each
-    abbrev pub sent : (Key → Option X) → (Key → Option X) → Rows (Unit {0}) → Messages (Message E D)
-    sent before after [] = []
-    sent before after (k ∷ ks) = between same (entry_in k.0 (before k.0)) (entry_in k.0 (after k.0)) ++ sent before after ks
+    abbrev pub entry_changes : (Key → Option X) → (Key → Option X) → Rows (Unit {0}) → Messages (Message E D)
+    entry_changes before after [] = []
+    entry_changes before after (k ∷ ks) = between same (entry_in k.0 (before k.0)) (entry_in k.0 (after k.0)) ++ entry_changes before after ks
 
     -- the messages of the index for a batch: for each key that the batch names and the cover covers, in key order
     abbrev pub index_messages : {M : Type 0} → (Option X → M → Option X) → (Key → Bool) → Messages M → Rows X → Messages (Message E D)
     index_messages effect covers batch map =
-        sent (λ k. find key_cmp k map) (λ k. find key_cmp k (rows_after effect batch map)) (covered covers (named batch))
+        entry_changes (λ k. find key_cmp k map) (λ k. find key_cmp k (rows_after effect batch map)) (covered covers (named batch))
 
 -- ---- rows whose entries have keys of their own
 

@@ -9,7 +9,7 @@ use crate::cover::Cover;
 use crate::definition::IndexDef;
 use crate::effect::Effect;
 use crate::entry_packet::index_packet_alone;
-use bt_batch::merged;
+use bt_batch::merged_pieces;
 use bt_gang::{Crew, Gate, Piece, Work, job_values, most_workers, pieces_of};
 use bt_messages::{Entry, Packet};
 use std::alloc::{AllocError, Global};
@@ -70,5 +70,5 @@ pub fn index_packet<G: Gate + Sync, T: Threads + Wait + Sync>(
     let pieces = pieces_of(alloc, effects, workers)?;
     let work = EffectPackets { def, cover };
     let packets = job_values(rt, alloc, &work, pieces, &crew.without_gate())?;
-    merged(rt, alloc, packets, crew)
+    merged_pieces(rt, alloc, packets, crew)
 }

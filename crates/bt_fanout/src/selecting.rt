@@ -89,7 +89,7 @@ fn entry_key(alloc: Global, def: &IndexDef, row: &Row) -> Result<Key, AllocError
 }
 
 // The included columns of a row.
-fn included(alloc: Global, def: &IndexDef, row: &Row) -> Result<Entry, AllocError>
+fn included_values(alloc: Global, def: &IndexDef, row: &Row) -> Result<Entry, AllocError>
     requires { IsWithin def.now (length row.now) }
     ensures { IfOk result (λ entry. entry ≡ picked def.now.include row.now) }
 {
@@ -106,5 +106,8 @@ pub fn entry(alloc: Global, def: &IndexDef, row: &Row) -> Result<Option<(Key, En
     if !meets_condition(def.condition(), row) {
         return Ok(None);
     }
-    Ok(Some((entry_key(alloc, def, row)?, included(alloc, def, row)?)))
+    Ok(Some((
+        entry_key(alloc, def, row)?,
+        included_values(alloc, def, row)?,
+    )))
 }

@@ -13,7 +13,7 @@ use Rattle.bt_rowtype.specs.Lists.{concatenation}
 use Rattle.bt_gang.specs.Numbers.{sum_over, is_it, occurrences, below, once_below}
 use Rattle.bt_gang.specs.Board.{State, start, after_put, after_take}
 use Rattle.bt_gang.specs.Board.Event.{Put, Take}
-use Rattle.bt_gang.specs.Queue.{taken_list, no_lists, given, kept, workers_of, numbers_of, AreOwnLists, known, HasList, queued, Stand, EachPass, IsBoard, IsBoardOf, Pushed, Popped}
+use Rattle.bt_gang.specs.Queue.{taken_list, no_lists, list_given, lists_kept, workers_of, numbers_of, AreOwnLists, known, HasList, queued, Stand, EachPass, IsBoard, IsBoardOf, Pushed, Popped}
 use Rattle.bt_gang.proofs.Numbers.{sum_over-append, sum_over-set, sum_over-one, sum_over-two, sum_over-length, sum_over-concatenation, sum_over-map, sum_over-places, length-below, occurrences-below, at_more, at_end, once_itself, besides, same_sums}
 use Rattle.bt_gang.proofs.Accounts.{accounted, freed}
 
@@ -42,26 +42,26 @@ taken-append : (taken : List (List ℕ)) (xs ys : List TakenList) → AreOwnList
 taken-append taken [] ys a b = b
 taken-append taken (x ∷ xs) ys a b = (a.0, taken-append taken xs ys a.1 b)
 
-taken_kept : (taken : List (List ℕ)) (ls : List TakenList) → AreOwnLists taken ls → AreOwnLists taken (kept ls)
+taken_kept : (taken : List (List ℕ)) (ls : List TakenList) → AreOwnLists taken ls → AreOwnLists taken (lists_kept ls)
 taken_kept taken [] are = are
 taken_kept taken (a ∷ []) are = are
 taken_kept taken (a ∷ b ∷ ls) are = (are.0, are.1.1)
 
-taken_given : (taken : List (List ℕ)) (ls : List TakenList) → AreOwnLists taken ls → AreOwnLists taken (given ls)
+taken_given : (taken : List (List ℕ)) (ls : List TakenList) → AreOwnLists taken ls → AreOwnLists taken (list_given ls)
 taken_given taken [] are = tt
 taken_given taken (a ∷ []) are = tt
 taken_given taken (a ∷ b ∷ ls) are = (are.1.0, tt)
 
-kept_given : (h : ℕ → ℕ) (ls : List TakenList) → sum_over h (workers_of (kept ls)) + sum_over h (workers_of (given ls)) ≡ sum_over h (workers_of ls)
+kept_given : (h : ℕ → ℕ) (ls : List TakenList) → sum_over h (workers_of (lists_kept ls)) + sum_over h (workers_of (list_given ls)) ≡ sum_over h (workers_of ls)
 kept_given h [] = refl
 kept_given h (a ∷ []) = omega arith
 kept_given h (a ∷ b ∷ ls) = omega arith
 
-kept_some : (ls : List TakenList) → 0 < length (kept ls) → 0 < length ls
+kept_some : (ls : List TakenList) → 0 < length (lists_kept ls) → 0 < length ls
 kept_some [] l = l
 kept_some (a ∷ ls) l = omega arith
 
-given_some : (ls : List TakenList) → 0 < length (given ls) → 0 < length ls
+given_some : (ls : List TakenList) → 0 < length (list_given ls) → 0 < length ls
 given_some [] l = l
 given_some (a ∷ ls) l = omega arith
 
@@ -272,10 +272,10 @@ module _ {J P : Type 0} where
     know = know;
   }
 
-  pub forks : (n port : ℕ) (v : Known J) → Forks (IsBoard {J = J} {P = P} n) port v (known v.jobs (kept v.lists)) (known v.jobs (given v.lists))
+  pub forks : (n port : ℕ) (v : Known J) → Forks (IsBoard {J = J} {P = P} n) port v (known v.jobs (lists_kept v.lists)) (known v.jobs (list_given v.lists))
   forks n port v items views b at =
-      let l : Known J = known v.jobs (kept v.lists) in
-      let r : Known J = known v.jobs (given v.lists) in
+      let l : Known J = known v.jobs (lists_kept v.lists) in
+      let r : Known J = known v.jobs (list_given v.lists) in
       let vs : List (Known J) = set views port l in
       same_board n items views (vs ++ r ∷ []) b
       (each_snoc (λ u. AreOwnLists b.board.taken u.lists) vs r (taken_given b.board.taken v.lists (b.taken port v at))

@@ -8,7 +8,7 @@ use Rattle.bt_gang.specs.declared.rule.TakenList.{TakenList}
 use Rattle.bt_gang.specs.declared.workers.GivesBack.{GivesBack}
 use Rattle.bt_gang.specs.declared.workers.Worker.{Worker}
 use Rattle.bt_gang.specs.declared.crew.TheConstants.{MOST_WORKERS}
-use Rattle.bt_gang.specs.Queue.{taken_list, no_lists, given, kept, numbers_of, known, gained, HasList}
+use Rattle.bt_gang.specs.Queue.{taken_list, no_lists, list_given, lists_kept, numbers_of, known, gained, HasList}
 use Rattle.bt_gang.specs.Numbered.{numbered, present}
 use Rattle.bt_gang.specs.Answers.{AllMay, Gains}
 use Rattle.bt_gang.specs.inside.Workers.{TakenLists, AllByNumber, IsReady, IsReadyCaller, HasServed, HasServedCaller, IsCaller, IsPromise, TookIn, TookInFrom, lists_back, lists_left}
@@ -37,16 +37,16 @@ module _ {J : Type 0} where
 
   -- one more pass was split off: it has the list of the next worker
   pub caller_next : (all : List J) (k m : ℕ) (v w u : Known J) → IsCaller all k v → suc k < MOST_WORKERS → m ≡ k + 1
-      → w ≡ known v.jobs (kept v.lists) → u ≡ known v.jobs (given v.lists) → IsCaller all m w × (u ≡ known all (taken_list m [] ∷ []))
+      → w ≡ known v.jobs (lists_kept v.lists) → u ≡ known v.jobs (list_given v.lists) → IsCaller all m w × (u ≡ known all (taken_list m [] ∷ []))
   caller_next all k m v w u c l n f g =
       let next : m ≡ suc k = omega arith in
       let was : v ≡ known all (taken_list 0 [] ∷ taken_list (suc k) [] ∷ lists_left MOST_WORKERS (suc (suc k))) =
       c.knows ∙ ap (λ ls. known all (taken_list 0 [] ∷ ls)) (left_more MOST_WORKERS (suc k) l) in (
         record {
-          knows = f ∙ (ap (λ (y : Known J). known y.jobs (kept y.lists)) was ∙ ap (λ i. known all (taken_list 0 [] ∷ lists_left MOST_WORKERS (suc i))) (sym next));
+          knows = f ∙ (ap (λ (y : Known J). known y.jobs (lists_kept y.lists)) was ∙ ap (λ i. known all (taken_list 0 [] ∷ lists_left MOST_WORKERS (suc i))) (sym next));
           few = omega arith;
         },
-        g ∙ (ap (λ (y : Known J). known y.jobs (given y.lists)) was ∙ ap (λ i. known all (taken_list i [] ∷ [])) (sym next)),
+        g ∙ (ap (λ (y : Known J). known y.jobs (list_given y.lists)) was ∙ ap (λ i. known all (taken_list i [] ∷ [])) (sym next)),
       )
 
   pub one_list : (all : List J) (v : Known J) (l : TakenList) (others : TakenLists) → v ≡ known all (l ∷ others) → HasList v

@@ -23,16 +23,16 @@ grown more [] = []
 grown more (l ∷ ls) = taken_list l.worker (l.numbers ++ more) ∷ ls
 
 -- the second list, which is given to a new pass
-abbrev pub given : List TakenList → List TakenList
-given [] = []
-given (a ∷ []) = []
-given (a ∷ b ∷ ls) = b ∷ []
+abbrev pub list_given : List TakenList → List TakenList
+list_given [] = []
+list_given (a ∷ []) = []
+list_given (a ∷ b ∷ ls) = b ∷ []
 
 -- the lists that are kept
-abbrev pub kept : List TakenList → List TakenList
-kept [] = []
-kept (a ∷ []) = a ∷ []
-kept (a ∷ b ∷ ls) = a ∷ ls
+abbrev pub lists_kept : List TakenList → List TakenList
+lists_kept [] = []
+lists_kept (a ∷ []) = a ∷ []
+lists_kept (a ∷ b ∷ ls) = a ∷ ls
 
 -- whose lists they are
 abbrev pub workers_of : List TakenList → List ℕ

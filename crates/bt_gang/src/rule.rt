@@ -41,11 +41,11 @@ impl<J, P> Protocol<NumberedJob<J, P>, Known<J>> for JobRule {
 pub struct WorkerPass;
 
 impl<J> Split<Known<J>> for WorkerPass {
-    ghost use Rattle.bt_gang.specs.Queue.{given, kept, known};
+    ghost use Rattle.bt_gang.specs.Queue.{known, list_given, lists_kept};
 
-    ghost left = { λ v. known v.jobs (kept v.lists) };
+    ghost left = { λ v. known v.jobs (lists_kept v.lists) };
 
-    ghost right = { λ v. known v.jobs (given v.lists) };
+    ghost right = { λ v. known v.jobs (list_given v.lists) };
 }
 
 impl<J> Join<Known<J>> for WorkerPass {

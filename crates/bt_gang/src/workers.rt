@@ -78,7 +78,7 @@ pub(crate) fn split<J: Drop, D: Drop, F: Drop>(
 }
 
 // One worker, from its first job to the pop that finds nothing.
-fn served<W: Work, G: Gate, R: Wait>(
+fn worker_at_end<W: Work, G: Gate, R: Wait>(
     rt: &R,
     alloc: Global,
     shift: &Shift<'_, W, G>,
@@ -122,7 +122,7 @@ fn child<'s, E, W: Work + Sync, G: Gate + Sync, R: Threads + Wait + Sync>(
     let task = move || -> WorkerOf<W>
         requires { IsReady shift.now.jobs.now all.now.value.items [] worker.number worker × All (λ job. W.accepts shift.now.work.now job) all.now.value.items }
         ensures { HasServed (W.allows shift.entry.now.work.now) shift.entry.now.jobs.now all.entry.now.value.items [] worker.number result }
-    { served(rt, alloc, shift, all, worker) };
+    { worker_at_end(rt, alloc, shift, all, worker) };
     let stack = Stack::new().stack_size(WORKER_STACK);
     match stack.spawn_scoped_with(scope, promise, task) {
         Ok(child) => Some(child),

@@ -148,7 +148,7 @@ fn all_held<V: Merge>(
 }
 
 /// The siblings of each piece where its hole stands, from left to right.
-pub(crate) fn seated<V: Merge>(
+pub(crate) fn siblings_at_holes<V: Merge>(
     alloc: Global,
     places: &[Place],
     pieces: Vec<(Place, Siblings<V>)>,

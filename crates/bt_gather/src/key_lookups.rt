@@ -126,7 +126,7 @@ fn add_job<'a, V: Merge>(
 }
 
 // Keys shared by portions that stand side by side: a job for each portion that owns one.
-fn shared<'a, V: Merge>(
+fn lookup_jobs<'a, V: Merge>(
     alloc: Global,
     portions: Vec<Portion<'a, V>>,
     keys: &'a [&'a Key],
@@ -185,7 +185,7 @@ where
         return tree.walk().values(alloc, keys);
     }
     let portions = tree.walk().portions(alloc, crew.cut, None, None)?;
-    let jobs = shared(alloc, portions, keys)?;
+    let jobs = lookup_jobs(alloc, portions, keys)?;
     let work = KeyLookups {
         portions: PhantomData,
     };

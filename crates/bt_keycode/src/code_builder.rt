@@ -1,7 +1,7 @@
 //! The code of values that are added one after the other.
 ghost use Rattle.std.specs.Prelude.{◌≡◌, ◌++◌, ◌∷◌, [], IfOk, OnOk, OnErr};
 ghost use Rattle.bt_keycode.specs.Codes.{code_of_value, eight_bytes, escaped, raised};
-ghost use Rattle.bt_rowtype.specs.Views.{shown};
+ghost use Rattle.bt_rowtype.specs.Views.{value_of_ref};
 
 use crate::key::Key;
 use crate::zeros::split_at_zero;
@@ -69,7 +69,7 @@ impl CodeBuilder {
     /// Adds the code of a value. What the builder holds after an `Err` is not said.
     #[inline]
     pub fn add(&mut self, value: ValueRef<'_>) -> Result<(), AllocError>
-        ensures { OnOk result (self.new ≡ self.old ++ code_of_value (shown value.entry)) }
+        ensures { OnOk result (self.new ≡ self.old ++ code_of_value (value_of_ref value.entry)) }
     {
         match value.content() {
             Content::Number(number) => self.push(&int_code(number), &[]),

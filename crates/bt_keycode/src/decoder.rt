@@ -3,7 +3,7 @@ ghost use Rattle.std.specs.Prelude.{◌≡◌, ◌<◌, ◌≤◌, ◌++◌, ◌
 ghost use Rattle.bt_keycode.specs.Codes.{IsCode, IsCodeOf, IsNoCode, raised};
 ghost use Rattle.bt_keycode.specs.Decodings.{after_bytes, unescaped};
 ghost use Rattle.bt_keycode.specs.inside.CodeBeginnings.{BeginsWith, BeginsWithContent, BeginsWithNo, BeginsWithNoContent, reading_at_end};
-ghost use Rattle.bt_rowtype.specs.Views.{held, shown};
+ghost use Rattle.bt_rowtype.specs.Views.{content_of_ref, value_of_ref};
 ghost use Rattle.bt_rowtype.specs.declared.value.Value.{Value as value};
 
 use crate::key::prefix_of;
@@ -40,7 +40,7 @@ fn lower(number: u64) -> i64
 
 // The number whose code the bytes begin with, and what comes after it.
 fn first_number(bytes: &[u8]) -> Option<(Content<'_>, &[u8])>
-    ensures found { IfSome result (λ read. BeginsWithContent Form.Number bytes.now (held read.0) read.1.now) }
+    ensures found { IfSome result (λ read. BeginsWithContent Form.Number bytes.now (content_of_ref read.0) read.1.now) }
     ensures none { IfNone result (BeginsWithNoContent Form.Number bytes.now) }
 {
     if bytes.len() < 8 {
@@ -51,7 +51,7 @@ fn first_number(bytes: &[u8]) -> Option<(Content<'_>, &[u8])>
 
 // The bit whose code the bytes begin with, and what comes after it.
 fn first_bit(bytes: &[u8]) -> Option<(Content<'_>, &[u8])>
-    ensures found { IfSome result (λ read. BeginsWithContent Form.Bit bytes.now (held read.0) read.1.now) }
+    ensures found { IfSome result (λ read. BeginsWithContent Form.Bit bytes.now (content_of_ref read.0) read.1.now) }
     ensures none { IfNone result (BeginsWithNoContent Form.Bit bytes.now) }
 {
     match bytes {
@@ -131,7 +131,7 @@ fn first_bytes<'a: 'b, 'b>(
     bytes: &'a [u8],
     room: &'b mut [u8; MOST_VALUE_BYTES],
 ) -> Option<(Content<'b>, &'a [u8])>
-    ensures found { IfSome result (λ read. BeginsWithContent Form.Bytes bytes.now (held read.0) read.1.now) }
+    ensures found { IfSome result (λ read. BeginsWithContent Form.Bytes bytes.now (content_of_ref read.0) read.1.now) }
     ensures none { IfNone result (BeginsWithNoContent Form.Bytes bytes.now) }
 {
     let (found, rest) = unescaped_bytes(bytes, room)?;
@@ -145,7 +145,7 @@ fn first_content<'a: 'b, 'b>(
     bytes: &'a [u8],
     room: &'b mut [u8; MOST_VALUE_BYTES],
 ) -> Option<(Content<'b>, &'a [u8])>
-    ensures found { IfSome result (λ read. BeginsWithContent form bytes.now (held read.0) read.1.now) }
+    ensures found { IfSome result (λ read. BeginsWithContent form bytes.now (content_of_ref read.0) read.1.now) }
     ensures none { IfNone result (BeginsWithNoContent form bytes.now) }
 {
     match form {
@@ -162,7 +162,7 @@ fn first_value<'a: 'b, 'b>(
     bytes: &'a [u8],
     room: &'b mut [u8; MOST_VALUE_BYTES],
 ) -> Option<(ValueRef<'b>, &'a [u8])>
-    ensures found { IfSome result (λ read. BeginsWith kind bytes.now (shown read.0) read.1.now) }
+    ensures found { IfSome result (λ read. BeginsWith kind bytes.now (value_of_ref read.0) read.1.now) }
     ensures none { IfNone result (BeginsWithNo kind bytes.now) }
 {
     let (content, rest) = first_content(kind.form(), bytes, room)?;

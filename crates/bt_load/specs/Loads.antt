@@ -21,5 +21,5 @@ under_header columns [] = Err BadSchema
 under_header columns (names ∷ others) = if is_header columns names then all_read (typed_from columns 1 others) else Err BadSchema
 
 -- the rows of a text, from which one byte order mark is dropped, or the refusal that is answered
-abbrev pub loaded : List Column → List ℕ → Result (List (List Value)) Refusal
-loaded columns text = if has_mark (strip_bom text) then Err BadSchema else under_header columns (records default_config (strip_bom text))
+abbrev pub text_rows : List Column → List ℕ → Result (List (List Value)) Refusal
+text_rows columns text = if has_mark (strip_bom text) then Err BadSchema else under_header columns (records default_config (strip_bom text))

@@ -3,7 +3,7 @@ ghost use Rattle.std.specs.Prelude.{◌≡◌, IfOk};
 ghost use Rattle.std.specs.Result.{result_map_both};
 ghost use Rattle.bt_rowtype.specs.Answers.{Answers};
 ghost use Rattle.bt_rowtype.specs.Ops.{all_read};
-ghost use Rattle.bt_load.specs.Loads.{loaded, typed_from};
+ghost use Rattle.bt_load.specs.Loads.{text_rows, typed_from};
 ghost use Rattle.bt_keycode.specs.Standing.{AreOf};
 
 use crate::loading::{InThreads, Loading};
@@ -63,7 +63,7 @@ pub fn read_records(
     text: &[u8],
     schema: &Schema,
 ) -> Result<Vec<Row>, Refusal>
-    ensures answer { Answers (loaded schema.now.columns text.now) (result_map_both (λ rows. rows.items) (λ e. e) result) }
+    ensures answer { Answers (text_rows schema.now.columns text.now) (result_map_both (λ rows. rows.items) (λ e. e) result) }
     ensures rows { IfOk result (λ rows. AreOf schema.now.columns rows.items) }
 {
     read_records_by(&InThreads { rt }, alloc, text, schema)
@@ -77,7 +77,7 @@ pub fn read_records_by<L: Loading>(
     schema: &Schema,
 ) -> Result<Vec<Row>, Refusal>
     requires ready { L.accepts loading.now }
-    ensures answer { Answers (loaded schema.now.columns text.now) (result_map_both (λ rows. rows.items) (λ e. e) result) }
+    ensures answer { Answers (text_rows schema.now.columns text.now) (result_map_both (λ rows. rows.items) (λ e. e) result) }
     ensures rows { IfOk result (λ rows. AreOf schema.now.columns rows.items) }
 {
     let Some(mut records) = Records::new(text) else {

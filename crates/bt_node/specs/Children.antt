@@ -8,10 +8,10 @@ use Rattle.bt_node.specs.Trees.{Siblings}
 
 module _ {V M : Type 0} where
   -- siblings, each with what is in its bin
-  abbrev pub beside : Siblings V M → List (Messages M) → List (Child V M)
-  beside [] bins = []
-  beside (x ∷ xs) [] = []
-  beside (x ∷ xs) (b ∷ bs) = record { pivot = x.0; tree = x.1; pending = b } ∷ beside xs bs
+  abbrev pub with_pending : Siblings V M → List (Messages M) → List (Child V M)
+  with_pending [] bins = []
+  with_pending (x ∷ xs) [] = []
+  with_pending (x ∷ xs) (b ∷ bs) = record { pivot = x.0; tree = x.1; pending = b } ∷ with_pending xs bs
 
   -- the siblings of one child behind its pivot; what is pending for it is pending for the first of them
   abbrev pub behind_pivot : Key → Messages M → Siblings V M → List (Child V M)

@@ -6,7 +6,7 @@ use Rattle.bt_keycode.specs.Keys.{Key}
 use Rattle.bt_node.specs.Messages.{Rows, Meaning, Messages, load, rows_after, with_messages, before, from}
 use Rattle.bt_node.specs.Deals.{deal}
 use Rattle.bt_node.specs.Plans.{total, fullest}
-use Rattle.bt_node.specs.Loops.{opened_at, settled}
+use Rattle.bt_node.specs.Loops.{after_turns, opened_at}
 use Rattle.bt_node.specs.declared.form.mode.Mode.{Mode}
 use Rattle.bt_node.specs.declared.form.mode.Mode.TheVariants.{Absorb, Drain}
 use Rattle.bt_node.specs.Trees.{Shape, Tree, leaf, inner, Nodes, none, node, Siblings, children, nodes, height}
@@ -60,15 +60,15 @@ module _ {V M : Type 0} where
   leaves shape rows = pivot_first [] (map (λ part. (first_key (λ r. r.0) part, leaf part)) (deal shape.leaf rows))
 
   -- One node for all siblings, with a bound on the levels that are put above them, at which `crown` never drops one: clause `stands` of the call `crown`.
-  abbrev pub crowned : ℕ → Shape → Siblings V M → Tree V M
-  crowned levels shape [] = leaf []
-  crowned levels shape (x ∷ []) = x.1
-  crowned zero shape (x ∷ y ∷ xs) = x.1
-  crowned (suc levels) shape (x ∷ y ∷ xs) = crowned levels shape (grouped shape (none_pending (x ∷ y ∷ xs)))
+  abbrev pub crown_within : ℕ → Shape → Siblings V M → Tree V M
+  crown_within levels shape [] = leaf []
+  crown_within levels shape (x ∷ []) = x.1
+  crown_within zero shape (x ∷ y ∷ xs) = x.1
+  crown_within (suc levels) shape (x ∷ y ∷ xs) = crown_within levels shape (grouped shape (none_pending (x ∷ y ∷ xs)))
 
   -- One node stands for itself. More are dealt by the fanout under inner nodes with empty buffers, again until one is left.
   abbrev pub crown : Shape → Siblings V M → Tree V M
-  crown shape xs = crowned (length xs) shape xs
+  crown shape xs = crown_within (length xs) shape xs
 
 module _ {V M : Type 0} (weigh : Key × M → ℕ) (shape : Shape) where
   -- how much of the buffer's room the messages take that are pending for a child
@@ -82,7 +82,7 @@ module _ {V M : Type 0} (weigh : Key × M → ℕ) (shape : Shape) where
   -- While more is pending than the buffer has room for, the fullest child is flushed, and the choice is made anew. Each turn sends a message down at least, so
   -- there are no more turns than the room that all take.
   abbrev pub flushed_over : Flush V M → List (Child V M) → List (Child V M)
-  flushed_over flush cs = settled pending_load (flushed flush) shape.buffer (total (loads cs)) cs
+  flushed_over flush cs = after_turns pending_load (flushed flush) shape.buffer (total (loads cs)) cs
 
   -- What becomes of children: they are flushed one by one until the buffer has room for all that is pending, or each of them is, even with nothing.
   abbrev pub flushed_in : Mode → Flush V M → List (Child V M) → List (Child V M)

@@ -4,7 +4,7 @@ use Rattle.std.specs.declared.option.Option.{Option}
 use Rattle.bt_keycode.specs.Keys.{Key}
 use Rattle.bt_node.specs.Messages.{Meaning, Messages, rows_after, with_messages}
 use Rattle.bt_node.specs.Plans.{total, planned}
-use Rattle.bt_node.specs.Loops.{replaced, items_at}
+use Rattle.bt_node.specs.Loops.{items_at, opened_items}
 use Rattle.bt_node.specs.Trees.{Shape, Tree, inner, Nodes, Siblings, children, height}
 use Rattle.bt_node.specs.Flushes.{Child, Flush, loads, pending_load, shared, none_pending, flushed, flushed_in, flushed_over, flush_in, fullest_flushed, grouped, crown, holds, all_hold}
 use Rattle.bt_node.specs.declared.form.mode.Mode.{Mode}
@@ -22,7 +22,7 @@ pub record FlushesInTurn (V : Type 0) {M : Type 0} (weigh : Key × M → ℕ) : 
 -- The children that the loop flushes are those at the planned places, in this order.
 abbrev pub ChosenArePlanned : (V : Type 0) {M : Type 0} → (Key × M → ℕ) → Type 0
 ChosenArePlanned V {M} weigh = (shape : Shape) (flush : Flush V M) (cs : List (Child V M)) →
-    replaced (pending_load weigh shape) (flushed flush) shape.buffer (total (loads weigh shape cs)) cs ≡ items_at (planned (loads weigh shape cs) shape.buffer) cs
+    opened_items (pending_load weigh shape) (flushed flush) shape.buffer (total (loads weigh shape cs)) cs ≡ items_at (planned (loads weigh shape cs) shape.buffer) cs
 
 -- ---- what becomes of a node and a packet
 

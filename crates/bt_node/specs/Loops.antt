@@ -12,17 +12,17 @@ module _ {X : Type 0} (weight : X → ℕ) (parts : X → List X) where
 
   -- While the weights are more than the capacity together, the leftmost of the heaviest is replaced by its parts, and the choice is made anew.
   -- With a bound on the turns, at which `flushed_over` never stops early: clause `in_turn` of the call `absorb_alone`.
-  abbrev pub settled : ℕ → ℕ → List X → List X
-  settled capacity zero xs = xs
-  settled capacity (suc turns) xs =
-      cond (nat_le (total (map weight xs)) capacity) xs (settled capacity turns (opened_at (fullest (map weight xs)) xs))
+  abbrev pub after_turns : ℕ → ℕ → List X → List X
+  after_turns capacity zero xs = xs
+  after_turns capacity (suc turns) xs =
+      cond (nat_le (total (map weight xs)) capacity) xs (after_turns capacity turns (opened_at (fullest (map weight xs)) xs))
 
   -- The items that this loop replaces, in turn. Where they are children, the bound never stops it early: clause `planned` of the call `absorb_alone`.
-  abbrev pub replaced : ℕ → ℕ → List X → List X
-  replaced capacity zero xs = []
-  replaced capacity (suc turns) xs =
+  abbrev pub opened_items : ℕ → ℕ → List X → List X
+  opened_items capacity zero xs = []
+  opened_items capacity (suc turns) xs =
       let i = fullest (map weight xs) in
-      cond (nat_le (total (map weight xs)) capacity) [] (take 1 (drop i xs) ++ replaced capacity turns (opened_at i xs))
+      cond (nat_le (total (map weight xs)) capacity) [] (take 1 (drop i xs) ++ opened_items capacity turns (opened_at i xs))
 
 -- the items at these places, in this order
 abbrev pub items_at : {X : Type 0} → List ℕ → List X → List X

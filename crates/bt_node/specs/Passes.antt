@@ -18,8 +18,8 @@ abbrev pub unmarked : {X : Type 0} → List X → List (X × Bool)
 unmarked = map (λ x. (x, false))
 
 -- the list after one pass that replaces each item with a mark by its parts
-abbrev pub passed : {X : Type 0} → (X → List X) → List (X × Bool) → List X
-passed parts = flat_map (λ s. cond s.1 (parts s.0) (s.0 ∷ []))
+abbrev pub after_pass : {X : Type 0} → (X → List X) → List (X × Bool) → List X
+after_pass parts = flat_map (λ s. cond s.1 (parts s.0) (s.0 ∷ []))
 
 -- each of these weighs nothing
 abbrev pub IsLight : {X : Type 0} → (X → ℕ) → List X → Type 0

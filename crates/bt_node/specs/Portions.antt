@@ -37,12 +37,12 @@ module _ {V M : Type 0} where
 
 module _ {V M : Type 0} (effect : Option V → M → Option V) where
   -- what the subtree of a portion holds when its messages, and then the newer ones, have had their effect
-  abbrev pub held : Portion V M → Rows V
-  held p = rows_after effect p.newer (holds effect p.tree)
+  abbrev pub subtree_rows : Portion V M → Rows V
+  subtree_rows p = rows_after effect p.newer (holds effect p.tree)
 
   -- what a portion holds between its bounds
   abbrev pub rows_of : Portion V M → Rows V
-  rows_of p = between p.low p.high (held p)
+  rows_of p = between p.low p.high (subtree_rows p)
 
   -- the rows of portions, joined in their order
   abbrev pub all_rows : List (Portion V M) → Rows V
@@ -50,7 +50,7 @@ module _ {V M : Type 0} (effect : Option V → M → Option V) where
 
   -- what a portion has at a key
   abbrev pub value_in : Key → Portion V M → Option V
-  value_in q p = find key_cmp q (held p)
+  value_in q p = find key_cmp q (subtree_rows p)
 
   -- each portion that owns the key has this value there
   abbrev pub HaveThere : Key → Option V → List (Portion V M) → Type 0

@@ -6,7 +6,7 @@ use Rattle.bt_messages.specs.Bins.{parts}
 use Rattle.bt_messages.specs.Parts.{parted, total}
 use Rattle.bt_messages.specs.Shares.{AreShares, counts}
 use Rattle.bt_messages.specs.declared.message.Message.{Message}
-use Rattle.bt_node.specs.Children.{beside}
+use Rattle.bt_node.specs.Children.{with_pending}
 use Rattle.bt_node.specs.Fits.{IsLed}
 use Rattle.bt_node.specs.Flushes.{loads, shared}
 use Rattle.bt_node.specs.Marks.{flush_marks, has_room}
@@ -28,7 +28,7 @@ module _ {V D : Type 0} (weigh : Key × Message V D → ℕ) (mode : Mode) (shap
   -- the children, each with its bin, its share of the messages that come, and whether what is pending for it goes down
   pub record IsOpened (stream : Messages (Message V D)) (count : ℕ) (opened : code.Opened V D) : Type 0 where
     pub led : IsLed xs
-    pub children : opened.children ≡ beside xs bins
+    pub children : opened.children ≡ with_pending xs bins
     pub shares : parted (counts opened.shares.items) stream ≡ parts (pivots_of xs) (take count stream)
     pub total : total (counts opened.shares.items) ≡ count
     pub weighed : AreShares weigh stream opened.shares.items

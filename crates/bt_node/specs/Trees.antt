@@ -26,8 +26,8 @@ abbrev pub Siblings : Type 0 → Type 0 → Type 0
 Siblings V M = List (Key × Tree V M)
 
 -- each item behind the pivot before it, and the first behind the empty key
-abbrev pub behind : {X : Type 0} → List Key → List X → List (Key × X)
-behind pivots xs = zip ([] ∷ pivots) xs
+abbrev pub with_pivots : {X : Type 0} → List Key → List X → List (Key × X)
+with_pivots pivots xs = zip ([] ∷ pivots) xs
 
 -- the pivots between siblings
 abbrev pub pivots_of : {V M : Type 0} → Siblings V M → List Key

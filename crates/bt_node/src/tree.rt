@@ -15,7 +15,7 @@ ghost use Rattle.bt_node.specs.Laws.{ChosenArePlanned, ComeByOneRule, FitAbove, 
 ghost use Rattle.bt_node.specs.Trees.{leaf, nodes, pivots_of};
 ghost use Rattle.bt_node.specs.inside.Flushing.{IsReady};
 
-use crate::flush::crowned::crowned;
+use crate::flush::crown::crown_node;
 use crate::flush::flushing::flush;
 use crate::flush::group::{close, leaves};
 use crate::form::children::Children;
@@ -128,7 +128,7 @@ pub fn regroup<V: Merge>(
     ensures fits { IfOk result (FitAbove (weigh_of V.terms) shape siblings (concatenation bins)) }
     ensures rows { IfOk result (HoldAllAfter (meaning_of V.terms) shape siblings (concatenation bins)) }
 {
-    close(alloc, shape, Children::beside(siblings, bins))
+    close(alloc, shape, Children::with_pending(siblings, bins))
 }
 
 /// The tree whose root stands above these siblings, and holds what they hold. An `Err` keeps nothing of them.
@@ -144,7 +144,7 @@ pub fn crown<V: Merge>(
     ensures rows { IfOk result (λ tree. HoldsAll (effect_of V.terms.merged) siblings tree.1) }
     ensures stands { IfOk result (λ tree. StandsAbove shape siblings tree.1) }
 {
-    let root = crowned(alloc, shape, siblings)?;
+    let root = crown_node(alloc, shape, siblings)?;
     Ok(Tree { shape, root })
 }
 

@@ -13,7 +13,7 @@ use Rattle.bt_node.specs.Trees.{Nodes, Shape, Tree, leaf, inner, children}
 use Rattle.bt_node.specs.declared.form.mode.Mode.{Mode}
 use Rattle.bt_node.specs.declared.form.mode.Mode.TheVariants.{Absorb, Drain}
 use Rattle.bt_node.proofs.offered.FlushSteps.{ChildLies, ChildrenLie, ChildrenSized, names, shared-sized, start-lies, stripped}
-use Rattle.bt_node.proofs.offered.FlushSteps.{Keeps, flush-keeps, flush_recurs, flushed-slots, names-slots, passed-lie, slots, still-here}
+use Rattle.bt_node.proofs.offered.FlushSteps.{Keeps, after_pass-lie, flush-keeps, flush_recurs, flushed-slots, names-slots, slots, still-here}
 use Rattle.bt_plan.specs.Pieces.{Holed, Place, filled_below, filled_with, holed_nodes, opened, whole}
 use Rattle.bt_plan.specs.Cuts.{Job, child_place, cut_out, left_pending, outcome, with_numbers}
 use Rattle.bt_plan.proofs.Passes.{lies-divides, pass, pending-pass, stripped-none}
@@ -64,7 +64,7 @@ module _ {V M : Type 0} (meaning : Meaning V M) (s : Shape) (leaf_some : 0 < s.l
   pass-divides : (levels : ℕ) (low high : Option Key) (ss : List (Child V M × Bool)) → ChildrenLie levels low high (names ss) → shared (stripped (pass f ss)) (left_pending ss) ≡ pass f ss
   pass-divides levels low high ss lie =
       let keeps : Keeps meaning.effect levels f = λ low high t p lies within. flush-keeps meaning mode s leaf_some fanout_some levels low high t p lies within in
-      ap (shared (stripped (pass f ss))) (sym (pending-pass f ss)) ∙ lies-divides levels low high (pass f ss) (passed-lie meaning.effect levels f keeps low high ss lie)
+      ap (shared (stripped (pass f ss))) (sym (pending-pass f ss)) ∙ lies-divides levels low high (pass f ss) (after_pass-lie meaning.effect levels f keeps low high ss lie)
 
   -- ---- filling
 

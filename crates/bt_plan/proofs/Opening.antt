@@ -14,19 +14,19 @@ use Rattle.bt_messages.proofs.offered.Fronts.{sorted_take}
 use Rattle.bt_messages.proofs.offered.Parts.{added_lie, concatenation-added, lie_length}
 use Rattle.bt_messages.proofs.offered.Placed.{alone}
 use Rattle.bt_messages.proofs.offered.Totals.{nothing_pending}
-use Rattle.bt_node.specs.Children.{beside}
+use Rattle.bt_node.specs.Children.{with_pending}
 use Rattle.bt_node.specs.Fits.{AreSized, IsLed, IsSized}
 use Rattle.bt_node.specs.Flushes.{loads, pending_load, shared}
 use Rattle.bt_node.specs.Marks.{flush_marks, has_room}
 use Rattle.bt_node.specs.Messages.{Messages, load, with_messages}
 use Rattle.bt_node.specs.Steps.{IsStep}
-use Rattle.bt_node.specs.Trees.{Shape, Siblings, Tree, behind, inner, leaf, nodes, pivots_of}
+use Rattle.bt_node.specs.Trees.{Shape, Siblings, Tree, inner, leaf, nodes, pivots_of, with_pivots}
 use Rattle.bt_node.specs.Walks.{is_leaf}
 use Rattle.bt_node.specs.declared.form.mode.Mode.{Mode}
 use Rattle.bt_node.specs.declared.flush.opening.Opened as code
 use Rattle.bt_node.specs.declared.flush.opening.Step.{Step}
 use Rattle.bt_node.specs.declared.flush.opening.Step.TheVariants.{Opens}
-use Rattle.bt_node.proofs.offered.FlushSteps.{beside-shared, bins-length, children-nodes, led-full, length-flush_marks, length-shared, pending-beside, pivots-beside, shares-length, some_length}
+use Rattle.bt_node.proofs.offered.FlushSteps.{bins-length, children-nodes, led-full, length-flush_marks, length-shared, pending-with_pending, pivots-with_pending, shares-length, some_length, with_pending-shared}
 use Rattle.bt_node.proofs.offered.FlushSteps.{from-back, from-joined, from-prefix}
 use Rattle.bt_plan.specs.Cuts.{Job, child_place, cut_out, hole_of, left_pending}
 use Rattle.bt_plan.specs.Pieces.{Holed, Place, child, hole, holed_nodes, holes, holes_below, opened, whole, with_holes, with_holes_below}
@@ -82,17 +82,17 @@ module _ {V M : Type 0} where
   all-sized weigh s [] sized = tt
   all-sized weigh s (x ∷ xs) sized = (sized.0, all-sized weigh s xs sized.1)
 
-  trees-beside : (xs : Siblings V M) (bs : List (Messages M)) → length bs ≡ length xs → map (λ c. c.tree) (beside xs bs) ≡ map (λ x. x.1) xs
-  trees-beside [] bs e = refl
-  trees-beside (x ∷ xs) [] e = absurd (omega (arith, e))
-  trees-beside (x ∷ xs) (b ∷ bs) e = ap (λ z. x.1 ∷ z) (trees-beside xs bs (omega (arith, e)))
+  trees-with_pending : (xs : Siblings V M) (bs : List (Messages M)) → length bs ≡ length xs → map (λ c. c.tree) (with_pending xs bs) ≡ map (λ x. x.1) xs
+  trees-with_pending [] bs e = refl
+  trees-with_pending (x ∷ xs) [] e = absurd (omega (arith, e))
+  trees-with_pending (x ∷ xs) (b ∷ bs) e = ap (λ z. x.1 ∷ z) (trees-with_pending xs bs (omega (arith, e)))
 
-  rest-beside : (xs : Siblings V M) (bs : List (Messages M)) → length bs ≡ length xs → map (λ c. c.pivot) (drop 1 (beside xs bs)) ≡ pivots_of xs
-  rest-beside [] bs e = refl
-  rest-beside (x ∷ xs) [] e = absurd (omega (arith, e))
-  rest-beside (x ∷ xs) (b ∷ bs) e = pivots-beside xs bs (omega (arith, e))
+  rest-with_pending : (xs : Siblings V M) (bs : List (Messages M)) → length bs ≡ length xs → map (λ c. c.pivot) (drop 1 (with_pending xs bs)) ≡ pivots_of xs
+  rest-with_pending [] bs e = refl
+  rest-with_pending (x ∷ xs) [] e = absurd (omega (arith, e))
+  rest-with_pending (x ∷ xs) (b ∷ bs) e = pivots-with_pending xs bs (omega (arith, e))
 
-  left-kept : (xs : Siblings V M) (bs : List (Messages M)) (ms : List Bool) → length bs ≡ length xs → left_pending (zip (beside xs bs) ms) ≡ concatenation (kept_bins bs ms)
+  left-kept : (xs : Siblings V M) (bs : List (Messages M)) (ms : List Bool) → length bs ≡ length xs → left_pending (zip (with_pending xs bs) ms) ≡ concatenation (kept_bins bs ms)
   left-kept [] [] ms e = refl
   left-kept [] (b ∷ bs) ms e = absurd (omega (arith, e))
   left-kept (x ∷ xs) [] ms e = absurd (omega (arith, e))
@@ -101,12 +101,12 @@ module _ {V M : Type 0} where
 
   module _ (weigh : Key × M → ℕ) (depth : ℕ) (mode : Mode) (s : Shape) (place : Place) where
     each-opened : (i : ℕ) (xs : Siblings V M) (bs : List (Messages M)) (ms : List Bool) →
-        opened_children weigh depth mode s place i (zip (beside xs bs) ms) ≡ zip (map (λ x. x.0) xs) (cut_each weigh depth mode s place i (map (λ x. x.1) xs) bs ms)
+        opened_children weigh depth mode s place i (zip (with_pending xs bs) ms) ≡ zip (map (λ x. x.0) xs) (cut_each weigh depth mode s place i (map (λ x. x.1) xs) bs ms)
     each-opened i [] bs ms = refl
     each-opened i (x ∷ xs) [] ms = refl
     each-opened i (x ∷ xs) (b ∷ bs) [] = refl
     each-opened i (x ∷ xs) (b ∷ bs) (m ∷ ms) = ap (λ z. (x.0, cond m (cut_out weigh depth mode s (child_place place i) x.1 b) (whole x.1)) ∷ z)
-        (let next : suc i ≡ i + 1 = omega arith in ap (λ j. opened_children weigh depth mode s place j (zip (beside xs bs) ms)) next ∙ each-opened (i + 1) xs bs ms)
+        (let next : suc i ≡ i + 1 = omega arith in ap (λ j. opened_children weigh depth mode s place j (zip (with_pending xs bs) ms)) next ∙ each-opened (i + 1) xs bs ms)
 
     each-long : (i : ℕ) (ts : List (Tree V M)) (bs : List (Messages M)) (ms : List Bool) → length bs ≡ length ts → length ms ≡ length ts →
         length (cut_each weigh depth mode s place i ts bs ms) ≡ length ts
@@ -173,9 +173,9 @@ module _ {V D : Type 0} {weigh : Key × Message V D → ℕ} (mode : Mode) {s : 
         all = ap (λ zs. total (counts zs)) shares ∙ is.total;
         weighed = subst (AreShares weigh rest) (sym shares) (subst (λ ys. AreShares weigh ys node.shares.items) (sym known.0) is.weighed);
         shares = ap (λ zs. parted (counts zs) rest) shares ∙ ap (parted (counts node.shares.items)) known.0 ∙ is.shares;
-        trees = trees ∙ ap (map (λ c. c.tree)) is.children ∙ trees-beside xs bins long;
-        pivots = pivots ∙ ap (λ cs. map (λ c. c.pivot) (drop 1 cs)) is.children ∙ rest-beside xs bins long;
-        buffers = buffers ∙ ap (map (λ c. c.pending)) is.children ∙ pending-beside xs bins long;
+        trees = trees ∙ ap (map (λ c. c.tree)) is.children ∙ trees-with_pending xs bins long;
+        pivots = pivots ∙ ap (λ cs. map (λ c. c.pivot) (drop 1 cs)) is.children ∙ rest-with_pending xs bins long;
+        buffers = buffers ∙ ap (map (λ c. c.pending)) is.children ∙ pending-with_pending xs bins long;
       }
 
 module _ {V M : Type 0} {weigh : Key × M → ℕ} {mode : Mode} {s : Shape} {xs : Siblings V M} {bins : List (Messages M)} {stream : Messages M} {count : ℕ} {rest : Messages M} {ts : List (Tree V M)}
@@ -225,10 +225,10 @@ module _ {V M : Type 0} {weigh : Key × M → ℕ} {mode : Mode} {s : Shape} {xs
   after_long : length after ≡ length ts
   after_long = omega (arith, lie_length ks after after_lies, pivots_long)
 
-  after-shared : beside xs after ≡ shared xs (with_messages packet (concatenation bins))
+  after-shared : with_pending xs after ≡ shared xs (with_messages packet (concatenation bins))
   after-shared =
-      ap (beside xs) after-is
-      ∙ beside-shared xs (added (pivots_of xs) packet bins) (added_lie (pivots_of xs) packet bins opening.lie)
+      ap (with_pending xs) after-is
+      ∙ with_pending-shared xs (added (pivots_of xs) packet bins) (added_lie (pivots_of xs) packet bins opening.lie)
       ∙ ap (shared xs) (concatenation-added (pivots_of xs) packet bins opening.lie)
 
   pub kept_divided : LieBetween ks (kept_bins after ms)
@@ -241,7 +241,7 @@ module _ {V M : Type 0} {weigh : Key × M → ℕ} {mode : Mode} {s : Shape} {xs
     pub cuts_long : length cuts ≡ length ks + 1
     cuts_long = each-long weigh depth mode s place 0 ts after ms after_long marks_long ∙ pivots_long
 
-    node-cut : cut_out weigh (suc depth) mode s place (inner (nodes xs) (concatenation bins)) packet ≡ opened (holed_nodes (behind ks cuts)) (concatenation (kept_bins after ms))
+    node-cut : cut_out weigh (suc depth) mode s place (inner (nodes xs) (concatenation bins)) packet ≡ opened (holed_nodes (with_pivots ks cuts)) (concatenation (kept_bins after ms))
     node-cut =
         let all = with_messages packet (concatenation bins) in
         let keys : map (λ x. x.0) xs ≡ [] ∷ ks = led_keys xs opening.led ∙ ap (λ js. [] ∷ js) (sym opening.pivots) in
@@ -252,7 +252,7 @@ module _ {V M : Type 0} {weigh : Key × M → ℕ} {mode : Mode} {s : Shape} {xs
         ∙ (λ i. opened (holed_nodes (zip (keys i) (cut_each weigh depth mode s place 0 (sym opening.trees i) after ms))) (concatenation (kept_bins after ms)))
 
     -- what the holes tell
-    pub node-told : opened (holed_nodes (behind ks (map (with_holes hole_of) cuts))) (concatenation (kept_bins after ms))
+    pub node-told : opened (holed_nodes (with_pivots ks (map (with_holes hole_of) cuts))) (concatenation (kept_bins after ms))
         ≡ with_holes hole_of (cut_out weigh (suc depth) mode s place (inner (nodes xs) (concatenation bins)) packet)
     node-told = ap (λ hs. opened hs (concatenation (kept_bins after ms))) (sym (told-zip hole_of ([] ∷ ks) cuts)) ∙ ap (with_holes hole_of) (sym node-cut)
 

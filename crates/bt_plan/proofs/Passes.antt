@@ -3,17 +3,17 @@ use Rattle.std.proofs.Common.{◌≡◌, ℕ, Bool, true, false, List, [], ◌�
 use Rattle.std.specs.declared.option.Option.{Option}
 use Rattle.bt_keycode.specs.Keys.{Key}
 use Rattle.bt_messages.specs.Bins.{LieBetween}
-use Rattle.bt_node.specs.Children.{beside}
+use Rattle.bt_node.specs.Children.{with_pending}
 use Rattle.bt_node.specs.Flushes.{Child, Flush, flushed, none_pending, pivot_first, shared}
 use Rattle.bt_node.specs.Trees.{Siblings, pivots_of}
-use Rattle.bt_node.specs.Passes.{passed}
-use Rattle.bt_node.proofs.offered.FlushSteps.{ChildrenLie, all_pending, beside-shared, divided-lie, joined-pending, stripped}
+use Rattle.bt_node.specs.Passes.{after_pass}
+use Rattle.bt_node.proofs.offered.FlushSteps.{ChildrenLie, all_pending, divided-lie, joined-pending, stripped, with_pending-shared}
 use Rattle.bt_plan.specs.Cuts.{left_pending}
 
 module _ {V M : Type 0} where
   -- the children after one pass that flushes the marked ones
   abbrev pub pass : Flush V M → List (Child V M × Bool) → List (Child V M)
-  pass f = passed (flushed f)
+  pass f = after_pass (flushed f)
 
   pub all_pending-none : (xs : Siblings V M) (cs : List (Child V M)) → all_pending (none_pending xs ++ cs) ≡ all_pending cs
   all_pending-none [] cs = refl
@@ -29,9 +29,9 @@ module _ {V M : Type 0} where
   stripped-none [] cs = refl
   stripped-none (x ∷ xs) cs = ap (λ z. x ∷ z) (stripped-none xs cs)
 
-  beside-stripped : (cs : List (Child V M)) → beside (stripped cs) (map (λ c. c.pending) cs) ≡ cs
-  beside-stripped [] = refl
-  beside-stripped (c ∷ cs) = ap (λ z. c ∷ z) (beside-stripped cs)
+  with_pending-stripped : (cs : List (Child V M)) → with_pending (stripped cs) (map (λ c. c.pending) cs) ≡ cs
+  with_pending-stripped [] = refl
+  with_pending-stripped (c ∷ cs) = ap (λ z. c ∷ z) (with_pending-stripped cs)
 
   pivots-stripped : (cs : List (Child V M)) → map (λ c. c.pivot) cs ≡ map (λ x. x.0) (stripped cs)
   pivots-stripped [] = refl
@@ -46,5 +46,5 @@ module _ {V M : Type 0} where
       subst (λ ks. LieBetween ks pending) (pivots-stripped cs) (divided-lie levels low high (c ∷ cs) p)
       in
       ap (shared (stripped (c ∷ cs))) (sym (joined-pending (c ∷ cs)))
-      ∙ sym (beside-shared (stripped (c ∷ cs)) pending divided)
-      ∙ beside-stripped (c ∷ cs)
+      ∙ sym (with_pending-shared (stripped (c ∷ cs)) pending divided)
+      ∙ with_pending-stripped (c ∷ cs)

@@ -5,7 +5,7 @@ use Rattle.bt_rowtype.specs.Lists.{concatenation}
 use Rattle.bt_messages.specs.Bins.{LieBetween}
 use Rattle.bt_messages.specs.declared.message.Message.{Message}
 use Rattle.bt_node.specs.Messages.{Messages}
-use Rattle.bt_node.specs.Trees.{Shape, Tree, behind}
+use Rattle.bt_node.specs.Trees.{Shape, Tree, with_pivots}
 use Rattle.bt_node.specs.declared.form.mode.Mode.{Mode}
 use Rattle.bt_plan.specs.declared.holed.HoledParts.{HoledParts}
 use Rattle.bt_plan.specs.declared.holed.HoledParts.TheVariants.{Whole, Hole, Opened}
@@ -24,7 +24,7 @@ job_of job = record { place = node_place job.place; node = job.node; packet = jo
 abbrev pub holed_of : {V D : Type 0} → HoledParts V D → Holed V (Message V D) Place
 holed_of (Whole node) = whole node
 holed_of (Hole place) = hole (node_place place)
-holed_of (Opened children pivots bins) = opened (holed_nodes (behind pivots.items children.items)) (concatenation bins)
+holed_of (Opened children pivots bins) = opened (holed_nodes (with_pivots pivots.items children.items)) (concatenation bins)
 
 -- An opened node has a pivot between each two children, and each child a bin, whose messages lie between the pivots around the child.
 abbrev pub HasPivotsAndBins : {V D : Type 0} → HoledParts V D → Type 0

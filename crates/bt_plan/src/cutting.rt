@@ -16,7 +16,7 @@ ghost use Rattle.bt_plan.specs.Laws.{FillsUp, PlacesRise, StandInHoles};
 ghost use Rattle.bt_plan.specs.Pieces.{holes, with_holes};
 ghost use Rattle.bt_plan.specs.Pieces as pieces;
 ghost use Rattle.bt_plan.specs.Views.{IsCut, job_of, node_place};
-ghost use Rattle.bt_plan.specs.inside.Cutting.{AreSizedNodes, cut_job, cut_marked, kept_bins, sent};
+ghost use Rattle.bt_plan.specs.inside.Cutting.{AreSizedNodes, cut_job, cut_marked, job_with, kept_bins};
 ghost use Rattle.bt_plan.specs.inside.CutNodes.{cut_above, cut_loaded, job_at};
 
 use crate::holed::{Holed, HoledNode};
@@ -67,7 +67,7 @@ fn move_out<V: Merge>(
 ) -> Result<HoledNode<V>, AllocError>
     requires enough { count ≤ length stream.old }
     ensures hole { IfOk result (λ hole. hole ≡ pieces.hole (node_place at.place)) }
-    ensures job { OnOk result (map job_of jobs.new.items ≡ map job_of jobs.old.items ++ sent (take count stream.old) (job_at at node pending) ∷ []) }
+    ensures job { OnOk result (map job_of jobs.new.items ≡ map job_of jobs.old.items ++ job_with (take count stream.old) (job_at at node pending) ∷ []) }
     ensures left { OnOk result (stream.new ≡ drop count stream.old) }
 {
     let Cutting {
@@ -120,9 +120,9 @@ fn cut_child<V: Merge>(
     requires sized { IsSized (weigh_of V.terms) at.shape node }
     requires path { length at.place.path.items + at.depth ≤ DEEPEST_CUT }
     requires share { IsShare (weigh_of V.terms) stream.old share }
-    ensures child { IfOk result (λ cut. cut.0 ≡ with_holes hole_of (cut_marked (weigh_of V.terms) at.depth at.shape marked (sent (take share.count stream.old) (job_at at node pending)))) }
+    ensures child { IfOk result (λ cut. cut.0 ≡ with_holes hole_of (cut_marked (weigh_of V.terms) at.depth at.shape marked (job_with (take share.count stream.old) (job_at at node pending)))) }
     ensures kept { IfOk result (λ cut. cut.1 ≡ cond marked [] (with_messages (take share.count stream.old) pending)) }
-    ensures jobs { OnOk result (map job_of jobs.new.items ≡ map job_of jobs.old.items ++ holes (cut_marked (weigh_of V.terms) at.depth at.shape marked (sent (take share.count stream.old) (job_at at node pending)))) }
+    ensures jobs { OnOk result (map job_of jobs.new.items ≡ map job_of jobs.old.items ++ holes (cut_marked (weigh_of V.terms) at.depth at.shape marked (job_with (take share.count stream.old) (job_at at node pending)))) }
     ensures left { OnOk result (stream.new ≡ drop share.count stream.old) }
 {
     if !marked {
@@ -243,8 +243,8 @@ fn cut_node<V: Merge>(
     requires sized { IsSized (weigh_of V.terms) at.shape node }
     requires path { length at.place.path.items + at.depth ≤ DEEPEST_CUT }
     requires enough { count ≤ length stream.old }
-    ensures holed { IfOk result (λ holed. holed ≡ with_holes hole_of (cut_job (weigh_of V.terms) at.depth at.shape (sent (take count stream.old) (job_at at node pending)))) }
-    ensures jobs { OnOk result (map job_of jobs.new.items ≡ map job_of jobs.old.items ++ holes (cut_job (weigh_of V.terms) at.depth at.shape (sent (take count stream.old) (job_at at node pending)))) }
+    ensures holed { IfOk result (λ holed. holed ≡ with_holes hole_of (cut_job (weigh_of V.terms) at.depth at.shape (job_with (take count stream.old) (job_at at node pending)))) }
+    ensures jobs { OnOk result (map job_of jobs.new.items ≡ map job_of jobs.old.items ++ holes (cut_job (weigh_of V.terms) at.depth at.shape (job_with (take count stream.old) (job_at at node pending)))) }
     ensures left { OnOk result (stream.new ≡ drop count stream.old) }
 {
     if at.depth == 0 {

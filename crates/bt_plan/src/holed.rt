@@ -15,7 +15,7 @@
 ghost use Rattle.std.specs.Prelude.{◌≡◌, ◌+◌, length};
 ghost use Rattle.bt_rowtype.specs.Lists.{concatenation};
 ghost use Rattle.bt_messages.specs.Bins.{LieBetween};
-ghost use Rattle.bt_node.specs.Trees.{behind};
+ghost use Rattle.bt_node.specs.Trees.{with_pivots};
 ghost use Rattle.bt_plan.specs.Pieces as pieces;
 ghost use Rattle.bt_plan.specs.Views.{HasPivotsAndBins, holed_of, node_place};
 
@@ -97,7 +97,7 @@ impl<V: Merge> HoledNode<V> {
     pub(crate) fn opened(children: Vec<HoledNode<V>>, pivots: Vec<Key>, bins: Bins<V>) -> Self
         requires one_fewer { length children.items ≡ length pivots.items + 1 }
         requires divided { LieBetween pivots.items bins }
-        ensures { result ≡ pieces.opened (pieces.holed_nodes (behind pivots.items children.items)) (concatenation bins) }
+        ensures { result ≡ pieces.opened (pieces.holed_nodes (with_pivots pivots.items children.items)) (concatenation bins) }
     {
         HoledNode {
             parts: HoledParts::Opened {

@@ -9,7 +9,7 @@ use Rattle.bt_rowtype.proofs.Columnwise.{some_read}
 use Rattle.bt_rowtype.specs.Ints.{int_of}
 use Rattle.bt_rowtype.specs.Arithmetic.{arithmetic_of_word, op_making}
 use Rattle.bt_rowtype.specs.Ops.{action_fault, at_column, both_read, making_of, making_of_kind, named_from, number_fault, number_op_of, op_of, open_column, open_kind, ops_of, set_of, unless}
-use Rattle.bt_rowtype.specs.inside.Fits.{OpFits, OpsFit}
+use Rattle.bt_rowtype.specs.Fits.{OpFits, OpsFit}
 use Rattle.bt_rowtype.specs.Schemas.{Schema, fit_columns, fits_kind}
 use Rattle.bt_rowtype.specs.Values.{value_of, with_first}
 use Rattle.bt_rowtype.specs.declared.upsert.op.Arithmetic.{Arithmetic}

@@ -5,7 +5,7 @@ use Rattle.std.proofs.lemmas.List.{take-set-le}
 use Rattle.std.specs.Prelude.{map, option_map}
 use Rattle.bt_rowtype.specs.Arithmetic.{Action, Makes, Sets, action_of, new_value}
 use Rattle.bt_rowtype.specs.Ops.{action_fault, after_action, after_op, number_fault, open_kind, set_fault}
-use Rattle.bt_rowtype.specs.inside.Fits.{OpFits}
+use Rattle.bt_rowtype.specs.Fits.{OpFits}
 use Rattle.bt_rowtype.specs.Schemas.{Schema, fit_columns, fits_kind}
 use Rattle.bt_rowtype.specs.Values.{default_of}
 use Rattle.bt_rowtype.specs.declared.upsert.op.Arithmetic.{Arithmetic}

@@ -17,11 +17,11 @@ use Rattle.bt_rowtype.specs.declared.value.ValueRef.{ValueRef}
 use Rattle.bt_rowtype.specs.declared.value.ValueRef.TheVariants as seen
 
 -- the value that a reference shows
-abbrev pub shown : ValueRef → Value
-shown (seen.Int n) = value.Int n
-shown (seen.Text bytes) = value.Text bytes.now
-shown (seen.Flag flag) = value.Flag flag
-shown (seen.Bytes bytes) = value.Bytes bytes.now
+abbrev pub value_of_ref : ValueRef → Value
+value_of_ref (seen.Int n) = value.Int n
+value_of_ref (seen.Text bytes) = value.Text bytes.now
+value_of_ref (seen.Flag flag) = value.Flag flag
+value_of_ref (seen.Bytes bytes) = value.Bytes bytes.now
 
 -- ---- forms: how values are kept, ordered and coded
 

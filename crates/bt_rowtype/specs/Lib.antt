@@ -1,6 +1,7 @@
 pub mod inside
 pub mod Answers
 pub mod Arithmetic
+pub mod Fits
 pub mod Hex
 pub mod Ints
 pub mod Kinds

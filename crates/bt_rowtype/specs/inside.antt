@@ -2,7 +2,6 @@
 pub mod Arguments
 pub mod Changes
 pub mod CsvStates
-pub mod Fits
 pub mod GrowingBytes
 pub mod Numbers
 pub mod Packing

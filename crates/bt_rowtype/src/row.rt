@@ -5,7 +5,7 @@ ghost use Rattle.bt_rowtype.specs.Kinds.{Number, Bytes, Bit};
 ghost use Rattle.bt_rowtype.specs.Ops.{after_action};
 ghost use Rattle.bt_rowtype.specs.Values.{HasBytes, IsInRange};
 ghost use Rattle.bt_rowtype.specs.inside.Packing.{IsPacked, int_bytes, packed_values, packed_content, packed_value, unpacked};
-ghost use Rattle.bt_rowtype.specs.Views.{shown};
+ghost use Rattle.bt_rowtype.specs.Views.{value_of_ref};
 
 pub(crate) mod lent_row;
 pub(crate) mod packed_values;
@@ -100,10 +100,10 @@ fn add_bit(bytes: &mut GrowingBytes, alloc: Global, tag: u8, bit: bool) -> Resul
 #[inline(always)]
 #[tactic(auto, using(crate::proofs::offered::Kinds::bytes_length, crate::proofs::offered::Kinds::low_tag))]
 fn add_value(bytes: &mut GrowingBytes, alloc: Global, value: ValueRef<'_>) -> Result<(), AllocError>
-    requires { HasBytes (shown value) }
-    ensures ok { OnOk result (bytes.new ≡ bytes.old ++ packed_value (shown value.entry)) }
+    requires { HasBytes (value_of_ref value) }
+    ensures ok { OnOk result (bytes.new ≡ bytes.old ++ packed_value (value_of_ref value.entry)) }
     ensures err { OnErr result (bytes.new ≡ bytes.old) }
-    ensures in_range { IsInRange (shown value.entry) }
+    ensures in_range { IsInRange (value_of_ref value.entry) }
 {
     let tag = value.kind().tag();
     match value.content() {
@@ -116,7 +116,7 @@ fn add_value(bytes: &mut GrowingBytes, alloc: Global, value: ValueRef<'_>) -> Re
 /// How many bytes a value takes.
 #[tactic(auto, using(crate::proofs::Packing::length_int_bytes))]
 pub(crate) fn width_of_value(value: ValueRef<'_>) -> usize
-    ensures { result ≡ length (packed_value (shown value.entry)) }
+    ensures { result ≡ length (packed_value (value_of_ref value.entry)) }
 {
     match value.content() {
         Content::Number(_) => 9,
@@ -135,9 +135,9 @@ fn replacement(
 ) -> Result<GrowingBytes, AllocError>
     requires order { at ≤ end }
     requires within { end ≤ length bytes.now }
-    requires bytes { HasBytes (shown value) }
-    ensures bytes { IfOk result (λ new. new ≡ take at bytes.now ++ (packed_value (shown value.entry) ++ drop end bytes.now)) }
-    ensures in_range { IfOk result (λ _. IsInRange (shown value.entry)) }
+    requires bytes { HasBytes (value_of_ref value) }
+    ensures bytes { IfOk result (λ new. new ≡ take at bytes.now ++ (packed_value (value_of_ref value.entry) ++ drop end bytes.now)) }
+    ensures in_range { IfOk result (λ _. IsInRange (value_of_ref value.entry)) }
 {
     let rest = tail(bytes, end);
     let room = width_of_value(value)
@@ -191,8 +191,8 @@ impl Row {
     /// Adds a value at the end. An `Err` changes nothing.
     #[inline(always)]
     pub fn push(&mut self, alloc: Global, value: ValueRef<'_>) -> Result<(), AllocError>
-        requires { HasBytes (shown value) }
-        ensures ok { OnOk result (self.new ≡ self.old ++ shown value.entry ∷ []) }
+        requires { HasBytes (value_of_ref value) }
+        ensures ok { OnOk result (self.new ≡ self.old ++ value_of_ref value.entry ∷ []) }
         ensures err { OnErr result (self.new ≡ self.old) }
     {
         add_value(&mut self.bytes, alloc, value)?;
@@ -238,8 +238,8 @@ impl Row {
     /// The value at a place, counted from 0.
     pub fn get(&self, place: usize) -> ValueRef<'_>
         requires { place < length self.now }
-        ensures value { slice_get self.now place ≡ Some (shown result) }
-        ensures in_range { IsInRange (shown result) }
+        ensures value { slice_get self.now place ≡ Some (value_of_ref result) }
+        ensures in_range { IsInRange (value_of_ref result) }
     {
         let bytes = self.as_bytes();
         let at = offset(bytes, place);
@@ -270,8 +270,8 @@ impl Row {
         place: usize,
         value: ValueRef<'_>,
     ) -> Result<(), AllocError>
-        requires { HasBytes (shown value) }
-        ensures ok { OnOk result (self.new ≡ after_action self.old (Sets place (shown value.entry))) }
+        requires { HasBytes (value_of_ref value) }
+        ensures ok { OnOk result (self.new ≡ after_action self.old (Sets place (value_of_ref value.entry))) }
         ensures err { OnErr result (self.new ≡ self.old) }
     {
         let bytes = self.bytes.as_slice();

@@ -2,7 +2,7 @@
 ghost use Rattle.std.specs.Prelude.{◌≡◌, ◌≤◌, Ok, Err, if◌then◌else◌, drop, length, take};
 ghost use Rattle.bt_rowtype.specs.Ops.{named_from};
 ghost use Rattle.bt_rowtype.specs.Schemas.{are_apart, checked_as, fit_columns, fits_kind, has_column as has_column_named, is_schema};
-ghost use Rattle.bt_rowtype.specs.Views.{shown};
+ghost use Rattle.bt_rowtype.specs.Views.{value_of_ref};
 
 use crate::refusal::Refusal;
 use crate::row::Row;
@@ -38,7 +38,7 @@ pub struct Schema {
 }
 
 impl Model for Schema {
-    ghost use Rattle.bt_rowtype.specs.inside.Fits.{IsSchema};
+    ghost use Rattle.bt_rowtype.specs.Fits.{IsSchema};
     ghost use Rattle.bt_rowtype.specs.Schemas as schemas;
 
     ghost Value = { schemas.Schema };
@@ -131,7 +131,7 @@ fn are_of_columns(columns: &[Column], values: Values<'_>) -> bool
 
 /// Whether a value is one of a kind.
 pub(crate) fn is_of_kind(kind: Kind, value: ValueRef<'_>) -> bool
-    ensures { result ≡ fits_kind kind (shown value.entry) }
+    ensures { result ≡ fits_kind kind (value_of_ref value.entry) }
 {
     value.kind().tag() == kind.tag() && kind.takes(value.content())
 }

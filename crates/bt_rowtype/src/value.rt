@@ -6,7 +6,7 @@ ghost use Rattle.csv.specs.Writing.{default_writer, field_text};
 ghost use Rattle.bt_rowtype.specs.Kinds.{content_of, default_of, form_of, kind_of_word, kind_of, kind_of_tag, needs_room, tag_of, takes, text_of};
 ghost use Rattle.bt_rowtype.specs.Kinds.{value_of, value_with};
 ghost use Rattle.bt_rowtype.specs.Values.{HasBytes, IsInRange, takes_content};
-ghost use Rattle.bt_rowtype.specs.Views.{held, shown};
+ghost use Rattle.bt_rowtype.specs.Views.{content_of_ref, value_of_ref};
 ghost use Rattle.bt_rowtype.specs.inside.PlainFields.{EndsPlain};
 
 pub(crate) mod binary;
@@ -158,7 +158,7 @@ impl Kind {
 
     /// Whether it takes what a value of its form holds: any number, any bit, and of bytes those that are a value of it.
     pub fn takes(self, content: Content<'_>) -> bool
-        ensures { result ≡ takes_content self (held content.entry) }
+        ensures { result ≡ takes_content self (content_of_ref content.entry) }
     {
         match content {
             Content::Bytes(bytes) => self.takes_bytes(bytes),
@@ -169,8 +169,8 @@ impl Kind {
     /// The value of a column in which nothing was set.
     #[tactic(auto, using(crate::proofs::offered::Texts::no_bytes))]
     pub(crate) fn default_value<'a>(self) -> ValueRef<'a>
-        ensures value { shown result ≡ default_of self }
-        ensures bytes { HasBytes (shown result) }
+        ensures value { value_of_ref result ≡ default_of self }
+        ensures bytes { HasBytes (value_of_ref result) }
     {
         match self {
             Kind::Int => ValueRef::Int(0),
@@ -191,8 +191,8 @@ impl Kind {
     /// The value that a field spells in a column of this kind, which needs no room. Its bytes are lent from the field.
     pub(crate) fn read_lent(self, field: &[u8]) -> Option<ValueRef<'_>>
         requires { needs_room self ≡ false }
-        ensures value { option_map shown result ≡ value_of self field.now }
-        ensures bytes { IfSome result (λ value. HasBytes (shown value)) }
+        ensures value { option_map value_of_ref result ≡ value_of self field.now }
+        ensures bytes { IfSome result (λ value. HasBytes (value_of_ref value)) }
     {
         match self {
             Kind::Int => Some(ValueRef::Int(read_int(field)?)),
@@ -209,8 +209,8 @@ impl Kind {
         field: &'a [u8],
         room: &'b mut [u8; MOST_VALUE_BYTES],
     ) -> Option<ValueRef<'b>>
-        ensures value { option_map shown result ≡ value_of self field.now }
-        ensures bytes { IfSome result (λ value. HasBytes (shown value)) }
+        ensures value { option_map value_of_ref result ≡ value_of self field.now }
+        ensures bytes { IfSome result (λ value. HasBytes (value_of_ref value)) }
     {
         match self {
             Kind::Bytes => Some(ValueRef::Bytes(read_binary(field, room)?)),
@@ -222,8 +222,8 @@ impl Kind {
     /// lent from the text; a field that spells bytes has none to lend.
     #[inline(always)]
     pub(crate) fn read_plain<'a>(self, text: &'a [u8]) -> Option<(ValueRef<'a>, usize)>
-        ensures value { IfSome result (λ found. value_of self (take found.1 text.now) ≡ Some (shown found.0)) }
-        ensures bytes { IfSome result (λ found. HasBytes (shown found.0)) }
+        ensures value { IfSome result (λ found. value_of self (take found.1 text.now) ≡ Some (value_of_ref found.0)) }
+        ensures bytes { IfSome result (λ found. HasBytes (value_of_ref found.0)) }
         ensures ends { IfSome result (λ found. EndsPlain text.now found.1) }
     {
         match self {
@@ -247,7 +247,7 @@ impl Kind {
 impl Value {
     /// The value where it lies.
     pub fn as_ref(&self) -> ValueRef<'_>
-        ensures value { shown result ≡ self.now }
+        ensures value { value_of_ref result ≡ self.now }
         ensures bytes { HasBytes self.now }
         ensures in_range { IsInRange self.now }
     {
@@ -275,7 +275,7 @@ impl<'a> ValueRef<'a> {
     /// The value of a kind that holds this, or its default where the kind has another form.
     #[inline(always)]
     pub fn with(kind: Kind, content: Content<'a>) -> Self
-        ensures { shown result ≡ value_with kind (held content.entry) }
+        ensures { value_of_ref result ≡ value_with kind (content_of_ref content.entry) }
     {
         match (kind, content) {
             (Kind::Int, Content::Number(number)) => ValueRef::Int(number),
@@ -289,7 +289,7 @@ impl<'a> ValueRef<'a> {
     /// The kind that it is of.
     #[inline(always)]
     pub fn kind(self) -> Kind
-        ensures { result ≡ kind_of (shown self.entry) }
+        ensures { result ≡ kind_of (value_of_ref self.entry) }
     {
         match self {
             ValueRef::Int(_) => Kind::Int,
@@ -302,7 +302,7 @@ impl<'a> ValueRef<'a> {
     /// What it holds.
     #[inline(always)]
     pub fn content(self) -> Content<'a>
-        ensures { held result ≡ content_of (shown self.entry) }
+        ensures { content_of_ref result ≡ content_of (value_of_ref self.entry) }
     {
         match self {
             ValueRef::Int(number) => Content::Number(number),
@@ -314,8 +314,8 @@ impl<'a> ValueRef<'a> {
 
     /// A copy of the value.
     pub fn to_value(self, alloc: Global) -> Result<Value, AllocError>
-        requires { HasBytes (shown self) }
-        ensures { IfOk result (λ value. value ≡ shown self.entry) }
+        requires { HasBytes (value_of_ref self) }
+        ensures { IfOk result (λ value. value ≡ value_of_ref self.entry) }
     {
         match self {
             ValueRef::Int(number) => Ok(Value::Int(number)),
@@ -327,7 +327,7 @@ impl<'a> ValueRef<'a> {
 
     /// Adds the text of the value, as a field of a record.
     pub(crate) fn write(self, out: &mut Vec<u8>) -> Result<(), AllocError>
-        ensures ok { OnOk result (out.new.items ≡ out.old.items ++ field_text default_writer (text_of (shown self.entry))) }
+        ensures ok { OnOk result (out.new.items ≡ out.old.items ++ field_text default_writer (text_of (value_of_ref self.entry))) }
         ensures err { OnErr result (out.new.items ≡ out.old.items) }
     {
         match self {

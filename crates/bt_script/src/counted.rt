@@ -34,14 +34,14 @@ impl<T> Counted<T> {
     }
 
     /// Whether a call has failed: an error, or a write of some bytes that took none.
-    pub fn failed(&self) -> bool
+    pub fn has_failed(&self) -> bool
         ensures { result ≡ has_failed self.now }
     {
         self.failed
     }
 
     /// Whether bytes were written since the last flush that did not fail.
-    pub fn unflushed(&self) -> bool
+    pub fn has_unflushed(&self) -> bool
         ensures { result ≡ has_unflushed self.now }
     {
         self.unflushed

@@ -12,7 +12,7 @@ use bt_rowtype::Refusal;
 use std::alloc::{AllocError, Global};
 
 // What stands at the place of a command, whose block, where it has one, ends so.
-fn parsed(command: Option<Command<'_>>, end: BlockEnd) -> Parsed<'_>
+fn parsed_command(command: Option<Command<'_>>, end: BlockEnd) -> Parsed<'_>
     ensures found { (script : List ℕ) → spec.Finds result script (block_answer end command.entry ∷ spec.commands (drop (place_after end) script)) }
     ensures past { (at : ℕ) (script : List ℕ) → at < place_after end → place_after end ≤ length script → spec.NextPast result at script }
 {
@@ -47,24 +47,24 @@ fn parse_headed<'a>(
     let words = words(alloc, head)?;
     if begins(&words, b"batch") {
         let Block { content, end } = read_items(alloc, script, at)?;
-        return Ok(parsed(batch_command(&words, content), end));
+        return Ok(parsed_command(batch_command(&words, content), end));
     }
     if begins(&words, b"scan") {
         let Block { content, end } = read_bounds(script, at);
         let command = scan_command(alloc, &words, content)?;
-        return Ok(parsed(command, end));
+        return Ok(parsed_command(command, end));
     }
     if begins(&words, b"sums") {
         let Block { content, end } = read_bounds(script, at);
         let command = sums_command(alloc, &words, content)?;
-        return Ok(parsed(command, end));
+        return Ok(parsed_command(command, end));
     }
     if begins(&words, b"load") {
         let Block { content, end } = read_block_text(script, at);
-        return Ok(parsed(load_command(&words, content), end));
+        return Ok(parsed_command(load_command(&words, content), end));
     }
     let command = line_command(alloc, head, &words)?;
-    Ok(parsed(command, BlockEnd::Closed(at)))
+    Ok(parsed_command(command, BlockEnd::Closed(at)))
 }
 
 /// The command that stands at a place of a script, or its refusal, `Syntax` or `Unfinished`, and the place behind it.

@@ -5,7 +5,7 @@ use Rattle.bt_rowtype.specs.Schemas.{Schema}
 use Rattle.bt_rowtype.specs.declared.refusal.Refusal.{Refusal}
 use Rattle.bt_fanout.specs.Definitions.{definition_as}
 use Rattle.bt_script.specs.declared.command.IndexForm.{IndexForm}
-use Rattle.bt_shell.specs.Steps.{checked, definition_of}
+use Rattle.bt_shell.specs.Steps.{definition_of, definition_or_least}
 use Rattle.bt_table.specs.Calls.{index_refusals, name_refusals}
 use Rattle.bt_table.specs.Standing.{HasSchema}
 use Rattle.bt_table.specs.Tables.{TableState, Intact, Lost}
@@ -16,4 +16,4 @@ pub both_refused : (state : TableState) (schema : Schema) (form : IndexForm) (re
 both_refused Lost schema form refusal other answer has made taken lesser_is = absurd has
 both_refused (Intact table) schema form refusal other answer has made taken lesser_is =
     let same : lesser other refusal ≡ answer = cc in
-    ap (λ def. checked def (least (name_refusals table form.name))) (ap (λ s. definition_as s form.on form.include form.filter) (sym has) ∙ made) ∙ ap (checked (Err refusal)) taken ∙ ap Err same
+    ap (λ def. definition_or_least def (least (name_refusals table form.name))) (ap (λ s. definition_as s form.on form.include form.filter) (sym has) ∙ made) ∙ ap (definition_or_least (Err refusal)) taken ∙ ap Err same

@@ -2,7 +2,7 @@
 use Rattle.std.proofs.Common.{◌≡◌, ◌+◌, ℕ, List, [], ◌∷◌, ◌++◌, Result, Ok, Err, append_assoc, append-nil, fold, length, sym, ap, ◌∙◌, arith}
 use Rattle.std.specs.Prelude.{flat_map}
 use Rattle.bt_rowtype.specs.declared.refusal.Refusal.{Refusal}
-use Rattle.bt_batch.specs.Batches.{made}
+use Rattle.bt_batch.specs.Batches.{map_ok}
 use Rattle.bt_shell.specs.inside.Lines.{with_line}
 use Rattle.bt_shell.specs.Replies.{count_line}
 
@@ -16,8 +16,8 @@ module _ {T : Type 0} (line : T → List ℕ) where
       ∙ ap (λ n. (text ++ (line item ++ flat_map line items), n)) (omega arith)
 
   -- all lines and their number are the reply
-  pub replied : (word : List ℕ) (answer : Result (List T) Refusal) (start lines : List ℕ × ℕ) (text : List ℕ) → start ≡ ([], 0) → made (fold (with_line line) start) answer ≡ Ok lines
-      → text ≡ lines.0 ++ count_line word lines.1 → made (λ items. flat_map line items ++ count_line word (length items)) answer ≡ Ok text
+  pub replied : (word : List ℕ) (answer : Result (List T) Refusal) (start lines : List ℕ × ℕ) (text : List ℕ) → start ≡ ([], 0) → map_ok (fold (with_line line) start) answer ≡ Ok lines
+      → text ≡ lines.0 ++ count_line word lines.1 → map_ok (λ items. flat_map line items ++ count_line word (length items)) answer ≡ Ok text
   replied word (Ok items) start lines text none is said =
       let all : lines ≡ (flat_map line items, length items) = sym (ok is) ∙ ap (λ s. fold (with_line line) s items) none ∙ lines_of [] 0 items ∙ ap (λ n. (flat_map line items, n)) (omega arith) in
       ap Ok (ap (λ l. l.0 ++ count_line word l.1) (sym all) ∙ sym said)
@@ -27,7 +27,7 @@ module _ {T : Type 0} (line : T → List ℕ) where
   replied word (Err refusal) start lines text none is said = cc
 
 -- and a refusal stays one
-pub refused : {A B C : Type 0} (f : A → B) (g : A → C) (answer : Result A Refusal) (refusal : Refusal) → made f answer ≡ Err refusal → made g answer ≡ Err refusal
+pub refused : {A B C : Type 0} (f : A → B) (g : A → C) (answer : Result A Refusal) (refusal : Refusal) → map_ok f answer ≡ Err refusal → map_ok g answer ≡ Err refusal
 refused f g (Ok value) refusal is = cc
 refused {A} {B} {C} f g (Err other) refusal is = ap Err (err is)
   where

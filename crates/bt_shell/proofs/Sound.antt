@@ -17,7 +17,7 @@ use Rattle.bt_fanout.specs.Entries.{Definition}
 use Rattle.bt_fanout.proofs.offered.Definitions.{definition_suits}
 use Rattle.bt_shell.specs.Replies.{count_line}
 use Rattle.bt_shell.specs.Runs.{after_commands}
-use Rattle.bt_shell.specs.Steps.{Done, State, checked, created, definition_of, done_or_refused, form_refusals, is_allowed, outcome, seen, shape_of, table_of, told, turn}
+use Rattle.bt_shell.specs.Steps.{Done, State, call_outcome, creation_outcome, definition_of, definition_or_least, done_or_refused, form_refusals, is_allowed, outcome, read_outcome, shape_of, table_of, turn}
 use Rattle.bt_batch.specs.Batches.{one_if}
 use Rattle.bt_table.specs.Calls as call
 use Rattle.bt_table.specs.Calls.{name_refusals, step}
@@ -54,26 +54,26 @@ form_keeps_sound state form =
     let allowed = both_allowed _ (is_schema form.columns form.keys) (is_allowed shape) none in
     empty_is_sound (record { columns = form.columns; keys = form.keys }) shape (few_keys form.columns form.keys allowed.0) (shape_is_roomy shape allowed.1))
 
-told_keeps_sound : (after : Result (TableState × Reply) Refusal) → IfOk after (λ (step : TableState × Reply). IsSound step.0) → IsSoundAfter (told after)
+told_keeps_sound : (after : Result (TableState × Reply) Refusal) → IfOk after (λ (step : TableState × Reply). IsSound step.0) → IsSoundAfter (call_outcome after)
 told_keeps_sound (Ok step) sound = sound
 told_keeps_sound (Err refusal) sound = tt
 
-seen_keeps_sound : (table : TableState) (text : Result (List ℕ) Refusal) → IsSound table → IsSoundAfter (seen table text)
+seen_keeps_sound : (table : TableState) (text : Result (List ℕ) Refusal) → IsSound table → IsSoundAfter (read_outcome table text)
 seen_keeps_sound table (Ok text) sound = sound
 seen_keeps_sound table (Err refusal) sound = tt
 
 -- a definition that no refusal applies to is the one that was made
-checked_is : (def : Result Definition Refusal) (other : Option Refusal) (one : Definition) → checked def other ≡ Ok one → def ≡ Ok one
+checked_is : (def : Result Definition Refusal) (other : Option Refusal) (one : Definition) → definition_or_least def other ≡ Ok one → def ≡ Ok one
 checked_is (Ok def) None one is = is
 checked_is (Ok def) (Some other) one is = cc
 checked_is (Err refusal) None one is = cc
 checked_is (Err refusal) (Some other) one is = cc
 
-created_keeps_sound : (table : TableState) (form : IndexForm) → IsSound table → IsSoundAfter (created table form.name (definition_of table form))
+created_keeps_sound : (table : TableState) (form : IndexForm) → IsSound table → IsSoundAfter (creation_outcome table form.name (definition_of table form))
 created_keeps_sound Lost form sound = tt
 created_keeps_sound (Intact table) form sound = by_definition (definition_of (Intact table) form) refl
   where
-    by_definition : (def : Result Definition Refusal) → definition_of (Intact table) form ≡ def → IsSoundAfter (created (Intact table) form.name def)
+    by_definition : (def : Result Definition Refusal) → definition_of (Intact table) form ≡ def → IsSoundAfter (creation_outcome (Intact table) form.name def)
     by_definition (Ok def) is =
         told_keeps_sound _ (step_keeps_sound (Intact table) (call.CreateIndex form.name def)
         (definition_suits table.schema form.on form.include form.filter def sound.keys

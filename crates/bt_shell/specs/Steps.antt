@@ -20,7 +20,7 @@ use Rattle.bt_view.specs.Groups.{sums}
 use Rattle.bt_view.specs.Images.{image}
 use Rattle.bt_view.specs.Ranges.{scan}
 use Rattle.bt_shell.specs.Replies.{count_line, refused_text, reply_text, scan_reply, sums_reply}
-use Rattle.bt_batch.specs.Batches.{made, one_if}
+use Rattle.bt_batch.specs.Batches.{map_ok, one_if}
 use Rattle.bt_table.specs.Calls as call
 use Rattle.bt_table.specs.Calls.{name_refusals, step, unless_any}
 use Rattle.bt_table.specs.Tables.{TableState, Intact, Lost, empty_table}
@@ -54,46 +54,46 @@ abbrev pub table_of : TableForm → TableState
 table_of form = Intact (empty_table (record { columns = form.columns; keys = form.keys }) (shape_of form.fanout form.buffer form.leaf))
 
 -- a call on the table, in text
-abbrev pub told : Result (TableState × Reply) Refusal → Result Done Refusal
-told after = made (λ step. (Some step.0, reply_text step.1)) after
+abbrev pub call_outcome : Result (TableState × Reply) Refusal → Result Done Refusal
+call_outcome after = map_ok (λ step. (Some step.0, reply_text step.1)) after
 
 -- what is seen of a table, which stays
-abbrev pub seen : TableState → Result (List ℕ) Refusal → Result Done Refusal
-seen state text = made (λ text. (Some state, text)) text
+abbrev pub read_outcome : TableState → Result (List ℕ) Refusal → Result Done Refusal
+read_outcome state text = map_ok (λ text. (Some state, text)) text
 
 -- a definition that no refusal applies to, or the least
-abbrev pub checked : Result Definition Refusal → Option Refusal → Result Definition Refusal
-checked (Ok def) None = Ok def
-checked (Ok def) (Some other) = Err other
-checked (Err refusal) None = Err refusal
-checked (Err refusal) (Some other) = Err (lesser other refusal)
+abbrev pub definition_or_least : Result Definition Refusal → Option Refusal → Result Definition Refusal
+definition_or_least (Ok def) None = Ok def
+definition_or_least (Ok def) (Some other) = Err other
+definition_or_least (Err refusal) None = Err refusal
+definition_or_least (Err refusal) (Some other) = Err (lesser other refusal)
 
 -- the definition of a new index of a table, or the least refusal of its name and of what it is made of
 abbrev pub definition_of : TableState → IndexForm → Result Definition Refusal
 definition_of Lost form = Err Failed
-definition_of (Intact table) form = checked (definition_as table.schema form.on form.include form.filter) (least (name_refusals table form.name))
+definition_of (Intact table) form = definition_or_least (definition_as table.schema form.on form.include form.filter) (least (name_refusals table form.name))
 
 -- a new index of this definition
-abbrev pub created : TableState → List ℕ → Result Definition Refusal → Result Done Refusal
-created state name (Ok def) = told (step state (call.CreateIndex name def))
-created state name (Err refusal) = Err refusal
+abbrev pub creation_outcome : TableState → List ℕ → Result Definition Refusal → Result Done Refusal
+creation_outcome state name (Ok def) = call_outcome (step state (call.CreateIndex name def))
+creation_outcome state name (Err refusal) = Err refusal
 
 -- A command: the table after it and what it is answered, or its refusal, the least that applies; that there is no table comes before
 -- all that a table would say.
 abbrev pub outcome : State → Command → Result Done Refusal
 outcome state (Table form) = unless_any (form_refusals state form) (Some (table_of form), count_line (codes "table ") (length form.columns))
 outcome None command = Err NoTable
-outcome (Some table) (Batch items) = told (step table (call.Apply items))
-outcome (Some table) (Get fields) = told (step table (call.Get fields))
-outcome (Some table) (Scan tree bounds) = seen table (made scan_reply (scan table tree bounds.from bounds.to))
-outcome (Some table) (Sums form) = seen table (made sums_reply (sums table form.tree form.columns form.column form.bounds.from form.bounds.to))
-outcome (Some table) (Image tree) = seen table (image table tree)
-outcome (Some table) (Index form) = created table form.name (definition_of table form)
-outcome (Some table) (Build name count) = told (step table (call.BuildStep name count))
-outcome (Some table) (Drop name) = told (step table (call.DropIndex name))
-outcome (Some table) (Load text) = told (step table (call.Load text))
-outcome (Some table) (Drain tree) = told (step table (call.Drain tree))
-outcome (Some table) (Rebuild tree) = told (step table (call.Rebuild tree))
+outcome (Some table) (Batch items) = call_outcome (step table (call.Apply items))
+outcome (Some table) (Get fields) = call_outcome (step table (call.Get fields))
+outcome (Some table) (Scan tree bounds) = read_outcome table (map_ok scan_reply (scan table tree bounds.from bounds.to))
+outcome (Some table) (Sums form) = read_outcome table (map_ok sums_reply (sums table form.tree form.columns form.column form.bounds.from form.bounds.to))
+outcome (Some table) (Image tree) = read_outcome table (image table tree)
+outcome (Some table) (Index form) = creation_outcome table form.name (definition_of table form)
+outcome (Some table) (Build name count) = call_outcome (step table (call.BuildStep name count))
+outcome (Some table) (Drop name) = call_outcome (step table (call.DropIndex name))
+outcome (Some table) (Load text) = call_outcome (step table (call.Load text))
+outcome (Some table) (Drain tree) = call_outcome (step table (call.Drain tree))
+outcome (Some table) (Rebuild tree) = call_outcome (step table (call.Rebuild tree))
 
 -- a command that is refused leaves the table as it is
 abbrev pub done_or_refused : State → Result Done Refusal → Done

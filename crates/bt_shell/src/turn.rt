@@ -7,7 +7,7 @@ ghost use Rattle.bt_shell.specs.Replies as spec;
 ghost use Rattle.bt_shell.specs.Replies.{refused_text};
 ghost use Rattle.bt_shell.specs.Steps as step;
 ghost use Rattle.bt_rowtype.specs.Answers.{Answers};
-ghost use Rattle.bt_batch.specs.Batches.{made};
+ghost use Rattle.bt_batch.specs.Batches.{map_ok};
 ghost use Rattle.bt_table.specs.Standing.{Suits};
 
 use crate::context::Context;
@@ -35,7 +35,7 @@ fn shape_of(fanout: u32, buffer: Capacity, leaf: u32) -> Result<Shape, Refusal>
 
 // The text of what a call on the table answers.
 fn call_text(alloc: Global, reply: Result<Reply, Refusal>) -> Result<ReplyText, Refusal>
-    ensures { Answers (made spec.reply_text reply) result }
+    ensures { Answers (map_ok spec.reply_text reply) result }
 {
     Ok(reply_text(alloc, reply?)?)
 }

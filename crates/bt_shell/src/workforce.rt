@@ -1,7 +1,7 @@
 //! Who works for a script: the caller alone, or a crew.
 ghost use Rattle.std.specs.Prelude.{fold};
 ghost use Rattle.bt_rowtype.specs.Answers.{Answers};
-ghost use Rattle.bt_batch.specs.Batches.{made};
+ghost use Rattle.bt_batch.specs.Batches.{map_ok};
 ghost use Rattle.bt_view.specs.Groups as groups;
 ghost use Rattle.bt_view.specs.Ranges as ranges;
 ghost use Rattle.bt_shell.specs.Replies.{row_line};
@@ -31,7 +31,7 @@ pub trait ScriptWorkforce<T>: Workforce<T> {
         lines: Lines,
     ) -> Result<Lines, Refusal>
         requires ready { Self.accepts self.now }
-        ensures answer { Answers (made (fold (with_line (λ row. row_line row.1)) lines) (ranges.scan_with_keys table.now name.now bounds.now.from bounds.now.to)) result };
+        ensures answer { Answers (map_ok (fold (with_line (λ row. row_line row.1)) lines) (ranges.scan_with_keys table.now name.now bounds.now.from bounds.now.to)) result };
 
     /// The groups of the rows of a tree between two bounds, with the sum of a column.
     fn sums(

@@ -24,7 +24,7 @@ use Rattle.bt_fanout.specs.Promises.{SuitsRows, Turns, index_of, own_puts}
 use Rattle.bt_fanout.specs.Selections as selection
 use Rattle.bt_fanout.specs.Selections.{select}
 use Rattle.bt_fanout.proofs.offered.Builds.{sorted-select, step_builds, step_puts}
-use Rattle.bt_fanout.proofs.offered.Covers.{IsAmong, effects-nothing, first_among_wider, second_among_wider, sent-within}
+use Rattle.bt_fanout.proofs.offered.Covers.{IsAmong, effects-nothing, entry_changes-within, first_among_wider, second_among_wider}
 use Rattle.bt_fanout.proofs.offered.Packets.{effects-sorted_batch}
 use Rattle.bt_fanout.proofs.offered.Standing.{stands_under}
 use Rattle.bt_fanout.proofs.offered.Suiting.{all_more, all_none, of_whole, suits_effects, suits_row}
@@ -301,7 +301,7 @@ stays_among cover (head ∷ heads) k is = stays_among (wider cover head.cover) h
 
 module _ (batch : RowMessages) (rows : Rows (List Value)) where
   packet-within : (head : IndexHead) (wide : Cover) → IsAmong head.cover wide → packet_for (effects_within wide batch rows) head ≡ packet_for (effects_of batch rows) head
-  packet-within head wide among = ap sorted_batch (sent-within head.def head.cover wide among (effects_of batch rows))
+  packet-within head wide among = ap sorted_batch (entry_changes-within head.def head.cover wide among (effects_of batch rows))
 
   packets-within : (cover : Cover) (heads : List IndexHead) → map (packet_for (effects_within (widest cover heads) batch rows)) heads ≡ map (packet_for (effects_of batch rows)) heads
   packets-within cover [] = refl

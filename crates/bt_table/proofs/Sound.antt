@@ -4,7 +4,7 @@ use Rattle.std.specs.FinMap.{is_sorted}
 use Rattle.std.specs.List.{filter_map, list_all}
 use Rattle.std.specs.Result.{result_ok}
 use Rattle.bt_rowtype.specs.Ops.{after_ops, default_row, upsert_as}
-use Rattle.bt_rowtype.specs.inside.Fits.{OpsFit}
+use Rattle.bt_rowtype.specs.Fits.{OpsFit}
 use Rattle.bt_rowtype.specs.Schemas.{Schema, fit_columns}
 use Rattle.bt_rowtype.specs.Values.{AreInRange, read_as}
 use Rattle.bt_rowtype.specs.declared.upsert.op.Op.{Op}
@@ -25,7 +25,7 @@ use Rattle.bt_node.proofs.offered.ShapedTrees.{holds-sorted}
 use Rattle.bt_fanout.specs.Effects.{entry_effect, entry_meaning, row_effect, row_meaning}
 use Rattle.bt_rowtype.specs.declared.item.Item.{Item}
 use Rattle.bt_rowtype.specs.declared.item.Item.TheVariants.{Put, Del, Ups}
-use Rattle.bt_batch.specs.Batches.{KeyedMessage, RowMessages, del_of, made, messages_of, one_if, put_of, read_batch, read_key, read_message, ups_of}
+use Rattle.bt_batch.specs.Batches.{KeyedMessage, RowMessages, del_of, map_ok, messages_of, one_if, put_of, read_batch, read_key, read_message, ups_of}
 use Rattle.bt_table.specs.Standing.{AllStand, AreOfSchema, IsOfSchema, IsSoundIndex, IsSoundTable, Stands, Suits}
 use Rattle.bt_table.specs.Tables.{Intact, PlainTable, after_batch}
 use Rattle.bt_fanout.specs.Entries.{Definition}
@@ -63,13 +63,13 @@ ups_of_schema schema key ops key_fit key_range fit range = by_old
 
 message_of_schema : (schema : Schema) (item : ℕ) (line : Item) → IfOk (read_message schema item line) (IsOfSchema schema)
 message_of_schema schema item (Put fields) =
-    elim (read_as schema.columns item fields) as (λ r. read_as schema.columns item fields ≡ r → IfOk r AreInRange → IfOk (made (put_of schema.keys) r) (IsOfSchema schema)) [
+    elim (read_as schema.columns item fields) as (λ r. read_as schema.columns item fields ≡ r → IfOk r AreInRange → IfOk (map_ok (put_of schema.keys) r) (IsOfSchema schema)) [
       | Ok row ↦ λ is range. put_of_schema schema row (read_fits schema.columns item fields row is) range
       | Err refusal ↦ λ is range. tt
     ] refl (read_in_range schema.columns item fields)
-message_of_schema schema item (Del fields) = elim (read_key schema item fields) as (λ r. IfOk (made del_of r) (IsOfSchema schema)) [ Ok key ↦ λ old stands. tt | Err refusal ↦ tt ]
+message_of_schema schema item (Del fields) = elim (read_key schema item fields) as (λ r. IfOk (map_ok del_of r) (IsOfSchema schema)) [ Ok key ↦ λ old stands. tt | Err refusal ↦ tt ]
 message_of_schema schema item (Ups fields) =
-    elim (upsert_as schema item fields) as (λ r. upsert_as schema item fields ≡ r → IfOk r (λ upsert. AreInRange upsert.0 × OpsInRange upsert.1) → IfOk (made (ups_of schema) r) (IsOfSchema schema)) [
+    elim (upsert_as schema item fields) as (λ r. upsert_as schema item fields ≡ r → IfOk r (λ upsert. AreInRange upsert.0 × OpsInRange upsert.1) → IfOk (map_ok (ups_of schema) r) (IsOfSchema schema)) [
       | Ok upsert ↦ λ is range.
           let fits = upsert_fits schema item fields upsert.0 upsert.1 is in
           ups_of_schema schema upsert.0 upsert.1 fits.0 range.0 fits.1 range.1

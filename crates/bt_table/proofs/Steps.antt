@@ -11,9 +11,9 @@ use Rattle.bt_rowtype.specs.Values.{or_refused}
 use Rattle.bt_rowtype.specs.declared.refusal.Refusal.TheVariants.{AlreadyComplete, NameTaken, NoSuchTree, TooMany}
 use Rattle.bt_rowtype.specs.declared.value.Value.{Value}
 use Rattle.bt_keycode.specs.Keys.{key_cmp}
-use Rattle.bt_load.specs.Loads.{loaded}
+use Rattle.bt_load.specs.Loads.{text_rows}
 use Rattle.bt_load.specs.Maps.{map_of}
-use Rattle.bt_load.proofs.offered.Loaded.{loaded-of}
+use Rattle.bt_load.proofs.offered.Loaded.{text_rows-of}
 use Rattle.bt_table.proofs.Loads.{map_of-sorted, map_of-stand}
 use Rattle.bt_messages.specs.Effects.{Rows, rows_after}
 use Rattle.bt_messages.specs.Messages.{Messages, sorted_batch}
@@ -25,7 +25,7 @@ use Rattle.bt_node.proofs.offered.PackedTrees.{packed-holds}
 use Rattle.bt_fanout.specs.Covers.{cover_after, next_rows}
 use Rattle.bt_fanout.specs.Effects.{EntryMessage, SuitsEffect, effects_of, entry_meaning, row_effect, row_meaning}
 use Rattle.bt_rowtype.specs.declared.item.Item.{Item}
-use Rattle.bt_batch.specs.Batches.{RowMessages, and_then, batch_refusals, made, messages_of, one_if}
+use Rattle.bt_batch.specs.Batches.{RowMessages, and_then, batch_refusals, map_ok, messages_of, one_if}
 use Rattle.bt_fanout.specs.Entries.{Definition, IsWithin}
 use Rattle.bt_fanout.specs.Promises.{SuitsRows, own_puts}
 use Rattle.bt_fanout.specs.declared.cover.Cover.{Cover}
@@ -57,7 +57,7 @@ abbrev pub upkeep_reply : Upkeep → List ℕ → Reply
 upkeep_reply Draining name = Drained name
 upkeep_reply Rebuilding name = Rebuilt name
 
-upkeep_step : (upkeep : Upkeep) (table : PlainTable) (name : List ℕ) → step (Intact table) (upkeep_call upkeep name) ≡ made (λ after. (Intact after, upkeep_reply upkeep name)) (with_renewed upkeep table name)
+upkeep_step : (upkeep : Upkeep) (table : PlainTable) (name : List ℕ) → step (Intact table) (upkeep_call upkeep name) ≡ map_ok (λ after. (Intact after, upkeep_reply upkeep name)) (with_renewed upkeep table name)
 upkeep_step Draining table name = refl
 upkeep_step Rebuilding table name = refl
 
@@ -236,12 +236,12 @@ module _ (schema : Schema) (heads : List IndexHead) (kept : Option Trees) (trees
 
     -- ---- rows that are loaded
 
-    module _ (text : List ℕ) (rows : List (List Value)) (read : loaded schema.columns text ≡ Ok rows) (map_is : Rows (List Value)) (mapped : map_of schema.keys rows ≡ Ok map_is) where
+    module _ (text : List ℕ) (rows : List (List Value)) (read : text_rows schema.columns text ≡ Ok rows) (map_is : Rows (List Value)) (mapped : map_of schema.keys rows ≡ Ok map_is) where
       sorted : T (is_sorted key_cmp map_is)
       sorted = map_of-sorted schema.keys rows map_is mapped
 
       stand : AllStand schema map_is
-      stand = map_of-stand schema rows map_is (loaded-of schema.columns text rows read) mapped
+      stand = map_of-stand schema rows map_is (text_rows-of schema.columns text rows read) mapped
 
       -- so the entries of the rows may be asked for
       pub loaded_suits : All (λ head. SuitsRows head.def map_is) heads
@@ -272,15 +272,15 @@ module _ (schema : Schema) (heads : List IndexHead) (kept : Option Trees) (trees
         pub load_is_step : (count : ℕ) → count ≡ length map_is → IsStep state (state_of schema heads after) (Load text) (Loaded count)
         load_is_step count count_is =
             ap (λ s. step s (Load text)) state_is
-            ∙ ap (λ r. made (after_load before) (and_then (map_of schema.keys) (and_then (unless_any (load_refusals indexes trees.rows.1)) r))) read
-            ∙ ap (λ o. made (after_load before) (and_then (map_of schema.keys) (unless o rows))) allowed
-            ∙ ap (made (after_load before)) mapped
+            ∙ ap (λ r. map_ok (after_load before) (and_then (map_of schema.keys) (and_then (unless_any (load_refusals indexes trees.rows.1)) r))) read
+            ∙ ap (λ o. map_ok (after_load before) (and_then (map_of schema.keys) (unless o rows))) allowed
+            ∙ ap (map_ok (after_load before)) mapped
             ∙ (λ i. Ok (sym (state_is_put schema heads after new put (with_rows before map_is) loaded_to) i, Loaded (sym count_is i)))
 
     -- ---- trees that are renewed
 
     module _ (upkeep : Upkeep) (name : List ℕ) where
-      renewed_step : step state (upkeep_call upkeep name) ≡ made (λ table. (Intact table, upkeep_reply upkeep name)) (with_renewed upkeep before name)
+      renewed_step : step state (upkeep_call upkeep name) ≡ map_ok (λ table. (Intact table, upkeep_reply upkeep name)) (with_renewed upkeep before name)
       renewed_step = ap (λ s. step s (upkeep_call upkeep name)) state_is ∙ upkeep_step upkeep before name
 
       module _ (taken from new : Trees) (took : kept ≡ Some taken) (whole : kept ≡ Some from) (after : Option Trees) (put : after ≡ Some new)
@@ -299,7 +299,7 @@ module _ (schema : Schema) (heads : List IndexHead) (kept : Option Trees) (trees
         pub renewed_rows_is_step : (own : List ℕ) → own ≡ name → is_primary name ≡ true → IsStep state (state_of schema heads after) (upkeep_call upkeep name) (upkeep_reply upkeep own)
         renewed_rows_is_step own named primary =
             renewed_step
-            ∙ ap (λ b. made (λ table. (Intact table, upkeep_reply upkeep name)) (if b then Ok (with_renewed_rows upkeep before) else or_refused NoSuchTree (option_map (with_renewed_index upkeep before) (index_named name indexes)))) primary
+            ∙ ap (λ b. map_ok (λ table. (Intact table, upkeep_reply upkeep name)) (if b then Ok (with_renewed_rows upkeep before) else or_refused NoSuchTree (option_map (with_renewed_index upkeep before) (index_named name indexes)))) primary
             ∙ (λ i. Ok (sym (state_is_put schema heads after new put (with_renewed_rows upkeep before) rows_to) i, upkeep_reply upkeep (sym named i)))
 
     -- an index was found by its name
@@ -348,8 +348,8 @@ module _ (schema : Schema) (heads : List IndexHead) (kept : Option Trees) (trees
           pub renewed_index_is_step : (own : List ℕ) → own ≡ name → is_primary name ≡ false → IsStep state (state_of schema others after) (upkeep_call upkeep name) (upkeep_reply upkeep own)
           renewed_index_is_step own named other =
               renewed_step upkeep name
-              ∙ ap (λ b. made (λ table. (Intact table, upkeep_reply upkeep name)) (if b then Ok (with_renewed_rows upkeep before) else or_refused NoSuchTree (option_map (with_renewed_index upkeep before) (index_named name indexes)))) other
-              ∙ ap (λ f. made (λ table. (Intact table, upkeep_reply upkeep name)) (or_refused NoSuchTree (option_map (with_renewed_index upkeep before) f))) found
+              ∙ ap (λ b. map_ok (λ table. (Intact table, upkeep_reply upkeep name)) (if b then Ok (with_renewed_rows upkeep before) else or_refused NoSuchTree (option_map (with_renewed_index upkeep before) (index_named name indexes)))) other
+              ∙ ap (λ f. map_ok (λ table. (Intact table, upkeep_reply upkeep name)) (or_refused NoSuchTree (option_map (with_renewed_index upkeep before) f))) found
               ∙ (λ i. Ok (sym (state_is_put schema others after new put (with_renewed_index upkeep before (place, shown)) renewed_to) i, upkeep_reply upkeep (sym named i)))
 
         -- a step of its building

@@ -11,7 +11,7 @@ use Rattle.bt_keycode.specs.Codes.{eight_bytes}
 use Rattle.bt_messages.specs.declared.measure.Measure.TheVariants as measures
 use Rattle.bt_rowtype.specs.declared.item.Item.TheVariants.{Put, Del, Ups}
 use Rattle.bt_gang.specs.Numbers.{below}
-use Rattle.bt_batch.specs.Batches.{made}
+use Rattle.bt_batch.specs.Batches.{map_ok}
 use Rattle.bt_fanout.specs.Entries.{Definition}
 use Rattle.bt_table.specs.Calls.{Call, Apply, BuildStep, CreateIndex, Get, Load, step, tree_named}
 use Rattle.bt_table.specs.Tables.{TableState, Intact, Lost, empty_table}
@@ -27,7 +27,7 @@ empty = Intact (empty_table stock (record { fanout = 4; buffer = 3; leaf = 2; me
 
 -- what a call is answered
 abbrev reply_of : TableState → Call → Result Reply Refusal
-reply_of state call = made (λ (after : TableState × Reply). after.1) (step state call)
+reply_of state call = map_ok (λ (after : TableState × Reply). after.1) (step state call)
 
 abbrev left_by : TableState → Result (TableState × Reply) Refusal → TableState
 left_by state (Ok after) = after.0

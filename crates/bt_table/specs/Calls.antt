@@ -17,7 +17,7 @@ use Rattle.bt_node.specs.Flushes.{holds}
 use Rattle.bt_node.specs.Messages.{Meaning, Rows}
 use Rattle.bt_node.specs.Trees.{Shape, Tree}
 use Rattle.bt_node.specs.Walks.{is_leaf, rows_of}
-use Rattle.bt_load.specs.Loads.{loaded}
+use Rattle.bt_load.specs.Loads.{text_rows}
 use Rattle.bt_load.specs.Maps.{map_of}
 use Rattle.bt_rowtype.specs.declared.item.Item.{Item}
 use Rattle.bt_fanout.specs.Covers.{next_rows}
@@ -25,7 +25,7 @@ use Rattle.bt_fanout.specs.Effects.{entry_effect, entry_meaning, row_effect, row
 use Rattle.bt_fanout.specs.Definitions.{kinds_of}
 use Rattle.bt_fanout.specs.Entries.{Definition, SuitsKinds}
 use Rattle.bt_fanout.specs.Promises.{index_of}
-use Rattle.bt_batch.specs.Batches.{RowMessages, and_then, batch_refusals, made, messages_of, one_if, read_key}
+use Rattle.bt_batch.specs.Batches.{RowMessages, and_then, batch_refusals, map_ok, messages_of, one_if, read_key}
 use Rattle.bt_table.specs.Indexes.{Index, built_index, empty_index, index_named, index_of_ref, is_complete, packed_index, packet_of, sent_count, with_tree}
 use Rattle.bt_table.specs.Standing.{AllStand, HoldsSelection, KeysRise}
 use Rattle.bt_table.specs.Tables.{PlainTable, RowTree, TableState, Intact, Lost, after_batch}
@@ -116,7 +116,7 @@ load_refusals indexes tree = one_if (not (list_all is_complete indexes)) Buildin
 
 -- the map of the rows of a text, or the least refusal: of its header and its records, of the table, of a key that comes again
 abbrev pub loaded_rows : PlainTable → List ℕ → Result (Rows (List Value)) Refusal
-loaded_rows table text = and_then (map_of table.schema.keys) (and_then (unless_any (load_refusals table.indexes table.tree)) (loaded table.schema.columns text))
+loaded_rows table text = and_then (map_of table.schema.keys) (and_then (unless_any (load_refusals table.indexes table.tree)) (text_rows table.schema.columns text))
 
 -- a table with these rows in place of its own, in a tree that is packed of them, and with indexes whose trees are packed of their entries
 abbrev pub with_rows : PlainTable → Rows (List Value) → PlainTable
@@ -160,13 +160,13 @@ step Lost call = Err Failed
 step (Intact table) (Apply items) =
     unless_any (batch_refusals table.schema items)
     (Intact (after_batch table (messages_of table.schema items)), Batch (length items) (sent_counts table (messages_of table.schema items)))
-step (Intact table) (Get fields) = made (λ key. (Intact table, Row (find key_cmp (code_of key) table.rows))) (read_key table.schema 1 fields)
+step (Intact table) (Get fields) = map_ok (λ key. (Intact table, Row (find key_cmp (code_of key) table.rows))) (read_key table.schema 1 fields)
 step (Intact table) (CreateIndex name def) = unless_any (name_refusals table name) (Intact (with_index table name def), Created name)
 step (Intact table) (BuildStep name count) = built table name count (index_named name table.indexes)
 step (Intact table) (DropIndex name) = dropped table name (index_named name table.indexes)
-step (Intact table) (Load text) = made (after_load table) (loaded_rows table text)
-step (Intact table) (Drain name) = made (λ after. (Intact after, Drained name)) (with_renewed Draining table name)
-step (Intact table) (Rebuild name) = made (λ after. (Intact after, Rebuilt name)) (with_renewed Rebuilding table name)
+step (Intact table) (Load text) = map_ok (after_load table) (loaded_rows table text)
+step (Intact table) (Drain name) = map_ok (λ after. (Intact after, Drained name)) (with_renewed Draining table name)
+step (Intact table) (Rebuild name) = map_ok (λ after. (Intact after, Rebuilt name)) (with_renewed Rebuilding table name)
 
 -- a call leaves this table and is answered so
 abbrev pub IsStep : TableState → TableState → Call → Reply → Type 0

@@ -15,7 +15,7 @@ use Rattle.bt_fanout.specs.Definitions.{kinds_of}
 use Rattle.bt_fanout.specs.Effects.{entry_effect}
 use Rattle.bt_fanout.specs.Entries.{entry_of}
 use Rattle.bt_fanout.specs.Selections.{select}
-use Rattle.bt_batch.specs.Batches.{and_then, made}
+use Rattle.bt_batch.specs.Batches.{and_then, map_ok}
 use Rattle.bt_table.specs.Calls.{Secondary, ShowsIndex}
 use Rattle.bt_table.specs.Tables.{PlainTable}
 use Rattle.bt_table.specs.Indexes.{Index}
@@ -42,14 +42,14 @@ module _ (table : PlainTable) (index : Index) (from to : Option (List (List ℕ)
   rows = select (index_row table.schema.keys index.def) table.rows
 
   refused : (r : Result KeyRange Refusal) (whole : Bool) (refusal : Refusal) → and_then (λ range. if whole then Ok range else Err Building) r ≡ Err refusal
-      → and_then (λ range. made (between range.from range.to) (if whole then Ok rows else Err Building)) r ≡ Err refusal
+      → and_then (λ range. map_ok (between range.from range.to) (if whole then Ok rows else Err Building)) r ≡ Err refusal
   refused (Ok range) true refusal is = cc
   refused (Ok range) false refusal is = cc
   refused (Err e) whole refusal is = cc
 
   done : (r : Result KeyRange Refusal) (whole : Bool) (own : KeyRange) → and_then (λ range. if whole then Ok range else Err Building) r ≡ Ok own
-      → (whole ≡ true) × (and_then (λ range. made (between range.from range.to) (if whole then Ok rows else Err Building)) r ≡ Ok (between own.from own.to rows))
-  done (Ok range) true own is = (refl, ap (λ q. made (between q.from q.to) (Ok rows)) (ok is))
+      → (whole ≡ true) × (and_then (λ range. map_ok (between range.from range.to) (if whole then Ok rows else Err Building)) r ≡ Ok (between own.from own.to rows))
+  done (Ok range) true own is = (refl, ap (λ q. map_ok (between q.from q.to) (Ok rows)) (ok is))
     where
       ok : {a b : KeyRange} → ◌≡◌ {A = Result KeyRange Refusal} (Ok a) (Ok b) → a ≡ b
       ok is = cc

@@ -15,7 +15,7 @@ use Rattle.bt_batch.specs.Batches.{and_then}
 use Rattle.bt_table.specs.Calls.{Primary, ShowsRows, tree_named}
 use Rattle.bt_table.specs.Tables.{PlainTable, RowTree, TableState}
 use Rattle.bt_view.specs.Groups.{groups_of, summed_place, sums, sums_of}
-use Rattle.bt_view.specs.inside.GroupParts.{beside}
+use Rattle.bt_view.specs.inside.GroupParts.{columns_stay}
 use Rattle.bt_view.specs.inside.Neighbours.{Ascend, Groups, grouped, after_row}
 use Rattle.bt_view.specs.Ranges.{range_as, rows_within}
 use Rattle.bt_view.specs.declared.groups.Sum.{Sum}
@@ -28,7 +28,7 @@ pub of_rows : (columns place : ℕ) (kinds : List Kind) (rows : Rows (List Value
 of_rows columns place kinds rows ascend =
     sym (by_neighbours columns place kinds (map (λ row. row.1) rows) ascend)
     ∙ ap (or_refused TooMany) (fold-map (grouped columns place) (λ row. row.1) (Some []) rows)
-    ∙ sym (ap (λ (g : ℕ × ℕ × Groups). or_refused TooMany g.2) (beside columns place (Some []) rows))
+    ∙ sym (ap (λ (g : ℕ × ℕ × Groups). or_refused TooMany g.2) (columns_stay columns place (Some []) rows))
 
 -- what is shown is these rows, and is grouped so
 pub of_shown : (answer : Result (List Sum) Refusal) (begin groups : ℕ × ℕ × Groups) (rows shown : Rows (List Value)) → answer ≡ or_refused TooMany (fold after_row begin rows).2

@@ -14,7 +14,7 @@ use Rattle.bt_messages.specs.declared.message.Message.{Message}
 use Rattle.bt_messages.specs.declared.message.Message.TheVariants as message
 use Rattle.bt_keycode.specs.Keys.{Key}
 use Rattle.bt_node.specs.Trees.{Tree, leaf, inner, Nodes, none, node, children, height}
-use Rattle.bt_batch.specs.Batches.{made}
+use Rattle.bt_batch.specs.Batches.{map_ok}
 use Rattle.bt_table.specs.Calls.{NamedTree, Primary, Secondary, tree_named}
 use Rattle.bt_table.specs.Indexes.{EntryTree}
 use Rattle.bt_table.specs.Tables.{RowTree, TableState}
@@ -118,4 +118,4 @@ image_of name (Secondary table index) = entry_image name index.tree.1
 
 -- the tree of a name
 abbrev pub image : TableState → List ℕ → Result (List ℕ) Refusal
-image state name = made (image_of name) (tree_named state name)
+image state name = map_ok (image_of name) (tree_named state name)

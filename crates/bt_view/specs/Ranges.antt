@@ -15,7 +15,7 @@ use Rattle.bt_fanout.specs.Covers.{is_whole}
 use Rattle.bt_fanout.specs.Entries.{Definition, entry_of, picked}
 use Rattle.bt_fanout.specs.Selections.{select}
 use Rattle.bt_fanout.specs.declared.cover.Cover.{Cover}
-use Rattle.bt_batch.specs.Batches.{and_then, made}
+use Rattle.bt_batch.specs.Batches.{and_then, map_ok}
 use Rattle.bt_table.specs.Calls.{NamedTree, Primary, Secondary, tree_named}
 use Rattle.bt_table.specs.Tables.{TableState}
 use Rattle.bt_view.specs.declared.range.KeyRange.{KeyRange}
@@ -43,11 +43,11 @@ schema_of (Secondary table index) = index_schema table.schema index.def
 -- the key that a bound spells, where there is one: the code of values of the first key columns
 abbrev pub bound_as : List Column → ℕ → Option (List (List ℕ)) → Result (Option Key) Refusal
 bound_as columns item None = Ok None
-bound_as columns item (Some fields) = made (λ values. Some (code_of values)) (prefix_as columns item fields)
+bound_as columns item (Some fields) = map_ok (λ values. Some (code_of values)) (prefix_as columns item fields)
 
 -- the range between two bounds; of two refusals the least
 abbrev pub range_as : List Column → Option (List (List ℕ)) → Option (List (List ℕ)) → Result KeyRange Refusal
-range_as columns from to = made (λ bounds. record { from = bounds.0; to = bounds.1 }) (both_read (bound_as columns 1 from) (bound_as columns 2 to))
+range_as columns from to = map_ok (λ bounds. record { from = bounds.0; to = bounds.1 }) (both_read (bound_as columns 1 from) (bound_as columns 2 to))
 
 abbrev pub range_of : NamedTree → Option (List (List ℕ)) → Option (List (List ℕ)) → Result KeyRange Refusal
 range_of tree from to = range_as (take (schema_of tree).keys (schema_of tree).columns) from to
@@ -75,7 +75,7 @@ rows_of_tree (Secondary table index) = when_whole index.cover (select (index_row
 
 -- the rows of a range of a tree by their keys, or the first of these refusals: of the bounds, and of an index that is building
 abbrev pub scan_with_keys_of : Option (List (List ℕ)) → Option (List (List ℕ)) → NamedTree → Result (Rows (List Value)) Refusal
-scan_with_keys_of from to tree = and_then (λ range. made (between range.from range.to) (rows_of_tree tree)) (range_of tree from to)
+scan_with_keys_of from to tree = and_then (λ range. map_ok (between range.from range.to) (rows_of_tree tree)) (range_of tree from to)
 
 -- the rows of a range of the tree of a name by their keys
 abbrev pub scan_with_keys : TableState → List ℕ → Option (List (List ℕ)) → Option (List (List ℕ)) → Result (Rows (List Value)) Refusal
@@ -83,4 +83,4 @@ scan_with_keys state name from to = and_then (scan_with_keys_of from to) (tree_n
 
 -- the rows alone
 abbrev pub scan : TableState → List ℕ → Option (List (List ℕ)) → Option (List (List ℕ)) → Result (List (List Value)) Refusal
-scan state name from to = made (map (λ row. row.1)) (scan_with_keys state name from to)
+scan state name from to = map_ok (map (λ row. row.1)) (scan_with_keys state name from to)

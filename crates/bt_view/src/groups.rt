@@ -2,7 +2,7 @@
 ghost use Rattle.std.specs.Prelude.{◌≡◌, ◌≤◌, ◌∷◌, [], IfOk, List, None, Some, false, if◌then◌else◌, take, true};
 ghost use Rattle.bt_rowtype.specs.Answers.{Answers};
 ghost use Rattle.bt_rowtype.specs.Values.{or_refused};
-ghost use Rattle.bt_rowtype.specs.Views.{shown};
+ghost use Rattle.bt_rowtype.specs.Views.{value_of_ref};
 ghost use Rattle.bt_view.specs.Groups as spec;
 ghost use Rattle.bt_rowtype.specs.declared.value.Value.{Value as value};
 ghost use Rattle.bt_view.specs.inside.Fronts.{IsLastOf};
@@ -28,7 +28,7 @@ pub struct Sum {
 }
 
 fn number_of(value: ValueRef<'_>) -> i64
-    ensures { result ≡ spec.number_of_value (shown value.entry) }
+    ensures { result ≡ spec.number_of_value (value_of_ref value.entry) }
 {
     match value {
         ValueRef::Int(number) => number,

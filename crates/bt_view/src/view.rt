@@ -2,7 +2,7 @@
 ghost use Rattle.std.specs.Prelude.{◌≡◌, ◌≢◌, Err, IfErr, IfOk, IsErrOf, None, Ok, fold};
 ghost use Rattle.std.specs.Option.{option_copied};
 ghost use Rattle.bt_rowtype.specs.Answers.{Answers};
-ghost use Rattle.bt_batch.specs.Batches.{made};
+ghost use Rattle.bt_batch.specs.Batches.{map_ok};
 ghost use Rattle.bt_table.specs.Calls.{tree_named};
 ghost use Rattle.bt_view.specs.Groups as groups;
 ghost use Rattle.bt_view.specs.Images as images;
@@ -35,7 +35,7 @@ pub fn scan<S: ForkVisitor<Row> + Send, G: Gate + Sync, T: Threads + Wait + Sync
     visitor: S,
     crew: &Crew<G>,
 ) -> Result<S, Refusal>
-    ensures answer { Answers (made (fold S.visited visitor) (spec.scan_with_keys table.now name.now (option_copied from.entry) (option_copied to.entry))) result }
+    ensures answer { Answers (map_ok (fold S.visited visitor) (spec.scan_with_keys table.now name.now (option_copied from.entry) (option_copied to.entry))) result }
     ensures certain { IfErr (tree_named table.now name.now) (IsErrOf result) }
     ensures unbounded { from.entry ≡ None → to.entry ≡ None → IfErr (spec.scan table.now name.now None None) (IsErrOf result) }
 {
@@ -52,7 +52,7 @@ pub fn scan_alone<S: Visitor<Row>>(
     to: Option<&RecordLine<'_>>,
     visitor: S,
 ) -> Result<S, Refusal>
-    ensures answer { Answers (made (fold S.visited visitor) (spec.scan_with_keys table.now name.now (option_copied from.entry) (option_copied to.entry))) result }
+    ensures answer { Answers (map_ok (fold S.visited visitor) (spec.scan_with_keys table.now name.now (option_copied from.entry) (option_copied to.entry))) result }
     ensures certain { IfErr (tree_named table.now name.now) (IsErrOf result) }
     ensures unbounded { from.entry ≡ None → to.entry ≡ None → IfErr (spec.scan table.now name.now None None) (IsErrOf result) }
 {

@@ -267,7 +267,7 @@ fn compare_crews<R: Print + AllocGlobal>(rt: &R) -> Result<()> {
 fn compare_streams<R: Print + AllocGlobal>(rt: &R) -> Result<()> {
     let stream = Counted::new(b"".as_slice());
     compare!(rt, "Counted::new", Counted::new(b"".as_slice()).count());
-    compare!(rt, "Counted::failed", stream.failed());
+    compare!(rt, "Counted::has_failed", stream.has_failed());
     Ok(())
 }
 

@@ -77,7 +77,7 @@ fn run_over_flushes<R: AllocGlobal>(rt: &R, stream: &mut Flushes) -> (Result<(),
     let mut reader = Counted::new(b"scan primary\ngo\n".as_slice());
     let mut writer = Counted::new(stream);
     let result = run_script(rt, rt.alloc(), &mut reader, &mut writer, &Alone);
-    (result, writer.unflushed())
+    (result, writer.has_unflushed())
 }
 
 #[test]

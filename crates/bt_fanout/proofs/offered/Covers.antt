@@ -77,12 +77,12 @@ not_sent def cover wide among effect none =
       | false ↦ λ b. refl
     ] refl
 
-pub sent-within : (def : Definition) (cover wide : Cover) → IsAmong cover wide → (effects : List Effect) →
+pub entry_changes-within : (def : Definition) (cover wide : Cover) → IsAmong cover wide → (effects : List Effect) →
     sent_for_all def cover (filter (λ effect. is_covered wide effect.key) effects) ≡ sent_for_all def cover effects
-sent-within def cover wide among [] = refl
-sent-within def cover wide among (effect ∷ effects) =
+entry_changes-within def cover wide among [] = refl
+entry_changes-within def cover wide among (effect ∷ effects) =
     let others = filter (λ effect. is_covered wide effect.key) effects in
     elim (is_covered wide effect.key) as (λ b. is_covered wide effect.key ≡ b → sent_for_all def cover (cond b (effect ∷ others) others) ≡ sent_for def cover effect ++ sent_for_all def cover effects) [
-      | true ↦ λ b. ap (λ ms. sent_for def cover effect ++ ms) (sent-within def cover wide among effects)
-      | false ↦ λ b. sent-within def cover wide among effects ∙ sym (ap (λ ms. ms ++ sent_for_all def cover effects) (not_sent def cover wide among effect b))
+      | true ↦ λ b. ap (λ ms. sent_for def cover effect ++ ms) (entry_changes-within def cover wide among effects)
+      | false ↦ λ b. entry_changes-within def cover wide among effects ∙ sym (ap (λ ms. ms ++ sent_for_all def cover effects) (not_sent def cover wide among effect b))
     ] refl

@@ -7,7 +7,7 @@ use Rattle.bt_rowtype.specs.Records.{has_mark}
 use Rattle.bt_rowtype.specs.declared.refusal.Refusal.TheVariants.{BadSchema}
 use Rattle.bt_rowtype.specs.declared.schema.Column.{Column}
 use Rattle.bt_rowtype.specs.declared.value.Value.{Value}
-use Rattle.bt_load.specs.Loads.{loaded, typed_from, under_header}
+use Rattle.bt_load.specs.Loads.{text_rows, typed_from, under_header}
 use Rattle.bt_keycode.specs.Standing.{AreOf}
 use Rattle.bt_load.proofs.Rows.{read_rows}
 
@@ -19,8 +19,8 @@ under_header-of columns (names ∷ others) rows is =
       | false ↦ λ read. cc
     ] is
 
-pub loaded-of : (columns : List Column) (text : List ℕ) (rows : List (List Value)) → loaded columns text ≡ Ok rows → AreOf columns rows
-loaded-of columns text rows is =
+pub text_rows-of : (columns : List Column) (text : List ℕ) (rows : List (List Value)) → text_rows columns text ≡ Ok rows → AreOf columns rows
+text_rows-of columns text rows is =
     elim (has_mark (strip_bom text)) as (λ b. (if b then Err BadSchema else under_header columns (records default_config (strip_bom text))) ≡ Ok rows → AreOf columns rows) [
       | true ↦ λ read. cc
       | false ↦ λ read. under_header-of columns (records default_config (strip_bom text)) rows read

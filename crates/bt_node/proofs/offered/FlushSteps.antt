@@ -6,7 +6,7 @@ pub use Rattle.bt_node.proofs.lemmas.plans.OnePass.{names}
 pub use Rattle.bt_node.proofs.lemmas.plans.RenewedChoice.{renewed-planned}
 -- children beside their pivots, their bins and their marks
 pub use Rattle.bt_node.proofs.lemmas.flushes.Children.{ChildLies, ChildrenLie, all_pending}
-pub use Rattle.bt_node.proofs.lemmas.flushes.Divisions.{beside-shared, bins-length, divided-lie, joined-pending, pending-beside, pivots-beside, shares-length}
+pub use Rattle.bt_node.proofs.lemmas.flushes.Divisions.{bins-length, divided-lie, joined-pending, pending-with_pending, pivots-with_pending, shares-length, with_pending-shared}
 pub use Rattle.bt_node.proofs.lemmas.flushes.Groups.{all_pending-within, children-nodes, led-full, some_length, stripped, stripped-lie}
 pub use Rattle.bt_node.proofs.lemmas.flushes.NodeSizes.{ChildrenSized, both-sized, flushed-fits, none_pending-sized, shared-sized, total-loads}
 pub use Rattle.bt_node.proofs.lemmas.flushes.Shares.{length-shared}
@@ -18,7 +18,7 @@ pub use Rattle.bt_node.proofs.lemmas.flushes.Regrouped.{grouped_fits}
 -- what becomes of a node and its messages, child by child
 pub use Rattle.bt_node.proofs.lemmas.flushes.EmptyPackets.{still-here}
 pub use Rattle.bt_node.proofs.lemmas.flushes.Laws.{anywhere, fit_there}
-pub use Rattle.bt_node.proofs.lemmas.flushes.Passes.{Keeps, flushed-light, flushed-slots, in_place, names-slots, passed-lie, slots}
+pub use Rattle.bt_node.proofs.lemmas.flushes.Passes.{Keeps, after_pass-lie, flushed-light, flushed-slots, in_place, names-slots, slots}
 pub use Rattle.bt_node.proofs.lemmas.flushes.Recursion.{flush_recurs}
 pub use Rattle.bt_node.proofs.lemmas.flushes.RowsKept.{flush-keeps}
 pub use Rattle.bt_node.proofs.lemmas.flushes.ValuesKept.{start-lies}

@@ -8,7 +8,7 @@ use Rattle.bt_node.specs.declared.form.node.NodeKind.{NodeKind}
 use Rattle.bt_node.specs.declared.form.node.NodeKind.TheVariants.{Leaf, Inner}
 use Rattle.bt_node.specs.declared.form.node.Node.TheDeep.{deep-NodeKind}
 use Rattle.bt_keycode.specs.Keys.{Key}
-use Rattle.bt_node.specs.Trees.{Tree, behind, height, height_below, nodes}
+use Rattle.bt_node.specs.Trees.{Tree, height, height_below, nodes, with_pivots}
 use Rattle.bt_node.specs.inside.NodeKinds.{tree_of}
 
 pub below_node : {V D : Type 0} (merge : Ghosts V D) (k : NodeKind V D) → max (deep-NodeKind V D merge k) 0 ≤ 2 * height (tree_of k)
@@ -21,5 +21,5 @@ zipped [] (t ∷ ts) few = absurd (omega (arith, few))
 zipped (k ∷ ks) [] few = omega arith
 zipped (k ∷ ks) (t ∷ ts) few = omega (arith, zipped ks ts (omega (arith, few)))
 
-pub below_siblings : {V M : Type 0} (ks : List Key) (ts : List (Tree V M)) → length ts ≡ length ks + 1 → max (most (λ t. 2 * height t + 1) ts) 0 ≤ 2 * height_below (nodes (behind ks ts)) + 1
+pub below_siblings : {V M : Type 0} (ks : List Key) (ts : List (Tree V M)) → length ts ≡ length ks + 1 → max (most (λ t. 2 * height t + 1) ts) 0 ≤ 2 * height_below (nodes (with_pivots ks ts)) + 1
 below_siblings ks ts same = omega (arith, zipped ([] ∷ ks) ts (omega (arith, same)))

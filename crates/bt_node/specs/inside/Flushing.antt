@@ -18,7 +18,7 @@ module _ {V M : Type 0} where
   AreReady mode (c ∷ cs) = IsReady mode c.tree × AreReady mode cs
 
   -- children with so many messages each of those that come, in order
-  abbrev pub loaded : List (Child V M) → List ℕ → Messages M → List (Child V M)
-  loaded [] shares ms = []
-  loaded (c ∷ cs) [] ms = []
-  loaded (c ∷ cs) (n ∷ ns) ms = record { pivot = c.pivot; tree = c.tree; pending = with_messages (take n ms) c.pending } ∷ loaded cs ns (drop n ms)
+  abbrev pub with_shares : List (Child V M) → List ℕ → Messages M → List (Child V M)
+  with_shares [] shares ms = []
+  with_shares (c ∷ cs) [] ms = []
+  with_shares (c ∷ cs) (n ∷ ns) ms = record { pivot = c.pivot; tree = c.tree; pending = with_messages (take n ms) c.pending } ∷ with_shares cs ns (drop n ms)

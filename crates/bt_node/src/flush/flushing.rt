@@ -7,8 +7,8 @@ ghost use Rattle.bt_messages.specs.Weights.{weigh_of};
 ghost use Rattle.bt_messages.specs.Meanings.{meaning_of};
 ghost use Rattle.bt_node.specs.Flushes.{flush_in, flushed};
 ghost use Rattle.bt_node.specs.Messages.{with_messages};
-ghost use Rattle.bt_node.specs.inside.Flushing.{AreReady, IsReady, loaded};
-ghost use Rattle.bt_node.specs.Passes.{passed};
+ghost use Rattle.bt_node.specs.inside.Flushing.{AreReady, IsReady, with_shares};
+ghost use Rattle.bt_node.specs.Passes.{after_pass};
 
 use crate::flush::group::{close, leaves};
 use crate::flush::opening::{Opened, Step, open};
@@ -62,7 +62,7 @@ fn flush_marked<V: Merge>(
     requires ready { AreReady mode opened.children }
     requires shares { length opened.shares.items ≡ length opened.children }
     requires marks { length opened.marks.items ≡ length opened.children }
-    ensures children { IfOk result (λ parts. parts ≡ passed (flushed (flush_in (meaning_of V.terms) mode shape)) (zip (loaded opened.children (counts opened.shares.items) stream.old) opened.marks.items)) }
+    ensures children { IfOk result (λ parts. parts ≡ after_pass (flushed (flush_in (meaning_of V.terms) mode shape)) (zip (with_shares opened.children (counts opened.shares.items) stream.old) opened.marks.items)) }
     ensures left { OnOk result (stream.new ≡ drop (total (counts opened.shares.items)) stream.old) }
 {
     let Opened {

@@ -99,7 +99,7 @@ pub fn open<V: Merge>(
         Mode::Drain => vec![in alloc; true; shares.len()]?,
     };
     Ok(Step::Opens(Opened {
-        children: Children::beside(children, bins),
+        children: Children::with_pending(children, bins),
         shares,
         marks,
     }))

@@ -1,6 +1,6 @@
 //! The children of a node that is worked on, side by side with their bins.
 ghost use Rattle.std.specs.Prelude.{◌≡◌, ◌+◌, ◌-◌, ◌<◌, ◌≤◌, ◌++◌, ◌∷◌, [], IfOk, MatchOption, OnOk, drop, false, length, map, replicate, true, vec_capacity, vec_len};
-ghost use Rattle.bt_node.specs.Children.{AreDivided, beside, behind_pivot};
+ghost use Rattle.bt_node.specs.Children.{AreDivided, behind_pivot, with_pending};
 ghost use Rattle.bt_node.specs.Flushes.{gathered};
 
 use crate::form::node::{Node, Siblings};
@@ -27,7 +27,7 @@ impl<V: Merge> Model for Children<V> {
     ghost use Rattle.std.specs.Coded.{coded_list};
     ghost use Rattle.std.specs.List.{zip};
     ghost use Rattle.bt_messages.specs.declared.message.Message.{Message};
-    ghost use Rattle.bt_node.specs.Children.{beside};
+    ghost use Rattle.bt_node.specs.Children.{with_pending};
     ghost use Rattle.bt_node.specs.Flushes.{Child};
     ghost use Rattle.bt_node.specs.Stored.{child_code, message_code};
 
@@ -35,7 +35,7 @@ impl<V: Merge> Model for Children<V> {
 
     ghost coded = { coded_list (child_code V.code (message_code V.code V.Delta.code)) };
 
-    ghost view = { λ c. beside (zip (c.first ∷ c.pivots.items) c.nodes.items) c.bins.items };
+    ghost view = { λ c. with_pending (zip (c.first ∷ c.pivots.items) c.nodes.items) c.bins.items };
 
     ghost invariant = { λ c. (length c.bins.items ≡ length c.nodes.items) × (length c.pivots.items ≡ length c.nodes.items - 1) };
 }
@@ -113,9 +113,9 @@ impl<V: Merge> Children<V> {
     }
 
     /// Siblings, each with what is in its bin. Takes no memory.
-    pub(crate) fn beside(siblings: Siblings<V>, bins: Bins<V>) -> Self
+    pub(crate) fn with_pending(siblings: Siblings<V>, bins: Bins<V>) -> Self
         requires { length bins ≡ length siblings }
-        ensures { result ≡ beside siblings bins }
+        ensures { result ≡ with_pending siblings bins }
     {
         let (nodes, pivots) = siblings.apart();
         Children {
@@ -232,7 +232,7 @@ impl<V: Merge> Model for ChildIterator<V> {
     ghost use Rattle.std.specs.List.{zip};
     ghost use Rattle.std.specs.Vec.Iter.{into_iter_items};
     ghost use Rattle.bt_messages.specs.declared.message.Message.{Message};
-    ghost use Rattle.bt_node.specs.Children.{beside};
+    ghost use Rattle.bt_node.specs.Children.{with_pending};
     ghost use Rattle.bt_node.specs.Flushes.{Child};
     ghost use Rattle.bt_node.specs.Stored.{child_code, message_code};
 
@@ -240,7 +240,7 @@ impl<V: Merge> Model for ChildIterator<V> {
 
     ghost coded = { coded_list (child_code V.code (message_code V.code V.Delta.code)) };
 
-    ghost view = { λ c. beside (zip (c.pivot ∷ into_iter_items c.pivots) (into_iter_items c.nodes)) (into_iter_items c.bins) };
+    ghost view = { λ c. with_pending (zip (c.pivot ∷ into_iter_items c.pivots) (into_iter_items c.nodes)) (into_iter_items c.bins) };
 
     ghost invariant = { λ c. (length (into_iter_items c.bins) ≡ length (into_iter_items c.nodes)) × (length (into_iter_items c.nodes) ≤ length (into_iter_items c.pivots) + 1) };
 }

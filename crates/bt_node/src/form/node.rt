@@ -16,7 +16,7 @@ ghost use Rattle.std.specs.Prelude.{◌≡◌, ◌∷◌, ◌++◌, ◌+◌, ◌
 ghost use Rattle.bt_node.specs.Fits.{IsLed};
 ghost use Rattle.bt_node.specs.Flushes.{pivot_first};
 ghost use Rattle.bt_node.specs.Parts.{AreRising, IsApart};
-ghost use Rattle.bt_node.specs.Trees.{behind, pivots_of};
+ghost use Rattle.bt_node.specs.Trees.{pivots_of, with_pivots};
 ghost use Rattle.bt_node.specs.Trees as trees;
 ghost use Rattle.bt_node.specs.inside.NodeKinds.{HasBins, tree_of};
 ghost use Rattle.bt_rowtype.specs.Lists.{concatenation};
@@ -96,14 +96,14 @@ impl<V: Merge> Model for Siblings<V> {
     ghost use Rattle.std.specs.Coded.{coded×, coded_list, coded_ℕ};
     ghost use Rattle.bt_messages.specs.declared.message.Message.{Message};
     ghost use Rattle.bt_node.specs.Trees as trees;
-    ghost use Rattle.bt_node.specs.Trees.{behind};
+    ghost use Rattle.bt_node.specs.Trees.{with_pivots};
     ghost use Rattle.bt_node.specs.Stored.{message_code, tree_code};
 
     ghost Value = { trees.Siblings V (Message V V.Delta) };
 
     ghost coded = { coded_list (coded× (coded_list coded_ℕ) (tree_code V.code (message_code V.code V.Delta.code))) };
 
-    ghost view = { λ s. behind s.pivots.items s.nodes.items };
+    ghost view = { λ s. with_pivots s.pivots.items s.nodes.items };
 
     ghost invariant = { λ s. length s.nodes.items ≡ length s.pivots.items + 1 };
 
@@ -161,7 +161,7 @@ impl<V: Merge> Node<V> {
 impl<V: Merge> Siblings<V> {
     pub(crate) fn from_parts(nodes: Vec<Node<V>>, pivots: Vec<Key>) -> Self
         requires { length nodes.items ≡ length pivots.items + 1 }
-        ensures { result ≡ behind pivots.items nodes.items }
+        ensures { result ≡ with_pivots pivots.items nodes.items }
     {
         Siblings { nodes, pivots }
     }
@@ -170,14 +170,14 @@ impl<V: Merge> Siblings<V> {
     pub fn new(nodes: Vec<Node<V>>, pivots: Vec<Key>) -> Self
         requires one_fewer { length nodes.items ≡ length pivots.items + 1 }
         requires rising { AreRising pivots.items }
-        ensures { result ≡ behind pivots.items nodes.items }
+        ensures { result ≡ with_pivots pivots.items nodes.items }
     {
         Siblings::from_parts(nodes, pivots)
     }
 
     /// The nodes, and the pivots between them.
     pub fn apart(self) -> (Vec<Node<V>>, Vec<Key>)
-        ensures parts { self ≡ behind result.1.items result.0.items }
+        ensures parts { self ≡ with_pivots result.1.items result.0.items }
         ensures one_fewer { length result.0.items ≡ length result.1.items + 1 }
     {
         let Siblings { nodes, pivots } = self;

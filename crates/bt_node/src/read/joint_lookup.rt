@@ -78,7 +78,7 @@ fn found_at<'a, V: Merge>(
     let mut place = 0;
     for key in keys {
         let (next, value) = rows.find_near(place, step, key);
-        values.push_reserved(ValueSoFar::found(value));
+        values.push_reserved(ValueSoFar::of(value));
         place = next;
     }
     Ok(values)

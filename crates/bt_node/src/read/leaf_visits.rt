@@ -106,7 +106,7 @@ pub(crate) fn visit_leaf<'a, V: Merge, S: Visitor<V>>(
             return Ok(());
         }
         let (old, others) = split_first(between(left, Some(key), None), key);
-        let first = ValueSoFar::found(old).after(alloc, message)?;
+        let first = ValueSoFar::of(old).after(alloc, message)?;
         let value = messages.take_effect(alloc, key, first)?;
         visit_held(alloc, key, value, visitor, limit)?;
         left = others;

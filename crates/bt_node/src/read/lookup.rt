@@ -85,7 +85,7 @@ pub(crate) fn tree_value<'a, V: Merge>(
     ensures { IfOk result (λ value. option_of value ≡ tree_value (effect_of V.terms.merged) key.now node.now) }
 {
     match node.kind() {
-        NodeKind::Leaf(rows) => Ok(ValueSoFar::found(rows.find(key))),
+        NodeKind::Leaf(rows) => Ok(ValueSoFar::of(rows.find(key))),
         NodeKind::Inner { children, bins } => {
             let place = pivots_up_to(children.pivots(), key);
             let Newest { start, left } = since_reset(bins, place, key);

@@ -195,7 +195,7 @@ pub(crate) fn first_child<'a, V: Merge>(
 }
 
 // The children between the bounds of a portion, each with the messages above it that are for it. A leaf stays as it is.
-fn opened<'a, V: Merge>(
+fn child_portions<'a, V: Merge>(
     alloc: Global,
     portion: Portion<'a, V>,
 ) -> Result<Vec<Portion<'a, V>>, AllocError>
@@ -217,8 +217,8 @@ fn opened<'a, V: Merge>(
     }
 }
 
-// All portions opened, in order.
-fn opened_all<'a, V: Merge>(
+// The portions below all of these, in order.
+fn portions_below<'a, V: Merge>(
     alloc: Global,
     portions: Vec<Portion<'a, V>>,
 ) -> Result<Vec<Portion<'a, V>>, AllocError>
@@ -226,7 +226,7 @@ fn opened_all<'a, V: Merge>(
 {
     let mut parts = Vec::new(alloc);
     for portion in portions {
-        let mut below = opened(alloc, portion)?;
+        let mut below = child_portions(alloc, portion)?;
         parts.append(&mut below)?;
     }
     Ok(parts)
@@ -245,7 +245,7 @@ pub(crate) fn portions_at<'a, V: Merge>(
 {
     let mut parts = vec![in alloc; Portion::whole(alloc, node, from, to)]?;
     for _ in 0..depth {
-        parts = opened_all(alloc, parts)?;
+        parts = portions_below(alloc, parts)?;
     }
     Ok(parts)
 }

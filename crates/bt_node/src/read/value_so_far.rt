@@ -17,7 +17,7 @@ pub(crate) enum ValueSoFar<'a, V: Merge> {
 
 impl<'a, V: Merge> ValueSoFar<'a, V> {
     /// What is found, as it stands.
-    pub(crate) fn found(value: Option<&'a V>) -> Self
+    pub(crate) fn of(value: Option<&'a V>) -> Self
         ensures { option_of result ≡ option_copied value.entry }
     {
         match value {

@@ -10,8 +10,8 @@ use Rattle.bt_plan.specs.Pieces.{Holed, Place, whole}
 
 module _ {V M : Type 0} where
   -- a job with newer messages
-  abbrev pub sent : Messages M → Job V M → Job V M
-  sent newer job = record { place = job.place; node = job.node; packet = with_messages newer job.packet; mode = job.mode }
+  abbrev pub job_with : Messages M → Job V M → Job V M
+  job_with newer job = record { place = job.place; node = job.node; packet = with_messages newer job.packet; mode = job.mode }
 
   -- a job that is cut, so many levels above the cut
   abbrev pub cut_job : (Key × M → ℕ) → ℕ → Shape → Job V M → Holed V M (Job V M)

@@ -4,7 +4,7 @@ use Rattle.std.specs.List.{filter_map}
 use Rattle.std.specs.Prelude.{map}
 use Rattle.std.specs.Result.{result_err, result_ok}
 use Rattle.bt_rowtype.specs.Ops.{after_op, after_ops, all_read, both_read, default_row, key_as, ops_as, ops_of, is_upsert, upsert_as}
-use Rattle.bt_rowtype.specs.inside.Fits.{OpsFit}
+use Rattle.bt_rowtype.specs.Fits.{OpsFit}
 use Rattle.bt_rowtype.specs.Refusals.{least}
 use Rattle.bt_rowtype.specs.Schemas.{Schema, fit_columns, fits_kind}
 use Rattle.bt_rowtype.specs.Values.{default_of, or_refused, read_as, value_of, values_of}

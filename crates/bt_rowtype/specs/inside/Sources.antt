@@ -6,9 +6,9 @@ use Rattle.bt_rowtype.specs.declared.value.values.Source.{Source}
 use Rattle.bt_rowtype.specs.declared.value.values.Source.TheVariants.{Listed, Packed}
 
 -- the values that are left
-abbrev pub left : Source → List Value
-left (Listed values) = values.now
-left (Packed bytes) = unpacked bytes.now
+abbrev pub values_left : Source → List Value
+values_left (Listed values) = values.now
+values_left (Packed bytes) = unpacked bytes.now
 
 -- bytes are those of values
 abbrev pub IsSource : Source → Type 0

@@ -6,7 +6,7 @@ ghost use Rattle.bt_rowtype.specs.Hex.{hex_text};
 ghost use Rattle.bt_rowtype.specs.Records.{record_text};
 ghost use Rattle.bt_rowtype.specs.inside.RecordParts.{Grows};
 ghost use Rattle.bt_rowtype.specs.Values.{text_of};
-ghost use Rattle.bt_rowtype.specs.Views.{shown};
+ghost use Rattle.bt_rowtype.specs.Views.{value_of_ref};
 
 use crate::record::truncation::truncate_on_err;
 use crate::row::Row;
@@ -110,7 +110,7 @@ fn write_separator(out: &mut Vec<u8>, place: usize) -> Result<(), AllocError>
 
 // Adds the value at a place of a record, or only the comma before it.
 fn add_field(out: &mut Vec<u8>, place: usize, value: ValueRef<'_>) -> Result<(), AllocError>
-    ensures ok { OnOk result (out.new.items ≡ out.old.items ++ (next_sep default_writer place ++ field_text default_writer (text_of (shown value.entry)))) }
+    ensures ok { OnOk result (out.new.items ≡ out.old.items ++ (next_sep default_writer place ++ field_text default_writer (text_of (value_of_ref value.entry)))) }
     ensures err { OnErr result (Grows out.old.items out.new.items) }
 {
     write_separator(out, place)?;

@@ -3,7 +3,7 @@ ghost use Rattle.std.specs.Prelude.{◌≡◌, IfOk, set};
 ghost use Rattle.bt_rowtype.specs.Arithmetic.{new_value};
 ghost use Rattle.bt_rowtype.specs.Ops.{after_op};
 ghost use Rattle.bt_rowtype.specs.Values.{HasBytes};
-ghost use Rattle.bt_rowtype.specs.Views.{shown};
+ghost use Rattle.bt_rowtype.specs.Views.{value_of_ref};
 
 use crate::row::{Row, width_of_value};
 use crate::schema::MOST_COLUMNS;
@@ -22,20 +22,20 @@ impl<'a> Model for LentRow<'a> {
     ghost use Rattle.std.specs.Prelude.{List, map};
     ghost use Rattle.std.specs.List.{All};
     ghost use Rattle.bt_rowtype.specs.Values.{HasBytes};
-    ghost use Rattle.bt_rowtype.specs.Views.{shown};
+    ghost use Rattle.bt_rowtype.specs.Views.{value_of_ref};
     ghost use Rattle.bt_rowtype.specs.declared.value.Value.{Value as value};
 
     ghost Value = { List value };
 
-    ghost view = { λ a. map shown a.values.items };
+    ghost view = { λ a. map value_of_ref a.values.items };
 
-    ghost invariant = { λ a. All HasBytes (map shown a.values.items) };
+    ghost invariant = { λ a. All HasBytes (map value_of_ref a.values.items) };
 }
 
 // What an int and a number make. Any other value stays.
 fn made_value(arithmetic: Arithmetic, number: i64, value: ValueRef<'_>) -> ValueRef<'_>
-    ensures value { shown result ≡ new_value arithmetic number (shown value.entry) }
-    ensures bytes { HasBytes (shown value.entry) → HasBytes (shown result) }
+    ensures value { value_of_ref result ≡ new_value arithmetic number (value_of_ref value.entry) }
+    ensures bytes { HasBytes (value_of_ref value.entry) → HasBytes (value_of_ref result) }
 {
     match value {
         ValueRef::Int(old) => ValueRef::Int(arithmetic.make(old, number)),
@@ -58,8 +58,8 @@ impl<'a> LentRow<'a> {
 
     // Sets the value at a place, where there is one.
     fn set(&mut self, place: usize, value: ValueRef<'a>)
-        requires { HasBytes (shown value) }
-        ensures { self.new ≡ set self.old place (shown value.entry) }
+        requires { HasBytes (value_of_ref value) }
+        ensures { self.new ≡ set self.old place (value_of_ref value.entry) }
     {
         if place < self.values.len() {
             self.values[place] = value;

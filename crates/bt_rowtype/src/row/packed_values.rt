@@ -1,7 +1,7 @@
 //! Reading values in a string of bytes.
 ghost use Rattle.std.specs.Prelude.{◌≡◌, ◌≤◌, ◌<◌, drop, length, take};
 ghost use Rattle.bt_rowtype.specs.inside.Packing.{IsAt, IsPacked, content_at as content_of_form, first_of, int_from, unpacked, width_in as width_of_form, width_of};
-ghost use Rattle.bt_rowtype.specs.Views.{held, shown};
+ghost use Rattle.bt_rowtype.specs.Views.{content_of_ref, value_of_ref};
 
 use crate::value::{Content, Form, Kind, ValueRef};
 
@@ -63,7 +63,7 @@ pub(crate) fn width(bytes: &[u8]) -> usize
 fn content_at<'a>(form: Form, is_set: bool, bytes: &'a [u8]) -> Content<'a>
     requires some { 0 < length bytes.now }
     requires within { width_of_form form (drop 1 bytes.now) ≤ length bytes.now }
-    ensures { held result ≡ content_of_form form is_set (drop 1 bytes.now) }
+    ensures { content_of_ref result ≡ content_of_form form is_set (drop 1 bytes.now) }
 {
     match form {
         Form::Number => Content::Number(int_at(bytes)),
@@ -76,7 +76,7 @@ fn content_at<'a>(form: Form, is_set: bool, bytes: &'a [u8]) -> Content<'a>
 pub(crate) fn first<'a>(bytes: &'a [u8]) -> ValueRef<'a>
     requires some { 0 < length bytes.now }
     requires within { width_of bytes.now ≤ length bytes.now }
-    ensures { shown result ≡ first_of bytes.now }
+    ensures { value_of_ref result ≡ first_of bytes.now }
 {
     let tag = bytes[0];
     let kind = Kind::from_tag(tag);
@@ -96,7 +96,7 @@ pub(crate) fn first_at<'a>(bytes: &'a [u8], at: usize) -> ValueRef<'a>
     requires some { at < length bytes.now }
     requires left { 0 < length (drop at bytes.now) }
     requires within { width_of (drop at bytes.now) ≤ length (drop at bytes.now) }
-    ensures { shown result ≡ first_of (drop at bytes.now) }
+    ensures { value_of_ref result ≡ first_of (drop at bytes.now) }
 {
     first(tail(bytes, at))
 }

@@ -2,7 +2,7 @@
 ghost use Rattle.std.specs.Prelude.{◌≡◌, ◌≢◌, ◌≤◌, Err, IfSome, length, option_map, take};
 ghost use Rattle.std.specs.Result.{result_map_both};
 ghost use Rattle.bt_rowtype.specs.Answers.{Answers};
-ghost use Rattle.bt_rowtype.specs.Views.{shown};
+ghost use Rattle.bt_rowtype.specs.Views.{value_of_ref};
 ghost use Rattle.bt_rowtype.specs.Values.{HasBytes, or_refused, read_as, values_of};
 ghost use Rattle.bt_rowtype.specs.inside.RowGrowth.{with_field, with_read_value};
 
@@ -22,8 +22,8 @@ fn push_read(
     item: u64,
     read: Option<ValueRef<'_>>,
 ) -> Result<(), Refusal>
-    requires { IfSome read (λ value. HasBytes (shown value)) }
-    ensures { Answers (with_read_value item (option_map shown read.entry) row.old) (result_map_both (λ _. row.new) (λ e. e) result) }
+    requires { IfSome read (λ value. HasBytes (value_of_ref value)) }
+    ensures { Answers (with_read_value item (option_map value_of_ref read.entry) row.old) (result_map_both (λ _. row.new) (λ e. e) result) }
 {
     match read {
         Some(value) => Ok(row.push(alloc, value)?),

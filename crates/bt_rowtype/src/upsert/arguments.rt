@@ -2,7 +2,7 @@
 ghost use Rattle.std.specs.Prelude.{◌≡◌, ◌∷◌, [], IfSome, IfNone, map};
 ghost use Rattle.bt_rowtype.specs.Ops.{argument_of};
 ghost use Rattle.bt_rowtype.specs.Values.{HasBytes};
-ghost use Rattle.bt_rowtype.specs.Views.{shown};
+ghost use Rattle.bt_rowtype.specs.Views.{value_of_ref};
 ghost use Rattle.bt_rowtype.specs.declared.value.Value.TheVariants as value;
 
 use crate::upsert::op::Op;
@@ -48,8 +48,8 @@ impl<'a> Arguments<'a> {
 
     /// The next argument, if one is left.
     pub fn next(&mut self) -> Option<ValueRef<'a>>
-        ensures some { IfSome result (λ argument. self.old ≡ shown argument ∷ self.new) }
-        ensures bytes { IfSome result (λ argument. HasBytes (shown argument)) }
+        ensures some { IfSome result (λ argument. self.old ≡ value_of_ref argument ∷ self.new) }
+        ensures bytes { IfSome result (λ argument. HasBytes (value_of_ref argument)) }
         ensures none { IfNone result ((self.old ≡ []) × (self.new ≡ [])) }
     {
         if let Some(number) = self.number {

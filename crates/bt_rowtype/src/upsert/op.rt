@@ -4,7 +4,7 @@ ghost use Rattle.std.specs.Prelude.{◌≡◌, ◌≤◌, ◌∷◌, [], IfOk, l
 ghost use Rattle.bt_rowtype.specs.Arithmetic.{action_of, arithmetic_of_word, new_number, op_making, word_of};
 ghost use Rattle.bt_rowtype.specs.Ops as spec;
 ghost use Rattle.bt_rowtype.specs.Values.{HasBytes};
-ghost use Rattle.bt_rowtype.specs.Views.{done, shown};
+ghost use Rattle.bt_rowtype.specs.Views.{action_of_ref, value_of_ref};
 
 use crate::value::sequence::Sequence;
 use crate::value::try_clone::TryClone;
@@ -103,7 +103,7 @@ impl Op {
     /// What it does.
     #[inline(always)]
     pub fn action(&self) -> Action<'_>
-        ensures { done result ≡ action_of self.now }
+        ensures { action_of_ref result ≡ action_of self.now }
     {
         match self {
             Op::Set(place, value) => Action::Set(*place, value),
@@ -147,8 +147,8 @@ impl Op {
 
     /// The value that it sets, or its number.
     pub fn argument(&self) -> ValueRef<'_>
-        ensures value { shown result ≡ spec.argument_of self.now }
-        ensures bytes { HasBytes (shown result) }
+        ensures value { value_of_ref result ≡ spec.argument_of self.now }
+        ensures bytes { HasBytes (value_of_ref result) }
     {
         match self.action() {
             Action::Set(_, value) => value.as_ref(),

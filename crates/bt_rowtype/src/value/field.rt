@@ -4,7 +4,7 @@ ghost use Rattle.bt_rowtype.specs.Answers.{Answers};
 ghost use Rattle.bt_rowtype.specs.Kinds.{flag_of, text_read, value_of};
 ghost use Rattle.bt_rowtype.specs.Texts.{is_text as is_text_of};
 ghost use Rattle.bt_rowtype.specs.Values.{HasBytes, or_refused};
-ghost use Rattle.bt_rowtype.specs.Views.{shown};
+ghost use Rattle.bt_rowtype.specs.Views.{value_of_ref};
 
 use crate::refusal::Refusal;
 use crate::value::text::{MOST_VALUE_BYTES, is_text};
@@ -34,9 +34,9 @@ pub(crate) fn read_text(field: &[u8]) -> Option<&[u8]>
 
 // A copy of a value that was read, or the refusal of its field as this item where there is none.
 fn copy_read(alloc: Global, item: u64, read: Option<ValueRef<'_>>) -> Result<Value, Refusal>
-    requires { IfSome read (λ value. HasBytes (shown value)) }
-    ensures answer { Answers (or_refused (Refusal.BadField item) (option_map shown read.entry)) result }
-    ensures certain { option_map shown read.entry ≡ None → result ≡ Err (Refusal.BadField item) }
+    requires { IfSome read (λ value. HasBytes (value_of_ref value)) }
+    ensures answer { Answers (or_refused (Refusal.BadField item) (option_map value_of_ref read.entry)) result }
+    ensures certain { option_map value_of_ref read.entry ≡ None → result ≡ Err (Refusal.BadField item) }
 {
     match read {
         Some(value) => Ok(value.to_value(alloc)?),

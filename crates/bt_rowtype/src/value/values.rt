@@ -2,9 +2,9 @@
 ghost use Rattle.std.specs.Prelude.{◌≡◌, ◌∷◌, ◌==◌, [], Some, IfSome, IfNone, length};
 ghost use Rattle.bt_rowtype.specs.Values.{HasBytes, IsInRange};
 ghost use Rattle.bt_rowtype.specs.inside.Packing.{IsPacked, unpacked};
-ghost use Rattle.bt_rowtype.specs.inside.Sources.{IsSource, left};
+ghost use Rattle.bt_rowtype.specs.inside.Sources.{IsSource, values_left};
 ghost use Rattle.bt_rowtype.specs.Values as spec;
-ghost use Rattle.bt_rowtype.specs.Views.{held, shown};
+ghost use Rattle.bt_rowtype.specs.Views.{content_of_ref, value_of_ref};
 
 use crate::row::packed_values::{first, tail, width};
 use crate::value::{Content, Value, ValueRef};
@@ -29,11 +29,11 @@ pub struct Values<'a> {
 impl<'a> Model for Values<'a> {
     ghost use Rattle.std.specs.Prelude.{List};
     ghost use Rattle.bt_rowtype.specs.declared.value.Value.{Value as value};
-    ghost use Rattle.bt_rowtype.specs.inside.Sources.{IsSource, left};
+    ghost use Rattle.bt_rowtype.specs.inside.Sources.{IsSource, values_left};
 
     ghost Value = { List value };
 
-    ghost view = { λ a. left a.source };
+    ghost view = { λ a. values_left a.source };
 
     ghost invariant = { λ a. IsSource a.source };
 }
@@ -41,8 +41,8 @@ impl<'a> Model for Values<'a> {
 // The first value of bytes, and the bytes behind it.
 fn next_packed(bytes: &[u8]) -> Option<(ValueRef<'_>, &[u8])>
     requires { IsPacked bytes.now }
-    ensures some { IfSome result (λ read. unpacked bytes.now ≡ shown read.0 ∷ unpacked read.1.now) }
-    ensures in_range { IfSome result (λ read. IsInRange (shown read.0)) }
+    ensures some { IfSome result (λ read. unpacked bytes.now ≡ value_of_ref read.0 ∷ unpacked read.1.now) }
+    ensures in_range { IfSome result (λ read. IsInRange (value_of_ref read.0)) }
     ensures packed { IfSome result (λ read. IsPacked read.1.now) }
     ensures none { IfNone result (unpacked bytes.now ≡ []) }
 {
@@ -62,7 +62,7 @@ fn holds_none(bytes: &[u8]) -> bool
 
 // Whether two values hold the same.
 fn same_content(left: Content<'_>, right: Content<'_>) -> bool
-    ensures { result ≡ spec.same_content (held left.entry) (held right.entry) }
+    ensures { result ≡ spec.same_content (content_of_ref left.entry) (content_of_ref right.entry) }
 {
     match (left, right) {
         (Content::Number(a), Content::Number(b)) => a == b,
@@ -74,14 +74,14 @@ fn same_content(left: Content<'_>, right: Content<'_>) -> bool
 
 // Whether two values are of one kind and hold the same.
 fn same_value(left: ValueRef<'_>, right: ValueRef<'_>) -> bool
-    ensures { result ≡ spec.same_value (shown left.entry) (shown right.entry) }
+    ensures { result ≡ spec.same_value (value_of_ref left.entry) (value_of_ref right.entry) }
 {
     left.kind().tag() == right.kind().tag() && same_content(left.content(), right.content())
 }
 
 // The order of what two values of a kind hold.
 fn compare_contents(left: Content<'_>, right: Content<'_>) -> Ordering
-    ensures { result ≡ spec.content_cmp (held left.entry) (held right.entry) }
+    ensures { result ≡ spec.content_cmp (content_of_ref left.entry) (content_of_ref right.entry) }
 {
     match (left, right) {
         (Content::Number(a), Content::Number(b)) => a.cmp(&b),
@@ -93,7 +93,7 @@ fn compare_contents(left: Content<'_>, right: Content<'_>) -> Ordering
 
 /// The order of two values of a kind: ints by size, texts and bytes byte by byte, `false` before `true`.
 pub fn compare_values(left: ValueRef<'_>, right: ValueRef<'_>) -> Ordering
-    ensures { result ≡ spec.value_cmp (shown left.entry) (shown right.entry) }
+    ensures { result ≡ spec.value_cmp (value_of_ref left.entry) (value_of_ref right.entry) }
 {
     compare_contents(left.content(), right.content())
 }
@@ -156,8 +156,8 @@ impl<'a> Values<'a> {
 
     /// The next value, if one is left.
     pub fn next(&mut self) -> Option<ValueRef<'a>>
-        ensures some { IfSome result (λ value. self.old ≡ shown value ∷ self.new) }
-        ensures bytes { IfSome result (λ value. HasBytes (shown value)) }
+        ensures some { IfSome result (λ value. self.old ≡ value_of_ref value ∷ self.new) }
+        ensures bytes { IfSome result (λ value. HasBytes (value_of_ref value)) }
         ensures none { IfNone result ((self.old ≡ []) × (self.new ≡ [])) }
     {
         match self.source {

@@ -16,12 +16,12 @@ use Rattle.bt_node.specs.Fits.{IsRoomy}
 use Rattle.bt_node.specs.Messages.{Rows}
 use Rattle.bt_node.specs.Shapes.{is_shape}
 use Rattle.bt_node.specs.Trees.{Shape}
-use Rattle.bt_load.specs.Loads.{loaded}
+use Rattle.bt_load.specs.Loads.{text_rows}
 use Rattle.bt_load.specs.Maps.{map_of}
-use Rattle.bt_load.proofs.offered.Loaded.{loaded-of}
+use Rattle.bt_load.proofs.offered.Loaded.{text_rows-of}
 use Rattle.bt_keycode.specs.Standing.{AreOf}
 use Rattle.bt_table.proofs.Loads.{map_of-sorted, map_of-stand}
-use Rattle.bt_batch.specs.Batches.{and_then, batch_refusals, made, messages_of, read_key}
+use Rattle.bt_batch.specs.Batches.{and_then, batch_refusals, map_ok, messages_of, read_key}
 use Rattle.bt_table.specs.Calls.{after_build, after_load, built, Call, Apply, BuildStep, CreateIndex, Drain, DropIndex, Get, Load, Rebuild, Upkeep, Draining, Rebuilding, dropped, is_bare, is_primary, load_refusals, name_refusals, sent_counts, step, unless_any, with_index, with_renewed, with_renewed_index, with_renewed_rows}
 use Rattle.bt_table.specs.Indexes.{Index, index_named, is_complete}
 use Rattle.bt_table.specs.Standing.{AreSoundIndexes, CompleteIndexesHold, HoldsSelection, IsSound, IsSoundTable, IsSoundUnlessLost, Suits}
@@ -49,7 +49,7 @@ when_allowed (Some refusal) table reply sound = tt
 when_allowed None table reply sound = sound
 
 when_read : (read : Result (List Value) Refusal) (table : PlainTable) (reply : List Value → Reply) → IsSoundTable table
-    → IfOk (made (λ key. (Intact table, reply key)) read) (λ (after : TableState × Reply). IsSound after.0)
+    → IfOk (map_ok (λ key. (Intact table, reply key)) read) (λ (after : TableState × Reply). IsSound after.0)
 when_read (Ok key) table reply sound = sound
 when_read (Err refusal) table reply sound = tt
 
@@ -58,34 +58,34 @@ when_found None table name sound = tt
 when_found (Some found) table name sound = without_index-sound table found.0 sound
 
 map_keeps_sound : (table : PlainTable) (rows : List (List Value)) (map : Result (Rows (List Value)) Refusal) → map_of table.schema.keys rows ≡ map → AreOf table.schema.columns rows
-    → list_all is_complete table.indexes ≡ true → IsSoundTable table → IfOk (made (after_load table) map) (λ (after : TableState × Reply). IsSound after.0)
+    → list_all is_complete table.indexes ≡ true → IsSoundTable table → IfOk (map_ok (after_load table) map) (λ (after : TableState × Reply). IsSound after.0)
 map_keeps_sound table rows (Err refusal) is fit complete sound = tt
 map_keeps_sound table rows (Ok map) is fit complete sound =
     with_rows-sound table map (map_of-stand table.schema rows map fit is) (map_of-sorted table.schema.keys rows map is) complete sound
 
 allowed_keeps_sound : (table : PlainTable) (rows : List (List Value)) (refusal : Option Refusal) → least (load_refusals table.indexes table.tree) ≡ refusal → AreOf table.schema.columns rows
-    → IsSoundTable table → IfOk (made (after_load table) (and_then (map_of table.schema.keys) (unless refusal rows))) (λ (after : TableState × Reply). IsSound after.0)
+    → IsSoundTable table → IfOk (map_ok (after_load table) (and_then (map_of table.schema.keys) (unless refusal rows))) (λ (after : TableState × Reply). IsSound after.0)
 allowed_keeps_sound table rows (Some refusal) is fit sound = tt
 allowed_keeps_sound table rows None is fit sound =
     map_keeps_sound table rows (map_of table.schema.keys rows) refl fit (none_building (list_all is_complete table.indexes) (is_bare table.tree) is) sound
 
-load_keeps_sound : (table : PlainTable) (text : List ℕ) (read : Result (List (List Value)) Refusal) → loaded table.schema.columns text ≡ read → IsSoundTable table
-    → IfOk (made (after_load table) (and_then (map_of table.schema.keys) (and_then (unless_any (load_refusals table.indexes table.tree)) read))) (λ (after : TableState × Reply). IsSound after.0)
+load_keeps_sound : (table : PlainTable) (text : List ℕ) (read : Result (List (List Value)) Refusal) → text_rows table.schema.columns text ≡ read → IsSoundTable table
+    → IfOk (map_ok (after_load table) (and_then (map_of table.schema.keys) (and_then (unless_any (load_refusals table.indexes table.tree)) read))) (λ (after : TableState × Reply). IsSound after.0)
 load_keeps_sound table text (Err refusal) is sound = tt
 load_keeps_sound table text (Ok rows) is sound =
-    allowed_keeps_sound table rows (least (load_refusals table.indexes table.tree)) refl (loaded-of table.schema.columns text rows is) sound
+    allowed_keeps_sound table rows (least (load_refusals table.indexes table.tree)) refl (text_rows-of table.schema.columns text rows is) sound
 
 renewed_keeps_sound : (upkeep : Upkeep) (table : PlainTable) (name : List ℕ) (reply : Reply) → IsSoundTable table
-    → IfOk (made (λ after. (Intact after, reply)) (with_renewed upkeep table name)) (λ (after : TableState × Reply). IsSound after.0)
+    → IfOk (map_ok (λ after. (Intact after, reply)) (with_renewed upkeep table name)) (λ (after : TableState × Reply). IsSound after.0)
 renewed_keeps_sound upkeep table name reply sound =
-    elim (is_primary name) as (λ b. IfOk (made (λ after. (Intact after, reply)) (if b then Ok (with_renewed_rows upkeep table)
+    elim (is_primary name) as (λ b. IfOk (map_ok (λ after. (Intact after, reply)) (if b then Ok (with_renewed_rows upkeep table)
     else or_refused NoSuchTree (option_map (with_renewed_index upkeep table) (index_named name table.indexes)))) (λ (after : TableState × Reply). IsSound after.0)) [
       | true ↦ with_renewed_rows-sound upkeep table sound
       | false ↦ by_found (index_named name table.indexes) refl
     ]
   where
     by_found : (found : Option (ℕ × Index)) → index_named name table.indexes ≡ found
-        → IfOk (made (λ after. (Intact after, reply)) (or_refused NoSuchTree (option_map (with_renewed_index upkeep table) found))) (λ (after : TableState × Reply). IsSound after.0)
+        → IfOk (map_ok (λ after. (Intact after, reply)) (or_refused NoSuchTree (option_map (with_renewed_index upkeep table) found))) (λ (after : TableState × Reply). IsSound after.0)
     by_found None is = tt
     by_found (Some found) is = with_renewed_index-sound table name found is sound upkeep
 
@@ -115,7 +115,7 @@ step_keeps_sound (Intact table) (CreateIndex name def) fits sound =
     when_allowed (least (name_refusals table name)) (with_index table name def) (Created name) (with_index-sound table name def fits sound)
 step_keeps_sound (Intact table) (BuildStep name count) fits sound = built_keeps_sound table name count (index_named name table.indexes) refl sound
 step_keeps_sound (Intact table) (DropIndex name) fits sound = when_found (index_named name table.indexes) table name sound
-step_keeps_sound (Intact table) (Load text) fits sound = load_keeps_sound table text (loaded table.schema.columns text) refl sound
+step_keeps_sound (Intact table) (Load text) fits sound = load_keeps_sound table text (text_rows table.schema.columns text) refl sound
 step_keeps_sound (Intact table) (Drain name) fits sound = renewed_keeps_sound Draining table name (Drained name) sound
 step_keeps_sound (Intact table) (Rebuild name) fits sound = renewed_keeps_sound Rebuilding table name (Rebuilt name) sound
 step_keeps_sound (Intact table) (Apply items) fits sound =

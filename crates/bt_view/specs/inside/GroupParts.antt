@@ -155,21 +155,21 @@ groups_assoc (Some ss) (Some ts) (Some us) = lists_assoc ss ts us
 
 module _ (columns place : ℕ) where
   -- groups with the row of a key
-  abbrev pub taken : Groups → Key × List Value → Groups
-  taken groups row = grouped columns place groups row.1
+  abbrev pub with_row : Groups → Key × List Value → Groups
+  with_row groups row = grouped columns place groups row.1
 
   -- the columns and the place stay
-  pub beside : (groups : Groups) (rows : List (Key × List Value)) → ◌≡◌ {A = ℕ × ℕ × Groups} (fold after_row (columns, place, groups) rows) (columns, place, fold taken groups rows)
-  beside groups [] = refl
-  beside groups (row ∷ rows) = beside (taken groups row) rows
+  pub columns_stay : (groups : Groups) (rows : List (Key × List Value)) → ◌≡◌ {A = ℕ × ℕ × Groups} (fold after_row (columns, place, groups) rows) (columns, place, fold with_row groups rows)
+  columns_stay groups [] = refl
+  columns_stay groups (row ∷ rows) = columns_stay (with_row groups row) rows
 
-  parts : (groups : Groups) (rows behind : List (Key × List Value)) → joined_groups (fold taken groups rows) (fold taken (Some []) behind) ≡ fold taken groups (rows ++ behind)
+  parts : (groups : Groups) (rows behind : List (Key × List Value)) → joined_groups (fold with_row groups rows) (fold with_row (Some []) behind) ≡ fold with_row groups (rows ++ behind)
   parts groups rows behind = joined_as_one joined_groups (λ (row : Key × List Value). Some (group_of columns place row.1 ∷ [])) (Some []) groups_assoc groups_unit groups rows behind
 
 pub groups_as_one : (g : ℕ × ℕ × Groups) (rows behind : List (Key × List Value))
     → ◌≡◌ {A = ℕ × ℕ × Groups} (joined_with (fold after_row g rows) (fold after_row (g.0, g.1, Some []) behind)) (fold after_row g (rows ++ behind))
 groups_as_one g rows behind =
-    ap (λ (h : ℕ × ℕ × Groups). joined_with h (fold after_row (g.0, g.1, Some []) behind)) (beside g.0 g.1 g.2 rows)
-    ∙ ap (λ (h : ℕ × ℕ × Groups). joined_with (g.0, g.1, fold (taken g.0 g.1) g.2 rows) h) (beside g.0 g.1 (Some []) behind)
+    ap (λ (h : ℕ × ℕ × Groups). joined_with h (fold after_row (g.0, g.1, Some []) behind)) (columns_stay g.0 g.1 g.2 rows)
+    ∙ ap (λ (h : ℕ × ℕ × Groups). joined_with (g.0, g.1, fold (with_row g.0 g.1) g.2 rows) h) (columns_stay g.0 g.1 (Some []) behind)
     ∙ ap (λ (groups : Groups). (g.0, g.1, groups)) (parts g.0 g.1 g.2 rows behind)
-    ∙ sym (beside g.0 g.1 g.2 (rows ++ behind))
+    ∙ sym (columns_stay g.0 g.1 g.2 (rows ++ behind))

@@ -18,12 +18,12 @@ joined_map : {J X : Type 0} (f : J → List X) (jobs : List J) → concatenation
 joined_map f [] = refl
 joined_map f (j ∷ js) = ap (λ l. f j ++ l) (joined_map f js)
 
-pub shared-requires-clause-some : goal.shared-requires-clause-some
-shared-requires-clause-some g c = some_owner [] c.in_ok-portions.portions.items (c.in_ok-portions.ensures.owners [])
+pub lookup_jobs-requires-clause-some : goal.lookup_jobs-requires-clause-some
+lookup_jobs-requires-clause-some g c = some_owner [] c.in_ok-portions.portions.items (c.in_ok-portions.ensures.owners [])
 
 -- without bounds the empty key lies in the range
-pub shared-requires-clause-chained : goal.shared-requires-clause-chained
-shared-requires-clause-chained g c = c.in_ok-portions.ensures.chained [] refl
+pub lookup_jobs-requires-clause-chained : goal.lookup_jobs-requires-clause-chained
+lookup_jobs-requires-clause-chained g c = c.in_ok-portions.ensures.chained [] refl
 
 pub returns : goal.returns
 returns g c =

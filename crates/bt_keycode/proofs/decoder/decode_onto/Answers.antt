@@ -1,6 +1,6 @@
 use Rattle.std.proofs.Common.{◌≡◌, arith, ◌∙◌, ◌++◌, ◌∷◌, [], ap, append_assoc, length, refl, sym}
 use Rattle.std.proofs.lemmas.Bool.{eqb-false}
-use Rattle.bt_rowtype.specs.Views.{shown}
+use Rattle.bt_rowtype.specs.Views.{value_of_ref}
 use Rattle.bt_rowtype.specs.declared.value.Kind.TheVariants as kind
 use Rattle.bt_keycode.proofs.Decoding.{goes_on, goes_past, no_values, none_begins, of_all}
 use Rattle.bt_keycode.proofs.decoder.decode_onto.Goals as goal
@@ -12,7 +12,7 @@ returns-in_default-clause-none c = λ _. no_values c.args.kinds.now c.args.bytes
 pub loop-kind-preserved : goal.loop-kind-preserved
 loop-kind-preserved c =
     let values = c.loop-kind.invariant.0 in
-    let value = shown c.in-Some.value in (
+    let value = value_of_ref c.in-Some.value in (
       values ++ value ∷ [],
       (
         c.in_ok-push.ensures.ok ∙ ap (λ row. row ++ value ∷ []) c.loop-kind.invariant.1.0 ∙ append_assoc c.args.row.now values (value ∷ []),

@@ -12,7 +12,7 @@ use Rattle.bt_keycode.specs.Keys.{Key}
 use Rattle.bt_node.specs.Children.{behind_pivot}
 use Rattle.bt_node.specs.Flushes.{Child, flush_in, flushed, none_pending, pivot_first}
 use Rattle.bt_node.specs.Messages.{Messages, with_messages}
-use Rattle.bt_node.specs.inside.Flushing.{AreReady, loaded}
+use Rattle.bt_node.specs.inside.Flushing.{AreReady, with_shares}
 use Rattle.bt_node.specs.Trees.{Shape, Siblings}
 use Rattle.bt_node.proofs.lemmas.code.OpeningStep.{among, highest, pass}
 
@@ -33,32 +33,32 @@ module _ {V D : Type 0} (meaning : Meaning V (Message V D)) (mode : Mode) (s : S
   with_share = record { pivot = c.pivot; tree = c.tree; pending = with_messages (take n stream) c.pending }
 
   abbrev rest : Messages (Message V D) → List (Child V (Message V D))
-  rest zs = pass meaning mode s (zip (loaded cs ns zs) marks_left)
+  rest zs = pass meaning mode s (zip (with_shares cs ns zs) marks_left)
 
   -- what it becomes, and then what the others do
   next : (part : List (Child V (Message V D))) (marks : List Bool) (m : Bool) → marks ≡ m ∷ marks_left → now ≡ done ++ part →
-      done ++ (part ++ rest (drop n stream)) ≡ done ++ pass meaning mode s (zip (loaded (c ∷ cs) (n ∷ ns) stream) (m ∷ marks_left)) →
-      now ++ rest ms ≡ done ++ pass meaning mode s (zip (loaded all shares stream) marks)
+      done ++ (part ++ rest (drop n stream)) ≡ done ++ pass meaning mode s (zip (with_shares (c ∷ cs) (n ∷ ns) stream) (m ∷ marks_left)) →
+      now ++ rest ms ≡ done ++ pass meaning mode s (zip (with_shares all shares stream) marks)
   next part marks m mark pushed same =
       ap (λ zs. zs ++ rest ms) pushed ∙ append_assoc done part (rest ms) ∙ ap (λ zs. done ++ (part ++ rest zs)) left ∙ same
-      ∙ sym (ap (λ bs. done ++ pass meaning mode s (zip (loaded all shares stream) bs)) mark
-      ∙ ap (λ ks. done ++ pass meaning mode s (zip (loaded all ks stream) (m ∷ marks_left))) share
-      ∙ ap (λ ds. done ++ pass meaning mode s (zip (loaded ds (n ∷ ns) stream) (m ∷ marks_left))) child)
+      ∙ sym (ap (λ bs. done ++ pass meaning mode s (zip (with_shares all shares stream) bs)) mark
+      ∙ ap (λ ks. done ++ pass meaning mode s (zip (with_shares all ks stream) (m ∷ marks_left))) share
+      ∙ ap (λ ds. done ++ pass meaning mode s (zip (with_shares ds (n ∷ ns) stream) (m ∷ marks_left))) child)
 
   -- a child that is flushed
   one_flushed : (marks : List Bool) → marks ≡ true ∷ marks_left → now ≡ done ++ flushed (flush_in meaning mode s) with_share →
-      now ++ rest ms ≡ done ++ pass meaning mode s (zip (loaded all shares stream) marks)
+      now ++ rest ms ≡ done ++ pass meaning mode s (zip (with_shares all shares stream) marks)
   one_flushed marks mark pushed = next (flushed (flush_in meaning mode s) with_share) marks true mark pushed refl
 
   -- a child that takes its share
-  one_kept : (marks : List Bool) → marks ≡ false ∷ marks_left → now ≡ done ++ with_share ∷ [] → now ++ rest ms ≡ done ++ pass meaning mode s (zip (loaded all shares stream) marks)
+  one_kept : (marks : List Bool) → marks ≡ false ∷ marks_left → now ≡ done ++ with_share ∷ [] → now ++ rest ms ≡ done ++ pass meaning mode s (zip (with_shares all shares stream) marks)
   one_kept marks mark pushed = next (with_share ∷ []) marks false mark pushed refl
 
 -- A pass over children beside their shares and marks: what it has made so far, and then what it makes of those that are left, is what is wanted, and what they
 -- leave of the stream is what is left over.
 pub record UnderWay {V D : Type 0} (meaning : Meaning V (Message V D)) (mode : Mode) (s : Shape) (wanted : List (Child V (Message V D))) (over : Messages (Message V D)) (bound : ℕ)
     (done cs : List (Child V (Message V D))) (those : List Share) (stream : Messages (Message V D)) (bs : List Bool) : Type 0 where
-  pub parts : done ++ pass meaning mode s (zip (loaded cs (counts those) stream) bs) ≡ wanted
+  pub parts : done ++ pass meaning mode s (zip (with_shares cs (counts those) stream) bs) ≡ wanted
   pub left : drop (total (counts those)) stream ≡ over
   pub weighed : AreShares meaning.weigh stream those
   pub ready : AreReady mode cs
@@ -69,7 +69,7 @@ pub record UnderWay {V D : Type 0} (meaning : Meaning V (Message V D)) (mode : M
 module _ {V D : Type 0} {meaning : Meaning V (Message V D)} {mode : Mode} {s : Shape} {wanted done all cs : List (Child V (Message V D))} {over stream ms : Messages (Message V D)} {bound : ℕ}
     {those others : List Share} {bs marks_left : List Bool} {c : Child V (Message V D)} {share : Share} {m : Bool} (before : UnderWay meaning mode s wanted over bound done all those stream bs)
     (child : all ≡ c ∷ cs) (first : those ≡ share ∷ others) (mark : bs ≡ m ∷ marks_left) (rest_is : ms ≡ drop share.count stream) where
-  stepped : (now : List (Child V (Message V D))) → now ++ pass meaning mode s (zip (loaded cs (counts others) ms) marks_left) ≡ done ++ pass meaning mode s (zip (loaded all (counts those) stream) bs) →
+  stepped : (now : List (Child V (Message V D))) → now ++ pass meaning mode s (zip (with_shares cs (counts others) ms) marks_left) ≡ done ++ pass meaning mode s (zip (with_shares all (counts those) stream) bs) →
       UnderWay meaning mode s wanted over bound now cs others ms marks_left
   stepped now same = record {
     parts = same ∙ before.parts;

@@ -25,16 +25,16 @@ use Rattle.bt_node.specs.Flushes.{Child, Flush, flush_in, flushed, flushed_in, g
 use Rattle.bt_node.specs.Messages.{Messages, with_messages}
 use Rattle.bt_node.specs.Steps.{IsKept, IsOpened, IsStep}
 use Rattle.bt_node.specs.Trees.{Shape, Siblings, Tree, height, height_below, inner, nodes, pivots_of}
-use Rattle.bt_node.specs.inside.Flushing.{AreReady, IsReady, loaded}
-use Rattle.bt_node.specs.Passes.{passed}
+use Rattle.bt_node.specs.inside.Flushing.{AreReady, IsReady, with_shares}
+use Rattle.bt_node.specs.Passes.{after_pass}
 use Rattle.bt_node.proofs.lemmas.deals.Parts.{NonEmpty}
 use Rattle.bt_node.proofs.lemmas.flushes.Children.{ChildrenLie}
-use Rattle.bt_node.proofs.lemmas.flushes.Divisions.{beside-ready, bins-length, divided-lie, divided-none, joined-pending, length-beside, loaded-shared, shares-length, stripped-beside}
+use Rattle.bt_node.proofs.lemmas.flushes.Divisions.{bins-length, divided-lie, divided-none, joined-pending, length-with_pending, shares-length, stripped-with_pending, with_pending-ready, with_shares-shared}
 use Rattle.bt_node.proofs.lemmas.flushes.Drains.{all_pending-flushed}
 use Rattle.bt_node.proofs.lemmas.flushes.EmptyPackets.{still-here}
 use Rattle.bt_node.proofs.lemmas.flushes.Groups.{children-nodes, led-full, some_length, stripped}
 use Rattle.bt_node.proofs.lemmas.flushes.Laws.{anywhere}
-use Rattle.bt_node.proofs.lemmas.flushes.Passes.{Keeps, flushed-slots, names-slots, passed-lie, slots}
+use Rattle.bt_node.proofs.lemmas.flushes.Passes.{Keeps, after_pass-lie, flushed-slots, names-slots, slots}
 use Rattle.bt_node.proofs.lemmas.flushes.Recursion.{flush-led, flush_recurs}
 use Rattle.bt_node.proofs.lemmas.flushes.RowsKept.{flush-keeps}
 use Rattle.bt_node.proofs.lemmas.flushes.Shares.{length-shared, shared-lie}
@@ -43,7 +43,7 @@ use Rattle.bt_node.proofs.lemmas.plans.Marks.{length-flush_marks}
 
 -- one pass over children beside marks
 abbrev pub pass : {V D : Type 0} → Meaning V (Message V D) → Mode → Shape → List (Child V (Message V D) × Bool) → List (Child V (Message V D))
-pass meaning mode s = passed (flushed (flush_in meaning mode s))
+pass meaning mode s = after_pass (flushed (flush_in meaning mode s))
 
 -- the height of the highest of these children
 abbrev pub highest : {V M : Type 0} → List (Child V M) → ℕ
@@ -120,16 +120,16 @@ module _ {V D : Type 0} (meaning : Meaning V (Message V D)) {mode : Mode} {s : S
     as_many = bins-length xs bins some entered.lie
 
     long : length o.children ≡ length xs
-    long = omega (arith, ap length opened.children, length-beside xs bins as_many)
+    long = omega (arith, ap length opened.children, length-with_pending xs bins as_many)
 
     pub shares_long : length o.shares.items ≡ length o.children
     shares_long = omega (arith, shares-length xs (counts o.shares.items) ms (take count ms) some opened.shares, length-map o.shares.items (λ (s : Share). s.count), long)
 
     -- the children with their shares
-    loaded_are : loaded o.children (counts o.shares.items) ms ≡ cs
-    loaded_are = ap (λ ds. loaded ds (counts o.shares.items) ms) opened.children ∙ loaded-shared xs bins (counts o.shares.items) ms (take count ms) entered.lie opened.shares
+    loaded_are : with_shares o.children (counts o.shares.items) ms ≡ cs
+    loaded_are = ap (λ ds. with_shares ds (counts o.shares.items) ms) opened.children ∙ with_shares-shared xs bins (counts o.shares.items) ms (take count ms) entered.lie opened.shares
 
-    slots_are : zip (loaded o.children (counts o.shares.items) ms) o.marks.items ≡ slots meaning.weigh s mode cs
+    slots_are : zip (with_shares o.children (counts o.shares.items) ms) o.marks.items ≡ slots meaning.weigh s mode cs
     slots_are = ap (λ ds. zip ds o.marks.items) loaded_are ∙ ap (zip cs) opened.marks
 
     slots_long : length (slots meaning.weigh s mode cs) ≡ length cs
@@ -140,15 +140,15 @@ module _ {V D : Type 0} (meaning : Meaning V (Message V D)) {mode : Mode} {s : S
 
     -- messages may enter them
     pub children_ready : AreReady mode o.children
-    children_ready = subst (AreReady mode) (sym opened.children) (beside-ready mode node xs (concatenation bins) bins entered.here entered.ready)
+    children_ready = subst (AreReady mode) (sym opened.children) (with_pending-ready mode node xs (concatenation bins) bins entered.here entered.ready)
 
     -- they are lower than the node
     pub children_lower : 4 * highest o.children + 3 < 4 * height node
-    children_lower = omega (arith, ap height entered.here, ap highest opened.children, ap (λ ys. height_below (nodes ys)) (stripped-beside xs bins as_many))
+    children_lower = omega (arith, ap height entered.here, ap highest opened.children, ap (λ ys. height_below (nodes ys)) (stripped-with_pending xs bins as_many))
 
-    module _ (made : List (Child V (Message V D))) (made_is : made ≡ pass meaning mode s (zip (loaded o.children (counts o.shares.items) left) o.marks.items)) where
+    module _ (made : List (Child V (Message V D))) (made_is : made ≡ pass meaning mode s (zip (with_shares o.children (counts o.shares.items) left) o.marks.items)) where
       passed_are : made ≡ pass meaning mode s (slots meaning.weigh s mode cs)
-      passed_are = made_is ∙ ap (λ zs. pass meaning mode s (zip (loaded o.children (counts o.shares.items) zs) o.marks.items)) opens.0 ∙ ap (pass meaning mode s) slots_are
+      passed_are = made_is ∙ ap (λ zs. pass meaning mode s (zip (with_shares o.children (counts o.shares.items) zs) o.marks.items)) opens.0 ∙ ap (pass meaning mode s) slots_are
 
       flushed_are : made ≡ flushed_in meaning.weigh s mode f cs
       flushed_are = passed_are ∙ sym (flushed-slots meaning.weigh s mode f cs)
@@ -181,7 +181,7 @@ module _ {V D : Type 0} (meaning : Meaning V (Message V D)) {mode : Mode} {s : S
               let keeps : Keeps meaning.effect side.0 f =
               λ low high t p lies within. flush-keeps meaning mode s (omega (arith, entered.leaf)) (omega (arith, entered.fanout)) side.0 low high t p lies within in
               subst AreDivided (sym passed_are)
-              (divided-lie side.0 None None (pass meaning mode s (slots meaning.weigh s mode cs)) (passed-lie meaning.effect side.0 f keeps None None (slots meaning.weigh s mode cs) (subst (ChildrenLie side.0 None None) (sym (names-slots meaning.weigh s mode cs)) placed)))
+              (divided-lie side.0 None None (pass meaning mode s (slots meaning.weigh s mode cs)) (after_pass-lie meaning.effect side.0 f keeps None None (slots meaning.weigh s mode cs) (subst (ChildrenLie side.0 None None) (sym (names-slots meaning.weigh s mode cs)) placed)))
 
       pub grouped_anew : grouped s made ≡ f node (take count ms)
       grouped_anew = ap (grouped s) flushed_are ∙ sym becomes

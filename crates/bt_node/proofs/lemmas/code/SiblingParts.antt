@@ -7,7 +7,7 @@ use Rattle.bt_node.specs.Flushes.{pivot_first}
 use Rattle.bt_keycode.specs.Keys.{Key}
 use Rattle.bt_node.specs.inside.NodeKinds.{tree_of}
 use Rattle.bt_node.specs.Messages.{Messages}
-use Rattle.bt_node.specs.Trees.{Siblings, Tree, behind}
+use Rattle.bt_node.specs.Trees.{Siblings, Tree, with_pivots}
 use Rattle.bt_node.specs.Walks.{children_of}
 use Rattle.bt_node.specs.declared.form.node.NodeKind.{NodeKind}
 use Rattle.bt_node.specs.declared.form.node.NodeKind.TheVariants.{Inner}
@@ -39,39 +39,39 @@ module _ {X : Type 0} where
   zip-more (j ∷ js) (y ∷ ys) k x same = ap (λ z. (j, y) ∷ z) (zip-more js ys k x (omega (arith, same)))
 
   module _ (ks : List Key) (xs : List X) (fewer : length xs ≡ length ks + 1) where
-    pub behind-items : map (λ x. x.1) (behind ks xs) ≡ xs
-    behind-items = zip-items ([] ∷ ks) xs (omega (arith, fewer))
+    pub with_pivots-items : map (λ x. x.1) (with_pivots ks xs) ≡ xs
+    with_pivots-items = zip-items ([] ∷ ks) xs (omega (arith, fewer))
 
-    pub behind-length : length (behind ks xs) ≡ length xs
-    behind-length = zip-length ([] ∷ ks) xs (omega (arith, fewer))
+    pub with_pivots-length : length (with_pivots ks xs) ≡ length xs
+    with_pivots-length = zip-length ([] ∷ ks) xs (omega (arith, fewer))
 
-    pub behind-more : (k : Key) (x : X) → behind (ks ++ k ∷ []) (xs ++ x ∷ []) ≡ behind ks xs ++ (k, x) ∷ []
-    behind-more k x = zip-more ([] ∷ ks) xs k x (omega (arith, fewer))
+    pub with_pivots-more : (k : Key) (x : X) → with_pivots (ks ++ k ∷ []) (xs ++ x ∷ []) ≡ with_pivots ks xs ++ (k, x) ∷ []
+    with_pivots-more k x = zip-more ([] ∷ ks) xs k x (omega (arith, fewer))
 
-  pub behind-pivots : (ks : List Key) (xs : List X) → length xs ≡ length ks + 1 → map (λ x. x.0) (drop 1 (behind ks xs)) ≡ ks
-  behind-pivots ks [] fewer = absurd (omega (arith, fewer))
-  behind-pivots ks (x ∷ xs) fewer = zip-keys ks xs (omega (arith, fewer))
+  pub with_pivots-pivots : (ks : List Key) (xs : List X) → length xs ≡ length ks + 1 → map (λ x. x.0) (drop 1 (with_pivots ks xs)) ≡ ks
+  with_pivots-pivots ks [] fewer = absurd (omega (arith, fewer))
+  with_pivots-pivots ks (x ∷ xs) fewer = zip-keys ks xs (omega (arith, fewer))
 
-  pub behind-led : (ks : List Key) (xs : List X) → length xs ≡ length ks + 1 → IsLed (behind ks xs)
-  behind-led ks [] fewer = absurd (omega (arith, fewer))
-  behind-led ks (x ∷ xs) fewer = refl
+  pub with_pivots-led : (ks : List Key) (xs : List X) → length xs ≡ length ks + 1 → IsLed (with_pivots ks xs)
+  with_pivots-led ks [] fewer = absurd (omega (arith, fewer))
+  with_pivots-led ks (x ∷ xs) fewer = refl
 
   -- behind another pivot
-  pub behind-first : (k : Key) (ks : List Key) (xs : List X) → zip (k ∷ ks) xs ≡ pivot_first k (behind ks xs)
-  behind-first k ks [] = refl
-  behind-first k ks (x ∷ xs) = refl
+  pub with_pivots-first : (k : Key) (ks : List Key) (xs : List X) → zip (k ∷ ks) xs ≡ pivot_first k (with_pivots ks xs)
+  with_pivots-first k ks [] = refl
+  with_pivots-first k ks (x ∷ xs) = refl
 
   -- the last of one is the first
-  pub behind-only : (ks : List Key) (xs rest : List X) (x : X) → xs ≡ rest ++ x ∷ [] → length xs ≡ 1 → behind ks xs ≡ ([], x) ∷ []
-  behind-only [] xs [] x is one = ap (behind []) is
-  behind-only (k ∷ ks) xs [] x is one = ap (behind (k ∷ ks)) is
-  behind-only ks xs (r ∷ rest) x is one = absurd (omega (arith, one, ap length is, length-append rest (x ∷ [])))
+  pub with_pivots-only : (ks : List Key) (xs rest : List X) (x : X) → xs ≡ rest ++ x ∷ [] → length xs ≡ 1 → with_pivots ks xs ≡ ([], x) ∷ []
+  with_pivots-only [] xs [] x is one = ap (with_pivots []) is
+  with_pivots-only (k ∷ ks) xs [] x is one = ap (with_pivots (k ∷ ks)) is
+  with_pivots-only ks xs (r ∷ rest) x is one = absurd (omega (arith, one, ap length is, length-append rest (x ∷ [])))
 
   pub same-pairs : (k : Key) (ks js : List Key) (xs ys : List X) → js ≡ ks → ys ≡ xs → zip (k ∷ js) ys ≡ zip (k ∷ ks) xs
   same-pairs k ks js xs ys e f = ap (λ ls. zip (k ∷ ls) ys) e ∙ ap (zip (k ∷ ks)) f
 
-  pub one-more : (ks js : List Key) (xs ys : List X) (k : Key) (x : X) → length xs ≡ length ks + 1 → js ≡ ks ++ k ∷ [] → ys ≡ xs ++ x ∷ [] → behind js ys ≡ behind ks xs ++ (k, x) ∷ []
-  one-more ks js xs ys k x fewer e f = ap (λ ls. behind ls ys) e ∙ ap (behind (ks ++ k ∷ [])) f ∙ behind-more ks xs fewer k x
+  pub one-more : (ks js : List Key) (xs ys : List X) (k : Key) (x : X) → length xs ≡ length ks + 1 → js ≡ ks ++ k ∷ [] → ys ≡ xs ++ x ∷ [] → with_pivots js ys ≡ with_pivots ks xs ++ (k, x) ∷ []
+  one-more ks js xs ys k x fewer e f = ap (λ ls. with_pivots ls ys) e ∙ ap (with_pivots (ks ++ k ∷ [])) f ∙ with_pivots-more ks xs fewer k x
 
 -- the children that are seen of an inner node
 pub children_seen : {V D : Type 0} (t n : Tree V (Message V D)) (k : NodeKind V D) (xs : Siblings V (Message V D)) (bins : List (Messages (Message V D))) →

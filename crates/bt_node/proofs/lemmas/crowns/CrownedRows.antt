@@ -4,7 +4,7 @@ use Rattle.std.specs.declared.option.Option.{Option}
 use Rattle.bt_keycode.specs.Keys.{Key}
 use Rattle.bt_messages.proofs.offered.Loads.{load-none}
 use Rattle.bt_node.specs.Trees.{Shape, Tree, Siblings}
-use Rattle.bt_node.specs.Flushes.{shared, none_pending, grouped, crowned, crown, holds, all_hold}
+use Rattle.bt_node.specs.Flushes.{shared, none_pending, grouped, crown_within, crown, holds, all_hold}
 use Rattle.bt_node.specs.Fits.{NodeFits, SiblingsFit, IsRoomy}
 use Rattle.bt_node.proofs.lemmas.crowns.Levels.{raised-shorter, shared-nothing}
 use Rattle.bt_node.proofs.lemmas.flushes.Regrouped.{grouped_fits, grouped_holds}
@@ -26,28 +26,28 @@ module _ {V M : Type 0} (weigh : Key × M → ℕ) (s : Shape) (roomy : IsRoomy 
   raised-fewer : (x y : Key × Tree V M) (xs : Siblings V M) → length (raised x y xs) < length (x ∷ y ∷ xs)
   raised-fewer x y xs = raised-shorter s (omega (arith, roomy.fanout)) (x ∷ y ∷ xs) (omega arith)
 
-  crowned-fits : (bound levels : ℕ) (low high : Option Key) (xs : Siblings V M) → SiblingsFit weigh s levels low high xs → length xs ≤ suc bound → (top : ℕ) × NodeFits weigh s top low high (crowned bound s xs)
-  crowned-fits bound levels low high [] fit few = absurd fit.led
-  crowned-fits bound levels low high (x ∷ []) fit few = (levels, record { lies = fit.lie; sized = fit.sized.0 })
-  crowned-fits zero levels low high (x ∷ y ∷ xs) fit few = absurd (omega arith)
-  crowned-fits (suc bound) levels low high (x ∷ y ∷ xs) fit few =
-      crowned-fits bound (suc levels) low high (raised x y xs) (raised-fit levels low high x y xs fit) (omega (arith, raised-fewer x y xs))
+  crown_within-fits : (bound levels : ℕ) (low high : Option Key) (xs : Siblings V M) → SiblingsFit weigh s levels low high xs → length xs ≤ suc bound → (top : ℕ) × NodeFits weigh s top low high (crown_within bound s xs)
+  crown_within-fits bound levels low high [] fit few = absurd fit.led
+  crown_within-fits bound levels low high (x ∷ []) fit few = (levels, record { lies = fit.lie; sized = fit.sized.0 })
+  crown_within-fits zero levels low high (x ∷ y ∷ xs) fit few = absurd (omega arith)
+  crown_within-fits (suc bound) levels low high (x ∷ y ∷ xs) fit few =
+      crown_within-fits bound (suc levels) low high (raised x y xs) (raised-fit levels low high x y xs fit) (omega (arith, raised-fewer x y xs))
 
   pub crown-fits : (levels : ℕ) (low high : Option Key) (xs : Siblings V M) → SiblingsFit weigh s levels low high xs → (top : ℕ) × NodeFits weigh s top low high (crown s xs)
-  crown-fits levels low high xs fit = crowned-fits (length xs) levels low high xs fit (omega arith)
+  crown-fits levels low high xs fit = crown_within-fits (length xs) levels low high xs fit (omega arith)
 
   module _ (effect : Option V → M → Option V) where
     raised-holds : (levels : ℕ) (low high : Option Key) (x y : Key × Tree V M) (xs : Siblings V M) → SiblingsFit weigh s levels low high (x ∷ y ∷ xs) → all_hold effect (raised x y xs) ≡ all_hold effect (x ∷ y ∷ xs)
     raised-holds levels low high x y xs fit =
         ap (all_hold effect) (raised-shared x y xs) ∙ grouped_holds weigh s roomy levels low high (x ∷ y ∷ xs) [] (omega arith) fit.lie tt tt effect
 
-    crowned-holds : (bound levels : ℕ) (low high : Option Key) (xs : Siblings V M) → SiblingsFit weigh s levels low high xs → length xs ≤ suc bound → holds effect (crowned bound s xs) ≡ all_hold effect xs
-    crowned-holds bound levels low high [] fit few = absurd fit.led
-    crowned-holds bound levels low high (x ∷ []) fit few = sym (append-nil (holds effect x.1))
-    crowned-holds zero levels low high (x ∷ y ∷ xs) fit few = absurd (omega arith)
-    crowned-holds (suc bound) levels low high (x ∷ y ∷ xs) fit few =
-        crowned-holds bound (suc levels) low high (raised x y xs) (raised-fit levels low high x y xs fit) (omega (arith, raised-fewer x y xs))
+    crown_within-holds : (bound levels : ℕ) (low high : Option Key) (xs : Siblings V M) → SiblingsFit weigh s levels low high xs → length xs ≤ suc bound → holds effect (crown_within bound s xs) ≡ all_hold effect xs
+    crown_within-holds bound levels low high [] fit few = absurd fit.led
+    crown_within-holds bound levels low high (x ∷ []) fit few = sym (append-nil (holds effect x.1))
+    crown_within-holds zero levels low high (x ∷ y ∷ xs) fit few = absurd (omega arith)
+    crown_within-holds (suc bound) levels low high (x ∷ y ∷ xs) fit few =
+        crown_within-holds bound (suc levels) low high (raised x y xs) (raised-fit levels low high x y xs fit) (omega (arith, raised-fewer x y xs))
         ∙ raised-holds levels low high x y xs fit
 
     pub crown-holds : (levels : ℕ) (low high : Option Key) (xs : Siblings V M) → SiblingsFit weigh s levels low high xs → holds effect (crown s xs) ≡ all_hold effect xs
-    crown-holds levels low high xs fit = crowned-holds (length xs) levels low high xs fit (omega arith)
+    crown-holds levels low high xs fit = crown_within-holds (length xs) levels low high xs fit (omega arith)

@@ -4,7 +4,7 @@ use Rattle.std.proofs.lemmas.List.{length-map}
 use Rattle.bt_keycode.specs.Keys.{Key}
 use Rattle.bt_node.specs.Deals.{deal}
 use Rattle.bt_node.specs.Trees.{Shape, Tree, Siblings}
-use Rattle.bt_node.specs.Flushes.{pivot_first, shared, none_pending, gathered, grouped, crowned, crown}
+use Rattle.bt_node.specs.Flushes.{pivot_first, shared, none_pending, gathered, grouped, crown_within, crown}
 use Rattle.bt_node.specs.Laws.{StandsAbove}
 use Rattle.bt_node.proofs.lemmas.deals.PartSizes.{fewer-parts}
 
@@ -31,21 +31,21 @@ module _ {V M : Type 0} where
         omega (arith, length-pivot_first [] (map gathered (deal s.fanout cs)), length-map (deal s.fanout cs) gathered, many, fewer-parts s.fanout cs two (omega (arith, many, several)))
 
     -- Any two bounds on the levels that the siblings can't exceed give the same: each level has fewer nodes than the one below it.
-    crowned-same : (h j : ℕ) (xs : Siblings V M) → length xs ≤ suc h → length xs ≤ suc j → crowned h s xs ≡ crowned j s xs
-    crowned-same h j [] l m = refl
-    crowned-same h j (x ∷ []) l m = refl
-    crowned-same zero j (x ∷ y ∷ xs) l m = absurd (omega (arith, l))
-    crowned-same (suc h) zero (x ∷ y ∷ xs) l m = absurd (omega (arith, m))
-    crowned-same (suc h) (suc j) (x ∷ y ∷ xs) l m =
+    crown_within-same : (h j : ℕ) (xs : Siblings V M) → length xs ≤ suc h → length xs ≤ suc j → crown_within h s xs ≡ crown_within j s xs
+    crown_within-same h j [] l m = refl
+    crown_within-same h j (x ∷ []) l m = refl
+    crown_within-same zero j (x ∷ y ∷ xs) l m = absurd (omega (arith, l))
+    crown_within-same (suc h) zero (x ∷ y ∷ xs) l m = absurd (omega (arith, m))
+    crown_within-same (suc h) (suc j) (x ∷ y ∷ xs) l m =
         let shorter = raised-shorter (x ∷ y ∷ xs) (omega arith) in
-        crowned-same h j (grouped s (none_pending (x ∷ y ∷ xs))) (omega (arith, shorter, l)) (omega (arith, shorter, m))
+        crown_within-same h j (grouped s (none_pending (x ∷ y ∷ xs))) (omega (arith, shorter, l)) (omega (arith, shorter, m))
 
     pub crown-again : (xs : Siblings V M) → 2 ≤ length xs → crown s xs ≡ crown s (grouped s (none_pending xs))
     crown-again [] several = absurd (omega arith)
     crown-again (x ∷ []) several = absurd (omega arith)
     crown-again (x ∷ y ∷ xs) several =
         let ys = grouped s (none_pending (x ∷ y ∷ xs)) in
-        crowned-same (suc (length xs)) (length ys) ys (omega (arith, raised-shorter (x ∷ y ∷ xs) several)) (omega arith)
+        crown_within-same (suc (length xs)) (length ys) ys (omega (arith, raised-shorter (x ∷ y ∷ xs) several)) (omega arith)
 
     pub stands_above : (xs : Siblings V M) (t : Tree V M) → t ≡ crown s xs → StandsAbove s xs t
     stands_above xs t is = record {

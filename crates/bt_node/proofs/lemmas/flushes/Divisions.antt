@@ -12,8 +12,8 @@ use Rattle.bt_node.specs.Fits.{SiblingsLie}
 use Rattle.bt_node.specs.Flushes.{Child, loads, shared}
 use Rattle.bt_node.specs.Messages.{Messages, before, from, load, with_messages}
 use Rattle.bt_node.specs.Trees.{Shape, Siblings, Tree, inner, nodes, pivots_of}
-use Rattle.bt_node.specs.Children.{AreDivided, beside}
-use Rattle.bt_node.specs.inside.Flushing.{AreReady, IsReady, loaded}
+use Rattle.bt_node.specs.Children.{AreDivided, with_pending}
+use Rattle.bt_node.specs.inside.Flushing.{AreReady, IsReady, with_shares}
 use Rattle.bt_node.specs.declared.form.mode.Mode.{Mode}
 use Rattle.bt_node.specs.declared.form.mode.Mode.TheVariants.{Absorb, Drain}
 use Rattle.bt_node.proofs.lemmas.flushes.Children.{ChildrenLie, all_pending}
@@ -43,39 +43,39 @@ each-long (n ∷ ns) ms (b ∷ bs) e = omega (arith, each-long ns (drop n ms) bs
 
 module _ {V M : Type 0} where
   -- a buffer that is divided at the pivots is pending for the children as it is shared
-  beside-parts : (xs : Siblings V M) (b : Messages M) → beside xs (parts (pivots_of xs) b) ≡ shared xs b
-  beside-parts [] b = refl
-  beside-parts (x ∷ []) b = refl
-  beside-parts (x ∷ y ∷ ys) b = ap (λ z. record { pivot = x.0; tree = x.1; pending = before y.0 b } ∷ z) (beside-parts (y ∷ ys) (from y.0 b))
+  with_pending-parts : (xs : Siblings V M) (b : Messages M) → with_pending xs (parts (pivots_of xs) b) ≡ shared xs b
+  with_pending-parts [] b = refl
+  with_pending-parts (x ∷ []) b = refl
+  with_pending-parts (x ∷ y ∷ ys) b = ap (λ z. record { pivot = x.0; tree = x.1; pending = before y.0 b } ∷ z) (with_pending-parts (y ∷ ys) (from y.0 b))
 
   -- bins between pivots are the shares of all their messages
-  pub beside-shared : (xs : Siblings V M) (bs : List (Messages M)) → LieBetween (pivots_of xs) bs → beside xs bs ≡ shared xs (concatenation bs)
-  beside-shared xs bs h = ap (beside xs) (sym (parts-concatenation (pivots_of xs) bs h)) ∙ beside-parts xs (concatenation bs)
+  pub with_pending-shared : (xs : Siblings V M) (bs : List (Messages M)) → LieBetween (pivots_of xs) bs → with_pending xs bs ≡ shared xs (concatenation bs)
+  with_pending-shared xs bs h = ap (with_pending xs) (sym (parts-concatenation (pivots_of xs) bs h)) ∙ with_pending-parts xs (concatenation bs)
 
-  loaded-beside : (xs : Siblings V M) (bs : List (Messages M)) (ns : List ℕ) (ms : Messages M) → loaded (beside xs bs) ns ms ≡ beside xs (each_with (parted ns ms) bs)
-  loaded-beside [] bs ns ms = refl
-  loaded-beside (x ∷ xs) [] [] ms = refl
-  loaded-beside (x ∷ xs) [] (n ∷ ns) ms = refl
-  loaded-beside (x ∷ xs) (b ∷ bs) [] ms = refl
-  loaded-beside (x ∷ xs) (b ∷ bs) (n ∷ ns) ms =
-      ap (λ z. record { pivot = x.0; tree = x.1; pending = with_messages (take n ms) b } ∷ z) (loaded-beside xs bs ns (drop n ms))
+  with_shares-with_pending : (xs : Siblings V M) (bs : List (Messages M)) (ns : List ℕ) (ms : Messages M) → with_shares (with_pending xs bs) ns ms ≡ with_pending xs (each_with (parted ns ms) bs)
+  with_shares-with_pending [] bs ns ms = refl
+  with_shares-with_pending (x ∷ xs) [] [] ms = refl
+  with_shares-with_pending (x ∷ xs) [] (n ∷ ns) ms = refl
+  with_shares-with_pending (x ∷ xs) (b ∷ bs) [] ms = refl
+  with_shares-with_pending (x ∷ xs) (b ∷ bs) (n ∷ ns) ms =
+      ap (λ z. record { pivot = x.0; tree = x.1; pending = with_messages (take n ms) b } ∷ z) (with_shares-with_pending xs bs ns (drop n ms))
 
   -- bins with the shares of a packet are the shares of all messages
-  pub loaded-shared : (xs : Siblings V M) (bs : List (Messages M)) (ns : List ℕ) (ms packet : Messages M) → LieBetween (pivots_of xs) bs →
-      parted ns ms ≡ parts (pivots_of xs) packet → loaded (beside xs bs) ns ms ≡ shared xs (with_messages packet (concatenation bs))
-  loaded-shared xs bs ns ms packet h sizes =
-      loaded-beside xs bs ns ms ∙ ap (λ ps. beside xs (each_with ps bs)) sizes
-      ∙ ap (beside xs) (added_is (pivots_of xs) packet bs h) ∙ beside-parts xs (with_messages packet (concatenation bs))
+  pub with_shares-shared : (xs : Siblings V M) (bs : List (Messages M)) (ns : List ℕ) (ms packet : Messages M) → LieBetween (pivots_of xs) bs →
+      parted ns ms ≡ parts (pivots_of xs) packet → with_shares (with_pending xs bs) ns ms ≡ shared xs (with_messages packet (concatenation bs))
+  with_shares-shared xs bs ns ms packet h sizes =
+      with_shares-with_pending xs bs ns ms ∙ ap (λ ps. with_pending xs (each_with ps bs)) sizes
+      ∙ ap (with_pending xs) (added_is (pivots_of xs) packet bs h) ∙ with_pending-parts xs (with_messages packet (concatenation bs))
 
-  pub stripped-beside : (xs : Siblings V M) (bs : List (Messages M)) → length bs ≡ length xs → stripped (beside xs bs) ≡ xs
-  stripped-beside [] bs e = refl
-  stripped-beside (x ∷ xs) [] e = absurd (omega (arith, e))
-  stripped-beside (x ∷ xs) (b ∷ bs) e = ap (λ z. x ∷ z) (stripped-beside xs bs (omega (arith, e)))
+  pub stripped-with_pending : (xs : Siblings V M) (bs : List (Messages M)) → length bs ≡ length xs → stripped (with_pending xs bs) ≡ xs
+  stripped-with_pending [] bs e = refl
+  stripped-with_pending (x ∷ xs) [] e = absurd (omega (arith, e))
+  stripped-with_pending (x ∷ xs) (b ∷ bs) e = ap (λ z. x ∷ z) (stripped-with_pending xs bs (omega (arith, e)))
 
-  pub length-beside : (xs : Siblings V M) (bs : List (Messages M)) → length bs ≡ length xs → length (beside xs bs) ≡ length xs
-  length-beside [] bs e = refl
-  length-beside (x ∷ xs) [] e = absurd (omega (arith, e))
-  length-beside (x ∷ xs) (b ∷ bs) e = omega (arith, length-beside xs bs (omega (arith, e)))
+  pub length-with_pending : (xs : Siblings V M) (bs : List (Messages M)) → length bs ≡ length xs → length (with_pending xs bs) ≡ length xs
+  length-with_pending [] bs e = refl
+  length-with_pending (x ∷ xs) [] e = absurd (omega (arith, e))
+  length-with_pending (x ∷ xs) (b ∷ bs) e = omega (arith, length-with_pending xs bs (omega (arith, e)))
 
   -- a bin for each of siblings
   pub bins-length : (xs : Siblings V M) (bs : List (Messages M)) → 1 ≤ length xs → LieBetween (pivots_of xs) bs → length bs ≡ length xs
@@ -84,11 +84,11 @@ module _ {V M : Type 0} where
 
   -- ---- loads
 
-  loads-beside : (weigh : Key × M → ℕ) (s : Shape) (xs : Siblings V M) (bs : List (Messages M)) → length bs ≡ length xs → loads weigh s (beside xs bs) ≡ map (load weigh s.measure) bs
-  loads-beside weigh s [] [] e = refl
-  loads-beside weigh s [] (b ∷ bs) e = absurd (omega (arith, e))
-  loads-beside weigh s (x ∷ xs) [] e = absurd (omega (arith, e))
-  loads-beside weigh s (x ∷ xs) (b ∷ bs) e = ap (λ ns. load weigh s.measure b ∷ ns) (loads-beside weigh s xs bs (omega (arith, e)))
+  loads-with_pending : (weigh : Key × M → ℕ) (s : Shape) (xs : Siblings V M) (bs : List (Messages M)) → length bs ≡ length xs → loads weigh s (with_pending xs bs) ≡ map (load weigh s.measure) bs
+  loads-with_pending weigh s [] [] e = refl
+  loads-with_pending weigh s [] (b ∷ bs) e = absurd (omega (arith, e))
+  loads-with_pending weigh s (x ∷ xs) [] e = absurd (omega (arith, e))
+  loads-with_pending weigh s (x ∷ xs) (b ∷ bs) e = ap (λ ns. load weigh s.measure b ∷ ns) (loads-with_pending weigh s xs bs (omega (arith, e)))
 
   -- a share for each of siblings
   pub shares-length : (xs : Siblings V M) (ns : List ℕ) (ms packet : Messages M) → 1 ≤ length xs → parted ns ms ≡ parts (pivots_of xs) packet → length ns ≡ length xs
@@ -107,32 +107,32 @@ module _ {V M : Type 0} where
   pub loads-are : (weigh : Key × M → ℕ) (s : Shape) (xs : Siblings V M) (bs : List (Messages M)) (ns : List ℕ) (ms packet : Messages M) → LieBetween (pivots_of xs) bs → parted ns ms ≡ parts (pivots_of xs) packet →
       length bs ≡ length xs → length ns ≡ length bs → map (load weigh s.measure) (each_with (parted ns ms) bs) ≡ loads weigh s (shared xs (with_messages packet (concatenation bs)))
   loads-are weigh s xs bs ns ms packet h sizes e few =
-      sym (loads-beside weigh s xs (each_with (parted ns ms) bs) (omega (arith, each-long ns ms bs few, e)))
-      ∙ ap (loads weigh s) (sym (loaded-beside xs bs ns ms) ∙ loaded-shared xs bs ns ms packet h sizes)
+      sym (loads-with_pending weigh s xs (each_with (parted ns ms) bs) (omega (arith, each-long ns ms bs few, e)))
+      ∙ ap (loads weigh s) (sym (with_shares-with_pending xs bs ns ms) ∙ with_shares-shared xs bs ns ms packet h sizes)
 
-  pub length-loaded : (cs : List (Child V M)) (ns : List ℕ) (ms : Messages M) → length ns ≡ length cs → length (loaded cs ns ms) ≡ length cs
-  length-loaded [] ns ms e = refl
-  length-loaded (c ∷ cs) [] ms e = absurd (omega (arith, e))
-  length-loaded (c ∷ cs) (n ∷ ns) ms e = omega (arith, length-loaded cs ns (drop n ms) (omega (arith, e)))
+  pub length-with_shares : (cs : List (Child V M)) (ns : List ℕ) (ms : Messages M) → length ns ≡ length cs → length (with_shares cs ns ms) ≡ length cs
+  length-with_shares [] ns ms e = refl
+  length-with_shares (c ∷ cs) [] ms e = absurd (omega (arith, e))
+  length-with_shares (c ∷ cs) (n ∷ ns) ms e = omega (arith, length-with_shares cs ns (drop n ms) (omega (arith, e)))
 
   -- ---- order
 
   -- siblings in their places are in order
-  beside-in_order : (levels : ℕ) (low high : Option Key) (xs : Siblings V M) (bs : List (Messages M)) → SiblingsLie levels low high xs → AreReady Absorb (beside xs bs)
-  beside-in_order levels low high [] bs p = tt
-  beside-in_order levels low high (x ∷ xs) [] p = tt
-  beside-in_order levels low high (x ∷ []) (b ∷ bs) p = ((levels, low, high, p), tt)
-  beside-in_order levels low high (x ∷ y ∷ ys) (b ∷ bs) p = ((levels, low, Some y.0, p.2), beside-in_order levels (Some y.0) high (y ∷ ys) bs p.3)
+  with_pending-in_order : (levels : ℕ) (low high : Option Key) (xs : Siblings V M) (bs : List (Messages M)) → SiblingsLie levels low high xs → AreReady Absorb (with_pending xs bs)
+  with_pending-in_order levels low high [] bs p = tt
+  with_pending-in_order levels low high (x ∷ xs) [] p = tt
+  with_pending-in_order levels low high (x ∷ []) (b ∷ bs) p = ((levels, low, high, p), tt)
+  with_pending-in_order levels low high (x ∷ y ∷ ys) (b ∷ bs) p = ((levels, low, Some y.0, p.2), with_pending-in_order levels (Some y.0) high (y ∷ ys) bs p.3)
 
-  beside-drained : (xs : Siblings V M) (bs : List (Messages M)) → AreReady Drain (beside xs bs)
-  beside-drained [] bs = tt
-  beside-drained (x ∷ xs) [] = tt
-  beside-drained (x ∷ xs) (b ∷ bs) = (tt, beside-drained xs bs)
+  with_pending-drained : (xs : Siblings V M) (bs : List (Messages M)) → AreReady Drain (with_pending xs bs)
+  with_pending-drained [] bs = tt
+  with_pending-drained (x ∷ xs) [] = tt
+  with_pending-drained (x ∷ xs) (b ∷ bs) = (tt, with_pending-drained xs bs)
 
   -- the children of a node that messages may enter
-  pub beside-ready : (mode : Mode) (t : Tree V M) (xs : Siblings V M) (buffer : Messages M) (bs : List (Messages M)) → t ≡ inner (nodes xs) buffer → IsReady mode t → AreReady mode (beside xs bs)
-  beside-ready Absorb t xs buffer bs here order = let side = siblings_widest t xs buffer here order in beside-in_order side.0 None None xs bs side.1
-  beside-ready Drain t xs buffer bs here order = beside-drained xs bs
+  pub with_pending-ready : (mode : Mode) (t : Tree V M) (xs : Siblings V M) (buffer : Messages M) (bs : List (Messages M)) → t ≡ inner (nodes xs) buffer → IsReady mode t → AreReady mode (with_pending xs bs)
+  with_pending-ready Absorb t xs buffer bs here order = let side = siblings_widest t xs buffer here order in with_pending-in_order side.0 None None xs bs side.1
+  with_pending-ready Drain t xs buffer bs here order = with_pending-drained xs bs
 
   -- ---- between the pivots
 
@@ -151,25 +151,25 @@ module _ {V M : Type 0} where
     divided-lie levels (Some d.pivot) high (d ∷ cs) p.3,
   )
 
-  pub pivots-beside : (xs : Siblings V M) (bs : List (Messages M)) → length bs ≡ length xs → map (λ c. c.pivot) (beside xs bs) ≡ map (λ x. x.0) xs
-  pivots-beside [] bs e = refl
-  pivots-beside (x ∷ xs) [] e = absurd (omega (arith, e))
-  pivots-beside (x ∷ xs) (b ∷ bs) e = ap (λ z. x.0 ∷ z) (pivots-beside xs bs (omega (arith, e)))
+  pub pivots-with_pending : (xs : Siblings V M) (bs : List (Messages M)) → length bs ≡ length xs → map (λ c. c.pivot) (with_pending xs bs) ≡ map (λ x. x.0) xs
+  pivots-with_pending [] bs e = refl
+  pivots-with_pending (x ∷ xs) [] e = absurd (omega (arith, e))
+  pivots-with_pending (x ∷ xs) (b ∷ bs) e = ap (λ z. x.0 ∷ z) (pivots-with_pending xs bs (omega (arith, e)))
 
-  pub pending-beside : (xs : Siblings V M) (bs : List (Messages M)) → length bs ≡ length xs → map (λ c. c.pending) (beside xs bs) ≡ bs
-  pending-beside [] [] e = refl
-  pending-beside [] (b ∷ bs) e = absurd (omega (arith, e))
-  pending-beside (x ∷ xs) [] e = absurd (omega (arith, e))
-  pending-beside (x ∷ xs) (b ∷ bs) e = ap (λ z. b ∷ z) (pending-beside xs bs (omega (arith, e)))
+  pub pending-with_pending : (xs : Siblings V M) (bs : List (Messages M)) → length bs ≡ length xs → map (λ c. c.pending) (with_pending xs bs) ≡ bs
+  pending-with_pending [] [] e = refl
+  pending-with_pending [] (b ∷ bs) e = absurd (omega (arith, e))
+  pending-with_pending (x ∷ xs) [] e = absurd (omega (arith, e))
+  pending-with_pending (x ∷ xs) (b ∷ bs) e = ap (λ z. b ∷ z) (pending-with_pending xs bs (omega (arith, e)))
 
   -- bins of siblings, as what is pending for children
-  pub divided-beside : (xs : Siblings V M) (bs : List (Messages M)) → LieBetween (pivots_of xs) bs → AreDivided (beside xs bs)
-  divided-beside [] bs h = tt
-  divided-beside (x ∷ xs) [] h = tt
-  divided-beside (x ∷ xs) (b ∷ bs) h =
+  pub divided-with_pending : (xs : Siblings V M) (bs : List (Messages M)) → LieBetween (pivots_of xs) bs → AreDivided (with_pending xs bs)
+  divided-with_pending [] bs h = tt
+  divided-with_pending (x ∷ xs) [] h = tt
+  divided-with_pending (x ∷ xs) (b ∷ bs) h =
       let same : length bs ≡ length xs = omega (arith, lie_length (pivots_of (x ∷ xs)) (b ∷ bs) h, length-map xs (λ (y : Key × Tree V M). y.0)) in
-      subst (λ ks. LieBetween ks (b ∷ map (λ c. c.pending) (beside xs bs))) (sym (pivots-beside xs bs same))
-      (subst (λ cs. LieBetween (map (λ y. y.0) xs) (b ∷ cs)) (sym (pending-beside xs bs same)) h)
+      subst (λ ks. LieBetween ks (b ∷ map (λ c. c.pending) (with_pending xs bs))) (sym (pivots-with_pending xs bs same))
+      (subst (λ cs. LieBetween (map (λ y. y.0) xs) (b ∷ cs)) (sym (pending-with_pending xs bs same)) h)
 
   first_from : (k : Key) (cs ds : List (Child V M)) → AllFrom k (concatenation (map (λ c. c.pending) (cs ++ ds))) → AllFrom k (concatenation (map (λ c. c.pending) cs))
   first_from k [] ds h = tt

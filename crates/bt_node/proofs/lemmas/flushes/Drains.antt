@@ -6,7 +6,7 @@ use Rattle.bt_node.specs.Messages.{Rows, Meaning, Messages, rows_after}
 use Rattle.bt_node.specs.Deals.{deal}
 use Rattle.bt_node.specs.declared.form.mode.Mode.TheVariants.{Drain}
 use Rattle.bt_node.specs.Trees.{Shape, Tree, leaf, inner, Siblings, nodes, height, height_below}
-use Rattle.bt_node.specs.Flushes.{Child, Flush, pivot_first, none_pending, flushed, flush_at, gathered, grouped, leaves, crowned, crown}
+use Rattle.bt_node.specs.Flushes.{Child, Flush, pivot_first, none_pending, flushed, flush_at, gathered, grouped, leaves, crown_within, crown}
 use Rattle.bt_node.specs.Drains.{drain, IsDry, AreDry}
 use Rattle.bt_node.proofs.lemmas.deals.Parts.{joined, joined-deal}
 use Rattle.bt_node.proofs.lemmas.flushes.Children.{all_pending}
@@ -80,15 +80,15 @@ module _ {V M : Type 0} where
       (dry-none_pending (pivot_first c.pivot (f c.tree c.pending)) (dry-pivot_first c.pivot (f c.tree c.pending) (dry c.tree c.pending l.0)))
       (dry-flushed most f dry cs l.1)
 
-  crowned-dry : (bound : ℕ) (s : Shape) (xs : Siblings V M) → AreDry (nodes xs) → IsDry (crowned bound s xs)
-  crowned-dry bound s [] d = tt
-  crowned-dry bound s (x ∷ []) d = d.0
-  crowned-dry zero s (x ∷ y ∷ xs) d = d.0
-  crowned-dry (suc bound) s (x ∷ y ∷ xs) d = crowned-dry bound s (grouped s (none_pending (x ∷ y ∷ xs))) (dry-grouped s (none_pending (x ∷ y ∷ xs)) (dry-none_pending (x ∷ y ∷ xs) d))
+  crown_within-dry : (bound : ℕ) (s : Shape) (xs : Siblings V M) → AreDry (nodes xs) → IsDry (crown_within bound s xs)
+  crown_within-dry bound s [] d = tt
+  crown_within-dry bound s (x ∷ []) d = d.0
+  crown_within-dry zero s (x ∷ y ∷ xs) d = d.0
+  crown_within-dry (suc bound) s (x ∷ y ∷ xs) d = crown_within-dry bound s (grouped s (none_pending (x ∷ y ∷ xs))) (dry-grouped s (none_pending (x ∷ y ∷ xs)) (dry-none_pending (x ∷ y ∷ xs) d))
 
   -- one node above siblings in which nothing is pending
   pub crown-dry : (s : Shape) (xs : Siblings V M) → AreDry (nodes xs) → IsDry (crown s xs)
-  crown-dry s xs d = crowned-dry (length xs) s xs d
+  crown-dry s xs d = crown_within-dry (length xs) s xs d
 
 module _ {V M : Type 0} (meaning : Meaning V M) (s : Shape) where
   flush_at-dry : (h : ℕ) (t : Tree V M) (p : Messages M) → height t ≤ h → AreDry (nodes (flush_at meaning Drain h s t p))

@@ -11,7 +11,7 @@ use Rattle.bt_node.specs.Fits.{IsLed, Lies, IsSized, NodeFits, IsRoomy}
 use Rattle.bt_keycode.proofs.offered.Order.{from_earlier}
 use Rattle.bt_node.proofs.lemmas.keys.SortedLists.{sorted-where}
 use Rattle.bt_node.proofs.lemmas.deals.PartSizes.{deal-one}
-use Rattle.bt_node.proofs.lemmas.plans.Capacity.{settled-still}
+use Rattle.bt_node.proofs.lemmas.plans.Capacity.{after_turns-still}
 use Rattle.bt_node.proofs.lemmas.flushes.Children.{all_pending}
 use Rattle.bt_node.proofs.lemmas.flushes.Groups.{some_length, led-full, stripped, as_leaf, nodes-children}
 use Rattle.bt_node.proofs.lemmas.flushes.Passes.{flushed-light}
@@ -78,7 +78,7 @@ module _ {V M : Type 0} where
   still-here weigh s ns b l r some few fits flush =
       let cs = shared (children ns) b in
       let pending : total (loads weigh s cs) ≤ s.buffer = omega (arith, total-loads weigh s cs, ap (load weigh s.measure) (all_pending-shared (children ns) b (some_length (children ns) (led-full (children ns) l)) r), fits) in
-      ap (grouped s) (settled-still (pending_load weigh s) (flushed flush) (flushed-light weigh s flush) s.buffer (total (loads weigh s cs)) cs pending)
+      ap (grouped s) (after_turns-still (pending_load weigh s) (flushed flush) (flushed-light weigh s flush) s.buffer (total (loads weigh s cs)) cs pending)
       ∙ grouped-shared s (children ns) b l r some few ∙ ap (λ ms. ([], inner ms b) ∷ []) (nodes-children ns)
 
 module _ {V M : Type 0} (meaning : Meaning V M) (s : Shape) (roomy : IsRoomy s) where

@@ -11,8 +11,8 @@ use Rattle.bt_node.specs.Trees.{Shape, Tree, Siblings}
 use Rattle.bt_node.specs.Flushes.{loads, pending_load, flushed, flush_in, absorb, leaves, all_hold}
 use Rattle.bt_node.specs.Fits.{SiblingsLie, SiblingsFit, AreHigh, IsRoomy}
 use Rattle.bt_node.specs.Laws.{FlushesInTurn, ChosenArePlanned, FitThere, KeepHeight, StayWithoutPacket, HoldRowsAfter, ComeByOneRule}
-use Rattle.bt_node.proofs.lemmas.plans.OnePass.{replaced-planned}
-use Rattle.bt_node.proofs.lemmas.plans.Capacity.{settled-on, settled-still}
+use Rattle.bt_node.proofs.lemmas.plans.OnePass.{opened_items-planned}
+use Rattle.bt_node.proofs.lemmas.plans.Capacity.{after_turns-on, after_turns-still}
 use Rattle.bt_node.proofs.lemmas.rows.RowsAfter.{rows-lie}
 use Rattle.bt_node.proofs.lemmas.flushes.Passes.{flushed-light}
 use Rattle.bt_node.proofs.lemmas.flushes.Groups.{leaves-led, leaves-lie}
@@ -23,12 +23,12 @@ use Rattle.bt_node.proofs.lemmas.flushes.Recursion.{flush_recurs}
 
 pub flushes_in_turn : {V M : Type 0} (weigh : Key × M → ℕ) → FlushesInTurn V weigh
 flushes_in_turn weigh = record {
-  within = λ s f cs few. settled-still (pending_load weigh s) (flushed f) (flushed-light weigh s f) s.buffer (total (loads weigh s cs)) cs few;
-  over = λ s f cs many. settled-on (pending_load weigh s) (flushed f) (flushed-light weigh s f) s.buffer (total (loads weigh s cs)) cs many (le_refl (total (loads weigh s cs)));
+  within = λ s f cs few. after_turns-still (pending_load weigh s) (flushed f) (flushed-light weigh s f) s.buffer (total (loads weigh s cs)) cs few;
+  over = λ s f cs many. after_turns-on (pending_load weigh s) (flushed f) (flushed-light weigh s f) s.buffer (total (loads weigh s cs)) cs many (le_refl (total (loads weigh s cs)));
 }
 
 pub chosen_are_planned : {V M : Type 0} (weigh : Key × M → ℕ) → ChosenArePlanned V weigh
-chosen_are_planned weigh s f cs = replaced-planned (pending_load weigh s) (flushed f) (flushed-light weigh s f) s.buffer (total (loads weigh s cs)) cs (le_refl (total (loads weigh s cs)))
+chosen_are_planned weigh s f cs = opened_items-planned (pending_load weigh s) (flushed f) (flushed-light weigh s f) s.buffer (total (loads weigh s cs)) cs (le_refl (total (loads weigh s cs)))
 
 pub high-siblings : {V M : Type 0} (levels : ℕ) (low high : Option Key) (xs : Siblings V M) → SiblingsLie levels low high xs → AreHigh (suc levels) xs
 high-siblings levels low high [] b = tt

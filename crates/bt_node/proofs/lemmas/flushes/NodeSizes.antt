@@ -9,13 +9,13 @@ use Rattle.bt_node.specs.Deals.{deal}
 use Rattle.bt_node.specs.Plans.{total}
 use Rattle.bt_node.specs.declared.form.mode.Mode.{Mode}
 use Rattle.bt_node.specs.declared.form.mode.Mode.TheVariants.{Absorb, Drain}
-use Rattle.bt_node.specs.Passes.{passed}
+use Rattle.bt_node.specs.Passes.{after_pass}
 use Rattle.bt_node.specs.Trees.{Shape, Tree, leaf, inner, Nodes, none, node, Siblings, children, nodes}
 use Rattle.bt_node.specs.Flushes.{Child, Flush, pivot_first, loads, pending_load, shared, flushed, flushed_in, flush_at, flush_in, gathered, grouped, leaves, none_pending}
 use Rattle.bt_node.specs.Fits.{Lies, IsSized, AreSized}
 use Rattle.bt_node.proofs.lemmas.deals.Parts.{joined, joined-deal}
 use Rattle.bt_node.proofs.lemmas.deals.PartSizes.{Each, sizes-at_most, sizes-two, lengths-deal}
-use Rattle.bt_node.proofs.lemmas.plans.Capacity.{settled-fits}
+use Rattle.bt_node.proofs.lemmas.plans.Capacity.{after_turns-fits}
 use Rattle.bt_node.proofs.lemmas.plans.OnePass.{names}
 use Rattle.bt_node.proofs.lemmas.flushes.Children.{ChildLies, ChildrenLie, all_pending}
 use Rattle.bt_node.proofs.lemmas.flushes.Drains.{all_pending-flushed}
@@ -125,7 +125,7 @@ total-loads weigh s (c ∷ cs) = omega (arith, load-append weigh s.measure c.pen
 pub flushed-fits : {V M : Type 0} (weigh : Key × M → ℕ) (s : Shape) (mode : Mode) (f : Flush V M) (cs : List (Child V M)) → load weigh s.measure (all_pending (flushed_in weigh s mode f cs)) ≤ s.buffer
 flushed-fits weigh s Absorb f cs = omega (
   arith,
-  settled-fits (pending_load weigh s) (flushed f) (flushed-light weigh s f) s.buffer (total (loads weigh s cs)) cs (le_refl (total (loads weigh s cs))),
+  after_turns-fits (pending_load weigh s) (flushed f) (flushed-light weigh s f) s.buffer (total (loads weigh s cs)) cs (le_refl (total (loads weigh s cs))),
   total-loads weigh s (flushed_in weigh s Absorb f cs),
 )
 flushed-fits weigh s Drain f cs = omega (arith, ap (load weigh s.measure) (all_pending-flushed f cs), load-none weigh s.measure)
@@ -141,7 +141,7 @@ module _ {V M : Type 0} (effect : Option V → M → Option V) (weigh : Key × M
   block c = cond c.1 (flushed f c.0) (c.0 ∷ [])
 
   abbrev pass : List (Child V M × Bool) → List (Child V M)
-  pass = passed (flushed f)
+  pass = after_pass (flushed f)
 
   block-sized : (low high : Option Key) (c : Child V M × Bool) → ChildLies levels low high c.0 → IsSized weigh s c.0.tree → ChildrenSized weigh s (block c)
   block-sized low high (c, true) l z =

@@ -12,14 +12,14 @@ use Rattle.bt_node.specs.Plans.{total, planned}
 use Rattle.bt_node.specs.Marks.{flush_marks}
 use Rattle.bt_node.specs.declared.form.mode.Mode.{Mode}
 use Rattle.bt_node.specs.declared.form.mode.Mode.TheVariants.{Absorb, Drain}
-use Rattle.bt_node.specs.Passes.{passed, IsLight}
+use Rattle.bt_node.specs.Passes.{IsLight, after_pass}
 use Rattle.bt_node.specs.Trees.{Shape, Tree, Siblings}
 use Rattle.bt_node.specs.Flushes.{Child, Flush, pivot_first, loads, none_pending, pending_load, flushed, flushed_in, holds, all_hold}
 use Rattle.bt_node.specs.Fits.{IsLed, Lies, SiblingsLie}
 use Rattle.bt_node.proofs.lemmas.keys.SideBySide.{Begins, blocks-lie, blocks-long, led-side, side-map, side-mapped, side-weaken}
 use Rattle.bt_node.proofs.lemmas.rows.Values.{find-append, or_else, or_else-None}
 use Rattle.bt_node.proofs.lemmas.plans.Marks.{length-flush_marks, marked-words, names-zip}
-use Rattle.bt_node.proofs.lemmas.plans.OnePass.{names, settled-planned}
+use Rattle.bt_node.proofs.lemmas.plans.OnePass.{after_turns-planned, names}
 use Rattle.bt_node.proofs.lemmas.flushes.Children.{ChildLies, ChildrenLie, seen, seen_in, seen-append}
 use Rattle.bt_node.proofs.lemmas.flushes.Groups.{all-pivot_first}
 
@@ -64,31 +64,31 @@ module _ {V M : Type 0} (effect : Option V → M → Option V) (levels : ℕ) (f
   seen-block q low high (c, false) g = or_else-None (seen effect q c)
 
   abbrev pass : List (Child V M × Bool) → List (Child V M)
-  pass = passed (flushed f)
+  pass = after_pass (flushed f)
 
   -- marked children in their places
   marked-lie : (low high : Option Key) (ss : List (Child V M × Bool)) → ChildrenLie levels low high (names ss) → SideBySide (λ s. s.0.pivot) (λ l h s. ChildLies levels l h s.0) low high ss
   marked-lie low high ss p = side-mapped (λ s. s.0) (λ c. c.pivot) (ChildLies levels) low high ss p
 
-  pub passed-lie : (low high : Option Key) (ss : List (Child V M × Bool)) → ChildrenLie levels low high (names ss) → ChildrenLie levels low high (pass ss)
-  passed-lie low high ss p =
+  pub after_pass-lie : (low high : Option Key) (ss : List (Child V M × Bool)) → ChildrenLie levels low high (names ss) → ChildrenLie levels low high (pass ss)
+  after_pass-lie low high ss p =
       blocks-lie (λ s. s.0.pivot) (λ l h s. ChildLies levels l h s.0) (λ c. c.pivot) (ChildLies levels) block block-lies low high ss (marked-lie low high ss p)
 
   -- no child becomes none
-  pub passed-long : (low high : Option Key) (ss : List (Child V M × Bool)) → ChildrenLie levels low high (names ss) → length (names ss) ≤ length (pass ss)
-  passed-long low high ss p = omega (
+  pub after_pass-long : (low high : Option Key) (ss : List (Child V M × Bool)) → ChildrenLie levels low high (names ss) → length (names ss) ≤ length (pass ss)
+  after_pass-long low high ss p = omega (
     arith,
     length-map ss (λ (s : Child V M × Bool). s.0),
     blocks-long (λ s. s.0.pivot) (λ l h s. ChildLies levels l h s.0) (λ c. c.pivot) (ChildLies levels) block block-lies low high ss (marked-lie low high ss p),
   )
 
-  pub seen-passed : (q : Key) (low high : Option Key) (ss : List (Child V M × Bool)) → ChildrenLie levels low high (names ss) → seen_in effect q (pass ss) ≡ seen_in effect q (names ss)
-  seen-passed q low high [] p = refl
-  seen-passed q low high (s ∷ []) p = ap (seen_in effect q) (append-nil (block s)) ∙ seen-block q low high s p ∙ sym (or_else-None (seen effect q s.0))
-  seen-passed q low high (s ∷ t ∷ ss) p =
+  pub seen-after_pass : (q : Key) (low high : Option Key) (ss : List (Child V M × Bool)) → ChildrenLie levels low high (names ss) → seen_in effect q (pass ss) ≡ seen_in effect q (names ss)
+  seen-after_pass q low high [] p = refl
+  seen-after_pass q low high (s ∷ []) p = ap (seen_in effect q) (append-nil (block s)) ∙ seen-block q low high s p ∙ sym (or_else-None (seen effect q s.0))
+  seen-after_pass q low high (s ∷ t ∷ ss) p =
       seen-append effect q (block s) (pass (t ∷ ss))
       ∙ ap (λ z. or_else z (seen_in effect q (pass (t ∷ ss)))) (seen-block q low (Some t.0.pivot) s p.2)
-      ∙ ap (or_else (seen effect q s.0)) (seen-passed q (Some t.0.pivot) high (t ∷ ss) p.3)
+      ∙ ap (or_else (seen effect q s.0)) (seen-after_pass q (Some t.0.pivot) high (t ∷ ss) p.3)
 
 -- ---- the pass that the marks say
 
@@ -105,13 +105,13 @@ module _ {V M : Type 0} (weigh : Key × M → ℕ) (s : Shape) where
   slots mode cs = zip cs (flush_marks mode s.buffer (loads weigh s cs))
 
   -- the marked ones are those that are flushed
-  pub flushed-slots : (mode : Mode) (f : Flush V M) (cs : List (Child V M)) → flushed_in weigh s mode f cs ≡ passed (flushed f) (slots mode cs)
+  pub flushed-slots : (mode : Mode) (f : Flush V M) (cs : List (Child V M)) → flushed_in weigh s mode f cs ≡ after_pass (flushed f) (slots mode cs)
   flushed-slots Absorb f cs =
-      settled-planned (pending_load weigh s) (flushed f) (flushed-light f) s.buffer (total (loads weigh s cs)) cs (le_refl (total (loads weigh s cs)))
-      ∙ ap (passed (flushed f)) (marked-words (pending_load weigh s) (planned (loads weigh s cs) s.buffer) cs)
+      after_turns-planned (pending_load weigh s) (flushed f) (flushed-light f) s.buffer (total (loads weigh s cs)) cs (le_refl (total (loads weigh s cs)))
+      ∙ ap (after_pass (flushed f)) (marked-words (pending_load weigh s) (planned (loads weigh s cs) s.buffer) cs)
   flushed-slots Drain f cs = each cs
     where
-      each : (cs : List (Child V M)) → flat_map (flushed f) cs ≡ passed (flushed f) (zip cs (map (λ n. true) (loads weigh s cs)))
+      each : (cs : List (Child V M)) → flat_map (flushed f) cs ≡ after_pass (flushed f) (zip cs (map (λ n. true) (loads weigh s cs)))
       each [] = refl
       each (c ∷ cs) = ap (λ z. flushed f c ++ z) (each cs)
 

@@ -3,7 +3,7 @@ use Rattle.std.proofs.Common.{◌≡◌, ℕ, zero, suc, ◌<◌, ◌≤◌, Boo
 use Rattle.bt_keycode.specs.Keys.{Key}
 use Rattle.bt_node.specs.Messages.{Meaning, Messages, from, with_messages}
 use Rattle.bt_node.specs.declared.form.mode.Mode.{Mode}
-use Rattle.bt_node.specs.Passes.{passed}
+use Rattle.bt_node.specs.Passes.{after_pass}
 use Rattle.bt_node.specs.Trees.{Shape, Tree, leaf, inner, Nodes, none, node, children, height, height_below}
 use Rattle.bt_node.specs.Fits.{IsLed}
 use Rattle.bt_node.specs.Flushes.{Child, Flush, pivot_first, shared, flushed, flushed_in, flush_at, flush_in, gathered, grouped, none_pending}
@@ -28,7 +28,7 @@ module _ {V M : Type 0} (most : ℕ) (f g : Flush V M) (agree : (t : Tree V M) (
   block-same (c, false) l = refl
 
   abbrev pass : Flush V M → List (Child V M × Bool) → List (Child V M)
-  pass h = passed (flushed h)
+  pass h = after_pass (flushed h)
 
   pass-same : (ss : List (Child V M × Bool)) → AreWithin most (names ss) → pass f ss ≡ pass g ss
   pass-same [] l = refl

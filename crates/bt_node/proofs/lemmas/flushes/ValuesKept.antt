@@ -19,7 +19,7 @@ use Rattle.bt_node.proofs.lemmas.lookups.Outside.{nodes_hold-children}
 use Rattle.bt_node.proofs.lemmas.flushes.Children.{ChildrenLie, all_pending, seen_in, value-below-seen}
 use Rattle.bt_node.proofs.lemmas.flushes.Shares.{length-shared, value-shared, below-shared, shared-lie}
 use Rattle.bt_node.proofs.lemmas.flushes.Groups.{some-of, some_length, led-map, led-full, leaves-lie, leaves-led, leaves-hold, grouped-lie, find-grouped}
-use Rattle.bt_node.proofs.lemmas.flushes.Passes.{Kept, Keeps, slots, flushed-slots, names-slots, passed-lie, passed-long, seen-passed}
+use Rattle.bt_node.proofs.lemmas.flushes.Passes.{Kept, Keeps, slots, flushed-slots, names-slots, after_pass-lie, after_pass-long, seen-after_pass}
 
 -- what a list of children becomes
 pub record Grouped {V M : Type 0} (effect : Option V → M → Option V) (levels : ℕ) (s : Shape) (low high : Option Key) (cs : List (Child V M)) : Type 0 where
@@ -73,13 +73,13 @@ module _ {V M : Type 0} (meaning : Meaning V M) (s : Shape) (leaf_some : 0 < s.l
     slots-lie = subst (ChildrenLie levels low high) (sym (names-slots meaning.weigh s mode (start ns b p))) (start-lies levels low high ns b p takes.lies takes.within)
 
     end-lies : ChildrenLie levels low high end
-    end-lies = subst (ChildrenLie levels low high) (sym (flushed-slots meaning.weigh s mode f (start ns b p))) (passed-lie meaning.effect levels f takes.keeps low high _ slots-lie)
+    end-lies = subst (ChildrenLie levels low high) (sym (flushed-slots meaning.weigh s mode f (start ns b p))) (after_pass-lie meaning.effect levels f takes.keeps low high _ slots-lie)
 
     -- they are no fewer
     pub end-long : length (children ns) ≤ length end
     end-long = omega (
       arith,
-      passed-long meaning.effect levels f takes.keeps low high _ slots-lie,
+      after_pass-long meaning.effect levels f takes.keeps low high _ slots-lie,
       ap length (names-slots meaning.weigh s mode (start ns b p)),
       ap length (flushed-slots meaning.weigh s mode f (start ns b p)),
       length-shared (children ns) (with_messages p b),
@@ -88,7 +88,7 @@ module _ {V M : Type 0} (meaning : Meaning V M) (s : Shape) (leaf_some : 0 < s.l
     seen-end : (q : Key) → seen_in meaning.effect q end ≡ seen_in meaning.effect q (start ns b p)
     seen-end q =
         ap (seen_in meaning.effect q) (flushed-slots meaning.weigh s mode f (start ns b p))
-        ∙ seen-passed meaning.effect levels f takes.keeps q low high _ slots-lie
+        ∙ seen-after_pass meaning.effect levels f takes.keeps q low high _ slots-lie
         ∙ ap (seen_in meaning.effect q) (names-slots meaning.weigh s mode (start ns b p))
 
     found : (q : Key) → seen_in meaning.effect q end ≡ value_after meaning.effect q p (find key_cmp q (holds meaning.effect (inner ns b)))

@@ -2,10 +2,10 @@
 use Rattle.std.proofs.Common.{◌≡◌, ℕ, zero, suc, ◌+◌, ◌<◌, ◌≤◌, true, false, cond, eqb, List, [], ◌∷◌, map, refl, sym, subst, ◌∙◌, arith, inl, inr, le_refl}
 use Rattle.std.proofs.lemmas.Bool.{le-leb, lt-leb, cond-true, cond-false, eqb-true, eqb-false}
 use Rattle.bt_node.specs.Plans.{total, most, place_of, fullest}
-use Rattle.bt_node.specs.Loops.{opened_at, settled}
+use Rattle.bt_node.specs.Loops.{after_turns, opened_at}
 use Rattle.bt_node.specs.Passes.{IsLight}
 use Rattle.bt_node.proofs.lemmas.plans.RenewedChoice.{le_or_lt, nothing}
-use Rattle.bt_node.proofs.lemmas.plans.OnePass.{settled-planned, total-light}
+use Rattle.bt_node.proofs.lemmas.plans.OnePass.{after_turns-planned, total-light}
 
 module _ {X : Type 0} (weight : X → ℕ) (parts : X → List X) (light : (x : X) → IsLight weight (parts x)) where
   total-opened : (m : ℕ) (xs : List X) → m ≤ most (map weight xs) → 0 < m → most (map weight xs) ≤ m → total (map weight (opened_at weight parts (place_of m (map weight xs)) xs)) + m ≡ total (map weight xs)
@@ -27,31 +27,31 @@ module _ {X : Type 0} (weight : X → ℕ) (parts : X → List X) (light : (x : 
       omega (arith, total-opened (most ns) xs (omega arith) some (omega arith))
 
   -- in the end no more than capacity is left
-  pub settled-fits : (capacity turns : ℕ) (xs : List X) → total (map weight xs) ≤ turns → total (map weight (settled weight parts capacity turns xs)) ≤ capacity
-  settled-fits capacity zero xs l = omega (arith, l)
-  settled-fits capacity (suc turns) xs l = elim (le_or_lt (total (map weight xs)) capacity) [
+  pub after_turns-fits : (capacity turns : ℕ) (xs : List X) → total (map weight xs) ≤ turns → total (map weight (after_turns weight parts capacity turns xs)) ≤ capacity
+  after_turns-fits capacity zero xs l = omega (arith, l)
+  after_turns-fits capacity (suc turns) xs l = elim (le_or_lt (total (map weight xs)) capacity) [
     | inl fits ↦ subst (λ ys. total (map weight ys) ≤ capacity) (sym (cond-true _ _ _ (le-leb _ capacity fits))) fits
     | inr over ↦
         subst (λ ys. total (map weight ys) ≤ capacity) (sym (cond-false _ _ _ (lt-leb (total (map weight xs)) capacity over)))
-        (settled-fits capacity turns (opened_at weight parts (fullest (map weight xs)) xs) (omega (arith, opened-less capacity xs over)))
+        (after_turns-fits capacity turns (opened_at weight parts (fullest (map weight xs)) xs) (omega (arith, opened-less capacity xs over)))
   ]
 
   -- what is within capacity stays as it is
-  pub settled-still : (capacity turns : ℕ) (xs : List X) → total (map weight xs) ≤ capacity → settled weight parts capacity turns xs ≡ xs
-  settled-still capacity zero xs fits = refl
-  settled-still capacity (suc turns) xs fits = cond-true _ _ _ (le-leb _ capacity fits)
+  pub after_turns-still : (capacity turns : ℕ) (xs : List X) → total (map weight xs) ≤ capacity → after_turns weight parts capacity turns xs ≡ xs
+  after_turns-still capacity zero xs fits = refl
+  after_turns-still capacity (suc turns) xs fits = cond-true _ _ _ (le-leb _ capacity fits)
 
   -- any two bounds on the turns that the weights don't exceed give the same
-  settled-same : (capacity turns more : ℕ) (xs : List X) → total (map weight xs) ≤ turns → total (map weight xs) ≤ more →
-      settled weight parts capacity turns xs ≡ settled weight parts capacity more xs
-  settled-same capacity turns more xs l m = settled-planned weight parts light capacity turns xs l ∙ sym (settled-planned weight parts light capacity more xs m)
+  after_turns-same : (capacity turns more : ℕ) (xs : List X) → total (map weight xs) ≤ turns → total (map weight xs) ≤ more →
+      after_turns weight parts capacity turns xs ≡ after_turns weight parts capacity more xs
+  after_turns-same capacity turns more xs l m = after_turns-planned weight parts light capacity turns xs l ∙ sym (after_turns-planned weight parts light capacity more xs m)
 
   -- what is over capacity goes on from the list with the heaviest replaced, as if the loop began there
-  pub settled-on : (capacity turns : ℕ) (xs : List X) → capacity < total (map weight xs) → total (map weight xs) ≤ turns →
+  pub after_turns-on : (capacity turns : ℕ) (xs : List X) → capacity < total (map weight xs) → total (map weight xs) ≤ turns →
       let ys = opened_at weight parts (fullest (map weight xs)) xs in
-      settled weight parts capacity turns xs ≡ settled weight parts capacity (total (map weight ys)) ys
-  settled-on capacity zero xs over l = absurd (omega (arith, over, l))
-  settled-on capacity (suc turns) xs over l =
+      after_turns weight parts capacity turns xs ≡ after_turns weight parts capacity (total (map weight ys)) ys
+  after_turns-on capacity zero xs over l = absurd (omega (arith, over, l))
+  after_turns-on capacity (suc turns) xs over l =
       let ys = opened_at weight parts (fullest (map weight xs)) xs in
       cond-false _ _ _ (lt-leb (total (map weight xs)) capacity over)
-      ∙ settled-same capacity turns (total (map weight ys)) ys (omega (arith, opened-less capacity xs over, l)) (le_refl (total (map weight ys)))
+      ∙ after_turns-same capacity turns (total (map weight ys)) ys (omega (arith, opened-less capacity xs over, l)) (le_refl (total (map weight ys)))

@@ -2,8 +2,8 @@
 use Rattle.std.proofs.Common.{◌≡◌, ℕ, zero, suc, ◌<◌, ◌≤◌, Bool, true, false, cond, eqb, List, [], ◌∷◌, ◌++◌, set, map, take, drop, refl, sym, ap, ◌∙◌, arith, inl, inr, ne_eqb}
 use Rattle.std.proofs.lemmas.Bool.{le-leb, lt-leb, cond-true, cond-false}
 use Rattle.bt_node.specs.Plans.{total, most, place_of, fullest, planned, renewed}
-use Rattle.bt_node.specs.Loops.{opened_at, settled, replaced, items_at}
-use Rattle.bt_node.specs.Passes.{passed, IsLight, marked, marked_all, unmarked}
+use Rattle.bt_node.specs.Loops.{opened_at, after_turns, opened_items, items_at}
+use Rattle.bt_node.specs.Passes.{IsLight, after_pass, marked, marked_all, unmarked}
 use Rattle.bt_node.proofs.lemmas.plans.RenewedChoice.{le_or_lt, nothing, renewed-planned}
 
 -- the items without their marks
@@ -39,27 +39,27 @@ module _ {X : Type 0} (weight : X → ℕ) (parts : X → List X) (light : (x : 
   opened-light m [] ys l h = refl
   opened-light m (x ∷ xs) ys l h = ap (λ i. opened_at weight parts i (x ∷ xs ++ ys)) (skips m x (xs ++ ys) l h.0) ∙ ap (λ z. x ∷ z) (opened-light m xs ys l h.1)
 
-  total-passed : (ss : List (X × Bool)) → total (map weight (passed parts ss)) ≡ total (map left ss)
-  total-passed [] = refl
-  total-passed ((x, true) ∷ ss) = omega (arith, total-light (parts x) (passed parts ss) (light x), total-passed ss)
-  total-passed ((x, false) ∷ ss) = omega (arith, total-passed ss)
+  total-after_pass : (ss : List (X × Bool)) → total (map weight (after_pass parts ss)) ≡ total (map left ss)
+  total-after_pass [] = refl
+  total-after_pass ((x, true) ∷ ss) = omega (arith, total-light (parts x) (after_pass parts ss) (light x), total-after_pass ss)
+  total-after_pass ((x, false) ∷ ss) = omega (arith, total-after_pass ss)
 
-  most-passed : (ss : List (X × Bool)) → most (map weight (passed parts ss)) ≡ most (map left ss)
-  most-passed [] = refl
-  most-passed ((x, true) ∷ ss) = omega (arith, most-light (parts x) (passed parts ss) (light x), most-passed ss)
-  most-passed ((x, false) ∷ ss) = omega (arith, most-passed ss)
+  most-after_pass : (ss : List (X × Bool)) → most (map weight (after_pass parts ss)) ≡ most (map left ss)
+  most-after_pass [] = refl
+  most-after_pass ((x, true) ∷ ss) = omega (arith, most-light (parts x) (after_pass parts ss) (light x), most-after_pass ss)
+  most-after_pass ((x, false) ∷ ss) = omega (arith, most-after_pass ss)
 
   -- to open in the list as it stands is to mark in the list as it stood
-  opened-passed : (m : ℕ) (ss : List (X × Bool)) → 0 < m → opened_at weight parts (place_of m (map weight (passed parts ss))) (passed parts ss) ≡ passed parts (marked (place_of m (map left ss)) ss)
-  opened-passed m [] l = refl
-  opened-passed m ((x, true) ∷ ss) l =
-      opened-light m (parts x) (passed parts ss) l (light x)
-      ∙ ap (λ z. parts x ++ z) (opened-passed m ss l)
-      ∙ ap (λ i. passed parts (marked i ((x, true) ∷ ss))) (sym (cond-false _ 0 (suc (place_of m (map left ss))) (ne_eqb 0 m (omega arith))))
-  opened-passed m ((x, false) ∷ ss) l =
-      elim (eqb (weight x) m) as (λ b. opened_at weight parts (cond b 0 (suc (place_of m (map weight (passed parts ss))))) (x ∷ passed parts ss) ≡ passed parts (marked (cond b 0 (suc (place_of m (map left ss)))) ((x, false) ∷ ss))) [
+  opened-after_pass : (m : ℕ) (ss : List (X × Bool)) → 0 < m → opened_at weight parts (place_of m (map weight (after_pass parts ss))) (after_pass parts ss) ≡ after_pass parts (marked (place_of m (map left ss)) ss)
+  opened-after_pass m [] l = refl
+  opened-after_pass m ((x, true) ∷ ss) l =
+      opened-light m (parts x) (after_pass parts ss) l (light x)
+      ∙ ap (λ z. parts x ++ z) (opened-after_pass m ss l)
+      ∙ ap (λ i. after_pass parts (marked i ((x, true) ∷ ss))) (sym (cond-false _ 0 (suc (place_of m (map left ss))) (ne_eqb 0 m (omega arith))))
+  opened-after_pass m ((x, false) ∷ ss) l =
+      elim (eqb (weight x) m) as (λ b. opened_at weight parts (cond b 0 (suc (place_of m (map weight (after_pass parts ss))))) (x ∷ after_pass parts ss) ≡ after_pass parts (marked (cond b 0 (suc (place_of m (map left ss)))) ((x, false) ∷ ss))) [
         | true ↦ refl
-        | false ↦ ap (λ z. x ∷ z) (opened-passed m ss l)
+        | false ↦ ap (λ z. x ∷ z) (opened-after_pass m ss l)
       ]
 
   left-marked : (i : ℕ) (ss : List (X × Bool)) → map left (marked i ss) ≡ set (map left ss) i 0
@@ -74,41 +74,41 @@ module _ {X : Type 0} (weight : X → ℕ) (parts : X → List X) (light : (x : 
   Over capacity ss = capacity < total (map left ss)
 
   -- the next list, where the weights are over capacity
-  next : (capacity : ℕ) (ss : List (X × Bool)) → Over capacity ss → opened_at weight parts (fullest (map weight (passed parts ss))) (passed parts ss) ≡ passed parts (marked (fullest (map left ss)) ss)
+  next : (capacity : ℕ) (ss : List (X × Bool)) → Over capacity ss → opened_at weight parts (fullest (map weight (after_pass parts ss))) (after_pass parts ss) ≡ after_pass parts (marked (fullest (map left ss)) ss)
   next capacity ss over =
-      ap (λ m. opened_at weight parts (place_of m (map weight (passed parts ss))) (passed parts ss)) (most-passed ss)
-      ∙ opened-passed (most (map left ss)) ss (heavy (map left ss) capacity over)
+      ap (λ m. opened_at weight parts (place_of m (map weight (after_pass parts ss))) (after_pass parts ss)) (most-after_pass ss)
+      ∙ opened-after_pass (most (map left ss)) ss (heavy (map left ss) capacity over)
 
-  settled-passed : (capacity turns : ℕ) (ss : List (X × Bool)) → settled weight parts capacity turns (passed parts ss) ≡ passed parts (marked_all (renewed capacity turns (map left ss)) ss)
-  settled-passed capacity zero ss = refl
-  settled-passed capacity (suc turns) ss = elim (le_or_lt (total (map left ss)) capacity) [
+  after_turns-after_pass : (capacity turns : ℕ) (ss : List (X × Bool)) → after_turns weight parts capacity turns (after_pass parts ss) ≡ after_pass parts (marked_all (renewed capacity turns (map left ss)) ss)
+  after_turns-after_pass capacity zero ss = refl
+  after_turns-after_pass capacity (suc turns) ss = elim (le_or_lt (total (map left ss)) capacity) [
     | inl fits ↦
-        cond-true _ _ _ (le-leb _ capacity (omega (arith, fits, total-passed ss)))
-        ∙ sym (ap (λ is. passed parts (marked_all is ss)) (cond-true _ _ _ (le-leb _ capacity fits)))
+        cond-true _ _ _ (le-leb _ capacity (omega (arith, fits, total-after_pass ss)))
+        ∙ sym (ap (λ is. after_pass parts (marked_all is ss)) (cond-true _ _ _ (le-leb _ capacity fits)))
     | inr over ↦
         let ns = map left ss in
-        cond-false _ _ _ (lt-leb (total (map weight (passed parts ss))) capacity (omega (arith, over, total-passed ss)))
-        ∙ ap (settled weight parts capacity turns) (next capacity ss over)
-        ∙ settled-passed capacity turns (marked (fullest ns) ss)
-        ∙ ap (λ ms. passed parts (marked_all (renewed capacity turns ms) (marked (fullest ns) ss))) (left-marked (fullest ns) ss)
-        ∙ sym (ap (λ is. passed parts (marked_all is ss)) (cond-false _ _ _ (lt-leb (total ns) capacity over)))
+        cond-false _ _ _ (lt-leb (total (map weight (after_pass parts ss))) capacity (omega (arith, over, total-after_pass ss)))
+        ∙ ap (after_turns weight parts capacity turns) (next capacity ss over)
+        ∙ after_turns-after_pass capacity turns (marked (fullest ns) ss)
+        ∙ ap (λ ms. after_pass parts (marked_all (renewed capacity turns ms) (marked (fullest ns) ss))) (left-marked (fullest ns) ss)
+        ∙ sym (ap (λ is. after_pass parts (marked_all is ss)) (cond-false _ _ _ (lt-leb (total ns) capacity over)))
   ]
 
-  passed-unmarked : (xs : List X) → passed parts (unmarked xs) ≡ xs
-  passed-unmarked [] = refl
-  passed-unmarked (x ∷ xs) = ap (λ z. x ∷ z) (passed-unmarked xs)
+  after_pass-unmarked : (xs : List X) → after_pass parts (unmarked xs) ≡ xs
+  after_pass-unmarked [] = refl
+  after_pass-unmarked (x ∷ xs) = ap (λ z. x ∷ z) (after_pass-unmarked xs)
 
   left-unmarked : (xs : List X) → map left (unmarked xs) ≡ map weight xs
   left-unmarked [] = refl
   left-unmarked (x ∷ xs) = ap (λ z. weight x ∷ z) (left-unmarked xs)
 
   -- The loop opens just the planned items, each once.
-  pub settled-planned : (capacity turns : ℕ) (xs : List X) → total (map weight xs) ≤ turns → settled weight parts capacity turns xs ≡ passed parts (marked_all (planned (map weight xs) capacity) (unmarked xs))
-  settled-planned capacity turns xs l =
-      ap (settled weight parts capacity turns) (sym (passed-unmarked xs))
-      ∙ settled-passed capacity turns (unmarked xs)
-      ∙ ap (λ ns. passed parts (marked_all (renewed capacity turns ns) (unmarked xs))) (left-unmarked xs)
-      ∙ ap (λ is. passed parts (marked_all is (unmarked xs))) (renewed-planned capacity turns (map weight xs) l)
+  pub after_turns-planned : (capacity turns : ℕ) (xs : List X) → total (map weight xs) ≤ turns → after_turns weight parts capacity turns xs ≡ after_pass parts (marked_all (planned (map weight xs) capacity) (unmarked xs))
+  after_turns-planned capacity turns xs l =
+      ap (after_turns weight parts capacity turns) (sym (after_pass-unmarked xs))
+      ∙ after_turns-after_pass capacity turns (unmarked xs)
+      ∙ ap (λ ns. after_pass parts (marked_all (renewed capacity turns ns) (unmarked xs))) (left-unmarked xs)
+      ∙ ap (λ is. after_pass parts (marked_all is (unmarked xs))) (renewed-planned capacity turns (map weight xs) l)
 
   -- ---- which are replaced
 
@@ -116,44 +116,44 @@ module _ {X : Type 0} (weight : X → ℕ) (parts : X → List X) (light : (x : 
   prefix-light m [] ys l h = refl
   prefix-light m (x ∷ xs) ys l h = ap (λ i. drop i (x ∷ xs ++ ys)) (skips m x (xs ++ ys) l h.0) ∙ prefix-light m xs ys l h.1
 
-  prefix-passed : (m : ℕ) (ss : List (X × Bool)) → 0 < m → take 1 (drop (place_of m (map weight (passed parts ss))) (passed parts ss)) ≡ take 1 (drop (place_of m (map left ss)) (names ss))
-  prefix-passed m [] l = refl
-  prefix-passed m ((x, true) ∷ ss) l =
-      ap (take 1) (prefix-light m (parts x) (passed parts ss) l (light x))
-      ∙ prefix-passed m ss l
+  prefix-after_pass : (m : ℕ) (ss : List (X × Bool)) → 0 < m → take 1 (drop (place_of m (map weight (after_pass parts ss))) (after_pass parts ss)) ≡ take 1 (drop (place_of m (map left ss)) (names ss))
+  prefix-after_pass m [] l = refl
+  prefix-after_pass m ((x, true) ∷ ss) l =
+      ap (take 1) (prefix-light m (parts x) (after_pass parts ss) l (light x))
+      ∙ prefix-after_pass m ss l
       ∙ ap (λ i. take 1 (drop i (x ∷ names ss))) (sym (cond-false _ 0 (suc (place_of m (map left ss))) (ne_eqb 0 m (omega arith))))
-  prefix-passed m ((x, false) ∷ ss) l =
-      elim (eqb (weight x) m) as (λ b. take 1 (drop (cond b 0 (suc (place_of m (map weight (passed parts ss))))) (x ∷ passed parts ss)) ≡ take 1 (drop (cond b 0 (suc (place_of m (map left ss)))) (x ∷ names ss))) [
+  prefix-after_pass m ((x, false) ∷ ss) l =
+      elim (eqb (weight x) m) as (λ b. take 1 (drop (cond b 0 (suc (place_of m (map weight (after_pass parts ss))))) (x ∷ after_pass parts ss)) ≡ take 1 (drop (cond b 0 (suc (place_of m (map left ss)))) (x ∷ names ss))) [
         | true ↦ refl
-        | false ↦ prefix-passed m ss l
+        | false ↦ prefix-after_pass m ss l
       ]
 
-  replaced-passed : (capacity turns : ℕ) (ss : List (X × Bool)) → replaced weight parts capacity turns (passed parts ss) ≡ items_at (renewed capacity turns (map left ss)) (names ss)
-  replaced-passed capacity zero ss = refl
-  replaced-passed capacity (suc turns) ss = elim (le_or_lt (total (map left ss)) capacity) [
+  opened_items-after_pass : (capacity turns : ℕ) (ss : List (X × Bool)) → opened_items weight parts capacity turns (after_pass parts ss) ≡ items_at (renewed capacity turns (map left ss)) (names ss)
+  opened_items-after_pass capacity zero ss = refl
+  opened_items-after_pass capacity (suc turns) ss = elim (le_or_lt (total (map left ss)) capacity) [
     | inl fits ↦
-        cond-true _ _ _ (le-leb _ capacity (omega (arith, fits, total-passed ss)))
+        cond-true _ _ _ (le-leb _ capacity (omega (arith, fits, total-after_pass ss)))
         ∙ sym (ap (λ is. items_at is (names ss)) (cond-true _ _ _ (le-leb _ capacity fits)))
     | inr over ↦
         let ns = map left ss in
         let i = fullest ns in
-        cond-false _ _ _ (lt-leb (total (map weight (passed parts ss))) capacity (omega (arith, over, total-passed ss)))
-        ∙ ap (λ xs. take 1 (drop (fullest (map weight (passed parts ss))) (passed parts ss)) ++ replaced weight parts capacity turns xs) (next capacity ss over)
-        ∙ ap (λ z. z ++ replaced weight parts capacity turns (passed parts (marked i ss)))
-        (ap (λ m. take 1 (drop (place_of m (map weight (passed parts ss))) (passed parts ss))) (most-passed ss)
-        ∙ prefix-passed (most ns) ss (heavy ns capacity over))
+        cond-false _ _ _ (lt-leb (total (map weight (after_pass parts ss))) capacity (omega (arith, over, total-after_pass ss)))
+        ∙ ap (λ xs. take 1 (drop (fullest (map weight (after_pass parts ss))) (after_pass parts ss)) ++ opened_items weight parts capacity turns xs) (next capacity ss over)
+        ∙ ap (λ z. z ++ opened_items weight parts capacity turns (after_pass parts (marked i ss)))
+        (ap (λ m. take 1 (drop (place_of m (map weight (after_pass parts ss))) (after_pass parts ss))) (most-after_pass ss)
+        ∙ prefix-after_pass (most ns) ss (heavy ns capacity over))
         ∙ ap (λ z. take 1 (drop i (names ss)) ++ z)
-        (replaced-passed capacity turns (marked i ss)
+        (opened_items-after_pass capacity turns (marked i ss)
         ∙ ap (λ ms. items_at (renewed capacity turns ms) (names (marked i ss))) (left-marked i ss)
         ∙ ap (items_at (renewed capacity turns (set ns i 0))) (names-marked i ss))
         ∙ sym (ap (λ is. items_at is (names ss)) (cond-false _ _ _ (lt-leb (total ns) capacity over)))
   ]
 
   -- Those that the loop replaces are those at the planned places, in this order.
-  pub replaced-planned : (capacity turns : ℕ) (xs : List X) → total (map weight xs) ≤ turns → replaced weight parts capacity turns xs ≡ items_at (planned (map weight xs) capacity) xs
-  replaced-planned capacity turns xs l =
-      ap (replaced weight parts capacity turns) (sym (passed-unmarked xs))
-      ∙ replaced-passed capacity turns (unmarked xs)
+  pub opened_items-planned : (capacity turns : ℕ) (xs : List X) → total (map weight xs) ≤ turns → opened_items weight parts capacity turns xs ≡ items_at (planned (map weight xs) capacity) xs
+  opened_items-planned capacity turns xs l =
+      ap (opened_items weight parts capacity turns) (sym (after_pass-unmarked xs))
+      ∙ opened_items-after_pass capacity turns (unmarked xs)
       ∙ ap (λ ns. items_at (renewed capacity turns ns) (names (unmarked xs))) (left-unmarked xs)
       ∙ ap (items_at (renewed capacity turns (map weight xs))) (names-unmarked xs)
       ∙ ap (λ is. items_at is xs) (renewed-planned capacity turns (map weight xs) l)

@@ -8,24 +8,24 @@ use Rattle.bt_node.specs.Children.{AreDivided}
 use Rattle.bt_node.specs.Fits.{IsRoomy}
 use Rattle.bt_node.specs.Flushes.{grouped}
 use Rattle.bt_node.proofs.lemmas.crowns.ShapedTrees.{has_room}
-use Rattle.bt_node.proofs.lemmas.flushes.Divisions.{beside-shared, bins-length, divided-beside, length-beside}
+use Rattle.bt_node.proofs.lemmas.flushes.Divisions.{bins-length, divided-with_pending, length-with_pending, with_pending-shared}
 use Rattle.bt_node.proofs.lemmas.flushes.Regrouped.{fit_above, hold_all_after}
 use Rattle.bt_node.proofs.tree.regroup.Goals as goal
 
-pub beside-requires : goal.beside-requires
-beside-requires g c = bins-length c.args.siblings c.args.bins (omega (arith, c.requires.several)) c.requires.divided
+pub with_pending-requires : goal.with_pending-requires
+with_pending-requires g c = bins-length c.args.siblings c.args.bins (omega (arith, c.requires.several)) c.requires.divided
 
 pub close-requires-clause-some : goal.close-requires-clause-some
 close-requires-clause-some g c =
     let same = bins-length c.args.siblings c.args.bins (omega (arith, c.requires.several)) c.requires.divided in
-    omega (arith, c.requires.several, ap length c.beside.ensures, length-beside c.args.siblings c.args.bins same)
+    omega (arith, c.requires.several, ap length c.with_pending.ensures, length-with_pending c.args.siblings c.args.bins same)
 
 pub close-requires-clause-divided : goal.close-requires-clause-divided
-close-requires-clause-divided g c = subst AreDivided (sym c.beside.ensures) (divided-beside c.args.siblings c.args.bins c.requires.divided)
+close-requires-clause-divided g c = subst AreDivided (sym c.with_pending.ensures) (divided-with_pending c.args.siblings c.args.bins c.requires.divided)
 
 pub returns-clause-nodes : goal.returns-clause-nodes
 returns-clause-nodes g c =
-    IfOk-weaker c.close.result _ _ (λ nodes e. e ∙ ap (grouped c.args.shape) (c.beside.ensures ∙ beside-shared c.args.siblings c.args.bins c.requires.divided)) c.close.ensures
+    IfOk-weaker c.close.result _ _ (λ nodes e. e ∙ ap (grouped c.args.shape) (c.with_pending.ensures ∙ with_pending-shared c.args.siblings c.args.bins c.requires.divided)) c.close.ensures
 
 pub returns-clause-fits : goal.returns-clause-fits
 returns-clause-fits g c =

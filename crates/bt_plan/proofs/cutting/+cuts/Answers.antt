@@ -8,7 +8,7 @@ use Rattle.bt_messages.specs.Messages.{with_messages}
 use Rattle.bt_messages.specs.Weights.{weigh_of}
 use Rattle.bt_messages.proofs.offered.Shares.{share_at}
 use Rattle.bt_node.specs.Fits.{IsSized}
-use Rattle.bt_node.specs.Trees.{behind}
+use Rattle.bt_node.specs.Trees.{with_pivots}
 use Rattle.bt_node.specs.declared.form.shape.TheConstants.{LARGEST_FANOUT}
 use Rattle.bt_plan.specs.Cuts.{hole_of}
 use Rattle.bt_plan.specs.Pieces.{Place, holed_nodes, holes, opened, with_holes}
@@ -68,7 +68,7 @@ cut_inner-returns g t c =
     let cut = c.in_ok-children.ensures in
     let place = node_place c.args.at.now.place in
     record {
-      holed = c.opened.ensures ∙ (λ i. opened (holed_nodes (behind c.apart-nodes.result.1.items (cut.children i))) (concatenation (cut.bins i))) ∙ node-told opening c.args.at.now.depth place;
+      holed = c.opened.ensures ∙ (λ i. opened (holed_nodes (with_pivots c.apart-nodes.result.1.items (cut.children i))) (concatenation (cut.bins i))) ∙ node-told opening c.args.at.now.depth place;
       jobs = cut.jobs ∙ ap (λ js. map job_of c.args.jobs.now.items ++ js) (node-jobs opening c.args.at.now.depth place);
       left = cut.left ∙ rest_left opening;
     }

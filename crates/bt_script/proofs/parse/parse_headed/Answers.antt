@@ -12,7 +12,7 @@ returns-then-begins-clause-found c =
     let block = c.in_ok-content.ensures.block in
     let closes : closing_of (words head) ≡ Some (codes "end") = search rules in
     let made : command_of head block.0 ≡ c.batch_command.result = search rules in
-    headed-block _ c.args.script.now head _ c.args.at _ _ _ closes block.2 (ap (block_answer _) made) (c.parsed.ensures.found _)
+    headed-block _ c.args.script.now head _ c.args.at _ _ _ closes block.2 (ap (block_answer _) made) (c.parsed_command.ensures.found _)
 
 pub returns-then-begins-2-clause-found : goal.returns-then-begins-2-clause-found
 unfolding closing_of command_of
@@ -21,7 +21,7 @@ returns-then-begins-2-clause-found c =
     let block = c.read_bounds-content.ensures.block in
     let closes : closing_of (words head) ≡ Some (codes "go") = search rules in
     let made : command_of head block.0 ≡ c.in_ok-command.command = search rules in
-    headed-block _ c.args.script.now head _ c.args.at _ _ _ closes block.2 (ap (block_answer _) made) (c.parsed-then-begins-2.ensures.found _)
+    headed-block _ c.args.script.now head _ c.args.at _ _ _ closes block.2 (ap (block_answer _) made) (c.parsed_command-then-begins-2.ensures.found _)
 
 pub returns-then-begins-3-clause-found : goal.returns-then-begins-3-clause-found
 unfolding closing_of command_of
@@ -30,7 +30,7 @@ returns-then-begins-3-clause-found c =
     let block = c.read_bounds-content-then-begins-3.ensures.block in
     let closes : closing_of (words head) ≡ Some (codes "go") = search rules in
     let made : command_of head block.0 ≡ c.in_ok-command-2.command = search rules in
-    headed-block _ c.args.script.now head _ c.args.at _ _ _ closes block.2 (ap (block_answer _) made) (c.parsed-then-begins-3.ensures.found _)
+    headed-block _ c.args.script.now head _ c.args.at _ _ _ closes block.2 (ap (block_answer _) made) (c.parsed_command-then-begins-3.ensures.found _)
 
 pub returns-then-begins-4-clause-found : goal.returns-then-begins-4-clause-found
 unfolding closing_of command_of
@@ -42,7 +42,7 @@ returns-then-begins-4-clause-found c =
     let found : command_of head block.0 ≡ load_command (words head) (text_of_lines block.0) = search rules in
     let made : load_command (words head) read.content ≡ c.load_command.result = search rules in
     let same = ap (block_answer read.end) found ∙ load-answer read.end (words head) read.content (text_of_lines block.0) block.1 ∙ ap (block_answer read.end) made in
-    headed-block _ c.args.script.now head _ c.args.at _ _ _ closes block.2 same (c.parsed-then-begins-4.ensures.found _)
+    headed-block _ c.args.script.now head _ c.args.at _ _ _ closes block.2 same (c.parsed_command-then-begins-4.ensures.found _)
 
 pub returns-clause-found : goal.returns-clause-found
 unfolding closing_of command_of
@@ -50,4 +50,4 @@ returns-clause-found c =
     let head = c.args.head.now in
     let closes : closing_of (words head) ≡ None = search rules in
     let made : c.in_ok-command-3.command ≡ command_of head [] = search rules in
-    headed-line _ c.args.script.now head c.args.at _ closes made (c.parsed-2.ensures.found _)
+    headed-line _ c.args.script.now head c.args.at _ closes made (c.parsed_command-2.ensures.found _)

@@ -13,7 +13,7 @@ use Rattle.bt_messages.proofs.offered.Placed.{alone}
 use Rattle.bt_node.specs.Children.{behind_pivot}
 use Rattle.bt_node.specs.Flushes.{flush_in}
 use Rattle.bt_node.specs.Messages.{with_messages}
-use Rattle.bt_node.specs.inside.Flushing.{AreReady, loaded}
+use Rattle.bt_node.specs.inside.Flushing.{AreReady, with_shares}
 use Rattle.bt_node.proofs.lemmas.code.FlushLoop.{after_flushed, after_kept, behind_pivot-flushed}
 use Rattle.bt_node.proofs.lemmas.code.OpeningStep.{Enters, among, children_lower, children_ready, grouped_anew, highest, made_divided, made_some, marks_long, pass, shares_gone, shares_long, shares_weighed, stays_here}
 use Rattle.bt_node.proofs.lemmas.code.Results.{on_ok}
@@ -102,10 +102,10 @@ flush_marked-loop-pivot-init g t c =
     let shares = c.into_iter-shares.ensures.rest in
     let marks = c.into_iter-marks.ensures.rest in
     record {
-      parts = ap (λ ps. ps ++ passed (zip (loaded c.into_iter-children.result (counts (into_iter_items c.into_iter-shares.result)) stream) (into_iter_items c.into_iter-marks.result))) c.in_ok-parts.ensures
-          ∙ ap (λ cs. passed (zip (loaded cs (counts (into_iter_items c.into_iter-shares.result)) stream) (into_iter_items c.into_iter-marks.result))) children
-          ∙ ap (λ ns. passed (zip (loaded c.args.opened.children (counts ns) stream) (into_iter_items c.into_iter-marks.result))) shares
-          ∙ ap (λ bs. passed (zip (loaded c.args.opened.children (counts c.args.opened.shares.items) stream) bs)) marks;
+      parts = ap (λ ps. ps ++ passed (zip (with_shares c.into_iter-children.result (counts (into_iter_items c.into_iter-shares.result)) stream) (into_iter_items c.into_iter-marks.result))) c.in_ok-parts.ensures
+          ∙ ap (λ cs. passed (zip (with_shares cs (counts (into_iter_items c.into_iter-shares.result)) stream) (into_iter_items c.into_iter-marks.result))) children
+          ∙ ap (λ ns. passed (zip (with_shares c.args.opened.children (counts ns) stream) (into_iter_items c.into_iter-marks.result))) shares
+          ∙ ap (λ bs. passed (zip (with_shares c.args.opened.children (counts c.args.opened.shares.items) stream) bs)) marks;
       left = ap (λ ns. drop (total (counts ns)) stream) shares;
       weighed = subst (AreShares (weigh_of g.V.Merge.terms) stream) (sym shares) c.requires.weighed;
       ready = subst (AreReady c.args.mode) (sym children) c.requires.ready;
@@ -157,7 +157,7 @@ pub flush_marked-returns-clause-children : goal.flush_marked-returns-clause-chil
 flush_marked-returns-clause-children g t c =
     let done = c.loop-pivot.parts in
     sym (append-nil done)
-    ∙ ap (λ cs. done ++ pass (meaning_of g.V.Merge.terms) c.args.mode c.args.shape (zip (loaded cs (counts (into_iter_items c.loop-pivot.shares)) c.loop-pivot.stream) (into_iter_items c.loop-pivot.marks))) (sym c.in_default.ensures)
+    ∙ ap (λ cs. done ++ pass (meaning_of g.V.Merge.terms) c.args.mode c.args.shape (zip (with_shares cs (counts (into_iter_items c.loop-pivot.shares)) c.loop-pivot.stream) (into_iter_items c.loop-pivot.marks))) (sym c.in_default.ensures)
     ∙ c.loop-pivot.invariant.parts
 
 pub flush_marked-returns-clause-left : goal.flush_marked-returns-clause-left

@@ -5,7 +5,7 @@ use Rattle.bt_messages.specs.Parts.{total}
 use Rattle.bt_messages.specs.Meanings.{meaning_of}
 use Rattle.bt_messages.specs.Shares.{counts}
 use Rattle.bt_node.specs.Trees.{height}
-use Rattle.bt_node.specs.inside.Flushing.{loaded}
+use Rattle.bt_node.specs.inside.Flushing.{with_shares}
 use Rattle.bt_node.proofs.lemmas.code.FlushLoop.{UnderWay}
 use Rattle.bt_node.proofs.lemmas.code.OpeningStep.{highest, pass}
 use Rattle.bt_node.proofs.flush.flushing.+flushes.Given as goal
@@ -15,7 +15,7 @@ abbrev pub invariant-flush_marked-loop-pivot : goal.invariant-flush_marked-loop-
 invariant-flush_marked-loop-pivot g l =
     let meaning = meaning_of g.V.Merge.terms in
     let opened = l.fn.opened in
-    UnderWay meaning l.mode l.shape (pass meaning l.mode l.shape (zip (loaded opened.children (counts opened.shares.items) l.fn.stream) opened.marks.items))
+    UnderWay meaning l.mode l.shape (pass meaning l.mode l.shape (zip (with_shares opened.children (counts opened.shares.items) l.fn.stream) opened.marks.items))
     (drop (total (counts opened.shares.items)) l.fn.stream) (highest opened.children) l.parts l.children (into_iter_items l.shares) l.stream (into_iter_items l.marks)
 
 abbrev pub decreases-flush_marked-loop-pivot : goal.decreases-flush_marked-loop-pivot

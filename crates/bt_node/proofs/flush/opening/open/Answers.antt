@@ -6,7 +6,7 @@ use Rattle.bt_messages.specs.Weights.{load, weigh_of}
 use Rattle.bt_node.specs.Fits.{IsLed}
 use Rattle.bt_node.specs.Trees.{inner, nodes}
 use Rattle.bt_node.proofs.lemmas.code.LoadLoop.{Come, after_joined, after_lie, at_pivots, bin_each, has_room-absorb, has_room-drain, marks_all, marks_planned, room_test, share_each, shares_weighed}
-use Rattle.bt_node.proofs.lemmas.code.SiblingParts.{behind-led}
+use Rattle.bt_node.proofs.lemmas.code.SiblingParts.{with_pivots-led}
 use Rattle.bt_node.proofs.flush.opening.open.Goals as goal
 use Rattle.bt_node.proofs.flush.opening.open.Goals.{in-Absorb+in_ok-loads-in-Absorb+else-len-fanout+in_ok-marks-in-Absorb, else-len-fanout-via-then-len-fanout+else-are_within, else-len-fanout-via-else-len-fanout, in-Drain+in_ok-marks-in-Drain}
 
@@ -78,8 +78,8 @@ same-children-2 g c = refl
 pub same-bins-2 : goal.same-bins-2
 same-bins-2 g c = refl
 
-pub beside-requires : goal.beside-requires
-beside-requires g c =
+pub with_pending-requires : goal.with_pending-requires
+with_pending-requires g c =
     let e = c.in_ok-shares.ensures in
     let come : Come (weigh_of g.V.Merge.terms) c.args.shape c.args.children c.args.bins c.args.stream.now c.args.count c.measure-measure.result c.pivots.result.now c.in_ok-shares.shares.items = record { measured = c.measure-measure.ensures; pivots = c.pivots.ensures.pivots; some = c.pivots.ensures.some; lie = c.requires.divided; each = e.each; divided = e.parts; long = e.len } in
     bin_each come
@@ -90,8 +90,8 @@ returns g c =
     let come : Come (weigh_of g.V.Merge.terms) c.args.shape c.args.children c.args.bins c.args.stream.now c.args.count c.measure-measure.result c.pivots.result.now c.in_ok-shares.shares.items = record { measured = c.measure-measure.ensures; pivots = c.pivots.ensures.pivots; some = c.pivots.ensures.some; lie = c.requires.divided; each = e.each; divided = e.parts; long = e.len } in (
       e.same,
       record {
-        led = subst IsLed c.children.view_is (behind-led c.children.inside.pivots.items c.children.inside.nodes.items c.children.invariant);
-        children = c.beside.ensures;
+        led = subst IsLed c.children.view_is (with_pivots-led c.children.inside.pivots.items c.children.inside.nodes.items c.children.invariant);
+        children = c.with_pending.ensures;
         shares = at_pivots come;
         total = c.in_ok-shares.ensures.total;
         weighed = c.in_ok-shares.ensures.shares;

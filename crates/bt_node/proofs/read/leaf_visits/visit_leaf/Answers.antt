@@ -44,7 +44,7 @@ loop-key-preserved g c =
       wanted = shown_step effect (limited g.S.Visitor.visited) m c.next.new.self c.loop-key.messages c.loop-key.left.now c.between.result.now (c.loop-key.visitor, c.loop-key.limit)
           (c.visit_rows.new.visitor, c.visit_rows.new.limit) all c.in-Some.ensures so_far.messages so_far.rows so_far.wanted c.between.ensures.between c.in_ok-visit_rows.ensures
           c.take_effect.new.self c.between-in-Some.result.now c.split_first.result.1.now _ (option_of c.in_ok-first.first) (option_of c.in_ok-value.value) (c.visit_held.new.visitor, c.visit_held.new.limit)
-          later (c.found.ensures ∙ c.split_first.ensures.value) c.split_first.ensures.others c.in_ok-first.ensures c.in_ok-value.ensures.value c.in_ok-value.ensures.left c.in_ok-visit_held.ensures;
+          later (c.of.ensures ∙ c.split_first.ensures.value) c.split_first.ensures.others c.in_ok-first.ensures c.in_ok-value.ensures.value c.in_ok-value.ensures.left c.in_ok-visit_held.ensures;
       rows = subst (λ rows. is_sorted key_cmp rows ≡ true) (sym c.split_first.ensures.others) (sorted_changed k None c.between-in-Some.result.now (subst (λ rows. is_sorted key_cmp rows ≡ true) (sym later) (sorted_from k c.loop-key.left.now so_far.rows)));
       messages = subst IsSorted (sym c.in_ok-value.ensures.left) (past_in_order k c.next.new.self sorted);
     }

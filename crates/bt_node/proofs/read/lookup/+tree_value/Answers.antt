@@ -36,7 +36,7 @@ bounds-nodes-place g t c =
 
 pub returns-in-Leaf : goal.returns-in-Leaf
 returns-in-Leaf g t c =
-    c.found.ensures ∙ c.find.ensures ∙ sym (ap (tree_value (effect_of g.V.Merge.terms.merged) c.args.key.now) (c.kind.ensures.tree ∙ ap tree_of c.in-Leaf.is))
+    c.of.ensures ∙ c.find.ensures ∙ sym (ap (tree_value (effect_of g.V.Merge.terms.merged) c.args.key.now) (c.kind.ensures.tree ∙ ap tree_of c.in-Leaf.is))
 
 pub returns-in-Some : goal.returns-in-Some
 returns-in-Some g t c =

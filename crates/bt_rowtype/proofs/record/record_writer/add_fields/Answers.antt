@@ -5,7 +5,7 @@ use Rattle.csv.specs.Writing.{default_writer, row_body}
 use Rattle.bt_rowtype.specs.Records.{record_text}
 use Rattle.bt_rowtype.specs.inside.RecordParts.{Grows}
 use Rattle.bt_rowtype.specs.Values.{text_of}
-use Rattle.bt_rowtype.specs.Views.{shown}
+use Rattle.bt_rowtype.specs.Views.{value_of_ref}
 use Rattle.bt_rowtype.specs.declared.value.Value.{Value}
 use Rattle.bt_rowtype.proofs.Exits.{on_err}
 use Rattle.bt_rowtype.proofs.Quotes.{begun}
@@ -14,7 +14,7 @@ use Rattle.bt_rowtype.proofs.record.record_writer.add_fields.Goals as goal
 
 pub loop-value-preserved : goal.loop-value-preserved
 loop-value-preserved c =
-    wrote_more c.args.values c.loop-value.rest c.next.new.self c.loop-value.place c.args.out.now.items c.loop-value.out.items c.add_field.new.out.items (shown c.in-Some.value) c.loop-value.invariant
+    wrote_more c.args.values c.loop-value.rest c.next.new.self c.loop-value.place c.args.out.now.items c.loop-value.out.items c.add_field.new.out.items (value_of_ref c.in-Some.value) c.loop-value.invariant
     c.in-Some.ensures.some
     c.in_ok-add_field.ensures.ok
 

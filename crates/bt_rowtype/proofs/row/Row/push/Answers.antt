@@ -1,13 +1,13 @@
 use Rattle.std.proofs.Common.{[], ◌∷◌, ◌++◌, sym, ap, subst, ◌∙◌}
 use Rattle.bt_rowtype.specs.inside.Packing.{IsPacked, unpacked}
-use Rattle.bt_rowtype.specs.Views.{shown}
+use Rattle.bt_rowtype.specs.Views.{value_of_ref}
 use Rattle.bt_rowtype.proofs.Walks.{pushed, pushed_packed}
 use Rattle.bt_rowtype.proofs.row.Row.push.Goals as goal
 
 pub invariant_of-self-2 : goal.invariant_of-self-2
-invariant_of-self-2 c = subst IsPacked (sym c.in_ok-add_value.ensures.ok) (pushed_packed _ (shown c.args.value) c.self.invariant c.in_ok-add_value.ensures.in_range)
+invariant_of-self-2 c = subst IsPacked (sym c.in_ok-add_value.ensures.ok) (pushed_packed _ (value_of_ref c.args.value) c.self.invariant c.in_ok-add_value.ensures.in_range)
 
 pub returns-clause-ok : goal.returns-clause-ok
 returns-clause-ok c =
-    ap unpacked c.in_ok-add_value.ensures.ok ∙ pushed _ (shown c.args.value) c.self.invariant c.in_ok-add_value.ensures.in_range
-    ∙ ap (λ z. z ++ shown c.args.value ∷ []) c.self.view_is
+    ap unpacked c.in_ok-add_value.ensures.ok ∙ pushed _ (value_of_ref c.args.value) c.self.invariant c.in_ok-add_value.ensures.in_range
+    ∙ ap (λ z. z ++ value_of_ref c.args.value ∷ []) c.self.view_is

@@ -1,6 +1,6 @@
 use Rattle.std.proofs.Common.{◌≡◌, ◌+◌, ◌<◌, ◌≤◌, ◌++◌, List, ℕ, arith, sym, ap, subst, ◌∙◌, length, length-drop, drop, take, set}
 use Rattle.bt_rowtype.specs.inside.Packing.{IsPacked, packed_value, unpacked, width_of}
-use Rattle.bt_rowtype.specs.Views.{shown}
+use Rattle.bt_rowtype.specs.Views.{value_of_ref}
 use Rattle.bt_rowtype.specs.declared.value.Value.{Value}
 use Rattle.bt_rowtype.proofs.Replacements.{Replaces, replaced, replaced_packed, set_past_end, width_fits}
 use Rattle.bt_rowtype.proofs.row.Row.set.Goals as goal
@@ -9,8 +9,8 @@ pub returns-then-at-bytes-clause-ok : goal.returns-then-at-bytes-clause-ok
 returns-then-at-bytes-clause-ok c =
     let bytes = c.as_slice-bytes.result.now in
     let same : unpacked bytes ≡ c.args.self.now = ap unpacked c.as_slice-bytes.ensures ∙ c.self.view_is in
-    let past = set_past_end bytes c.args.place c.offset-at.result (shown c.args.value) c.offset-at.ensures (omega (arith, c.if-at-bytes.true)) in
-    subst (λ (row : List Value). row ≡ set row c.args.place (shown c.args.value)) same (sym past)
+    let past = set_past_end bytes c.args.place c.offset-at.result (value_of_ref c.args.value) c.offset-at.ensures (omega (arith, c.if-at-bytes.true)) in
+    subst (λ (row : List Value). row ≡ set row c.args.place (value_of_ref c.args.value)) same (sym past)
 
 -- the value that begins at a place ends within the bytes
 ends_within : (bytes : List ℕ) (at width : ℕ) → at ≤ length bytes → IsPacked (drop at bytes) → width ≡ width_of (drop at bytes) → at + width ≤ length bytes
@@ -35,18 +35,18 @@ pub invariant_of-self : goal.invariant_of-self
 invariant_of-self c =
     let bytes = c.as_slice-bytes.result.now in
     let is = subst IsPacked (sym c.as_slice-bytes.ensures) c.self.invariant in
-    replaced_packed bytes c.in_ok-new.new c.args.place c.offset-at.result (shown c.args.value) is c.offset-at.ensures
+    replaced_packed bytes c.in_ok-new.new c.args.place c.offset-at.result (value_of_ref c.args.value) is c.offset-at.ensures
     (begins bytes c.offset-at.result c.offset-at.ensures.within c.if-at-bytes.false)
     c.in_ok-new.ensures.in_range
-    (replaces_value bytes c.in_ok-new.new c.offset-at.result c.width_at.result (shown c.args.value) c.in_ok-new.ensures.bytes c.width_at.ensures)
+    (replaces_value bytes c.in_ok-new.new c.offset-at.result c.width_at.result (value_of_ref c.args.value) c.in_ok-new.ensures.bytes c.width_at.ensures)
 
 pub returns-clause-ok : goal.returns-clause-ok
 returns-clause-ok c =
     let bytes = c.as_slice-bytes.result.now in
     let is = subst IsPacked (sym c.as_slice-bytes.ensures) c.self.invariant in
     let same : unpacked bytes ≡ c.args.self.now = ap unpacked c.as_slice-bytes.ensures ∙ c.self.view_is in
-    replaced bytes c.in_ok-new.new c.args.place c.offset-at.result (shown c.args.value) is c.offset-at.ensures
+    replaced bytes c.in_ok-new.new c.args.place c.offset-at.result (value_of_ref c.args.value) is c.offset-at.ensures
     (begins bytes c.offset-at.result c.offset-at.ensures.within c.if-at-bytes.false)
     c.in_ok-new.ensures.in_range
-    (replaces_value bytes c.in_ok-new.new c.offset-at.result c.width_at.result (shown c.args.value) c.in_ok-new.ensures.bytes c.width_at.ensures)
-    ∙ ap (λ (row : List Value). set row c.args.place (shown c.args.value)) same
+    (replaces_value bytes c.in_ok-new.new c.offset-at.result c.width_at.result (value_of_ref c.args.value) c.in_ok-new.ensures.bytes c.width_at.ensures)
+    ∙ ap (λ (row : List Value). set row c.args.place (value_of_ref c.args.value)) same

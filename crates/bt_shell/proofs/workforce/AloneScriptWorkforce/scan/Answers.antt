@@ -2,12 +2,12 @@ use Rattle.std.proofs.Common.{rules, List, fold}
 use Rattle.bt_keycode.specs.Keys.{Key}
 use Rattle.bt_rowtype.specs.Answers.{Answers}
 use Rattle.bt_rowtype.specs.declared.value.Value.{Value}
-use Rattle.bt_batch.specs.Batches.{made}
+use Rattle.bt_batch.specs.Batches.{map_ok}
 use Rattle.bt_shell.specs.inside.Lines.{with_line}
 use Rattle.bt_shell.specs.Replies.{row_line}
 use Rattle.bt_shell.proofs.workforce.AloneScriptWorkforce.scan.Goals as goal
 
 pub returns : goal.returns
 returns g c =
-    let shown : Answers (made (fold (with_line (λ (row : Key × List Value). row_line row.1)) c.args.lines) _) c.scan_alone.result = c.scan_alone.ensures.answer in
+    let shown : Answers (map_ok (fold (with_line (λ (row : Key × List Value). row_line row.1)) c.args.lines) _) c.scan_alone.result = c.scan_alone.ensures.answer in
     record { answer = search rules }

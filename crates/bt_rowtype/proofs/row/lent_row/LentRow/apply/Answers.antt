@@ -1,6 +1,6 @@
 use Rattle.std.proofs.Common.{sym, subst, rules}
 use Rattle.bt_rowtype.specs.Values.{HasBytes}
-use Rattle.bt_rowtype.specs.Views.{shown}
+use Rattle.bt_rowtype.specs.Views.{value_of_ref}
 use Rattle.bt_rowtype.specs.declared.value.ValueRef.{ValueRef}
 use Rattle.bt_rowtype.proofs.LentValues.{has_text}
 use Rattle.bt_rowtype.proofs.row.lent_row.LentRow.apply.Goals as goal
@@ -9,4 +9,4 @@ pub set-requires-then-place-len : goal.set-requires-then-place-len
 set-requires-then-place-len c =
     let old = c.index-old.result.now in
     let held = has_text c.self.inside.values.items c.in-Make.place old (search rules) c.self.invariant in
-    c.made_value.ensures.bytes (subst (λ (v : ValueRef). HasBytes (shown v)) (sym c.index-old.ensures) held)
+    c.made_value.ensures.bytes (subst (λ (v : ValueRef). HasBytes (value_of_ref v)) (sym c.index-old.ensures) held)

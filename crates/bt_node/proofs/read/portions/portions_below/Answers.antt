@@ -3,7 +3,7 @@ use Rattle.std.proofs.lemmas.List.{nil_from_length}
 use Rattle.std.specs.Vec.Iter.{into_iter_items}
 use Rattle.bt_messages.specs.Effects.{effect_of}
 use Rattle.bt_node.proofs.lemmas.code.PortionSteps.{opened_each, opened_more}
-use Rattle.bt_node.proofs.read.portions.opened_all.Goals as goal
+use Rattle.bt_node.proofs.read.portions.portions_below.Goals as goal
 
 pub loop-portion-preserved : goal.loop-portion-preserved
 loop-portion-preserved g c =

@@ -2,7 +2,7 @@ use Rattle.std.proofs.Common.{◌++◌}
 use Rattle.std.specs.Vec.Iter.{into_iter_items}
 use Rattle.bt_messages.specs.Effects.{effect_of}
 use Rattle.bt_node.specs.Portions.{Divide}
-use Rattle.bt_node.proofs.read.portions.opened_all.Given as goal
+use Rattle.bt_node.proofs.read.portions.portions_below.Given as goal
 
 -- the portions so far opened, and the others as they are
 abbrev pub invariant-loop-portion : goal.invariant-loop-portion

@@ -3,7 +3,7 @@ use Rattle.bt_messages.specs.Effects.{effect_of}
 use Rattle.bt_node.specs.Portions.{Divide}
 use Rattle.bt_node.specs.Walks.{is_leaf}
 use Rattle.bt_node.specs.inside.Openings.{children_left}
-use Rattle.bt_node.proofs.read.portions.opened.Given as goal
+use Rattle.bt_node.proofs.read.portions.child_portions.Given as goal
 
 -- the children so far, and then what is left of the portion
 abbrev pub invariant-loop-parts : goal.invariant-loop-parts

@@ -1,6 +1,6 @@
 use Rattle.std.proofs.Common.{◌<◌, ◌≤◌, ◌∙◌, arith, length, rules}
 use Rattle.bt_node.proofs.lemmas.code.CrownLoop.{children_some, crown_kept, crown_one, fewer, none_divided}
-use Rattle.bt_node.proofs.flush.crowned.crowned.Goals as goal
+use Rattle.bt_node.proofs.flush.crown.crown_node.Goals as goal
 
 pub close-requires-clause-some : goal.close-requires-clause-some
 close-requires-clause-some g c = children_some c.in_ok-children.children c.levels.level c.in_ok-children.ensures (omega (arith, c.levels-test.true, c.len.ensures.count))

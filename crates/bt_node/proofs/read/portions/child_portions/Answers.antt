@@ -4,7 +4,7 @@ use Rattle.bt_messages.specs.Effects.{effect_of}
 use Rattle.bt_node.specs.Portions.{Divide}
 use Rattle.bt_node.specs.Walks.{is_leaf}
 use Rattle.bt_node.proofs.lemmas.code.PortionSteps.{child_added}
-use Rattle.bt_node.proofs.read.portions.opened.Goals as goal
+use Rattle.bt_node.proofs.read.portions.child_portions.Goals as goal
 
 pub returns-in_default-others : goal.returns-in_default-others
 returns-in_default-others g c =

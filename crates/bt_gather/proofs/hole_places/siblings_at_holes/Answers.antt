@@ -5,7 +5,7 @@ use Rattle.bt_plan.specs.Views.{node_place}
 use Rattle.bt_gather.specs.Views.{pieces_of}
 use Rattle.bt_gather.specs.inside.Views.{node_places}
 use Rattle.bt_gather.proofs.Seats.{Seating, full, held_there, next_seated, start}
-use Rattle.bt_gather.proofs.hole_places.seated.Goals as goal
+use Rattle.bt_gather.proofs.hole_places.siblings_at_holes.Goals as goal
 
 pub loop-place-init : goal.loop-place-init
 loop-place-init g c =

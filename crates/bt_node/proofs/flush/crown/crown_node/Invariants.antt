@@ -1,6 +1,6 @@
 use Rattle.std.proofs.Common.{◌≡◌, length}
 use Rattle.bt_node.specs.Flushes.{crown}
-use Rattle.bt_node.proofs.flush.crowned.crowned.Given as goal
+use Rattle.bt_node.proofs.flush.crown.crown_node.Given as goal
 
 -- the same crown, from fewer nodes each time
 abbrev pub invariant-levels : goal.invariant-levels

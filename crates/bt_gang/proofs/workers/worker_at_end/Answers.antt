@@ -1,6 +1,6 @@
 use Rattle.std.proofs.Common.{[], All, ap, refl, sym, subst}
 use Rattle.bt_gang.proofs.Working.{one_list, ready_spare, served}
-use Rattle.bt_gang.proofs.workers.served.Goals as goal
+use Rattle.bt_gang.proofs.workers.worker_at_end.Goals as goal
 
 pub serve-requires-clause-pass : goal.serve-requires-clause-pass
 serve-requires-clause-pass g c κs within = (c.requires.worker.pass, one_list _ _ _ _ c.requires.worker.knows)

@@ -20,7 +20,7 @@ fn none_pending<V: Merge>(alloc: Global, siblings: Siblings<V>) -> Result<Childr
 }
 
 /// One node stands for itself. More are dealt by the fanout under inner nodes with empty buffers, again until one is left.
-pub(crate) fn crowned<V: Merge>(
+pub(crate) fn crown_node<V: Merge>(
     alloc: Global,
     shape: Shape,
     siblings: Siblings<V>,

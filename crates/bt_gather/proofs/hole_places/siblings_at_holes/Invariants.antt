@@ -1,7 +1,7 @@
 use Rattle.bt_gather.specs.Views.{pieces_of}
 use Rattle.bt_gather.specs.inside.Views.{node_places}
 use Rattle.bt_gather.proofs.Seats.{Seating}
-use Rattle.bt_gather.proofs.hole_places.seated.Given as goal
+use Rattle.bt_gather.proofs.hole_places.siblings_at_holes.Given as goal
 
 -- the pieces so far are in their slots
 abbrev pub invariant-loop-place : goal.invariant-loop-place

@@ -7,7 +7,7 @@ use Rattle.bt_node.specs.Parts.{AreRising}
 use Rattle.bt_node.specs.Portions.{Chained, HaveThere}
 use Rattle.bt_gather.specs.inside.KeyShares.{HasRisingKeys, values_there}
 use Rattle.bt_gather.proofs.KeyShares.{NoneBefore}
-use Rattle.bt_gather.proofs.key_lookups.shared.Given as goal
+use Rattle.bt_gather.proofs.key_lookups.lookup_jobs.Given as goal
 
 -- the jobs have the values at the keys so far, and the keys that are left belong to the portions that are left
 abbrev pub invariant-loop-portion : goal.invariant-loop-portion

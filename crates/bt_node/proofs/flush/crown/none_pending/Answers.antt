@@ -1,7 +1,7 @@
 use Rattle.std.proofs.Common.{◌++◌, ◌∙◌, ap, refl}
 use Rattle.bt_node.specs.Children.{behind_pivot}
 use Rattle.bt_node.proofs.lemmas.code.ChildLists.{behind_pivot-nothing}
-use Rattle.bt_node.proofs.flush.crowned.none_pending.Goals as goal
+use Rattle.bt_node.proofs.flush.crown.none_pending.Goals as goal
 
 pub same-siblings : goal.same-siblings
 same-siblings g c = refl

@@ -8,7 +8,7 @@ use Rattle.bt_node.specs.Parts.{AreRising}
 use Rattle.bt_node.specs.Portions.{Chained, HaveThere}
 use Rattle.bt_gather.specs.inside.KeyShares.{HasRisingKeys, owned_count, values_there}
 use Rattle.bt_gather.proofs.KeyShares.{NoneBefore, first_rise, none_before_none, none_left, rest_behind, rest_rise, values_behind}
-use Rattle.bt_gather.proofs.key_lookups.shared.Goals as goal
+use Rattle.bt_gather.proofs.key_lookups.lookup_jobs.Goals as goal
 
 -- a list that is not empty
 some_there : {X : Type 0} (xs : List X) → 0 < length xs → xs ≡ [] → ⊥
