@@ -8,7 +8,7 @@ use Rattle.bt_keycode.specs.Keys.{key_cmp}
 use Rattle.bt_messages.specs.Messages.{Messages, sorted_batch}
 use Rattle.bt_keycode.proofs.offered.Order.{same_key, total_keys}
 use Rattle.bt_messages.proofs.offered.Rows.{find-rows_after, rows_after-sorted_batch, sorted-rows_after}
-use Rattle.bt_fanout.specs.Selections.{AllStand, AreApart, between, covered, entry_changes, entry_in, index_messages, named, select}
+use Rattle.bt_fanout.specs.Selections.{AreApart, EachStands, between, covered, entry_changes, entry_in, index_messages, named, select}
 use Rattle.bt_fanout.proofs.Lookups.{sorted-select}
 use Rattle.bt_fanout.proofs.Owners.{owner}
 use Rattle.bt_fanout.proofs.Sendings.{sends}
@@ -17,9 +17,9 @@ use Rattle.bt_fanout.proofs.Sendings.{sends}
 pub find-covered : {X : Type 0} (covers : List ℕ → Bool) (k : List ℕ) (rows : Rows X) → find key_cmp k (covered covers rows) ≡ cond (covers k) (find key_cmp k rows) None
 find-covered covers k rows = find-where_key key_cmp covers k (λ x t. ap covers (sym (same_key k x (ap is_eq t)))) rows
 
-pub stand-covered : {X : Type 0} (Stands : List ℕ → X → Type 0) (covers : List ℕ → Bool) (rows : Rows X) → AllStand Stands rows → AllStand Stands (covered covers rows)
+pub stand-covered : {X : Type 0} (Stands : List ℕ → X → Type 0) (covers : List ℕ → Bool) (rows : Rows X) → EachStands Stands rows → EachStands Stands (covered covers rows)
 stand-covered Stands covers [] h = tt
-stand-covered Stands covers (r ∷ rows) h = elim (covers r.0) as (λ b. AllStand Stands (cond b (r ∷ covered covers rows) (covered covers rows))) [
+stand-covered Stands covers (r ∷ rows) h = elim (covers r.0) as (λ b. EachStands Stands (cond b (r ∷ covered covers rows) (covered covers rows))) [
   | true ↦ (h.0, stand-covered Stands covers rows h.1)
   | false ↦ stand-covered Stands covers rows h.1
 ]
@@ -65,7 +65,7 @@ module _ {X E D : Type 0} (entry : List ℕ → X → Option (List ℕ × E)) (s
 module _ {X E D : Type 0} (entry : List ℕ → X → Option (List ℕ × E)) (same : E → E → Bool) (sound : (a b : E) → same a b ≡ true → a ≡ b) (merged : Option E → D → E) (Stands : List ℕ → X → Type 0) (apart : AreApart Stands entry) where
   -- The messages of a batch, sorted by key, take the index of the covered rows before it to that of the covered rows after it.
   pub index_turns : {M : Type 0} (effect : Option X → M → Option X) (covers : List ℕ → Bool) (batch : Messages M) (map : Rows X) → T (is_sorted key_cmp map) →
-      AllStand Stands map → AllStand Stands (rows_after effect batch map) →
+      EachStands Stands map → EachStands Stands (rows_after effect batch map) →
       rows_after (effect_of merged) (sorted_batch (index_messages entry same effect covers batch map)) (select entry (covered covers map)) ≡ select entry (covered covers (rows_after effect batch map))
   index_turns effect covers batch map s before after =
       let new = rows_after effect batch map in

@@ -9,17 +9,17 @@ use Rattle.bt_fanout.specs.Covers.{is_covered, next_rows, put_of_entry, puts_of}
 use Rattle.bt_fanout.specs.Effects.{entry_effect}
 use Rattle.bt_fanout.specs.Entries.{Definition, StandsUnder, entry_of, same_values}
 use Rattle.bt_fanout.specs.Promises.{BuildsFrom, index_of, own_puts}
-use Rattle.bt_fanout.specs.Selections.{AllStand, covered}
+use Rattle.bt_fanout.specs.Selections.{EachStands, covered}
 use Rattle.bt_fanout.proofs.Batches.{stand-covered}
 use Rattle.bt_fanout.proofs.Builds.{builds}
 use Rattle.bt_fanout.proofs.Entries.{apart}
 
-pub stand-take : {X : Type 0} (Stands : List ℕ → X → Type 0) (n : ℕ) (rows : Rows X) → AllStand Stands rows → AllStand Stands (take n rows)
+pub stand-take : {X : Type 0} (Stands : List ℕ → X → Type 0) (n : ℕ) (rows : Rows X) → EachStands Stands rows → EachStands Stands (take n rows)
 stand-take Stands zero rows h = tt
 stand-take Stands (suc n) [] h = tt
 stand-take Stands (suc n) (r ∷ rows) h = (h.0, stand-take Stands n rows h.1)
 
-pub own_puts-are : (def : Definition) (kinds : List Kind) (rows : Rows (List Value)) → AllStand (StandsUnder def kinds) rows → own_puts def rows ≡ puts_of (entry_of def) rows
+pub own_puts-are : (def : Definition) (kinds : List Kind) (rows : Rows (List Value)) → EachStands (StandsUnder def kinds) rows → own_puts def rows ≡ puts_of (entry_of def) rows
 own_puts-are def kinds [] h = refl
 own_puts-are def kinds (r ∷ rows) h =
     ap (λ k. put_of_entry (entry_of def k r.1) ++ own_puts def rows) h.0.under ∙ ap (λ ms. put_of_entry (entry_of def r.0 r.1) ++ ms) (own_puts-are def kinds rows h.1)

@@ -9,10 +9,10 @@ use Rattle.bt_messages.specs.Effects.{Rows, effect_of, rows_after}
 use Rattle.bt_keycode.specs.Keys.{is_before, key_cmp}
 use Rattle.bt_messages.specs.Messages.{sorted_batch}
 use Rattle.bt_keycode.proofs.offered.Order.{apart as apart_keys, before_chain, neither_before, not_after, not_before_itself, same_key}
-use Rattle.bt_node.proofs.offered.Truths.{t_both, t_first, t_second, t_true, true_t}
+use Rattle.bt_keycode.proofs.offered.Truths.{t_both, t_first, t_second, t_true, true_t}
 use Rattle.bt_messages.proofs.offered.Rows.{rows_after-sorted_batch}
 use Rattle.bt_fanout.specs.Covers.{cover_after, is_covered, last_key, moved_to, next_rows, put_of_entry, puts_of}
-use Rattle.bt_fanout.specs.Selections.{AllStand, AreApart, between, covered, entry_changes, entry_in, keys_of, select}
+use Rattle.bt_fanout.specs.Selections.{AreApart, EachStands, between, covered, entry_changes, entry_in, keys_of, select}
 use Rattle.bt_fanout.specs.declared.cover.Cover.{Cover}
 use Rattle.bt_fanout.specs.declared.cover.Cover.TheVariants.{Nothing, UpTo, Whole}
 use Rattle.bt_fanout.proofs.Batches.{find-covered, stand-covered}
@@ -205,7 +205,7 @@ module _ {X E D : Type 0} (entry : List ℕ → X → Option (List ℕ × E)) (s
 
 module _ {X E D : Type 0} (entry : List ℕ → X → Option (List ℕ × E)) (same : E → E → Bool) (sound : (a b : E) → same a b ≡ true → a ≡ b) (merged : Option E → D → E) (Stands : List ℕ → X → Type 0) (apart : AreApart Stands entry) where
   -- The puts of a step of building, sorted by key, take the index of the rows covered before it to that of the rows covered after it.
-  pub builds : (n : ℕ) (cover : Cover) (rows : Rows X) → T (is_sorted key_cmp rows) → AllStand Stands rows →
+  pub builds : (n : ℕ) (cover : Cover) (rows : Rows X) → T (is_sorted key_cmp rows) → EachStands Stands rows →
       rows_after (effect_of merged) (sorted_batch (puts_of entry (next_rows n cover rows))) (select entry (covered (is_covered cover) rows)) ≡ select entry (covered (is_covered (cover_after n cover rows)) rows)
   builds n cover rows h stand =
       let read = next_rows n cover rows in

@@ -11,7 +11,7 @@ use Rattle.bt_keycode.proofs.offered.Order.{not_after, not_before_itself}
 use Rattle.bt_messages.specs.Effects.{Rows}
 use Rattle.bt_messages.specs.Messages.{Messages}
 use Rattle.bt_node.specs.Parts.{AreRising}
-use Rattle.bt_node.proofs.offered.Truths.{t_first, t_second, true_t}
+use Rattle.bt_keycode.proofs.offered.Truths.{t_first, t_second, true_t}
 use Rattle.bt_fanout.specs.Covers.{is_covered}
 use Rattle.bt_fanout.specs.Effects.{RowMessage, effects_at, effects_within, row_effect}
 use Rattle.bt_fanout.specs.Selections.{named}

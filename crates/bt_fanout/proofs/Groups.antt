@@ -3,18 +3,16 @@ use Rattle.std.proofs.Common.{◌≡◌, ℕ, suc, ◌<◌, ◌≤◌, Bool, tru
 use Rattle.std.proofs.lemmas.List.{map-append}
 use Rattle.std.proofs.lemmas.Simd.{map-map}
 use Rattle.std.specs.List.{filter}
-use Rattle.std.specs.Ordering.{eq_by_cmp, is_lt}
+use Rattle.std.specs.Ordering.{eq_by_cmp}
 use Rattle.std.specs.Cmp.{tied_itself}
 use Rattle.std.specs.FinMap.{find, put}
 use Rattle.std.specs.FinMap.Entries.{below_all, by_order, is_sorted}
-use Rattle.std.specs.declared.cmp.Ordering.{Ordering}
-use Rattle.std.specs.declared.cmp.Ordering.TheVariants.{Less, Equal, Greater}
 use Rattle.bt_rowtype.specs.declared.value.Value.{Value}
 use Rattle.bt_messages.specs.Effects.{Rows, rows_after, value_after}
 use Rattle.bt_keycode.specs.Keys.{AllFrom, IsSorted, is_before, key_cmp}
 use Rattle.bt_messages.specs.Messages.{Messages}
-use Rattle.bt_keycode.proofs.offered.Order.{apart as apart_keys, before_later, neither_before, not_before_itself, same_key, total_keys}
-use Rattle.bt_node.proofs.offered.Truths.{t_first, t_second, true_t}
+use Rattle.bt_keycode.proofs.offered.Order.{apart as apart_keys, before_later, is_less, neither_before, not_before_itself, same_key, total_keys}
+use Rattle.bt_keycode.proofs.offered.Truths.{t_first, t_second, true_t}
 use Rattle.bt_messages.proofs.offered.Rows.{find-rows_after, value_before}
 use Rattle.bt_fanout.specs.Covers.{is_covered}
 use Rattle.bt_fanout.specs.Effects.{RowMessage, effects_at, effects_of, row_effect}
@@ -26,11 +24,6 @@ use Rattle.bt_fanout.specs.declared.effect.Effect.{Effect}
 use Rattle.bt_fanout.proofs.Lookups.{equal_itself}
 use Rattle.bt_fanout.proofs.offered.Packets.{sorted-named}
 use Rattle.bt_fanout.proofs.Sendings.{turned}
-
-is_less : (o : Ordering) → is_lt o ≡ true → o ≡ Less
-is_less Less e = refl
-is_less Equal e = absurd (true≢false (sym e))
-is_less Greater e = absurd (true≢false (sym e))
 
 -- a key before another one, by the two tests that say so
 goes_before : (j k : List ℕ) → eq_by_cmp key_cmp j k ≡ false → is_before k j ≡ false → is_before j k ≡ true

@@ -9,7 +9,7 @@ use Rattle.std.specs.declared.cmp.Ordering.TheVariants.{Less, Equal, Greater}
 use Rattle.bt_messages.specs.Effects.{Rows}
 use Rattle.bt_keycode.specs.Keys.{key_cmp}
 use Rattle.bt_keycode.proofs.offered.Order.{same_key, total_keys}
-use Rattle.bt_node.proofs.offered.Truths.{t_first, t_second}
+use Rattle.bt_keycode.proofs.offered.Truths.{t_first, t_second}
 use Rattle.bt_fanout.specs.Selections.{entry_in, select, with_entry}
 
 less_is_not_equal : (o : Ordering) → T (is_lt o) → is_eq o ≡ false

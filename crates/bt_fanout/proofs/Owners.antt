@@ -2,7 +2,7 @@
 use Rattle.std.proofs.Common.{◌≡◌, ℕ, true, false, List, [], ◌∷◌, refl, sym, ◌∙◌, ◌⊎◌, inl, inr, Option, Some, None, true≢false}
 use Rattle.bt_messages.specs.Effects.{Rows}
 use Rattle.bt_keycode.proofs.offered.Order.{same_key}
-use Rattle.bt_fanout.specs.Selections.{AllStand, AreApart}
+use Rattle.bt_fanout.specs.Selections.{AreApart, EachStands}
 use Rattle.bt_fanout.proofs.Lookups.{IsOwner, is_at}
 
 module _ {X E : Type 0} (entry : List ℕ → X → Option (List ℕ × E)) (Stands : List ℕ → X → Type 0) (apart : AreApart Stands entry) where
@@ -15,7 +15,7 @@ module _ {X E : Type 0} (entry : List ℕ → X → Option (List ℕ × E)) (Sta
       go (Some a) None e f g h = absurd (true≢false (sym h))
       go (Some a) (Some b) e f g h = apart j k x y a b s t e f (sym (same_key q a.0 g) ∙ same_key q b.0 h)
 
-  pub owns : (q k : List ℕ) (x : X) → Stands k x → is_at q (entry k x) ≡ true → (rows : Rows X) → AllStand Stands rows → IsOwner entry q k rows
+  pub owns : (q k : List ℕ) (x : X) → Stands k x → is_at q (entry k x) ≡ true → (rows : Rows X) → EachStands Stands rows → IsOwner entry q k rows
   owns q k x s h [] all = tt
   owns q k x s h (r ∷ rows) all = ((λ t. one_owner q r.0 k r.1 x all.0 s t h), owns q k x s h rows all.1)
 
@@ -23,7 +23,7 @@ module _ {X E : Type 0} (entry : List ℕ → X → Option (List ℕ × E)) (Sta
   Found q = (k : List ℕ) × ((x : X) × (Stands k x × (is_at q (entry k x) ≡ true)))
 
   -- a row with an entry at q, or none has one
-  searched : (q : List ℕ) (rows : Rows X) → AllStand Stands rows → Found q ⊎ ((k : List ℕ) → IsOwner entry q k rows)
+  searched : (q : List ℕ) (rows : Rows X) → EachStands Stands rows → Found q ⊎ ((k : List ℕ) → IsOwner entry q k rows)
   searched q [] all = inr (λ k. tt)
   searched q (r ∷ rows) all = elim (is_at q (entry r.0 r.1)) as (λ t. is_at q (entry r.0 r.1) ≡ t → Found q ⊎ ((k : List ℕ) → IsOwner entry q k (r ∷ rows))) [
     | true ↦ λ t. inl (r.0, (r.1, (all.0, t)))
@@ -34,7 +34,7 @@ module _ {X E : Type 0} (entry : List ℕ → X → Option (List ℕ × E)) (Sta
   ] refl
 
   -- in two maps
-  pub owner : (old new : Rows X) → AllStand Stands old → AllStand Stands new → (q : List ℕ) → (k : List ℕ) × (IsOwner entry q k old × IsOwner entry q k new)
+  pub owner : (old new : Rows X) → EachStands Stands old → EachStands Stands new → (q : List ℕ) → (k : List ℕ) × (IsOwner entry q k old × IsOwner entry q k new)
   owner old new s t q = go (searched q old s) (searched q new t)
     where
       go : Found q ⊎ ((k : List ℕ) → IsOwner entry q k old) → Found q ⊎ ((k : List ℕ) → IsOwner entry q k new) → (k : List ℕ) × (IsOwner entry q k old × IsOwner entry q k new)

@@ -15,12 +15,12 @@ use Rattle.bt_rowtype.specs.declared.value.Kind.{Kind}
 use Rattle.bt_rowtype.specs.declared.value.Value.{Value}
 use Rattle.bt_keycode.specs.Keys.{AllFrom, IsSorted, is_before, key_cmp}
 use Rattle.bt_keycode.proofs.offered.Order.{not_after}
-use Rattle.bt_node.proofs.offered.Truths.{t_first, t_second, true_t}
+use Rattle.bt_keycode.proofs.offered.Truths.{t_first, t_second, true_t}
 use Rattle.bt_messages.specs.Effects.{Rows}
 use Rattle.bt_messages.proofs.offered.Stable.{earlier, stable_is_sorted_batch, tied_key}
 use Rattle.bt_fanout.specs.Entries.{Definition, StandsUnder, entry_of, own_entry}
 use Rattle.bt_fanout.specs.Promises.{SuitsRows}
-use Rattle.bt_fanout.specs.Selections.{AllStand, AreApart, entry_in, select, with_entry}
+use Rattle.bt_fanout.specs.Selections.{AreApart, EachStands, entry_in, select, with_entry}
 use Rattle.bt_fanout.specs.inside.RowEntries.{own_entries}
 use Rattle.bt_fanout.proofs.Entries.{apart}
 use Rattle.bt_fanout.proofs.Lookups.{equal_itself, find-select, find_below, is_at, sorted-select, value_at}
@@ -116,12 +116,12 @@ module _ {X E : Type 0} (entry : List ℕ → X → Option (List ℕ × E)) wher
 
   module _ (Stands : List ℕ → X → Type 0) (are_apart : AreApart Stands entry) where
     -- later rows have no entry with the key of that of a row
-    new_key : (r : List ℕ × X) (rows : Rows X) (a : List ℕ × E) → T (is_sorted key_cmp (r ∷ rows)) → AllStand Stands (r ∷ rows) → entry r.0 r.1 ≡ Some a → find key_cmp a.0 (select entry rows) ≡ None
+    new_key : (r : List ℕ × X) (rows : Rows X) (a : List ℕ × E) → T (is_sorted key_cmp (r ∷ rows)) → EachStands Stands (r ∷ rows) → entry r.0 r.1 ≡ Some a → find key_cmp a.0 (select entry rows) ≡ None
     new_key r rows a sorted stand e =
         find-select entry a.0 r.0 rows (t_second _ _ sorted) (owns entry Stands are_apart a.0 r.0 r.1 stand.0 (ap (is_at a.0) e ∙ equal_itself a.0) rows stand.1)
         ∙ ap (λ x. value_at a.0 (entry_in entry r.0 x)) (find_below r.0 rows (t_first _ _ sorted))
 
-    selects_in_order : (rows : Rows X) → T (is_sorted key_cmp rows) → AllStand Stands rows → IsStableBy earlier (entries_of rows) (select entry rows)
+    selects_in_order : (rows : Rows X) → T (is_sorted key_cmp rows) → EachStands Stands rows → IsStableBy earlier (entries_of rows) (select entry rows)
     selects_in_order [] sorted stand x = refl
     selects_in_order (r ∷ rows) sorted stand x =
         elim (entry r.0 r.1) as (λ o. entry r.0 r.1 ≡ o → filter (ties earlier x) (with_entry o (select entry rows)) ≡ filter (ties earlier x) (option_to_list o ++ entries_of rows)) [
@@ -132,14 +132,14 @@ module _ {X E : Type 0} (entry : List ℕ → X → Option (List ℕ × E)) wher
         ] refl
 
     -- so entries are in one order by rising key
-    reordered_are_selected : (rows : Rows X) (es : Rows E) → T (is_sorted key_cmp rows) → AllStand Stands rows → IsPermutation (entries_of rows) es → IsSorted es → es ≡ select entry rows
+    reordered_are_selected : (rows : Rows X) (es : Rows E) → T (is_sorted key_cmp rows) → EachStands Stands rows → IsPermutation (entries_of rows) es → IsSorted es → es ≡ select entry rows
     reordered_are_selected rows es sorted stand moved up =
         stable_is_sorted_batch (entries_of rows) es up
         (λ x. one_kept (ties earlier x) (entries_of rows) es moved
         (subst (λ kept. length kept ≤ 1) (selects_in_order rows sorted stand x) (few_tied x (select entry rows) (sorted-select entry rows))))
         ∙ sym (stable_is_sorted_batch (entries_of rows) (select entry rows) (in_order (select entry rows) (sorted-select entry rows)) (selects_in_order rows sorted stand))
 
-own_entries-are : (def : Definition) (kinds : List Kind) (rows : Rows (List Value)) → AllStand (StandsUnder def kinds) rows → own_entries def rows ≡ entries_of (entry_of def) rows
+own_entries-are : (def : Definition) (kinds : List Kind) (rows : Rows (List Value)) → EachStands (StandsUnder def kinds) rows → own_entries def rows ≡ entries_of (entry_of def) rows
 own_entries-are def kinds [] stand = refl
 own_entries-are def kinds (r ∷ rows) stand =
     ap (λ k. option_to_list (entry_of def k r.1) ++ own_entries def rows) stand.0.under ∙ ap (λ es. option_to_list (entry_of def r.0 r.1) ++ es) (own_entries-are def kinds rows stand.1)

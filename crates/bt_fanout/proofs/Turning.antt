@@ -15,7 +15,7 @@ use Rattle.bt_fanout.specs.Covers.{is_covered}
 use Rattle.bt_fanout.specs.Effects.{EntryMessage, effects_at, entry_effect, row_effect, sent_for, sent_for_all}
 use Rattle.bt_fanout.specs.Entries.{Definition, StandsUnder, entry_of, own_entry, same_values}
 use Rattle.bt_fanout.specs.Promises.{TurnsIndex, index_of}
-use Rattle.bt_fanout.specs.Selections.{AllStand, between, covered, entry_changes, entry_in, index_messages, named}
+use Rattle.bt_fanout.specs.Selections.{EachStands, between, covered, entry_changes, entry_in, index_messages, named}
 use Rattle.bt_fanout.specs.declared.cover.Cover.{Cover}
 use Rattle.bt_fanout.specs.declared.effect.Effect.{Effect}
 use Rattle.bt_fanout.proofs.Batches.{index_turns}
@@ -23,7 +23,7 @@ use Rattle.bt_fanout.proofs.Entries.{apart}
 
 module _ (def : Definition) (kinds : List Kind) where
   -- where rows stand under their keys, a row's entry is the one under its own key
-  own-is : (k : List ℕ) (rows : Rows (List Value)) → AllStand (StandsUnder def kinds) rows → own_entry def (find key_cmp k rows) ≡ entry_in (entry_of def) k (find key_cmp k rows)
+  own-is : (k : List ℕ) (rows : Rows (List Value)) → EachStands (StandsUnder def kinds) rows → own_entry def (find key_cmp k rows) ≡ entry_in (entry_of def) k (find key_cmp k rows)
   own-is k [] h = refl
   own-is k (r ∷ rows) h = elim (eq_by_cmp key_cmp k r.0) as (λ b. eq_by_cmp key_cmp k r.0 ≡ b →
       own_entry def (cond b (Some r.1) (find key_cmp k rows)) ≡ entry_in (entry_of def) k (cond b (Some r.1) (find key_cmp k rows))) [
@@ -31,7 +31,7 @@ module _ (def : Definition) (kinds : List Kind) where
         | false ↦ λ b. own-is k rows h.1
       ] refl
 
-  sent_for_all-is : (cover : Cover) (old new : Rows (List Value)) → AllStand (StandsUnder def kinds) old → AllStand (StandsUnder def kinds) new → (ks : Rows (Unit {0})) →
+  sent_for_all-is : (cover : Cover) (old new : Rows (List Value)) → EachStands (StandsUnder def kinds) old → EachStands (StandsUnder def kinds) new → (ks : Rows (Unit {0})) →
       sent_for_all def cover (effects_at (λ k. find key_cmp k old) (λ k. find key_cmp k new) ks)
       ≡ entry_changes (entry_of def) {D = List Value} same_values (λ k. find key_cmp k old) (λ k. find key_cmp k new) (covered (is_covered cover) ks)
   sent_for_all-is cover old new s t [] = refl

@@ -13,7 +13,7 @@ use Rattle.bt_fanout.specs.Covers.{cover_after, is_covered, next_rows, puts_of}
 use Rattle.bt_fanout.specs.Effects.{EntryMessage, RowMessage, entry_effect, row_effect, effects_of, sent_for_all}
 use Rattle.bt_fanout.specs.Entries.{Definition, StandsUnder, SuitsKinds, entry_of, same_values}
 use Rattle.bt_fanout.specs.Promises.{index_of}
-use Rattle.bt_fanout.specs.Selections.{AllStand, index_messages}
+use Rattle.bt_fanout.specs.Selections.{EachStands, index_messages}
 use Rattle.bt_fanout.specs.inside.Readings.{none_read, after_row}
 use Rattle.bt_fanout.specs.declared.cover.Cover.{Cover}
 use Rattle.bt_fanout.specs.declared.cover.Cover.TheVariants.{Nothing, UpTo, Whole}
@@ -139,11 +139,11 @@ two_by_one = refl
 abbrev kinds : List Kind
 kinds = kind.Int ∷ kind.Int ∷ []
 
-stand : AllStand (StandsUnder on_qty kinds) rows
+stand : EachStands (StandsUnder on_qty kinds) rows
 unfolding eight_bytes
 stand = (record { of_kinds = refl; under = refl }, (record { of_kinds = refl; under = refl }, (record { of_kinds = refl; under = refl }, tt)))
 
-stand_after : AllStand (StandsUnder on_qty kinds) (rows_after row_effect batch rows)
+stand_after : EachStands (StandsUnder on_qty kinds) (rows_after row_effect batch rows)
 unfolding eight_bytes
 stand_after = (record { of_kinds = refl; under = refl }, (record { of_kinds = refl; under = refl }, (record { of_kinds = refl; under = refl }, tt)))
 

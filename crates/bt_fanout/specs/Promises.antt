@@ -10,7 +10,7 @@ use Rattle.bt_messages.specs.Messages.{Messages, sorted_batch}
 use Rattle.bt_fanout.specs.Covers.{cover_after, is_covered, next_rows, put_of_entry}
 use Rattle.bt_fanout.specs.Effects.{EntryMessage, RowMessage, effects_of, entry_effect, row_effect}
 use Rattle.bt_fanout.specs.Entries.{Definition, IsWithin, StandsUnder, entry_of, own_entry, same_values}
-use Rattle.bt_fanout.specs.Selections.{AllStand, covered, index_messages, select}
+use Rattle.bt_fanout.specs.Selections.{EachStands, covered, index_messages, select}
 use Rattle.bt_fanout.specs.declared.cover.Cover.{Cover}
 use Rattle.bt_fanout.specs.declared.effect.Effect.{Effect}
 
@@ -29,7 +29,7 @@ pub record Turns (def : Definition) (cover : Cover) (batch : Messages RowMessage
 abbrev pub TurnsIndex : Definition → Cover → List Effect → Messages EntryMessage → Type 0
 TurnsIndex def cover effects packet =
     (kinds : List Kind) (batch : Messages RowMessage) (rows : Rows (List Value)) → effects ≡ effects_of batch rows → T (is_sorted key_cmp rows) →
-    AllStand (StandsUnder def kinds) rows → AllStand (StandsUnder def kinds) (rows_after row_effect batch rows) → Turns def cover batch rows packet
+    EachStands (StandsUnder def kinds) rows → EachStands (StandsUnder def kinds) (rows_after row_effect batch rows) → Turns def cover batch rows packet
 
 -- ---- steps of building
 
@@ -42,7 +42,7 @@ own_puts def (r ∷ rows) = put_of_entry (own_entry def (Some r.1)) ++ own_puts 
 abbrev pub BuildsFrom : Definition → Rows (List Value) → Messages EntryMessage → Type 0
 BuildsFrom def read packet =
     (kinds : List Kind) (n : ℕ) (cover : Cover) (rows : Rows (List Value)) → read ≡ next_rows n cover rows → T (is_sorted key_cmp rows) →
-    AllStand (StandsUnder def kinds) rows → rows_after entry_effect packet (index_of def cover rows) ≡ index_of def (cover_after n cover rows) rows
+    EachStands (StandsUnder def kinds) rows → rows_after entry_effect packet (index_of def cover rows) ≡ index_of def (cover_after n cover rows) rows
 
 -- ---- loads
 
@@ -51,4 +51,4 @@ pub record SuitsRows (def : Definition) (rows : Rows (List Value)) : Type 0 wher
   pub within : All (λ row. IsWithin def (length row.1)) rows
   pub sorted : T (is_sorted key_cmp rows)
   pub kinds : List Kind
-  pub stand : AllStand (StandsUnder def kinds) rows
+  pub stand : EachStands (StandsUnder def kinds) rows

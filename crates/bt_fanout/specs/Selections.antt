@@ -67,9 +67,9 @@ module _ {X E : Type 0} (entry : Key → X → Option (Key × E)) where
 
 module _ {X : Type 0} (Stands : Key → X → Type 0) where
   -- each row stands as it should under its key
-  abbrev pub AllStand : Rows X → Type 0
-  AllStand [] = Unit {0}
-  AllStand (r ∷ rows) = Stands r.0 r.1 × AllStand rows
+  abbrev pub EachStands : Rows X → Type 0
+  EachStands [] = Unit {0}
+  EachStands (r ∷ rows) = Stands r.0 r.1 × EachStands rows
 
   -- rows that stand so under two keys have entries with two keys
   abbrev pub AreApart : {E : Type 0} → (Key → X → Option (Key × E)) → Type 0

@@ -27,7 +27,9 @@ impl Model for Board {
 
     ghost view = { λ b. record { jobs = b.jobs; state = kept_state b.put b.takers.items b.held.items b.handed.items } };
 
-    ghost invariant = { λ b. IsReached (length b.held.items) (kept_state b.put b.takers.items b.held.items b.handed.items) × (b.put ≤ b.jobs) × (length b.takers.items ≤ b.put) × (b.jobs ≤ vec_capacity b.takers) × (b.jobs ≤ vec_capacity b.handed) };
+    ghost invariant = { λ b.
+        IsReached (length b.held.items) (kept_state b.put b.takers.items b.held.items b.handed.items)
+        × (b.put ≤ b.jobs) × (length b.takers.items ≤ b.put) × (b.jobs ≤ vec_capacity b.takers) × (b.jobs ≤ vec_capacity b.handed) };
 }
 
 impl Board {

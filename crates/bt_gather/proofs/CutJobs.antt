@@ -26,7 +26,7 @@ use Rattle.bt_gather.specs.Misfits.{misfit}
 use Rattle.bt_gather.specs.inside.RoundJobs.{AreRunnable, IsRunnable, all_pieces, shaped}
 use Rattle.bt_gather.specs.inside.RoundTrees.{AreJobsOf, IsEmptyWithRoom}
 use Rattle.bt_gather.proofs.NoMisfit.{no_misfit, places_at}
-use Rattle.bt_gather.proofs.offered.Fillable.{cut-fillable, holes-told}
+use Rattle.bt_gather.proofs.offered.Fillable.{cut-fillable, holes-with_holes}
 
 module _ {V M : Type 0} (meaning : Meaning V M) (shape : Shape) where
   outcome-places : (jobs : List (Job V M)) → places_at (outcomes meaning shape jobs) ≡ map hole_of jobs
@@ -75,7 +75,7 @@ module _ {V D : Type 0} (meaning : Meaning V (Message V D)) where
 
     at-holes : places_at wanted ≡ holes pieced.holed
     at-holes =
-        outcome-places meaning tree.0 pieced.jobs ∙ ap (map hole_of) stand.jobs ∙ sym (holes-told hole_of stand.tree) ∙ sym (ap holes stand.holed)
+        outcome-places meaning tree.0 pieced.jobs ∙ ap (map hole_of) stand.jobs ∙ sym (holes-with_holes hole_of stand.tree) ∙ sym (ap holes stand.holed)
 
     fit : misfit pieced.holed wanted ≡ None
     fit = no_misfit (holes pieced.holed) wanted at-holes fillable.rise

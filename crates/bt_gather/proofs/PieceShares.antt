@@ -62,8 +62,8 @@ module _ {V D : Type 0} where
 
       pub own-enough : jobs ≤ length items
       own-enough =
-          let told : code_place.Place × Siblings V (Message V D) → Place × Siblings V (Message V D) = λ p. (node_place p.0, p.1) in
-          omega (arith, as-cut.count, length-take jobs (pieces_of items), length-map items told)
+          let by_node_place : code_place.Place × Siblings V (Message V D) → Place × Siblings V (Message V D) = λ p. (node_place p.0, p.1) in
+          omega (arith, as-cut.count, length-take jobs (pieces_of items), length-map items by_node_place)
 
       module _ (own : List (code_place.Place × Siblings V (Message V D))) (next : own ≡ take jobs items) where
         own-pieces : pieces_of own ≡ take jobs (pieces_of items)

@@ -5,3 +5,4 @@ pub mod FirstNumbers
 pub mod Occurrences
 pub mod Order
 pub mod Ranges
+pub mod Truths

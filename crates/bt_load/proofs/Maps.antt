@@ -1,5 +1,5 @@
 -- Rows put into a map one after the other: the pairs in the order of their keys where no key stands twice, else the first row whose key an earlier one has.
-use Rattle.std.proofs.Common.{◌≡◌, ℕ, zero, suc, ◌+◌, ◌<◌, ◌≤◌, Bool, true, false, cond, ◌&&◌, T, List, [], ◌∷◌, get_or, length, map, refl, sym, ap, ◌∙◌, ◌⊎◌, inl, inr, true≢false, arith, Option, Some, None, Result, Ok, Err, if◌then◌else◌}
+use Rattle.std.proofs.Common.{◌≡◌, ℕ, zero, suc, ◌+◌, ◌<◌, ◌≤◌, Bool, true, false, cond, T, List, [], ◌∷◌, get_or, length, map, refl, sym, ap, ◌∙◌, ◌⊎◌, inl, inr, true≢false, arith, Option, Some, None, Result, Ok, Err, if◌then◌else◌}
 use Rattle.std.specs.Prelude.{is_some}
 use Rattle.std.proofs.lemmas.List.Sorted.{Contains-permutation, IsPermutation-sym, sum_by-IsPermutation}
 use Rattle.std.proofs.lemmas.List.Sums.{sum_by-cons}
@@ -15,6 +15,7 @@ use Rattle.bt_rowtype.specs.declared.refusal.Refusal.TheVariants.{DuplicateKey}
 use Rattle.bt_rowtype.specs.declared.value.Value.{Value}
 use Rattle.bt_keycode.specs.Keys.{Key, key_cmp}
 use Rattle.bt_keycode.proofs.offered.Order.{is_less, same_key, total_keys}
+use Rattle.bt_keycode.proofs.offered.Truths.{not_true, t_first, t_second, true_t}
 use Rattle.bt_keycode.specs.Standing.{RowMap, row_key}
 use Rattle.bt_load.specs.Maps.{map_of, map_with_rows}
 
@@ -179,31 +180,22 @@ find_moved q ps qs moved few = by_both (find key_cmp q ps) (find key_cmp q qs) r
     by_both (Some row) b e f = e ∙ sym (there row e)
     by_both None (Some row) e f = back row f ∙ sym f
 
-both_true : (a b : Bool) → T (a && b) → T a × T b
-both_true true b p = (tt, p)
-both_true false b p = absurd p
-
-pub is_true : (b : Bool) → T b → b ≡ true
-is_true true p = refl
-is_true false p = absurd p
-
 -- a key below others is not there
 count-below : (k : Key) (ps : RowMap) → T (below_all key_cmp k ps) → count k ps ≡ 0
 count-below k [] below = refl
 count-below k (p ∷ ps) below =
-    let both = both_true (is_lt (key_cmp k p.0)) (below_all key_cmp k ps) below in
-    let other : is_key k p.0 ≡ false = ap is_eq (is_less (key_cmp k p.0) (is_true (is_lt (key_cmp k p.0)) both.0)) in
-    count-cons k p ps ∙ ap (λ b. cond b 1 0 + count k ps) other ∙ (let none = count-below k ps both.1 in omega (arith, none))
+    let other : is_key k p.0 ≡ false = ap is_eq (is_less (key_cmp k p.0) (true_t (is_lt (key_cmp k p.0)) (t_first (is_lt (key_cmp k p.0)) (below_all key_cmp k ps) below))) in
+    count-cons k p ps ∙ ap (λ b. cond b 1 0 + count k ps) other ∙ (let none = count-below k ps (t_second (is_lt (key_cmp k p.0)) (below_all key_cmp k ps) below) in omega (arith, none))
 
 count-sorted : (q : Key) (ps : RowMap) → T (is_sorted key_cmp ps) → count q ps ≤ 1
 count-sorted q [] sorted = omega arith
 count-sorted q (p ∷ ps) sorted = by_test (is_key q p.0) refl (count-sorted q ps rest)
   where
     first : T (below_all key_cmp p.0 ps)
-    first = (both_true (below_all key_cmp p.0 ps) (is_sorted key_cmp ps) sorted).0
+    first = t_first (below_all key_cmp p.0 ps) (is_sorted key_cmp ps) sorted
 
     rest : T (is_sorted key_cmp ps)
-    rest = (both_true (below_all key_cmp p.0 ps) (is_sorted key_cmp ps) sorted).1
+    rest = t_second (below_all key_cmp p.0 ps) (is_sorted key_cmp ps) sorted
 
     by_test : (b : Bool) → is_key q p.0 ≡ b → count q ps ≤ 1 → count q (p ∷ ps) ≤ 1
     by_test true same few =
@@ -273,10 +265,6 @@ no_earlier : {A : Type 0} (m ps : RowMap) → IsKnown m ps 0 → (is_some (find 
 no_earlier m ps (inl found) f = f found
 no_earlier m ps (inr (j, below, same)) f = absurd (omega (arith, below))
 
-is_new : (b : Bool) → (b ≡ true → ⊥) → b ≡ false
-is_new true h = absurd (h refl)
-is_new false h = refl
-
 -- the first pair whose key is known is refused
 refused_first : (item : ℕ) (m ps : RowMap) (n : ℕ) → n < length ps → IsKnown m ps n → ((k : ℕ) → k < n → IsKnown m ps k → ⊥) → with_pairs item m ps ≡ Err (DuplicateKey (item + n))
 refused_first item m [] n within known first = absurd (omega (arith, within))
@@ -285,7 +273,7 @@ refused_first item m (p ∷ ps) zero within known first =
     no_earlier m (p ∷ ps) known (λ found. ap (λ b. if b then Err (DuplicateKey item) else with_pairs (item + 1) (put key_cmp p.0 p.1 m) ps) found ∙ ap (λ n. Err (DuplicateKey n)) here)
 refused_first item m (p ∷ ps) (suc n) within known first =
     let next : item + 1 + n ≡ item + suc n = omega arith in
-    let new = is_new (is_some (find key_cmp p.0 m)) (λ found. first 0 (omega arith) (inl found)) in
+    let new = not_true (is_some (find key_cmp p.0 m)) (λ found. first 0 (omega arith) (inl found)) in
     ap (λ b. if b then Err (DuplicateKey item) else with_pairs (item + 1) (put key_cmp p.0 p.1 m) ps) new
     ∙ refused_first (item + 1) (put key_cmp p.0 p.1 m) ps n (omega (arith, within)) (known_rest m p ps n known) (λ k below again. first (suc k) (omega (arith, below)) (known_all m p ps k again))
     ∙ ap (λ n. Err (DuplicateKey n)) next

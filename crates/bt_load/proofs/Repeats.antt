@@ -1,5 +1,5 @@
 -- Keys in order: where none repeats the one before it they strictly rise, and the least place of one that does is the first whose key an earlier place has.
-use Rattle.std.proofs.Common.{◌≡◌, ◌≢◌, ℕ, zero, suc, ◌+◌, ◌-◌, ◌<◌, ◌≤◌, Bool, true, false, T, ◌&&◌, List, [], ◌∷◌, get_or, length, map, refl, sym, ap, ◌∙◌, subst, ◌⊎◌, inl, inr, min, ⊎_elim, true≢false, arith, Option, Some, None, Err}
+use Rattle.std.proofs.Common.{◌≡◌, ◌≢◌, ℕ, zero, suc, ◌+◌, ◌-◌, ◌<◌, ◌≤◌, true, false, T, List, [], ◌∷◌, get_or, length, map, refl, sym, ap, ◌∙◌, subst, ◌⊎◌, inl, inr, min, ⊎_elim, true≢false, arith, Option, Some, None, Err}
 use Rattle.std.proofs.lemmas.Bool.{cases_lt, lt-ltb}
 use Rattle.std.proofs.lemmas.Bool.Decides.{eqb_tells}
 use Rattle.std.proofs.Math.Nat.{min-eq_left, min-eq_right, min-le_left, min-le_right}
@@ -18,6 +18,7 @@ use Rattle.bt_rowtype.specs.declared.refusal.Refusal.TheVariants.{DuplicateKey}
 use Rattle.bt_rowtype.specs.declared.value.Value.{Value}
 use Rattle.bt_keycode.specs.Keys.{Key, is_before, key_cmp}
 use Rattle.bt_keycode.proofs.offered.Order.{neither_before, same_key, total_keys}
+use Rattle.bt_keycode.proofs.offered.Truths.{not_true, t_both}
 use Rattle.bt_keycode.specs.Standing.{RowMap, row_key}
 use Rattle.bt_load.specs.Maps.{map_of}
 use Rattle.bt_load.specs.Steps.{placed_cmp}
@@ -88,20 +89,16 @@ skipped_rises p q (r ∷ placed) up (suc k) d within =
     subst (λ n. IsKeyBelow (get_or (r ∷ placed) k d) (get_or (p ∷ r ∷ placed) n d)) (sym next)
     (rest_rises q (r ∷ placed) (rest_rises p (q ∷ r ∷ placed) up) k d (omega (arith, within)))
 
-both : (a b : Bool) → T a → T b → T (a && b)
-both true b p q = q
-both false b p q = absurd p
-
 less : (o : Ordering) → o ≡ Less → T (is_lt o)
 less o e = subst (λ b. T b) (sym (ap is_lt e)) tt
 
 first_below : (f : Placed → List Value) (p : Placed) (placed : List Placed) → Rise (p ∷ placed) → T (below_all key_cmp p.key (map (λ q. (q.key, f q)) placed))
 first_below f p [] up = tt
-first_below f p (q ∷ placed) up = both _ _ (less _ (first_rises p q placed up)) (first_below f p placed (skipped_rises p q placed up))
+first_below f p (q ∷ placed) up = t_both _ _ (less _ (first_rises p q placed up)) (first_below f p placed (skipped_rises p q placed up))
 
 rising_sorted : (f : Placed → List Value) (placed : List Placed) → Rise placed → T (is_sorted key_cmp (map (λ q. (q.key, f q)) placed))
 rising_sorted f [] up = tt
-rising_sorted f (p ∷ placed) up = both _ _ (first_below f p placed up) (rising_sorted f placed (rest_rises p placed up))
+rising_sorted f (p ∷ placed) up = t_both _ _ (first_below f p placed up) (rising_sorted f placed (rest_rises p placed up))
 
 -- ---- the pairs that are given
 
@@ -141,10 +138,6 @@ only_less : (o : Ordering) → is_eq o ≡ false → is_lt (ordering_reverse o) 
 only_less Less e f = refl
 only_less Equal e f = absurd (true≢false e)
 only_less Greater e f = absurd (true≢false f)
-
-not_true : (b : Bool) → (b ≡ true → ⊥) → b ≡ false
-not_true true h = absurd (h refl)
-not_true false h = refl
 
 -- where no key repeats the one before it, keys rise
 pub rises : (placed : List Placed) → IsSorted placed_cmp placed → IsFirstRepeat placed (length placed) None → Rise placed

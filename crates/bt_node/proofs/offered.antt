@@ -4,4 +4,3 @@ pub mod PackedTrees
 pub mod Portions
 pub mod SampleTrees
 pub mod ShapedTrees
-pub mod Truths

@@ -14,7 +14,7 @@ use Rattle.bt_keycode.proofs.offered.Order.{is_less, total_keys}
 use Rattle.bt_node.specs.Flushes.{pivot_first, grouped, shared}
 use Rattle.bt_node.specs.Messages.{Meaning}
 use Rattle.bt_node.specs.Trees.{Shape, Siblings}
-use Rattle.bt_node.proofs.offered.Truths.{t_first, t_second, true_t}
+use Rattle.bt_keycode.proofs.offered.Truths.{t_first, t_second, true_t}
 use Rattle.bt_plan.specs.Pieces.{Holed, HoledNodes, Pieces, child, childless, filled_below, filled_with, hole, holes, holes_below, node_place_cmp, opened, piece_at, whole, with_holes, with_holes_below}
 use Rattle.bt_plan.specs.Cuts.{Job, hole_of, outcome, outcomes}
 use Rattle.bt_plan.proofs.Places.{Rise, by_place}
@@ -22,17 +22,17 @@ use Rattle.bt_plan.proofs.offered.Each.{each-first, each-rest}
 
 -- ---- filling by what the holes tell
 
-module _ {V M H G : Type 0} (s : Shape) (told : H → G) (piece : G → Siblings V M) (wanted : H → Siblings V M) where
+module _ {V M H G : Type 0} (s : Shape) (answer : H → G) (piece : G → Siblings V M) (wanted : H → Siblings V M) where
   mutual
-    pub filled-as : (h : Holed V M H) → Each (λ x. piece (told x) ≡ wanted x) (holes h) → filled_with s piece (with_holes told h) ≡ filled_with s wanted h
+    pub filled-as : (h : Holed V M H) → Each (λ x. piece (answer x) ≡ wanted x) (holes h) → filled_with s piece (with_holes answer h) ≡ filled_with s wanted h
     filled-as (whole t) e = refl
     filled-as (hole x) e = e.0
     filled-as (opened hs buffer) e = ap (λ xs. grouped s (shared xs buffer)) (below-as hs e)
 
-    below-as : (hs : HoledNodes V M H) → Each (λ x. piece (told x) ≡ wanted x) (holes_below hs) → filled_below s piece (with_holes_below told hs) ≡ filled_below s wanted hs
+    below-as : (hs : HoledNodes V M H) → Each (λ x. piece (answer x) ≡ wanted x) (holes_below hs) → filled_below s piece (with_holes_below answer hs) ≡ filled_below s wanted hs
     below-as childless e = refl
     below-as (child k h hs) e =
-        ap (λ xs. pivot_first k xs ++ filled_below s piece (with_holes_below told hs)) (filled-as h (each-first _ (holes h) (holes_below hs) e))
+        ap (λ xs. pivot_first k xs ++ filled_below s piece (with_holes_below answer hs)) (filled-as h (each-first _ (holes h) (holes_below hs) e))
         ∙ ap (λ xs. pivot_first k (filled_with s wanted h) ++ xs) (below-as hs (each-rest _ (holes h) (holes_below hs) e))
 
 module _ {V M : Type 0} (meaning : Meaning V M) (s : Shape) where

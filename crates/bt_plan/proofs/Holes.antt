@@ -13,55 +13,55 @@ use Rattle.bt_plan.proofs.offered.Each.{each-append, each-first, each-rest}
 
 -- what is asked of a hole gives what is wanted of what it tells now
 abbrev pub Turns : {H G : Type 0} → (H → G) → (ℕ → Option Key → Option Key → H → Type 0) → (ℕ → Option Key → Option Key → G → Type 0) → H → Type 0
-Turns told Asked Wanted h = (levels : ℕ) (low high : Option Key) → Asked levels low high h → Wanted levels low high (told h)
+Turns answer Asked Wanted h = (levels : ℕ) (low high : Option Key) → Asked levels low high h → Wanted levels low high (answer h)
 
 -- a tree in pieces with so many levels fits with what its holes tell now
 abbrev Tells : (V M : Type 0) {H G : Type 0} → (Key × M → ℕ) → Shape → (H → G) → (ℕ → Option Key → Option Key → H → Type 0) → (ℕ → Option Key → Option Key → G → Type 0) → ℕ → Type 0
-Tells V M {H} weigh shape told Asked Wanted levels = (low high : Option Key) (h : Holed V M H) → Each (Turns told Asked Wanted) (holes h) → HoledFits weigh Asked shape levels low high h →
-    HoledFits weigh Wanted shape levels low high (with_holes told h)
+Tells V M {H} weigh shape answer Asked Wanted levels = (low high : Option Key) (h : Holed V M H) → Each (Turns answer Asked Wanted) (holes h) → HoledFits weigh Asked shape levels low high h →
+    HoledFits weigh Wanted shape levels low high (with_holes answer h)
 
-module _ {V M H G : Type 0} (weigh : Key × M → ℕ) (shape : Shape) (told : H → G) where
-  pub pivots-told : (hs : HoledNodes V M H) → pivots_below (with_holes_below told hs) ≡ pivots_below hs
-  pivots-told childless = refl
-  pivots-told (child k h hs) = ap (λ ks. k ∷ ks) (pivots-told hs)
+module _ {V M H G : Type 0} (weigh : Key × M → ℕ) (shape : Shape) (answer : H → G) where
+  pub pivots-with_holes : (hs : HoledNodes V M H) → pivots_below (with_holes_below answer hs) ≡ pivots_below hs
+  pivots-with_holes childless = refl
+  pivots-with_holes (child k h hs) = ap (λ ks. k ∷ ks) (pivots-with_holes hs)
 
-  sent-told : (h : Holed V M H) (pending : Messages M) → IsSent h pending → IsSent (with_holes told h) pending
-  sent-told (whole t) pending s = s
-  sent-told (hole h) pending s = s
-  sent-told (opened hs buffer) pending s = s
+  sent-with_holes : (h : Holed V M H) (pending : Messages M) → IsSent h pending → IsSent (with_holes answer h) pending
+  sent-with_holes (whole t) pending s = s
+  sent-with_holes (hole h) pending s = s
+  sent-with_holes (opened hs buffer) pending s = s
 
   module _ (Asked : ℕ → Option Key → Option Key → H → Type 0) (Wanted : ℕ → Option Key → Option Key → G → Type 0) where
     -- a child in its place
     abbrev Child : {K : Type 0} → (ℕ → Option Key → Option Key → K → Type 0) → ℕ → Option Key → Option Key → HoledChild V M K → Type 0
     Child P levels low high c = HoledFits weigh P shape levels low high c.node × AllWithin low high c.pending × IsSorted c.pending × IsSent c.node c.pending
 
-    child-told : (levels : ℕ) → Tells V M weigh shape told Asked Wanted levels → (low high : Option Key) (k : Key) (h : Holed V M H) (b : Messages M) → Each (Turns told Asked Wanted) (holes h) →
-        Child Asked levels low high (record { pivot = k; node = h; pending = b }) → Child Wanted levels low high (record { pivot = k; node = with_holes told h; pending = b })
-    child-told levels tells low high k h b e f = (tells low high h e f.0, f.1, f.2, sent-told h b f.3)
+    child-with_holes : (levels : ℕ) → Tells V M weigh shape answer Asked Wanted levels → (low high : Option Key) (k : Key) (h : Holed V M H) (b : Messages M) → Each (Turns answer Asked Wanted) (holes h) →
+        Child Asked levels low high (record { pivot = k; node = h; pending = b }) → Child Wanted levels low high (record { pivot = k; node = with_holes answer h; pending = b })
+    child-with_holes levels tells low high k h b e f = (tells low high h e f.0, f.1, f.2, sent-with_holes h b f.3)
 
-    children-told : (levels : ℕ) → Tells V M weigh shape told Asked Wanted levels → (low high : Option Key) (hs : HoledNodes V M H) (bs : List (Messages M)) → Each (Turns told Asked Wanted) (holes_below hs) →
-        SideBySide (λ c. c.pivot) (Child Asked levels) low high (with_bins hs bs) → SideBySide (λ c. c.pivot) (Child Wanted levels) low high (with_bins (with_holes_below told hs) bs)
-    children-told levels tells low high childless bs e s = tt
-    children-told levels tells low high (child k h hs) [] e s = tt
-    children-told levels tells low high (child k h childless) (b ∷ bs) e s = child-told levels tells low high k h b (each-first (Turns told Asked Wanted) (holes h) [] e) s
-    children-told levels tells low high (child k h (child j i hs)) (b ∷ []) e s = child-told levels tells low high k h b (each-first (Turns told Asked Wanted) (holes h) (holes_below (child j i hs)) e) s
-    children-told levels tells low high (child k h (child j i hs)) (b ∷ c ∷ bs) e s = (
+    children-with_holes : (levels : ℕ) → Tells V M weigh shape answer Asked Wanted levels → (low high : Option Key) (hs : HoledNodes V M H) (bs : List (Messages M)) → Each (Turns answer Asked Wanted) (holes_below hs) →
+        SideBySide (λ c. c.pivot) (Child Asked levels) low high (with_bins hs bs) → SideBySide (λ c. c.pivot) (Child Wanted levels) low high (with_bins (with_holes_below answer hs) bs)
+    children-with_holes levels tells low high childless bs e s = tt
+    children-with_holes levels tells low high (child k h hs) [] e s = tt
+    children-with_holes levels tells low high (child k h childless) (b ∷ bs) e s = child-with_holes levels tells low high k h b (each-first (Turns answer Asked Wanted) (holes h) [] e) s
+    children-with_holes levels tells low high (child k h (child j i hs)) (b ∷ []) e s = child-with_holes levels tells low high k h b (each-first (Turns answer Asked Wanted) (holes h) (holes_below (child j i hs)) e) s
+    children-with_holes levels tells low high (child k h (child j i hs)) (b ∷ c ∷ bs) e s = (
       s.0,
       s.1,
-      child-told levels tells low (Some j) k h b (each-first (Turns told Asked Wanted) (holes h) (holes_below (child j i hs)) e) s.2,
-      children-told levels tells (Some j) high (child j i hs) (c ∷ bs) (each-rest (Turns told Asked Wanted) (holes h) (holes_below (child j i hs)) e) s.3,
+      child-with_holes levels tells low (Some j) k h b (each-first (Turns answer Asked Wanted) (holes h) (holes_below (child j i hs)) e) s.2,
+      children-with_holes levels tells (Some j) high (child j i hs) (c ∷ bs) (each-rest (Turns answer Asked Wanted) (holes h) (holes_below (child j i hs)) e) s.3,
     )
 
-    pub told-fits : (levels : ℕ) → Tells V M weigh shape told Asked Wanted levels
-    told-fits levels low high (whole t) e f = f
-    told-fits levels low high (hole h) e f = e.0 levels low high f
-    told-fits zero low high (opened hs buffer) e f = absurd f
-    told-fits (suc levels) low high (opened hs buffer) e f = (
-      subst (λ ks. 2 ≤ length ks) (sym (pivots-told hs)) f.0,
+    pub with_holes-fits : (levels : ℕ) → Tells V M weigh shape answer Asked Wanted levels
+    with_holes-fits levels low high (whole t) e f = f
+    with_holes-fits levels low high (hole h) e f = e.0 levels low high f
+    with_holes-fits zero low high (opened hs buffer) e f = absurd f
+    with_holes-fits (suc levels) low high (opened hs buffer) e f = (
+      subst (λ ks. 2 ≤ length ks) (sym (pivots-with_holes hs)) f.0,
       f.1,
       f.2,
-      subst (λ ks. SideBySide (λ c. c.pivot) (Child Wanted levels) low high (with_bins (with_holes_below told hs) (parts (drop 1 ks) buffer))) (sym (pivots-told hs))
-          (children-told levels (told-fits levels) low high hs (parts (drop 1 (pivots_below hs)) buffer) e f.3),
+      subst (λ ks. SideBySide (λ c. c.pivot) (Child Wanted levels) low high (with_bins (with_holes_below answer hs) (parts (drop 1 ks) buffer))) (sym (pivots-with_holes hs))
+          (children-with_holes levels (with_holes-fits levels) low high hs (parts (drop 1 (pivots_below hs)) buffer) e f.3),
     )
 
 -- ---- each hole

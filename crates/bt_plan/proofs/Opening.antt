@@ -36,11 +36,11 @@ use Rattle.bt_plan.proofs.Filling.{opened_children, opened_node}
 -- ---- children behind their pivots
 
 module _ {V M H : Type 0} where
-  told-zip : {G : Type 0} (f : H → G) (ks : List Key) (hs : List (Holed V M H)) →
+  with_holes-zip : {G : Type 0} (f : H → G) (ks : List Key) (hs : List (Holed V M H)) →
       with_holes_below f (holed_nodes (zip ks hs)) ≡ holed_nodes (zip ks (map (with_holes f) hs))
-  told-zip f [] hs = refl
-  told-zip f (k ∷ ks) [] = refl
-  told-zip f (k ∷ ks) (h ∷ hs) = ap (λ z. child k (with_holes f h) z) (told-zip f ks hs)
+  with_holes-zip f [] hs = refl
+  with_holes-zip f (k ∷ ks) [] = refl
+  with_holes-zip f (k ∷ ks) (h ∷ hs) = ap (λ z. child k (with_holes f h) z) (with_holes-zip f ks hs)
 
   -- the holes of an opened node are those of its children
   pub holes-zip : (ks : List Key) (hs : List (Holed V M H)) → length hs ≤ length ks → holes_below (holed_nodes (zip ks hs)) ≡ flat_map holes hs
@@ -252,9 +252,9 @@ module _ {V M : Type 0} {weigh : Key × M → ℕ} {mode : Mode} {s : Shape} {xs
         ∙ (λ i. opened (holed_nodes (zip (keys i) (cut_each weigh depth mode s place 0 (sym opening.trees i) after ms))) (concatenation (kept_bins after ms)))
 
     -- what the holes tell
-    pub node-told : opened (holed_nodes (with_pivots ks (map (with_holes hole_of) cuts))) (concatenation (kept_bins after ms))
+    pub node-with_holes : opened (holed_nodes (with_pivots ks (map (with_holes hole_of) cuts))) (concatenation (kept_bins after ms))
         ≡ with_holes hole_of (cut_out weigh (suc depth) mode s place (inner (nodes xs) (concatenation bins)) packet)
-    node-told = ap (λ hs. opened hs (concatenation (kept_bins after ms))) (sym (told-zip hole_of ([] ∷ ks) cuts)) ∙ ap (with_holes hole_of) (sym node-cut)
+    node-with_holes = ap (λ hs. opened hs (concatenation (kept_bins after ms))) (sym (with_holes-zip hole_of ([] ∷ ks) cuts)) ∙ ap (with_holes hole_of) (sym node-cut)
 
     pub node-jobs : flat_map holes cuts ≡ holes (cut_out weigh (suc depth) mode s place (inner (nodes xs) (concatenation bins)) packet)
     node-jobs = sym (ap holes node-cut ∙ holes-zip ([] ∷ ks) cuts (omega (arith, cuts_long)))

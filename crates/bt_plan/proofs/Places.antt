@@ -15,7 +15,7 @@ use Rattle.bt_node.specs.Messages.{Messages, load, with_messages}
 use Rattle.bt_node.specs.Trees.{Nodes, Shape, Tree, children, leaf, inner}
 use Rattle.bt_node.specs.declared.form.mode.Mode.{Mode}
 use Rattle.bt_node.proofs.offered.FlushSteps.{slots}
-use Rattle.bt_node.proofs.offered.Truths.{t_both, t_first, t_second}
+use Rattle.bt_keycode.proofs.offered.Truths.{t_both, t_first, t_second}
 use Rattle.bt_plan.specs.Pieces.{Place, holed_nodes, holes, holes_below, node_place_cmp, whole}
 use Rattle.bt_plan.specs.Cuts.{Job, child_place, cut_out}
 use Rattle.bt_plan.proofs.Filling.{opened_children, opened_node}

@@ -39,7 +39,7 @@ use Rattle.bt_fanout.specs.declared.effect.Effect.{Effect}
 use Rattle.bt_table.specs.declared.index.IndexHead.{IndexHead}
 
 -- rows of a schema stand as the laws of an index ask
-stand : (schema : Schema) (def : Definition) → def.keys ≡ schema.keys → (rows : Rows (List Value)) → AllStand schema rows → selection.AllStand (StandsUnder def (kinds_of schema.columns)) rows
+stand : (schema : Schema) (def : Definition) → def.keys ≡ schema.keys → (rows : Rows (List Value)) → AllStand schema rows → selection.EachStands (StandsUnder def (kinds_of schema.columns)) rows
 stand schema def keys [] all = tt
 stand schema def keys (row ∷ rows) all = (stands_under schema def row.0 row.1 keys all.0.fits all.0.placed, stand schema def keys rows all.1)
 
@@ -114,7 +114,7 @@ pub holds_selection : (schema : Schema) (shape : Shape) (rows : Rows (List Value
 holds_selection schema shape rows index sound = λ whole. sound.held ∙ of_whole index.def index.cover rows whole
 
 module _ (schema : Schema) (shape : Shape) (rows : Rows (List Value)) (sorted : T (is_sorted key_cmp rows)) (stand_in : AllStand schema rows) where
-  stands : (index : Index) → index.def.keys ≡ schema.keys → selection.AllStand (StandsUnder index.def (kinds_of schema.columns)) rows
+  stands : (index : Index) → index.def.keys ≡ schema.keys → selection.EachStands (StandsUnder index.def (kinds_of schema.columns)) rows
   stands index keys = stand schema index.def keys rows stand_in
 
   -- the packet of a step of building is that of the rows under their own keys
@@ -127,7 +127,7 @@ module _ (schema : Schema) (shape : Shape) (rows : Rows (List Value)) (sorted : 
       (step_builds index.def (kinds_of schema.columns) rows sorted (stands index sound.keys) n index.cover)
 
   -- each row has the columns that a definition names
-  all_within : (def : Definition) → SuitsKinds def (kinds_of schema.columns) → (some : Rows (List Value)) → selection.AllStand (StandsUnder def (kinds_of schema.columns)) some
+  all_within : (def : Definition) → SuitsKinds def (kinds_of schema.columns) → (some : Rows (List Value)) → selection.EachStands (StandsUnder def (kinds_of schema.columns)) some
       → All (λ row. IsWithin def (length row.1)) some
   all_within def suits [] all = all_none (λ row. IsWithin def (length row.1))
   all_within def suits (row ∷ some) all =

@@ -105,7 +105,9 @@ impl<'a> EntryGroups<'a> {
         key: &Key,
         entry: &Entry,
     ) -> Result<Option<i64>, AllocError>
-        ensures { IfOk result (λ number. IfSome number (λ number. (row : List value) × ((row_of_entry self.now.0 (key.now, entry.now) ≡ Some row) × IsLastOf (take self.now.1.0 row) self.now.1.2 × (number_in row self.now.1.1 ≡ number)))) }
+        ensures { IfOk result (λ number. IfSome number (λ number. (row : List value) × (
+            (row_of_entry self.now.0 (key.now, entry.now) ≡ Some row)
+            × IsLastOf (take self.now.1.0 row) self.now.1.2 × (number_in row self.now.1.1 ≡ number)))) }
     {
         let Some(front) = &self.front else {
             return Ok(None);

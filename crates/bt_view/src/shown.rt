@@ -180,7 +180,11 @@ fn index_range(
     from: Option<&RecordLine<'_>>,
     to: Option<&RecordLine<'_>>,
 ) -> Result<KeyRange, Refusal>
-    ensures answer { Answers (and_then (spec.when_whole index.entry.head.now.cover) (spec.range_as (take (spec.index_schema schema.now index.entry.head.now.def).keys (spec.index_schema schema.now index.entry.head.now.def).columns) (option_copied from.entry) (option_copied to.entry))) result }
+    ensures answer { Answers
+        (and_then (spec.when_whole index.entry.head.now.cover)
+        (spec.range_as (take (spec.index_schema schema.now index.entry.head.now.def).keys (spec.index_schema schema.now index.entry.head.now.def).columns)
+        (option_copied from.entry) (option_copied to.entry)))
+        result }
     ensures unbounded { from.entry ≡ None → to.entry ≡ None → result ≡ spec.when_whole index.entry.head.now.cover spec.all_keys }
 {
     let range = read_index_range(alloc, schema, &index.head.def, from, to)?;
@@ -223,7 +227,8 @@ fn scan_index<'a>(
     from: Option<&RecordLine<'_>>,
     to: Option<&RecordLine<'_>>,
 ) -> Result<Shown<'a>, Refusal>
-    ensures answer { (table : PlainTable) → ShowsIndex table schema.now (index_of_ref index.entry) → AnswersRows (spec.scan_with_keys_of (option_copied from.entry) (option_copied to.entry) (Secondary table (index_of_ref index.entry))) result }
+    ensures answer { (table : PlainTable) → ShowsIndex table schema.now (index_of_ref index.entry) →
+        AnswersRows (spec.scan_with_keys_of (option_copied from.entry) (option_copied to.entry) (Secondary table (index_of_ref index.entry))) result }
     ensures unbounded { (table : PlainTable) → from.entry ≡ None → to.entry ≡ None → IfErr (spec.scan_with_keys_of None None (Secondary table (index_of_ref index.entry))) (IsErrOf result) }
 {
     let range = index_range(alloc, schema, index, from, to)?;
@@ -279,8 +284,11 @@ fn sum_index<'a>(
     from: Option<&RecordLine<'_>>,
     to: Option<&RecordLine<'_>>,
 ) -> Result<Summed<'a>, Refusal>
-    ensures answer { (table : PlainTable) → ShowsIndex table schema.now (index_of_ref index.entry) → AnswersSums (groups.sums_of grouping column.now (option_copied from.entry) (option_copied to.entry) (Secondary table (index_of_ref index.entry))) result }
-    ensures unbounded { (table : PlainTable) → ShowsIndex table schema.now (index_of_ref index.entry) → from.entry ≡ None → to.entry ≡ None → IfErr (groups.sums_of grouping column.now None None (Secondary table (index_of_ref index.entry))) (λ refusal. refusal ≢ Refusal.TooMany → IsErrOf result refusal) }
+    ensures answer { (table : PlainTable) → ShowsIndex table schema.now (index_of_ref index.entry) →
+        AnswersSums (groups.sums_of grouping column.now (option_copied from.entry) (option_copied to.entry) (Secondary table (index_of_ref index.entry))) result }
+    ensures unbounded { (table : PlainTable) → ShowsIndex table schema.now (index_of_ref index.entry) → from.entry ≡ None → to.entry ≡ None →
+        IfErr (groups.sums_of grouping column.now None None (Secondary table (index_of_ref index.entry)))
+        (λ refusal. refusal ≢ Refusal.TooMany → IsErrOf result refusal) }
 {
     let range = index_range(alloc, schema, index, from, to)?;
     let place = match index_place(schema, &index.head.def, grouping, column) {

@@ -8,7 +8,7 @@ use Rattle.bt_messages.specs.Effects.{rows_after}
 use Rattle.bt_messages.specs.Messages.{sorted_batch}
 use Rattle.bt_fanout.specs.Effects.{SuitsEffect, effects_of, row_effect}
 use Rattle.bt_fanout.specs.Entries.{Definition, IsWithin, StandsUnder, SuitsKinds}
-use Rattle.bt_fanout.specs.Selections.{AllStand}
+use Rattle.bt_fanout.specs.Selections.{EachStands}
 use Rattle.bt_fanout.proofs.offered.Suiting.{suits_effects}
 use Rattle.test_calls.specs.Quantities.{batch, key_of, kinds, row_of, three_rows}
 
@@ -20,11 +20,11 @@ module _ (def : Definition) (keys : def.keys ≡ 1) where
   stands : (id quantity : ℤ) → StandsUnder def kinds (key_of id) (row_of id quantity)
   stands id quantity = record { of_kinds = refl; under = ap (λ n. code_of (take n (row_of id quantity))) keys }
 
-  before : AllStand (StandsUnder def kinds) three_rows
+  before : EachStands (StandsUnder def kinds) three_rows
   unfolding eight_bytes
   before = (stands _ _, (stands _ _, (stands _ _, tt)))
 
-  after : AllStand (StandsUnder def kinds) (rows_after row_effect (sorted_batch batch) three_rows)
+  after : EachStands (StandsUnder def kinds) (rows_after row_effect (sorted_batch batch) three_rows)
   unfolding eight_bytes
   after = (stands _ _, (stands _ _, (stands _ _, tt)))
 

@@ -17,7 +17,8 @@ use Rattle.bt_node.specs.Fits.{IsInOrder, IsRoomy}
 use Rattle.bt_node.specs.Messages.{Meaning, Messages}
 use Rattle.bt_node.specs.Trees.{Shape, Siblings, Tree}
 use Rattle.bt_node.specs.declared.form.mode.Mode.{Mode}
-use Rattle.bt_node.proofs.offered.Truths.{t_true, true_t}
+use Rattle.bt_keycode.proofs.offered.Order.{is_equal}
+use Rattle.bt_keycode.proofs.offered.Truths.{t_true, true_t}
 use Rattle.bt_plan.proofs.offered.Cuts.{Answers, jobs-in_order}
 use Rattle.bt_plan.proofs.offered.Each.{each-append, each-weaken}
 use Rattle.bt_plan.specs.Cuts.{Job, Pieced, cut, outcome, outcomes}
@@ -27,7 +28,7 @@ use Rattle.bt_plan.specs.Views.{IsCut, job_of, node_place}
 use Rattle.bt_plan.specs.declared.job.Job as code
 use Rattle.bt_plan.specs.declared.job.Place as code_place
 use Rattle.bt_gather.proofs.offered.Fillable.{cut-fillable}
-use Rattle.bt_gather.proofs.offered.PlaceOrder.{is_equal, ties_itself, total_places}
+use Rattle.bt_gather.proofs.offered.PlaceOrder.{ties_itself, total_places}
 use Rattle.bt_gather.specs.Laws.{IsFillable}
 use Rattle.bt_gather.specs.Views.{pieces_of}
 use Rattle.test_cuts.specs.Turns.{Among, AreInOrder, AreOdd, AreRun, AreRunBefore, AreTurned}

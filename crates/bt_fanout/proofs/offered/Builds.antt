@@ -10,13 +10,13 @@ use Rattle.bt_fanout.specs.Covers.{cover_after, is_covered, next_rows, puts_of}
 use Rattle.bt_fanout.specs.Effects.{entry_effect}
 use Rattle.bt_fanout.specs.Entries.{Definition, StandsUnder, entry_of}
 use Rattle.bt_fanout.specs.Promises.{index_of, own_puts}
-use Rattle.bt_fanout.specs.Selections.{AllStand, covered}
+use Rattle.bt_fanout.specs.Selections.{EachStands, covered}
 use Rattle.bt_fanout.specs.declared.cover.Cover.{Cover}
 use Rattle.bt_fanout.proofs.Batches.{stand-covered}
 use Rattle.bt_fanout.proofs.BuildPackets.{builds_from, own_puts-are, stand-take}
 pub use Rattle.bt_fanout.proofs.Lookups.{sorted-select}
 
-module _ (def : Definition) (kinds : List Kind) (rows : Rows (List Value)) (sorted : T (is_sorted key_cmp rows)) (stand : AllStand (StandsUnder def kinds) rows) where
+module _ (def : Definition) (kinds : List Kind) (rows : Rows (List Value)) (sorted : T (is_sorted key_cmp rows)) (stand : EachStands (StandsUnder def kinds) rows) where
   -- the rows that a step reads send the entries that they have under their keys
   pub step_puts : (n : ℕ) (cover : Cover) → own_puts def (next_rows n cover rows) ≡ puts_of (entry_of def) (next_rows n cover rows)
   step_puts n cover =

@@ -9,7 +9,7 @@ use Rattle.bt_keycode.specs.Keys.{Key}
 use Rattle.bt_messages.specs.Effects.{Rows}
 use Rattle.bt_fanout.specs.Definitions.{kinds_of}
 use Rattle.bt_fanout.specs.Entries.{Definition, StandsUnder}
-use Rattle.bt_fanout.specs.Selections.{AllStand}
+use Rattle.bt_fanout.specs.Selections.{EachStands}
 
 first_fits : (a b : Bool) → (a && b) ≡ true → a ≡ true
 first_fits true b h = refl
@@ -35,6 +35,6 @@ stands_under schema def key row keys fits placed = record {
 }
 
 -- what holds of each row where another fact does
-pub all_stand : {X : Type 0} (P Q : Key → X → Type 0) → ((k : Key) (x : X) → P k x → Q k x) → (rows : Rows X) → AllStand P rows → AllStand Q rows
+pub all_stand : {X : Type 0} (P Q : Key → X → Type 0) → ((k : Key) (x : X) → P k x → Q k x) → (rows : Rows X) → EachStands P rows → EachStands Q rows
 all_stand P Q more [] h = tt
 all_stand P Q more (r ∷ rows) h = (more r.0 r.1 h.0, all_stand P Q more rows h.1)

@@ -14,7 +14,7 @@ use Rattle.bt_fanout.specs.Covers.{is_whole}
 use Rattle.bt_fanout.specs.Effects.{RowMessage, SuitsEffect, SuitsIn, effects_at, effects_of, row_effect}
 use Rattle.bt_fanout.specs.Entries.{Definition, IsWithin, StandsUnder, SuitsKinds, entry_of}
 use Rattle.bt_fanout.specs.Promises.{index_of}
-use Rattle.bt_fanout.specs.Selections.{AllStand, covered, named, select}
+use Rattle.bt_fanout.specs.Selections.{EachStands, covered, named, select}
 use Rattle.bt_fanout.specs.declared.cover.Cover.{Cover}
 use Rattle.bt_fanout.specs.declared.cover.Cover.TheVariants.{Nothing, UpTo, Whole}
 
@@ -30,20 +30,20 @@ module _ (def : Definition) (kinds : List Kind) (suits : SuitsKinds def kinds) w
   pub suits_row : (row : List Value) → map kind_of row ≡ kinds → IsWithin def (length row)
   suits_row row e = subst (IsWithin def) (sym (ap length e) ∙ length-map row kind_of) suits.within
 
-  suits_in : (k : List ℕ) (rows : Rows (List Value)) → AllStand (StandsUnder def kinds) rows → SuitsIn def (find key_cmp k rows)
+  suits_in : (k : List ℕ) (rows : Rows (List Value)) → EachStands (StandsUnder def kinds) rows → SuitsIn def (find key_cmp k rows)
   suits_in k [] h = tt
   suits_in k (r ∷ rows) h = elim (eq_by_cmp key_cmp k r.0) as (λ b. SuitsIn def (cond b (Some r.1) (find key_cmp k rows))) [
     | true ↦ suits_row r.1 h.0.of_kinds
     | false ↦ suits_in k rows h.1
   ]
 
-  suits_at : (old new : Rows (List Value)) → AllStand (StandsUnder def kinds) old → AllStand (StandsUnder def kinds) new → (ks : Rows (Unit {0})) →
+  suits_at : (old new : Rows (List Value)) → EachStands (StandsUnder def kinds) old → EachStands (StandsUnder def kinds) new → (ks : Rows (Unit {0})) →
       All (SuitsEffect def) (effects_at (λ k. find key_cmp k old) (λ k. find key_cmp k new) ks)
   suits_at old new s t [] = all_none (SuitsEffect def)
   suits_at old new s t (k ∷ ks) = all_more (SuitsEffect def) _ _ (suits_in k.0 old s, suits_in k.0 new t) (suits_at old new s t ks)
 
   -- so `index_packet` may be called with the effects of a batch
-  pub suits_effects : (batch : Messages RowMessage) (rows : Rows (List Value)) → AllStand (StandsUnder def kinds) rows → AllStand (StandsUnder def kinds) (rows_after row_effect batch rows) →
+  pub suits_effects : (batch : Messages RowMessage) (rows : Rows (List Value)) → EachStands (StandsUnder def kinds) rows → EachStands (StandsUnder def kinds) (rows_after row_effect batch rows) →
       All (SuitsEffect def) (effects_of batch rows)
   suits_effects batch rows s t = suits_at rows (rows_after row_effect batch rows) s t (named batch)
 

@@ -15,17 +15,17 @@ use Rattle.bt_plan.proofs.offered.Cuts.{Answers, pieces-fit}
 use Rattle.bt_gather.specs.Laws.{IsFillable}
 use Rattle.bt_gather.specs.Misfits.{AreRisingPlaces}
 
-module _ {V M H G : Type 0} (told : H → G) where
+module _ {V M H G : Type 0} (answer : H → G) where
   mutual
-    pub holes-told : (t : Holed V M H) → holes (with_holes told t) ≡ map told (holes t)
-    holes-told (whole t) = refl
-    holes-told (hole h) = refl
-    holes-told (opened hs buffer) = below-told hs
+    pub holes-with_holes : (t : Holed V M H) → holes (with_holes answer t) ≡ map answer (holes t)
+    holes-with_holes (whole t) = refl
+    holes-with_holes (hole h) = refl
+    holes-with_holes (opened hs buffer) = below-with_holes hs
 
-    below-told : (hs : HoledNodes V M H) → holes_below (with_holes_below told hs) ≡ map told (holes_below hs)
-    below-told childless = refl
-    below-told (child k h hs) =
-        ap (λ z. z ++ holes_below (with_holes_below told hs)) (holes-told h) ∙ ap (λ z. map told (holes h) ++ z) (below-told hs) ∙ sym (map-append told (holes h) (holes_below hs))
+    below-with_holes : (hs : HoledNodes V M H) → holes_below (with_holes_below answer hs) ≡ map answer (holes_below hs)
+    below-with_holes childless = refl
+    below-with_holes (child k h hs) =
+        ap (λ z. z ++ holes_below (with_holes_below answer hs)) (holes-with_holes h) ∙ ap (λ z. map answer (holes h) ++ z) (below-with_holes hs) ∙ sym (map-append answer (holes h) (holes_below hs))
 
 module _ {V M : Type 0} where
   -- the same places, beside jobs or beside themselves
@@ -43,7 +43,7 @@ module _ {V M : Type 0} where
   pub cut-fillable : (meaning : Meaning V M) (shape : Shape) → IsRoomy shape → (c : Pieced V M) → StandInHoles meaning.weigh shape c → PlacesRise c → (pieces : Pieces V M) →
       All (Answers meaning shape pieces) c.jobs → IsFillable meaning.weigh shape c.holed pieces
   cut-fillable meaning shape roomy c stand rise pieces all = record {
-    rise = subst AreRisingPlaces (sym (ap holes stand.holed ∙ holes-told hole_of stand.tree ∙ ap (map hole_of) (sym stand.jobs))) (subst T (sorted-same c.jobs) rise);
+    rise = subst AreRisingPlaces (sym (ap holes stand.holed ∙ holes-with_holes hole_of stand.tree ∙ ap (map hole_of) (sym stand.jobs))) (subst T (sorted-same c.jobs) rise);
     levels = stand.levels;
     fits = pieces-fit meaning shape roomy c stand pieces all;
   }

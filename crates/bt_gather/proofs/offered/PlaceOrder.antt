@@ -1,18 +1,17 @@
 -- The order of places, and rising places.
-use Rattle.std.proofs.Common.{◌≡◌, ℕ, zero, suc, T, true, false, cond, List, [], ◌∷◌, map, set, refl, sym, ap, ◌∙◌}
+use Rattle.std.proofs.Common.{◌≡◌, ℕ, zero, suc, true, false, cond, List, [], ◌∷◌, map, set, refl, sym, ap, ◌∙◌}
 use Rattle.std.proofs.lemmas.Bool.{and_parts}
 use Rattle.std.specs.Cmp.{IsTotalOrder, tied_itself}
 use Rattle.std.specs.FinMap.{nat_cmp-IsAntisymmetric, slice_cmp-IsAntisymmetric}
 use Rattle.std.specs.FinMap.Entries.{below_all}
 use Rattle.std.specs.List.{slice_get}
 use Rattle.std.specs.Ordering.{is_eq, ordering_reverse}
-use Rattle.std.specs.declared.cmp.Ordering.{Ordering}
-use Rattle.std.specs.declared.cmp.Ordering.TheVariants.{Equal, Greater, Less}
+use Rattle.std.specs.declared.cmp.Ordering.TheVariants.{Equal, Less}
 use Rattle.std.specs.declared.option.Option.TheVariants.{Some}
 use Rattle.std.proofs.lemmas.Option.{none-some, same_Some}
 use Rattle.bt_keycode.specs.Keys.{Key}
 use Rattle.bt_keycode.proofs.offered.Order.{is_less, total_keys}
-use Rattle.bt_node.proofs.offered.Truths.{t_true, true_t}
+use Rattle.bt_keycode.proofs.offered.Truths.{t_true, true_t}
 use Rattle.bt_plan.specs.Pieces.{Place, node_place_cmp}
 use Rattle.bt_gather.specs.Misfits.{AreRisingPlaces}
 
@@ -40,11 +39,6 @@ same_place p q e = ap place_by (slice_cmp-IsAntisymmetric nat_cmp-IsAntisymmetri
 
 pub ties_itself : (p : Place) → is_eq (node_place_cmp p p) ≡ true
 ties_itself p = ap is_eq (tied_itself total_places p)
-
-pub is_equal : (o : Ordering) → is_eq o ≡ true → o ≡ Equal
-is_equal Less e = cc e
-is_equal Equal e = refl
-is_equal Greater e = cc e
 
 -- a place and an earlier one
 pub not_earlier : (p q : Place) → node_place_cmp p q ≡ Less → is_eq (node_place_cmp q p) ≡ false

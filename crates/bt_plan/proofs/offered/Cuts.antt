@@ -18,7 +18,7 @@ use Rattle.bt_plan.specs.Pieces.{FitsHole, HoledFits, Pieces, filled, holes, nod
 use Rattle.bt_plan.proofs.Filling.{cut-filled}
 use Rattle.bt_plan.proofs.Fits.{cut-fits}
 use Rattle.bt_plan.proofs.Found.{all-stand, filled-standing}
-use Rattle.bt_plan.proofs.Holes.{Somewhere, each-asked, told-fits}
+use Rattle.bt_plan.proofs.Holes.{Somewhere, each-asked, with_holes-fits}
 use Rattle.bt_plan.proofs.Places.{cut-rises}
 -- children side by side, and what is pending for them
 pub use Rattle.bt_plan.proofs.Passes.{all_pending-none, lies-divides, stripped-none}
@@ -28,7 +28,7 @@ pub use Rattle.bt_plan.proofs.Found.{all-stand}
 pub use Rattle.bt_plan.proofs.Opening.{holes-zip}
 -- trees in pieces whose holes tell something else
 pub use Rattle.bt_plan.proofs.Found.{filled-as}
-pub use Rattle.bt_plan.proofs.Holes.{bins-long, told-fits}
+pub use Rattle.bt_plan.proofs.Holes.{bins-long, with_holes-fits}
 
 module _ {V M : Type 0} (meaning : Meaning V M) (number : ℕ) (shape : Shape) (root : Tree V M) (has : HasShape meaning.weigh shape root) (packet : Messages M) (depth : ℕ) (mode : Mode) where
   -- each job stands in a hole of its own and fits there
@@ -76,7 +76,7 @@ module _ {V M : Type 0} (meaning : Meaning V M) (shape : Shape) (roomy : IsRoomy
   pub pieces-fit : (c : Pieced V M) (stand : StandInHoles meaning.weigh shape c) (pieces : Pieces V M) → All (Answers meaning shape pieces) c.jobs → HoledFits meaning.weigh (FitsHole meaning.weigh shape pieces) shape stand.levels None None c.holed
   pieces-fit c stand pieces all =
       subst (HoledFits meaning.weigh (FitsHole meaning.weigh shape pieces) shape stand.levels None None) (sym stand.holed)
-      (told-fits meaning.weigh shape hole_of (JobFits meaning.weigh shape) (FitsHole meaning.weigh shape pieces) stand.levels None None stand.tree
+      (with_holes-fits meaning.weigh shape hole_of (JobFits meaning.weigh shape) (FitsHole meaning.weigh shape pieces) stand.levels None None stand.tree
       (each-fits pieces (holes stand.tree) (recursion_from_All (Answers meaning shape pieces) (holes stand.tree) (subst (All (Answers meaning shape pieces)) stand.jobs all))) stand.fit)
 
 -- the nodes of the jobs of a cut are in order

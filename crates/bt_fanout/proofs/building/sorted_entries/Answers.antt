@@ -2,7 +2,7 @@ use Rattle.std.proofs.Common.{rules, ◌≡◌, ◌∙◌, IsPermutation, ap, su
 use Rattle.std.proofs.lemmas.List.Sorted.{answers_always}
 use Rattle.std.specs.FinMap.{is_sorted}
 use Rattle.bt_keycode.specs.Keys.{key_cmp}
-use Rattle.bt_node.proofs.offered.Truths.{true_t}
+use Rattle.bt_keycode.proofs.offered.Truths.{true_t}
 use Rattle.bt_messages.proofs.offered.Stable.{earlier, earlier_ranks, from_sorted}
 use Rattle.bt_fanout.specs.Entries.{entry_of}
 use Rattle.bt_fanout.specs.Selections.{select}

@@ -5,7 +5,7 @@ use Rattle.bt_messages.specs.Weights.{weigh_of}
 use Rattle.bt_node.specs.Fits.{AreFit, IsRoomy}
 use Rattle.bt_gather.specs.Views.{pieces_of}
 use Rattle.bt_gather.specs.inside.Views.{node_places}
-use Rattle.bt_gather.proofs.Told.{are-filling}
+use Rattle.bt_gather.proofs.FilledInOrder.{are-filling}
 use Rattle.bt_gather.proofs.filling.fill_at.Goals as goal
 
 pub fill_node-requires : goal.fill_node-requires

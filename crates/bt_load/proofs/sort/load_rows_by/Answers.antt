@@ -1,5 +1,6 @@
 use Rattle.std.proofs.Common.{rules}
-use Rattle.bt_load.proofs.Maps.{is_true, sorted_is_map}
+use Rattle.bt_keycode.proofs.offered.Truths.{true_t}
+use Rattle.bt_load.proofs.Maps.{sorted_is_map}
 use Rattle.bt_load.proofs.Places.{distinct_placed}
 use Rattle.bt_load.proofs.Repeats.{sorted_pairs}
 use Rattle.bt_load.proofs.Stands.{all_stand, all_under}
@@ -16,7 +17,7 @@ returns-clause-answer g c =
 pub returns-clause-rising : goal.returns-clause-rising
 returns-clause-rising g c =
     let given = sorted_pairs c.args.schema.now.keys c.args.rows.items c.in_ok-placed.placed.items _ c.in_ok-with_rows.ensures (search rules) (search rules) in
-    is_true _ given.rising
+    true_t _ given.rising
 
 pub returns-clause-keys : goal.returns-clause-keys
 returns-clause-keys g c =

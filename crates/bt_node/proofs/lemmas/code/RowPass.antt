@@ -14,7 +14,7 @@ use Rattle.bt_node.specs.Deals.{deal, parted}
 use Rattle.bt_node.specs.Messages.{Rows, Messages, before, from, rows_after, with_value}
 use Rattle.bt_keycode.proofs.offered.Order.{total_keys, before_chain, before_later, later_chain, is_less, not_after, not_before_itself}
 use Rattle.bt_node.proofs.lemmas.rows.RowsAfter.{rows_after-sorted}
-use Rattle.bt_node.proofs.offered.Truths.{true_t}
+use Rattle.bt_keycode.proofs.offered.Truths.{true_t}
 
 both : (a b : Bool) → a ≡ true → b ≡ true → a && b ≡ true
 both a b p q = ap (λ t. t && b) p ∙ q

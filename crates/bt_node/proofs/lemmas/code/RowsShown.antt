@@ -18,7 +18,7 @@ use Rattle.bt_node.proofs.lemmas.lookups.Outside.{nodes_hold-children}
 use Rattle.bt_node.proofs.lemmas.rows.Between.{all-between, between_below, between_from, between-sorted, in_order, rows-between, same-between, split-between, value-inside}
 use Rattle.bt_node.proofs.lemmas.rows.Buffers.{value-with_messages}
 use Rattle.bt_node.proofs.lemmas.rows.RowsAfter.{rows-sorted, rows_after-sorted}
-use Rattle.bt_node.proofs.offered.Truths.{true_t}
+use Rattle.bt_keycode.proofs.offered.Truths.{true_t}
 use Rattle.bt_node.proofs.lemmas.rows.Values.{find-rows}
 use Rattle.bt_node.proofs.lemmas.code.LookupPath.{child_at, value_after-later}
 use Rattle.bt_node.proofs.lemmas.code.RowsOfChildren.{child_in_order, siblings_lie}

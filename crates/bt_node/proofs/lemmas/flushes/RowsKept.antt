@@ -13,7 +13,7 @@ use Rattle.bt_node.specs.Fits.{RowsLie, Lies, SiblingsLie}
 use Rattle.bt_keycode.proofs.offered.Order.{total_keys}
 use Rattle.bt_node.proofs.lemmas.keys.Limits.{within-append, within-below, within-from}
 use Rattle.bt_node.proofs.lemmas.rows.RowsAfter.{rows-within, rows-sorted, rows-lie, rows_after-lie, all_below}
-use Rattle.bt_node.proofs.offered.Truths.{t_both, t_first, t_second}
+use Rattle.bt_keycode.proofs.offered.Truths.{t_both, t_first, t_second}
 use Rattle.bt_node.proofs.lemmas.rows.Values.{find-rows}
 use Rattle.bt_node.proofs.lemmas.lookups.Outside.{nodes_hold-children}
 use Rattle.bt_node.proofs.lemmas.flushes.Passes.{Kept}

@@ -11,7 +11,7 @@ use Rattle.bt_keycode.specs.Keys.{Key, key_cmp, is_before, is_before_lower, is_b
 use Rattle.bt_node.specs.Messages.{Rows, Messages, between, from as from_key, rows_after, value_after}
 use Rattle.bt_keycode.proofs.offered.Order.{before_chain, from_earlier, later_chain, not_after, same_key, total_keys}
 use Rattle.bt_node.proofs.lemmas.rows.RowsAfter.{rows_after-sorted}
-use Rattle.bt_node.proofs.offered.Truths.{t_first, t_second, true_t}
+use Rattle.bt_keycode.proofs.offered.Truths.{t_first, t_second, true_t}
 use Rattle.bt_node.proofs.lemmas.rows.Values.{find-rows}
 
 pub outside_upper : (b : Bool) → b && false ≡ false

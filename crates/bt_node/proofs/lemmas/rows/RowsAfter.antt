@@ -10,7 +10,7 @@ use Rattle.bt_node.specs.Messages.{Rows, Messages, with_value, rows_after}
 use Rattle.bt_node.specs.Fits.{RowsLie}
 use Rattle.bt_keycode.proofs.offered.Order.{total_keys, before_later, not_after, not_before_itself, below-below, past-from}
 use Rattle.bt_node.proofs.lemmas.keys.Limits.{within-from, within-where}
-use Rattle.bt_node.proofs.offered.Truths.{t_both, t_first, t_second, t_true, true_t}
+use Rattle.bt_keycode.proofs.offered.Truths.{t_both, t_first, t_second, t_true, true_t}
 
 pub rows-within : {V : Type 0} (low high : Option Key) (rs : Rows V) → RowsLie low high rs → AllWithin low high rs
 rows-within low high [] b = tt

@@ -13,7 +13,7 @@ use Rattle.bt_node.proofs.lemmas.crowns.ShapedTrees.{has_room}
 use Rattle.bt_node.proofs.lemmas.flushes.Drains.{crown_dries, dry-leaves}
 use Rattle.bt_node.proofs.lemmas.flushes.Groups.{leaves-hold}
 use Rattle.bt_node.proofs.lemmas.flushes.Laws.{leaves-fit}
-use Rattle.bt_node.proofs.offered.Truths.{t_true}
+use Rattle.bt_keycode.proofs.offered.Truths.{t_true}
 use Rattle.bt_node.proofs.tree.pack.Goals as goal
 
 pub crown-requires : goal.crown-requires

@@ -14,7 +14,7 @@ use Rattle.bt_plan.specs.Cuts.{hole_of}
 use Rattle.bt_plan.specs.Pieces.{Place, holed_nodes, holes, opened, with_holes}
 use Rattle.bt_plan.specs.Views.{job_of, node_place}
 use Rattle.bt_plan.specs.inside.Cutting.{AreSizedNodes}
-use Rattle.bt_plan.proofs.Opening.{bins_long, cuts_long, is_open, kept_divided, marks_long, node-jobs, node-told, nodes_few, nodes_sized, rest_left, shares_long}
+use Rattle.bt_plan.proofs.Opening.{bins_long, cuts_long, is_open, kept_divided, marks_long, node-jobs, node-with_holes, nodes_few, nodes_sized, rest_left, shares_long}
 use Rattle.bt_plan.proofs.Opening.{inner-cut, leaf-cut, only-come}
 use Rattle.bt_plan.proofs.Steps.{left_after, next_bin, next_child, no_share, one_made, one_made_of, some_made_of}
 use Rattle.bt_plan.proofs.cutting.+cuts.Goals as goal
@@ -68,7 +68,7 @@ cut_inner-returns g t c =
     let cut = c.in_ok-children.ensures in
     let place = node_place c.args.at.now.place in
     record {
-      holed = c.opened.ensures ∙ (λ i. opened (holed_nodes (with_pivots c.apart-nodes.result.1.items (cut.children i))) (concatenation (cut.bins i))) ∙ node-told opening c.args.at.now.depth place;
+      holed = c.opened.ensures ∙ (λ i. opened (holed_nodes (with_pivots c.apart-nodes.result.1.items (cut.children i))) (concatenation (cut.bins i))) ∙ node-with_holes opening c.args.at.now.depth place;
       jobs = cut.jobs ∙ ap (λ js. map job_of c.args.jobs.now.items ++ js) (node-jobs opening c.args.at.now.depth place);
       left = cut.left ∙ rest_left opening;
     }

@@ -19,3 +19,7 @@ t_true b e = subst T (sym e) tt
 pub true_t : (b : Bool) → T b → b ≡ true
 true_t true h = refl
 true_t false h = absurd h
+
+pub not_true : (b : Bool) → (b ≡ true → ⊥) → b ≡ false
+not_true true h = absurd (h refl)
+not_true false h = refl
