@@ -66,5 +66,5 @@ one_more def cover effects i effect whole old new within is so more =
     ∙ ap (λ ms. ms ++ sent_for_all def cover (drop (i + 1) effects)) (sym more)
 
 -- none are left
-pub all_sent : (def : Definition) (cover : Cover) (effects : List Effect) (i : ℕ) (whole sent : Messages EntryMessage) → length effects ≤ i → whole ≡ sent ++ sent_for_all def cover (drop i effects) → entry_changes ≡ whole
+pub all_sent : (def : Definition) (cover : Cover) (effects : List Effect) (i : ℕ) (whole sent : Messages EntryMessage) → length effects ≤ i → whole ≡ sent ++ sent_for_all def cover (drop i effects) → sent ≡ whole
 all_sent def cover effects i whole sent past e = sym (e ∙ ap (λ es. sent ++ sent_for_all def cover es) (drop_of_length-le effects past) ∙ append-nil sent)
