@@ -2,9 +2,9 @@
 
 import re
 
-import language
+from betable import language
+from betable.language import counted
 from csv_source import shown
-from language import counted
 
 MOST_NAMED = 3  # places of one kind that are named
 MOST_TEXT = language.MOST_TEXT_BYTES

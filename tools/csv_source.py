@@ -10,7 +10,7 @@ import unicodedata
 from array import array
 from itertools import islice
 
-import language
+from betable import language
 
 SEPARATORS = {"comma": ",", "semicolon": ";", "tab": "\t", "bar": "|"}
 SAMPLE = 65_536  # letters from which separator and names are found

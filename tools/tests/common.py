@@ -16,7 +16,7 @@ TOP = Path(__file__).resolve().parents[2]
 # What bin/betable runs once it is built. Where a test is of replies, or of what a tool says of them, it is started without bin/betable.
 PROGRAM = TOP / "crates/betable/out/betable"
 SECONDS = 200  # within which what is started has to end, also beside other tests
-sys.path.append(str(TOP / "tools"))
+sys.path += [str(TOP / "tools"), str(TOP / "clients/python")]
 SVG = "{http://www.w3.org/2000/svg}"
 TABLE = "table 4 3 2 1 id:int city:text qty:int"
 

@@ -6,6 +6,7 @@ import subprocess
 import tempfile
 import xml.etree.ElementTree as xml
 from functools import cache
+from importlib import import_module
 from pathlib import Path
 
 from common import expect, expect_within, imported, replies, run_forked, SECONDS, structure, TOP
@@ -283,7 +284,8 @@ def limits_of_the_command_line_are_those_of_the_code():
     expect(found, {option: int(most) for option, most in checked})
     expect(int(re.search(r"^DEEPEST_CUT = (\d+)$", text_of("tools/fuzz/run"), re.MULTILINE)[1]), found["--cut"])
     indexes = constant("crates/bt_table/src/table.rt", "MOST_INDEXES")
-    expect([imported(f"tools/{name}.py").MOST_INDEXES for name in ("language", "fuzz/model", "fuzz/scripts")], [indexes] * 3)
+    modules = [import_module("betable.language"), imported("tools/fuzz/model.py"), imported("tools/fuzz/scripts.py")]
+    expect([module.MOST_INDEXES for module in modules], [indexes] * 3)
 
 
 # ---- scripts ----

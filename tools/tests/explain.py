@@ -4,6 +4,7 @@ import random
 import re
 import subprocess
 import tempfile
+from importlib import import_module
 from pathlib import Path
 
 from common import expect, expect_within, explained, imported, run, run_forked, SECONDS, TABLE, TOP
@@ -353,7 +354,7 @@ def explain_finds_one_upsert_of_60000():
 
 def reasons_are_those_of_the_model():
     """Of random scripts: a refused command has a fault, on the line of its item where it has one, and an answered one has none."""
-    language, faults, forms = (imported(f"tools/{name}.py") for name in ("language", "faults", "forms"))
+    language, faults, forms = (import_module(f"betable.{name}") for name in ("language", "faults", "forms"))
     model, scripts = imported("tools/fuzz/model.py"), imported("tools/fuzz/scripts.py")
     refused = answered = rows = 0
     for number in range(80):
@@ -404,7 +405,7 @@ def line_of_item(command, item):
 
 def records_are_those_of_the_model():
     """Of random CSV texts: the fields of each record, the line in which it begins, and which quotes look broken."""
-    language, model = imported("tools/language.py"), imported("tools/fuzz/model.py")
+    language, model = import_module("betable.language"), imported("tools/fuzz/model.py")
     dice = random.Random(1)
     for _ in range(4000):
         text = bytes(dice.choice(b'aa,,""\r\n') for _ in range(dice.randrange(1, 16)))

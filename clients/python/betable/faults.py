@@ -3,8 +3,8 @@
 import re
 from itertools import chain
 
-from forms import head_faults, no_block_word, record_reasons, spelled, words_of
-from language import (
+from .forms import head_faults, no_block_word, record_reasons, spelled, words_of
+from .language import (
     BLOCK_WORDS, BUFFERS, BUFFERS_IN_BYTES, FANOUTS, FIELD, FORMS, INT_OPERATIONS, KINDS, LEAVES, Line, MARK, MOST_COLUMNS, MOST_INCLUDED, MOST_INDEXES,
     MOST_KEY_COLUMNS, MOST_MESSAGES, MOST_ON, MOST_OPERATIONS, OPERATIONS, PRIMARY, RECORD, any_of, counted, fields, index_of, printed_field,
     record_of_line, spans, text_pattern, visible,

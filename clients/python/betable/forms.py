@@ -3,7 +3,7 @@
 import re
 from difflib import get_close_matches
 
-from language import (
+from .language import (
     BLOCK_WORDS, BUFFER, CLOSING, FORMS, KINDS, MARK, MOST_DIGITS, MOST_NAME_BYTES, NAME, NUMBER, OPERATORS, any_of, fields, record_of_line, visible,
 )  # fmt: skip
 
