@@ -7,9 +7,9 @@ import re
 from html import escape
 from pathlib import Path
 
+from betable.figures import GAP, STYLE, Drawing, Svg, box_width
 from betable.language import counted, printable, visible
-from drawing.figures import GAP, STYLE, Drawing, Svg, box_width
-from drawing.trees import PRIMARY
+from betable.trees import PRIMARY
 
 MOST_BLOCK, MOST_REPLY, MOST_IMAGE = 12, 12, 1  # lines of a block, of a reply and of the reply to an image that are shown
 MOST_LETTERS = 300  # of a line

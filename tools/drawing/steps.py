@@ -4,7 +4,7 @@ import subprocess
 import tempfile
 
 from betable.language import NAME, PRIMARY, State, commands, logical_lines, reply
-from drawing.trees import HEAD, Broken, KeyColumns, image_of
+from betable.trees import HEAD, Broken, KeyColumns, image_of
 
 MOST_STEPS = 1000
 MOST_REPLY = 16  # lines of a reply that are kept

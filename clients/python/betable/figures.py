@@ -5,8 +5,8 @@ from html import escape
 from itertools import chain
 from unicodedata import combining, east_asian_width
 
-from betable.language import counted, printed_record
-from drawing.trees import fields_of
+from .language import counted, printed_record
+from .trees import fields_of
 
 SIGNS = {"=": "row", "+": "put", "-": "del", "~": "upsert"}
 LEAST_LETTERS, MOST_LETTERS = 18, 30  # of a line of a box
