@@ -254,7 +254,7 @@ def explain_says_what_a_buffer_is():
         expect(lines[3 * place + 1 : 3 * place + 3], [f"  '{word}' {none}", form])
     for place, word in enumerate(("0b", "1048577b")):
         expect(lines[15 + 2 * place : 17 + 2 * place][1].split(". ")[0], f"  20 BadShape: the buffer is {word}, and from 1 to 1048576 bytes")
-        expect_within("with a 'b' behind the number 1 to 1048576 bytes", lines[16 + 2 * place])
+        expect_within("with a 'b' after the number 1 to 1048576 bytes", lines[16 + 2 * place])
     expect(lines[19:22], [f"line 9: {tables[-1]}", "  '2b' is no leaf: write 1 to 9 digits.", form])
     expect((status, lines[22:]), (1, ["9 commands: 1 answered, 8 refused", "  6 times 1 Syntax", "  2 times 20 BadShape"]))
 

@@ -10,12 +10,43 @@ from .language import (
     record_of_line, spans, text_pattern, visible,
 )  # fmt: skip
 
+# The meaning of each refusal, by its number, and what to do about it.
+MEANINGS = {
+    1: "This is no command. See docs/SCRIPT.md for its form.",
+    2: "The block was not closed before the script ended. Write its closing line.",
+    3: "There is no table yet. A 'table' command has to come first, and has to be answered itself.",
+    4: "There is a table already, and a run has one. Leave this command out, or run another script.",
+    5: "The columns do not make a table: 1 to 16 of them with different names, and 1 to 4 key columns, the first ones.",
+    6: "A field is no value of its column.",
+    7: "The number of fields is wrong.",
+    8: "The table itself is 'primary', which is not built or dropped.",
+    9: "The name is taken.",
+    10: "This is over a limit, as of 65,536 messages a batch. Divide it.",
+    11: "An index that is building shows its rows once it has those of the whole table: repeat 'build NAME N', which reads the next N "
+    "rows for it, until its reply ends with 'complete'. A load needs each index to be complete: in a table without rows 'build NAME 1' completes it.",
+    12: "Leave this command out.",
+    13: "A load wants a table whose tree of rows is one leaf without rows. Load before the first batch, or put the rows by batches. Where "
+    "all rows were deleted, 'rebuild primary' makes the tree one leaf again.",
+    14: "An earlier record of the load has the same key. Remove one of the two.",
+    15: "No such column can stand here.",
+    16: "The column is no int column, and only ints are added, or taken by max and min.",
+    17: "The memory did not suffice.",
+    18: "The table was lost when the memory did not suffice. Run the script again with more.",
+    19: "The number of workers, or how their work is divided, is out of range.",
+    20: "The ranges are: fanout 4 to 64, buffer 1 to 4096 messages, or with a 'b' after the number 1 to 1048576 bytes, leaf 2 to 1024.",
+}
+
+# The refusals whose meaning says what to do, also where the reason is known.
+WITH_ADVICE = (8, 11, 12, 20)
+
 
 class Fault:
-    """A fault of a command: the reason, the place within a line, the line or None for the head line, and the bytes round it."""
+    """A fault of a command: the reason, the place within a line, the line or None for the head line, and the bytes round it. Where one value is at fault,
+    `column` is the name of its column, and `value` its field."""
 
-    def __init__(self, reason, place="", line=None, around=None, at=0):
+    def __init__(self, reason, place="", line=None, around=None, at=0, column=None, value=None):
         self.reason, self.place, self.line, self.around, self.at = reason, place, line, around, at
+        self.column, self.value = column, value
 
     def where(self):
         line = [] if self.line is None else [f"line {self.line}"]
@@ -59,7 +90,10 @@ def field_faults(raw, columns, line, around, offset, place=""):
         return []
     begins = [start for start, _ in spans(raw)]
     return [
-        Fault(reason, place + column_place(columns, number), line, None if "'" in reason or values[number] else around, offset + begins[number])
+        Fault(
+            reason, place + column_place(columns, number), line, None if "'" in reason or values[number] else around, offset + begins[number],
+            columns[number][0], values[number],
+        )  # fmt: skip
         for number, reason in enumerate(reasons)
         if reason
     ]
@@ -106,7 +140,8 @@ class MessageFaults:
             part, place, reason = self.operation_fault(f"operation {number + 1}", *values[start : start + 3])
             if reason:
                 is_shown = part == 2 and values[start + 2]
-                found.append(Fault(reason, place, line.number, None if is_shown else line.text, begins[start + part]))
+                around, at = None if is_shown else line.text, begins[start + part]
+                found.append(Fault(reason, place, line.number, around, at, *values[start + 1 : start + 3] if part else (None, None)))
         return found
 
     def operation_fault(self, place, word, name, argument):
