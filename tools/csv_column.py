@@ -65,7 +65,7 @@ class Column:
         return values
 
     def scaled(self, values, first):
-        """Decimals as ints, each with so many digits behind the point; what is none stays as it is."""
+        """Decimals as ints, each with so many digits after the point; what is none stays as it is."""
         digits, results = self.digits, []
         joined = "\n".join(values) + "\n"
         if digits and re.fullmatch(rf"(?>-?[0-9]{{1,{18 - digits}}}\.[0-9]{{{digits}}}\n)*+", joined) and joined.count("\n") == len(values):
@@ -76,7 +76,7 @@ class Column:
             if not value or not self.is_decimal(value):
                 self.fault(record, f"is {shown(value)}, and no decimal number" + ("" if value else f" (--empty {self.name}=0 fills such)"))
             elif len(part) > digits:
-                self.fault(record, f"is {shown(value)}, with more than {counted(digits, 'digit')} behind the point")
+                self.fault(record, f"is {shown(value)}, with more than {counted(digits, 'digit')} after the point")
             else:
                 number = str(int(whole + part.ljust(digits, "0")))
                 if len(number) > 18 and fault_of("int", number):
@@ -102,7 +102,7 @@ class Column:
                 value, number = POINT_INSIDE.subn("\n. ", value)
                 self.mended += number
             elif POINT_INSIDE.search(value):
-                self.fault(record, "has a line that is '.' alone, which would close the load (--mend-points puts a space behind such)")
+                self.fault(record, "has a line that is '.' alone, which would close the load (--mend-points puts a space after it)")
             results.append(value)
         return results
 
@@ -186,7 +186,7 @@ class Column:
         if self.cut:
             yield f"{self.name}: {counted(self.cut, 'text is', 'texts are')} cut to {MOST_TEXT} bytes"
         if self.mended:
-            yield f"{self.name}: a space is put behind {counted(self.mended, 'point that is alone in its line', 'points that are alone in their lines')}"
+            yield f"{self.name}: a space is put after {counted(self.mended, 'point that is alone in its line', 'points that are alone in their lines')}"
 
     def reasons_for_text(self, place):
         """Why a column that looks like another kind is text."""

@@ -219,11 +219,11 @@ def from_csv_takes_one_record_of_each_key():
 
 def from_csv_warns_of_quotes_that_look_broken():
     status, script, errors = run("tools/from_csv", str(FILES / "forgotten_quote.csv"), "--key", "id")
-    goes_on = "the quoted field that begins in line 28 goes on behind its closing quote in line 29: was a quote forgotten? (it holds 1 line break)"
+    goes_on = "the quoted field that begins in line 28 goes on after its closing quote in line 29: was a quote forgotten? (it holds 1 line break)"
     expect((status, script.count("\n"), errors.splitlines()[2:]), (0, 33, [f"  warning: {goes_on}"]))
     expect_within('\n27,"city,5\n28,city""",5\n29,city,5\n.\n', script)
     status, script, sentences = from_csv('a;b\n1;"x"y\n2;"z\n3;z\n', "--key", "a")
-    expect_within("warning: the quoted field that begins in line 2 goes on behind its closing quote: was a quote forgotten?", sentences)
+    expect_within("warning: the quoted field that begins in line 2 goes on after its closing quote: was a quote forgotten?", sentences)
     expect_within("warning: the quoted field that begins in line 3 is not closed, and goes on to line 4", sentences[-1])
     expect((status, read(script)[2:-1]), (0, [["a", "b"], ["1", "xy"], ["2", "z\n3;z\n"]]))
     for whole in ('a,b\n1,"x ""y"""\n', 'a,b\n1,x "y\n', 'a,b\n1,"x"', 'a,b\n"1",""\n'):

@@ -106,8 +106,8 @@ def explain_finds_the_bound_at_fault():
 
 
 def explain_finds_a_bound_in_the_wrong_place():
-    order = "'from' stands behind the 'to' of line 3: the order is from, then to: from 1"
-    twice = "a second '{0}', and each bound stands at most once: {0} {1}"
+    order = "'from' comes after the 'to' of line 3: the order is from, then to: from 1"
+    twice = "a second '{0}', and each bound is given at most once: {0} {1}"
     cases = ("to 5\nfrom 1", 4, order), ("from 1\n\nfrom 2\nto 5", 5, twice.format("from", 2)), ("to 5\nto 6", 4, twice.format("to", 6))
     for head in ("scan primary", "sums primary 1 qty"):
         script, wanted = f"{TABLE}\n", []
@@ -195,7 +195,7 @@ def explain_finds_the_header_of_a_load():
     tabs = "line 8: 1 field, and the table has 3 columns; fields are divided by commas, and not by '→': id→city→qty"
     blocks = ("\nid,town,qty\n1,a,1\n", "id\tcity\tqty\n", "\n\n")
     status, lines = explained(f"{TABLE}\n" + "".join(f"load\n{block}.\n" for block in blocks))
-    wanted = "  the header that is wanted: id,city,qty"
+    wanted = "  the expected header: id,city,qty"
     expect((status, lines[:6]), (1, ["line 2: load", f"  {town}", wanted, "line 7: load", f"  {tabs}", wanted]))
     expect(lines[6:9], ["line 10: load", "  5 BadSchema: the block has no header", wanted])
     expect(lines[9:], ["4 commands: 1 answered, 3 refused", "  3 times 5 BadSchema"])
@@ -246,7 +246,7 @@ def explain_names_a_forgotten_point():
 
 
 def explain_says_what_a_buffer_is():
-    no_buffers, none = ("b", "60B", "60bb", "b60", "1234567890b"), "is no buffer: write 1 to 9 digits, those of a buffer in bytes with a 'b' behind them."
+    no_buffers, none = ("b", "60B", "60bb", "b60", "1234567890b"), "is no buffer: write 1 to 9 digits, those of a buffer in bytes with a 'b' after them."
     tables = [*(TABLE.replace(" 3 ", f" {word} ") for word in (*no_buffers, "0b", "1048577b", "1048576b")), TABLE.replace(" 3 2 ", " 3 2b ")]
     status, lines = explained("\n".join(tables))
     form = "  the form: table F C L K name:kind .."
@@ -272,7 +272,7 @@ def explain_warns_of_broken_quotes():
     records = '1,"a ""b"", c",1\n2,"city,5\n3,city"x,7\n4,5" nail,1\n'
     script = f'{TABLE}\nload\nid,city,qty\n{records}.\nbatch\nput 5,a,"5\nput 6,"a"b,6\nput 7,"a,b",7\nend\n'
     status, lines = explained(script)
-    goes_on = "goes on behind its closing quote"
+    goes_on = "goes on after its closing quote"
     expect((status, lines[:2]), (0, ["line 2: load", "  loaded 3"]))
     field = "the quoted field that begins in line"
     expect(lines[2], f"  warning: {field} 5 {goes_on} in line 6: was a quote forgotten? (it holds 1 line break)")
@@ -338,7 +338,7 @@ def explain_says_why():
 def explain_names_the_message_that_is_too_many():
     status, lines = explained(f"{TABLE}\nbatch\n\n" + "del 1\n" * 65_537 + "ups 1,add,city,1\nend\n")
     expect((status, lines[1]), (1, "  line 65540: message 65,537 of 65,538, and a batch has at most 65,536"))
-    expect(lines[2], "  line 65541, operation 1: 'city' is text, and add wants an int: ups 1,add,city,1")
+    expect(lines[2], "  line 65541, operation 1: 'city' is text, and add needs an int: ups 1,add,city,1")
     expect(lines[3:], ["2 commands: 1 answered, 1 refused", "  1 times 10 TooMany"])
 
 
@@ -346,7 +346,7 @@ def explain_finds_one_upsert_of_60000():
     upserts = [f"ups {number},add,qty,1" for number in range(60_000)]
     upserts[40_000] = "ups 40000,add,city,1"
     status, lines = explained("\n".join([TABLE, "batch", *upserts, "end"]) + "\n")
-    expect((status, lines[:2]), (1, ["line 2: batch", "  line 40003, operation 1: 'city' is text, and add wants an int: ups 40000,add,city,1"]))
+    expect((status, lines[:2]), (1, ["line 2: batch", "  line 40003, operation 1: 'city' is text, and add needs an int: ups 40000,add,city,1"]))
 
 
 # ---- beside the model of the language ----

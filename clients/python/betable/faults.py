@@ -21,17 +21,17 @@ MEANINGS = {
     7: "The number of fields is wrong.",
     8: "The table itself is 'primary', which is not built or dropped.",
     9: "The name is taken.",
-    10: "This is over a limit, as of 65,536 messages a batch. Divide it.",
+    10: "This is over a limit, such as 65,536 messages a batch. Divide it.",
     11: "An index that is building shows its rows once it has those of the whole table: repeat 'build NAME N', which reads the next N "
     "rows for it, until its reply ends with 'complete'. A load needs each index to be complete: in a table without rows 'build NAME 1' completes it.",
     12: "Leave this command out.",
-    13: "A load wants a table whose tree of rows is one leaf without rows. Load before the first batch, or put the rows by batches. Where "
+    13: "A load needs a table whose tree of rows is one leaf without rows. Load before the first batch, or put the rows by batches. Where "
     "all rows were deleted, 'rebuild primary' makes the tree one leaf again.",
     14: "An earlier record of the load has the same key. Remove one of the two.",
-    15: "No such column can stand here.",
+    15: "No such column can be used here.",
     16: "The column is no int column, and only ints are added, or taken by max and min.",
-    17: "The memory did not suffice.",
-    18: "The table was lost when the memory did not suffice. Run the script again with more.",
+    17: "Out of memory.",
+    18: "The table was lost when memory ran out. Run the script again with more.",
     19: "The number of workers, or how their work is divided, is out of range.",
     20: "The ranges are: fanout 4 to 64, buffer 1 to 4096 messages, or with a 'b' after the number 1 to 1048576 bytes, leaf 2 to 1024.",
 }
@@ -73,7 +73,7 @@ def length_fault(raw, count, wanted, line, around, at, most=None):
     other = next((mark for mark in (b";", b"\t", b"|") if mark in raw and b"," not in raw), None)
     hint = f"; fields are divided by commas, and not by '{visible(other)}'" if other else ""
     if most is not None and count > most:
-        hint = "; a text with a comma stands in double quotes"
+        hint = "; put a text with a comma in double quotes"
     return Fault(f"{counted(count, 'field')}, and {wanted}{hint}", line=line, around=around, at=at)
 
 
@@ -110,7 +110,7 @@ class MessageFaults:
         if line.word not in BLOCK_WORDS[b"batch"]:
             return [Fault(no_block_word(line, b"batch"), line=line.number)]
         if line.rest is None:
-            return [Fault(f"no record stands behind '{line.word.decode()}'", line=line.number)]
+            return [Fault(f"no record follows '{line.word.decode()}'", line=line.number)]
         record, reason = record_of_line(line.rest)
         if reason:
             return [Fault(reason, line=line.number, around=line.text, at=len(line.word) + 1)]
@@ -155,7 +155,7 @@ class MessageFaults:
             return 1, place, f"'{name.decode()}' is a column of the key, which no operation changes"
         kind = columns[name]
         if word in INT_OPERATIONS and kind != b"int":
-            return 1, place, f"'{name.decode()}' is {kind.decode()}, and {word.decode()} wants an int"
+            return 1, place, f"'{name.decode()}' is {kind.decode()}, and {word.decode()} needs an int"
         return 2, f"{place}, {column_place(self.table.columns, self.table.names.index(name))}", KINDS[kind].fault(argument)
 
 
@@ -259,7 +259,7 @@ def header_faults(command, table):
         return [Fault("the block has no header")]
     names = fields(raw)
     if raw.startswith(MARK):
-        return [Fault("a second byte order mark stands before the header", line=number, around=raw)]
+        return [Fault("a second byte order mark is before the header", line=number, around=raw)]
     if len(names) != len(table.names):
         return [length_fault(raw, len(names), f"the table has {counted(len(table.names), 'column')}", number, raw, 0)]
     return [
@@ -307,9 +307,9 @@ def bound_faults(command, state):
         if line.word not in words:
             yield Fault(no_block_word(line, command.head.word), line=line.number)
         elif line.word in numbers:
-            yield Fault(f"a second '{line.word.decode()}', and each bound stands at most once", line=line.number, around=line.text)
+            yield Fault(f"a second '{line.word.decode()}', and each bound is given at most once", line=line.number, around=line.text)
         elif line.word == b"from" and b"to" in numbers:
-            yield Fault(f"'from' stands behind the 'to' of line {numbers[b'to']}: the order is from, then to", line=line.number, around=line.text)
+            yield Fault(f"'from' comes after the 'to' of line {numbers[b'to']}: the order is from, then to", line=line.number, around=line.text)
         elif reasons := record_reasons(line):
             yield Fault(reasons[0], line=line.number, around=line.text, at=len(line.word) + 1)
         elif state.table and state.table.has_tree(tree):
@@ -361,7 +361,7 @@ def index_faults(command, table):
         yield Fault(f"'{name.decode()}' is the name of {owner}. Choose another, or drop that index first")
     for names, most, part in ((index.on, MOST_ON, "on"), (index.included, MOST_INCLUDED, "include")):
         if len(names) > most:
-            yield Fault(f"{len(names)} columns behind '{part}', and at most {most} can stand there")
+            yield Fault(f"{len(names)} columns after '{part}', and at most {most} are allowed")
     if len(table.indexes) == MOST_INDEXES:
         yield Fault(f"there are {MOST_INDEXES} indexes, the most that a table has: {spelled(table.indexes)}")
     condition = index.condition

@@ -68,7 +68,7 @@ def head_faults(line):
 
 def record_reasons(line):
     if line.rest is None:
-        return [f"no record stands behind '{line.word.decode()}'"]
+        return [f"no record follows '{line.word.decode()}'"]
     _, reason = record_of_line(line.rest)
     return [reason] if reason else []
 
@@ -77,7 +77,7 @@ def fixed_word_faults(line):
     names, words = FIXED_WORDS[line.word], words_of(line)[1:]
     found = [number_fault(word, name) if name in ("N", "G") else name_fault(word) for name, word in zip(names, words)]
     found += [f"{name} is missing" for name in names[len(words) :]]
-    found += [f"'{visible(word, 40)}' is a word too many" for word in words[len(names) : len(names) + 1]]
+    found += [f"'{visible(word, 40)}' is one word too many" for word in words[len(names) : len(names) + 1]]
     return [reason for reason in found if reason]
 
 
@@ -90,17 +90,17 @@ def no_command(line):
     if openers:
         return f"'{shown}' closes the block of a {' or '.join(openers)}, and no block is open here"
     if blocks:
-        return f"'{shown}' stands in the block of a {' or '.join(blocks)}, and no block is open here"
+        return f"'{shown}' belongs in the block of a {' or '.join(blocks)}, and no block is open here"
     if word.startswith(MARK) and plain in FORMS:
-        return "a byte order mark stands before the command"
+        return "a byte order mark is before the command"
     if word.lower() in FORMS:
         return f"commands are in small letters: '{word.lower().decode()}'"
     if plain in FORMS:
-        return f"behind '{plain.decode()}' stands {'a tab' if word[len(plain):].startswith(TAB) else 'another byte'}, and a space is wanted"
+        return f"{'a tab' if word[len(plain):].startswith(TAB) else 'another byte'} follows '{plain.decode()}', where a space belongs"
     if word.startswith((b"#", b"//", b"--")):
         return "a script has no comments"
     near = get_close_matches(word.lower().decode("utf-8", "replace")[:40], [name.decode() for name in FORMS], 1)
-    return f"'{shown}' is the name of no command" + (f": is '{near[0]}' meant?" if near else ". The commands are " + spelled(FORMS))
+    return f"'{shown}' is not a command" + (f": did you mean '{near[0]}'?" if near else ". The commands are " + spelled(FORMS))
 
 
 SIZES = {"fanout": NUMBER, "buffer": BUFFER, "leaf": NUMBER, "number of key columns": NUMBER}
@@ -111,16 +111,16 @@ def table_word_faults(words):
     found, columns = [], words[len(SIZES) :]
     for word, (name, form) in zip(words, SIZES.items()):
         if b":" in word:
-            found.append(f"'{visible(word, 40)}' is no {name}: F, C, L and K stand before the columns")
+            found.append(f"'{visible(word, 40)}' is no {name}: F, C, L and K come before the columns")
             columns = words[words.index(word) :]
             break
         if not form.fullmatch(word):
-            unit = ", those of a buffer in bytes with a 'b' behind them" if name == "buffer" else ""
+            unit = ", those of a buffer in bytes with a 'b' after them" if name == "buffer" else ""
             found.append(f"'{visible(word, 40)}' is no {name}: write 1 to 9 digits{unit}.")
     if len(words) < len(SIZES) and not found:
         return [f"the {list(SIZES)[len(words)]} is missing"]
     found += [reason for word in columns if (reason := column_fault(word))]
-    return found if columns else [*found, "no column stands behind the number of key columns"]
+    return found if columns else [*found, "no column follows the number of key columns"]
 
 
 def column_fault(word):
@@ -147,7 +147,7 @@ def index_word_faults(line):
     found = [name_fault(words[0])]
     if words[1:2] != [b"on"]:
         instead = f", and not '{visible(words[1], 40)}'" if len(words) > 1 else ""
-        return [reason for reason in found if reason] + [f"'on' is wanted behind the name{instead}"]
+        return [reason for reason in found if reason] + [f"'on' must follow the name{instead}"]
     place = 1
     for part in (b"on", b"include"):
         if words[place : place + 1] == [part]:
@@ -159,14 +159,14 @@ def index_word_faults(line):
     if words[place : place + 1] == [b"where"]:
         found += where_faults(line, words[place + 1 :])
     elif len(words) > place:
-        found.append(f"'{visible(words[place], 40)}' stands where 'include' or 'where' may follow")
+        found.append(f"'{visible(words[place], 40)}' is where only 'include' or 'where' may follow")
     return [reason for reason in found if reason]
 
 
 def list_faults(words, part):
     """Why the first of these words is no list of names, where the second one may show that a blank stands in it."""
     if not words:
-        return [f"the list behind '{part.decode()}' is missing"]
+        return [f"the list after '{part.decode()}' is missing"]
     if words[0].endswith(b",") or words[1:2] and words[1].startswith(b","):
         return [f"a list has no blanks: '{visible(b' '.join(words), 40)}'"]
     return [reason for name in words[0].split(b",") if (reason := name_fault(name))]
@@ -175,9 +175,9 @@ def list_faults(words, part):
 def where_faults(line, words):
     """Why the condition of an index is none. A record stands behind exactly one space."""
     if not words:
-        return ["COLUMN is missing behind 'where'"]
+        return ["COLUMN is missing after 'where'"]
     if operator := re.search(rb"[=<>!]+", words[0]):
-        return [f"'{visible(words[0], 40)}': spaces stand around the operator '{operator[0].decode()}'"]
+        return [f"'{visible(words[0], 40)}': put spaces around the operator '{operator[0].decode()}'"]
     found = [name_fault(words[0])]
     if len(words) == 1:
         return [*found, "OP and the record are missing: an operator is =, < or >="]
@@ -191,15 +191,15 @@ def constant_fault(operator, space, rest):
     """Why what stands behind an operator is no record of one field, or None."""
     record, reason = record_of_line(rest)
     if not space or not rest:
-        return f"no record stands behind '{operator}'; the empty text is \"\""
+        return f"no record follows '{operator}'; the empty text is \"\""
     if reason:
         return reason
     count = len(fields(record))
     if count == 1:
         return None
     if record.lstrip(b" ").startswith(b'"'):
-        return f"a second space behind '{operator}' belongs to the field, so that its quotes are bytes like others: '{visible(record, 40)}'"
-    return f"{count} fields, and a constant has one; a text with a comma stands in double quotes: '{visible(record, 40)}'"
+        return f"a second space after '{operator}' belongs to the field, so that its quotes are ordinary letters: '{visible(record, 40)}'"
+    return f"{count} fields, and a constant has one; put a text with a comma in double quotes: '{visible(record, 40)}'"
 
 
 # ---- lines of a block ----
@@ -214,5 +214,5 @@ def no_block_word(line, head):
     if line.word.lower() in words:
         return f"words are in small letters: '{line.word.lower().decode()}'"
     if any(line.word.startswith(word + b"\t") for word in words):
-        return f"a tab stands where a space is wanted: '{visible(line.text, 40)}'"
+        return f"a tab is where a space belongs: '{visible(line.text, 40)}'"
     return f"a line of a {head.decode()} begins with {' or '.join(word.decode() for word in words)}: '{visible(line.text, 40)}'"

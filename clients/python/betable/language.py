@@ -143,7 +143,7 @@ def blanks_named(field, inside):
     """What stands around the inside of a field."""
     names = ((MARK, "a byte order mark"), (b" ", "a space"), (b"\t", "a tab"), (b"\xa0", "a space that does not break"))
     around = field.replace(inside, b"", 1)
-    return " and ".join(name for blank, name in names if blank in around) + (" before it" if field.endswith(inside) else " behind it")
+    return " and ".join(name for blank, name in names if blank in around) + (" before it" if field.endswith(inside) else " after it")
 
 
 def fault_of_text(field):
@@ -317,7 +317,7 @@ class BrokenQuote:
         held = f" (it holds {counted(breaks, 'line break')})" if breaks else ""
         if self.is_closed:
             where = f" in line {self.last}" if breaks else ""
-            return f"the quoted field that begins in line {self.first} goes on behind its closing quote{where}: was a quote forgotten?{held}"
+            return f"the quoted field that begins in line {self.first} goes on after its closing quote{where}: was a quote forgotten?{held}"
         on = f", and goes on to line {self.last}" if breaks else ""
         return f"the quoted field that begins in line {self.first} is not closed{on}: was a quote forgotten?{held}"
 
