@@ -1,6 +1,9 @@
-"""A column of a CSV file: what becomes of its fields in a script, and of what kind they can be. For tools/from_csv."""
+"""A column of a CSV file: the values that its fields have in a script, and the kinds that they can be of. For tools/from_csv."""
 
 import re
+import shlex
+from collections import Counter
+from decimal import Decimal
 
 from betable import language
 from betable.language import counted
@@ -10,12 +13,22 @@ MOST_NAMED = 3  # places of one kind that are named
 MOST_TEXT = language.MOST_TEXT_BYTES
 UNITS = {1: "tenths", 2: "hundredths", 3: "thousandths"}
 
-# The fields of a column, each with a line feed behind it, that may all be values of a kind. Empty fields are counted apart.
+# The fields of a column, each with a line feed after it, that may all be values of a kind. Empty fields are counted apart.
 SMALL_INTS = re.compile(r"(?:(?:-?[1-9][0-9]{0,17}|0)?\n)*+")
 INTS = re.compile(r"(?:(?:-?[1-9][0-9]{0,18}|0)?\n)*+")
 DIGITS = re.compile(r"(?:(?:-?[0-9]+)?\n)*+")
 FLAGS = re.compile(r"(?:(?:true|false)?\n)*+", re.IGNORECASE)
-DECIMALS = {False: re.compile(r"(?:(?:-?[0-9]+(?:\.[0-9]+)?)?\n)*+"), True: re.compile(r"(?:(?:-?[0-9]+(?:[.,][0-9]+)?)?\n)*+")}
+YES_NO = re.compile(r"(?:(?:yes|no|y|n|t|f|on|off)?\n)*+", re.IGNORECASE)
+EXPONENT = r"(?:[eE][+-]?[0-9]{1,3})?"
+DECIMALS = {False: re.compile(rf"(?:(?:-?[0-9]+(?:\.[0-9]+)?{EXPONENT})?\n)*+"), True: re.compile(rf"(?:(?:-?[0-9]+(?:[.,][0-9]+)?{EXPONENT})?\n)*+")}
+FRACTION = re.compile(r"[.,][0-9]*[1-9]")
+
+# The words that --flag takes, in letters of either case.
+TRUE_WORDS, FALSE_WORDS = ("true", "yes", "y", "t", "on", "1"), ("false", "no", "n", "f", "off", "0")
+
+# Words with which other programs write that there is no value: those that are no text either, and those that are such among numbers or flags only.
+SURE_NULL_WORDS = frozenset(["NULL", "null", "Null", "(null)", "\\N", "N/A", "n/a", "#N/A", "#NULL!", "<NA>", "NaN"])
+NULL_WORDS = SURE_NULL_WORDS | {"NA", "na", "nan", "NAN", "-nan", "None", "none", "nil", "-", "--", "?"}
 
 # A line inside of a field, or of the script, that would close the block of a load.
 POINT_INSIDE = re.compile(r"\n\.(?=\r?\n)")
@@ -27,16 +40,20 @@ def fault_of(kind, value):
 
 
 class Column:
-    """A column of the table: what becomes of its fields, and what is known of them so far."""
+    """A column of the table: the values that its fields have in the script, and what is known of them so far."""
 
     def __init__(self, place, title, name):
         self.place, self.title, self.name = place, title, name
         self.wanted = self.filling = self.digits = None
+        self.null_words, self.flag_words = frozenset(), None
         self.is_cut = self.is_mended = self.is_trimmed = self.has_decimal_commas = False
         self.values = None  # of a key column all of them
-        self.could_be = {"int", "digits", "decimal", "flag"}
+        self.could_be = {"int", "digits", "decimal", "flag", "yes or no"}
         self.count = self.empty = self.cut = self.mended = self.decimals = 0
-        self.first_empty = self.odd_digits = self.odd_one = None
+        self.has_fraction = False
+        # The first record, and its field, that is empty, is a word for no value, is no plain int, or is neither a number nor a flag.
+        self.first_empty = self.first_null = self.odd_int = self.odd_one = None
+        self.nulls, self.taken, self.flags = Counter(), Counter(), {}
         self.faults, self.number_of_faults = [], 0
 
     def fault(self, record, sentence):
@@ -48,15 +65,21 @@ class Column:
         """The values of the column in the script, of those of the file from record `first` on."""
         if self.is_trimmed:
             values = [value.strip(" \t") for value in values]
+        if not self.null_words.isdisjoint(values):
+            self.taken.update(value for value in values if value in self.null_words)
+            values = ["" if value in self.null_words else value for value in values]
+        is_filled = "" in values and self.filling is not None
         if "" in values:
             self.first_empty = self.first_empty or first + values.index("")
             self.empty += values.count("")
-            if self.filling is not None:
-                values = [value or self.filling for value in values]
+        if self.flag_words:
+            values = self.as_flags(values)
         if self.digits is not None:
             values = self.scaled(values, first)
         joined = "\n".join(values) + "\n"
         self.learn(values, joined, first)
+        if is_filled:
+            values = [value or self.filling for value in values]
         if "int" not in self.could_be:
             values = self.fitting_texts(values, joined, first)
         self.count += len(values)
@@ -64,29 +87,44 @@ class Column:
             self.values += values
         return values
 
+    def as_flags(self, values):
+        """The words of flags as true and false; any other word stays as it is."""
+        for word in set(values) - self.flags.keys():
+            if word.lower() in self.flag_words:
+                self.flags[word] = self.flag_words[word.lower()]
+        return [self.flags.get(value, value) for value in values]
+
     def scaled(self, values, first):
-        """Decimals as ints, each with so many digits after the point; what is none stays as it is."""
+        """Decimals as ints, each with that many digits after the point; what is none stays as it is, and so does an empty field that is filled."""
         digits, results = self.digits, []
         joined = "\n".join(values) + "\n"
         if digits and re.fullmatch(rf"(?>-?[0-9]{{1,{18 - digits}}}\.[0-9]{{{digits}}}\n)*+", joined) and joined.count("\n") == len(values):
             return list(map(str, map(int, joined.replace(".", "").split())))
         for record, value in enumerate(values, first):
-            whole, _, part = (value.replace(",", ".") if self.has_decimal_commas else value).partition(".")
-            part = part.rstrip("0") if len(part) > digits else part
-            if not value or not self.is_decimal(value):
-                self.fault(record, f"is {shown(value)}, and no decimal number" + ("" if value else f" (--empty {self.name}=0 fills such)"))
-            elif len(part) > digits:
-                self.fault(record, f"is {shown(value)}, with more than {counted(digits, 'digit')} after the point")
-            else:
-                number = str(int(whole + part.ljust(digits, "0")))
-                if len(number) > 18 and fault_of("int", number):
-                    self.fault(record, f"is {shown(value)}, and {number} as an int, which does not fit 64 bits")
-                value = number
+            if value or self.filling is None:
+                value = self.scaled_value(value, record)
             results.append(value)
         return results
 
+    def scaled_value(self, value, record):
+        digits = self.digits
+        if not value or not self.is_decimal(value):
+            hint = f" (--null {self.setting(value)} takes such as empty)" if value in NULL_WORDS else "" if value else f" (--empty {self.name}=0 fills such)"
+            self.fault(record, f"is {shown(value)}, and no decimal number{hint}")
+            return value
+        plain = value.replace(",", ".") if self.has_decimal_commas else value
+        whole, _, part = without_exponent(plain).partition(".")
+        part = part.rstrip("0") if len(part) > digits else part
+        if len(part) > digits:
+            self.fault(record, f"is {shown(value)}, with more than {counted(digits, 'digit')} after the point (--scale {self.name}={len(part)} keeps them)")
+            return value
+        number = str(int(whole + part.ljust(digits, "0")))
+        if len(number) > 18 and fault_of("int", number):
+            self.fault(record, f"is {shown(value)}, and {shown(number)[1:-1]} as an int, which does not fit 64 bits")
+        return number
+
     def fitting_texts(self, values, joined, first):
-        """Texts without what cannot be loaded, where that is wanted."""
+        """Texts without what cannot be loaded, if that is asked for."""
         if "\n.\n" in joined or "\n.\r\n" in joined:
             values = self.without_points(values, first)
         longest = max(map(len, values))
@@ -95,7 +133,7 @@ class Column:
         return values
 
     def without_points(self, values, first):
-        """The values with a space behind each point that is alone in a line, where that is wanted."""
+        """The values with a space after each point that is alone in a line, if that is asked for."""
         results = []
         for record, value in enumerate(values, first):
             if POINT_INSIDE.search(value) and self.is_mended:
@@ -124,44 +162,70 @@ class Column:
         return results
 
     def learn(self, values, joined, first):
-        """Leaves of the kinds that the column could be those that these values could be too."""
+        """Leaves of the kinds that the column could be those that these values could be too. A word for no value is taken as empty here, and noted."""
         if self.wanted in ("int", "flag"):
             form, are_lines = DIGITS if self.wanted == "int" else FLAGS, joined.count("\n") == len(values)
             if "" in values or not are_lines or not form.fullmatch(joined) or max(map(len, values)) > 18:
                 self.check(values, first)
         elif self.wanted == "bytes":
             self.check(values, first)
-        elif self.could_be and self.digits is None:
-            before = self.could_be
-            self.could_be = self.kinds_of(values, joined) if joined.count("\n") == len(values) else set()
-            if "decimal" in before and not self.could_be:
-                self.find_odd_one(values, first)
+        elif self.digits is None:
+            words = NULL_WORDS.intersection(values)
+            if words:
+                self.first_null = self.first_null or first + next(place for place, value in enumerate(values) if value in words)
+                self.nulls.update(value for value in values if value in words)
+                values = ["" if value in words else value for value in values]
+                joined = "\n".join(values) + "\n"
+            if self.could_be:
+                before = self.could_be
+                self.could_be = self.kinds_of(values, joined) if joined.count("\n") == len(values) else set()
+                self.find_odd_ones(before, values, first)
 
     def check(self, values, first):
-        """Finds the values that are none of the kind that is wanted."""
+        """Finds the values that are none of the kind that is asked for."""
         for record, value in enumerate(values, first):
-            fault = fault_of(self.wanted, value)
+            fault = (value or self.filling is None) and fault_of(self.wanted, value)
             if fault:
-                self.fault(record, f"is no {self.wanted}: {fault}" + ("" if value else f" (--empty {self.name}=VALUE fills such)"))
+                self.fault(record, f"is no {self.wanted}: {fault}{self.hint_for(value)}")
+
+    def hint_for(self, value):
+        """The option that takes a value which is none of the kind that is asked for."""
+        if not value:
+            return f" (--empty {self.name}=VALUE fills such)"
+        if value in NULL_WORDS:
+            return f" (--null {self.setting(value)} takes such as empty)"
+        if self.wanted == "flag" and value.lower() in TRUE_WORDS + FALSE_WORDS:
+            return f" (--flag {self.name} takes yes and no)"
+        is_fraction = self.wanted == "int" and self.is_decimal(value) and places_of(value) > 0
+        return f" (--scale {self.name}={places_of(value)} takes such)" if is_fraction else ""
+
+    def setting(self, *words):
+        """What an option is given that takes words of this column, as a shell reads it."""
+        return shlex.quote(f"{self.name}={','.join(words)}")
 
     def kinds_of(self, values, joined):
         """Of the kinds that the column could be those that all these values could be."""
-        found = {"flag"} if "flag" in self.could_be and FLAGS.fullmatch(joined) else set()
+        found = {kind for kind, form in (("flag", FLAGS), ("yes or no", YES_NO)) if kind in self.could_be and form.fullmatch(joined)}
         if "int" in self.could_be and (SMALL_INTS.fullmatch(joined) or INTS.fullmatch(joined) and not has_great_int(values)):
             return found | {"int", "digits", "decimal"}
         if "digits" in self.could_be and DIGITS.fullmatch(joined):
-            self.odd_digits = self.odd_digits or next((value for value in values if value and not is_plain_int(value)), None)
             return found | {"digits", "decimal"}
         if "decimal" in self.could_be and DECIMALS[self.has_decimal_commas].fullmatch(joined):
-            self.decimals = max(self.decimals, max(len(value.replace(",", ".").partition(".")[2]) for value in values))
+            if re.search(rf"[eE]|[.,][0-9]{{{self.decimals + 1}}}", joined):
+                self.decimals = max(self.decimals, max(map(places_of, values)))
+            self.has_fraction = self.has_fraction or "e" in joined or "E" in joined or FRACTION.search(joined) is not None
             found.add("decimal")
         return found
 
-    def find_odd_one(self, values, first):
-        """Keeps the first field that is no number, where most are, or would be without spaces around them."""
-        odd = [place for place, value in enumerate(values) if not self.is_decimal(value)]
-        if self.count + len(values) - self.empty > 2 * len(odd) or all(self.is_decimal(values[place].strip()) for place in odd):
-            self.odd_one = first + odd[0], values[odd[0]]
+    def find_odd_ones(self, before, values, first):
+        """Keeps the first field that is no plain int, and where most are numbers or flags, also but for blanks around them, the first that is neither."""
+        if "int" in before - self.could_be and "decimal" in self.could_be:
+            self.odd_int = next((first + place, value) for place, value in enumerate(values) if value and not is_plain_int(value))
+        if not self.could_be:
+            is_right = self.is_decimal if "decimal" in before and not any(map(FLAGS.fullmatch, (value + "\n" for value in values if value))) else is_flag
+            odd = [place for place, value in enumerate(values) if not is_right(value)]
+            if self.count + len(values) - self.empty - self.nulls.total() > 2 * len(odd) or all(is_right(values[place].strip()) for place in odd):
+                self.odd_one = first + odd[0], values[odd[0]], is_right
 
     def is_decimal(self, value):
         """Whether a value is a decimal number, an int, or empty."""
@@ -171,16 +235,29 @@ class Column:
         """The kind of the column, when all records are known."""
         if self.wanted or self.digits is not None:
             return self.wanted or "int"
-        if self.empty and self.filling is None or self.count == 0:
+        if self.has_gaps() or self.count == 0:
             return "text"
-        return next((kind for kind in ("int", "flag") if kind in self.could_be), "text")
+        found = next((kind for kind in ("int", "flag") if kind in self.could_be), "text")
+        return "text" if self.empty and fault_of(found, self.filling) else found
+
+    def has_gaps(self):
+        """Whether fields are empty and not filled, or words for no value."""
+        return bool(self.nulls) or self.empty and self.filling is None
 
     def notes(self, place):
         """What became of the column, in sentences."""
+        if self.taken:
+            words = listed([f"{shown(word)} ({count:,})" for word, count in self.taken.items()])
+            yield f"{self.name}: {counted(self.taken.total(), 'field is', 'fields are')} taken as empty: {words}"
         if self.empty and self.filling is not None:
-            yield f"{self.name}: {counted(self.empty, 'empty field is', 'empty fields are')} {self.filling or 'left empty'}"
+            unscaled = ", which is not scaled" if self.digits and self.filling != "0" else ""
+            are = counted(self.empty, "empty field is", "empty fields are")
+            yield f"{self.name}: {are} {f'stored as {self.filling}{unscaled}' if self.filling else 'left empty'}"
+        if self.flags:
+            words = {flag: listed([shown(word) for word, as_flag in self.flags.items() if as_flag == flag]) for flag in ("true", "false")}
+            yield f"{self.name}: flags, {' and '.join(f'{flag} for {found}' for flag, found in words.items() if found)}"
         if self.digits is not None:
-            yield f"{self.name}: decimals, as ints times {10**self.digits}"
+            yield f"{self.name}: decimals, stored as ints {f'times {10**self.digits}' if self.digits else 'without digits after the point'}"
         elif not self.wanted and self.kind() == "text":
             yield from self.reasons_for_text(place)
         if self.cut:
@@ -189,31 +266,67 @@ class Column:
             yield f"{self.name}: a space is put after {counted(self.mended, 'point that is alone in its line', 'points that are alone in their lines')}"
 
     def reasons_for_text(self, place):
-        """Why a column that looks like another kind is text."""
-        name, has_empty = self.name, self.empty and self.filling is None
-        if self.count and self.empty == self.count and has_empty:
-            yield f"{name}: all fields are empty, kept as text"
-        elif {"int", "flag"} & self.could_be and has_empty:
+        """Why a column that looks like another kind is text, and the options that make it one."""
+        name, gaps = self.name, self.gaps(place)
+        if self.empty + self.nulls.total() == self.count:
+            if self.count and self.has_gaps():
+                yield f"{name}: all fields are empty{' or ' + self.words_found() if self.nulls else ''}, kept as text"
+        elif {"int", "flag"} & self.could_be:
             kind, value = ("int", "0") if "int" in self.could_be else ("flag", "false")
-            yield f"{name}: {kind}s, but {self.empty_fields(place)}: kept as text; --empty {name}={value} makes it {kind}"
-        elif "digits" in self.could_be and self.count and fault_of("int", self.odd_digits):
-            yield f"{name}: numbers as {shown(self.odd_digits, 30)}, which do not fit 64 bits, kept as text"
-        elif "digits" in self.could_be and self.count:
-            filling = f" --empty {name}=0" if has_empty else ""
-            yield f"{name}: digits as {shown(self.odd_digits)}, of which an int would lose the zeros, kept as text; --kind {name}=int{filling} makes it int"
-        elif "decimal" in self.could_be and self.count:
-            unit = UNITS.get(self.decimals, f"10^-{self.decimals}")
-            filling = f", with --empty {name}=0, as {self.empty_fields(place)}" if has_empty else ""
-            yield f"{name}: decimals, kept as text; --scale {name}={self.decimals} makes ints of {unit}{filling}"
+            if gaps:
+                make = "make" if self.nulls and self.filling is None else "makes"
+                yield f"{name}: {kind}s, but {gaps}: kept as text; {self.options_for_gaps(value)} {make} it {kind}"
+            else:
+                yield f"{name}: {kind}s, but the filling of empty fields is {shown(self.filling)}: kept as text"
+        elif "yes or no" in self.could_be:
+            options = f"with {self.options_for_gaps('false')} " if gaps else ""
+            yield f"{name}: yes and no{', but ' + gaps if gaps else ''}, kept as text; --flag {name} {options}makes flags of them"
+        elif "decimal" in self.could_be:
+            yield self.reason_for_numbers(place, gaps)
         elif self.odd_one:
-            record, value = self.odd_one
+            record, value, is_right = self.odd_one
             trim = "; --trim drops spaces around fields" if value.strip() != value else ""
-            yield f"{name}: text, as {place(record)} has {shown(value)}, which is neither an int nor a decimal{trim}"
+            neither = "true nor false" if is_right is is_flag else "an int nor a decimal"
+            yield f"{name}: text, as {place(record)} has {shown(value)}, which is neither {neither}{trim}"
+        elif words := [word for word in self.nulls if word in SURE_NULL_WORDS]:
+            number = sum(self.nulls[word] for word in words)
+            are = f"{counted(number, 'field is', 'fields are')} {listed(map(shown, words), 'or')}"
+            yield f"{name}: {are}, kept as text; --null {self.setting(*words)} takes such as empty"
 
-    def empty_fields(self, place):
-        if self.empty == 1:
-            return f"1 field is empty, in {place(self.first_empty)}"
-        return f"{self.empty:,} fields are empty, the first in {place(self.first_empty)}"
+    def reason_for_numbers(self, place, gaps):
+        """Why a column of numbers is text: numbers that are too large, leading zeros, or decimals."""
+        name, (record, value) = self.name, self.odd_int
+        options, where = self.options_for_gaps("0"), f"the first {shown(value, 30)} in {place(record)}"
+        if "digits" in self.could_be and fault_of("int", value):
+            return f"{name}: numbers that do not fit 64 bits, {where}, kept as text"
+        if "digits" in self.could_be:
+            filling = f"with {options} " if gaps else ""
+            return f"{name}: digits of which an int would lose the zeros, {where}, kept as text; --kind {name}=int {filling}makes it int"
+        decimals = self.decimals if self.has_fraction else 0
+        unit = f"ints of {UNITS.get(decimals, f'10^-{decimals}')}" if decimals else "ints of them"
+        filling = f", with {options}, as {gaps}" if gaps else ""
+        scale = f"--scale {name}={decimals} makes {unit}{filling}" if decimals <= 18 else f"with {decimals} digits after the point, and an int has room for 18"
+        return f"{name}: decimals, {where}, kept as text; {scale}"
+
+    def gaps(self, place):
+        """Which fields are empty and not filled, or words for no value, in words; the empty text if there are none."""
+        found = []
+        if self.empty and self.filling is None:
+            found.append(f"{counted(self.empty, 'field is', 'fields are')} empty, {'the first ' if self.empty > 1 else ''}in {place(self.first_empty)}")
+        if self.nulls:
+            number = self.nulls.total()
+            are = counted(number, "field is", "fields are")
+            found.append(f"{are} {self.words_found()}, {'the first ' if number > 1 else ''}in {place(self.first_null)}")
+        return ", and ".join(found)
+
+    def words_found(self):
+        return listed(map(shown, self.nulls), "or")
+
+    def options_for_gaps(self, value):
+        """The options that fill what is empty or a word for no value."""
+        null = [f"--null {self.setting(*self.nulls)}"] if self.nulls else []
+        empty = [f"--empty {self.name}={value}"] if self.has_gaps() and self.filling is None else []
+        return " ".join(null + empty)
 
     def refusals(self, place):
         """Why the column cannot be loaded, in sentences."""
@@ -223,9 +336,29 @@ class Column:
             yield f"{self.name} of {counted(self.number_of_faults - len(self.faults), 'other record')} too"
 
 
+def listed(words, joining="and"):
+    """Words as a list in a sentence."""
+    *others, last = [*words] or [""]
+    return f"{', '.join(others)} {joining} {last}" if others else last
+
+
+def without_exponent(number):
+    """A decimal number as one without an exponent."""
+    return format(Decimal(number).normalize(), "f") if "e" in number or "E" in number else number
+
+
+def places_of(value):
+    """How many digits a decimal number has after its point."""
+    return len(without_exponent(value.replace(",", ".")).partition(".")[2])
+
+
 def has_great_int(values):
     return max(map(len, values)) > 18 and any(len(value) > 18 and fault_of("int", value) for value in values)
 
 
 def is_plain_int(value):
     return INTS.fullmatch(value + "\n") and not fault_of("int", value)
+
+
+def is_flag(value):
+    return "\n" not in value and FLAGS.fullmatch(value + "\n") is not None

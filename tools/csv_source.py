@@ -1,12 +1,16 @@
 """A CSV file as it comes: its letters, its separator, the names of its columns, and quotes that look broken. For tools/from_csv."""
 
+import bz2
 import codecs
 import csv
+import gzip
 import io
+import lzma
 import os
 import re
 import stat
 import unicodedata
+import zlib
 from array import array
 from itertools import islice
 
@@ -15,6 +19,22 @@ from betable import language
 SEPARATORS = {"comma": ",", "semicolon": ";", "tab": "\t", "bar": "|"}
 SAMPLE = 65_536  # letters from which separator and names are found
 MOST_WAITING = 2**28  # bytes of standard input, which is held since it may be read twice
+
+# How a file begins that is compressed, and the module that reads it.
+COMPRESSED = ((rb"\x1f\x8b\x08", gzip), (rb"BZh[1-9]1AY&SY", bz2), (rb"\xfd7zXZ\x00", lzma))
+UNPACKING_FAULTS = (gzip.BadGzipFile, EOFError, zlib.error, lzma.LZMAError)
+
+# How a file begins that is none of text, what it is, and how a CSV file is made of it.
+OTHER_FILES = (
+    (b"PK\x03\x04", "a zip archive or a workbook (.xlsx, .ods): unpack it, or save its sheet as CSV"),
+    (b"\xd0\xcf\x11\xe0", "a workbook or a document of an old form (.xls, .doc): save its sheet as CSV"),
+    (b"\x28\xb5\x2f\xfd", "compressed by zstd: zstd -dc FILE | tools/from_csv - --key COLUMNS"),
+    (b"SQLite format 3\0", "a database of SQLite: sqlite3 -header -csv FILE 'select * from TABLE' | tools/from_csv - --key COLUMNS"),
+    (b"PAR1", "a Parquet file: save it as CSV by the program that wrote it"),
+    (b"%PDF-", "a PDF file"),
+    (b"\x89PNG", "a picture"),
+    (b"\x7fELF", "a program"),
+)
 
 NAME = re.compile(language.NAME.pattern.decode())
 LETTERS = str.maketrans({"ø": "o", "Ø": "o", "æ": "ae", "Æ": "ae", "œ": "oe", "ß": "ss", "ł": "l", "Ł": "l", "đ": "d", "Đ": "d", "ı": "i"})
@@ -25,25 +45,30 @@ class Faulty(Exception):
 
 
 def shown(text, room=60):
-    """A text as it stands in a sentence: its beginning, with what cannot be seen spelled out."""
+    """A text as it is shown in a sentence: its beginning, with what cannot be seen written as an escape."""
     text = text if len(text) <= room else text[: room - 1] + "…"
-    return repr(text)
+    return "'" + "".join(letter if letter.isprintable() else repr(letter)[1:-1] for letter in text) + "'"
 
 
 class Source:
     """The text of a file, which can be read several times."""
 
     def __init__(self, path, encoding):
-        self.path, self.size, self.contents = path, None, None
+        self.path, self.size, self.contents, self.unpacking = path, None, None, None
         self.name = "standard input" if path == "-" else path
         try:
             self.read_pipe()
         except OSError as fault:
             raise Faulty(f"{self.name} cannot be read: {fault.strerror}") from fault
-        with self.opened() as stream:
-            start = stream.read(3)
-        self.has_mark = start == codecs.BOM_UTF8 or start[:2] in (codecs.BOM_UTF16_LE, codecs.BOM_UTF16_BE)
-        self.encoding = encoding or ("utf-16" if self.has_mark and start != codecs.BOM_UTF8 else "utf-8-sig")
+        start = self.start(16)
+        self.unpacking = next((module for form, module in COMPRESSED if re.match(form, start)), None)
+        if self.unpacking:
+            start = self.start(16)
+        if other := next((what for form, what in OTHER_FILES if start.startswith(form)), None):
+            raise Faulty(f"{self.name} is no CSV file, but {other}")
+        is_utf_16 = start.startswith((codecs.BOM_UTF16_LE, codecs.BOM_UTF16_BE))
+        self.has_mark = is_utf_16 or start.startswith(codecs.BOM_UTF8)
+        self.encoding = encoding or ("utf-16" if is_utf_16 else "utf-8-sig")
         self.separator, self.is_trimmed = ",", False
 
     def read_pipe(self):
@@ -56,13 +81,29 @@ class Source:
             self.contents = stream.read(MOST_WAITING + 1)
         self.size = len(self.contents)
         if self.size > MOST_WAITING:
-            raise Faulty(f"{self.name} has more than {MOST_WAITING:,} bytes, and a script has at most {language.MOST_SCRIPT_BYTES:,}")
+            raise Faulty(f"{self.name} has more than {MOST_WAITING:,} bytes: write it to a file, and give the name of that")
 
     def opened(self):
-        return open(self.path, "rb") if self.contents is None else io.BytesIO(self.contents)
+        """The bytes from their start, unpacked."""
+        stream = open(self.path, "rb") if self.contents is None else io.BytesIO(self.contents)
+        return self.unpacking.open(stream) if self.unpacking else stream
+
+    def start(self, size):
+        with self.opened() as stream:
+            return stream.read(size)
+
+    def is_surely_over(self, most, is_trimmed):
+        """Whether its records surely have more than `most` bytes, also without their quotes, their line ends, and blanks that are dropped."""
+        if self.encoding != "utf-8-sig" or not self.unpacking and self.size <= most:
+            return False
+        left_out, size = [b'"', b"\r", b"\n", *([b" ", b"\t"] if is_trimmed else [])], -len(codecs.BOM_UTF8)
+        with self.opened() as stream:
+            while size <= most and (piece := stream.read(2**20)):
+                size += len(piece) - sum(map(piece.count, left_out))
+        return size > most
 
     def text(self):
-        """The text from its start, with its line ends as they stand."""
+        """The text from its start, with its line ends as they are."""
         return io.TextIOWrapper(self.opened(), self.encoding, newline="")
 
     def sample(self):
@@ -73,18 +114,20 @@ class Source:
         return csv.reader(lines, delimiter=self.separator, skipinitialspace=self.is_trimmed, strict=is_strict)
 
     def undecoded(self):
-        """The sentence of the first bytes that are no letter."""
+        """The sentence of the first bytes that are no letter, or of a file that is none of text."""
+        if is_binary(self.start(SAMPLE)) and not self.has_mark:
+            return f"{self.name} is a binary file and no CSV file: save the table as CSV by the program that wrote it"
         with self.opened() as stream:
             for number, line in enumerate(stream, 1):
                 try:
                     line.decode("utf-8")
                 except UnicodeDecodeError as fault:
                     bad = line[fault.start : fault.start + 1].hex().upper()
-                    return f"line {number} is no UTF-8, as of byte {fault.start + 1}, which is {bad}; --encoding latin-1 or another one reads such a file"
+                    return f"line {number} is no UTF-8: byte {fault.start + 1} is {bad}; --encoding cp1252, latin-1 or another one reads such a file"
         return f"the file is not in {self.encoding}"
 
-    def lines_of_records(self):
-        """The line in which each record begins, the header first."""
+    def lines_of_records(self, number):
+        """The line in which each record begins, of the first ones, the header first."""
         lines, before = array("L"), 0
         with self.text() as text:
             reader = self.reader(text)
@@ -92,7 +135,15 @@ class Source:
                 if record:
                     lines.append(before + 1)
                 before = reader.line_num
+                if len(lines) == number:
+                    break
         return lines
+
+
+def is_binary(start):
+    """Whether bytes are none of a text: some are zero, or many are control characters that no text has."""
+    controls = sum(start.count(byte) for byte in range(32) if byte not in b"\t\n\v\f\r\x1b")
+    return b"\0" in start or controls * 50 > len(start)
 
 
 def separator_of(sample):
@@ -160,15 +211,42 @@ class Titles:
             column, is_there, value = word.partition("=")
             if not is_there:
                 raise Faulty(f"{option} wants COLUMN=VALUE and not {shown(word)}")
-            found[self.place(column)] = value
+            place = self.place(column)
+            if found.get(place, value) != value:
+                raise Faulty(f"{option} is given twice for {self.names[place]}, with {shown(found[place])} and {shown(value)}")
+            found[place] = value
+        return found
+
+    def null_words(self, words):
+        """The words that are taken as empty fields of each column, by its place, of WORDS for all columns, and COLUMN=WORDS for one."""
+        found = [set() for _ in self.titles]
+        for word in words:
+            column, is_one, some = word.rpartition("=")
+            named = set(next(csv.reader([some]), []))
+            if not named:
+                raise Faulty(f"--null wants WORDS, as NULL,n/a, or COLUMN=WORDS, and not {shown(word)}")
+            for of_column in [found[self.place(column)]] if is_one else found:
+                of_column |= named
+        return found
+
+    def flag_words(self, words, usual):
+        """The words of flags and what they are, by the places of their columns: the usual ones, or those of COLUMN=TRUE,FALSE."""
+        found = {}
+        for word in words:
+            column, is_there, value = word.partition("=")
+            both = [name.lower() for name in next(csv.reader([value]), [])]
+            if is_there and (len(both) != 2 or both[0] == both[1]):
+                raise Faulty(f"--flag wants COLUMN, or COLUMN=TRUE,FALSE with two words, as open=ja,nein, and not {shown(word)}")
+            for place in [self.place(column)] if is_there else self.places(word):
+                found[place] = {both[0]: "true", both[1]: "false"} if is_there else usual
         return found
 
 
 def broken_quotes(source):
-    """The quoted fields that go on behind their closing quotes, or are never closed, as sentences."""
+    """The quoted fields that go on after their closing quotes, or are never closed, as sentences."""
     ends = re.escape(source.separator) + r"\r\n"
-    before, behind = (" *", r"[ \t]*") if source.is_trimmed else ("", "")
-    field = re.compile(rf'(?:{before}"((?:[^"]|"")*+)("?){behind}([^{ends}]*)|[^{ends}]*)(?:[{ends}]|\Z)')
+    before, after = (" *", r"[ \t]*") if source.is_trimmed else ("", "")
+    field = re.compile(rf'(?:{before}"((?:[^"]|"")*+)("?){after}([^{ends}]*)|[^{ends}]*)(?:[{ends}]|\Z)')
     lines_of_record = []
     with source.text() as text:
 

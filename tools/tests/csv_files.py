@@ -1,7 +1,10 @@
 """Tests of tools/from_csv and tools/to_csv."""
 
+import bz2
 import csv
+import gzip
 import io
+import lzma
 import os
 import pty
 import shutil
@@ -63,22 +66,27 @@ def there_and_back(given, *words):
 # What is found in a file: its bytes, the words, the columns of the table, the records of the script, and sentences.
 FOUND = (
     ("b;a\n1;x\n", "--key a", "1 a:text b:int", "a,b\nx,1\n", ["1 record, 2 columns, divided by ';'"]),
-    ("a\tb\r\n1\t-2,5\r\n", "--key a", "1 a:int b:text", 'a,b\n1,"-2,5"\n', ["divided by '\\t'", "b: decimals, kept as text; --scale b=1 makes"]),
+    ("a\tb\r\n1\t-2,5\r\n", "--key a", "1 a:int b:text", 'a,b\n1,"-2,5"\n',
+     ["divided by '\\t'", "b: decimals, the first '-2,5' in record 1 (line 2), kept as text; --scale b=1 makes ints of tenths"]),
     ("a|b\r1|x,y\r2|z\r", "--key b,a", "2 b:text a:int", 'b,a\n"x,y",1\nz,2\n', ["2 records, 2 columns, divided by '|'", "its lines end with CR"]),
     ("a,b\n1,x;y;z\n2,x;y;z\n", "--key a", "1 a:int b:text", "a,b\n1,x;y;z\n2,x;y;z\n", ["divided by ','"]),
     ("a\n.\nb\n\n\n", "--key a", "1 a:text", 'a\n"."\n"b"\n', ["2 records, 1 column"]),
     ("\ufeffid,on\n1,TRUE\n2,false", "--key id", "1 id:int on:flag", "id,on\n1,TRUE\n2,false\n", ["the byte order mark at the start is left out"]),
     ("a,b\n1,caf\u00e9\n".encode("utf-16"), "--key a", "1 a:int b:text", "a,b\n1,caf\u00e9\n", ["read as utf-16"]),
     (b"a,b\n1,caf\xe9\n", "--key a --encoding latin-1", "1 a:int b:text", "a,b\n1,caf\u00e9\n", ["read as iso8859-1"]),
-    ("id,zip\n1,0150\n2,7\n", "--key id", "1 id:int zip:text", "id,zip\n1,0150\n2,7\n", ["zip: digits as '0150', of which an int would lose the zeros"]),
+    ("id,zip\n1,0150\n2,7\n", "--key id", "1 id:int zip:text", "id,zip\n1,0150\n2,7\n",
+     ["zip: digits of which an int would lose the zeros, the first '0150' in record 1 (line 2), kept as text"]),
     ("id,zip\n1,0150\n2,7\n", "--key id --kind zip=int", "1 id:int zip:int", "id,zip\n1,0150\n2,7\n", []),
     ("id,n\n1,9223372036854775807\n2,-9223372036854775808\n", "--key id", "1 id:int n:int", None, []),
-    ("id,n\n1,9223372036854775808\n2,5\n", "--key id", "1 id:int n:text", None, ["n: numbers as '9223372036854775808', which do not fit 64 bits"]),
-    ("id,n\n1,5\n2,n/a\n3,6\n", "--key id", "1 id:int n:text", None, ["n: text, as record 2 (line 3) has 'n/a', which is neither"]),
+    ("id,n\n1,9223372036854775808\n2,5\n", "--key id", "1 id:int n:text", None,
+     ["n: numbers that do not fit 64 bits, the first '9223372036854775808' in record 1"]),
+    ("id,n\n1,5\n2,n/a\n3,6\n", "--key id", "1 id:int n:text", None,
+     ["n: ints, but 1 field is 'n/a', in record 2 (line 3): kept as text; --null n=n/a --empty n=0 make it int"]),
+    ("id,n\n1,5\n2,x\n3,6\n", "--key id", "1 id:int n:text", None, ["n: text, as record 2 (line 3) has 'x', which is neither an int nor a decimal"]),
     ('id,n\n1, "5"\n2, 6\n', "--key id --trim", "1 id:int n:int", "id,n\n1,5\n2,6\n", []),
     ("id,n\n1, 5\n2, 6\n", "--key id", "1 id:int n:text", None, ["--trim drops spaces"]),
     ("id,n\n1,5\n2,\n\n3,\n", "--key id", "1 id:int n:text", None, ["n: ints, but 2 fields are empty, the first in record 2 (line 3): kept as text"]),
-    ("id,n\n1,5\n2,\n", "--key id --empty n=-7", "1 id:int n:int", "id,n\n1,5\n2,-7\n", ["n: 1 empty field is -7"]),
+    ("id,n\n1,5\n2,\n", "--key id --empty n=-7", "1 id:int n:int", "id,n\n1,5\n2,-7\n", ["n: 1 empty field is stored as -7"]),
     ("id,n\n1,\n2,\n", "--key id", "1 id:int n:text", None, ["n: all fields are empty, kept as text"]),
     ("1,x\n2,y\n", "--key id --names id,n", "1 id:int n:text", "id,n\n1,x\n2,y\n", ["2 records, 2 columns"]),
     ("1,x\n2,y\n", "--key x", "1 x:text column_1:int", "x,column_1\ny,2\n", ["--names NAMES gives them", "'1' is named column_1"]),
@@ -86,12 +94,34 @@ FOUND = (
     ("a,b,c\n1,x,y\n", "--key a --columns c", "1 a:int c:text", "a,c\n1,y\n", ["left out: b"]),
     ('a,b\n1,"x\r\ny"\n2,5" nail\n', "--key a", "1 a:int b:text", None, []),
     ("a,b\n", "--key b", "1 b:text a:text", "b,a\n", ["0 records"]),
-    ("a,b\n1,12.500\n2,-0.05\n3,7\n", "--key a --scale b=2", "1 a:int b:int", "a,b\n1,1250\n2,-5\n3,700\n", ["b: decimals, as ints times 100"]),
+    ("a,b\n1,12.500\n2,-0.05\n3,7\n", "--key a --scale b=2", "1 a:int b:int", "a,b\n1,1250\n2,-5\n3,700\n", ["b: decimals, stored as ints times 100"]),
     ("a,b\n1,-0.05\n2,100.00\n", "--key a --scale b=2", "1 a:int b:int", "a,b\n1,-5\n2,10000\n", []),
+    ("a,b\n1,0.05\n2,\n3,1.5\n", "--key a --scale b=2 --empty b=-1", "1 a:int b:int", "a,b\n1,5\n2,-1\n3,150\n",
+     ["b: 1 empty field is stored as -1, which is not scaled"]),
+    ("a,b\n1,0.05\n2,\n", "--key a --scale b=2 --empty b=0", "1 a:int b:int", "a,b\n1,5\n2,0\n", ["b: 1 empty field is stored as 0\n"]),
+    ("a;b\n1;1,5\n2;-2E-1\n3;3\n", "--key a --scale b=1", "1 a:int b:int", "a,b\n1,15\n2,-2\n3,30\n", []),
+    ("a,b\n1,1.0\n2,7.00\n", "--key a", "1 a:int b:text", None, ["the first '1.0' in record 1 (line 2), kept as text; --scale b=0 makes ints of them"]),
+    ("a,b\n1,1.0\n2,7.00\n", "--key a --scale b=0", "1 a:int b:int", "a,b\n1,1\n2,7\n", ["b: decimals, stored as ints without digits after the point"]),
+    ("a,b\n1,2\n2,\n", "--key a --empty b=x", "1 a:int b:text", "a,b\n1,2\n2,x\n", ["b: ints, but the filling of empty fields is 'x': kept as text"]),
+    ("a,b,c\n1,NULL,x\n2,5,NULL\n3,\\N,y\n", "--key a --null NULL,\\N --empty b=-1", "1 a:int b:int c:text", "a,b,c\n1,-1,x\n2,5,\n3,-1,y\n",
+     ["b: 2 fields are taken as empty: 'NULL' (1) and '\\N' (1)", "b: 2 empty fields are stored as -1", "c: 1 field is taken as empty: 'NULL' (1)"]),
+    ("a,b,c\n1,-,-\n2,5,x\n", "--key a --null b=- --empty b=0", "1 a:int b:int c:text", "a,b,c\n1,0,-\n2,5,x\n", []),
+    ("a,b,c\n1,n/a,NULL\n2,2.5,x\n3,,NULL\n", "--key a", "1 a:int b:text c:text", "a,b,c\n1,n/a,NULL\n2,2.5,x\n3,,NULL\n",
+     ["b: decimals, the first '2.5' in record 2 (line 3), kept as text; --scale b=1 makes ints of tenths, with --null b=n/a --empty b=0, as 1 field is "
+      "empty, in record 3 (line 4), and 1 field is 'n/a', in record 1 (line 2)", "c: 2 fields are 'NULL', kept as text; --null c=NULL takes such as empty"]),
+    ("a,b\n1,-\n2,None\n3,it - None\n", "--key a", "1 a:int b:text", "a,b\n1,-\n2,None\n3,it - None\n", ["3 records, 2 columns, divided by ','"]),
+    ("a,b,c\n1,Yes,1\n2,no,0\n", "--key a", "1 a:int b:text c:int", None, ["b: yes and no, kept as text; --flag b makes flags of them"]),
+    ("a,b,c\n1,Y,1\n2,n,0\n3,y,1\n", "--key a --flag b,c", "1 a:int b:flag c:flag", "a,b,c\n1,true,true\n2,false,false\n3,true,true\n",
+     ["b: flags, true for 'Y' and 'y' and false for 'n'", "c: flags, true for '1' and false for '0'"]),
+    ("a,b\n1,ja\n2,Nein\n3,\n", "--key a --flag b=ja,nein --empty b=false", "1 a:int b:flag", "a,b\n1,true\n2,false\n3,false\n", []),
+    ("a,b\n1,true\n2,false\n3,maybe\n", "--key a", "1 a:int b:text", None, ["b: text, as record 3 (line 4) has 'maybe', which is neither true nor false"]),
+    (gzip.compress(b"a,b\n1,x\n"), "--key a", "1 a:int b:text", "a,b\n1,x\n", ["unpacked by gzip"]),
+    (bz2.compress("\ufeffa,b\n1,x\n".encode()), "--key a", "1 a:int b:text", "a,b\n1,x\n", ["unpacked by bz2", "byte order mark at the start is left out"]),
+    (lzma.compress("a;b\n1;\u00e9\n".encode("utf-16")), "--key a", "1 a:int b:text", "a,b\n1,\u00e9\n", ["unpacked by lzma", "read as utf-16"]),
     ('a,b\n1,"5\n6"\n2,7\n', "--key a", "1 a:int b:text", 'a,b\n1,"5\n6"\n2,7\n', []),
     (f"a,b\n1,x{'é' * 130}\n", "--key a --cut b", "1 a:int b:text", f"a,b\n1,x{'é' * 127}\n", ["b: 1 text is cut to 255 bytes"]),
     (f"a,b\n1,{'é' * 130}\n", "--key a --cut b", "1 a:int b:text", f"a,b\n1,{'é' * 127}\n", []),
-)
+)  # fmt: skip
 
 
 def from_csv_finds_what_a_file_is():
@@ -101,7 +131,37 @@ def from_csv_finds_what_a_file_is():
         if records is not None:
             expect(script, f"{SHAPE} {columns}\nload\n{records}.\n")
         for part in wanted:
-            expect_within(part, "\n".join(sentences))
+            expect_within(part, "\n".join([*sentences, ""]))
+
+
+def from_csv_names_the_field_that_makes_a_text_of_numbers():
+    """Also far down in the file, for each way in which a column of ints becomes another."""
+    for odd, said in (
+        ("x1", "n: text, as record 2501 (line 2502) has 'x1', which is neither an int nor a decimal"),
+        ("1 000", "n: text, as record 2501 (line 2502) has '1 000', which is neither an int nor a decimal"),
+        ("007", "n: digits of which an int would lose the zeros, the first '007' in record 2501 (line 2502), kept as text; --kind n=int makes it int"),
+        ("9223372036854775808", "n: numbers that do not fit 64 bits, the first '9223372036854775808' in record 2501 (line 2502), kept as text"),
+        ("0.25", "n: decimals, the first '0.25' in record 2501 (line 2502), kept as text; --scale n=2 makes ints of hundredths"),
+        ("NaN", "n: ints, but 1 field is 'NaN', in record 2501 (line 2502): kept as text; --null n=NaN --empty n=0 make it int"),
+        ("", "n: ints, but 1 field is empty, in record 2501 (line 2502): kept as text; --empty n=0 makes it int"),
+    ):
+        fields = [str(number) for number in range(4000)]
+        fields[2500] = odd
+        status, script, sentences = from_csv("id,n\n" + "".join(f"{place},{field}\n" for place, field in enumerate(fields)), "--key", "id")
+        expect((status, sentences[1:]), (0, [f"{SHAPE} 1 id:int n:text", said]))
+        expect_within(f"\n2500,{odd}\n", script)
+
+
+def from_csv_reads_compressed_files_from_pipes():
+    given = gzip.compress(b"a,b\n1,x\n2,y\n")
+    status, script, errors = run("tools/from_csv", "-", "--key", "a", given=given)
+    expect((status, script), (0, f"{SHAPE} 1 a:int b:text\nload\na,b\n1,x\n2,y\n.\n"))
+    wrong_block = given[:10] + b"\xff" * 20
+    for broken, said in ((given[:-4], "ended before the end-of-stream marker"), (given[:-8] + bytes(8), "CRC check failed"), (wrong_block, "invalid block type")):
+        status, script, errors = run("tools/from_csv", "-", "--key", "a", given=broken)
+        expect((status, script, "Traceback" in errors), (2, "", False))
+        expect_within("from_csv: standard input cannot be unpacked: ", errors)
+        expect_within(said, errors)
 
 
 def from_csv_makes_names_of_titles():
@@ -122,10 +182,10 @@ def from_csv_says_what_became_of_the_sales():
             "6 records, 6 columns, divided by ';'",
             f"  {table}",
             "  the byte order mark at the start is left out",
-            "  its lines end with CR LF, and those of the script with LF; inside of fields they stay",
+            "  its lines end with CR LF, and those of the script with LF; inside fields they stay as they are",
             "  'Date' is named date, 'Store #' store, 'Revenue €' revenue, 'Open?' open",
-            "  revenue: decimals, as ints times 100",
-            "  visitors: 2 empty fields are 0",
+            "  revenue: decimals, stored as ints times 100",
+            "  visitors: 2 empty fields are stored as 0",
         ],
     )
     expect((status, script.splitlines()[:4]), (0, [table, "load", "date,store,revenue,visitors,open,comment", "2026-11-02,1,120450,35,TRUE,"]))
@@ -192,7 +252,7 @@ def from_csv_wants_right_words():
             ([path, "--key", "id", "--separator", "ab"], "is no separator"),
             ([path, "--key", "id", "--encoding", "what"], "is no encoding"),
             ([path, "--key", "id", "--encoding", "base64"], "is no encoding"),
-            ([bad, "--key", "id"], "line 3 is no UTF-8, as of byte 3, which is FF; --encoding latin-1"),
+            ([bad, "--key", "id"], "line 3 is no UTF-8: byte 3 is FF; --encoding cp1252, latin-1"),
             ([Path(folder) / "none", "--key", "id"], "No such file"),
             ([folder, "--key", "id"], "Is a directory"),
             (["/dev/null", "--key", "id"], "has no record"),
@@ -231,17 +291,28 @@ def from_csv_warns_of_quotes_that_look_broken():
 
 
 def from_csv_makes_scripts_of_64_mebibytes_and_no_byte_more():
-    """With a lesser limit in its place, to the byte; and of a great file it names the record with which the script is full."""
+    """With a smaller limit in its place, to the byte. Of a larger file it says so at once, and the record with which the script is full if it has to read."""
     tool = imported("tools/from_csv")
     with tempfile.TemporaryDirectory() as folder:
         path = Path(folder) / "a.csv"
         path.write_text("a,b\n" + "".join(f"{n},xyz\n" for n in range(2500)))
         size = len(run("tools/from_csv", str(path), "--key", "a")[1])
-        for most, status, said in ((size, 0, ""), (size - 1, 2, f"the script would have {size:,} bytes"), (9000, 2, "it is full at record 2000 (line 2001)")):
+        so_far = "1,000 records so far, 2 columns, divided by ','\n  table 16 1024 256 1 a:int b:text\n  refused: the script would have more than 9,000"
+        for most, words, status, said in (
+            (size, [], 0, ""),
+            (size - 1, [], 2, f"the script would have {size:,} bytes"),
+            (9000, [], 2, so_far),
+            (9000, [], 2, f"the file has {path.stat().st_size:,} bytes; --csv writes the records for load_csv of a session, which takes any size (docs/C.md)"),
+            (9000, ["--columns", "a,b"], 2, "it is full at record 2000 (line 2001); --csv writes"),
+        ):
             tool.MOST_SCRIPT = most
-            found = in_process(tool, str(path), "--key", "a")
+            found = in_process(tool, str(path), "--key", "a", *words)
             expect(found[0], status)
             expect_within(said, found[2])
+        # The records alone have no limit.
+        status, text, said = in_process(tool, str(path), "--key", "a", "--csv", "--index", "by_b", "on b")
+        table = "  table 16 1024 256 1 a:int b:text\n  index by_b on b\n  build by_b 1"
+        expect((status, text, said), (0, path.read_text(), f"2,500 records, 2 columns, divided by ','\n{table}\n"))
 
 
 def all_of_terminal(near):
@@ -457,7 +528,7 @@ def csv_sums_are_exact():
 
 def help_of_from_csv_can_be_followed():
     """The lines of its help, in a folder with examples/cities.csv."""
-    lines = run("tools/from_csv", "--help")[1].split("the answer:\n")[1].split("\nThe separator")[0]
+    lines = run("tools/from_csv", "--help")[1].split("the reply:\n")[1].split("\nThe separator")[0]
     with tempfile.TemporaryDirectory() as folder:
         for name in ("bin", "tools", "crates", "crates.txt", "examples/cities.csv"):
             (Path(folder) / Path(name).name).symlink_to(TOP / name)
@@ -487,6 +558,8 @@ def csv_tools_end_quietly_where_the_reader_goes_away():
 # Those that ask for no program.
 TESTS_OF_TEXTS = [
     from_csv_finds_what_a_file_is,
+    from_csv_names_the_field_that_makes_a_text_of_numbers,
+    from_csv_reads_compressed_files_from_pipes,
     from_csv_makes_names_of_titles,
     from_csv_says_what_became_of_the_sales,
     from_csv_refuses_what_cannot_be_loaded,
