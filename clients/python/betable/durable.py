@@ -1,0 +1,533 @@
+"""A durable table: what changes it is on disk before the call returns.
+
+    with betable.open("stock.table") as table:
+        table.run("table 16 1024 256 1 id:int city:text qty:int\\n")
+        table.put([(1, "Oslo", 30)])
+
+A table is what its scripts make of it: the same scripts, run in the same order, give the same replies and the same trees. So the file, a SQLite database,
+has a log of the scripts that changed the table, and opening the file runs them again. A script is run first, then kept by one transaction with a sync, and
+then answered. If any of that fails, the session is dropped and the next call makes it again from the file: a script is kept whole or not at all, however
+many commands it has.
+
+Each script is kept with a checksum of itself and its replies, which is compared when it runs again. A checkpoint puts the definitions and the rows in place
+of the log. It rebuilds every tree first, and a load packs trees as a rebuild does, so that a table opened from it has the same images, byte for byte.
+"""
+
+from __future__ import annotations
+
+import ctypes
+import os
+import re
+import sqlite3
+import sys
+import threading
+import time
+import weakref
+import zlib
+from collections.abc import Callable, Iterable, Iterator
+from contextlib import AbstractContextManager, closing, contextmanager, nullcontext, suppress
+from hashlib import sha256
+from typing import Any, NoReturn, Protocol
+
+from .calls import Calls, as_script, note
+from .language import PRIMARY, State, commands
+from .replies import answered
+from .session import Session
+
+FORMAT = 1  # of the file: raised when an older program could not read it
+ENGINE = 1  # raised when a script may give other replies, or other trees, than before
+APPLICATION_ID = 0x6274626C
+MOST_REQUESTS = 100_000
+PART_BYTES = 1 << 24
+LARGEST_IDLE_LOG = 1 << 24  # bytes that SQLite's own log keeps on disk when it is empty
+
+CHANGING = {b"table", b"load", b"batch", b"index", b"build", b"drop", b"drain", b"rebuild"}
+DEFINING = {b"table", b"index", b"build", b"drop"}
+# How the reply begins to a command that changes and is not refused.
+CHANGED = re.compile(rb"^(?:table|loaded|batch|index|build|dropped|drained|rebuilt) ", re.MULTILINE)
+REFUSED = re.compile(rb"^refused ", re.MULTILINE)
+
+SCHEMA = f"""
+    BEGIN IMMEDIATE;
+    CREATE TABLE about(engine INTEGER NOT NULL, number INTEGER NOT NULL, checksum INTEGER NOT NULL, rollbacks INTEGER NOT NULL);
+    CREATE TABLE checkpoint(part INTEGER PRIMARY KEY, text BLOB NOT NULL);
+    CREATE TABLE log(number INTEGER PRIMARY KEY, script BLOB NOT NULL, checksum INTEGER NOT NULL);
+    CREATE TABLE requests(number INTEGER PRIMARY KEY, id TEXT NOT NULL UNIQUE, script BLOB NOT NULL, replies BLOB NOT NULL);
+    INSERT INTO about VALUES({ENGINE}, 0, 0, 0);
+    PRAGMA application_id={APPLICATION_ID};
+    PRAGMA user_version={FORMAT};
+    COMMIT;
+"""
+
+
+class Runner(Protocol):
+    """What runs the scripts of a durable table: a session, or a layer over sessions."""
+
+    def replies(self, script: bytes) -> bytes:
+        ...
+
+    def close(self) -> None:
+        ...
+
+
+class NotATable(Exception):
+    """The file is no durable table."""
+
+
+class NewerFormat(Exception):
+    """The file was written by a newer version of this package, in a format that this one cannot read."""
+
+
+class InUse(Exception):
+    """Another process, or another object of this one, has the table open."""
+
+
+class Corrupt(Exception):
+    """What the file has is not what was kept. `number` is that of the script at fault, 0 for the checkpoint, or None if SQLite cannot read the file."""
+
+    def __init__(self, path: str, number: int | None, reason: str) -> None:
+        super().__init__(path, number, reason)
+        self.path, self.number, self.reason = path, number, reason
+
+    def __str__(self) -> str:
+        place = "" if self.number is None else "the checkpoint: " if self.number == 0 else f"script {self.number}: "
+        return f"{self.path}: {place}{self.reason}"
+
+
+class RolledBack(Exception):
+    """The call failed, and nothing of its script or group was kept: it can be made again. `__cause__` is what failed."""
+
+
+class InDoubt(Exception):
+    """The disk failed twice, so that it is not known whether the script or group was kept. The table is closed; opening it again shows which."""
+
+
+class IndexBuilding(Exception):
+    """A checkpoint cannot be written while an index is being built, since rows alone don't say how far it is. `names` are those of the indexes."""
+
+    def __init__(self, names: list[str]) -> None:
+        super().__init__(names)
+        self.names = names
+
+    def __str__(self) -> str:
+        return f"no checkpoint is written while an index is being built: complete {', '.join(self.names)} by build, or drop it"
+
+
+class RequestReused(Exception):
+    """A request id came again with another script, which was not run."""
+
+    def __init__(self, request_id: str) -> None:
+        super().__init__(request_id)
+        self.request_id = request_id
+
+    def __str__(self) -> str:
+        return f"request {self.request_id!r} was made before with another script: use a new id for each script"
+
+
+# After these the table can be used, and is as it is on disk.
+FAULTS = (RolledBack, IndexBuilding, RequestReused)
+
+
+def open(path: str | os.PathLike[str], *, sync: bool = True, most_requests: int = MOST_REQUESTS, make: Callable[[], Runner] = Session) -> Durable:
+    """The durable table of a file, which is created if it is not there.
+
+    Without `sync` a power loss may lose the last scripts, but no crash of the process does. `most_requests` is how many request ids of `once` are kept.
+    `make` gives what runs the scripts, which has no table yet: a session unless said otherwise.
+    """
+    return Durable(path, sync=sync, most_requests=most_requests, make=make)
+
+
+class Durable(Calls):
+    """A durable table. It is used by the thread and the process that opened it alone."""
+
+    def __init__(self, path: str | os.PathLike[str], *, sync: bool, most_requests: int, make: Callable[[], Runner]) -> None:
+        self.path, self._sync, self._most_requests, self._make = os.path.abspath(os.fspath(path)), sync, most_requests, make
+        self._thread, self._process = threading.current_thread(), os.getpid()
+        self._session: Runner | None = None
+        self._is_closed = self._is_in_group = self._is_rolled_back = self._is_changed = False
+        self._state = State()
+        self._db = self._connection()
+        _OPEN.add(self)
+        try:
+            self._ready()
+        except BaseException:
+            self.close()
+            raise
+
+    def __enter__(self) -> Durable:
+        return self
+
+    def __exit__(self, *_: object) -> None:
+        self.close()
+
+    def __repr__(self) -> str:
+        return f"<betable.Durable {self.path!r}{', closed' if self._is_closed else ''}>"
+
+    def __reduce__(self) -> NoReturn:
+        raise TypeError("a durable table cannot be pickled: open it where it is used")
+
+    # ---- the file ----
+
+    def _connection(self) -> sqlite3.Connection:
+        """The file, locked, with its tables."""
+        is_new = not os.path.exists(self.path)
+        db = None
+        try:
+            db = sqlite3.connect(self.path, timeout=0, isolation_level=None)
+            db.execute("PRAGMA locking_mode=EXCLUSIVE")
+            self._check_format(db)
+            db.execute("PRAGMA journal_mode=WAL")
+            db.execute(f"PRAGMA synchronous={'FULL' if self._sync else 'NORMAL'}")
+            db.execute(f"PRAGMA journal_size_limit={LARGEST_IDLE_LOG}")
+            if _value(db, "PRAGMA user_version") == 0:
+                db.executescript(SCHEMA)
+            else:
+                db.executescript("BEGIN IMMEDIATE; COMMIT")
+            if is_new:
+                _synced(os.path.dirname(self.path))
+            return db
+        except BaseException as fault:
+            if db is not None:
+                db.close()
+            if isinstance(fault, sqlite3.Error):
+                raise _as_named(fault, self.path) from fault
+            raise
+
+    def _check_format(self, db: sqlite3.Connection) -> None:
+        """Refuses a file that is something else, before anything is written to it."""
+        application, version = _value(db, "PRAGMA application_id"), _value(db, "PRAGMA user_version")
+        if application == APPLICATION_ID and version > FORMAT:
+            raise NewerFormat(f"{self.path} has format {version}, and this version of betable reads up to {FORMAT}: open it with a newer one")
+        if application != APPLICATION_ID and (application, version, _value(db, "SELECT count(*) FROM sqlite_schema")) != (0, 0, 0):
+            raise NotATable(f"{self.path} is a SQLite database of another program")
+
+    def _ready(self) -> Runner:
+        """The session. If it was dropped, it is made again from the file."""
+        if self._session is None:
+            session = self._make()
+            try:
+                self._replay(session)
+            except BaseException as fault:
+                session.close()
+                if isinstance(fault, sqlite3.Error):
+                    raise _as_named(fault, self.path) from fault
+                raise
+            self._session = session
+        return self._session
+
+    def _replay(self, session: Runner) -> None:
+        self._state = State()
+        engine, self._number, checksum = self._db.execute("SELECT engine, number, checksum FROM about").fetchone()
+        text = b"".join(part for (part,) in self._db.execute("SELECT text FROM checkpoint ORDER BY part"))
+        if zlib.crc32(text) != checksum:
+            raise Corrupt(self.path, 0, "its bytes are not those that were written, so restore a backup")
+        if text:
+            replies = session.replies(text)
+            if REFUSED.search(replies):
+                raise Corrupt(self.path, 0, f"it was refused, so open it with engine {engine} (this is {ENGINE}): {replies.decode()}")
+            self._take(text, replies)
+        self._log_bytes = 0
+        count = (_value(self._db, "SELECT max(number) FROM log") or self._number) - self._number
+        # A cursor that is left open would keep the file locked.
+        with closing(self._db.execute("SELECT number, script, checksum FROM log ORDER BY number")) as log:
+            for number, script, checksum in _with_progress(log, f"betable: {self.path}: {{:,}} of {count:,} scripts"):
+                if number != self._number + 1:
+                    raise Corrupt(self.path, self._number + 1, "it is missing, so restore a backup")
+                replies = session.replies(script)
+                if _checksum(script, replies) != checksum:
+                    raise Corrupt(self.path, number, _advice(engine))
+                self._take(script, replies)
+                self._number, self._log_bytes = number, self._log_bytes + len(script)
+        if engine != ENGINE:
+            self._db.execute("UPDATE about SET engine = ?", (ENGINE,))
+
+    def _take(self, script: bytes, replies: bytes) -> set[bytes]:
+        """The first words of the commands of a script that was run. What they define is noted."""
+        words = {command.head.word for command in commands(script)}
+        if words & DEFINING:
+            for command, reply in answered(commands(script), replies):
+                note(self._state, command, reply)
+        return words
+
+    # ---- scripts ----
+
+    def replies(self, script: str | bytes) -> bytes:
+        """The bytes of the replies to a script, which is kept if it changed anything."""
+        script = as_script(script)
+        with self._some_group(), self._all_or_nothing():
+            return self._run(script)
+
+    def once(self, request_id: str, script: str | bytes) -> bytes:
+        """As `replies`, but a script that comes again with the same request id is not run again: the call gives the replies that were kept with the id. So a
+        caller that got no answer sends the request again. RequestReused if another script had the id."""
+        script = as_script(script)
+        if not isinstance(request_id, str):
+            raise TypeError(f"a request id is a str, and not {request_id!r}")
+        hash = sha256(script).digest()
+        with self._some_group(), self._all_or_nothing():
+            found = self._db.execute("SELECT script, replies FROM requests WHERE id = ?", (request_id,)).fetchone()
+            if found is None:
+                replies = self._run(script)
+                self._begin()
+                added = self._db.execute("INSERT INTO requests(id, script, replies) VALUES(?, ?, ?)", (request_id, hash, replies)).lastrowid or 0
+                self._db.execute("DELETE FROM requests WHERE number <= ?", (added - self._most_requests,))
+                return replies
+        if found[0] != hash:
+            raise RequestReused(request_id)
+        return bytes(found[1])
+
+    def forget(self, *request_ids: str) -> None:
+        """Forgets request ids, whose callers were answered."""
+        with self._some_group(), self._all_or_nothing():
+            self._begin()
+            self._db.executemany("DELETE FROM requests WHERE id = ?", [(request_id,) for request_id in request_ids])
+
+    def _run(self, script: bytes) -> bytes:
+        replies = self._ready().replies(script)
+        words = self._take(script, replies)
+        if words & CHANGING and CHANGED.search(replies):
+            self._begin()
+            self._is_changed = True
+            self._number, self._log_bytes = self._number + 1, self._log_bytes + len(script)
+            self._db.execute("INSERT INTO log VALUES(?, ?, ?)", (self._number, script, _checksum(script, replies)))
+        return replies
+
+    # ---- groups ----
+
+    @contextmanager
+    def group(self) -> Iterator[None]:
+        """What is run in this context is kept together at its end, by one sync, and is to be answered only then. An exception rolls all of it back."""
+        self._check()
+        if self._is_in_group:
+            raise RuntimeError("a group is open already, and groups cannot be nested")
+        self._is_in_group, self._is_rolled_back, self._is_changed = True, False, False
+        try:
+            yield
+            self._check()
+            if self._is_rolled_back:
+                raise RolledBack(f"{self.path}: a call of the group failed, and nothing of the group was kept")
+            if self._db.in_transaction:
+                self._commit()
+        except BaseException:
+            self._roll_back()
+            raise
+        finally:
+            self._is_in_group = False
+
+    def _some_group(self) -> AbstractContextManager[None]:
+        """The group that is open, or one for this call alone."""
+        self._check()
+        return nullcontext() if self._is_in_group else self.group()
+
+    @contextmanager
+    def _all_or_nothing(self) -> Iterator[None]:
+        """Rolls the group back when what is run fails, and says so."""
+        if self._is_rolled_back:
+            raise RolledBack(f"{self.path}: a call of the group failed before, and nothing of the group is kept")
+        try:
+            yield
+        except BaseException as fault:
+            self._is_changed = True
+            self._roll_back()
+            if isinstance(fault, Exception) and not isinstance(fault, Corrupt):
+                raise RolledBack(f"{self.path}: nothing of the script was kept: {fault or type(fault).__name__}") from fault
+            raise
+
+    def _begin(self) -> None:
+        if not self._db.in_transaction:
+            self._db.execute("BEGIN IMMEDIATE")
+
+    def _commit(self) -> None:
+        try:
+            self._db.execute("COMMIT")
+        except sqlite3.Error as fault:
+            self._is_changed = True
+            is_gone = self._roll_back()
+            # If a sync failed, all of the transaction may be in the file, and would be found there after a crash: another one is written over it.
+            # If the disk is full, the end of the transaction is not in the file.
+            try:
+                self._db.execute("UPDATE about SET rollbacks = rollbacks + 1")
+            except sqlite3.Error:
+                is_gone = is_gone and fault.sqlite_errorcode == sqlite3.SQLITE_FULL
+            if is_gone:
+                raise RolledBack(f"{self.path}: nothing was kept: {fault}") from fault
+            self.close()
+            raise InDoubt(f"{self.path}: {fault}, twice: open the table again to see whether the script or group was kept") from fault
+
+    def _roll_back(self) -> bool:
+        """Undoes what the group did. A session that it changed goes: the next call makes it again from the file. Whether the transaction is closed."""
+        self._is_rolled_back = True
+        if self._is_changed:
+            self._drop()
+        try:
+            if not self._is_closed and self._db.in_transaction:
+                self._db.execute("ROLLBACK")
+            return True
+        except sqlite3.Error:
+            return False
+
+    def _drop(self) -> None:
+        session, self._session = self._session, None
+        if session is not None:
+            with suppress(Exception):
+                session.close()
+
+    # ---- checkpoints and backups ----
+
+    def checkpoint(self) -> None:
+        """Rebuilds all trees, and puts the rows in place of the log. Request ids stay."""
+        self._check_outside("a checkpoint")
+        table = self._state.table
+        if table is None:
+            return
+        if building := [name.decode() for name, index in table.indexes.items() if not index.is_complete]:
+            raise IndexBuilding(building)
+        with self.group(), self._all_or_nothing():
+            session = self._ready()
+            self._is_changed = True
+            session.replies(b"".join(b"rebuild %b\n" % name for name in (PRIMARY, *table.indexes)))
+            lines = [table.line.text] + [line for name, index in table.indexes.items() for line in (index.line.text, b"build %b 1" % name)]
+            text = b"\n".join([*lines, b"load", b",".join(table.names), b""]) + _records(session.replies(b"scan primary\ngo\n")) + b".\n"
+            self._begin()
+            self._db.execute("DELETE FROM checkpoint")
+            for at in range(0, len(text), PART_BYTES):
+                self._db.execute("INSERT INTO checkpoint(text) VALUES(?)", (text[at : at + PART_BYTES],))
+            self._db.execute("DELETE FROM log")
+            self._db.execute("UPDATE about SET number = ?, checksum = ?", (self._number, zlib.crc32(text)))
+        self._log_bytes = 0
+
+    def backup(self, path: str | os.PathLike[str]) -> None:
+        """Copies the table as it is to a new file, which is whole as soon as it is there."""
+        self._check_outside("a backup")
+        path = os.path.abspath(os.fspath(path))
+        part = f"{path}.part"
+        if os.path.lexists(path):
+            raise FileExistsError(f"{path} is there already: a backup is written to a new file")
+        try:
+            with suppress(FileNotFoundError):
+                os.remove(part)
+            with closing(sqlite3.connect(part, isolation_level=None)) as copy:
+                self._db.backup(copy)
+            _synced(part)
+            os.rename(part, path)
+            _synced(os.path.dirname(path))
+        except sqlite3.Error as fault:
+            raise OSError(f"{path}: no backup was written: {fault}") from fault
+
+    # ---- the table as an object ----
+
+    @property
+    def is_lost(self) -> bool:
+        """False: a table that its session lost is made again from the file."""
+        self._check()
+        return False
+
+    @property
+    def state(self) -> State:
+        self._check()
+        self._ready()
+        return self._state
+
+    @property
+    def number(self) -> int:
+        """The number of the last script that was kept, counted from 1 on since the table was created."""
+        self._check()
+        self._ready()
+        return self._number
+
+    @property
+    def log_bytes(self) -> int:
+        """How many bytes the scripts of the log have, which opening the table runs: a checkpoint makes it 0."""
+        self._check()
+        self._ready()
+        return self._log_bytes
+
+    def close(self) -> None:
+        """Closes the file. A table that is closed stays so, and a group that is open is rolled back."""
+        if not self._is_closed and os.getpid() == self._process:
+            self._check()
+            self._is_closed = True
+            self._drop()
+            self._db.close()
+
+    def _check(self) -> None:
+        if os.getpid() != self._process:
+            raise RuntimeError("a durable table is used by the process that opened it alone")
+        if threading.current_thread() is not self._thread:
+            raise RuntimeError("a durable table is used by the thread that opened it alone")
+        if self._is_closed:
+            raise ValueError("the table is closed")
+
+    def _check_outside(self, what: str) -> None:
+        self._check()
+        if self._is_in_group:
+            raise RuntimeError(f"{what} cannot be made in a group: end the group first")
+        self._ready()
+
+
+# A forked child that exits would close its copies of the connections, and so delete SQLite's log, which the parent goes on writing to.
+_OPEN: weakref.WeakSet[Durable] = weakref.WeakSet()
+
+
+def _keep_connections() -> None:
+    for table in _OPEN:
+        ctypes.pythonapi.Py_IncRef(ctypes.py_object(table._db))
+
+
+os.register_at_fork(after_in_child=_keep_connections)
+
+
+def _value(db: sqlite3.Connection, query: str) -> Any:
+    return db.execute(query).fetchone()[0]
+
+
+def _checksum(script: bytes, replies: bytes) -> int:
+    return zlib.crc32(replies, zlib.crc32(script))
+
+
+def _synced(path: str) -> None:
+    """A file, or the names in a folder, on disk."""
+    file = os.open(path, os.O_RDONLY)
+    try:
+        os.fsync(file)
+    finally:
+        os.close(file)
+
+
+def _as_named(fault: sqlite3.Error, path: str) -> Exception:
+    """What SQLite says of the file, by the names of this module."""
+    match fault.sqlite_errorcode & 0xFF:
+        case sqlite3.SQLITE_BUSY | sqlite3.SQLITE_LOCKED:
+            return InUse(f"{path} is open already, by another process or by this one")
+        case sqlite3.SQLITE_NOTADB:
+            return NotATable(f"{path} is no SQLite database")
+        case sqlite3.SQLITE_CORRUPT:
+            return Corrupt(path, None, f"{fault}, so restore a backup")
+    return OSError(f"{path}: {fault}")
+
+
+def _advice(engine: int) -> str:
+    if engine == ENGINE:
+        return "it or its replies are not those that were kept: the file is damaged, or the library is another one"
+    return f"it was kept by engine {engine}, and engine {ENGINE} replies otherwise: open the table with the version that wrote it, write a checkpoint, and update"
+
+
+def _records(replies: bytes) -> bytes:
+    """The replies to a scan of the rows as the records of a load. Every second piece between double quotes is inside of quotes."""
+    pieces = (b"\n" + replies[: replies.rindex(b"rows ")]).split(b'"')
+    pieces[::2] = [piece.replace(b"\nrow ", b"\n") for piece in pieces[::2]]
+    # A row of one column that is a point would end the load.
+    return b'"'.join(pieces).replace(b"\n.\n", b'\n"."\n')[1:]
+
+
+def _with_progress(rows: Iterable[Any], line: str) -> Iterator[Any]:
+    """The rows. A line at the terminal says how many have come, once each second."""
+    is_shown, last = False, time.monotonic()
+    for count, row in enumerate(rows):
+        now = time.monotonic()
+        if now - last >= 1 and sys.stderr is not None and sys.stderr.isatty():
+            is_shown, last = True, now
+            print("\r" + line.format(count), end="", file=sys.stderr, flush=True)
+        yield row
+    if is_shown:
+        print("\r\033[K", end="", file=sys.stderr, flush=True)

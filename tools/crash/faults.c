@@ -1,0 +1,311 @@
+/*
+ * A library to be preloaded into a test's process (LD_PRELOAD), which kills the process at an operation on a file, lets operations fail, and keeps a trace of
+ * all of them. For Linux with the GNU C library.
+ *
+ * Operations are those on what is below a folder: a file is created or opened to be written, written, cut or extended, synced, renamed or removed, and the
+ * names in a folder are synced. They are counted from 0 since `faults_begin`. A sync is not carried out, since what a kernel has it keeps while it runs.
+ *
+ * Requests for memory are refused too: the one of a number, of those that are made while the test says so.
+ *
+ * A trace is a file of records: a letter, the path, an offset, a length, each with a zero byte after it, and then as many bytes.
+ *
+ *   c path            a file is created                    s path            a file, or the names in a folder, are synced
+ *   w path at n ..    n bytes are written at an offset     r path            a file is removed
+ *   t path n          a file has n bytes from now on       m path .. n new   a file gets a new name, of n bytes
+ *   n "" number       a note of the test
+ */
+#define _GNU_SOURCE
+#include <errno.h>
+#include <fcntl.h>
+#include <limits.h>
+#include <signal.h>
+#include <stdarg.h>
+#include <stdbool.h>
+#include <stdio.h>
+#include <string.h>
+#include <sys/stat.h>
+#include <sys/syscall.h>
+#include <unistd.h>
+
+/* How much of a write is carried out at which the process is killed, or which fails. */
+enum part { NOTHING, HALF, ALL_BUT_A_BYTE, WHOLE };
+
+static char folder[PATH_MAX];
+static int trace = -1;
+static long count, kill_at, fail_from, fail_to;
+static int part, write_fault;
+static bool is_traced_with_bytes;
+static bool is_counting_requests;
+static long requests, refused_at = -1;
+
+/* The C library's own functions, by names that this file does not define. */
+void *__libc_malloc(size_t size);
+void *__libc_realloc(void *block, size_t size);
+
+/* From here on operations below a folder are counted. Numbers below 0 kill nothing, and let nothing fail. */
+void faults_begin(const char *below, const char *trace_path, bool has_bytes, long killed, long first, long last, int how_much, int fault)
+{
+    snprintf(folder, sizeof folder, "%s", below);
+    count = 0;
+    kill_at = killed;
+    fail_from = first;
+    fail_to = last;
+    part = how_much;
+    write_fault = fault;
+    is_traced_with_bytes = has_bytes;
+    trace = (int)syscall(SYS_openat, AT_FDCWD, trace_path, O_CREAT | O_TRUNC | O_WRONLY | O_APPEND, 0644);
+}
+
+static void put(const void *bytes, size_t length)
+{
+    if (syscall(SYS_write, trace, bytes, length) != (long)length)
+        syscall(SYS_kill, getpid(), SIGABRT);
+}
+
+static void record(char letter, const char *path, long offset, const void *bytes, size_t length)
+{
+    char head[PATH_MAX + 64];
+    int size = snprintf(head, sizeof head, "%c%s", letter, path) + 1;
+    size += snprintf(head + size, sizeof head - (size_t)size, "%ld", offset) + 1;
+    size += snprintf(head + size, sizeof head - (size_t)size, "%zu", bytes ? length : 0) + 1;
+    put(head, (size_t)size);
+    if (bytes && length)
+        put(bytes, length);
+}
+
+/* A number that the test keeps in the trace, between the operations before and after it. */
+void faults_note(long number)
+{
+    record('n', "", number, NULL, 0);
+}
+
+long faults_count(void)
+{
+    return count;
+}
+
+static bool is_below(const char *path)
+{
+    size_t length = strlen(folder);
+    return trace >= 0 && strncmp(path, folder, length) == 0 && (path[length] == '/' || path[length] == 0);
+}
+
+static bool is_watched(int file, char *path)
+{
+    char link[64];
+    if (trace < 0 || file == trace)
+        return false;
+    snprintf(link, sizeof link, "/proc/self/fd/%d", file);
+    long length = syscall(SYS_readlinkat, AT_FDCWD, link, path, (size_t)(PATH_MAX - 1));
+    if (length < 0)
+        return false;
+    path[length] = 0;
+    return is_below(path);
+}
+
+/* What is to be done at an operation. */
+enum fate { GO_ON, FAIL, DIE };
+
+static enum fate fate(void)
+{
+    long number = count++;
+    return number == kill_at ? DIE : number >= fail_from && number <= fail_to ? FAIL : GO_ON;
+}
+
+static void die(void)
+{
+    syscall(SYS_kill, getpid(), SIGKILL);
+    for (;;)
+        pause();
+}
+
+static size_t length_of_part(size_t length)
+{
+    size_t parts[] = {0, length / 2, length - (length > 0), length};
+    return parts[part];
+}
+
+static long written(int file, const void *bytes, size_t length, off_t at, bool is_placed)
+{
+    return is_placed ? syscall(SYS_pwrite64, file, bytes, length, at) : syscall(SYS_write, file, bytes, length);
+}
+
+static ssize_t write_at(int file, const void *bytes, size_t length, off_t at, bool is_placed)
+{
+    char path[PATH_MAX];
+    if (!is_watched(file, path))
+        return written(file, bytes, length, at, is_placed);
+    enum fate what = fate();
+    size_t size = what == GO_ON ? length : length_of_part(length);
+    long offset = is_placed ? at : syscall(SYS_lseek, file, 0, SEEK_CUR);
+    if (size) {
+        record('w', path, offset, is_traced_with_bytes ? bytes : NULL, size);
+        if (written(file, bytes, size, at, is_placed) != (long)size)
+            die();
+    }
+    if (what == DIE)
+        die();
+    if (what == FAIL) {
+        if (!is_placed)
+            syscall(SYS_lseek, file, offset, SEEK_SET);
+        errno = write_fault;
+        return -1;
+    }
+    return (ssize_t)length;
+}
+
+/* Whether an operation that is carried out whole or not at all is to be carried out. One that is killed is carried out first if a write would be. */
+static bool is_let(char letter, const char *path, long offset, const char *name)
+{
+    enum fate what = fate();
+    if (what == FAIL || (what == DIE && part != WHOLE)) {
+        if (what == DIE)
+            die();
+        errno = EIO;
+        return false;
+    }
+    record(letter, path, offset, name, name ? strlen(name) : 0);
+    return true;
+}
+
+static void die_if_it_was_the_one(void)
+{
+    if (count - 1 == kill_at)
+        die();
+}
+
+ssize_t write(int file, const void *bytes, size_t length)
+{
+    return write_at(file, bytes, length, 0, false);
+}
+
+ssize_t pwrite(int file, const void *bytes, size_t length, off_t at)
+{
+    return write_at(file, bytes, length, at, true);
+}
+
+ssize_t pwrite64(int file, const void *bytes, size_t length, off_t at)
+{
+    return write_at(file, bytes, length, at, true);
+}
+
+static int sync_of(int file, long call)
+{
+    char path[PATH_MAX];
+    if (!is_watched(file, path))
+        return (int)syscall(call, file);
+    if (!is_let('s', path, 0, NULL))
+        return -1;
+    die_if_it_was_the_one();
+    return 0;
+}
+
+int fsync(int file)
+{
+    return sync_of(file, SYS_fsync);
+}
+
+int fdatasync(int file)
+{
+    return sync_of(file, SYS_fdatasync);
+}
+
+int ftruncate(int file, off_t length)
+{
+    char path[PATH_MAX];
+    if (!is_watched(file, path))
+        return (int)syscall(SYS_ftruncate, file, length);
+    if (!is_let('t', path, length, NULL))
+        return -1;
+    int status = (int)syscall(SYS_ftruncate, file, length);
+    die_if_it_was_the_one();
+    return status;
+}
+
+int ftruncate64(int file, off_t length)
+{
+    return ftruncate(file, length);
+}
+
+int unlink(const char *path)
+{
+    struct stat found;
+    if (!is_below(path) || lstat(path, &found) != 0)
+        return (int)syscall(SYS_unlinkat, AT_FDCWD, path, 0);
+    if (!is_let('r', path, 0, NULL))
+        return -1;
+    int status = (int)syscall(SYS_unlinkat, AT_FDCWD, path, 0);
+    die_if_it_was_the_one();
+    return status;
+}
+
+int rename(const char *from, const char *to)
+{
+    if (!is_below(from))
+        return (int)syscall(SYS_renameat, AT_FDCWD, from, AT_FDCWD, to);
+    if (!is_let('m', from, 0, to))
+        return -1;
+    int status = (int)syscall(SYS_renameat, AT_FDCWD, from, AT_FDCWD, to);
+    die_if_it_was_the_one();
+    return status;
+}
+
+static int open_file(const char *path, int flags, mode_t mode)
+{
+    struct stat found;
+    if (!(flags & O_CREAT) || !is_below(path) || stat(path, &found) == 0)
+        return (int)syscall(SYS_openat, AT_FDCWD, path, flags, mode);
+    if (!is_let('c', path, 0, NULL))
+        return -1;
+    int file = (int)syscall(SYS_openat, AT_FDCWD, path, flags, mode);
+    die_if_it_was_the_one();
+    return file;
+}
+
+int open(const char *path, int flags, ...)
+{
+    va_list rest;
+    va_start(rest, flags);
+    mode_t mode = flags & (O_CREAT | O_TMPFILE) ? va_arg(rest, mode_t) : 0;
+    va_end(rest);
+    return open_file(path, flags, mode);
+}
+
+int open64(const char *path, int flags, ...)
+{
+    va_list rest;
+    va_start(rest, flags);
+    mode_t mode = flags & (O_CREAT | O_TMPFILE) ? va_arg(rest, mode_t) : 0;
+    va_end(rest);
+    return open_file(path, flags, mode);
+}
+
+/* Requests for memory: from here on, up to the same call with `false`, they are counted on, and the one of this number is refused. */
+void faults_count_requests(bool is_counting, long refused)
+{
+    is_counting_requests = is_counting;
+    refused_at = refused;
+}
+
+long faults_requests(void)
+{
+    return requests;
+}
+
+static bool is_refused(void)
+{
+    if (!is_counting_requests || requests++ != refused_at)
+        return false;
+    errno = ENOMEM;
+    return true;
+}
+
+void *malloc(size_t size)
+{
+    return is_refused() ? NULL : __libc_malloc(size);
+}
+
+void *realloc(void *block, size_t size)
+{
+    return is_refused() ? NULL : __libc_realloc(block, size);
+}

@@ -1,0 +1,480 @@
+"""Histories of a durable table under faults: the process is killed, the power is lost, operations on files fail, memory is refused.
+
+What is in this module runs in a process into which faults.c is preloaded: `main` starts it so. Each history runs in a fork of it, on files below a folder of
+its own. Each check counts what it has looked at and what was wrong, with the first faults in words.
+"""
+
+from __future__ import annotations
+
+import ctypes
+import errno
+import os
+import random
+import shutil
+import signal
+import subprocess
+import sys
+import tempfile
+from collections.abc import Callable, Iterator
+from itertools import chain, combinations
+from pathlib import Path
+from typing import Any, NamedTuple
+
+from history import Backup, PROBE, Step, expected
+
+from betable import Session, durable
+
+HERE = Path(__file__).resolve().parent
+NOTHING, HALF, ALL_BUT_A_BYTE, WHOLE = range(4)
+SECTOR = 512
+IN_DOUBT, FAILED = -1, -2  # notes that a step may be kept or not, and that a call failed
+MOST_SUBSETS = 10  # up to so many writes that are not synced all subsets of them are looked at
+
+
+class Operation(NamedTuple):
+    """An operation of a trace, by its letter."""
+
+    letter: str
+    path: str
+    offset: int
+    data: bytes
+
+
+class Count:
+    """What a check has looked at."""
+
+    def __init__(self, name: str) -> None:
+        self.name, self.looks, self.wrong, self.ahead, self.faults, self.doubts = name, 0, 0, 0, 0, 0
+        self.details = ""
+        self.reasons: list[str] = []
+
+    def look(self, what: str, check: Callable[[], int | None]) -> None:
+        """One look. The check gives how many steps more than those answered were there, or an exception that says what is wrong."""
+        self.looks += 1
+        try:
+            self.ahead += check() or 0
+        except Exception as fault:
+            self.wrong += 1
+            if len(self.reasons) < 5:
+                self.reasons.append(f"{what}: {type(fault).__name__}: {fault}")
+
+    def __str__(self) -> str:
+        parts = [f"{self.name}: {self.looks:,} looked at", f"{self.wrong:,} wrong"]
+        parts += [f"{self.ahead:,} kept though not answered"] if self.ahead else []
+        parts += [f"{self.faults:,} calls failed, {self.doubts:,} of them in doubt"] if self.faults else []
+        parts += [self.details] if self.details else []
+        return "\n".join([", ".join(parts), *self.reasons])
+
+
+class Wrong(Exception):
+    """A table is not what it has to be."""
+
+
+# ---- a history in a fork ----
+
+
+def library() -> Any:
+    """The functions of faults.c in this process."""
+    return ctypes.CDLL(None)
+
+
+def forked(work: Callable[[], None], folder: str, *, has_bytes: bool = False, kill_at: int = -1, fails: tuple[int, int] = (-1, -1),
+           part: int = WHOLE, fault: int = errno.ENOSPC) -> int:  # fmt: skip
+    """The status of a fork that did a work on files below a folder, which is empty at first, with a trace beside the folder."""
+    shutil.rmtree(folder, ignore_errors=True)
+    os.makedirs(folder)
+    child = os.fork()
+    if child == 0:
+        status = 1
+        try:
+            signal.alarm(120)
+            library().faults_begin(folder.encode(), f"{folder}.trace".encode(), has_bytes, ctypes.c_long(kill_at), *map(ctypes.c_long, fails), part, fault)
+            work()
+            status = 0
+        except Exception as failed:
+            Path(f"{folder}.fault").write_text(f"{type(failed).__name__}: {failed}")
+        finally:
+            os._exit(status)
+    return os.waitstatus_to_exitcode(os.waitpid(child, 0)[1])
+
+
+def trace_of(folder: str) -> list[Operation]:
+    data, at, found = Path(f"{folder}.trace").read_bytes(), 0, []
+    while at < len(data):
+        ends = [data.index(b"\0", at)]
+        for _ in range(2):
+            ends.append(data.index(b"\0", ends[-1] + 1))
+        path, offset, length = data[at + 1 : ends[0]].decode(), int(data[ends[0] + 1 : ends[1]]), int(data[ends[1] + 1 : ends[2]])
+        found.append(Operation(chr(data[at]), path, offset, data[ends[2] + 1 : ends[2] + 1 + length]))
+        at = ends[2] + 1 + length
+    return found
+
+
+def answered(trace: list[Operation]) -> int:
+    """How many steps were answered."""
+    return max([0, *(operation.offset for operation in trace if operation.letter == "n")])
+
+
+def opened(folder: str, *, sync: bool = True, make: Callable[[], Any] = Session) -> Any:
+    """The table of a folder. SQLite's own checkpoints come early, so that a short history has some."""
+    table = durable.open(f"{folder}/table", sync=sync, make=make)
+    table._db.execute("PRAGMA wal_autocheckpoint=8")
+    return table
+
+
+def go(folder: str, steps: list[Step], *, start: int = 0, sync: bool = True) -> None:
+    """A client: its steps, each noted when it is answered. Half way it closes the table and opens it again."""
+    middle = max(start, len(steps) // 2)
+    for first, last in ((start, middle), (middle, len(steps))):
+        with opened(folder, sync=sync) as table:
+            for number in range(first, last):
+                steps[number].make(table, number)
+                library().faults_note(ctypes.c_long(number + 1))
+
+
+def go_without_answers(folder: str, steps: list[Step]) -> None:
+    """A control: a client that takes steps for answered before they are kept."""
+    with opened(folder) as table, table.group():
+        for number, step in enumerate(steps):
+            if step.is_repeatable:
+                step.make(table, number)
+                library().faults_note(ctypes.c_long(number + 1))
+
+
+def state_of(table: Any, want: list[bytes], least: int, most: int) -> int:
+    """After how many steps the table is as it is found."""
+    found = table.replies(PROBE)
+    for state in range(least, min(most + 1, len(want))):
+        if found == want[state]:
+            return state
+    states = [state for state, probe in enumerate(want) if probe == found]
+    raise Wrong(f"{least} steps were answered, and the table is that after {states or 'none of them'}")
+
+
+def as_after_a_crash(folder: str, steps: list[Step], want: list[bytes], least: int, most: int) -> int:
+    """Checks that the table has what was answered and no half of a step, goes on with the steps that were not answered, and checks the end. Gives how many
+    steps more than the answered ones were there."""
+    with opened(folder) as table:
+        state = state_of(table, want, least, most)
+        for number in range(least, len(steps)):
+            # A step that is made by `once` is sent again as it was not answered, also where it was kept.
+            if number >= state or steps[number].is_repeatable:
+                steps[number].make(table, number)
+        state_of(table, want, len(steps), len(steps))
+    with opened(folder) as table:
+        state_of(table, want, len(steps), len(steps))
+    check_backup(folder, steps, want)
+    return state - least
+
+
+def check_backup(folder: str, steps: list[Step], want: list[bytes]) -> None:
+    for number, step in enumerate(steps):
+        if isinstance(step, Backup):
+            with durable.open(f"{folder}/backup") as table:
+                state_of(table, want, number, number + 1)
+
+
+# ---- the checks ----
+
+
+def killed(folder: str, steps: list[Step], *, every: int = 1, parts: tuple[int, ...] = (HALF, ALL_BUT_A_BYTE, WHOLE), is_control: bool = False) -> Count:
+    """The process is killed at each operation, of which a part is carried out."""
+    want, count = list(expected(steps)), Count("control of kills" if is_control else "killed")
+    work = (lambda: go_without_answers(folder, steps)) if is_control else (lambda: go(folder, steps))
+    if forked(work, folder) != 0:
+        raise Wrong("the history does not go through")
+    operations = [operation for operation in trace_of(folder) if operation.letter != "n"]
+    for part in parts:
+        for number in range(0, len(operations), every):
+            if forked(work, folder, kill_at=number, part=part) != -signal.SIGKILL:
+                raise Wrong(f"operation {number} was not come to")
+            done = answered(trace_of(folder))
+            count.look(f"killed at operation {number}, part {part}", lambda: as_after_a_crash(folder, steps, want, done, done + 1))
+    return count
+
+
+def without_power(folder: str, steps: list[Step], *, subsets: int = MOST_SUBSETS, mixes: int = 2, sync: bool = True, seed: int = 1) -> Count:
+    """The power is lost: of what was not synced each subset is on disk, and some with writes of which sectors are there, old, or zeros."""
+    want, count, dice = list(expected(steps)), Count("power lost" if sync else "control of power lost"), random.Random(seed)
+    if forked(lambda: go(folder, steps, sync=sync), folder, has_bytes=True) != 0:
+        raise Wrong("the history does not go through")
+    seen = set()
+    for what, files, done in disks(folder, trace_of(folder), dice, subsets, mixes):
+        key = done, frozenset(files.items())
+        if key not in seen:
+            seen.add(key)
+            count.look(what, lambda: on_disk(files, folder, steps, want, done, done + 1))
+    return count
+
+
+def on_disk(files: dict[str, bytes], folder: str, steps: list[Step], want: list[bytes], least: int, most: int) -> int:
+    """Checks the table of files that a power loss has left."""
+    place = f"{folder}.disk"
+    shutil.rmtree(place, ignore_errors=True)
+    os.makedirs(place)
+    for name, data in files.items():
+        Path(place, name).write_bytes(data)
+    with opened(place) as table:
+        state = state_of(table, want, least, most)
+    if any(isinstance(step, Backup) for step in steps[:least]) or "backup" in files:
+        check_backup(place, steps, want)
+    return state - least
+
+
+class Disk:
+    """What is on a disk before a place of a trace: the files by number with what is synced, and of all else the operations that are not synced."""
+
+    def __init__(self) -> None:
+        self.names: dict[str, int] = {}  # as they are synced
+        self.current: dict[str, int] = {}  # as the process sees them
+        self.files: list[bytes] = []
+        self.pending: list[tuple[int, Operation]] = []  # by number of the file, or -1 for names
+
+    def take(self, operation: Operation, folder: str) -> None:
+        letter, name = operation.letter, os.path.basename(operation.path)
+        if letter == "s" and operation.path == folder:
+            for _, one in [entry for entry in self.pending if entry[0] < 0]:
+                self._rename(self.names, one)
+            self.pending = [entry for entry in self.pending if entry[0] >= 0]
+        elif letter == "s":
+            file = self.current[name]
+            self.files[file] = self.data(file, [one for number, one in self.pending if number == file])
+            self.pending = [entry for entry in self.pending if entry[0] != file]
+        elif letter in "crm":
+            if letter == "c":
+                self.files.append(b"")
+                operation = operation._replace(offset=len(self.files) - 1)
+            self._rename(self.current, operation)
+            self.pending.append((-1, operation))
+        else:
+            self.pending.append((self.current[name], operation))
+
+    def _rename(self, names: dict[str, int], operation: Operation) -> None:
+        name = os.path.basename(operation.path)
+        if operation.letter == "c":
+            names[name] = operation.offset
+        elif operation.letter == "r":
+            names.pop(name, None)
+        elif name in names:
+            names[os.path.basename(operation.data.decode())] = names.pop(name)
+
+    def data(self, file: int, operations: list[Operation]) -> bytes:
+        data = bytearray(self.files[file])
+        for operation in operations:
+            if operation.letter == "t":
+                del data[operation.offset :]
+                data.extend(bytes(operation.offset - len(data)))
+            else:
+                data.extend(bytes(max(0, operation.offset - len(data))))
+                data[operation.offset : operation.offset + len(operation.data)] = operation.data
+        return bytes(data)
+
+    def as_found(self, there: list[tuple[int, Operation]]) -> dict[str, bytes]:
+        """The files after a power loss, if of what is pending this is on disk."""
+        names = dict(self.names)
+        for _, operation in (entry for entry in there if entry[0] < 0):
+            self._rename(names, operation)
+        return {name: self.data(file, [one for number, one in there if number == file]) for name, file in names.items()}
+
+
+def last_disks(folder: str, trace: list[Operation], dice: random.Random) -> Iterator[tuple[str, dict[str, bytes]]]:
+    """Some of what may be on disk at the end of a trace."""
+    disk = Disk()
+    for operation in trace:
+        if operation.letter != "n":
+            disk.take(operation, folder)
+    for subset in subsets_of(disk.pending, dice, 1):
+        yield f"{len(subset)} of {len(disk.pending)} there", disk.as_found(subset)
+
+
+def disks(folder: str, trace: list[Operation], dice: random.Random, most: int, mixes: int) -> Iterator[tuple[str, dict[str, bytes], int]]:
+    """What may be on disk, for each place of a trace before a sync, and at its end: what it is, the files, and how many steps were answered."""
+    disk, done = Disk(), 0
+    for number, operation in enumerate([*trace, Operation("s", folder, 0, b"")]):
+        if operation.letter == "n":
+            done = operation.offset
+            continue
+        if operation.letter == "s":
+            for subset in subsets_of(disk.pending, dice, most):
+                yield f"operation {number}, {len(subset)} of {len(disk.pending)} there", disk.as_found(subset), done
+            for _ in range(mixes if disk.pending else 0):
+                yield f"operation {number}, sectors mixed", disk.as_found(mixed(disk.pending, dice)), done
+        disk.take(operation, folder)
+
+
+def subsets_of(pending: list[tuple[int, Operation]], dice: random.Random, most: int) -> Iterator[list[tuple[int, Operation]]]:
+    """All subsets, or of many operations some: none, all, all but one, the first ones, and others at random. Of names the first ones are there, as file systems
+    keep their order."""
+    names = [entry for entry in pending if entry[0] < 0]
+    size = len(pending)
+    if size <= most:
+        chosen: Any = chain.from_iterable(combinations(range(size), length) for length in range(size + 1))
+    else:
+        places = range(size)
+        chosen = [(), tuple(places), *(tuple(place for place in places if place != left) for left in places), *(tuple(range(length)) for length in places)]
+        chosen += [tuple(place for place in places if dice.random() < 0.5) for _ in range(1 << max(0, most - 2))]
+    for places in chosen:
+        subset = [pending[place] for place in places]
+        found = [entry for entry in subset if entry[0] < 0]
+        if found == names[: len(found)]:
+            yield subset
+
+
+def mixed(pending: list[tuple[int, Operation]], dice: random.Random) -> list[tuple[int, Operation]]:
+    """Of each write some sectors, some zeros in place of sectors, or a first part. Of names the first ones."""
+    kept = dice.randint(0, sum(file < 0 for file, _ in pending))
+    found: list[tuple[int, Operation]] = []
+    for file, operation in pending:
+        if file < 0:
+            kept -= 1
+            if kept < 0:
+                continue
+        elif operation.letter == "w" and dice.random() < 0.7:
+            if dice.random() < 0.3:
+                found.append((file, operation._replace(data=operation.data[: dice.randrange(len(operation.data) + 1)])))
+                continue
+            for at in range(0, len(operation.data), SECTOR):
+                sector, fate = operation.data[at : at + SECTOR], dice.random()
+                if fate < 0.6:
+                    found.append((file, operation._replace(offset=operation.offset + at, data=sector if fate < 0.45 else bytes(len(sector)))))
+            continue
+        found.append((file, operation))
+    return found
+
+
+def faulty(folder: str, steps: list[Step], *, every: int = 1, lengths: tuple[int, ...] = (1, 3), is_control: bool = False) -> Count:
+    """Each operation fails, and some after it: writes with ENOSPC or EIO, of which half may be carried out, and all others with EIO. A client makes each step
+    again until it is answered. Another one is killed as soon as a step has failed, and a third one loses its power: nothing of that step may be there."""
+    want, count, dice = list(expected(steps)), Count("control of faults" if is_control else "faults"), random.Random(1)
+    if forked(lambda: go(folder, steps), folder) != 0:
+        raise Wrong("the history does not go through")
+    total = sum(operation.letter != "n" for operation in trace_of(folder))
+    manners = [(NOTHING, errno.ENOSPC), (HALF, errno.ENOSPC), (WHOLE, errno.EIO)]
+    for length in lengths:
+        for number in range(0, total, every):
+            part, fault = manners[number % len(manners)]
+            words: dict[str, Any] = {"fails": (number, number + length - 1), "part": part, "fault": fault}
+            status = forked(lambda: go_on(folder, steps, want, is_control), folder, **words)
+            trace = trace_of(folder)
+            count.faults, count.doubts = count.faults + noted(trace, FAILED) + noted(trace, IN_DOUBT), count.doubts + noted(trace, IN_DOUBT)
+            count.look(f"operations {number} to {number + length - 1} fail", lambda: as_at_the_end(folder, steps, want, status))
+            if not is_control:
+                forked(lambda: stop(folder, steps), folder, has_bytes=True, **words)
+                trace = trace_of(folder)
+                done = answered(trace)
+                most = done + noted(trace, IN_DOUBT)
+                for what, files in last_disks(folder, trace, dice):
+                    count.look(f"operation {number} failed, {what}", lambda: on_disk(files, folder, steps, want, done, most))
+                count.look(f"killed when operation {number} failed", lambda: as_after_a_crash(folder, steps, want, done, most))
+    return count
+
+
+def noted(trace: list[Operation], note: int) -> int:
+    return sum(operation.letter == "n" and operation.offset == note for operation in trace)
+
+
+def as_at_the_end(folder: str, steps: list[Step], want: list[bytes], status: int) -> int:
+    if status != 0:
+        raise Wrong(f"the client ended with status {status}: {Path(f'{folder}.fault').read_text() if status == 1 else ''}")
+    return as_after_a_crash(folder, steps, want, len(steps), len(steps))
+
+
+def go_on(folder: str, steps: list[Step], want: list[bytes], is_control: bool) -> None:
+    """A client that makes each step again until it is answered."""
+    note = library().faults_note
+    table, number = None, 0
+    while number < len(steps):
+        try:
+            if table is None:
+                table = opened(folder)
+                if is_control:
+                    table._drop = lambda: None
+                # After a doubt the table says whether the step was kept. One that was made by `once` is sent again.
+                if not steps[number].is_repeatable and table.replies(PROBE) == want[number + 1]:
+                    number += 1
+                    continue
+            steps[number].make(table, number)
+            number += 1
+        except durable.InDoubt:
+            note(ctypes.c_long(IN_DOUBT))
+            table = None
+        except (durable.RolledBack, OSError):
+            # By another name no fault may come.
+            note(ctypes.c_long(FAILED))
+    if table is not None:
+        state_of(table, want, len(steps), len(steps))
+        table.close()
+
+
+def stop(folder: str, steps: list[Step]) -> None:
+    """A client that is gone as soon as a step has failed."""
+    try:
+        go(folder, steps)
+    except durable.InDoubt:
+        library().faults_note(ctypes.c_long(IN_DOUBT))
+        os.kill(os.getpid(), signal.SIGKILL)
+    except Exception:
+        os.kill(os.getpid(), signal.SIGKILL)
+
+
+class Starved(Session):
+    """A session of which one request for memory is refused."""
+
+    refused = -1
+
+    def replies(self, script: str | bytes) -> bytes:
+        library().faults_count_requests(True, ctypes.c_long(self.refused))
+        try:
+            return super().replies(script)
+        finally:
+            library().faults_count_requests(False, ctypes.c_long(-1))
+
+
+def starved(folder: str, steps: list[Step], *, every: int = 1) -> Count:
+    """Each request for memory in the runs of the scripts is refused. The step is rolled back and made again, or the process is gone."""
+    want, count = list(expected(steps)), Count("memory refused")
+
+    def work() -> None:
+        with opened(folder, make=Starved) as table:
+            for number, step in enumerate(steps):
+                try:
+                    step.make(table, number)
+                except durable.RolledBack:
+                    library().faults_note(ctypes.c_long(FAILED))
+                    step.make(table, number)
+                library().faults_note(ctypes.c_long(number + 1))
+        Path(f"{folder}.requests").write_text(str(library().faults_requests()))
+
+    Starved.refused = -1
+    if forked(work, folder) != 0:
+        raise Wrong("the history does not go through")
+    for refused in range(0, int(Path(f"{folder}.requests").read_text()), every):
+        Starved.refused = refused
+        status = forked(work, folder)
+        trace = trace_of(folder)
+        done = answered(trace)
+        count.faults += noted(trace, FAILED)
+        count.look(f"request {refused} refused, status {status}", lambda: as_after_a_crash(folder, steps, want, done, done + 1))
+    return count
+
+
+# ---- the process ----
+
+
+def compiled(folder: str) -> str:
+    """faults.c as a library in a folder."""
+    path = f"{folder}/faults.so"
+    words = ["cc", "-std=c11", "-O1", "-Wall", "-Wextra", "-Werror", "-shared", "-fPIC", str(HERE / "faults.c"), "-o", path]
+    subprocess.run(words, check=True)
+    return path
+
+
+def preloaded(script: str | Path, *words: str) -> int:
+    """Runs a script of Python with faults.c, in this folder, and gives its status."""
+    with tempfile.TemporaryDirectory(dir=folder_in_memory()) as folder:
+        environment = {**os.environ, "LD_PRELOAD": compiled(folder), "TMPDIR": folder}
+        return subprocess.run([sys.executable, "-B", script, *words], env=environment).returncode
+
+
+def folder_in_memory() -> str | None:
+    return "/dev/shm" if os.access("/dev/shm", os.W_OK) else None

@@ -1,0 +1,648 @@
+"""Tests of the durable table of the Python package: what is kept, what is refused and what is rolled back, and the crash tests of tools/crash on a short history.
+The library is that of BETABLE_LIBRARY, or bin/build_c builds it."""
+
+import copy
+import os
+import pickle
+import pty
+import re
+import shutil
+import sqlite3
+import subprocess
+import sys
+import tempfile
+import threading
+from contextlib import contextmanager
+from pathlib import Path
+
+from clients import betable, library
+from common import expect, expect_within, SECONDS, TOP
+
+TABLE = "table 4 3 2 1 id:int city:text qty:int\n"
+ADD = "batch\nups 1,add,qty,1\nend\n"
+# Texts that are hard to write, and definitions that are.
+HARD_TEXTS = ["", ".", "..", "a\nb", "a\r", "\r\n", "\n", '"', '""', "a\"b", ",", "\ufeffx", " ", "row x", "\nrow x", "rows 3\n", "a\n\nb", "\0", "æøå", 'x"\nrow 1,"y']
+HARD_TABLE = "table 4 60b 2 2 v:text k:int f:flag b:bytes w:text\n"
+HARD_INDEXES = """index a on w where w = "x, y"
+ index  c on f,b include v,v where b >= 0a
+index d on v where v =  x \r
+index gone on k
+index e on w,w,b,f include k where f < true
+index f on k where w = ""
+drop gone
+index gone on f,k
+"""
+
+
+def durable():
+    betable()
+    return __import__("betable.durable").durable
+
+
+@contextmanager
+def folder():
+    with tempfile.TemporaryDirectory() as path:
+        yield Path(path)
+
+
+def fault_of(call):
+    """What a call raises."""
+    try:
+        call()
+    except Exception as fault:
+        return fault
+    return None
+
+
+def expect_fault(kind, call, *words):
+    """That a call raises just this, and says these words."""
+    fault = fault_of(call)
+    expect(type(fault), kind)
+    for word in words:
+        expect_within(word, str(fault))
+    return fault
+
+
+def probe(table):
+    """The images and the rows of all trees."""
+    if table.state.table is None:
+        return table.replies("image primary\n")
+    names = [b"primary", *table.state.table.indexes]
+    return table.replies(b"".join(b"image %b\nscan %b\ngo\n" % (name, name) for name in names))
+
+
+def changed(path, *statements):
+    """Changes the file of a table that is closed, by SQL."""
+    db = sqlite3.connect(path)
+    for statement in statements:
+        db.execute(statement)
+    db.commit()
+    db.close()
+
+
+def run_python(text, *words):
+    """The status and the standard output of a program in a process of its own."""
+    environment = {**os.environ, "PYTHONPATH": str(TOP / "clients/python")}
+    ended = subprocess.run([sys.executable, "-B", "-c", text, *map(str, words)], env=environment, capture_output=True, text=True, timeout=SECONDS)
+    return ended.returncode, ended.stdout + ended.stderr
+
+
+# ---- what is kept ----
+
+
+def the_quick_start_of_the_page_prints_what_it_says():
+    library()
+    page = (TOP / "docs/DURABLE.md").read_text()
+    code, after = page.split("```python\n")[1].split("```\n", 1)
+    wanted = after.split("```text\n")[1].split("```")[0]
+    with folder() as path:
+        for part in code, code.replace('table.run("table', '#').replace("table.put", "# "):
+            ended = subprocess.run([sys.executable, "-c", part], cwd=path, capture_output=True, text=True, env={**os.environ, "PYTHONPATH": str(TOP / "clients/python")})
+            expect((ended.returncode, ended.stdout, ended.stderr), (0, wanted, ""))
+
+
+def what_was_answered_is_there_in_another_process():
+    with folder() as path:
+        with durable().open(path / "t") as table:
+            table.run(TABLE)
+            table.put([(1, "Oslo", 30), (2, 'a "b", c', 4)])
+            table.run("index by_city on city include qty\nbuild by_city 9\n")
+            wanted = f"{table.scan('by_city')} {table.get(2)} {table.number}\n"
+        text = "import sys; from betable import durable; t = durable.open(sys.argv[1]); print(t.scan('by_city'), t.get(2), t.number)"
+        expect(run_python(text, path / "t"), (0, wanted))
+
+
+def what_is_not_answered_yet_is_kept_by_the_end_of_a_killed_process():
+    """No close, no end of the interpreter."""
+    text = """import os, sys; from betable import durable
+t = durable.open(sys.argv[1]); t.replies(sys.argv[2]); t.replies(sys.argv[3])
+with t.group(): t.replies(sys.argv[3]); t.replies(sys.argv[3])
+os.kill(os.getpid(), 9)"""
+    with folder() as path:
+        expect(run_python(text, path / "t", TABLE, ADD)[0], -9)
+        with durable().open(path / "t") as table:
+            expect((table.get(1), table.number), ((1, "", 3), 4))
+
+
+def scripts_that_change_nothing_are_not_kept():
+    with folder() as path:
+        with durable().open(path / "t") as table:
+            only_what_changes_is_kept(table)
+        with durable().open(path / "t") as table:
+            expect(table.number, 3)
+
+
+def only_what_changes_is_kept(table):
+    table.replies(TABLE)
+    table.replies(ADD)
+    before = table.number, table.log_bytes
+    expect(before, (2, len(TABLE + ADD)))
+    for script in ["", "\n", "get 1\n", "scan primary\ngo\nimage primary\n", TABLE, "batch\nput x\nend\nget 1\n", "batch\nput 1,a,1\n", "sums primary 1 qty\ngo\n", "x\n"]:
+        table.replies(script)
+        expect((script, table.number, table.log_bytes), (script, *before))
+    table.replies("get 1\nbatch\nput x\nend\n" + ADD)
+    expect(table.number, 3)
+
+
+def typed_calls_know_the_columns_of_a_table_that_is_opened_again():
+    with folder() as path:
+        with durable().open(path / "t") as table:
+            table.run("table 4 3 2 1 k:bytes f:flag n:int t:text\nindex i on t include f\nbuild i 1\n")
+            table.put([(b"\1\2", True, 3, "x,y"), (b"", False, -1, "")])
+            table.checkpoint()
+        for _ in range(2):
+            with durable().open(path / "t") as table:
+                expect(table.get(b"\1\2"), (b"\1\2", True, 3, "x,y"))
+                expect(table.scan("i"), [("", b"", False), ("x,y", b"\1\2", True)])
+                expect_fault(betable().Refused, lambda: table.run("index i on t\n"))
+
+
+# ---- all or nothing ----
+
+
+def failing_session(kind):
+    """A session that runs the first half of a script which says so, and then is out of memory."""
+    client = betable()
+
+    class Failing(client.Session):
+        def replies(self, script):
+            if b"drop fails" not in script:
+                return super().replies(script)
+            first = super().replies(script.split(b"drop fails")[0])
+            if kind == "python":
+                raise MemoryError
+            raise client.OutOfMemory(first[:-1] if kind == "cut" else first, kind == "cut", kind == "lost")
+
+    return Failing
+
+
+def a_script_that_runs_out_of_memory_is_rolled_back_whole():
+    for kind in ("whole", "cut", "lost", "python"):
+        with folder() as path:
+            with durable().open(path / "t", make=failing_session(kind)) as table:
+                table.replies(TABLE)
+                table.replies(ADD)
+                wanted = probe(table)
+                bad = ADD + "index i on city\nbuild i 9\n" + ADD + "drop fails\n" + ADD
+                fault = expect_fault(durable().RolledBack, lambda: table.replies(bad), "nothing of the script was kept")
+                expect(isinstance(fault.__cause__, MemoryError), True)
+                expect((probe(table), table.number, table.is_lost), (wanted, 2, False))
+                expect_fault(durable().RolledBack, lambda: table.replies("get 1\ndrop fails\n"))
+                expect_fault(durable().RolledBack, lambda: table.once("a", bad))
+                expect(table.once("a", ADD), b"batch 1\n")
+                wanted = probe(table)
+            with durable().open(path / "t") as table:
+                expect((probe(table), table.number), (wanted, 3))
+
+
+def a_group_is_kept_whole_or_not_at_all():
+    with folder() as path:
+        with durable().open(path / "t", make=failing_session("whole")) as table:
+            table.replies(TABLE)
+            with table.group():
+                table.replies(ADD)
+                expect(table.once("a", ADD), b"batch 1\n")
+                expect(table.once("a", ADD), b"batch 1\n")
+            wanted = probe(table)
+
+            def by_exception():
+                with table.group():
+                    table.replies(ADD + "index i on city\nbuild i 9\n")
+                    table.once("b", ADD)
+                    table.forget("a")
+                    raise KeyError
+
+            def by_failure():
+                with table.group():
+                    table.replies(ADD)
+                    expect_fault(durable().RolledBack, lambda: table.replies(ADD + "drop fails\n"))
+                    # It cannot be half of a group that goes on.
+                    expect_fault(durable().RolledBack, lambda: table.replies(ADD))
+                    expect_fault(durable().RolledBack, lambda: table.once("a", ADD))
+
+            for kind, call in ((KeyError, by_exception), (durable().RolledBack, by_failure)):
+                expect_fault(kind, call)
+                expect((probe(table), table.number), (wanted, 3))
+                expect_fault(betable().Refused, lambda: table.scan("i"))
+            expect(table.once("b", "batch\nend\n"), b"batch 0\n")
+            expect_fault(durable().RequestReused, lambda: table.once("a", "get 1\n"))
+        with durable().open(path / "t") as table:
+            expect((probe(table), table.number), (wanted, 4))
+
+
+def a_commit_that_fails_is_rolled_back_or_in_doubt():
+    """A disk without room, by a limit of SQLite. Then an error at the commit, and at what is to be written over it."""
+    with folder() as path:
+        with durable().open(path / "t") as table:
+            table.replies(TABLE)
+            table.replies(ADD)
+            wanted = probe(table)
+            table._db.execute(f"PRAGMA max_page_count={table._db.execute('PRAGMA page_count').fetchone()[0]}")
+            long = "batch\n" + "".join(f"put {number},{'x' * 250},1\n" for number in range(200)) + "end\n"
+            expect_fault(durable().RolledBack, lambda: table.replies(long), "full")
+            expect((probe(table), table.number), (wanted, 2))
+            expect_fault(durable().RolledBack, lambda: table.checkpoint() or table.replies(long))
+            table._db.execute("PRAGMA max_page_count=1000000")
+            expect(table.replies(long), b"batch 200\n")
+        table = durable().open(path / "t")
+        real, statements = table._db, []
+
+        class Connection:
+            in_transaction = property(lambda self: real.in_transaction)
+            close = real.close
+
+            def execute(self, statement, *values):
+                statements.append(statement)
+                if statement == "COMMIT" or statement.startswith("UPDATE about SET rollbacks"):
+                    fault = sqlite3.OperationalError("disk I/O error")
+                    fault.sqlite_errorcode = sqlite3.SQLITE_IOERR_FSYNC
+                    raise fault
+                return real.execute(statement, *values)
+
+        table._db = Connection()
+        expect_fault(durable().InDoubt, lambda: table.replies(ADD), "open the table again")
+        expect("ROLLBACK" in statements, True)
+        expect_fault(ValueError, lambda: table.replies(ADD))
+        with durable().open(path / "t") as table:
+            expect(table.number, 3)
+
+
+# ---- requests ----
+
+
+def a_request_is_run_once():
+    with folder() as path:
+        with durable().open(path / "t") as table:
+            table.run(TABLE)
+            expect(table.once("a", ADD), b"batch 1\n")
+        for number in range(3):
+            with durable().open(path / "t") as table:
+                for _ in range(2):
+                    expect(table.once("a", ADD), b"batch 1\n")
+                    expect_fault(durable().RequestReused, lambda: table.once("a", ADD + "\n"), "'a'", "a new id")
+                    expect(table.once("read", "get 1\n" if number < 9 else ""), b"row 1,,1\n")
+                    expect(table.once("refused", "get x\n"), b"refused 6 BadField 1\n")
+                expect((table.get(1), table.number), ((1, "", 1), 2))
+                # Replies are those of the first time, also if they would be others now.
+                table.checkpoint()
+        with durable().open(path / "t") as table:
+            table.forget("a", "unknown")
+            table.once("a", ADD)
+            expect(table.get(1), (1, "", 2))
+            expect(table.once("read", "get 1\n"), b"row 1,,1\n")
+            for wrong in (1, None, b"a"):
+                expect_fault(TypeError, lambda: table.once(wrong, ADD))
+            expect_fault(TypeError, lambda: table.once("c", None))
+
+
+def the_last_request_ids_are_kept():
+    with folder() as path, durable().open(path / "t", most_requests=3) as table:
+        table.run(TABLE)
+        for number in range(5):
+            table.once(f"{number}", ADD)
+        for number, count in ((4, 5), (3, 5), (2, 5), (1, 6)):
+            table.once(f"{number}", ADD)
+            expect((number, table.get(1)), (number, (1, "", count)))
+
+
+# ---- checkpoints ----
+
+
+def kept_by_a_checkpoint(script, path):
+    """A table of a script, that has the same trees after a checkpoint, when it is opened again, and after more of the same."""
+    with betable().Session() as plain, durable().open(path) as table:
+        expect(table.replies(script), plain.replies(script))
+        number = table.number
+        table.checkpoint()
+        names = [b"primary", *plain.state.table.indexes] if plain.state.table else []
+        plain.replies(b"".join(b"rebuild %b\n" % name for name in names))
+        wanted = probe(plain)
+        expect((probe(table), table.log_bytes, table.number), (wanted, 0, number))
+    with durable().open(path) as table:
+        expect((probe(table), table.log_bytes, table.number), (wanted, 0, number))
+        expect(list(table.state.table.indexes) if names else [], names[1:])
+        table.checkpoint()
+        table.replies("batch\nend\n")
+    with durable().open(path) as table:
+        expect((probe(table), table.number), (wanted, number + bool(names)))
+
+
+def hard_script(texts):
+    rows = [f'"{text.replace(chr(34), 2 * chr(34))}",{number},{number % 3 == 0},0{number % 10},{["x, y", " x ", ""][number % 3]}' for number, text in enumerate(texts)]
+    rows = [row.replace("x, y", '"x, y"') for row in rows]
+    return HARD_TABLE + HARD_INDEXES.replace("\n", "\n") + "".join(f"build {name} 1\n" for name in ("a", "c", "d", "e", "f", "gone")) + "load\nv,k,f,b,w\n" + "\n".join(rows) + "\n.\n"
+
+
+def a_table_is_the_same_after_a_checkpoint():
+    with folder() as path:
+        many = "batch\n" + "".join(f"put {number * 7 % 50},c{number % 5},{number}\n" for number in range(60)) + "del 3\nups 4,add,qty,9\nups 99,set,city,x\nend\n"
+        scripts = [
+            "",
+            TABLE,
+            TABLE + "index i on city\nbuild i 1\n",
+            TABLE + many,
+            TABLE + many + "index i on city where qty < 30\nbuild i 10\nbatch\ndel 7\nend\nbuild i 999\nindex gone on qty\n" + many + "drop gone\n",
+            TABLE + many + "batch\n" + "".join(f"del {number}\n" for number in range(100)) + "end\n",
+            hard_script(HARD_TEXTS),
+            "table 4 4 2 1 k:text\nload\nk\n" + "\n".join(f'"{text.replace(chr(34), 2 * chr(34))}"' for text in HARD_TEXTS) + "\n.\n",
+            "table 4 4 2 1 k:text\nbatch\nput .\nend\n",
+        ]
+        for number, script in enumerate(scripts):
+            expect(re.findall(rb"^refused.*", betable().Session().replies(script), re.MULTILINE), [])
+            kept_by_a_checkpoint(script, path / f"{number}")
+
+
+def no_checkpoint_is_written_while_an_index_is_building():
+    with folder() as path, durable().open(path / "t") as table:
+        table.run(TABLE + "batch\nput 1,a,1\nput 2,b,2\nend\nindex i on city\nindex done on qty\nbuild done 9\nindex j on city\nbuild j 1\n")
+        wanted = probe(table)
+        fault = expect_fault(durable().IndexBuilding, table.checkpoint, "i, j", "drop")
+        expect((fault.names, probe(table)), (["i", "j"], wanted))
+        table.run("build i 9\nbuild j 9\n")
+        table.checkpoint()
+        expect(table.log_bytes, 0)
+
+
+# ---- files ----
+
+
+def damage_is_found():
+    """Also where the replies to a damaged script would be those that were kept."""
+    with folder() as path:
+        with durable().open(path / "t") as table:
+            table.run(TABLE)
+            table.put([(1, "Oslo", 30), (2, "Molde", 4)])
+            table.checkpoint()
+            for _ in range(3):
+                table.replies(ADD)
+        whole = path / "t"
+        for number, reason, statement in [
+            (4, "damaged", "UPDATE log SET script = CAST(replace(CAST(script AS TEXT), 'qty,1', 'qty,2') AS BLOB) WHERE number = 4"),
+            (5, "damaged", "UPDATE log SET checksum = checksum + 1 WHERE number = 5"),
+            (3, "missing", "DELETE FROM log WHERE number = 3"),
+            (4, "missing", "DELETE FROM log WHERE number = 4"),
+            (0, "backup", "UPDATE checkpoint SET text = CAST(replace(CAST(text AS TEXT), '30', '31') AS BLOB)"),
+            (0, "backup", "DELETE FROM checkpoint"),
+        ]:
+            shutil.copy(whole, path / "damaged")
+            changed(path / "damaged", statement)
+            fault = expect_fault(durable().Corrupt, lambda: durable().open(path / "damaged"), reason)
+            expect((statement, fault.number), (statement, number))
+            expect(str(pickle.loads(pickle.dumps(fault))), str(fault))
+        data = bytearray(whole.read_bytes())
+        data[4096:] = b"\xff" * (len(data) - 4096)
+        (path / "damaged").write_bytes(data)
+        fault = expect_fault(durable().Corrupt, lambda: durable().open(path / "damaged"), "backup")
+        expect(fault.number, None)
+        with durable().open(whole) as table:
+            expect(table.number, 5)
+
+
+def other_files_are_refused_and_left_alone():
+    with folder() as path:
+        (path / "text").write_text("table 4 3 2 1 id:int\n" * 300)
+        changed(path / "other", "CREATE TABLE t(x)")
+        changed(path / "numbered", "PRAGMA user_version=1")
+        with durable().open(path / "newer"):
+            pass
+        changed(path / "newer", f"PRAGMA user_version={durable().FORMAT + 1}")
+        (path / "folder").mkdir()
+        for name, kind in (("text", "NotATable"), ("other", "NotATable"), ("numbered", "NotATable"), ("newer", "NewerFormat")):
+            before = (path / name).read_bytes()
+            expect_fault(getattr(durable(), kind), lambda: durable().open(path / name), str(path / name))
+            expect((name, (path / name).read_bytes()), (name, before))
+        for name in ("folder", "none/t"):
+            expect_fault(OSError, lambda: durable().open(path / name), str(path / name))
+        (path / "empty").touch()
+        with durable().open(path / "empty") as table:
+            table.run(TABLE)
+        expect({name.name for name in path.iterdir()}, {"text", "other", "numbered", "newer", "folder", "empty"})
+
+
+def a_table_is_open_once():
+    text = "import sys; from betable import durable\ntry: durable.open(sys.argv[1])\nexcept durable.InUse as fault: print(fault)\nelse: print('open')"
+    with folder() as path:
+        with durable().open(path / "t") as table:
+            for call in (lambda: durable().open(path / "t"), lambda: durable().open(os.path.relpath(path / "t"))):
+                expect_fault(durable().InUse, call, str(path / "t"))
+            expect(run_python(text, path / "t"), (0, f"{path}/t is open already, by another process or by this one\n"))
+            table.run(TABLE)
+        expect(run_python(text, path / "t"), (0, "open\n"))
+
+
+def another_engine_reads_what_agrees_with_it():
+    module = durable()
+
+    class Other(betable().Session):
+        """Of another engine, which replies to batches otherwise."""
+
+        def replies(self, script):
+            return super().replies(script).replace(b"batch", b"batch of")
+
+    with folder() as path:
+        with module.open(path / "t") as table:
+            table.run(TABLE)
+        engine = module.ENGINE
+        try:
+            module.ENGINE = engine + 1
+            with module.open(path / "t", make=Other) as table:
+                expect(table.number, 1)
+            module.ENGINE = engine
+            with module.open(path / "t") as table:
+                table.replies(ADD)
+            module.ENGINE = engine + 1
+            fault = expect_fault(module.Corrupt, lambda: module.open(path / "t", make=Other), "with the version that wrote it", "checkpoint")
+            expect(fault.number, 2)
+            module.ENGINE = engine
+            with module.open(path / "t") as table:
+                table.checkpoint()
+            module.ENGINE = engine + 1
+            with module.open(path / "t", make=Other) as table:
+                expect((table.get(1), table.replies(ADD)), ((1, "", 1), b"batch of 1\n"))
+            # What an engine has agreed with is its own.
+            expect_within("the library is another one", str(fault_of(lambda: module.open(path / "t"))))
+        finally:
+            module.ENGINE = engine
+
+
+def a_backup_is_the_table_as_it_was():
+    with folder() as path:
+        with durable().open(path / "t") as table:
+            table.run(TABLE)
+            table.put((number, "x" * 200, number) for number in range(500))
+            wanted = probe(table)
+            table.backup(path / "copy")
+            table.replies(ADD)
+            expect_fault(FileExistsError, lambda: table.backup(path / "copy"), "a new file")
+            expect_fault(OSError, lambda: table.backup(path / "none/copy"))
+            with table.group():
+                table.replies(ADD)
+                expect_fault(RuntimeError, lambda: table.backup(path / "other"), "end the group")
+                expect_fault(RuntimeError, table.checkpoint, "end the group")
+            expect(table.number, 4)
+            with durable().open(path / "copy") as copied:
+                expect((probe(copied), copied.number), (wanted, 2))
+            expect({name.name for name in path.iterdir()}, {"t", "t-wal", "copy"})
+
+
+# ---- the object ----
+
+
+def wrong_use_is_refused():
+    with folder() as path:
+        table = durable().open(path / "t")
+        table.run(TABLE)
+        expect_within("/t'", repr(table))
+        calls = [lambda: table.replies(ADD), table.checkpoint, lambda: table.once("a", ADD), lambda: table.group().__enter__(), lambda: table.state, lambda: table.number]
+        calls += [lambda: table.log_bytes, lambda: table.is_lost, lambda: table.backup(path / "b"), lambda: table.forget("a"), lambda: table.get(1), table.close]
+        faults = []
+        other = threading.Thread(target=lambda: faults.extend(map(fault_of, calls)))
+        other.start()
+        other.join()
+        expect([(type(fault), "thread" in str(fault)) for fault in faults], [(RuntimeError, True)] * len(calls))
+        child = os.fork()
+        if child == 0:
+            found = [type(fault_of(call)) for call in calls[:-1]]
+            table.close()
+            os._exit(found != [RuntimeError] * len(found))
+        expect(os.waitstatus_to_exitcode(os.waitpid(child, 0)[1]), 0)
+        for call in (lambda: pickle.dumps(table), lambda: copy.copy(table), lambda: table.replies(None), lambda: table.replies(3)):
+            expect_fault(TypeError, call)
+        with table.group():
+            expect_fault(RuntimeError, lambda: table.group().__enter__(), "nested")
+            table.replies(ADD)
+        expect(table.number, 2)
+        table.close()
+        table.close()
+        expect_within("closed", repr(table))
+        for call in calls[:-1]:
+            expect_fault(ValueError, call)
+        with durable().open(path / "t") as table:
+            def ended():
+                with table.group():
+                    table.replies(ADD)
+                    table.close()
+            expect_fault(ValueError, ended)
+        with durable().open(path / "t") as table:
+            expect(table.number, 2)
+
+
+def a_forked_child_leaves_the_file_alone():
+    """A child that ends as a program does would close the connection, and with it remove what the parent writes to."""
+    text = """import os, sys; from betable import durable
+table = durable.open(sys.argv[1]); table.replies(sys.argv[2])
+child = os.fork()
+if child == 0: sys.exit(0)
+os.waitpid(child, 0); table.replies(sys.argv[3]); os.kill(os.getpid(), 9)"""
+    with folder() as path:
+        expect(run_python(text, path / "t", TABLE, ADD)[0], -9)
+        with durable().open(path / "t") as table:
+            expect(table.get(1), (1, "", 1))
+
+
+def a_long_replay_is_told_at_a_terminal():
+    """By a clock that is half a second later each time."""
+    text = """import itertools, sys, time; from betable import durable
+if sys.argv[2] == "slow": time.monotonic = itertools.count(0, 0.5).__next__
+durable.open(sys.argv[1])"""
+    with folder() as path:
+        with durable().open(path / "t") as table:
+            table.run(TABLE)
+            for _ in range(5):
+                table.replies(ADD)
+        environment = {**os.environ, "PYTHONPATH": str(TOP / "clients/python")}
+        for manner, is_told in (("slow", True), ("quick", False)):
+            ours, theirs = pty.openpty()
+            subprocess.run([sys.executable, "-c", text, path / "t", manner], env=environment, stderr=theirs, check=True, timeout=SECONDS)
+            os.write(theirs, b".")
+            told = os.read(ours, 4096).decode()
+            expect(("1 of 6 scripts" in told, "5 of 6 scripts" in told, "0 of 6" in told), (is_told, is_told, False))
+            os.close(ours)
+            os.close(theirs)
+        expect(run_python(text, path / "t", "slow"), (0, ""))
+
+
+def scripts_over_a_layer_are_run_by_it():
+    """Of what it stands on a durable table needs `replies` and `close` alone."""
+    class Layer:
+        scripts = []
+        closed = 0
+
+        def __init__(self):
+            self.session = betable().Session()
+
+        def replies(self, script):
+            self.scripts.append(bytes(script))
+            return self.session.replies(script)
+
+        def close(self):
+            type(self).closed += 1
+            self.session.close()
+
+    with folder() as path:
+        for _ in range(2):
+            with durable().open(path / "t", make=Layer) as table:
+                table.replies(TABLE if table.state.table is None else ADD)
+        expect((Layer.scripts, Layer.closed), ([TABLE.encode(), TABLE.encode(), ADD.encode()], 2))
+
+
+# ---- crashes ----
+
+
+def crashed(*names):
+    library()
+    ended = subprocess.run([sys.executable, "-B", TOP / "tools/crash/run", "--short", *names], capture_output=True, text=True, timeout=SECONDS)
+    expect((ended.returncode, ended.stderr), (0, ""))
+    return {line.split(":")[0]: int(re.search(r": ([\d,]+) looked at", line)[1].replace(",", "")) for line in ended.stdout.splitlines() if " looked at" in line}
+
+
+def what_was_answered_outlives_a_kill_at_each_write():
+    expect(crashed("killed")["killed"] > 100, True)
+
+
+def what_was_answered_outlives_a_loss_of_power():
+    expect(crashed("power")["power lost"] > 500, True)
+
+
+def what_fails_to_be_written_is_rolled_back():
+    expect(crashed("faults")["faults"] > 500, True)
+
+
+def wrong_clients_and_files_without_sync_fail_these_tests():
+    expect(len(crashed("controls")), 3)
+
+
+def replies_to_random_scripts_are_those_of_a_session():
+    expect(crashed("random")["200 random scripts"] > 1_000, True)
+
+
+TESTS_OF_TEXTS = [
+    the_quick_start_of_the_page_prints_what_it_says,
+    what_was_answered_is_there_in_another_process,
+    what_is_not_answered_yet_is_kept_by_the_end_of_a_killed_process,
+    scripts_that_change_nothing_are_not_kept,
+    typed_calls_know_the_columns_of_a_table_that_is_opened_again,
+    a_script_that_runs_out_of_memory_is_rolled_back_whole,
+    a_group_is_kept_whole_or_not_at_all,
+    a_commit_that_fails_is_rolled_back_or_in_doubt,
+    a_request_is_run_once,
+    the_last_request_ids_are_kept,
+    a_table_is_the_same_after_a_checkpoint,
+    no_checkpoint_is_written_while_an_index_is_building,
+    damage_is_found,
+    other_files_are_refused_and_left_alone,
+    a_table_is_open_once,
+    another_engine_reads_what_agrees_with_it,
+    a_backup_is_the_table_as_it_was,
+    wrong_use_is_refused,
+    a_forked_child_leaves_the_file_alone,
+    a_long_replay_is_told_at_a_terminal,
+    scripts_over_a_layer_are_run_by_it,
+    what_was_answered_outlives_a_kill_at_each_write,
+    what_was_answered_outlives_a_loss_of_power,
+    what_fails_to_be_written_is_rolled_back,
+    wrong_clients_and_files_without_sync_fail_these_tests,
+    replies_to_random_scripts_are_those_of_a_session,
+]
+TESTS = []
+BUILDS = [library]
