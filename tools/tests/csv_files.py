@@ -157,8 +157,9 @@ def from_csv_reads_compressed_files_from_pipes():
     status, script, errors = run("tools/from_csv", "-", "--key", "a", given=given)
     expect((status, script), (0, f"{SHAPE} 1 a:int b:text\nload\na,b\n1,x\n2,y\n.\n"))
     wrong_block = given[:10] + b"\xff" * 20
-    for broken, said in ((given[:-4], "ended before the end-of-stream marker"), (given[:-8] + bytes(8), "CRC check failed"), (wrong_block, "invalid block type")):
-        status, script, errors = run("tools/from_csv", "-", "--key", "a", given=broken)
+    broken = (given[:-4], "ended before the end-of-stream marker"), (given[:-8] + bytes(8), "CRC check failed"), (wrong_block, "invalid block type")
+    for packed, said in broken:
+        status, script, errors = run("tools/from_csv", "-", "--key", "a", given=packed)
         expect((status, script, "Traceback" in errors), (2, "", False))
         expect_within("from_csv: standard input cannot be unpacked: ", errors)
         expect_within(said, errors)

@@ -27,11 +27,19 @@ def explain_wants_a_script():
 
 
 X_IS_NO_INT = "column 1 'id' (int): 'x' is no whole number"
+DECIMALS = "is no whole number: decimals are stored as ints of a fixed unit, as 1250 for 12.50"
+BY_CITY = "get finds a row by its key, id. By city: an index on it, and a scan (docs/HOW_TO.md, The rows of one value)"
+
+
+def explain_counts_one_command():
+    for script, said in (("", "0 commands: 0 answered, 0 refused"), (TABLE, "1 command: 1 answered, 0 refused")):
+        expect(explained(script), (0, [said]))
+    expect(explained("x")[1][-2], "1 command: 0 answered, 1 refused")
 
 
 def explain_reads_pipes_and_standard_input():
     script = f"{TABLE}\nget x\n"
-    lines = ["line 2: get x", f"  {X_IS_NO_INT}", "2 commands: 1 answered, 1 refused", "  1 times 6 BadField"]
+    lines = ["line 2: get x", f"  {X_IS_NO_INT}", f"  {BY_CITY}", "2 commands: 1 answered, 1 refused", "  1 times 6 BadField"]
     for words in ([], ["-"], ["/dev/stdin"]):
         status, text, errors = run("tools/explain", *words, given=script.encode())
         expect((status, text.splitlines(), errors), (1, lines, ""))
@@ -129,10 +137,10 @@ def explain_finds_200_refusals_of_60000_lines():
     status, said = explained("\n".join(lines) + "\n", "--all")
     expect((status, len(lines)), (1, 60_001))
     expect([line for line in said if "whole number" in line], [f"  line {place}, {X_IS_NO_INT}" for place in wanted])
-    expect(said[-2:], ["2001 commands: 1801 answered, 200 refused", "  200 times 6 BadField"])
+    expect(said[-2:], ["2,001 commands: 1,801 answered, 200 refused", "  200 times 6 BadField"])
     status, said = explained("\n".join(lines) + "\n")
     group = f"  200 times 6 BadField    lines {wanted[0]}, {wanted[1]}, {wanted[2]}, .. (197 more; --all)   {X_IS_NO_INT}"
-    expect((status, said), (1, ["2001 commands: 1801 answered, 200 refused", group]))
+    expect((status, said), (1, ["2,001 commands: 1,801 answered, 200 refused", group]))
 
 
 def explain_groups_more_than_20_refusals():
@@ -142,7 +150,7 @@ def explain_groups_more_than_20_refusals():
     expect((status, len(lines), lines[-3:]), (1, 43, ["21 commands: 1 answered, 20 refused", "  10 times 6 BadField", "  10 times 7 BadLength"]))
     status, lines = explained(f"{TABLE}\n{alike}TABLE\n")
     expect(lines[:3], ["line 22: TABLE", "  commands are in small letters: 'table'", "22 commands: 1 answered, 21 refused"])
-    expect(lines[3], "  10 times 6 BadField    lines 2, 4, 6, .. (7 more; --all)   column 1 'id' (int): '0.5' is no whole number")
+    expect(lines[3], f"  10 times 6 BadField    lines 2, 4, 6, .. (7 more; --all)   column 1 'id' (int): '0.5' {DECIMALS}")
     expect(lines[4:], ["  10 times 7 BadLength    lines 3, 5, 7, .. (7 more; --all)   2 fields, and a get has 1 (id)", "  1 times 1 Syntax"])
     status, lines = explained("".join(f"{'x' * number}\n" for number in range(1, 31)))
     expect(lines[-2:], ["30 commands: 0 answered, 30 refused", "  30 times 1 Syntax    lines 1, 2, 3, .. (27 more; --all)   " + lines[-1].split("   ")[-1]])
@@ -151,7 +159,7 @@ def explain_groups_more_than_20_refusals():
 def explain_prints_ten_faults_of_a_block():
     faults = "".join(f"put {number},Oslo,{number}.5\n" for number in range(14))
     script = f"{TABLE}\nbatch\n{faults}end\nload\nid,city,qty\n{faults.replace('put ', '')}.\n"
-    of_batch, of_load = ([f"  line {start + number}, column 3 'qty' (int): '{number}.5' is no whole number" for number in range(14)] for start in (3, 20))
+    of_batch, of_load = ([f"  line {start + number}, column 3 'qty' (int): '{number}.5' {DECIMALS}" for number in range(14)] for start in (3, 20))
     left = "  4 more faults are left out; --all prints each"
     expect(explained(script)[1][:-2], ["line 2: batch", *of_batch[:10], left, "line 18: load", *of_load[:10], left])
     expect(explained(script, "--all")[1][:-2], ["line 2: batch", *of_batch, "line 18: load", *of_load])
@@ -284,6 +292,65 @@ def explain_warns_of_broken_quotes():
     expect(explained(f'{TABLE}\nload\nid,city,qty\n1,"a",1\r2,"",2\r\n3,"b\n"",""\n",3\n4,x"y"z,4\n.\n')[1][-1], "2 commands: 2 answered, 0 refused")
 
 
+def warned(script):
+    """The warnings of a script of which each command is answered."""
+    status, lines = explained(script)
+    expect(status, 0)
+    return [line.removeprefix("  warning: ") for line in lines if line.startswith("  warning: ")]
+
+
+def explain_warns_of_single_quotes():
+    """Around a field of a batch, a load, a bound, a get or a condition, and not of other apostrophes."""
+    table = "table 4 3 2 1 city:text note:text\n"
+    of_text = "has single quotes, which are letters of the text{}: a text needs no quotes, or double ones"
+    for script, line, more in (
+        ("batch\nput Molde,'x'\nend\n", 3, ""),
+        ("batch\nups Molde,set,note,'x'\r\nput 'a',b\nend\n", 3, ", and so does 1 other field"),
+        ("load\ncity,note\na,b\n'x','y'\n'z',\n.\n", 5, ", and so do 2 other fields"),
+        ("scan primary\nfrom 'x'\ngo\n", 3, ""),
+        ("get 'x'\n", 2, ""),
+        ("index a on note where city = 'x'\n", 2, ""),
+    ):
+        expect(warned(table + script), [f"'x' in line {line} {of_text.format(more)}"])
+    right = "batch\nput it's,'s-Hertogenbosch\nput '',rock 'n' roll\nput \"'a'\",\"'b', 'c'\"\nput Xi'an,5'\nend\nget it's\n"
+    expect(warned(table + right), ["'' in line 4 " + of_text.format("")])
+    expect(warned(table + right.replace("'',", "b,")), [])
+
+
+def explain_warns_of_empty_ranges():
+    """By the order of keys, of an int, a flag, bytes, texts, and parts of a key; and of no range that has room for a key."""
+    table = "table 4 3 2 2 n:int t:text h:bytes on:flag\nindex by_on on on,h\nbuild by_on 1\nindex by_t on t\nbuild by_t 1\n"
+    equal, see = "is equal to {} of line {}, which is not in the range, so the range is empty: {}", "see docs/HOW_TO.md, The rows of one value"
+    for head, start, stop, said in (
+        ("scan primary", "1", "1", equal.format("'to 1'", 8, "write 'to 2'")),
+        ("sums primary 1 n", "-1", "-01", equal.format("'to -01'", 8, "write 'to 0'")),
+        ("scan primary", "9223372036854775807", "9223372036854775807", equal.format("'to 9223372036854775807'", 8, see)),
+        ("scan primary", "10", "9", "comes after 'to 9' of line 8, so the range is empty: exchange the bounds"),
+        ("scan primary", "1,b", "1,a", "comes after 'to 1,a' of line 8, so the range is empty: exchange the bounds"),
+        ("scan primary", "1,b", "1", "comes after 'to 1' of line 8, so the range is empty: exchange the bounds"),
+        ("scan by_t", "Oslo", "Oslo", equal.format("'to Oslo'", 8, see)),
+        ("scan by_t", "Oslo,3", '"Oslo",3', equal.format("'to \"Oslo\",3'", 8, "write 'to Oslo,4'")),
+        ("scan by_on", "TRUE", "false", "comes after 'to false' of line 8, so the range is empty: exchange the bounds"),
+        ("scan by_on", "true,FF", "true,ff", equal.format("'to true,ff'", 8, see)),
+    ):
+        expect(warned(f"{table}{head}\nfrom {start}\nto {stop}\ngo\n"), [f"'from {start}' {said}"])
+    rooms = ("scan primary", "9", "10"), ("scan primary", "1", "1,a"), ("scan primary", "1,a", "2"), ("scan by_t", "9", "90")
+    for head, start, stop in (*rooms, ("scan by_on", "true,0f", "true,F0"), ("scan by_on", "false", "true")):
+        expect(warned(f"{table}{head}\nfrom {start}\nto {stop}\ngo\n"), [])
+    expect(warned(f"{table}scan primary\nfrom 5\ngo\nscan primary\nto 5\ngo\n"), [])
+
+
+def explain_warns_of_no_right_script():
+    """Of the examples and the worked scripts those alone that hold such a thing, and want it."""
+    found = {}
+    for path in sorted([*(TOP / "examples").glob("*.stdout"), *(TOP / "crates/test_scripts/data").glob("*.stdout")]):
+        lines = explained(path.with_suffix("").read_bytes(), "--all")[1]
+        kinds = {re.sub(".*(quote|range).*", r"\1", line) for line in lines if line.startswith("  warning: ")}
+        found |= {path.stem: kinds} if kinds else {}
+    quotes = dict.fromkeys(("lines_and_blocks", "load_blocks", "quoted_fields_of_a_load"), {"quote"})
+    expect(found, quotes | dict.fromkeys(("ranges_and_sums", "range_from_past_to", "scans_of_indexes"), {"range"}))
+
+
 def explain_knows_the_language_of_the_program():
     """With a program that knows no `load`, by replies that are given, and one that fails."""
     script = f"{TABLE}\nload\nid,city,qty\n.\nget 1\n"
@@ -329,10 +396,11 @@ def explain_says_why():
     for line in lines:
         if head := re.match(r"line ([0-9]+): ", line):
             number = int(head[1])
-        elif line.startswith("  ") and not re.match("  [0-9]+ times ", line):
+        elif line.startswith("  ") and not re.match("  [0-9]+ (?:times |warnings?$)", line):
             said.setdefault(number, []).append(line[2:])
     expect_within(f"{len(MISTAKES) + 6} commands: 6 answered, {len(MISTAKES)} refused", lines)
-    expect(said, wanted)
+    unlike = [number for number in said.keys() | wanted.keys() if said.get(number) != wanted.get(number)]
+    expect({number: said.get(number) for number in unlike}, {number: wanted.get(number) for number in unlike})
 
 
 def explain_names_the_message_that_is_too_many():
@@ -436,6 +504,7 @@ TESTS_OF_TEXTS = [
 
 TESTS = [
     explain_counts_what_was_answered,
+    explain_counts_one_command,
     explain_wants_a_script,
     explain_reads_pipes_and_standard_input,
     explain_says_that_a_script_is_too_long,
@@ -461,6 +530,9 @@ TESTS = [
     explain_says_what_a_buffer_is,
     explain_prints_rows_with_line_breaks,
     explain_warns_of_broken_quotes,
+    explain_warns_of_single_quotes,
+    explain_warns_of_empty_ranges,
+    explain_warns_of_no_right_script,
     explain_says_why,
     explain_names_the_message_that_is_too_many,
     explain_finds_one_upsert_of_60000,

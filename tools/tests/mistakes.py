@@ -8,6 +8,21 @@ FORM = {line.split()[0]: f"the form: {line}" for line in (
     "index NAME on LIST [include LIST] [where COLUMN OP record]",
 )}  # fmt: skip
 
+PUT = "put rows by 'batch', a line 'put record' for each, and 'end'"
+CHANGE = "change a row by 'batch', a line 'ups key,set,column,value' or 'put record', and 'end'"
+DELETE = "delete rows by 'batch', a line 'del key' for each, and 'end'"
+READ = "read rows by 'get key', or by 'scan primary' and 'go', and groups of rows by 'sums'"
+TABLE_LINE = "make the table by 'table 16 1024 256 1 id:int city:text': three sizes, the number of key columns, and the columns"
+INDEX_LINES = "make an index by 'index by_city on city', and complete it by 'build by_city 999999999'"
+ALTER = "the columns of a table do not change: write its rows as CSV by tools/to_csv, and a new script by tools/from_csv"
+WHOLE = "a batch is applied whole or not at all, and needs no other command around it"
+STATE = "a script has no command for what there is: the table and the indexes are those of its lines"
+HELP = "the commands are table, load, batch, get, scan, sums, image, index, build, drop, drain or rebuild, and docs/SCRIPT.md describes each"
+END = "a script ends with its last line, and at a terminal with Ctrl-D"
+LOAD = "load a CSV file by the script that tools/from_csv FILE --key COLUMNS writes"
+CONDITION = "a condition is part of an index, as in 'index by_qty on qty where qty >= 5', and bounds are lines of a scan"
+ORDER = "rows come by rising key, and an index on another column has them in its order"
+BY_CITY = "get finds a row by its key, id. By city: an index on it, and a scan (docs/HOW_TO.md, The rows of one value)"
 OF_PRIMARY = "The table itself is 'primary', which is not built or dropped."
 
 # Mistakes of a command, each with what is said below its line. A number behind @ is that of a line behind the head line.
@@ -18,6 +33,8 @@ MISTAKES = [
     ("table id:int price:int", "'id:int' is no fanout: F, C, L and K come before the columns", FORM["table"]),
     ("table 4 4 4 1", "no column follows the number of key columns", FORM["table"]),
     ("table 4 4", "the leaf is missing", FORM["table"]),
+    ("table cities 4 4 4 1 id:int",
+     "'cities' is no fanout: a table has no name, and begins with three sizes, as 16 1024 256, and the number of key columns", FORM["table"]),
     ("table 4 4 4 1 id", "'id' is no column, which has a name, a colon and a kind", FORM["table"]),
     ("table 4 4 4 1 id:", "'id:': a kind is int, text, flag or bytes", FORM["table"]),
     ("index by_city on city, qty", "a list has no blanks: 'city, qty'", FORM["index"]),
@@ -33,14 +50,21 @@ MISTAKES = [
     ("index by_city on city where city = a,b", "2 fields, and a constant has one; put a text with a comma in double quotes: 'a,b'", FORM["index"]),
     ('index by_city on city where city =  "a,b"',
      "a second space after '=' belongs to the field, so that its quotes are ordinary letters: '·\"a,b\"'", FORM["index"]),
-    ("build q all", "'all' is no number: N has 1 to 9 digits", FORM["build"]),
+    ("build q all", "'all' is no number: N has 1 to 9 digits, and 999999999 reads all rows", FORM["build"]),
     ("build by_city 99999999999", "'99999999999' has 11 digits, and N has at most 9", FORM["build"]),
     ("build by_qty", "N is missing", FORM["build"]),
     ("drop", "NAME is missing", FORM["drop"]),
     ("image primary now", "'now' is one word too many", FORM["image"]),
     ("image " + "a" * 33, f"'{'a' * 33}' has 33 bytes, and a name has at most 32", FORM["image"]),
     ("image 1st", "'1st' is no name: the first letter is one of a to z", FORM["image"]),
-    ("sums primary qty\ngo", "'qty' is no number: G has 1 to 9 digits", "COLUMN is missing", FORM["sums"]),
+    ("sums primary qty\ngo", "'qty' is no number: G has 1 to 9 digits", "COLUMN is missing", FORM["sums"],
+     "G is the number of columns of a group. By qty: 'sums by_qty 1 COLUMN'"),
+    ("sums primary city qty\ngo", "'city' is no number: G has 1 to 9 digits", FORM["sums"],
+     "G is the number of columns of a group. By city: 'index by_city on city include qty', 'build by_city 999999999', 'sums by_city 1 qty'"),
+    ("sums primary id qty\ngo", "'id' is no number: G has 1 to 9 digits", FORM["sums"], "G is the number of columns of a group. By id: 'sums primary 1 qty'"),
+    ("sums primary 0 qty\ngo", "15 NoSuchColumn: G is 0, and from 1 to 1: the key of primary is id; for all rows see docs/HOW_TO.md, A grand total"),
+    ("sums primary 1 qty from 1 to 5\ngo",
+     "'from' is one word too many: bounds are lines of their own before 'go', 'from 1', then 'to 5'", FORM["sums"]),
     ("scan Primary\ngo", "'Primary' is no name: names are in small letters, as 'primary'", FORM["scan"]),
     ("scan by-city\ngo", "'by-city' is no name: a name has only a to z, 0 to 9 and _", FORM["scan"]),
     ("TABLE 4 4 4 1 id:int", "commands are in small letters: 'table'"),
@@ -48,7 +72,33 @@ MISTAKES = [
     ("get\t2", "a tab follows 'get', where a space belongs"),
     ("\ufeffget 2", "a byte order mark is before the command"),
     ("scna primary", "'scna' is not a command: did you mean 'scan'?"),
-    ("# rows", "a script has no comments"),
+    ("scan primary from 1 to 5\ngo",
+     "'from' is one word too many: bounds are lines of their own before 'go', 'from 1', then 'to 5'", FORM["scan"]),
+    ("scan by_qty to 3,1;\ngo", "'to' is one word too many: bounds are lines of their own before 'go', 'to 3,1'", FORM["scan"]),
+    ("scan primary 5\ngo", "'5' is one word too many: bounds are lines of their own before 'go', as 'from 5'", FORM["scan"]),
+    ("scan primary limit 10\ngo",
+     "'limit' is one word too many: a scan has no limit; bounds keep it short, and head and tail take some of the replies", FORM["scan"]),
+    ("scan primary where qty > 5\ngo", f"'where' is one word too many: {CONDITION}", FORM["scan"]),
+    ("scan primary order by qty\ngo", f"'order' is one word too many: {ORDER}", FORM["scan"]),
+    ("scan primary;\ngo", "'primary;' ends with a semicolon, which no line has: write 'primary'", FORM["scan"]),
+    ("build by_qty 5;", "'5;' is no number: N has 1 to 9 digits and a line no semicolon", FORM["build"]),
+    ("drop index by_qty", "'by_qty' is one word too many: write 'drop by_qty'", FORM["drop"]),
+    ("drop table cities;", "'cities;' is one word too many: a run has one table, and ends with it", FORM["drop"]),
+    ("batch;", "'batch;' ends with a semicolon, which no line has: write 'batch'"),
+    ("end;", "'end;' closes no block: a closing line is 'end' exactly, without a semicolon"),
+    ("go;", "'go;' closes no block: a closing line is 'go' exactly, without a semicolon"),
+    (".;", "'.;' closes no block: a closing line is '.' exactly, without a semicolon"),
+    ("batch\nput 1,a,2\nEND;\nend", "line @2: 'END;' does not close the block: a closing line is 'end' exactly"),
+    ("scan primary\nfrom 1\ngo;\ngo", "line @2: 'go;' does not close the block: a closing line is 'go' exactly"),
+    *((line, f"'{line.split()[0]}' is not a command here: {advice}") for line, advice in (
+        ("insert into cities values (1, 2)", PUT), ("INSERT INTO cities", PUT), ("upsert 1", CHANGE), ("update cities set qty = 3 where id = 1;", CHANGE),
+        ("delete from cities where id = 1;", DELETE), ("select * from cities;", READ), ("SELECT 1", READ), ("create table cities (id int);", TABLE_LINE),
+        ("create index by_city on cities (city);", INDEX_LINES), ("alter table cities add x int", ALTER), ("commit;", WHOLE), ("BEGIN", WHOLE),
+        ("show tables", STATE), ("describe cities", STATE), (".tables", STATE), ("help", HELP), (".help", HELP), ("?", HELP),
+        ("exit", END), ("quit;", END), ("\\q", END), (".import x.csv cities", LOAD),
+        ("where id = 1", CONDITION), ("order by qty", ORDER), ("join b", "there is no join: make one table of both before it is loaded"),
+    )),
+    ("# rows", "a script has no comments: leave the line out"),
     ("go", "'go' closes the block of a scan or sums, and no block is open here"),
     ("end", "'end' closes the block of a batch, and no block is open here"),
     (".", "'.' closes the block of a load, and no block is open here"),
@@ -61,9 +111,15 @@ MISTAKES = [
     ("get +2", "column 1 'id' (int): '+2' has a '+', which an int has not"),
     ("get 1,2", "7 BadLength 1: 2 fields, and a get has 1 (id): get 1,2"),
     ("get 1;2", "column 1 'id' (int): '1;2' is no whole number"),
-    ("batch\nput 1,a,1.5\nend", "line @1, column 3 'qty' (int): '1.5' is no whole number"),
-    ("batch\nput 1,a,\nend", "line @1, column 3 'qty' (int): the field is empty, and an int has a digit at least: put 1,a,¶"),
-    ("batch\nput ,a,1\nend", "line @1, column 1 'id' (int): the field is empty, and an int has a digit at least: put ,a,1"),
+    ("get Oslo", "column 1 'id' (int): 'Oslo' is no whole number", BY_CITY),
+    ("get id = 1", "column 1 'id' (int): 'id = 1' is no whole number", "get has the values of the key alone, id: 'get 1'"),
+    ("get '1'", "column 1 'id' (int): ''1'' is no whole number: single quotes are letters",
+     "warning: '1' in line @0 has single quotes, which are letters of the text: a text needs no quotes, or double ones"),
+    ("get 1;", "column 1 'id' (int): '1;' ends with a semicolon, which no line has"),
+    ("get null", "column 1 'id' (int): 'null' is no whole number, and there is no null: write a number for it, as 0 or -1"),
+    ("batch\nput 1,a,1.5\nend", "line @1, column 3 'qty' (int): '1.5' is no whole number: decimals are stored as ints of a fixed unit, as 1250 for 12.50"),
+    ("batch\nput 1,a,\nend", "line @1, column 3 'qty' (int): the field is empty, and there is no null: write a number for it, as 0 or -1: put 1,a,¶"),
+    ("batch\nput ,a,1\nend", "line @1, column 1 'id' (int): the field is empty, and there is no null: write a number for it, as 0 or -1: put ,a,1"),
     ("batch\nput 9223372036854775808,a,1\nend",
      "line @1, column 1 'id' (int): '9223372036854775808' is over the greatest int, 9223372036854775807"),
     ("batch\nput -9223372036854775809,a,1\nend",
@@ -71,7 +127,14 @@ MISTAKES = [
     (f"batch\nput 1,{'x' * 256},1\nend", f"line @1, column 2 'city' (text): 256 bytes, and a text has at most 255: '{'x' * 40}…'"),
     (f"batch\nput 1,{LONG},5x\nend", "line @1, column 3 'qty' (int): '5x' is no whole number"),
     (f"batch\nput 1,{LONG},\nend",
-     f"line @1, column 3 'qty' (int): the field is empty, and an int has a digit at least: …{'x' * 59},¶"),
+     f"line @1, column 3 'qty' (int): the field is empty, and there is no null: write a number for it, as 0 or -1: …{'x' * 59},¶"),
+    ("batch\nput 1,a,NULL\nput 2,b,3;\nend",
+     "line @1, column 3 'qty' (int): 'NULL' is no whole number, and there is no null: write a number for it, as 0 or -1",
+     "line @2, column 3 'qty' (int): '3;' ends with a semicolon, which no line has"),
+    ("batch\nput 1,'Oslo, west',3\nend",
+     "line @1: 4 fields, and a put has 3 (id, city, qty); put a text with a comma in double quotes, as single quotes are letters: put 1,'Oslo, west',3"),
+    ("batch\nput 1,'Oslo',3\nput 2,'Molde',x\nend", "line @2, column 3 'qty' (int): 'x' is no whole number",
+     "warning: 'Oslo' in line @1 has single quotes, which are letters of the text, and so does 1 other field: a text needs no quotes, or double ones"),
     ("batch\nput 2, b,3 \nend", "line @1, column 3 'qty' (int): '3·' has a space after it, and nothing is trimmed"),
     ("batch\nput 1,a\nput 1,a,b,2\nend",
      "line @1: 2 fields, and a put has 3 (id, city, qty): put 1,a", 
@@ -107,7 +170,8 @@ MISTAKES = [
     ("drain gone", f"8 NoSuchTree: no tree is named 'gone': there are primary, by_qty; 'gone' was dropped in line 9. {OF_PRIMARY}"),
     ("build by_qty 1", "12 AlreadyComplete: 'by_qty' of line 6 is complete, and has nothing left to build. Leave this command out."),
     (TABLE, "4 TableExists: There is a table already, and a run has one. Leave this command out, or run another script. It is that of line 1."),
-    ("load\nid,city,qty\n2,Bergen,\n.", "line @2, column 3 'qty' (int): the field is empty, and an int has a digit at least: 2,Bergen,¶"),
+    ("load\nid,city,qty\n2,Bergen,\n.",
+     "line @2, column 3 'qty' (int): the field is empty, and there is no null: write a number for it, as 0 or -1: 2,Bergen,¶"),
     ("load\nid;city;qty\n.", "line @1: 1 field, and the table has 3 columns; fields are divided by commas, and not by ';': id;city;qty",
      "the expected header: id,city,qty"),
     ("load\nId,city,qty \n.", "line @1, column 1 'id': the header has 'Id' there", "line @1, column 3 'qty': the header has 'qty·' there",

@@ -73,7 +73,7 @@ def length_fault(raw, count, wanted, line, around, at, most=None):
     other = next((mark for mark in (b";", b"\t", b"|") if mark in raw and b"," not in raw), None)
     hint = f"; fields are divided by commas, and not by '{visible(other)}'" if other else ""
     if most is not None and count > most:
-        hint = "; put a text with a comma in double quotes"
+        hint = "; put a text with a comma in double quotes" + (", as single quotes are letters" if b",'" in raw or raw.startswith(b"'") else "")
     return Fault(f"{counted(count, 'field')}, and {wanted}{hint}", line=line, around=around, at=at)
 
 
@@ -346,7 +346,8 @@ def sums_faults(command, state):
         return
     key, columns = state.table.key_of(tree), dict(state.table.columns_of(tree))
     if not 1 <= int(count) <= len(key):
-        yield Fault(f"G is {int(count)}, and from 1 to {len(key)}: the key of {tree.decode()} is {spelled(name for name, _ in key)}")
+        total = "; for all rows see docs/HOW_TO.md, A grand total" if int(count) == 0 else ""
+        yield Fault(f"G is {int(count)}, and from 1 to {len(key)}: the key of {tree.decode()} is {spelled(name for name, _ in key)}{total}")
     if name not in columns:
         yield Fault(f"'{name.decode()}' is no column of {tree.decode()}: {spelled(columns)}")
     elif columns[name] != b"int":

@@ -3,6 +3,7 @@
 import re
 from difflib import get_close_matches
 
+from .advice import instead_of, reason_for_more_words
 from .language import (
     BLOCK_WORDS, BUFFER, CLOSING, FORMS, KINDS, MARK, MOST_DIGITS, MOST_NAME_BYTES, NAME, NUMBER, OPERATORS, any_of, fields, record_of_line, visible,
 )  # fmt: skip
@@ -24,6 +25,8 @@ def name_fault(word):
         return None
     if NAME.fullmatch(word.lower()):
         return f"{text} is no name: names are in small letters, as '{word.lower().decode()}'"
+    if NAME.fullmatch(word.rstrip(b";").lower()):
+        return f"{text} ends with a semicolon, which no line has: write '{word.rstrip(b';').lower().decode()}'"
     if len(word) > MOST_NAME_BYTES and re.fullmatch(rb"[a-z][a-z0-9_]*", word):
         return f"{text} has {len(word):,} bytes, and a name has at most {MOST_NAME_BYTES}"
     if not word:
@@ -39,7 +42,9 @@ def number_fault(word, name):
         return None
     if re.fullmatch(rb"[0-9]+", word):
         return f"'{visible(word, 40)}' has {len(word)} digits, and {name} has at most {MOST_DIGITS}"
-    return f"'{visible(word, 40)}' is no number: {name} has 1 to {MOST_DIGITS} digits"
+    all_rows = ", and 999999999 reads all rows" if name == "N" else ""
+    semicolon = " and a line no semicolon" if NUMBER.fullmatch(word.rstrip(b";")) else ""
+    return f"'{visible(word, 40)}' is no number: {name} has 1 to {MOST_DIGITS} digits{semicolon or all_rows}"
 
 
 # The words behind the first one, of the commands that have a fixed number of them.
@@ -77,7 +82,8 @@ def fixed_word_faults(line):
     names, words = FIXED_WORDS[line.word], words_of(line)[1:]
     found = [number_fault(word, name) if name in ("N", "G") else name_fault(word) for name, word in zip(names, words)]
     found += [f"{name} is missing" for name in names[len(words) :]]
-    found += [f"'{visible(word, 40)}' is one word too many" for word in words[len(names) : len(names) + 1]]
+    if len(words) > len(names):
+        found.append(reason_for_more_words(line, words[len(names) :]))
     return [reason for reason in found if reason]
 
 
@@ -98,7 +104,9 @@ def no_command(line):
     if plain in FORMS:
         return f"{'a tab' if word[len(plain):].startswith(TAB) else 'another byte'} follows '{plain.decode()}', where a space belongs"
     if word.startswith((b"#", b"//", b"--")):
-        return "a script has no comments"
+        return "a script has no comments: leave the line out"
+    if instead := instead_of(line):
+        return instead
     near = get_close_matches(word.lower().decode("utf-8", "replace")[:40], [name.decode() for name in FORMS], 1)
     return f"'{shown}' is not a command" + (f": did you mean '{near[0]}'?" if near else ". The commands are " + spelled(FORMS))
 
@@ -114,6 +122,8 @@ def table_word_faults(words):
             found.append(f"'{visible(word, 40)}' is no {name}: F, C, L and K come before the columns")
             columns = words[words.index(word) :]
             break
+        if name == "fanout" and NAME.fullmatch(word):
+            return [f"'{visible(word, 40)}' is no fanout: a table has no name, and begins with three sizes, as 16 1024 256, and the number of key columns"]
         if not form.fullmatch(word):
             unit = ", those of a buffer in bytes with a 'b' after them" if name == "buffer" else ""
             found.append(f"'{visible(word, 40)}' is no {name}: write 1 to 9 digits{unit}.")

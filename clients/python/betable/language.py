@@ -127,15 +127,26 @@ def fault_of_int(field):
     return f"'{visible(field, 40)}' is {limit}"
 
 
+NULL_WORDS = (b"null", b"none", b"nil", b"nan", b"na", b"n/a", b"#n/a", b"\\n", b"-")  # in small letters
+
+
 def reason_for_no_number(field):
     if not field:
-        return "the field is empty, and an int has a digit at least"
+        return "the field is empty, and there is no null: write a number for it, as 0 or -1"
     text = f"'{visible(field, 40)}'"
     inside = field.removeprefix(MARK).strip(b" \t\xc2\xa0")
     if inside != field and fault_of_int(inside) is None:
         return f"{text} has {blanks_named(field, inside)}, and nothing is trimmed"
     if field.startswith(b"+") and fault_of_int(field[1:]) is None:
         return f"{text} has a '+', which an int has not"
+    if re.fullmatch(rb"-?[0-9]+[.,][0-9]+", field):
+        return f"{text} is no whole number: decimals are stored as ints of a fixed unit, as 1250 for 12.50"
+    if field.lower() in NULL_WORDS:
+        return f"{text} is no whole number, and there is no null: write a number for it, as 0 or -1"
+    if field.startswith(b"'") and field.endswith(b"'"):
+        return f"{text} is no whole number: single quotes are letters"
+    if field.endswith(b";") and fault_of_int(field[:-1]) is None:
+        return f"{text} ends with a semicolon, which no line has"
     return f"{text} is no whole number"
 
 
