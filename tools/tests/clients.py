@@ -14,6 +14,8 @@ from pathlib import Path
 
 from common import expect, expect_within, SECONDS, TOP
 
+from betable import language
+
 WORKED = TOP / "crates/test_scripts/data"
 HERE = Path(__file__).resolve().parent
 RUST_EXAMPLE = TOP / "clients/rust/example.rs"
@@ -101,11 +103,11 @@ def worked_scripts():
 
 
 def places_between(script):
-    """Where commands begin, and the end: by the lines that the Python client finds, whose replies the library is to give."""
+    """Where commands begin, and the end: by the lines where the Python package finds commands, whose replies the library is to give."""
     starts = [0]
     for line in script.split(b"\n")[:-1]:
         starts.append(starts[-1] + len(line) + 1)
-    places = {starts[number - 1] for number, _ in betable()._commands(script)}
+    places = {starts[command.head.number - 1] for command in language.commands(script)}
     return sorted(places | {0, len(script)})
 
 
@@ -236,7 +238,7 @@ def texts_that_no_line_has_are_told():
     with client.Session() as session:
         session.run("table 16 64 16 1 id:text name:text\n")
         for call in (lambda: session.put([("a", "b\nc")]), lambda: session.get("\r"), lambda: session.load([("a", "b\n.\nc")])):
-            expect(fault_of(call), ValueError)
+            expect(fault_of(call), client.RowValueError)
         expect(session.scan(), [])
 
 
@@ -252,7 +254,7 @@ def refusals_have_line_and_name():
             expect_within("line 3: refused 6 BadField 2", str(refused))
         else:
             expect("no fault", "Refused")
-        expect(fault_of(lambda: session.put([(1, "a"), (2,)])), client.Refused)
+        expect(fault_of(lambda: session.put([(1, "a"), (2**63, "b")])), client.Refused)
         expect(session.scan(), [])
 
 

@@ -1,0 +1,89 @@
+"""The exceptions of the package. Each has fields, says in its message what to do, and can be pickled."""
+
+from __future__ import annotations
+
+from typing import Any
+
+from .language import counted
+
+
+def _before(taken: int) -> str:
+    """The end of a message of a call that had applied earlier batches."""
+    return f" ({counted(taken, 'row')} of this call {'was' if taken == 1 else 'were'} applied before it, in earlier batches)" if taken else ""
+
+
+class Refused(Exception):
+    """A command that was refused. It changed nothing, and the other commands of its script were carried out.
+
+    `line` is the line of the script where the command begins, counted from 1; `number` and `name` are those of the refusal, and `item` is its item or None.
+    `reason` says why in words. `column` and `value` are those at fault, or None where no single value is; `row` is the number of the row or the message in
+    the call, counted from 1, or None. `taken` is how many rows of the call were applied before it, in earlier batches, and `replies` are the replies to all
+    commands of the script.
+    """
+
+    def __init__(
+        self,
+        line: int,
+        number: int,
+        name: str,
+        item: int | None = None,
+        replies: Any = (),
+        *,
+        reason: str | None = None,
+        column: str | None = None,
+        value: Any = None,
+        row: int | None = None,
+        taken: int = 0,
+    ) -> None:
+        self.line, self.number, self.name, self.item, self.replies = line, number, name, item, replies
+        self.reason, self.column, self.value, self.row, self.taken = reason, column, value, row, taken
+        refusal = f"line {line}: refused {number} {name}" + ("" if item is None else f" {item}")
+        place = "" if row is None else f"row {row}: "
+        super().__init__(refusal + (f": {place}{reason}" if reason else "") + _before(taken))
+
+    def __reduce__(self) -> tuple[Any, ...]:
+        return _unpickled, (type(self), self.args, self.__dict__)
+
+
+class OutOfMemory(MemoryError):
+    """A request for memory was refused. `replies` are the bytes of the replies to the first commands, which were carried out; `is_cut` says whether the last
+    of them is incomplete, `is_lost` whether the table is lost, and `taken` how many rows of the call were applied before it, in earlier batches."""
+
+    def __init__(self, replies: bytes = b"", is_cut: bool = False, is_lost: bool = False, taken: int = 0) -> None:
+        super().__init__("betable: out of memory" + (", and the table is lost: close this session and open a new one" if is_lost else "") + _before(taken))
+        self.replies, self.is_cut, self.is_lost, self.taken = replies, is_cut, is_lost, taken
+
+    def __reduce__(self) -> tuple[Any, ...]:
+        return _unpickled, (type(self), self.args, self.__dict__)
+
+
+class RowError(Exception):
+    """What `RowTypeError` and `RowValueError` share: a value that its column does not take. Nothing of its batch was applied.
+
+    `row` is the number of the row or the message in the call, counted from 1, or None where the call takes one key; `column` is the name of the column, or
+    None where the row as a whole is at fault; `value` is the value or the row; `taken` is how many rows of the call were applied before, in earlier batches.
+    """
+
+    def __init__(self, reason: str, *, row: int | None = None, column: str | None = None, value: Any = None, taken: int = 0) -> None:
+        self.reason, self.row, self.column, self.value, self.taken = reason, row, column, value, taken
+        places = [] if row is None else [f"row {row}"]
+        places += [] if column is None else [f"column '{column}'"]
+        super().__init__((", ".join(places) + ": " if places else "") + reason + _before(taken))
+
+    def __reduce__(self) -> tuple[Any, ...]:
+        return _unpickled, (type(self), self.args, self.__dict__)
+
+
+class RowTypeError(RowError, TypeError):
+    """A value, or a row, of a type that cannot stand there."""
+
+
+class RowValueError(RowError, ValueError):
+    """A value, or a row, of the right type that cannot be written: a row of the wrong length, or a text that a script cannot carry."""
+
+
+def _unpickled(kind: type[BaseException], arguments: tuple[Any, ...], fields: dict[str, Any]) -> BaseException:
+    fault = kind.__new__(kind, *arguments)
+    fault.args = arguments
+    fault.__dict__.update(fields)
+    return fault

@@ -1,0 +1,113 @@
+"""Replies cut into those of each command, with their rows."""
+
+from __future__ import annotations
+
+from collections.abc import Iterator, Sequence
+from typing import Any
+
+from .language import LAST_LINES, Command, State
+from .rows import Value, rows_of
+
+# The word of a line that has a row or a group, by the command.
+ROW_WORDS = {b"get": "row ", b"scan": "row ", b"sums": "sum "}
+
+
+def reply_end(word: bytes, replies: bytes, at: int) -> int:
+    """Where the reply ends that begins at a place and is that of a command with this word, or -1 where it is not whole."""
+    last = LAST_LINES.get(word)
+    if last is not None and not replies.startswith((b"refused ", last), at):
+        before = _outside_quotes(replies, b"\n" + last, at)
+        if before < 0:
+            return -1
+        at = before + 1
+    end = _outside_quotes(replies, b"\n", at)
+    return end + 1 if end >= 0 else -1
+
+
+def _outside_quotes(replies: bytes, part: bytes, at: int) -> int:
+    """The first place from `at` on where these bytes are outside of quotes, or -1. A text with a line break is in quotes."""
+    quotes, end = 0, replies.find(part, at)
+    while end >= 0:
+        quotes += replies.count(b'"', at, end)
+        if quotes % 2 == 0:
+            return end
+        at, end = end, replies.find(part, end + 1)
+    return -1
+
+
+def answered(commands: Iterator[Command], replies: bytes) -> Iterator[tuple[Command, bytes]]:
+    """Each command with its reply, up to the last one that has a whole reply."""
+    at = 0
+    for command in commands:
+        end = reply_end(command.head.word, replies, at)
+        if end < 0:
+            return
+        yield command, replies[at:end]
+        at = end
+
+
+def whole_lines(text: str, separator: str) -> list[str]:
+    """The parts of a text between separators that are not inside of quotes."""
+    parts = text.split(separator)
+    if '"' not in text:
+        return parts
+    found: list[str] = []
+    begun: list[str] = []
+    for part in parts:
+        begun.append(part)
+        if part.count('"') % 2 == (len(begun) > 1):
+            found.append(separator.join(begun))
+            begun = []
+    return found + ([separator.join(begun)] if begun else [])
+
+
+class Reply(list[str]):
+    """The lines of a reply. `rows` has a tuple for each row or group: of a group the number of its rows, the sum, and then the values that it is of."""
+
+    def __init__(self, text: str, word: bytes = b"", kinds: tuple[str, ...] = ()) -> None:
+        super().__init__(whole_lines(text[:-1], "\n"))
+        self._word, self._kinds = word, kinds
+
+    @property
+    def is_refused(self) -> bool:
+        return self[0].startswith("refused ")
+
+    @property
+    def rows(self) -> list[tuple[Value, ...]]:
+        if self.is_refused:
+            return []
+        return _rows(self._word, [line[4:] for line in self if line.startswith(ROW_WORDS.get(self._word, "\n"))], self._kinds)
+
+    def __reduce__(self) -> tuple[Any, ...]:
+        return Reply, ("".join(line + "\n" for line in self), self._word, self._kinds)
+
+
+def rows_of_reply(word: bytes, text: str, kinds: Sequence[str]) -> list[tuple[Value, ...]]:
+    """The rows of a reply that is not refused, without a list of its lines."""
+    prefix = ROW_WORDS[word]
+    if not text.startswith(prefix):
+        return []
+    body = text[4:-1] if word == b"get" else text[4 : text.rindex("\n", 0, -1)]
+    return _rows(word, whole_lines(body, "\n" + prefix), kinds)
+
+
+def _rows(word: bytes, lines: list[str], kinds: Sequence[str]) -> list[tuple[Value, ...]]:
+    if word != b"sums":
+        return rows_of(lines, kinds)
+    groups = [line.split(" ", 2) for line in lines]
+    values = rows_of([group[2] for group in groups], kinds)
+    return [(int(count), int(total), *value) for (count, total, _), value in zip(groups, values)]
+
+
+def kinds_of_rows(state: State, command: Command) -> tuple[str, ...]:
+    """The kinds of the columns that the rows of a command's reply have. Empty where the tree is unknown."""
+    words = command.head.text.split()
+    table, word = state.table, command.head.word
+    if table is None or word not in ROW_WORDS:
+        return ()
+    if word == b"get":
+        return tuple(kind.decode() for kind in table.kinds)
+    if len(words) < 2 or not table.has_tree(words[1]):
+        return ()
+    columns = table.columns_of(words[1]) if word == b"scan" else table.key_of(words[1])[: int(words[2])]
+    return tuple(kind.decode() for _, kind in columns)

@@ -1,0 +1,265 @@
+"""Rows of Python as records of the script language, and records as rows. What each kind of column takes is here and nowhere else.
+
+| Kind  | Python type                                                                        |
+|-------|------------------------------------------------------------------------------------|
+| int   | int, or what has `__index__` (an integer of NumPy, an `IntEnum`), but not a bool    |
+| text  | str                                                                                 |
+| flag  | bool                                                                                |
+| bytes | bytes, bytearray or memoryview                                                      |
+
+A value of another type is refused, since a guess could store what nobody meant.
+"""
+
+from __future__ import annotations
+
+import csv
+import operator
+import re
+from collections.abc import Callable, Iterable, Iterator, Mapping, Sequence
+from typing import Any, NamedTuple
+
+from .errors import RowTypeError, RowValueError
+from .language import GREATEST_INT, LEAST_INT, counted
+
+Value = int | str | bool | bytes
+
+
+class Column(NamedTuple):
+    """A column: its name and its kind."""
+
+    name: str
+    kind: str
+
+
+def columns_of(pairs: Iterable[tuple[bytes, bytes]]) -> list[Column]:
+    """Columns, of their names and kinds."""
+    return [Column(name.decode(), kind.decode()) for name, kind in pairs]
+
+
+# What a value of each kind is, as it is said to a user.
+TYPES = {"int": "an int", "text": "a str", "flag": "a bool", "bytes": "bytes"}
+# What a text has that is written in quotes: also a byte order mark, which would be dropped at the start of a record, and what would be no record, or the end
+# of a load, if it were alone in its line.
+NEEDS_QUOTES = re.compile('[",\r\n\ufeff]|^[.]?$')
+SPECIAL = re.compile('[",\r\n\ufeff]')
+# A text that is its own field.
+PLAIN_TEXT = re.compile('(?![.]$)[^",\r\n\ufeff\ud800-\udfff]+')
+# Of fewer rows each value is looked at by itself, which is quicker.
+FEW_ROWS = 4
+
+
+# ---- values ----
+
+
+def _int_field(value: Any) -> str:
+    if isinstance(value, bool):
+        raise TypeError
+    # Of a subclass, which may print in another way, the number itself.
+    return int.__repr__(operator.index(value))
+
+
+def _text_field(value: Any) -> str:
+    text = str.__str__(value)
+    return '"' + text.replace('"', '""') + '"' if NEEDS_QUOTES.search(text) else text
+
+
+def _flag_field(value: Any) -> str:
+    if not isinstance(value, bool):
+        raise TypeError
+    return "true" if value else "false"
+
+
+def _bytes_field(value: Any) -> str:
+    if not isinstance(value, (bytes, bytearray, memoryview)):
+        raise TypeError
+    return value.hex() or '""'
+
+
+# By kind: the field of a value, in quotes where it needs them. A TypeError says that the kind does not take the value.
+FIELDS: dict[str, Callable[[Any], str]] = {"int": _int_field, "text": _text_field, "flag": _flag_field, "bytes": _bytes_field}
+# By kind: the value of a field, as it is printed.
+VALUES: dict[str, Callable[[str], Value]] = {"int": int, "text": str, "flag": lambda text: text == "true", "bytes": bytes.fromhex}
+
+
+def shown(value: Any) -> str:
+    """A value for a message, cut to a length that a line has."""
+    try:
+        text = repr(value)
+    except Exception:
+        text = f"<{type(value).__name__}>"
+    return text if len(text) <= 60 else text[:57] + "..."
+
+
+def type_reason(value: Any, column: Column) -> str:
+    """Why a column does not take a value of this type, and what to write instead."""
+    name = type(value).__name__
+    said = f"{shown(value)} is {'None' if value is None else f'of type {name}'}, and a column of kind {column.kind} takes {TYPES[column.kind]}"
+    advice = _advice(value, name, column.kind)
+    return f"{said}: {advice}" if advice else said
+
+
+def _advice(value: Any, name: str, kind: str) -> str:
+    if value is None:
+        return "there is no null, so choose a value that means it"
+    if kind == "int":
+        if isinstance(value, bool):
+            return "write int(value), or make it a column of kind flag"
+        if isinstance(value, str):
+            return "write int(value)"
+        if name in ("float", "Decimal", "Fraction") or name.startswith("float"):
+            return "write int(value), or keep it in a smaller unit, as cents, with round(value * 100)"
+        if hasattr(value, "isoformat"):
+            return "write int(value.timestamp()), or make it a column of kind text with value.isoformat()"
+    elif kind == "text":
+        if isinstance(value, (bytes, bytearray, memoryview)):
+            return "write value.decode(), or make it a column of kind bytes"
+        if hasattr(value, "isoformat"):
+            return "write value.isoformat()"
+        return "write str(value)"
+    elif kind == "flag":
+        return "write value == 'true'" if isinstance(value, str) else "write bool(value)"
+    elif kind == "bytes":
+        if isinstance(value, str):
+            return "write value.encode(), or bytes.fromhex(value) for hexadecimal digits"
+        if name == "UUID":
+            return "write value.bytes"
+        return "write bytes(value)" if hasattr(value, "__bytes__") or hasattr(value, "tobytes") else ""
+    return ""
+
+
+def field_of(value: Any, column: Column, row: int | None, taken: int = 0) -> str:
+    """The field of a value of a column, in quotes where it needs them."""
+    try:
+        return FIELDS[column.kind](value)
+    except TypeError:
+        raise RowTypeError(type_reason(value, column), row=row, column=column.name, value=value, taken=taken) from None
+    except Exception as fault:
+        raise RowValueError(f"{shown(value)}: {fault}", row=row, column=column.name, value=value, taken=taken) from None
+
+
+def _fields_of(values: Sequence[Any], column: Column, row: int, taken: int) -> Sequence[Any]:
+    """The fields of the values of one column, of rows whose first one has this number in the call."""
+    types = set(map(type, values))
+    if types == {int} and column.kind == "int":
+        return values
+    if types == {str} and column.kind == "text" and not (SPECIAL.search("x".join(values)) or "" in values or "." in values):
+        return values
+    return [field_of(value, column, number, taken) for number, value in enumerate(values, row)]
+
+
+# ---- rows ----
+
+
+def as_iterator(given: Any, what: str, instead: str) -> Iterator[Any]:
+    """What gives rows or messages one after the other. A text, bytes or a dict would give its letters, numbers or names, so these are refused."""
+    if not isinstance(given, (str, bytes, bytearray, memoryview, Mapping)):
+        try:
+            return iter(given)
+        except TypeError:
+            pass
+    raise TypeError(f"{what} are an iterable, as a list, and not {shown(given)} of type {type(given).__name__}: write {instead}")
+
+
+def as_tuple(row: Any, columns: Sequence[Column], number: int, taken: int) -> Sequence[Any]:
+    """A row by its columns: a tuple or a list as it is, and a dict by their names."""
+    names = [column.name for column in columns]
+    if isinstance(row, Mapping):
+        wrong = [name for name in row if name not in names]
+        missing = [name for name in names if name not in row]
+        if wrong or missing:
+            parts = ([f"{shown(wrong[0])} is no column"] if wrong else []) + ([f"'{missing[0]}' is missing"] if missing else [])
+            reason = f"{' and '.join(parts)}: a dict has a value for each of the columns {', '.join(names)}"
+            raise RowValueError(reason, row=number, value=row, taken=taken)
+        return [row[name] for name in names]
+    if not isinstance(row, (tuple, list)):
+        example = f"write [({', '.join(names)}{',' if len(names) == 1 else ''}), ..]"
+        is_sequence = isinstance(row, Sequence) and not isinstance(row, (str, bytes, bytearray, memoryview)) or hasattr(row, "__array__")
+        advice = "write tuple(row)" if is_sequence else example
+        raise RowTypeError(
+            f"{shown(row)} is of type {type(row).__name__}, and a row is a tuple, a list or a dict: {advice}", row=number, value=row, taken=taken
+        )
+    if len(row) != len(names):
+        reason = f"{counted(len(row), 'value')}, and a row has {len(names)} ({', '.join(names)}): {shown(row)}"
+        raise RowValueError(reason, row=number, value=row, taken=taken)
+    return row
+
+
+def records(rows: list[Any], columns: Sequence[Column], word: str = "", row: int = 1, taken: int = 0, *, is_load: bool = False) -> str:
+    """Lines with the records of rows, each after a word. `row` is the number of the first one in the call. Only a load takes texts with line breaks."""
+    if not (set(map(type, rows)) <= {tuple, list} and set(map(len, rows)) <= {len(columns)}):
+        rows = [as_tuple(one, columns, number, taken) for number, one in enumerate(rows, row)]
+    if len(rows) < FEW_ROWS and not is_load:
+        lines = [[line_field(value, column, number, taken) for value, column in zip(one, columns)] for number, one in enumerate(rows, row)]
+        return "".join([f"{word}{','.join(line)}\n" for line in lines])
+    fields = [_fields_of(values, column, row, taken) for values, column in zip(zip(*rows), columns)]
+    form = word + ",".join(["%s"] * len(columns)) + "\n"
+    try:
+        text = "".join([form % line for line in zip(*fields)])
+        text.isascii() or text.encode()
+    except ValueError:
+        text = ""
+    if not text or not is_load and (text.count("\n") != len(rows) or "\r" in text):
+        for number, values in enumerate(zip(*fields), row):
+            for column, value, written in zip(columns, rows[number - row], values):
+                if reason := line_fault(value, written, is_load):
+                    raise RowValueError(reason, row=number, column=column.name, value=value, taken=taken)
+    return text
+
+
+def line_fault(value: Any, field: Any, is_load: bool = False) -> str | None:
+    """Why the field of a value cannot stand in a line, or None."""
+    try:
+        text = str(field)
+        text.encode()
+    except UnicodeEncodeError:
+        return f"{shown(value)} has half of a surrogate pair, which UTF-8 does not have"
+    except ValueError:
+        return f"an int has at most 64 bits, and not {value.bit_length():,}"
+    if not is_load and ("\n" in text or "\r" in text):
+        return f"{shown(value)} has a line break, and only load takes a text with one"
+    return None
+
+
+def key_fields(values: Any, columns: Sequence[Column], what: str, *, row: int | None = None, taken: int = 0, is_prefix: bool = False) -> list[str]:
+    """The fields of a key, or of the first values of one."""
+    if not isinstance(values, (tuple, list)):
+        reason = f"{what} is a tuple, and not {shown(values)} of type {type(values).__name__}: write ({shown(values)},)"
+        raise RowTypeError(reason, row=row, value=values, taken=taken)
+    if not values or len(values) > len(columns) or (len(values) < len(columns) and not is_prefix):
+        least = "1 to " if is_prefix and len(columns) > 1 else ""
+        names = ", ".join(column.name for column in columns)
+        reason = f"{counted(len(values), 'value')}, and {what} has {least}{len(columns)} ({names})"
+        raise RowValueError(reason, row=row, value=values, taken=taken)
+    return [line_field(value, column, row, taken) for value, column in zip(values, columns)]
+
+
+def line_field(value: Any, column: Column, row: int | None, taken: int = 0) -> str:
+    """The field of a value of a column, for a line of a script."""
+    if type(value) is str and column.kind == "text" and PLAIN_TEXT.fullmatch(value):
+        return value
+    if type(value) is int and column.kind == "int" and LEAST_INT <= value <= GREATEST_INT:
+        return str(value)
+    field = field_of(value, column, row, taken)
+    if reason := line_fault(value, field):
+        raise RowValueError(reason, row=row, column=column.name, value=value, taken=taken)
+    return field
+
+
+# ---- records as rows ----
+
+
+def rows_of(lines: list[str], kinds: Sequence[str]) -> list[tuple[Value, ...]]:
+    """The rows of records as they are printed, by the kinds of their columns. Where no kind is known a value is its text."""
+    if not lines:
+        return []
+    text = ",".join(lines)
+    if len(lines) == 1:
+        one = text.split(",") if '"' not in text else next(csv.reader(lines))
+        return [tuple([VALUES[kind](field) for kind, field in zip(kinds or ["text"] * len(one), one)])]
+    if '"' in text:
+        columns: list[Any] = list(zip(*csv.reader(lines)))
+    else:
+        fields = text.split(",")
+        count = len(fields) // len(lines)
+        columns = [fields[place::count] for place in range(count)]
+    return list(zip(*[column if kind == "text" else map(VALUES[kind], column) for kind, column in zip(kinds or ["text"] * len(columns), columns)]))
