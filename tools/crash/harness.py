@@ -20,7 +20,7 @@ from itertools import chain, combinations
 from pathlib import Path
 from typing import Any, NamedTuple
 
-from history import Backup, PROBE, Step, expected
+from history import PROBE, Backup, Once, Step, expected
 
 from betable import Session, durable
 
@@ -136,7 +136,7 @@ def go_without_answers(folder: str, steps: list[Step]) -> None:
     """A control: a client that takes steps for answered before they are kept."""
     with opened(folder) as table, table.group():
         for number, step in enumerate(steps):
-            if step.is_repeatable:
+            if isinstance(step, Once):
                 step.make(table, number)
                 library().faults_note(ctypes.c_long(number + 1))
 

@@ -99,6 +99,7 @@ def short_history() -> list[Step]:
         Checkpoint(),
         Once(ADD),
         Once("drop q\nindex b on city include qty where city < Z \nbuild b 99\n"),
+        Backup(),
         Group(ADD, ADD),
     ]
 
@@ -114,7 +115,7 @@ def long_history() -> list[Step]:
         if number == 4:
             steps += [Once("index q on tag\nbuild q 4\n"), Once("build q 4\n")]
         if number == 6:
-            steps += [Group(batch(dice, 5), "build q 99\n", batch(dice, 5)), Backup(), Checkpoint()]
+            steps += [Group(batch(dice, 5), "build q 99\n", batch(dice, 5)), Checkpoint()]
         if number == 8:
             steps += [Once("drain primary\ndrop b\n"), Once(batch(dice, 600)), Checkpoint(), Checkpoint()]
         if number == 10:

@@ -169,8 +169,8 @@ def failing_session(kind):
             if b"drop fails" not in script:
                 return super().replies(script)
             first = super().replies(script.split(b"drop fails")[0])
-            if kind == "python":
-                raise MemoryError
+            if kind in ("python", "interrupt"):
+                raise MemoryError if kind == "python" else KeyboardInterrupt
             raise client.OutOfMemory(first[:-1] if kind == "cut" else first, kind == "cut", kind == "lost")
 
     return Failing
@@ -193,6 +193,17 @@ def a_script_that_runs_out_of_memory_is_rolled_back_whole():
                 wanted = probe(table)
             with durable().open(path / "t") as table:
                 expect((probe(table), table.number), (wanted, 3))
+
+
+def an_interrupt_rolls_back_too():
+    with folder() as path, durable().open(path / "t", make=failing_session("interrupt")) as table:
+        table.replies(TABLE + ADD)
+        try:
+            table.replies(ADD + "drop fails\n")
+        except KeyboardInterrupt:
+            expect((table.get(1), table.number), ((1, "", 1), 1))
+        else:
+            expect("no interrupt", "one")
 
 
 def a_group_is_kept_whole_or_not_at_all():
@@ -623,6 +634,7 @@ TESTS_OF_TEXTS = [
     scripts_that_change_nothing_are_not_kept,
     typed_calls_know_the_columns_of_a_table_that_is_opened_again,
     a_script_that_runs_out_of_memory_is_rolled_back_whole,
+    an_interrupt_rolls_back_too,
     a_group_is_kept_whole_or_not_at_all,
     a_commit_that_fails_is_rolled_back_or_in_doubt,
     a_request_is_run_once,
