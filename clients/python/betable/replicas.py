@@ -1,0 +1,344 @@
+"""A table that several machines have, each a replica, through one ordered log: a stream of Redis, or a table of PostgreSQL.
+
+    with betable.Replicas("postgresql://server/stock") as table:
+        table.run("table 16 1024 256 1 id:int city:text qty:int\\n")
+        table.put([(1, "Oslo", 30)])
+
+A script that may change the table goes into the log. Every replica runs the scripts of the log in its order, so every replica gives the same replies and has the
+same trees; a caller gets those of its own replica. A request id makes a script run once, however often it is sent. Scripts that only read are run on the
+replica alone.
+
+A replica has its table in memory, and begins with the last checkpoint of the log and the scripts after it. If running a script fails, it begins again with the
+next call.
+"""
+
+from __future__ import annotations
+
+import json
+import time
+import uuid
+import zlib
+from collections.abc import Callable
+from contextlib import suppress
+from functools import partial
+from typing import Any, Literal, NamedTuple, TypeVar
+
+from .calls import Calls, as_script, note
+from .durable import CHANGING, DEFINING, REFUSED, IndexBuilding, RequestReused, Runner, _records
+from .language import PRIMARY, State, commands
+from .logs import Entry, Log, Unreachable, log_of
+from .replies import answered
+from .session import Session
+from .sharded import NotSharded
+
+T = TypeVar("T")
+# Of how many of the last requests a replica knows the replies, while these are not longer.
+MOST_OUTCOMES, MOST_REPLY_LETTERS = 1_000, 1 << 24
+# How many of its last checksums a replica knows, to compare them with those of other replicas.
+MOST_CHECKSUMS = 10_000
+FIRST_PAUSE, LONGEST_PAUSE = 0.02, 1.0
+
+
+class Unanswered(Exception):
+    """A script got no reply: its log could not be reached, or this replica could not run it. It may be in the log, and other replicas may have run it.
+    `once(request_id, script)` with the `request_id` of this exception gives its reply, and runs it if it was not."""
+
+    def __init__(self, request_id: str, reason: str) -> None:
+        super().__init__(request_id, reason)
+        self.request_id, self.reason = request_id, reason
+
+    def __str__(self) -> str:
+        return f"{self.reason}. The script may run all the same: once({self.request_id!r}, script) gives its reply, and runs it if it was not"
+
+
+class ReplyForgotten(Exception):
+    """The script of a request was run, but its reply is no longer there."""
+
+    def __init__(self, request_id: str) -> None:
+        super().__init__(request_id)
+        self.request_id = request_id
+
+    def __str__(self) -> str:
+        return f"the script of request {self.request_id!r} was run, and this replica does not have its reply any more: read what it changed"
+
+
+class Diverged(Exception):
+    """This replica and the log are not of one past, as after a server has lost scripts, or where two replicas have different engines. `position` is that of the
+    script at which it shows."""
+
+    def __init__(self, position: int, reason: str) -> None:
+        super().__init__(position, reason)
+        self.position, self.reason = position, reason
+
+    def __str__(self) -> str:
+        return f"script {self.position} of the log: {self.reason}. See what happened to the log, and open this replica again, which then has what the log has"
+
+
+class Outcome(NamedTuple):
+    """What a request gave: the checksum of its script, its replies, and if shards could not reply, why and in which line."""
+
+    script: int
+    replies: str
+    fault: tuple[str, int] | None
+
+    def given(self) -> bytes:
+        replies = self.replies.encode()
+        if self.fault:
+            raise NotSharded(*self.fault, replies)
+        return replies
+
+
+class Outcomes:
+    """What the last requests gave, as many as are kept."""
+
+    def __init__(self, found: dict[str, list[Any]] | None = None) -> None:
+        self.found = {request_id: Outcome(*parts) for request_id, parts in (found or {}).items()}
+        self._length = sum(len(outcome.replies) for outcome in self.found.values())
+
+    def add(self, request_id: str, outcome: Outcome) -> None:
+        self.found[request_id] = outcome
+        self._length += len(outcome.replies)
+        while len(self.found) > MOST_OUTCOMES or (self._length > MOST_REPLY_LETTERS and len(self.found) > 1):
+            self._length -= len(self.found.pop(next(iter(self.found))).replies)
+
+
+class Replicas(Calls):
+    """A replica of a table, which the log of a name has. It is used by the thread that opened it alone.
+
+    With the reads `latest`, a script that only reads sees every script that was answered before, by any replica. With `local` it sees what this replica has run
+    so far, and needs no server. `patience` is for how many seconds a call goes on trying to reach the server. `make` gives what runs the scripts, which has
+    no table yet: a session unless said otherwise.
+    """
+
+    def __init__(
+        self, url: str | Log, name: str = "betable", *, reads: Literal["latest", "local"] = "latest", patience: float = 30, make: Callable[[], Runner] = Session
+    ) -> None:
+        if reads not in ("latest", "local"):
+            raise ValueError(f"reads are 'latest' or 'local', and not {reads!r}")
+        self._are_reads_local, self._patience, self._make = reads == "local", patience, make
+        self._runner: Runner | None = None
+        self._state, self._position, self._checksum = State(), 0, 0
+        self._checksums: dict[int, int] = {}
+        self._outcomes = Outcomes()
+        self._divergence: Diverged | None = None
+        self._is_closed = False
+        self._log: Log = url if not isinstance(url, str) else self._reached(partial(log_of, url, name))
+        try:
+            self.catch_up()
+        except BaseException:
+            self.close()
+            raise
+
+    def __enter__(self) -> Replicas:
+        return self
+
+    def __exit__(self, *_: object) -> None:
+        self.close()
+
+    @property
+    def state(self) -> State:
+        self._see()
+        return self._state
+
+    @property
+    def is_lost(self) -> bool:
+        """Whether the replica has diverged. One whose session is lost begins again with the next call."""
+        return self._divergence is not None
+
+    @property
+    def position(self) -> int:
+        """The position of the last script of the log that this replica has run."""
+        return self._position
+
+    def close(self) -> None:
+        """Closes the replica. The log stays."""
+        self._is_closed = True
+        self._drop()
+        self._log.close()
+
+    # ---- scripts ----
+
+    def replies(self, script: str | bytes) -> bytes:
+        """The bytes of the replies to a script, which goes into the log if it may change the table."""
+        text = as_script(script)
+        if any(command.head.word in CHANGING for command in commands(text)):
+            return self.once(uuid.uuid4().hex, text)
+        self._see()
+        return self._kept(lambda runner: runner.replies(text))
+
+    def _see(self) -> None:
+        """Runs what a read is to see."""
+        if self._are_reads_local:
+            self._ready()
+        else:
+            self.catch_up()
+
+    def once(self, request_id: str, script: str | bytes) -> bytes:
+        """As `replies`, by the log in any case. A script that comes again with the same request id is not run again: the call gives its replies. So a caller that got
+        no answer sends the request again. RequestReused if another script had the id."""
+        text = as_script(script)
+        self._run_by_log(request_id, text)
+        outcome = self._outcomes.found.get(request_id)
+        if outcome is None:
+            raise ReplyForgotten(request_id)
+        if outcome.script != zlib.crc32(text):
+            raise RequestReused(request_id)
+        return outcome.given()
+
+    def _run_by_log(self, request_id: str, script: bytes) -> int:
+        """The position of a request in the log, after this replica has run it."""
+        self._ready()
+        try:
+            position, is_new = self._reached(lambda: self._log.append(request_id, script, self._position, self._checksum))
+            if is_new and position <= self._position:
+                raise self._diverged(position, f"it is new, and this replica has run {self._position} scripts, so the log has lost some")
+            self._run_to(position)
+        except Diverged:
+            raise
+        except Exception as fault:
+            raise Unanswered(request_id, f"{type(fault).__name__}: {fault}") from fault
+        return position
+
+    def catch_up(self, seconds: float = 0) -> int:
+        """Runs what the log has, and if that is nothing new waits up to these seconds for a script. The position afterwards."""
+        self._ready()
+        end = self._reached(self._log.end)
+        if end == self._position and seconds > 0:
+            self._reached(lambda: self._log.wait(self._position + 1, seconds))
+            end = self._reached(self._log.end)
+        if end < self._position:
+            raise self._diverged(end, f"it is the last, and this replica has run {self._position} scripts, so the log has lost some")
+        self._run_to(end)
+        return self._position
+
+    # ---- checkpoints ----
+
+    def checkpoint(self) -> int:
+        """Rebuilds all trees on every replica, by the log, and keeps the definitions and the rows as they are then beside the log. The position of that."""
+        self.catch_up()
+        while True:
+            trees = self._trees()
+            position = self._run_by_log(uuid.uuid4().hex, b"".join(b"rebuild %b\n" % name for name in trees))
+            # Another replica may have changed the indexes before it, or have written a checkpoint after it that this one has begun with.
+            if trees == self._trees() and self._position == position and (table := self._state.table):
+                break
+        lines = [table.line.text] + [line for name, index in table.indexes.items() for line in (index.line.text, b"build %b 1" % name)]
+        rows = self._kept(lambda runner: runner.replies(b"scan primary\ngo\n"))
+        about = json.dumps({"checksum": self._checksum, "outcomes": self._outcomes.found}).encode()
+        text = b"\n".join([about, *lines, b"load", b",".join(table.names), b""]) + _records(rows) + b".\n"
+        self._reached(lambda: self._log.keep(self._position, text))
+        return self._position
+
+    def trim(self) -> None:
+        """Removes the scripts before the last checkpoint from the log. A replica that has not run them begins with the checkpoint again."""
+        self._reached(self._log.trim)
+
+    def _trees(self) -> list[bytes]:
+        """The names of all trees, whose indexes are complete."""
+        if self._state.table is None:
+            raise ValueError("a checkpoint is of a table, and there is none so far")
+        indexes = self._state.table.indexes
+        if building := [name.decode() for name, index in indexes.items() if not index.is_complete]:
+            raise IndexBuilding(building)
+        return [PRIMARY, *indexes]
+
+    # ---- the replica ----
+
+    def _reached(self, call: Callable[[], T]) -> T:
+        """What a call of the log gives, which is made again for a while if the server cannot be reached."""
+        begin, pause = time.monotonic(), FIRST_PAUSE
+        while True:
+            try:
+                return call()
+            except Unreachable:
+                if time.monotonic() - begin + pause > self._patience:
+                    raise
+            time.sleep(pause)
+            pause = min(2 * pause, LONGEST_PAUSE)
+
+    def _ready(self) -> Runner:
+        """What runs the scripts. If there is none it begins with the last checkpoint, and runs what the log has after it."""
+        if self._is_closed:
+            raise ValueError("the replica is closed")
+        if self._divergence:
+            raise self._divergence
+        if self._runner is None:
+            self._begin(self._reached(self._log.checkpoint))
+            self._run_to(self._reached(self._log.end))
+        assert self._runner
+        return self._runner
+
+    def _begin(self, checkpoint: tuple[int, bytes] | None) -> None:
+        """Begins with a checkpoint, or without one."""
+        self._drop()
+        self._state, self._position, self._checksum, self._checksums, self._outcomes = State(), 0, 0, {}, Outcomes()
+        self._runner = self._make()
+        if checkpoint:
+            position, text = checkpoint
+            about, script = text.split(b"\n", 1)
+            replies = self._kept(lambda runner: runner.replies(script))
+            if REFUSED.search(replies):
+                raise self._diverged(position, f"its checkpoint was refused: {replies.decode()!r}")
+            self._note(script, replies)
+            found = json.loads(about)
+            self._position, self._checksum, self._outcomes = position, found["checksum"], Outcomes(found["outcomes"])
+            self._checksums[position] = self._checksum
+
+    def _diverged(self, position: int, reason: str) -> Diverged:
+        """The exception of this call and of all that follow."""
+        self._drop()
+        self._divergence = Diverged(position, reason)
+        return self._divergence
+
+    def _drop(self) -> None:
+        runner, self._runner = self._runner, None
+        if runner is not None:
+            with suppress(Exception):
+                runner.close()
+
+    def _kept(self, call: Callable[[Runner], T]) -> T:
+        """What a call of the runner gives. One that fails leaves it in an unknown state, so that it goes."""
+        try:
+            return call(self._ready())
+        except NotSharded:
+            raise
+        except BaseException:
+            self._drop()
+            raise
+
+    def _run_to(self, last: int) -> None:
+        """Runs the scripts of the log up to a position."""
+        while self._position < last:
+            first = self._position + 1
+            found = self._reached(lambda: self._log.entries(first, last))
+            if not found or found[0].position != first:
+                # It was trimmed, and then there is a later checkpoint.
+                checkpoint = self._reached(self._log.checkpoint)
+                if checkpoint is None or checkpoint[0] < first:
+                    raise self._diverged(first, "it is missing")
+                self._begin(checkpoint)
+            else:
+                for entry in found:
+                    self._run(entry)
+
+    def _run(self, entry: Entry) -> None:
+        if entry.position != self._position + 1:
+            raise self._diverged(self._position + 1, "it is missing")
+        if self._checksums.get(entry.seen, entry.checksum) != entry.checksum:
+            raise self._diverged(entry.seen, f"the replica that appended script {entry.position} had other replies")
+        fault = None
+        try:
+            replies = self._kept(lambda runner: runner.replies(entry.script))
+        except NotSharded as found:
+            fault, replies = (found.reason, found.line), found.replies
+        self._note(entry.script, replies)
+        self._position, self._checksum = entry.position, zlib.crc32(replies, self._checksum)
+        self._checksums[entry.position] = self._checksum
+        self._checksums.pop(entry.position - MOST_CHECKSUMS, None)
+        self._outcomes.add(entry.request_id, Outcome(zlib.crc32(entry.script), replies.decode(), fault))
+
+    def _note(self, script: bytes, replies: bytes) -> None:
+        """Takes what a script defines into the state."""
+        if any(command.head.word in DEFINING for command in commands(script)):
+            for command, reply in answered(commands(script), replies):
+                note(self._state, command, reply)
