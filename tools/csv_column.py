@@ -89,8 +89,8 @@ class Column:
 
     def as_flags(self, values):
         """The words of flags as true and false; any other word stays as it is."""
-        for word in set(values) - self.flags.keys():
-            if word.lower() in self.flag_words:
+        for word in dict.fromkeys(values):
+            if word not in self.flags and word.lower() in self.flag_words:
                 self.flags[word] = self.flag_words[word.lower()]
         return [self.flags.get(value, value) for value in values]
 

@@ -13,7 +13,8 @@ import sys
 import tempfile
 from pathlib import Path
 
-from common import expect, expect_within, imported, PROGRAM, run, run_forked, SECONDS, TOP
+from common import expect, expect_within, Failure, imported, PROGRAM, run, run_forked, SECONDS, TOP
+from wrong_uses import OF_FROM_CSV, OF_OTHERS
 
 FILES = TOP / "tools/tests/files"
 SHAPE = "table 16 1024 256"
@@ -265,6 +266,28 @@ def from_csv_wants_right_words():
         for words in ([], [bad, "--key", "id"], [path, "--key", "town"], [folder, "--key", "id"]):
             status, text, errors = run("tools/from_csv", *map(str, words))
             expect((status, text, "Traceback" in errors, errors.splitlines()[-1].startswith("from_csv: ")), (2, "", False, True))
+
+
+def wrong_uses_of_from_csv_say_what_to_do():
+    """Of a table of wrong uses: no script, and what is wrong with what to do about it, to the end of a line."""
+    for given, words, said in OF_FROM_CSV:
+        status, script, sentences = from_csv(given, *words)
+        expect((words, status, script), (words, 2, ""))
+        if not any(sentence.endswith(said) for sentence in sentences):
+            raise Failure(f"{words}: no {said!r} in {sentences!r}")
+
+
+def wrong_uses_of_the_other_tools_say_what_to_do():
+    with tempfile.TemporaryDirectory() as folder:
+        path = Path(folder) / "FILE"
+        for tool, words, contents, status, said in OF_OTHERS:
+            path.write_text(contents)
+            program = ["--program", PROGRAM] if tool not in ("explain_words",) and "--program" not in words else []
+            found, text, errors = run_forked(f"tools/{tool}", *program, *(path if word == "FILE" else word for word in words.split()))
+            lines = (text + errors).replace(str(path), "FILE").splitlines()
+            expect((tool, words, found, lines[-1]), (tool, words, status, said))
+            if tool != "explain" and tool != "explain_words":
+                expect((tool, words, text), (tool, words, ""))
 
 
 def from_csv_takes_one_record_of_each_key():
@@ -565,6 +588,7 @@ TESTS_OF_TEXTS = [
     from_csv_says_what_became_of_the_sales,
     from_csv_refuses_what_cannot_be_loaded,
     from_csv_wants_right_words,
+    wrong_uses_of_from_csv_say_what_to_do,
     from_csv_warns_of_quotes_that_look_broken,
     from_csv_makes_scripts_of_64_mebibytes_and_no_byte_more,
     from_csv_shows_progress_at_a_terminal_only,
@@ -575,6 +599,7 @@ TESTS_OF_TEXTS = [
 
 TESTS = [
     to_csv_wants_right_words,
+    wrong_uses_of_the_other_tools_say_what_to_do,
     from_csv_takes_one_record_of_each_key,
     csv_comes_back_as_it_was,
     csv_of_sqlite3_comes_back,

@@ -1,0 +1,150 @@
+"""Wrong uses of the tools, each with what the tool says of it, for the tests of tools/from_csv, tools/to_csv, tools/explain, tools/explain_words and
+tools/draw."""
+
+import gzip
+
+CITIES = "id,City name,qty,open\n1,Oslo,3,yes\n2,Bergen,4,no\n"
+DECIMALS = "id,price\n1,0.25\n2,\n3,n/a\n"
+WIDE = ",".join(f"c{place}" for place in range(17)) + "\n"
+INT = "decimals are stored as ints of a fixed unit, as 1250 for 12.50"
+
+# Of tools/from_csv: the contents of its file, the words behind its name, and the end of what it says, or a part of a refusal.
+OF_FROM_CSV = [
+    # The key.
+    (CITIES, [], "--key COLUMNS names the column, or up to four columns, by which each record is found; the columns are: id, city_name, qty, open"),
+    (CITIES, ["--key", ""], "--key COLUMNS names the column, or up to four columns, by which each record is found; the columns are: id, city_name, qty, open"),
+    (CITIES, ["--key", ","], "--key names no column"),
+    (CITIES, ["--key", "town"], "the file has no column 'town'; its columns are: id, 'City name' or city_name, qty, open"),
+    (CITIES, ["--key", "1"], "the file has no column '1'; its columns are: id, 'City name' or city_name, qty, open"),
+    (CITIES, ["--key", "id,ID"], "a column is named twice"),
+    (WIDE, ["--key", "c0,c1,c2,c3,c4"], "5 key columns, and a table has at most 4"),
+    ("a,b\n1,x\n2,x\n1,y\n", ["--key", "a"], "record 3 (line 4) has the key of record 1 (line 2) (--last takes the last record of each key, --first the first)"),
+    # The columns.
+    (WIDE, ["--key", "c0"], "17 columns, and a table has at most 16: --columns takes some of them, of " + ", ".join(f"c{place}" for place in range(17))),
+    (CITIES, ["--key", "id", "--columns", "town"], "the file has no column 'town'; its columns are: id, 'City name' or city_name, qty, open"),
+    (CITIES, ["--key", "id", "--columns", "qty", "--flag", "open"], "--flag names open, which --columns leaves out"),
+    (CITIES, ["--key", "id", "--columns", "open", "--scale", "qty=2"], "--scale names qty, which --columns leaves out"),
+    ("1,Oslo,3\n", ["--key", "id", "--names", "id,city"],
+     "record 1 (line 1) has 3 fields, and the header 2 (--fit adds empty fields, and drops those that are too many)"),
+    ("a,b\n1,x\n2\n", ["--key", "a"], "record 2 (line 3) has 1 field, and the header 2 (--fit adds empty fields, and drops those that are too many)"),
+    ("a,b\n1,Oslo, west\n", ["--key", "a"], "record 1 (line 2) has 3 fields, and the header 2 (--fit adds empty fields, and drops those that are too many)"),
+    # Kinds.
+    (CITIES, ["--key", "id", "--kind", "qty"], "--kind wants COLUMN=VALUE and not 'qty'"),
+    (CITIES, ["--key", "id", "--kind", "qty=float"], "--kind wants int, text, flag or bytes and not 'float'"),
+    (CITIES, ["--key", "id", "--kind", "qty=text", "--kind", "qty=int"], "--kind is given twice for qty, with 'text' and 'int'"),
+    (CITIES, ["--key", "id", "--kind", "open=flag"], "open of record 1 (line 2) is no flag: 'yes' is neither true nor false (--flag open takes yes and no)"),
+    (CITIES, ["--key", "id", "--kind", "city_name=int"], "city_name of record 1 (line 2) is no int: 'Oslo' is no whole number"),
+    (CITIES, ["--key", "id", "--kind", "city_name=bytes"], "city_name of record 1 (line 2) is no bytes: letter 1 of 'Oslo' is no hexadecimal digit"),
+    (DECIMALS, ["--key", "id", "--kind", "price=int"], f"price of record 1 (line 2) is no int: '0.25' is no whole number: {INT} (--scale price=2 takes such)"),
+    (DECIMALS, ["--key", "id", "--kind", "price=int"], "(--empty price=VALUE fills such)"),
+    (DECIMALS, ["--key", "id", "--kind", "price=int"],
+     "is no int: 'n/a' is no whole number, and there is no null: write a number for it, as 0 or -1 (--null price=n/a takes such as empty)"),
+    # Decimals.
+    (DECIMALS, ["--key", "id", "--scale", "price"], "--scale wants COLUMN=VALUE and not 'price'"),
+    (DECIMALS, ["--key", "id", "--scale", "price=x"], "--scale wants the number of digits after the point, 0 to 18, of an int, and not price=x"),
+    (DECIMALS, ["--key", "id", "--scale", "price=19"], "--scale wants the number of digits after the point, 0 to 18, of an int, and not price=19"),
+    (DECIMALS, ["--key", "id", "--scale", "price=2", "--kind", "price=text"],
+     "--scale wants the number of digits after the point, 0 to 18, of an int, and not price=2"),
+    (DECIMALS, ["--key", "id", "--scale", "price=1"],
+     "price of record 1 (line 2) is '0.25', with more than 1 digit after the point (--scale price=2 keeps them)"),
+    (DECIMALS, ["--key", "id", "--scale", "price=2"], "price of record 2 (line 3) is '', and no decimal number (--empty price=0 fills such)"),
+    (DECIMALS, ["--key", "id", "--scale", "price=2"], "price of record 3 (line 4) is 'n/a', and no decimal number (--null price=n/a takes such as empty)"),
+    ("a,b\n1,92233720368547758.08\n", ["--key", "a", "--scale", "b=2"],
+     "b of record 1 (line 2) is '92233720368547758.08', and 9223372036854775808 as an int, which does not fit 64 bits"),
+    # Empty fields.
+    (DECIMALS, ["--key", "id", "--empty", "price"], "--empty wants COLUMN=VALUE and not 'price'"),
+    (DECIMALS, ["--key", "id", "--empty", "cost=0"], "the file has no column 'cost'; its columns are: id, price"),
+    (DECIMALS, ["--key", "id", "--scale", "price=2", "--empty", "price=0.50"],
+     f"--empty price=0.50: '0.50' is no whole number: {INT}; it is stored as it is, and not scaled: of 0.50 with 2 digits 50"),
+    (DECIMALS, ["--key", "id", "--kind", "price=int", "--empty", "price=none"],
+     "--empty price=none: 'none' is no whole number, and there is no null: write a number for it, as 0 or -1"),
+    (DECIMALS, ["--key", "id", "--kind", "price=flag", "--empty", "price="], "--empty price=: the field is empty, and a flag is true or false"),
+    (DECIMALS, ["--key", "id", "--empty", "price=0", "--empty", "price=-1"], "--empty is given twice for price, with '0' and '-1'"),
+    # Words for no value, and flags.
+    (DECIMALS, ["--key", "id", "--null", ""], "--null wants WORDS, as NULL,n/a, or COLUMN=WORDS, and not ''"),
+    (DECIMALS, ["--key", "id", "--null", "price="], "--null wants WORDS, as NULL,n/a, or COLUMN=WORDS, and not 'price='"),
+    (DECIMALS, ["--key", "id", "--null", "cost=n/a"], "the file has no column 'cost'; its columns are: id, price"),
+    (CITIES, ["--key", "id", "--flag", "on"], "the file has no column 'on'; its columns are: id, 'City name' or city_name, qty, open"),
+    (CITIES, ["--key", "id", "--flag", "open=yes"], "--flag wants COLUMN, or COLUMN=TRUE,FALSE with two words, as open=ja,nein, and not 'open=yes'"),
+    (CITIES, ["--key", "id", "--flag", "open=yes,YES"], "--flag wants COLUMN, or COLUMN=TRUE,FALSE with two words, as open=ja,nein, and not 'open=yes,YES'"),
+    (CITIES, ["--key", "id", "--flag", "open", "--kind", "open=text"], "--flag open: open is to be of another kind by --kind or --scale"),
+    (CITIES, ["--key", "id", "--flag", "qty"], "qty of record 1 (line 2) is no flag: '3' is neither true nor false"),
+    ("a,b\n1,y\n2,\n", ["--key", "a", "--flag", "b"],
+     "b of record 2 (line 3) is no flag: the field is empty, and a flag is true or false (--empty b=VALUE fills such)"),
+    # Texts.
+    ("a,b\n1," + "x" * 256 + "\n", ["--key", "a"], "b of record 1 (line 2) has 256 bytes, the most are 255 (--cut b cuts such)"),
+    ('a,b\n1,"x\n.\ny"\n', ["--key", "a"],
+     "b of record 1 (line 2) has a line that is '.' alone, which would close the load (--mend-points puts a space after it)"),
+    (CITIES, ["--key", "id", "--cut", "town"], "the file has no column 'town'; its columns are: id, 'City name' or city_name, qty, open"),
+    # Indexes and the shape.
+    (CITIES, ["--key", "id", "--index", "by_city", "on town"], "index by_city: there is no column 'town'; the columns are id, city_name, qty, open"),
+    (CITIES, ["--key", "id", "--index", "by_city", "city_name"],
+     "--index wants NAME and 'on LIST [include LIST] [where COLUMN OP VALUE]', and not 'by_city' 'city_name'"),
+    (CITIES, ["--key", "id", "--index", "By City", "on qty"],
+     "--index wants NAME and 'on LIST [include LIST] [where COLUMN OP VALUE]', and not 'By City' 'on qty'"),
+    (CITIES, ["--key", "id", "--index", "primary", "on qty"], "the name primary of an index is taken"),
+    (CITIES, ["--key", "id", "--index", "a", "on qty where qty = x"], "index a: the value of 'where qty': 'x' is no whole number"),
+    (CITIES, ["--key", "id", "--shape", "16 1024"],
+     "--shape wants fanout (4 to 64), buffer (1 to 4096, or in bytes 1b to 1048576b) and leaf (2 to 1024), and not '16 1024'"),
+    (CITIES, ["--key", "id", "--separator", ";;"], "argument --separator: ';;' is no separator: one of comma, semicolon, tab, bar, or one letter"),
+    (CITIES, ["--key", "id", "--encoding", "ansi"], "argument --encoding: 'ansi' is no encoding; latin-1, cp1252 and utf-16 are"),
+    (CITIES, ["--key", "id", "--nul", "x", "--what"], "unrecognized arguments: --what"),
+    # Files that are none.
+    ("", ["--key", "id"], " has no record, and the first one has to have the names of the columns"),
+    (b"id,city\n1,ok\n2,\xe9\n", ["--key", "id"], "line 3 is no UTF-8: byte 3 is E9; --encoding cp1252, latin-1 or another one reads such a file"),
+    ("id,city\n1,x\n".encode("utf-16-le"), ["--key", "id"],
+     " has zero bytes in its first record: it is a binary file, or UTF-16, which --encoding utf-16-le reads"),
+    (b"\x00\x9f\xff\x80" * 99, ["--key", "id"], " is a binary file and no CSV file: save the table as CSV by the program that wrote it"),
+    (b"PK\x03\x04" + bytes(99), ["--key", "id"], " is no CSV file, but a zip archive or a workbook (.xlsx, .ods): unpack it, or save its sheet as CSV"),
+    (gzip.compress(b"PAR1" + bytes(99)), ["--key", "id"], " is no CSV file, but a Parquet file: save it as CSV by the program that wrote it"),
+    (b"SQLite format 3\0" + bytes(99), ["--key", "id"],
+     " is no CSV file, but a database of SQLite: sqlite3 -header -csv FILE 'select * from TABLE' | tools/from_csv - --key COLUMNS"),
+    (gzip.compress(b"id,city\n1,x\n")[:-6], ["--key", "id"], " cannot be unpacked: Compressed file ended before the end-of-stream marker was reached"),
+]  # fmt: skip
+
+SCRIPT = "table 4 3 2 1 id:int city:text\nbatch\nput 1,Oslo\nend\nscan primary\ngo\nget 2\nscan by_city\ngo\n"
+NO_IMAGE = "tools/draw: there is no image: the first line of one is 'image NAME height H'"
+
+# Of the other tools: the tool, its words, in which FILE is that of a script with these contents, the status, and the last line that it says.
+OF_OTHERS = [
+    ("to_csv", "nofile", "", 2, "to_csv: nofile cannot be read: No such file or directory"),
+    ("to_csv", "tools", "", 2, "to_csv: tools cannot be read: Is a directory"),
+    ("to_csv", "FILE", "", 2, "to_csv: the script has no command; tools/from_csv FILE --key COLUMNS makes a script of a CSV file"),
+    ("to_csv", "FILE", CITIES, 2, "to_csv: the script has no command; tools/from_csv FILE --key COLUMNS makes a script of a CSV file"),
+    ("to_csv", "FILE", "get 1\n", 2, "to_csv: the script has no scan and no sums; add one after its last line, as 'scan primary' and then 'go'"),
+    ("to_csv", "FILE", SCRIPT, 1, "to_csv: command 5 (line 8: scan by_city) is refused, 8 NoSuchTree: tools/explain says why"),
+    ("to_csv", "FILE --reply 0", SCRIPT, 2, "to_csv: --reply 0: the script has 5 commands (--list prints those with rows)"),
+    ("to_csv", "FILE --reply 6", SCRIPT, 2, "to_csv: --reply 6: the script has 5 commands (--list prints those with rows)"),
+    ("to_csv", "FILE --reply 2", SCRIPT, 2, "to_csv: command 2 (line 2: batch) has no rows; a scan, sums and a get have (--list prints them)"),
+    ("to_csv", "FILE --reply x", SCRIPT, 2, "to_csv: error: argument --reply: invalid int value: 'x'"),
+    ("to_csv", "FILE --replies nofile", SCRIPT, 2, "to_csv: nofile: No such file or directory"),
+    ("to_csv", "FILE --replies FILE", SCRIPT, 2,
+     "to_csv: the replies are not those of this script: command 3 (line 5: scan primary) is answered with 'put 1,Oslo'"),
+    ("to_csv", "- --replies -", SCRIPT, 2, "to_csv: error: standard input is the script or the replies, and not both"),
+    ("to_csv", "FILE --program nofile", SCRIPT, 3, "to_csv: nofile: No such file or directory"),
+    ("explain", "nofile", "", 2, "explain: error: nofile: No such file or directory"),
+    ("explain", "tools", "", 2, "explain: error: tools: Is a directory"),
+    ("explain", "--program nofile FILE", SCRIPT, 2, "explain: error: nofile is no program"),
+    ("explain", "--what FILE", SCRIPT, 2, "explain: error: unrecognized arguments: --what"),
+    ("explain", "FILE FILE", SCRIPT, 2, "explain: error: unrecognized arguments: FILE"),
+    ("explain_words", "FILE", SCRIPT, 0, "  'FILE' is no option: did you mean --script FILE?"),
+    ("explain_words", "--file FILE", SCRIPT, 0, "  '--file' is no option: did you mean --script FILE?"),
+    ("explain_words", "-V", "", 0, "  '-V' is no option: did you mean --version?"),
+    ("explain_words", "-v", "", 0, "  '-v' is no option: did you mean --version?"),
+    ("explain_words", "-h", "", 0, "  '-h' is no option: did you mean --help?"),
+    ("explain_words", "help", "", 0, "  'help' is no option: did you mean --help?"),
+    ("explain_words", "--threads 4", "", 0, "  '--threads' is no option: did you mean --workers?"),
+    ("explain_words", "--workers=0", "", 0, "  --workers takes a number from 1 to 64, and '0' is none"),
+    ("explain_words", "--script", "", 0, "  --script needs the name of a file after it"),
+    ("explain_words", "--script nofile", "", 0, "  nofile: no such file"),
+    ("explain_words", "--script tools", "", 0, "  tools: a folder, and no file"),
+    ("explain_words", "--version --workers 2", "", 0, "  --version takes no other words"),
+    ("draw", "", "", 1, NO_IMAGE),
+    ("draw", "FILE", SCRIPT, 1, NO_IMAGE),
+    ("draw", "FILE", "image primary height 1\nleaf 0\n", 1,
+     "tools/draw: image 1, of primary, is broken: its line 'end' is missing, so the replies were cut inside of it"),
+    ("draw", "nofile", "", 2, "draw: error: nofile: No such file or directory"),
+    ("draw", "--columns 1 FILE", SCRIPT, 2, "draw: error: a tree has at least 2 columns, and a box at least 1 line"),
+    ("draw", "--page FILE", SCRIPT, 2, "draw: error: --page wants a script, which is run: --script SCRIPT"),
+    ("draw", "--script FILE FILE", SCRIPT, 2, "draw: error: either replies are drawn, IMAGE, or those of a script that is run, --script SCRIPT"),
+]  # fmt: skip
