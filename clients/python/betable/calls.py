@@ -13,7 +13,7 @@ from typing import Any
 from . import language
 from .errors import OutOfMemory, Refused, RowTypeError, RowValueError
 from .faults import MEANINGS, Fault, faults_of_refusal
-from .forms import name_fault
+from .forms import head_faults, name_fault
 from .language import Command, Index, State, Table
 from .replies import Reply, answered, kinds_of_rows, rows_of_reply
 from .rows import FIELDS, PLAIN_TEXT, Column, Value, as_iterator, as_tuple, columns_of, key_fields, line_fault, line_field, records, shown
@@ -414,6 +414,18 @@ def note(state: State, command: Command, reply: bytes) -> None:
     state.take(command, reply.splitlines(keepends=True)[:1])
 
 
+def note_unanswered(state: State, command: Command) -> None:
+    """Takes the first command without a reply, after a run that ran out of memory, into a state. It may have been carried out, so a table or an index that it
+    would make counts as made: where it was not, each command on it is refused by the library."""
+    words = command.head.text.split()
+    if head_faults(command.head):
+        return
+    if words[0] == b"table" and state.table is None:
+        note(state, command, b"table %d\n" % (len(words) - 5))
+    elif words[0] == b"index" and state.table is not None and words[1] not in state.table.indexes:
+        note(state, command, b"index %b\n" % words[1])
+
+
 def fault_of(command: Command, number: int, item: int | None, state: State) -> Fault | None:
     """The fault that a refusal of a command names: of several lines the one of its item."""
     line = None
@@ -424,6 +436,15 @@ def fault_of(command: Command, number: int, item: int | None, state: State) -> F
         line = numbers[0] if numbers else None
     faults: Iterable[Fault] = faults_of_refusal(command, number, state)
     return next((fault for fault in faults if line is None or fault.line == line), None)
+
+
+def _given_value(row: Any, column: str, columns: list[Column], otherwise: Any) -> Any:
+    """The value of a column as a caller gave it, in a row or a message."""
+    if isinstance(row, Message):
+        key, changes = row.parts()
+        found = {name: value for (name, _), value in zip(columns, key)} | {name: value for _, name, value in changes}
+        return found.get(column, otherwise)
+    return dict(zip((name for name, _ in columns), as_tuple(row, columns, 0, 0)))[column]
 
 
 def refusal(
@@ -439,9 +460,8 @@ def refusal(
     if fault is not None and fault.place:
         reason = f"{fault.place}: {reason}"
     row = taken + item if item is not None and rows is not None else None
-    if row is not None and rows is not None and item is not None and column is not None and state.table is not None:
-        columns = layout(state.table).columns
-        value = as_tuple(rows[item - 1], columns, row, taken)[[one.name for one in columns].index(column)]
+    if rows is not None and item is not None and column is not None:
+        value = _given_value(rows[item - 1], column, layout(state.table).columns, value)
     if path is not None:
         line = fault.line - 1 if fault is not None and fault.line is not None else None
         reason = f"{path}{'' if line is None else f', line {line}'}: {reason}"

@@ -2,7 +2,7 @@
 
 from __future__ import annotations
 
-from collections.abc import Iterator, Sequence
+from collections.abc import Iterable, Iterator, Sequence
 from typing import Any
 
 from .language import LAST_LINES, Command, State
@@ -35,7 +35,7 @@ def _outside_quotes(replies: bytes, part: bytes, at: int) -> int:
     return -1
 
 
-def answered(commands: Iterator[Command], replies: bytes) -> Iterator[tuple[Command, bytes]]:
+def answered(commands: Iterable[Command], replies: bytes) -> Iterator[tuple[Command, bytes]]:
     """Each command with its reply, up to the last one that has a whole reply."""
     at = 0
     for command in commands:

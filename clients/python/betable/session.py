@@ -5,12 +5,13 @@ from __future__ import annotations
 import ctypes
 import os
 import threading
+from itertools import islice
 from pathlib import Path
 from types import TracebackType
 from typing import Any
 
 from . import language
-from .calls import Calls, as_script, note
+from .calls import Calls, as_script, note, note_unanswered
 from .errors import OutOfMemory
 from .language import State, counted
 from .replies import answered
@@ -130,14 +131,19 @@ class Session(Calls):
             count = self._library.betable_copy_replies(handle, 0, room, length)
         replies = ctypes.string_at(room, count)
         if b"table" in script or b"index" in script or b"build" in script or b"drop" in script:
-            self._note(script, replies)
+            self._note(script, replies, status == DONE)
         if status != DONE:
             raise OutOfMemory(replies, status == REPLY_CUT, self.is_lost)
         return replies
 
-    def _note(self, script: bytes, replies: bytes) -> None:
+    def _note(self, script: bytes, replies: bytes, is_whole: bool) -> None:
+        count = 0
         for command, reply in answered(language.commands(script), replies):
             note(self._state, command, reply)
+            count += 1
+        if not is_whole:
+            for command in islice(language.commands(script), count, count + 1):
+                note_unanswered(self._state, command)
 
     @property
     def is_lost(self) -> bool:

@@ -1,0 +1,572 @@
+"""Tests of the Python package on what nobody meant: each wrong use raises, says what to do, and leaves the table as it was; names are never a piece of a
+script; and values of all types of Python come back as they went in, or are refused."""
+
+import copy
+import datetime
+import decimal
+import enum
+import fractions
+import inspect
+import io
+import os
+import pickle
+import random
+import subprocess
+import sys
+import tempfile
+import uuid
+from pathlib import Path
+
+from common import expect, expect_within, TOP
+from clients import betable
+
+SCHEMA = "table 16 64 16 1 id:int city:text ok:flag raw:bytes\nindex by_city on city include ok\nbuild by_city 100\n"
+ROWS = [(1, "Oslo", True, b"\0"), (2, "Bergen, west", False, b""), (3, "", True, b"ab")]
+LONG = "x" * 256
+
+
+class Number(int):
+    """An int that prints as something else."""
+
+    def __str__(self):
+        return "999"
+
+    __repr__ = __str__
+
+
+class Color(enum.IntEnum):
+    RED = 5
+
+
+class Index:
+    def __index__(self):
+        return 7
+
+
+class Broken:
+    def __index__(self):
+        raise KeyError("a fault of its own")
+
+    def __repr__(self):
+        raise KeyError("no text")
+
+
+def filled():
+    session = betable().Session()
+    session.run(SCHEMA)
+    session.put(ROWS)
+    return session
+
+
+def content(session):
+    """All that a session shows: its rows, and its trees as they are."""
+    return session.scan(), session.replies("scan by_city\ngo\nimage primary\nimage by_city\n")
+
+
+# Wrong uses: what is called with the client's module and a session, the type that is raised, and what the message says.
+VALUES = [
+    (lambda c, s: s.put([(4, None, True, b"")]), "RowTypeError", "row 1, column 'city': None is None, and a column of kind text takes a str: there is no null"),
+    (lambda c, s: s.put([(None, "a", True, b"")]), "RowTypeError", "row 1, column 'id': None is None, and a column of kind int takes an int: there is no null"),
+    (lambda c, s: s.put([(4, "a", None, b"")]), "RowTypeError", "column 'ok': None is None, and a column of kind flag takes a bool"),
+    (lambda c, s: s.put([(4, "a", True, None)]), "RowTypeError", "column 'raw': None is None, and a column of kind bytes takes bytes"),
+    (lambda c, s: s.put([(4, b"Oslo", True, b"")]), "RowTypeError", "column 'city': b'Oslo' is of type bytes, and a column of kind text takes a str: write value.decode()"),
+    (lambda c, s: s.put([(4, 42, True, b"")]), "RowTypeError", "column 'city': 42 is of type int, and a column of kind text takes a str: write str(value)"),
+    (lambda c, s: s.put([(4, datetime.date(2026, 1, 1), True, b"")]), "RowTypeError", "write value.isoformat()"),
+    (lambda c, s: s.put([(4, uuid.UUID(int=1), True, b"")]), "RowTypeError", "is of type UUID, and a column of kind text takes a str: write str(value)"),
+    (lambda c, s: s.put([("4", "a", True, b"")]), "RowTypeError", "column 'id': '4' is of type str, and a column of kind int takes an int: write int(value)"),
+    (lambda c, s: s.put([(4.0, "a", True, b"")]), "RowTypeError", "column 'id': 4.0 is of type float, and a column of kind int takes an int: write int(value), or keep it"),
+    (lambda c, s: s.put([(float("nan"), "a", True, b"")]), "RowTypeError", "column 'id': nan is of type float"),
+    (lambda c, s: s.put([(decimal.Decimal("4"), "a", True, b"")]), "RowTypeError", "is of type Decimal, and a column of kind int takes an int"),
+    (lambda c, s: s.put([(fractions.Fraction(4), "a", True, b"")]), "RowTypeError", "is of type Fraction, and a column of kind int takes an int"),
+    (lambda c, s: s.put([(True, "a", True, b"")]), "RowTypeError", "column 'id': True is of type bool, and a column of kind int takes an int: write int(value)"),
+    (lambda c, s: s.put([(datetime.datetime(2026, 1, 1), "a", True, b"")]), "RowTypeError", "write int(value.timestamp())"),
+    (lambda c, s: s.put([(4j, "a", True, b"")]), "RowTypeError", "4j is of type complex, and a column of kind int takes an int"),
+    (lambda c, s: s.put([(Broken(), "a", True, b"")]), "RowValueError", "row 1, column 'id'"),
+    (lambda c, s: s.put([(4, "a", 1, b"")]), "RowTypeError", "column 'ok': 1 is of type int, and a column of kind flag takes a bool: write bool(value)"),
+    (lambda c, s: s.put([(4, "a", "true", b"")]), "RowTypeError", "column 'ok': 'true' is of type str, and a column of kind flag takes a bool: write value == 'true'"),
+    (lambda c, s: s.put([(4, "a", True, "ab")]), "RowTypeError", "column 'raw': 'ab' is of type str, and a column of kind bytes takes bytes: write value.encode(), or bytes.fromhex"),
+    (lambda c, s: s.put([(4, "a", True, uuid.UUID(int=1))]), "RowTypeError", "column 'raw': UUID('00000000-0000-0000-0000-000000000001') is of type UUID, and a column of kind bytes takes bytes: write value.bytes"),
+    (lambda c, s: s.put([(4, "a", True, 7)]), "RowTypeError", "column 'raw': 7 is of type int, and a column of kind bytes takes bytes"),
+    (lambda c, s: s.put([(4, "a", True, [1, 2])]), "RowTypeError", "column 'raw': [1, 2] is of type list"),
+    (lambda c, s: s.put([(4, ["a"], True, b"")]), "RowTypeError", "column 'city': ['a'] is of type list, and a column of kind text takes a str"),
+    (lambda c, s: s.put([(4, "a\nb", True, b"")]), "RowValueError", "row 1, column 'city': 'a\\nb' has a line break, and only load takes a text with one"),
+    (lambda c, s: s.put([(4, "a\rb", True, b"")]), "RowValueError", "column 'city': 'a\\rb' has a line break"),
+    (lambda c, s: s.put([(4, "\ud800", True, b"")]), "RowValueError", "column 'city': '\\ud800' has half of a surrogate pair"),
+    (lambda c, s: s.put([(n, "a" if n < 19 else "a\nb", True, b"") for n in range(10, 20)]), "RowValueError", "row 10, column 'city': 'a\\nb' has a line break"),
+    (lambda c, s: s.put([(n, "a" if n < 19 else "\udfff", True, b"") for n in range(10, 20)]), "RowValueError", "row 10, column 'city': '\\udfff' has half of a"),
+    (lambda c, s: s.put([(n, "a", True, b"" if n < 19 else "") for n in range(10, 20)]), "RowTypeError", "row 10, column 'raw': '' is of type str"),
+    (lambda c, s: s.put([(2**63, "a", True, b"")]), "Refused", "refused 6 BadField 1: row 1: column 1 'id' (int): '9223372036854775808' is over the greatest int"),
+    (lambda c, s: s.put([(-(2**63) - 1, "a", True, b"")]), "Refused", "is below the least int"),
+    (lambda c, s: s.put([(10**5000, "a", True, b"")]), "RowValueError", "row 1, column 'id'"),
+    (lambda c, s: s.put([(n, "a", True, b"") for n in [*range(10, 20), 10**5000]]), "RowValueError", "row 11, column 'id': an int has at most 64 bits, and not 16,610"),
+    (lambda c, s: s.put([(4, LONG, True, b"")]), "Refused", "column 2 'city' (text): 256 bytes, and a text has at most 255"),
+    (lambda c, s: s.put([(4, "ø" * 128, True, b"")]), "Refused", "column 2 'city' (text): 256 bytes, and a text has at most 255"),
+    (lambda c, s: s.put([(4, "a", True, bytes(256))]), "Refused", "column 4 'raw' (bytes): 256 bytes, and a value has at most 255"),
+]
+
+LENGTHS = [
+    (lambda c, s: s.put([(4, "a", True)]), "RowValueError", "row 1: 3 values, and a row has 4 (id, city, ok, raw): (4, 'a', True)"),
+    (lambda c, s: s.put([(4, "a", True, b"", 5)]), "RowValueError", "row 1: 5 values, and a row has 4"),
+    (lambda c, s: s.put([()]), "RowValueError", "row 1: 0 values, and a row has 4"),
+    (lambda c, s: s.put([*ROWS, (4,)]), "RowValueError", "row 4: 1 value, and a row has 4"),
+    (lambda c, s: s.put([{"id": 4, "city": "a", "ok": True}]), "RowValueError", "row 1: 'raw' is missing: a dict has a value for each of the columns id, city, ok, raw"),
+    (lambda c, s: s.put([{"id": 4, "city": "a", "ok": True, "raw": b"", "x": 1}]), "RowValueError", "row 1: 'x' is no column: a dict has a value for each"),
+    (lambda c, s: s.put([{"id": 4, "town": "a", "ok": True, "raw": b""}]), "RowValueError", "row 1: 'town' is no column and 'city' is missing"),
+    (lambda c, s: s.put([{}]), "RowValueError", "row 1: 'id' is missing"),
+    (lambda c, s: s.put([{1: 4}]), "RowValueError", "row 1: 1 is no column and 'id' is missing"),
+    (lambda c, s: s.put([{"id": "4", "city": "a", "ok": True, "raw": b""}]), "RowTypeError", "row 1, column 'id': '4' is of type str"),
+    (lambda c, s: s.batch([c.put(4, "a")]), "RowValueError", "row 1: 2 values, and a row has 4"),
+    (lambda c, s: s.batch([c.delete()]), "RowValueError", "row 1: 0 values, and a key has 1 (id)"),
+    (lambda c, s: s.batch([c.delete(1, "Oslo")]), "RowValueError", "row 1: 2 values, and a key has 1 (id)"),
+    (lambda c, s: s.get(), "RowValueError", "0 values, and a key has 1 (id)"),
+    (lambda c, s: s.get(1, 2), "RowValueError", "2 values, and a key has 1 (id)"),
+    (lambda c, s: s.scan("primary", (1, 2)), "RowValueError", "2 values, and a bound has 1 (id)"),
+    (lambda c, s: s.scan("primary", ()), "RowValueError", "0 values, and a bound has 1 (id)"),
+    (lambda c, s: s.scan("by_city", ("a", 1, 2)), "RowValueError", "3 values, and a bound has 1 to 2 (city, id)"),
+]
+
+SHAPES = [
+    (lambda c, s: s.put("4,a,true,"), "TypeError", "rows are an iterable, as a list, and not '4,a,true,' of type str: write [(1, ..), (2, ..)]"),
+    (lambda c, s: s.put(b"4,a,true,"), "TypeError", "rows are an iterable, as a list, and not b'4,a,true,' of type bytes"),
+    (lambda c, s: s.put(bytearray(b"4")), "TypeError", "of type bytearray"),
+    (lambda c, s: s.put({"id": 4}), "TypeError", "rows are an iterable, as a list, and not {'id': 4} of type dict"),
+    (lambda c, s: s.put(4), "TypeError", "rows are an iterable, as a list, and not 4 of type int"),
+    (lambda c, s: s.put(None), "TypeError", "rows are an iterable, as a list, and not None"),
+    (lambda c, s: s.put(ROWS[0]), "RowTypeError", "row 1: 1 is of type int, and a row is a tuple, a list or a dict: write [(id, city, ok, raw), ..]"),
+    (lambda c, s: s.put(["no", "se"]), "RowTypeError", "row 1: 'no' is of type str, and a row is a tuple, a list or a dict"),
+    (lambda c, s: s.put([b"abcd"]), "RowTypeError", "row 1: b'abcd' is of type bytes, and a row is a tuple, a list or a dict"),
+    (lambda c, s: s.put(["abcd"]), "RowTypeError", "row 1: 'abcd' is of type str"),
+    (lambda c, s: s.put([{4, 5, 6, 7}]), "RowTypeError", "row 1: {4, 5, 6, 7} is of type set, and a row is a tuple, a list or a dict: write [(id,"),
+    (lambda c, s: s.put([range(4)]), "RowTypeError", "row 1: range(0, 4) is of type range, and a row is a tuple, a list or a dict: write tuple(row)"),
+    (lambda c, s: s.put([iter(ROWS[0])]), "RowTypeError", "is of type tuple_iterator, and a row is a tuple, a list or a dict"),
+    (lambda c, s: s.put([None]), "RowTypeError", "row 1: None is of type NoneType, and a row is a tuple, a list or a dict"),
+    (lambda c, s: s.put([c.put(4, "a", True, b"")]), "RowTypeError", "is of type Message, and a row is a tuple, a list or a dict"),
+    (lambda c, s: s.put(ROWS, most=0), "ValueError", "a batch has 1 to 65,536 messages, and not 0"),
+    (lambda c, s: s.put(ROWS, most=65_537), "ValueError", "a batch has 1 to 65,536 messages, and not 65,537"),
+    (lambda c, s: s.put(ROWS, most=-1), "ValueError", "a batch has 1 to 65,536 messages, and not -1"),
+    (lambda c, s: s.put(ROWS, most=True), "TypeError", "the size of a batch is an int, and not True"),
+    (lambda c, s: s.put(ROWS, most="7"), "TypeError", "the size of a batch is an int, and not '7'"),
+    (lambda c, s: s.put(ROWS, most=None), "TypeError", "the size of a batch is an int, and not None"),
+    (lambda c, s: s.batch("put 4,a,true,\n"), "TypeError", "messages are an iterable, as a list, and not 'put 4,a,true,\\n' of type str: write [betable.put(..)"),
+    (lambda c, s: s.batch(c.put(4, "a", True, b"")), "TypeError", "messages are an iterable, as a list, and not put(4, 'a', True, b'') of type Message"),
+    (lambda c, s: s.batch(["put 4,a,true,\n"]), "RowTypeError", "row 1: 'put 4,a,true,\\n' is of type str, and a message is made by betable.put"),
+    (lambda c, s: s.batch([("put", 4, "a", True, b"")]), "RowTypeError", "is of type tuple, and a message is made by betable.put, betable.delete or betable.upsert"),
+    (lambda c, s: s.batch([c.delete(1), None]), "RowTypeError", "row 2: None is of type NoneType, and a message is made by"),
+    (lambda c, s: s.batch({"id": 4}), "TypeError", "messages are an iterable, as a list, and not {'id': 4} of type dict"),
+    (lambda c, s: s.batch([c.delete("1")]), "RowTypeError", "row 1, column 'id': '1' is of type str"),
+    (lambda c, s: s.batch([c.delete((1,))]), "RowTypeError", "row 1, column 'id': (1,) is of type tuple"),
+    (lambda c, s: s.get((1,)), "RowTypeError", "(1,) is of type tuple: the values of a key are given one by one, as get(*key)"),
+    (lambda c, s: s.get("1"), "RowTypeError", "column 'id': '1' is of type str, and a column of kind int takes an int: write int(value)"),
+    (lambda c, s: s.get(None), "RowTypeError", "column 'id': None is None"),
+    (lambda c, s: s.get(1.0), "RowTypeError", "column 'id': 1.0 is of type float"),
+    (lambda c, s: s.get(True), "RowTypeError", "column 'id': True is of type bool"),
+    (lambda c, s: s.get({"id": 1}), "RowTypeError", "column 'id': {'id': 1} is of type dict"),
+    (lambda c, s: s.get(id=1), "TypeError", "unexpected keyword argument 'id'"),
+    (lambda c, s: s.scan("primary", 1), "RowTypeError", "a bound is a tuple, and not 1 of type int: write (1,)"),
+    (lambda c, s: s.scan("by_city", "Oslo"), "RowTypeError", "a bound is a tuple, and not 'Oslo' of type str: write ('Oslo',)"),
+    (lambda c, s: s.scan("by_city", b"Oslo"), "RowTypeError", "a bound is a tuple, and not b'Oslo' of type bytes"),
+    (lambda c, s: s.scan("by_city", {"city": "Oslo"}), "RowTypeError", "a bound is a tuple, and not {'city': 'Oslo'} of type dict"),
+    (lambda c, s: s.scan("by_city", {"Oslo"}), "RowTypeError", "a bound is a tuple, and not {'Oslo'} of type set"),
+    (lambda c, s: s.scan("by_city", (v for v in ["Oslo"])), "RowTypeError", "a bound is a tuple, and not"),
+    (lambda c, s: s.scan("by_city", ("Oslo", "1")), "RowTypeError", "column 'id': '1' is of type str"),
+    (lambda c, s: s.scan("by_city", (1,)), "RowTypeError", "column 'city': 1 is of type int"),
+    (lambda c, s: s.scan("by_city", None, ("a\nb",)), "RowValueError", "column 'city': 'a\\nb' has a line break"),
+    (lambda c, s: s.load(ROWS), "Refused", "refused 13 NotEmpty: A load needs a table whose tree of rows is one leaf without rows"),
+    (lambda c, s: s.load("id,city,ok,raw\n"), "TypeError", "rows are an iterable, as a list, and not 'id,city,ok,raw\\n' of type str"),
+    (lambda c, s: s.load([{"id": 4}]), "RowValueError", "row 1: 'city' is missing"),
+    (lambda c, s: s.load([(4, "a", True, b""), (5, "a\n.\nb", True, b"")]), "RowValueError", "row 2, column 'city': 'a\\n.\\nb' has a line that is a point alone"),
+    (lambda c, s: s.load(["abcd"]), "RowTypeError", "row 1: 'abcd' is of type str"),
+    (lambda c, s: s.load_csv("no/such/file.csv"), "FileNotFoundError", "no/such/file.csv"),
+    (lambda c, s: s.load_csv(None), "TypeError", "NoneType"),
+    (lambda c, s: s.load_csv(io.StringIO("id\n")), "TypeError", "StringIO"),
+    (lambda c, s: s.run(5), "TypeError", "a script is a str or bytes, and not 5 of type int"),
+    (lambda c, s: s.run(None), "TypeError", "a script is a str or bytes, and not None of type NoneType"),
+    (lambda c, s: s.run(["get 1\n"]), "TypeError", "a script is a str or bytes, and not ['get 1\\n'] of type list"),
+    (lambda c, s: s.replies(5), "TypeError", "a script is a str or bytes, and not 5"),
+    (lambda c, s: s.run("get \ud800\n"), "UnicodeEncodeError", "surrogates not allowed"),
+]
+
+UPSERTS = [
+    (lambda c, s: c.upsert(1), "TypeError", "an upsert changes a column or more: write upsert(*key, add={'qty': 1})"),
+    (lambda c, s: c.upsert(1, {"city": "a"}), "TypeError", "an upsert changes a column or more"),
+    (lambda c, s: c.upsert(1, set={}), "TypeError", "an upsert changes a column or more"),
+    (lambda c, s: c.upsert(1, inc={"id": 1}), "TypeError", "an operation is one of set, add, max, min, and not 'inc'"),
+    (lambda c, s: c.upsert(1, set={"city": "a"}, put={"ok": True}), "TypeError", "an operation is one of set, add, max, min, and not 'put'"),
+    (lambda c, s: c.upsert(1, add=("id", 1)), "TypeError", "add is a dict of columns and values, and not ('id', 1): write add={'qty': 1}"),
+    (lambda c, s: c.upsert(1, set="city"), "TypeError", "set is a dict of columns and values, and not 'city'"),
+    (lambda c, s: c.upsert(1, set=None), "TypeError", "set is a dict of columns and values, and not None"),
+    (lambda c, s: s.batch([c.upsert(1, set={"town": "a"})]), "RowValueError", "row 1: 'town' is no column (id, city, ok, raw)"),
+    (lambda c, s: s.batch([c.upsert(1, set={5: "a"})]), "RowValueError", "row 1: 5 is no column (id, city, ok, raw)"),
+    (lambda c, s: s.batch([c.upsert(1, set={"city,x,add,id": 1})]), "RowValueError", "row 1: 'city,x,add,id' is no column"),
+    (lambda c, s: s.batch([c.upsert(1, set={"city\nend\ndrop by_city": 1})]), "RowValueError", "is no column"),
+    (lambda c, s: s.batch([c.upsert(1, set={"city": 5})]), "RowTypeError", "row 1, column 'city': 5 is of type int, and a column of kind text takes a str"),
+    (lambda c, s: s.batch([c.upsert(1, set={"city": "a\nb"})]), "RowValueError", "row 1, column 'city': 'a\\nb' has a line break"),
+    (lambda c, s: s.batch([c.upsert(1, set={"ok": 1})]), "RowTypeError", "row 1, column 'ok': 1 is of type int"),
+    (lambda c, s: s.batch([c.upsert(1, set={"raw": "ab"})]), "RowTypeError", "row 1, column 'raw': 'ab' is of type str"),
+    (lambda c, s: s.batch([c.upsert(1, set={"id": 2})]), "Refused", "'id' is a column of the key, which no operation changes"),
+    (lambda c, s: s.batch([c.upsert(1, add={"city": "a"})]), "Refused", "'city' is text, and add"),
+    (lambda c, s: s.batch([c.upsert("1", set={"city": "a"})]), "RowTypeError", "row 1, column 'id': '1' is of type str"),
+    (lambda c, s: s.batch([c.upsert(1, 2, set={"city": "a"})]), "RowValueError", "row 1: 2 values, and a key has 1 (id)"),
+    (lambda c, s: s.batch([c.upsert(set={"city": "a"})]), "RowValueError", "row 1: 0 values, and a key has 1 (id)"),
+    (lambda c, s: s.batch([c.upsert(1, set={"city": "a"}), c.upsert(2, set={"city": b"a"})]), "RowTypeError", "row 2, column 'city': b'a' is of type bytes"),
+]
+
+# Names that would be more than a name.
+NAMES = [
+    "primary\ngo\ndrop by_city\nscan primary", "by_city\n", "\nby_city", "by_city go", " by_city", "by_city ", "by city", "by_city\r", "by_city\0", "by\tcity",
+    "", "Primary", "1st", "by-city", "by_city;", "by_city,ok", "a" * 33, "bÿ", "\ud800", "ok\ngo\nbatch\ndel 1\nend\nsums primary 1 ok", "primary 1 id\ngo\n",
+]  # fmt: skip
+
+OTHERS = [
+    (lambda c, s: s.scan("by_name"), "Refused", "refused 8 NoSuchTree: no tree is named 'by_name': there are primary, by_city"),
+    (lambda c, s: s.scan(None), "TypeError", "a tree is named by a str, and not by None of type NoneType"),
+    (lambda c, s: s.scan(b"primary"), "TypeError", "a tree is named by a str, and not by b'primary' of type bytes"),
+    (lambda c, s: s.scan(("primary",)), "TypeError", "a tree is named by a str, and not by ('primary',)"),
+    (lambda c, s: s.sums("primary", "city", "id"), "TypeError", "the number of columns of a group is an int, and not 'city'"),
+    (lambda c, s: s.sums("primary", True, "id"), "TypeError", "the number of columns of a group is an int, and not True"),
+    (lambda c, s: s.sums("primary", 1.0, "id"), "TypeError", "the number of columns of a group is an int, and not 1.0"),
+    (lambda c, s: s.sums("primary", -1, "id"), "ValueError", "the number of columns of a group is 1 to 8, and not -1"),
+    (lambda c, s: s.sums("primary", 10**10, "id"), "ValueError", "the number of columns of a group is 1 to 8"),
+    (lambda c, s: s.sums("primary", 0, "id"), "Refused", "G is 0, and from 1 to 1: the key of primary is id"),
+    (lambda c, s: s.sums("primary", 1, "city"), "Refused", "refused 16 NotInt: 'city' is text"),
+    (lambda c, s: s.sums("primary", 1, "town"), "Refused", "refused 15 NoSuchColumn: 'town' is no column of primary"),
+    (lambda c, s: s.sums("primary", 1, None), "TypeError", "a column is named by a str, and not by None"),
+    (lambda c, s: s.run("selekt 1\n"), "Refused", "line 1: refused 1 Syntax: 'selekt' is"),
+    (lambda c, s: s.run("get 1\nbatch\nput 4,a,true,\n"), "Refused", "line 2: refused 2 Unfinished"),
+    (lambda c, s: s.run("get 1\n\nbatch\nput 4,a,true,00\nput x,b,true,00\nend\n"), "Refused", "line 3: refused 6 BadField 2: column 1 'id' (int): 'x' is"),
+    (lambda c, s: s.run(SCHEMA), "Refused", "refused 4 TableExists"),
+    (lambda c, s: s.run("index by_city on ok\n"), "Refused", "refused 9 NameTaken: 'by_city' is the name of the index of line"),
+    (lambda c, s: s.run("index by_x on x\n"), "Refused", "refused 15 NoSuchColumn: 'x' is no column: id, city, ok, raw"),
+    (lambda c, s: s.run("build by_city 1\n"), "Refused", "refused 12 AlreadyComplete"),
+    (lambda c, s: copy.copy(s), "TypeError", "a session cannot be copied or pickled"),
+    (lambda c, s: copy.deepcopy(s), "TypeError", "a session cannot be copied or pickled"),
+    (lambda c, s: pickle.dumps(s), "TypeError", "a session cannot be copied or pickled"),
+    (lambda c, s: len(s), "TypeError", "has no len()"),
+    (lambda c, s: list(s), "TypeError", "not iterable"),
+    (lambda c, s: s["primary"], "TypeError", "not subscriptable"),
+    (lambda c, s: c.record([1, 2.5]), "TypeError", "a value is an int, a str, a bool or bytes, and not 2.5 of type float"),
+    (lambda c, s: c.record("abc"), "TypeError", "the values of a record are an iterable"),
+    (lambda c, s: c.record(["a\nb"]), "ValueError", "'a\\nb' has a line break"),
+    (lambda c, s: c.field(None), "TypeError", "a value is an int, a str, a bool or bytes, and not None"),
+    (lambda c, s: str(c.put(None)), "TypeError", "a value is an int, a str, a bool or bytes, and not None"),
+]
+OTHERS += [(lambda c, s, name=name: s.scan(name), "ValueError", "a tree: ") for name in NAMES]
+OTHERS += [(lambda c, s, name=name: s.sums(name, 1, "id"), "ValueError", "a tree: ") for name in NAMES]
+OTHERS += [(lambda c, s, name=name: s.sums("primary", 1, name), "ValueError", "a column: ") for name in NAMES]
+WRONG_USES = VALUES + LENGTHS + SHAPES + UPSERTS + OTHERS
+
+
+def wrong_uses_of_the_python_client_change_nothing():
+    """Each raises what it should, says what to do, and leaves rows, indexes and trees as they were, and what the client knows of them."""
+    expect(len(WRONG_USES) >= 120, True)
+    client, session = betable(), filled()
+    before, shown = content(session), repr(session)
+    for number, (call, kind, said) in enumerate(WRONG_USES):
+        try:
+            call(client, session)
+        except Exception as fault:
+            expect((number, type(fault).__name__), (number, kind))
+            expect_within(said, str(fault))
+        else:
+            expect((number, "no exception"), (number, kind))
+        expect((number, content(session), repr(session)), (number, before, shown))
+    expect(session.get(1), ROWS[0])
+
+
+def calls_without_a_table_are_refused():
+    client = betable()
+    with client.Session() as session:
+        calls = [
+            lambda: session.put(ROWS), lambda: session.put([]), lambda: session.batch([client.delete(1)]), lambda: session.load(ROWS), lambda: session.get(1),
+            lambda: session.scan(), lambda: session.sums("primary", 1, "id"), lambda: session.load_csv(__file__),
+        ]  # fmt: skip
+        for call in calls:
+            try:
+                call()
+            except client.Refused as refused:
+                expect((refused.number, refused.name), (3, "NoTable"))
+                expect_within("There is no table yet", str(refused))
+            else:
+                expect("no exception", "Refused")
+
+
+def names_are_never_a_piece_of_a_script():
+    """Each public method is here: those with a name take none that is more than one, and the others take texts as values."""
+    client = betable()
+    text = "x\ngo\ndrop by_city\n"
+    methods = {
+        "batch": lambda s: s.batch([client.put(4, text, True, b"")]),
+        "close": None,
+        "get": lambda s: s.get(text),
+        "is_lost": None,
+        "load": lambda s: s.load([(4, text, True, text)]),
+        "load_csv": lambda s: s.load_csv(text),
+        "put": lambda s: s.put([(4, text, True, b"")]),
+        "replies": None,
+        "run": None,
+        "scan": lambda s: s.scan(text),
+        "state": None,
+        "sums": lambda s: s.sums("by_city", 1, text),
+    }
+    expect(sorted(name for name in dir(client.Session) if not name.startswith("_")), sorted(methods))
+    session = filled()
+    before = content(session)
+    for name, call in methods.items():
+        if call:
+            for parameter in inspect.signature(getattr(client.Session, name)).parameters.values():
+                expect((name, parameter.kind in (parameter.VAR_POSITIONAL, parameter.POSITIONAL_OR_KEYWORD)), (name, True))
+            expect((name, fault_of(lambda: call(session)) is not None, content(session)), (name, True, before))
+
+
+def fault_of(call):
+    try:
+        call()
+    except Exception as fault:
+        return fault
+    return None
+
+
+# ---- values of all types ----
+
+POOL = [
+    0, 1, -1, 2**63 - 1, -(2**63), 2**63, 10**30, True, False, None, 0.0, 1.5, float("inf"), 1j, decimal.Decimal("1.0"), fractions.Fraction(1, 2), Number(6),
+    Color.RED, Index(), Broken(), "", "a", "Oslo", "a,b", 'x"y', '"', "\ufeff", "\ufeffx", ".", "..", "\n", "\r", "a\r\nb", ".\n.", "a\n.\nb", "\n.\r\n", "\0", "end", "go", "é", "\ud800",
+    LONG[1:], LONG, "ø" * 127, b"", b"a", bytes(range(256)), bytes(255), bytearray(b"ab"), memoryview(b"cd"), (), (1,), (1, "a"), [], ["a"], {}, {"id": 1}, set(), {1},
+    frozenset({2}), range(3), iter([1]), object(), int, len, datetime.date(2026, 1, 1), datetime.timedelta(1), uuid.UUID(int=5), NotImplemented, ..., Exception("x"),
+]  # fmt: skip
+
+
+def stored(value, kind):
+    """What a value is as a value of a column of this kind, or None where it is none."""
+    if kind == "int" and hasattr(value, "__index__") and not isinstance(value, (bool, type, Broken)):
+        number = int.__add__(value.__index__(), 0)
+        return number if -(2**63) <= number < 2**63 else None
+    if kind == "text" and isinstance(value, str):
+        text = "".join(value)
+        return text if len(text.encode("utf-8", "surrogatepass")) <= 255 and not any("\ud800" <= letter <= "\udfff" for letter in text) else None
+    if kind == "flag" and isinstance(value, bool):
+        return value
+    if kind == "bytes" and isinstance(value, (bytes, bytearray, memoryview)):
+        return bytes(value) if len(value) <= 255 else None
+    return None
+
+
+KINDS = ("int", "text", "flag", "bytes")
+COLUMNS = ("id", "city", "ok", "raw")
+
+
+def row_of(dice):
+    """A row, of values of which most are right."""
+    right = (dice.randrange(20), dice.choice(["a", "b,c", "", '"', "."]), dice.random() < 0.5, dice.choice([b"", b"a", b"\0\n"]))
+    row = [value if dice.random() < 0.8 else dice.choice(POOL) for value in right]
+    if dice.random() < 0.1:
+        row = dice.sample(row, dice.randrange(5))
+    form = dice.random()
+    if form < 0.5:
+        return tuple(row)
+    return row if form < 0.8 or len(row) != 4 else dict(zip(dice.sample(COLUMNS, 4), row)) if form < 0.85 else dict(zip(COLUMNS, row))
+
+
+def stored_row(row, is_load):
+    """A row as it is stored, or None where it is none."""
+    if isinstance(row, dict):
+        row = [row[name] for name in COLUMNS] if row.keys() == set(COLUMNS) else ()
+    if not isinstance(row, (tuple, list)) or len(row) != 4:
+        return None
+    found = tuple(stored(value, kind) for value, kind in zip(row, KINDS))
+    has_break = any(isinstance(value, str) and ("\n" in value or "\r" in value) for value in row)
+    has_point = isinstance(row[1], str) and any(line in (".", ".\r") for line in row[1].split("\n")[1:-1])
+    return None if None in found or (has_break and not is_load) or (is_load and has_point) else found
+
+
+def values_of_all_types_are_stored_exactly_or_refused():
+    """Random rows, keys, bounds and messages: afterwards either the exact rows are there, with values of their columns' types, or an exception came and
+    nothing changed."""
+    client, dice, stored_calls = betable(), random.Random(5), 0
+    for _ in range(60):
+        with client.Session() as session:
+            session.run("table 16 64 16 1 id:int city:text ok:flag raw:bytes\nindex by_city on city\nbuild by_city 1\n")
+            rows = {}
+            for _ in range(40):
+                given = [row_of(dice) for _ in range(dice.choice([1, 1, 2, 3, 6]))]
+                is_load = not rows and dice.random() < 0.3
+                wanted = [stored_row(row, is_load) for row in given]
+                is_right = None not in wanted and not (is_load and len({row[0] for row in wanted}) < len(wanted))
+                put = dice.choice([session.put, lambda rows: session.batch([client.put(*row) for row in rows])])
+                if any(isinstance(row, dict) for row in given):
+                    put = session.put
+                fault = fault_of(lambda: (session.load if is_load else put)(iter(given) if dice.random() < 0.5 else given))
+                expect((given, fault is None), (given, is_right)) if not any(isinstance(value, Broken) for row in given for value in row) else None
+                if fault is None:
+                    rows |= {row[0]: row for row in wanted}
+                    stored_calls += 1
+                elif not isinstance(fault, (client.Refused, client.RowError, TypeError, ValueError)):
+                    raise fault
+                found = session.scan()
+                expect(found, [rows[key] for key in sorted(rows)])
+                expect({tuple(map(type, row)) for row in found} <= {(int, str, bool, bytes)}, True)
+                single = dice.choice(POOL)
+                key = stored(single, "int")
+                got = fault_of(lambda: expect(session.get(single), rows.get(key)))
+                expect((single, got is None), (single, key is not None)) if not isinstance(single, Broken) else None
+                anything_may_be_asked(client, session, dice)
+                expect(session.scan(), found)
+    expect(stored_calls > 300, True)
+
+
+def anything_may_be_asked(client, session, dice):
+    """Calls with values of any type in any place, none of which can change a row."""
+    one, two, three = (dice.choice(POOL) for _ in range(3))
+    calls = [
+        lambda: session.scan(one), lambda: session.scan("primary", one, two), lambda: session.scan("by_city", (one, two), (three,)), lambda: session.sums(one, two, three),
+        lambda: session.sums("primary", 1, "id", one), lambda: session.put(one) if not isinstance(one, (list, tuple, set, frozenset, dict)) else None,
+        lambda: session.batch([one]), lambda: session.batch([client.upsert(one, set=two)]), lambda: session.batch([client.upsert(object(), add={one: two})]),
+        lambda: session.put([one]), lambda: session.put([], most=one), lambda: session.load_csv(one) if not isinstance(one, (int, str, bytes)) else None,
+        lambda: client.record([one, two]), lambda: repr(client.put(one, two)),
+    ]  # fmt: skip
+    fault = fault_of(dice.choice(calls))
+    if fault is not None and not isinstance(fault, (client.Refused, client.RowError, TypeError, ValueError, KeyError)):
+        raise fault
+
+
+# ---- exceptions ----
+
+
+def refusals_say_what_to_do():
+    """Fields of exceptions: the row of the call, its column, its value, and how many rows were applied before."""
+    client = betable()
+    with client.Session() as session:
+        session.run("table 16 1024 256 1 id:int city:text qty:int\n")
+        fault = fault_of(lambda: session.put(((n, "a", 1 if n != 25 else 2**63) for n in range(40)), most=10))
+        found = fault.row, fault.column, fault.value, fault.taken, fault.line, fault.number, fault.name, fault.item
+        expect(found, (26, "qty", 2**63, 20, 1, 6, "BadField", 6))
+        expect_within("row 26: column 3 'qty' (int): '9223372036854775808' is over the greatest int", str(fault))
+        expect_within("(20 rows of this call were applied before it, in earlier batches)", str(fault))
+        expect(len(session.scan()), 20)
+        fault = fault_of(lambda: session.put(((n, "a", 1 if n != 125 else "x") for n in range(100, 140)), most=10))
+        expect((type(fault), fault.row, fault.column, fault.value, fault.taken), (client.RowTypeError, 26, "qty", "x", 20))
+        expect(len(session.scan()), 40)
+        fault = fault_of(lambda: session.run("get 0\nbatch\nput 1,b,5\nput 2,c,y\nend\nget 1\n"))
+        expect((fault.line, fault.item, fault.column, fault.value, len(fault.replies)), (2, 2, "qty", "y", 3))
+        expect(fault.replies[2].rows, [(1, "a", 1)])
+        fault = fault_of(lambda: session.batch([client.upsert(1, add={"qty": 2**63})]))
+        expect((fault.row, fault.column, fault.value), (1, "qty", 2**63))
+
+
+def a_load_names_the_line_of_its_file():
+    client = betable()
+    with tempfile.TemporaryDirectory() as folder, client.Session() as session:
+        session.run("table 16 64 16 1 id:int city:text\n")
+        path = Path(folder) / "cities.csv"
+        cases = [
+            (b"id,city\n1,Oslo\n\n2,Bergen,x\n", client.Refused, f"{path}, line 4: 3 fields, and a record has 2 (id, city)"),
+            (b"id,city\n1,Oslo\nx,Bergen\n", client.Refused, f"{path}, line 3: column 1 'id' (int): 'x' is no"),
+            (b"id,town\n1,Oslo\n", client.Refused, f"{path}, line 1: column 2 'city': the header has 'town' there"),
+            (b"id,city\n1,Oslo\n1,Bergen\n", client.Refused, "refused 14 DuplicateKey 2"),
+            (b"id,city\n1,Oslo\n.\n2,Bergen\n", ValueError, f"{path}, line 3: a line that is a point alone would end the load"),
+            (b"id,city\n1,\xff\n", client.Refused, f"{path}, line 2: column 2 'city' (text): byte 1 of"),
+            (b"\x1f\x8b\x08\0\0\0", ValueError, f"{path} is compressed by gzip"),
+            (b"", client.Refused, "the block has no header"),
+        ]
+        for text, kind, said in cases:
+            path.write_bytes(text)
+            fault = fault_of(lambda: session.load_csv(path))
+            expect((text, type(fault)), (text, kind))
+            expect_within(said, str(fault))
+            expect(session.scan(), [])
+        path.write_bytes(b'\xef\xbb\xbfid,city\r\n2,"a\nb"\r\n1,Oslo')
+        expect((session.load_csv(str(path)), session.scan()), (2, [(1, "Oslo"), (2, "a\nb")]))
+
+
+def exceptions_can_be_pickled():
+    client = betable()
+    faults = [
+        client.Refused(3, 6, "BadField", 2, [["none"]], reason="why", column="qty", value=2**63, row=7, taken=5),
+        client.OutOfMemory(b"table 1\n", True, True, 4),
+        client.RowTypeError("why", row=2, column="city", value=b"x", taken=1),
+        client.RowValueError("why"),
+        fault_of(lambda: filled().run("get 1\nscan primary\ngo\nnothing\n")),
+    ]
+    for fault in faults:
+        again = pickle.loads(pickle.dumps(fault))
+        expect((type(again), str(again), again.__dict__), (type(fault), str(fault), fault.__dict__))
+    expect(pickle.loads(pickle.dumps(faults[-1])).replies[1].rows, [*ROWS])
+
+
+def a_session_says_what_it_has():
+    client = betable()
+    session = client.Session()
+    expect(repr(session), "<betable.Session, open, without a table>")
+    session.run("table 16 64 16 1 id:int city:text\n")
+    session.put([(1, "a")])
+    session.run("index by_city on city\n")
+    expect(repr(session), "<betable.Session, open, 2 columns, indexes: by_city (building)>")
+    session.run("build by_city 10\n")
+    expect(repr(session), "<betable.Session, open, 2 columns, indexes: by_city (complete)>")
+    session.close()
+    expect(repr(session), "<betable.Session, closed>")
+
+
+def a_missing_library_is_named():
+    code = "import betable\nbetable.Session()"
+    with tempfile.TemporaryDirectory() as folder:
+        environment = {**os.environ, "PYTHONPATH": str(TOP / "clients/python"), "BETABLE_LIBRARY": folder}
+        ended = subprocess.run([sys.executable, "-B", "-c", code], capture_output=True, text=True, env=environment)
+    expect(ended.returncode, 1)
+    expect_within("FileNotFoundError", ended.stderr)
+    for part in (folder, "bin/build_c", "BETABLE_LIBRARY"):
+        expect_within(part, ended.stderr)
+
+
+def scripts_of_any_form_are_cut_as_they_are_run():
+    """Replies of `run`, beside those of a session that gets each command by itself: texts with line breaks and quotes, and words of replies inside of texts."""
+    client = betable()
+    texts = ["rows 1", "a\nrows 2\nrow x", 'q"\nsums 3\n"', "end\nend", "\nrow 1,x\nrows 1", "refused 1 Syntax"]
+    with client.Session() as session, client.Session() as other:
+        for one in (session, other):
+            one.run("table 4 64 16 1 id:int city:text\n")
+            one.load(list(enumerate(texts)))
+            one.run("index by_city on city\nbuild by_city 10\n")
+        commands = ["scan primary\ngo\n", "get 1\n", "nothing\n", "scan by_city\ngo\n", "image primary\n", "sums by_city 1 id\ngo\n", "get 9\n", "scan nope\ngo\n", "drain primary\n"]
+        dice = random.Random(3)
+        for _ in range(50):
+            chosen = dice.choices(commands, k=dice.randrange(6))
+            replies = session.replies("\n".join(chosen))
+            alone = [other.replies(command) for command in chosen]
+            found = [reply for _, reply in client.replies.answered(client.language.commands("\n".join(chosen).encode()), replies)]
+            expect(found, alone)
+        rows = session.run("scan primary\ngo\n")[0].rows
+        expect((rows, session.scan()), (list(enumerate(texts)), list(enumerate(texts))))
+        sums = session.run("sums by_city 1 id\ngo\n")[0].rows
+        expect((sums, sums), (session.sums("by_city", 1, "id"), [(1, texts.index(text), text) for text in sorted(texts)]))
+
+
+def integers_of_numpy_are_ints():
+    try:
+        import numpy
+    except ImportError:
+        print("NumPy is not installed: its scalars are not tested")
+        return
+    client = betable()
+    with client.Session() as session:
+        session.run("table 16 64 16 1 id:int city:text ok:flag\n")
+        expect(session.put([(numpy.int64(5), numpy.str_("a"), True)]), 1)
+        expect(session.scan(), [(5, "a", True)])
+        for row in ((numpy.float64(5), "a", True), (5, "a", numpy.bool_(True)), (numpy.bool_(True), "a", True), (5, numpy.bytes_(b"a"), True)):
+            expect(type(fault_of(lambda: session.put([row]))), client.RowTypeError)
+
+
+TESTS_OF_TEXTS = [
+    wrong_uses_of_the_python_client_change_nothing,
+    calls_without_a_table_are_refused,
+    names_are_never_a_piece_of_a_script,
+    values_of_all_types_are_stored_exactly_or_refused,
+    refusals_say_what_to_do,
+    a_load_names_the_line_of_its_file,
+    exceptions_can_be_pickled,
+    a_session_says_what_it_has,
+    a_missing_library_is_named,
+    scripts_of_any_form_are_cut_as_they_are_run,
+    integers_of_numpy_are_ints,
+]
+TESTS = []
