@@ -18,7 +18,8 @@ OF_FROM_CSV = [
     (CITIES, ["--key", "1"], "the file has no column '1'; its columns are: id, 'City name' or city_name, qty, open"),
     (CITIES, ["--key", "id,ID"], "a column is named twice"),
     (WIDE, ["--key", "c0,c1,c2,c3,c4"], "5 key columns, and a table has at most 4"),
-    ("a,b\n1,x\n2,x\n1,y\n", ["--key", "a"], "record 3 (line 4) has the key of record 1 (line 2) (--last takes the last record of each key, --first the first)"),
+    ("a,b\n1,x\n2,x\n1,y\n", ["--key", "a"],
+     "record 3 (line 4) has the key of record 1 (line 2) (--last takes the last record of each key, --first the first)"),
     # The columns.
     (WIDE, ["--key", "c0"], "17 columns, and a table has at most 16: --columns takes some of them, of " + ", ".join(f"c{place}" for place in range(17))),
     (CITIES, ["--key", "id", "--columns", "town"], "the file has no column 'town'; its columns are: id, 'City name' or city_name, qty, open"),

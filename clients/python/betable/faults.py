@@ -1,13 +1,14 @@
 """Why a command of a script is refused: each fault of it, with its line, its column and the reason in a few words."""
 
 import re
-from itertools import chain
+from itertools import chain, islice
+from typing import Iterable, Iterator
 
 from .forms import head_faults, no_block_word, record_reasons, spelled, words_of
 from .language import (
-    BLOCK_WORDS, BUFFERS, BUFFERS_IN_BYTES, FANOUTS, FIELD, FORMS, INT_OPERATIONS, KINDS, LEAVES, Line, MARK, MOST_COLUMNS, MOST_INCLUDED, MOST_INDEXES,
-    MOST_KEY_COLUMNS, MOST_MESSAGES, MOST_ON, MOST_OPERATIONS, OPERATIONS, PRIMARY, RECORD, any_of, counted, fields, index_of, printed_field,
-    record_of_line, spans, text_pattern, visible,
+    any_of, BLOCK_WORDS, BUFFERS, BUFFERS_IN_BYTES, Columns, Command, counted, FANOUTS, FIELD, fields, FORMS, index_of, INT_OPERATIONS, KINDS, LEAVES, Line,
+    MARK, matched, MOST_COLUMNS, MOST_INCLUDED, MOST_INDEXES, MOST_KEY_COLUMNS, MOST_MESSAGES, MOST_ON, MOST_OPERATIONS, OPERATIONS, PRIMARY, printed_field,
+    RECORD, record_of_line, spans, State, Table, text_pattern, visible,
 )  # fmt: skip
 
 # The meaning of each refusal, by its number, and what to do about it.
@@ -41,26 +42,29 @@ WITH_ADVICE = (8, 11, 12, 20)
 
 
 class Fault:
-    """A fault of a command: the reason, the place within a line, the line or None for the head line, and the bytes round it. Where one value is at fault,
+    """A fault of a command: the reason, the place within a line, the line or None for the head line, and the bytes around it. Where one value is at fault,
     `column` is the name of its column, and `value` its field."""
 
-    def __init__(self, reason, place="", line=None, around=None, at=0, column=None, value=None):
+    def __init__(
+        self, reason: str, place: str = "", line: int | None = None, around: bytes | None = None, at: int = 0,
+        column: bytes | None = None, value: bytes | None = None,
+    ) -> None:  # fmt: skip
         self.reason, self.place, self.line, self.around, self.at = reason, place, line, around, at
         self.column, self.value = column, value
 
-    def where(self):
+    def where(self) -> str:
         line = [] if self.line is None else [f"line {self.line}"]
         return ", ".join(line + [self.place] if self.place else line)
 
-    def what(self):
-        """The reason, and behind it the bytes round the fault, where the reason does not show them itself."""
+    def what(self) -> str:
+        """The reason, and the bytes around the fault if the reason does not show them itself."""
         if self.around is None:
             return self.reason
         end = "¶" if self.at >= len(self.around) else ""
         return f"{self.reason}: {visible(self.around, 60, self.at)}{end}"
 
 
-def column_place(columns, place):
+def column_place(columns: Columns, place: int) -> str:
     name, kind = columns[place]
     return f"column {place + 1} '{name.decode()}' ({kind.decode()})"
 
@@ -68,7 +72,7 @@ def column_place(columns, place):
 # ---- fields ----
 
 
-def length_fault(raw, count, wanted, line, around, at, most=None):
+def length_fault(raw: bytes, count: int, wanted: str, line: int | None, around: bytes, at: int, most: int | None = None) -> Fault:
     """A fault of the number of fields, with what may be the reason. Where there are more than `most`, a text may have lost its quotes."""
     other = next((mark for mark in (b";", b"\t", b"|") if mark in raw and b"," not in raw), None)
     hint = f"; fields are divided by commas, and not by '{visible(other)}'" if other else ""
@@ -77,12 +81,12 @@ def length_fault(raw, count, wanted, line, around, at, most=None):
     return Fault(f"{counted(count, 'field')}, and {wanted}{hint}", line=line, around=around, at=at)
 
 
-def most_of(columns):
+def most_of(columns: Columns) -> int | None:
     """The number of columns where a text is among them."""
     return len(columns) if b"text" in dict(columns).values() else None
 
 
-def field_faults(raw, columns, line, around, offset, place=""):
+def field_faults(raw: bytes, columns: Columns, line: int | None, around: bytes, offset: int, place: str = "") -> list[Fault]:
     """The fields of a record that are no values of their columns."""
     values = fields(raw)
     reasons = [KINDS[kind].fault(value) for value, (_, kind) in zip(values, columns)]
@@ -102,11 +106,11 @@ def field_faults(raw, columns, line, around, offset, place=""):
 class MessageFaults:
     """The faults of the lines of a batch, by a table or by none."""
 
-    def __init__(self, table):
+    def __init__(self, table: Table | None) -> None:
         self.table = table
         self.key = table.key if table else []
 
-    def of(self, line):
+    def of(self, line: Line) -> list[Fault]:
         if line.word not in BLOCK_WORDS[b"batch"]:
             return [Fault(no_block_word(line, b"batch"), line=line.number)]
         if line.rest is None:
@@ -118,7 +122,7 @@ class MessageFaults:
             return []
         offset = len(line.text) - len(record)
         if line.word == b"ups":
-            return self.of_upsert(line, record, offset)
+            return self.of_upsert(line, record, offset, self.table)
         columns = self.table.columns if line.word == b"put" else self.key
         count = len(fields(record))
         if count != len(columns):
@@ -126,7 +130,7 @@ class MessageFaults:
             return [length_fault(record, count, wanted, line.number, line.text, offset, most_of(columns))]
         return field_faults(record, columns, line.number, line.text, offset)
 
-    def of_upsert(self, line, record, offset):
+    def of_upsert(self, line: Line, record: bytes, offset: int, table: Table) -> list[Fault]:
         values = fields(record)
         count, rest = divmod(len(values) - len(self.key), 3)
         if rest or not 1 <= count <= MOST_OPERATIONS:
@@ -137,56 +141,57 @@ class MessageFaults:
         begins = [offset + start for start, _ in spans(record)]
         for number in range(count):
             start = len(self.key) + 3 * number
-            part, place, reason = self.operation_fault(f"operation {number + 1}", *values[start : start + 3])
+            part, place, reason = operation_fault(table, f"operation {number + 1}", *values[start : start + 3])
             if reason:
                 is_shown = part == 2 and values[start + 2]
                 around, at = None if is_shown else line.text, begins[start + part]
                 found.append(Fault(reason, place, line.number, around, at, *values[start + 1 : start + 3] if part else (None, None)))
         return found
 
-    def operation_fault(self, place, word, name, argument):
-        """The first fault of an operation: which of its three fields it is, the place, and the reason, or None."""
-        columns = dict(self.table.columns)
-        if word not in OPERATIONS:
-            return 0, place, f"'{visible(word, 40)}' is not {any_of(OPERATIONS)}"
-        if name not in columns:
-            return 1, place, f"'{visible(name, 40)}' is no column ({spelled(columns)})"
-        if name in dict(self.key):
-            return 1, place, f"'{name.decode()}' is a column of the key, which no operation changes"
-        kind = columns[name]
-        if word in INT_OPERATIONS and kind != b"int":
-            return 1, place, f"'{name.decode()}' is {kind.decode()}, and {word.decode()} needs an int"
-        return 2, f"{place}, {column_place(self.table.columns, self.table.names.index(name))}", KINDS[kind].fault(argument)
+
+def operation_fault(table: Table, place: str, word: bytes, name: bytes, argument: bytes) -> tuple[int, str, str | None]:
+    """The first fault of an operation: which of its three fields it is, the place, and the reason, or None."""
+    columns = dict(table.columns)
+    if word not in OPERATIONS:
+        return 0, place, f"'{visible(word, 40)}' is not {any_of(OPERATIONS)}"
+    if name not in columns:
+        return 1, place, f"'{visible(name, 40)}' is no column ({spelled(columns)})"
+    if name in dict(table.key):
+        return 1, place, f"'{name.decode()}' is a column of the key, which no operation changes"
+    kind = columns[name]
+    if word in INT_OPERATIONS and kind != b"int":
+        return 1, place, f"'{name.decode()}' is {kind.decode()}, and {word.decode()} needs an int"
+    return 2, f"{place}, {column_place(table.columns, table.names.index(name))}", KINDS[kind].fault(argument)
 
 
 # ---- blocks ----
 
 class SurePatterns:
-    """Patterns of what is surely without a fault, so that of a great block only the rest is looked into."""
+    """Patterns of what is surely without a fault, so that only the rest of a large block is looked into."""
 
-    def __init__(self, table, block, breaks=b""):
+    def __init__(self, table: Table, block: bytes, breaks: bytes = b"") -> None:
         self.table, self.kinds = table, {word: kind.spelled for word, kind in KINDS.items()} | {b"text": text_pattern(block, breaks)}
 
-    def values(self, columns):
+    def values(self, columns: Columns) -> bytes:
         return b",".join(self.kinds[kind] for _, kind in columns)
 
-    def operations(self):
+    def operations(self) -> bytes:
         columns = self.table.columns[self.table.key_length :]
         forms = [b"set,%b,%b" % (name, self.kinds[kind]) for name, kind in columns]
         forms += [b"(?:%b),%b,%b" % (b"|".join(INT_OPERATIONS), name, self.kinds[kind]) for name, kind in columns if kind == b"int"]
         return b"(?:,(?:%b)){1,16}" % b"|".join(forms) if forms else rb"(?!)"
 
-    def messages(self):
+    def messages(self) -> re.Pattern[bytes]:
         """Lines of a batch that have no fault, with blank ones between them, as many as there are."""
         columns, key = self.values(self.table.columns), self.values(self.table.key)
         record = rb"(?=... (?![\r\n]|%b))(?:put %b|del %b|ups %b%b)" % (MARK, columns, key, key, self.operations())
         return re.compile(rb"(?>(?> *(?:%b)?\r?)\n)*+" % record)
 
-    def records(self):
+    def records(self) -> re.Pattern[bytes]:
         """Records of a load that have no fault, as many as there are."""
         return re.compile(rb"(?>(?>%b)[\r\n]++)*+" % self.record())
 
-    def record(self):
+    def record(self) -> bytes:
         return rb"(?=[^\r\n])%b" % self.values(self.table.columns)
 
 
@@ -195,23 +200,23 @@ MESSAGE = re.compile(rb"^(?> *)(?!\r?$)[^\n]+", re.MULTILINE)
 LINE = re.compile(rb"[^\n]*")
 
 
-def doubtful(block, number, at, sure, one):
+def doubtful(block: bytes, number: int, at: int, sure: re.Pattern[bytes], one: re.Pattern[bytes]) -> Iterator[tuple[int, bytes]]:
     """What is not surely without a fault in a block that has this line number at this place, as (line number, bytes)."""
     while True:
-        start = sure.match(block, at).end()
+        start = matched(sure, block, at).end()
         number += block.count(b"\n", at, start)
         if start >= len(block):
             return
         found = one.match(block, start)
         if found is None:
-            # A line break behind what was looked into before.
+            # A line break after what was looked into before.
             number, at = number + (block[start] == LINE_FEED), start + 1
             continue
         yield number, found[0]
         number, at = number + found[0].count(b"\n"), found.end()
 
 
-def batch_faults(command, table):
+def batch_faults(command: Command, table: Table | None) -> Iterator[Fault]:
     """The faults of a batch's lines, in order."""
     faults, block = MessageFaults(table), command.block
     sure = SurePatterns(table, block, LINE_BREAKS).messages() if table else re.compile(rb"(?> *\r?\n)*+")
@@ -221,7 +226,7 @@ def batch_faults(command, table):
             yield from faults.of(line)
 
 
-def number_faults(command):
+def number_faults(command: Command) -> Iterator[Fault]:
     """Why a batch has too many messages: the first one that is over the limit."""
     if command.block.count(b"\n") < MOST_MESSAGES:
         return
@@ -231,8 +236,8 @@ def number_faults(command):
         yield Fault(f"message {MOST_MESSAGES + 1:,} of {len(starts):,}, and a batch has at most {MOST_MESSAGES:,}", line=line)
 
 
-def load_faults(command, table):
-    """The faults of the records of a load, behind its header."""
+def load_faults(command: Command, table: Table) -> Iterator[Fault]:
+    """The faults of the records of a load, after its header."""
     block, columns, names = command.block, table.columns, spelled(table.names)
     header = RECORD.search(block, len(MARK) if block.startswith(MARK) else 0)
     if header is None:
@@ -246,13 +251,13 @@ def load_faults(command, table):
             yield from field_faults(raw, columns, number, raw, 0)
 
 
-def record_length_fault(raw, count, columns, names, number):
+def record_length_fault(raw: bytes, count: int, columns: Columns, names: str, number: int) -> Fault:
     if raw.strip(b" \t") == b".":
         return Fault(f"'{visible(raw, 20)}' does not close the block: a closing line is '.' exactly", line=number)
     return length_fault(raw, count, f"a record has {len(columns)} ({names})", number, raw, 0, most_of(columns))
 
 
-def header_faults(command, table):
+def header_faults(command: Command, table: Table) -> list[Fault]:
     """Why the header of a load is none."""
     number, raw = next(command.records(), (None, b""))
     if number is None:
@@ -269,39 +274,42 @@ def header_faults(command, table):
     ]
 
 
-def key_pattern(key):
-    """A pattern of a record, with its key as a group where the key stands as it is printed, so that no two spell the same."""
+def key_pattern(key: Columns) -> re.Pattern[bytes]:
+    """A pattern of a record, with its key as a group if the key is written as it is printed, so that no two groups are the same key."""
     printed, field = b",".join(KINDS[kind].as_printed for _, kind in key), FIELD.pattern
     rest = rb'(?:,[^"\r\n]*(?=[\r\n]|\Z)|(?:,%b)*)' % field
     return re.compile(rb"(?=[^\r\n])(?:(%b)(?=[,\r\n]|\Z)%b|%b(?:,%b)*)" % (printed, rest, field, field))
 
 
-def printed_key(raw, key):
+def printed_key(raw: bytes, key: Columns) -> bytes:
     return b",".join([printed_field(KINDS[kind].printed(field)) for (_, kind), field in zip(key, fields(raw))])
 
 
-def key_faults(command, table):
+def key_faults(command: Command, table: Table) -> Iterator[Fault]:
     """The records of a load, whose fields have no fault, whose keys earlier ones have, with their items."""
     block, pattern = command.block, key_pattern(table.key)
     at = len(MARK) if block.startswith(MARK) else 0
-    keys = pattern.findall(block, at)
+    keys: list[bytes] = pattern.findall(block, at)
     if b"" in keys[1:]:
-        keys = [found[1] or item and printed_key(found[0], table.key) for item, found in enumerate(pattern.finditer(block, at))]
-    keys[0], distinct, again = None, set(), set()
-    for key in keys:
+        keys = [found[1] or (printed_key(found[0], table.key) if item else b"") for item, found in enumerate(pattern.finditer(block, at))]
+    distinct: set[bytes] = set()
+    again: set[bytes] = set()
+    for key in islice(keys, 1, None):
         (again if key in distinct else distinct).add(key)
-    first, number, at = {}, command.head.number + 1, 0
+    first: dict[bytes, tuple[int, int]] = {}
+    number, at = command.head.number + 1, 0
     for item, found in enumerate(pattern.finditer(block, at) if again else ()):
-        if keys[item] in again:
+        if item and keys[item] in again:
             number, at = number + block.count(b"\n", at, found.start()), found.start()
             line = first.setdefault(keys[item], (item, number))
             if line[0] != item:
                 yield Fault(f"key {visible(keys[item])} in line {number} is that of line {line[1]} too", f"14 DuplicateKey {item}")
 
 
-def bound_faults(command, state):
+def bound_faults(command: Command, state: State) -> Iterator[Fault]:
     """The faults of the bounds of a scan or of sums."""
-    words, numbers = BLOCK_WORDS[command.head.word], {}
+    words = BLOCK_WORDS[command.head.word]
+    numbers: dict[bytes, int] = {}
     tree = (words_of(command.head)[1:2] or [b""])[0]
     for line in command.messages():
         if line.word not in words:
@@ -317,8 +325,8 @@ def bound_faults(command, state):
         numbers.setdefault(line.word, line.number)
 
 
-def bound_field_faults(line, columns, tree):
-    record, _ = record_of_line(line.rest)
+def bound_field_faults(line: Line, columns: Columns, tree: str) -> list[Fault]:
+    record, _ = record_of_line(line.rest or b"")
     count, offset = len(fields(record)), len(line.text) - len(record)
     if count > len(columns):
         wanted = f"a bound of {tree} has at most {len(columns)} ({spelled(name for name, _ in columns)})"
@@ -329,9 +337,9 @@ def bound_field_faults(line, columns, tree):
 # ---- refusals of one line ----
 
 
-def get_faults(command, table):
+def get_faults(command: Command, table: Table) -> list[Fault]:
     head = command.head
-    record, _ = record_of_line(head.rest)
+    record, _ = record_of_line(head.rest or b"")
     count, offset = len(fields(record)), len(head.text) - len(record)
     if count != len(table.key):
         wanted = f"a get has {len(table.key)} ({spelled(name for name, _ in table.key)})"
@@ -339,7 +347,7 @@ def get_faults(command, table):
     return field_faults(record, table.key, None, head.text, offset)
 
 
-def sums_faults(command, state):
+def sums_faults(command: Command, state: State) -> Iterator[Fault]:
     """Why the columns of sums are none of the tree."""
     _, tree, count, name = words_of(command.head)
     if not state.table or not state.table.has_tree(tree):
@@ -354,8 +362,8 @@ def sums_faults(command, state):
         yield Fault(f"'{name.decode()}' is {columns[name].decode()}, and only ints are added")
 
 
-def index_faults(command, table):
-    """Why an index can not be made."""
+def index_faults(command: Command, table: Table) -> Iterator[Fault]:
+    """Why an index cannot be made."""
     index, name = index_of(command.head), words_of(command.head)[1]
     if name == PRIMARY or name in table.indexes:
         owner = "the tree of rows" if name == PRIMARY else f"the index of line {table.indexes[name].line.number}"
@@ -375,8 +383,8 @@ def index_faults(command, table):
             yield Fault(reason, column_place(table.columns, place))
 
 
-def table_faults(command):
-    """Why a table can not have these columns, or this shape."""
+def table_faults(command: Command) -> Iterator[Fault]:
+    """Why a table cannot have these columns, or this shape."""
     words = words_of(command.head)
     names, key = [word.split(b":")[0] for word in words[5:]], int(words[4])
     if len(names) > MOST_COLUMNS:
@@ -389,14 +397,14 @@ def table_faults(command):
         yield Fault(f"{names.count(name)} columns are named '{name.decode()}'")
     is_in_bytes = words[2].endswith(b"b")
     sizes = (("fanout", FANOUTS, ""), ("buffer", BUFFERS_IN_BYTES if is_in_bytes else BUFFERS, " bytes" if is_in_bytes else " messages"), ("leaf", LEAVES, ""))
-    for word, (name, sizes_there, unit) in zip(words[1:4], sizes):
+    for word, (size, sizes_there, unit) in zip(words[1:4], sizes):
         if int(word.removesuffix(b"b")) not in sizes_there:
-            yield Fault(f"the {name} is {word.decode()}, and from {sizes_there[0]} to {sizes_there[-1]}{unit}")
+            yield Fault(f"the {size} is {word.decode()}, and from {sizes_there[0]} to {sizes_there[-1]}{unit}")
 
 
-def tree_faults(command, state):
+def tree_faults(command: Command, table: Table, refused: dict[bytes | None, Line]) -> Iterator[Fault]:
     """Why a tree is not there, or not complete."""
-    table, name = state.table, words_of(command.head)[1]
+    name = words_of(command.head)[1]
     text = f"'{name.decode()}'"
     if name == PRIMARY:
         yield Fault(f"{text} is the tree of rows, which is not built or dropped")
@@ -405,21 +413,21 @@ def tree_faults(command, state):
         yield Fault(f"{text} of line {index.line.number} is {'complete, and has nothing left to build' if index.is_complete else 'building'}")
     else:
         lost = f"; {text} was dropped in line {table.dropped[name].number}" if name in table.dropped else ""
-        lost = lost or (f"; the index of line {state.refused[name].number} was refused" if name in state.refused else "")
+        lost = lost or (f"; the index of line {refused[name].number} was refused" if name in refused else "")
         yield Fault(f"no tree is named {text}: there {'are' if table.indexes else 'is'} {spelled([PRIMARY, *table.indexes])}{lost}")
 
 
 # ---- refusals ----
 
 
-def block_faults(command, state):
+def block_faults(command: Command, state: State) -> Iterable[Fault]:
     """The faults of the lines of a block, in order."""
     if command.head.word == b"batch":
         return batch_faults(command, state.table)
     return bound_faults(command, state) if command.closing == b"go" else []
 
 
-def faults_of_refusal(command, number, state):
+def faults_of_refusal(command: Command, number: int, state: State) -> Iterable[Fault]:
     """The faults of a refused command, in order; none where the meaning of the refusal says all."""
     word, table = command.head.word, state.table
     if number in (1, 2):
@@ -434,7 +442,7 @@ def faults_of_refusal(command, number, state):
     if number == 14:
         return key_faults(command, table)
     if number in (8, 12) or (number == 11 and word != b"load"):
-        return tree_faults(command, state)
+        return tree_faults(command, table, state.refused)
     if number == 11:
         return [Fault(f"'{name.decode()}' of line {index.line.number} is building") for name, index in table.indexes.items() if not index.is_complete]
     if word == b"load":
@@ -450,7 +458,7 @@ def faults_of_refusal(command, number, state):
 COMMAND_LINE = re.compile(rb"\n( *(?:%b)(?:[ \r][^\n]*)?)$" % b"|".join(FORMS), re.MULTILINE)
 
 
-def swallowed_line(command, table):
+def swallowed_line(command: Command, table: Table | None) -> Line | None:
     """The first line of a block that looks like a command, and of a load is no record of the table."""
     text, number, at = b"\n" + command.block, command.head.number, 0
     sure = re.compile(SurePatterns(table, command.block).record()) if table and command.head.word == b"load" else None

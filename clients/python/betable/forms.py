@@ -2,23 +2,24 @@
 
 import re
 from difflib import get_close_matches
+from typing import Iterable
 
 from .advice import instead_of, reason_for_more_words
 from .language import (
-    BLOCK_WORDS, BUFFER, CLOSING, FORMS, KINDS, MARK, MOST_DIGITS, MOST_NAME_BYTES, NAME, NUMBER, OPERATORS, any_of, fields, record_of_line, visible,
+    BLOCK_WORDS, BUFFER, CLOSING, FORMS, KINDS, Line, MARK, MOST_DIGITS, MOST_NAME_BYTES, NAME, NUMBER, OPERATORS, any_of, fields, record_of_line, visible,
 )  # fmt: skip
 
 TAB = b"\t"
 
 
-def spelled(names):
+def spelled(names: Iterable[bytes]) -> str:
     return ", ".join(name.decode() for name in names)
 
 
 # ---- words ----
 
 
-def name_fault(word):
+def name_fault(word: bytes) -> str | None:
     """Why a word is no name, or None."""
     text = f"'{visible(word, 40)}'"
     if NAME.fullmatch(word):
@@ -36,7 +37,7 @@ def name_fault(word):
     return f"{text} is no name: a name has only a to z, 0 to 9 and _"
 
 
-def number_fault(word, name):
+def number_fault(word: bytes, name: str) -> str | None:
     """Why a word is no number, or None."""
     if NUMBER.fullmatch(word):
         return None
@@ -47,18 +48,18 @@ def number_fault(word, name):
     return f"'{visible(word, 40)}' is no number: {name} has 1 to {MOST_DIGITS} digits{semicolon or all_rows}"
 
 
-# The words behind the first one, of the commands that have a fixed number of them.
-FIXED_WORDS = {
+# The words after the first one, of the commands that have a fixed number of them.
+FIXED_WORDS: dict[bytes, tuple[str, ...]] = {
     b"load": (), b"batch": (), b"scan": ("NAME",), b"image": ("NAME",), b"drop": ("NAME",), b"drain": ("NAME",), b"rebuild": ("NAME",),
     b"build": ("NAME", "N"), b"sums": ("NAME", "G", "COLUMN"),
 }  # fmt: skip
 
 
-def words_of(line):
+def words_of(line: Line) -> list[bytes]:
     return [word for word in line.text.split(b" ") if word]
 
 
-def head_faults(line):
+def head_faults(line: Line) -> list[str]:
     """Why a line is no command, in reasons."""
     if line.word not in FORMS:
         return [no_command(line)]
@@ -71,14 +72,14 @@ def head_faults(line):
     return fixed_word_faults(line)
 
 
-def record_reasons(line):
+def record_reasons(line: Line) -> list[str]:
     if line.rest is None:
         return [f"no record follows '{line.word.decode()}'"]
     _, reason = record_of_line(line.rest)
     return [reason] if reason else []
 
 
-def fixed_word_faults(line):
+def fixed_word_faults(line: Line) -> list[str]:
     names, words = FIXED_WORDS[line.word], words_of(line)[1:]
     found = [number_fault(word, name) if name in ("N", "G") else name_fault(word) for name, word in zip(names, words)]
     found += [f"{name} is missing" for name in names[len(words) :]]
@@ -87,7 +88,7 @@ def fixed_word_faults(line):
     return [reason for reason in found if reason]
 
 
-def no_command(line):
+def no_command(line: Line) -> str:
     """Why the first word of a line is none of a command."""
     word = line.word
     shown, plain = visible(word, 20), re.split(rb"[\t\v\f\r\xa0]", word)[0].removeprefix(MARK)
@@ -114,7 +115,7 @@ def no_command(line):
 SIZES = {"fanout": NUMBER, "buffer": BUFFER, "leaf": NUMBER, "number of key columns": NUMBER}
 
 
-def table_word_faults(words):
+def table_word_faults(words: list[bytes]) -> list[str]:
     """Why the words of a table are none: its sizes, and its columns."""
     found, columns = [], words[len(SIZES) :]
     for word, (name, form) in zip(words, SIZES.items()):
@@ -133,7 +134,7 @@ def table_word_faults(words):
     return found if columns else [*found, "no column follows the number of key columns"]
 
 
-def column_fault(word):
+def column_fault(word: bytes) -> str | None:
     """Why a word is no column of a table, or None."""
     text = f"'{visible(word, 40)}'"
     name, colon, kind = word.partition(b":")
@@ -149,7 +150,7 @@ def column_fault(word):
 # ---- index ----
 
 
-def index_word_faults(line):
+def index_word_faults(line: Line) -> list[str]:
     """Why the words of an index are none: each part in turn, up to the first that is missing."""
     words = words_of(line)[1:]
     if not words:
@@ -173,8 +174,8 @@ def index_word_faults(line):
     return [reason for reason in found if reason]
 
 
-def list_faults(words, part):
-    """Why the first of these words is no list of names, where the second one may show that a blank stands in it."""
+def list_faults(words: list[bytes], part: bytes) -> list[str]:
+    """Why the first of these words is no list of names, where the second one may show that it has a blank."""
     if not words:
         return [f"the list after '{part.decode()}' is missing"]
     if words[0].endswith(b",") or words[1:2] and words[1].startswith(b","):
@@ -182,8 +183,11 @@ def list_faults(words, part):
     return [reason for name in words[0].split(b",") if (reason := name_fault(name))]
 
 
-def where_faults(line, words):
-    """Why the condition of an index is none. A record stands behind exactly one space."""
+CONSTANT = re.compile(rb" where +\S+ +(?:=|<|>=)( ?)(.*)", re.DOTALL)
+
+
+def where_faults(line: Line, words: list[bytes]) -> list[str | None]:
+    """Why the condition of an index is none. A record follows exactly one space."""
     if not words:
         return ["COLUMN is missing after 'where'"]
     if operator := re.search(rb"[=<>!]+", words[0]):
@@ -193,12 +197,12 @@ def where_faults(line, words):
         return [*found, "OP and the record are missing: an operator is =, < or >="]
     if words[1] not in OPERATORS:
         return [*found, f"'{visible(words[1], 40)}' is no operator: =, < or >="]
-    constant = re.search(rb" where +\S+ +(?:=|<|>=)( ?)(.*)", line.text, re.DOTALL)
-    return [*found, constant_fault(words[1].decode(), constant[1], constant[2])]
+    constant = CONSTANT.search(line.text)
+    return [*found, constant_fault(words[1].decode(), constant[1], constant[2])] if constant else found
 
 
-def constant_fault(operator, space, rest):
-    """Why what stands behind an operator is no record of one field, or None."""
+def constant_fault(operator: str, space: bytes, rest: bytes) -> str | None:
+    """Why what follows an operator is no record of one field, or None."""
     record, reason = record_of_line(rest)
     if not space or not rest:
         return f"no record follows '{operator}'; the empty text is \"\""
@@ -215,7 +219,7 @@ def constant_fault(operator, space, rest):
 # ---- lines of a block ----
 
 
-def no_block_word(line, head):
+def no_block_word(line: Line, head: bytes) -> str:
     """Why a line of a block begins with none of its words."""
     words, closing = BLOCK_WORDS[head], CLOSING[head]
     raw = line.raw.removesuffix(b"\r")

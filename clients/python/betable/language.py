@@ -10,6 +10,10 @@ Bytes stay bytes: a script, a line, a name, a kind and a field are bytes, and wh
 
 import re
 from functools import cached_property
+from typing import Callable, Iterable, Iterator, TypeAlias
+
+# The names and kinds of columns, in order.
+Columns: TypeAlias = list[tuple[bytes, bytes]]
 
 # ---- commands ----
 
@@ -32,7 +36,7 @@ FORMS = {
 # The closing line of each block.
 CLOSING = {b"batch": b"end", b"scan": b"go", b"sums": b"go", b"load": b"."}
 
-# The words with which a line of a block begins; of bounds each stands at most once, in this order.
+# The words with which a line of a block begins; each bound is given at most once, in this order.
 BLOCK_WORDS = {b"batch": (b"put", b"del", b"ups"), b"scan": (b"from", b"to"), b"sums": (b"from", b"to")}
 
 # The words of an upsert's operations, those of them that only an int takes, and the operators of `where`.
@@ -69,8 +73,8 @@ MARK = b"\xef\xbb\xbf"  # is dropped once at the start of a record of a line, an
 # ---- bytes for the eye ----
 
 
-def visible(raw, room=60, at=0):
-    """Bytes as a text of about so many letters round the byte `at`, with `…` where it is cut, and with its blanks made visible.
+def visible(raw: bytes, room: int = 60, at: int = 0) -> str:
+    """Bytes as a text of about that many letters around the byte `at`, with `…` where it is cut, and with its blanks made visible.
 
     A tab is →, a space at the start or the end is ·, a byte order mark is named, and what cannot be printed is \\x and its number.
     """
@@ -86,26 +90,26 @@ def visible(raw, room=60, at=0):
     return "…" * (start > 0) + (text[:room] if is_long else text) + "…" * (is_long or end < len(raw))
 
 
-def outside_letter(raw, at):
+def outside_letter(raw: bytes, at: int) -> int:
     """The place, or the nearest one before it where no letter of UTF-8 is divided."""
     return next((place for place in range(at, max(0, at - 4), -1) if place >= len(raw) or raw[place] & 0xC0 != 0x80), at)
 
 
-def with_visible_ends(text, is_start, is_end):
-    """A text whose spaces at its start and at its end, also those before or behind a tab there, are ·."""
+def with_visible_ends(text: str, is_start: bool, is_end: bool) -> str:
+    """A text whose spaces at its start and at its end, also those before or after a tab there, are ·."""
     inside = text.lstrip(" \t") if is_start else text
     text = text[: len(text) - len(inside)].replace(" ", "·") + inside
     inside = text.rstrip(" \t") if is_end else text
     return inside + text[len(inside) :].replace(" ", "·")
 
 
-def printable(text):
+def printable(text: str) -> str:
     if text.isprintable():
         return text
     return "".join(c if c.isprintable() else f"\\x{ord(c):02x}" for c in text)
 
 
-def counted(number, one, many=None):
+def counted(number: int, one: str, many: str | None = None) -> str:
     """A number with what it counts: `1 field`, `2,000 fields`."""
     return f"{number:,} {one if number == 1 else many or one + 's'}"
 
@@ -113,7 +117,7 @@ def counted(number, one, many=None):
 # ---- kinds ----
 
 
-def fault_of_int(field):
+def fault_of_int(field: bytes) -> str | None:
     """Why a field is no int, or None."""
     digits = field.removeprefix(b"-")
     if not (digits.isdigit() and digits.isascii()):
@@ -130,7 +134,7 @@ def fault_of_int(field):
 NULL_WORDS = (b"null", b"none", b"nil", b"nan", b"na", b"n/a", b"#n/a", b"\\n", b"-")  # in small letters
 
 
-def reason_for_no_number(field):
+def reason_for_no_number(field: bytes) -> str:
     if not field:
         return "the field is empty, and there is no null: write a number for it, as 0 or -1"
     text = f"'{visible(field, 40)}'"
@@ -150,14 +154,14 @@ def reason_for_no_number(field):
     return f"{text} is no whole number"
 
 
-def blanks_named(field, inside):
-    """What stands around the inside of a field."""
+def blanks_named(field: bytes, inside: bytes) -> str:
+    """What is around the inside of a field."""
     names = ((MARK, "a byte order mark"), (b" ", "a space"), (b"\t", "a tab"), (b"\xa0", "a space that does not break"))
     around = field.replace(inside, b"", 1)
     return " and ".join(name for blank, name in names if blank in around) + (" before it" if field.endswith(inside) else " after it")
 
 
-def fault_of_text(field):
+def fault_of_text(field: bytes) -> str | None:
     """Why a field is no text, or None."""
     if len(field) > MOST_TEXT_BYTES:
         return f"{len(field):,} bytes, and a text has at most {MOST_TEXT_BYTES}: '{visible(field, 40)}'"
@@ -168,7 +172,7 @@ def fault_of_text(field):
     return None
 
 
-def fault_of_flag(field):
+def fault_of_flag(field: bytes) -> str | None:
     """Why a field is no flag, or None."""
     if field.lower() in (b"true", b"false"):
         return None
@@ -177,7 +181,7 @@ def fault_of_flag(field):
     return f"'{visible(field, 40)}' is neither true nor false"
 
 
-def fault_of_bytes(field):
+def fault_of_bytes(field: bytes) -> str | None:
     """Why a field is no bytes, or None."""
     wrong = next((place for place, byte in enumerate(field) if byte not in HEXADECIMAL), None)
     if wrong is not None:
@@ -196,11 +200,14 @@ class Kind:
     """A kind of a column.
 
     `fault` gives the reason why a field is no value of it, or None, `printed` a field as it is printed. `spelled` is a pattern of
-    fields that are surely values of it, with or without quotes, and `as_printed` one of fields that are printed as they stand.
+    fields that are surely values of it, with or without quotes, and `as_printed` one of fields that are printed as they are.
     """
 
-    def __init__(self, name, fault, printed, spelled, as_printed):
-        self.name, self.fault, self.printed, self.as_printed = name, fault, printed, as_printed
+    def __init__(
+        self, name: str, fault: Callable[[bytes], str | None], printed: Callable[[bytes], bytes], spelled: bytes, as_printed: bytes
+    ) -> None:
+        self.name, self.as_printed = name, as_printed
+        self.fault, self.printed = fault, printed
         self.spelled = rb'(?:%b|"%b")' % (spelled, spelled)
 
 
@@ -213,7 +220,7 @@ KINDS = {
 }
 
 
-def text_pattern(block, breaks):
+def text_pattern(block: bytes, breaks: bytes) -> bytes:
     """A pattern of texts: of a block that is UTF-8 any bytes make one, and else only those of ASCII. `breaks` are not in quotes."""
     try:
         block.decode("utf-8")
@@ -223,26 +230,28 @@ def text_pattern(block, breaks):
     return rb'(?:"[^"%b%b]{0,255}"|(?!")[^,\r\n%b]{0,255})' % (breaks, high, high)
 
 
-def any_of(names):
+def any_of(names: Iterable[bytes]) -> str:
     """Names as a list of words: `int, text or flag`."""
     *others, last = [name.decode() for name in names]
     return ", ".join(others) + " or " + last
 
 
-def printed_field(value):
-    """A value as it stands in a record, in quotes where it has to."""
+def printed_field(value: bytes) -> bytes:
+    """A value as it is in a record, in quotes if it has to be."""
     if b"," in value or b'"' in value or b"\r" in value or b"\n" in value:
         return b'"' + value.replace(b'"', b'""') + b'"'
     return value
 
 
-def printed_record(values):
-    return b'""' if list(values) == [b""] else b",".join(printed_field(value) for value in values)
+def printed_record(values: Iterable[bytes]) -> bytes:
+    printed = list(map(printed_field, values))
+    return b'""' if printed == [b""] else b",".join(printed)
 
 
 # ---- records and fields ----
 
 QUOTED = rb'"[^"]*(?:""[^"]*)*'
+QUOTED_START = re.compile(QUOTED)
 FIELD = re.compile(rb'(?:%b(?:"[^,\r\n]*)?|[^,\r\n]*)' % QUOTED)
 RECORD = re.compile(rb"(?=[^\r\n])%b(?:,%b)*" % (FIELD.pattern, FIELD.pattern))
 # What has no quote that looks broken: of a CSV text, and of the lines of a batch. What is repeated as a whole is atomic by itself too, here and elsewhere,
@@ -254,49 +263,56 @@ SOUND_LINES = re.compile(rb'(?>[^"\n]*+\n| *+(?:put|del|ups) (?>%b)?+%b(?>,%b)*+
 QUOTED_FIELD = re.compile(rb'(?<![^,\r\n])(%b)("?)([^,\r\n]*)' % QUOTED)
 
 
-class Record:
-    """A record: the number of the line in which it begins, and its bytes as they stand."""
+def matched(pattern: re.Pattern[bytes], text: bytes, at: int = 0) -> re.Match[bytes]:
+    """The match of a pattern that matches at this place, whatever the bytes are."""
+    found = pattern.match(text, at)
+    assert found is not None
+    return found
 
-    def __init__(self, number, raw):
+
+class Record:
+    """A record: the number of the line in which it begins, and its bytes as they are."""
+
+    def __init__(self, number: int, raw: bytes) -> None:
         self.number, self.raw = number, raw
 
     @cached_property
-    def spans(self):
+    def spans(self) -> list[tuple[int, int]]:
         """Where each field begins and ends, with its quotes."""
         return spans(self.raw)
 
     @cached_property
-    def fields(self):
+    def fields(self) -> list[bytes]:
         return fields(self.raw)
 
 
-def spans(raw):
+def spans(raw: bytes) -> list[tuple[int, int]]:
     """Where each field of a record begins and ends, with its quotes."""
     found, start = [], 0
     while True:
-        end = FIELD.match(raw, start).end()
+        end = matched(FIELD, raw, start).end()
         found.append((start, end))
         if end >= len(raw):
             return found
         start = end + 1
 
 
-def fields(raw):
+def fields(raw: bytes) -> list[bytes]:
     """The fields of a record, without the quotes around them."""
     if b'"' not in raw:
         return raw.split(b",")
     return [unquoted(raw[start:end]) for start, end in spans(raw)]
 
 
-def unquoted(field):
-    """A field without its quotes. What stands behind the closing quote joins it."""
+def unquoted(field: bytes) -> bytes:
+    """A field without its quotes. What follows the closing quote joins it."""
     if not field.startswith(b'"'):
         return field
-    end = re.match(QUOTED, field).end()
+    end = matched(QUOTED_START, field).end()
     return field[1:end].replace(b'""', b'"') + field[end + 1 :]
 
 
-def records(text, number=1):
+def records(text: bytes, number: int = 1) -> Iterator[tuple[int, bytes]]:
     """The records of a CSV text whose first line has this number, as (line, bytes), the header first."""
     at = len(MARK) if text.startswith(MARK) else 0
     for found in RECORD.finditer(text, at):
@@ -305,7 +321,7 @@ def records(text, number=1):
         yield number, found[0]
 
 
-def record_of_line(rest):
+def record_of_line(rest: bytes) -> tuple[bytes, str | None]:
     """The record that ends a line of a command, and why it makes the line wrong, or None."""
     record = rest.removeprefix(MARK)
     if not record:
@@ -320,10 +336,10 @@ def record_of_line(rest):
 class BrokenQuote:
     """A quoted field that looks broken: the line in which it begins, that of its closing quote or of its end, and whether it is closed."""
 
-    def __init__(self, first, last, is_closed):
+    def __init__(self, first: int, last: int, is_closed: bool) -> None:
         self.first, self.last, self.is_closed = first, last, is_closed
 
-    def __str__(self):
+    def __str__(self) -> str:
         breaks = self.last - self.first
         held = f" (it holds {counted(breaks, 'line break')})" if breaks else ""
         if self.is_closed:
@@ -333,22 +349,22 @@ class BrokenQuote:
         return f"the quoted field that begins in line {self.first} is not closed{on}: was a quote forgotten?{held}"
 
 
-def broken_quotes(text, number=1):
-    """The quoted fields of a CSV text, whose first line has this number, that go on behind their closing quotes, or are never closed."""
+def broken_quotes(text: bytes, number: int = 1) -> Iterator[BrokenQuote]:
+    """The quoted fields of a CSV text, whose first line has this number, that go on after their closing quotes, or are never closed."""
     text = text.removeprefix(MARK)
     at = 0
-    while (start := SOUND_TEXT.match(text, at).end()) < len(text):
-        found = QUOTED_FIELD.match(text, start)
+    while (start := matched(SOUND_TEXT, text, at).end()) < len(text):
+        found = matched(QUOTED_FIELD, text, start)
         number += text.count(b"\n", at, start)
         inside = found[1] if found[2] else found[1].removesuffix(b"\n")
         yield BrokenQuote(number, number + inside.count(b"\n"), bool(found[2]))
         number, at = number + found[0].count(b"\n"), found.end()
 
 
-def broken_quotes_of_lines(block, number=1):
+def broken_quotes_of_lines(block: bytes, number: int = 1) -> Iterator[BrokenQuote]:
     """Those of the records of a batch's lines."""
     at = 0
-    while (start := SOUND_LINES.match(block, at).end()) < len(block):
+    while (start := matched(SOUND_LINES, block, at).end()) < len(block):
         number += block.count(b"\n", at, start)
         end = block.find(b"\n", start)
         end = len(block) if end < 0 else end
@@ -363,44 +379,44 @@ def broken_quotes_of_lines(block, number=1):
 class Line:
     """A line of the script, without its line break."""
 
-    def __init__(self, number, raw):
+    def __init__(self, number: int, raw: bytes) -> None:
         self.number, self.raw = number, raw
         self.text = raw.removesuffix(b"\r").lstrip(b" ")
         self.word = self.text.partition(b" ")[0]
 
-    def begins_command(self):
+    def begins_command(self) -> bool:
         """Whether it has the first word of a command, and as many words."""
         least, most = WORDS.get(self.word, (1, 0))
         return least <= sum(1 for word in self.text.split(b" ", 100) if word) <= most
 
     @property
-    def rest(self):
-        """What stands behind the first word and one space, or None where no space stands there."""
+    def rest(self) -> bytes | None:
+        """What follows the first word and one space, or None if no space follows it."""
         _, space, rest = self.text.partition(b" ")
         return rest if space else None
 
 
 class Command:
-    """A command of the script: its head line, the bytes of its block as they stand, and whether that is closed."""
+    """A command of the script: its head line, the bytes of its block as they are, and whether that is closed."""
 
-    def __init__(self, head, closing=None, block=b"", is_closed=False):
+    def __init__(self, head: Line, closing: bytes | None = None, block: bytes = b"", is_closed: bool = False) -> None:
         self.head, self.closing, self.block, self.is_closed = head, closing, block, is_closed
 
     @cached_property
-    def lines(self):
+    def lines(self) -> list[Line]:
         """The lines of the block."""
         pieces = self.block.removesuffix(b"\n").split(b"\n") if self.block else []
         return [Line(number, raw) for number, raw in enumerate(pieces, self.head.number + 1)]
 
-    def messages(self):
+    def messages(self) -> list[Line]:
         """The lines of the block that are not blank."""
         return [line for line in self.lines if line.text]
 
-    def records(self):
+    def records(self) -> Iterator[tuple[int, bytes]]:
         """The records of the block of a load, as (line, bytes), the header first."""
         return records(self.block, self.head.number + 1)
 
-    def broken_quotes(self):
+    def broken_quotes(self) -> Iterable[BrokenQuote]:
         """What looks broken among the quotes of a load's block, or of the lines of a batch."""
         if b'"' not in self.block or self.closing == b"go":
             return ()
@@ -408,7 +424,7 @@ class Command:
         return find(self.block, self.head.number + 1)
 
 
-def commands(script, closing=CLOSING):
+def commands(script: bytes, closing: dict[bytes, bytes] = CLOSING) -> Iterator[Command]:
     """The commands of a script, one after the other. `closing` has the closing lines of the blocks that its reader knows."""
     start, number = 0, 0
     while start < len(script):
@@ -418,23 +434,23 @@ def commands(script, closing=CLOSING):
         head = Line(number, script[start:end])
         start = end + 1
         if head.word in closing:
-            last, behind, is_closed = end_of_block(script, start, closing[head.word])
+            last, following, is_closed = end_of_block(script, start, closing[head.word])
             block = script[start:last]
             yield Command(head, closing[head.word], block, is_closed)
-            number += script.count(b"\n", start, behind)
-            start = behind
+            number += script.count(b"\n", start, following)
+            start = following
         elif head.word:
             yield Command(head)
 
 
-def end_of_block(script, start, closing):
-    """Where the closing line begins, where the line behind it begins, and whether there is one."""
+def end_of_block(script: bytes, start: int, closing: bytes) -> tuple[int, int, bool]:
+    """Where the closing line begins, where the line after it begins, and whether there is one."""
     place = start - 1
     while 0 <= (place := script.find(b"\n" + closing, place)):
-        behind = place + 1 + len(closing)
-        behind += script.startswith(b"\r", behind)
-        if behind >= len(script) or script.startswith(b"\n", behind):
-            return place + 1, min(behind + 1, len(script)), True
+        end = place + 1 + len(closing)
+        end += script.startswith(b"\r", end)
+        if end >= len(script) or script.startswith(b"\n", end):
+            return place + 1, min(end + 1, len(script)), True
         place += 1
     return max(start, len(script)), len(script), False
 
@@ -445,7 +461,7 @@ def end_of_block(script, start, closing):
 class Index:
     """An index: the line that made it, the columns that it is on, those that it includes, and its condition or None."""
 
-    def __init__(self, line, on, included, condition):
+    def __init__(self, line: Line, on: list[bytes], included: list[bytes], condition: tuple[bytes, bytes, bytes] | None) -> None:
         self.line, self.on, self.included, self.condition = line, on, included, condition
         self.is_complete = False
 
@@ -453,37 +469,39 @@ class Index:
 class Table:
     """The table that a script has made so far, with the line that made it."""
 
-    def __init__(self, line):
+    def __init__(self, line: Line) -> None:
         words = line.text.split()
         self.line, self.key_length = line, int(words[4])
-        self.columns = [tuple(word.split(b":")) for word in words[5:]]
-        self.indexes, self.dropped = {}, {}  # by their names; of those that were dropped the lines that did it
+        self.columns: Columns = [(name, kind) for name, _, kind in (word.partition(b":") for word in words[5:])]
+        # By their names; of those that were dropped the lines that did it.
+        self.indexes: dict[bytes, Index] = {}
+        self.dropped: dict[bytes, Line] = {}
 
     @property
-    def names(self):
+    def names(self) -> list[bytes]:
         return [name for name, _ in self.columns]
 
     @property
-    def kinds(self):
+    def kinds(self) -> list[bytes]:
         return [kind for _, kind in self.columns]
 
     @property
-    def key(self):
+    def key(self) -> Columns:
         """The names and kinds of its key."""
         return self.columns[: self.key_length]
 
-    def has_tree(self, name):
+    def has_tree(self, name: bytes) -> bool:
         return name == PRIMARY or name in self.indexes
 
-    def key_of(self, tree):
+    def key_of(self, tree: bytes) -> Columns:
         """The names and kinds of the columns of a tree's key."""
         return self.key if tree == PRIMARY else [*self.named(self.indexes[tree].on), *self.key]
 
-    def columns_of(self, tree):
+    def columns_of(self, tree: bytes) -> Columns:
         """The names and kinds of the rows that a scan of a tree prints."""
         return self.columns if tree == PRIMARY else [*self.key_of(tree), *self.named(self.indexes[tree].included)]
 
-    def named(self, names):
+    def named(self, names: Iterable[bytes]) -> Columns:
         kinds = dict(self.columns)
         return [(name, kinds[name]) for name in names]
 
@@ -495,11 +513,11 @@ ANSWERS = {b"table": b"table ", b"index": b"index ", b"build": b"build ", b"drop
 class State:
     """What a script has made by its commands that were answered."""
 
-    def __init__(self):
-        self.table = None
-        self.refused = {}  # of a table, and of indexes by their names, the last line that was refused
+    def __init__(self) -> None:
+        self.table: Table | None = None
+        self.refused: dict[bytes | None, Line] = {}  # of a table, and of indexes by their names, the last line that was refused
 
-    def take(self, command, answer):
+    def take(self, command: Command, answer: list[bytes]) -> None:
         """Goes on by a command and the lines that answer it."""
         word = command.head.word
         if word not in ANSWERS or not answer or not answer[0].startswith((ANSWERS[word], b"refused ")):
@@ -522,9 +540,9 @@ class State:
             self.table.indexes[name].is_complete = answer[0].endswith(b" complete\n")
 
 
-def index_of(line):
+def index_of(line: Line) -> Index:
     """The index that a line makes which was answered."""
-    on, included, column, operator, constant = INDEX.fullmatch(line.text).groups()
+    on, included, column, operator, constant = matched(INDEX, line.text).groups()
     condition = (column, operator, fields(constant.removeprefix(MARK))[0]) if operator else None
     return Index(line, on.split(b","), included.split(b",") if included else [], condition)
 
@@ -536,7 +554,7 @@ def index_of(line):
 LAST_LINES = {b"scan": b"rows ", b"sums": b"sums ", b"image": b"end\n"}
 
 
-def logical_lines(replies):
+def logical_lines(replies: Iterable[bytes]) -> Iterator[bytes]:
     """The lines of the replies. One whose text holds a line break in quotes is one line."""
     replies = iter(replies)
     for line in replies:
@@ -548,7 +566,7 @@ def logical_lines(replies):
         yield line
 
 
-def reply(word, lines):
+def reply(word: bytes, lines: Iterator[bytes]) -> list[bytes]:
     """The lines that answer one command, of the replies that are left."""
     first = next(lines, None)
     found = [] if first is None else [first]
