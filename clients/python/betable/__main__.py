@@ -1,0 +1,23 @@
+"""The commands of the package: `python3 -m betable serve PATH --port N`."""
+
+import argparse
+import sys
+
+
+def main() -> int:
+    parser = argparse.ArgumentParser(prog="python3 -m betable", description="A table engine for heavy ingest.")
+    commands = parser.add_subparsers(dest="command", required=True)
+    words = commands.add_parser("serve", help="a durable table behind HTTP", description="Serves a durable table by HTTP. docs/SERVICE.md has its endpoints.")
+    try:
+        from . import serve
+    except ModuleNotFoundError as fault:
+        if fault.name not in ("aiohttp", "prometheus_client"):
+            raise
+        print(f"betable serve: {fault.name} is not installed: 'apt-get install python3-aiohttp python3-prometheus-client'", file=sys.stderr)
+        return 1
+    serve.add_words(words)
+    return serve.run(parser.parse_args())
+
+
+if __name__ == "__main__":
+    sys.exit(main())

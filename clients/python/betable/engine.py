@@ -1,0 +1,293 @@
+"""The engine of a server: a durable table in a process of its own, which runs all scripts that wait and keeps them by one commit.
+
+`Engine` is the server's side: it starts the process, hands it works and gives their answers. `main` is the process. It is started from scratch, since the
+library does not allow calls in the forked child of a process with threads, and it ends with its server. Both talk by frames through a pair of pipes: eight
+bytes of length, and then an object that pickle has written.
+"""
+
+from __future__ import annotations
+
+import asyncio
+import ctypes
+import os
+import pickle
+import signal
+import sys
+import time
+from collections import deque
+from collections.abc import Callable
+from pathlib import Path
+from typing import Any, BinaryIO, NamedTuple
+
+from .durable import FAULTS, Durable, RequestReused, open as open_table
+from .language import State
+from .replies import reply_end
+
+# The most works of a group, and the bytes of scripts that close one.
+MOST_GROUP, GROUP_BYTES = 256, 16 << 20
+ALL_ROWS = sys.maxsize
+START = "import sys; from betable.engine import main; sys.exit(main())"
+PR_SET_PDEATHSIG = 1
+# The word with which a line of a row or of a group begins, and that of the line after the last one.
+LAST_WORDS = {b"row ": b"rows", b"sum ": b"sums"}
+
+
+class Work(NamedTuple):
+    """A script to be run, or a checkpoint if there is none. A script with the id of a request is run exactly once. A script with `most_rows` is one `get`,
+    `scan` or `sums`: at most that many rows or groups of its reply are returned, and their columns."""
+
+    script: bytes | None
+    request: str | None = None
+    most_rows: int | None = None
+
+
+class Answer(NamedTuple):
+    """The replies to a script, and the number of the last script that the table had kept after it. `is_cut` says whether rows were left out, and `columns`
+    are their names and kinds, if these were asked for."""
+
+    replies: bytes
+    number: int
+    is_cut: bool = False
+    columns: list[tuple[str, str]] = []
+
+
+class Result(NamedTuple):
+    """What a group of works gave: for each its answer or its fault, the time of its scripts and that of its commit. `number` is that of the last script that
+    is kept, `log_bytes` are those of the log, and `state` has the trees if they have changed."""
+
+    answers: list[Answer | Exception]
+    run_seconds: float = 0
+    commit_seconds: float = 0
+    number: int = 0
+    log_bytes: int = 0
+    state: State | None = None
+
+
+class Lost(Exception):
+    """The engine's process ended before it had answered: the script is kept or it is not."""
+
+
+class Closed(Exception):
+    """The engine is not open, as while its process starts."""
+
+
+# ---- the process ----
+
+
+def main() -> int:
+    """Runs groups of works until the server closes its pipe. Signals to end are the server's, which then answers what waits."""
+    for number in (signal.SIGINT, signal.SIGTERM):
+        signal.signal(number, signal.SIG_IGN)
+    path, parent = sys.argv[1:]
+    ctypes.CDLL(None).prctl(PR_SET_PDEATHSIG, signal.SIGKILL)
+    if os.getppid() != int(parent):
+        return 1
+    # What is printed goes to standard error, as standard output has the frames.
+    works, results = os.fdopen(os.dup(0), "rb"), os.fdopen(os.dup(1), "wb")
+    os.dup2(2, 1)
+    try:
+        table = open_table(path)
+    except Exception as fault:
+        _send(results, fault)
+        return 1
+    with table:
+        known: Any = None
+        group: list[Work] | None = []
+        while group is not None:
+            result = run_group(table, group)
+            before, known = known, _trees(table.state)
+            _send(results, result._replace(number=table.number, log_bytes=table.log_bytes, state=table.state if known != before else None))
+            group = _received(works)
+    return 0
+
+
+def run_group(table: Durable, group: list[Work]) -> Result:
+    """Runs works and keeps what they changed by one commit. If one of them fails, nothing of the group is kept, and each is run by itself."""
+    begin = end = time.perf_counter()
+    answers: list[Answer | Exception] = []
+    try:
+        if [work.script for work in group] == [None]:
+            table.checkpoint()
+            answers = [Answer(b"", table.number)]
+        else:
+            with table.group():
+                answers = [_answer(table, work) for work in group]
+                end = time.perf_counter()
+    except FAULTS as fault:
+        if len(group) > 1:
+            alone = [run_group(table, [work]) for work in group]
+            return Result([one.answers[0] for one in alone], sum(one.run_seconds for one in alone), sum(one.commit_seconds for one in alone))
+        answers = [fault]
+    return Result(answers, end - begin, time.perf_counter() - end)
+
+
+def _answer(table: Durable, work: Work) -> Answer | Exception:
+    script = work.script or b""
+    try:
+        replies = table.replies(script) if work.request is None else table.once(work.request, script)
+    except RequestReused as fault:
+        return fault  # nothing was run, and the group goes on
+    if work.most_rows is None:
+        return Answer(replies, table.number)
+    rows, is_cut = first_rows(replies, work.most_rows)
+    return Answer(rows, table.number, is_cut, _columns(table.state, script))
+
+
+def _columns(state: State, script: bytes) -> list[tuple[str, str]]:
+    """The names and kinds of the columns of the reply to a script of one command."""
+    word, *words = script.split(b"\n", 1)[0].split()
+    table = state.table
+    if table is None or (word != b"get" and not table.has_tree(words[0])):
+        return []
+    columns = table.columns if word == b"get" else table.columns_of(words[0]) if word == b"scan" else table.key_of(words[0])[: int(words[1])]
+    return [(name.decode(), kind.decode()) for name, kind in columns]
+
+
+def first_rows(replies: bytes, most: int) -> tuple[bytes, bool]:
+    """The reply to a scan, or to sums, with at most that many rows, and whether there were more."""
+    word, at, count = replies[:4], 0, 0
+    if most == ALL_ROWS or word not in LAST_WORDS:
+        return replies, False
+    while count < most and replies.startswith(word, at):
+        at, count = reply_end(b"get", replies, at), count + 1
+    return b"%b%b %d\n" % (replies[:at], LAST_WORDS[word], count), replies.startswith(word, at)
+
+
+def _trees(state: State) -> Any:
+    """What the server has to know of a state: it is another one if this is."""
+    table = state.table
+    return table and (table.line.text, [(index.line.text, index.is_complete) for index in table.indexes.values()])
+
+
+def _send(stream: BinaryIO, sent: Any) -> None:
+    stream.write(_frame(sent))
+    stream.flush()
+
+
+def _received(stream: BinaryIO) -> Any:
+    """The next object, or None at the end."""
+    head = stream.read(8)
+    return pickle.loads(stream.read(int.from_bytes(head, "big"))) if len(head) == 8 else None
+
+
+def _frame(sent: Any) -> bytes:
+    body = pickle.dumps(sent)
+    return len(body).to_bytes(8, "big") + body
+
+
+# ---- the server's side ----
+
+
+class Engine:
+    """The engine's process, as its server sees it. `state` has the trees, `number` that of the last script that is kept, `starts` how often it was started.
+
+    `on_result` is called with the works and the result of each group, before their answers are given.
+    """
+
+    def __init__(self, path: str | os.PathLike[str], on_result: Callable[[list[Work], Result], None] = lambda group, result: None) -> None:
+        self.path, self.on_result = os.fspath(path), on_result
+        self.state, self.number, self.log_bytes, self.starts = State(), 0, 0, 0
+        self.is_open = False
+        self._waiting: deque[tuple[Work, asyncio.Future[Answer]]] = deque()
+        self._group: list[tuple[Work, asyncio.Future[Answer]]] = []
+        self._process: asyncio.subprocess.Process | None = None
+        self._is_ending = False
+
+    @property
+    def waiting(self) -> int:
+        """How many works wait for their answers."""
+        return len(self._waiting) + len(self._group)
+
+    @property
+    def pid(self) -> int:
+        return self._process.pid if self._process else 0
+
+    async def serve(self, opened: asyncio.Event) -> None:
+        """Keeps the process running until `end`. It raises the fault of a table that cannot be opened."""
+        while not self._is_ending:
+            await self._start()
+            opened.set()
+            try:
+                while True:
+                    self._take(await self._receive())
+            except (asyncio.IncompleteReadError, ConnectionError):
+                self._fail()
+            await self._process.wait()  # type: ignore[union-attr]
+
+    async def end(self) -> None:
+        """Ends the process, after it has answered the works that were sent to it."""
+        self._is_ending, self.is_open = True, False
+        if self._process and self._process.stdin:
+            self._process.stdin.close()
+            await self._process.wait()
+
+    async def run(self, work: Work) -> Answer:
+        """The answer to a work, once it is on disk."""
+        if not self.is_open:
+            raise Closed
+        future: asyncio.Future[Answer] = asyncio.get_running_loop().create_future()
+        self._waiting.append((work, future))
+        if not self._group:
+            self._send_group()
+        return await future
+
+    async def _start(self) -> None:
+        # The process finds the package where this one has found it.
+        folders = [str(Path(__file__).resolve().parents[1]), os.environ.get("PYTHONPATH", "")]
+        self._process = await asyncio.create_subprocess_exec(
+            sys.executable, "-P", "-c", START, self.path, str(os.getpid()), stdin=asyncio.subprocess.PIPE, stdout=asyncio.subprocess.PIPE,
+            limit=1 << 20, env={**os.environ, "PYTHONPATH": os.pathsep.join(filter(None, folders))},
+        )  # fmt: skip
+        self.starts += 1
+        try:
+            self._take(await self._receive())
+        except asyncio.IncompleteReadError:
+            raise Lost(f"the engine's process ended with status {await self._process.wait()} before the table was open") from None
+        self.is_open = not self._is_ending
+
+    async def _receive(self) -> Result:
+        stdout = self._process.stdout  # type: ignore[union-attr]
+        head = await stdout.readexactly(8)  # type: ignore[union-attr]
+        found: Result | Exception = pickle.loads(await stdout.readexactly(int.from_bytes(head, "big")))  # type: ignore[union-attr]
+        if isinstance(found, Exception):
+            raise found
+        return found
+
+    def _send_group(self) -> None:
+        """Sends the works that wait, as far as they make a group. A checkpoint is one by itself."""
+        size = 0
+        while self._waiting and len(self._group) < MOST_GROUP and size < GROUP_BYTES:
+            work, future = self._waiting[0]
+            if future.cancelled():
+                self._waiting.popleft()
+                continue
+            if work.script is None and self._group:
+                break
+            self._group.append(self._waiting.popleft())
+            size += len(work.script or b"")
+            if work.script is None:
+                break
+        if self._group:
+            self._process.stdin.write(_frame([work for work, _ in self._group]))  # type: ignore[union-attr]
+
+    def _take(self, result: Result) -> None:
+        group, self._group = self._group, []
+        self.on_result([work for work, _ in group], result)
+        self.state, self.number, self.log_bytes = result.state or self.state, result.number, result.log_bytes
+        self._send_group()
+        for (_, future), answer in zip(group, result.answers):
+            if future.cancelled():
+                continue
+            if isinstance(answer, Exception):
+                future.set_exception(answer)
+            else:
+                future.set_result(answer)
+
+    def _fail(self) -> None:
+        """The process has ended: what was not answered is answered so."""
+        self.is_open = False
+        lost = [*self._group, *self._waiting]
+        self._group, self._waiting = [], deque()
+        for _, future in lost:
+            if not future.done():
+                future.set_exception(Lost())

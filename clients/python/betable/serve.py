@@ -1,0 +1,682 @@
+"""A durable table behind HTTP: `python3 -m betable serve PATH --port N`. docs/SERVICE.md has its endpoints, and what is promised.
+
+This process speaks HTTP, and hands scripts to the engine's process (engine.py). The handlers of the endpoints are methods of `Service`; an answer that is no
+success is a `Problem`.
+"""
+
+from __future__ import annotations
+
+import argparse
+import asyncio
+import base64
+import hashlib
+import hmac
+import ipaddress
+import json
+import re
+import signal
+import sys
+import time
+from collections.abc import Awaitable, Callable, Iterator
+from contextlib import contextmanager
+from pathlib import Path
+from typing import Any, NamedTuple
+from urllib.parse import parse_qsl
+
+from aiohttp import web
+from prometheus_client import CollectorRegistry, Counter, Gauge, Histogram, ProcessCollector, generate_latest
+
+from .calls import copied, note, record, refusal
+from .durable import CHANGING, FAULTS, IndexBuilding, RequestReused
+from .engine import ALL_ROWS, Answer, Closed, Engine, Lost, Result, Work
+from .errors import Refused
+from .figures import picture
+from .forms import name_fault
+from .language import MOST_SCRIPT_BYTES, NUMBER, PRIMARY, State, broken_quotes_of_lines, commands
+from .replies import answered, whole_lines
+from .rows import rows_of
+from .trees import KeyColumns, image_of
+
+Handler = Callable[[web.Request], Awaitable[web.StreamResponse]]
+BLOCK_BYTES = 65_536  # of a reply that are written at once
+MOST_IMAGE_BYTES = 1 << 20  # of a tree that is drawn
+MOST_EVENTS, MOST_WATCHERS, MOST_CHANGES = 256, 64, 100  # that wait for a reader; readers; replies in an event
+EVENT_SECONDS = 15  # after which a reader of events gets a comment, so that proxies keep the connection
+LEAST_TOKEN_BYTES = 16
+REQUEST_ID = re.compile(r"[!-~]{1,200}")
+BODY_TYPES = ("text/", "application/octet-stream", "application/x-www-form-urlencoded")
+# The statuses of refusals outside of /run, by their numbers; of the others it is 422.
+STATUSES = {3: 409, 8: 404, 11: 409, 18: 503}
+BLANK_LINES = re.compile(rb"^\r?\n|\n\r?\n")
+SECONDS = (0.0003, 0.001, 0.003, 0.01, 0.03, 0.1, 0.3, 1, 3, 10, 30)
+
+
+class Limits(NamedTuple):
+    """Bytes of a body, requests that wait, bytes of bodies and replies that are held for them, and the seconds that a client has for its next bytes."""
+
+    body: int = MOST_SCRIPT_BYTES
+    waiting: int = 1_024
+    held: int = 256 << 20
+    seconds: float = 60
+
+
+class Problem(Exception):
+    """An answer that is no success: its status, the reason, further fields, and headers."""
+
+    def __init__(self, status: int, reason: str, headers: dict[str, str] | None = None, **fields: Any) -> None:
+        super().__init__(reason)
+        self.status, self.headers, self.fields = status, headers or {}, {"status": status, "reason": reason, **fields}
+
+
+def problem_of(fault: Exception) -> Problem:
+    """The problem that a fault of the engine is to a client."""
+    if isinstance(fault, Refused):
+        return Problem(STATUSES.get(fault.number, 422), fault.reason or str(fault), **refusal_fields(fault))
+    if isinstance(fault, Lost):
+        reason = "the engine's process ended before it had answered: the script was kept or it was not. Send it again with the same Idempotency-Key"
+        return Problem(503, reason, {"Retry-After": "1"})
+    if isinstance(fault, Closed):
+        return Problem(503, "the engine is starting: nothing was done", {"Retry-After": "1"})
+    return Problem(409 if isinstance(fault, IndexBuilding) else 422 if isinstance(fault, RequestReused) else 507, str(fault))
+
+
+def refusal_fields(fault: Refused) -> dict[str, Any]:
+    fields = {"number": fault.number, "name": fault.name, "line": fault.line, "item": fault.item, "column": fault.column, "value": fault.value}
+    return {name: value for name, value in fields.items() if value is not None}
+
+
+class Metrics:
+    """What a server measures, for Prometheus."""
+
+    def __init__(self, engine: Engine, service: Service) -> None:
+        registry = self.registry = CollectorRegistry()
+        self.requests = Counter("betable_requests", "Requests that were answered", ["endpoint", "status"], registry=registry)
+        self.request_seconds = Histogram("betable_request_seconds", "From the head of a request to its answer", buckets=SECONDS, registry=registry)
+        self.scripts = Counter("betable_scripts", "Scripts that were run", registry=registry)
+        self.refused = Counter("betable_refused_commands", "Commands that were refused", registry=registry)
+        self.commits = Counter("betable_commits", "Commits of scripts that changed the table", registry=registry)
+        self.group = Histogram("betable_group_scripts", "Scripts that were run as a group", buckets=(1, 2, 4, 8, 16, 32, 64, 128, 256), registry=registry)
+        self.run_seconds = Histogram("betable_run_seconds", "A group in the engine", buckets=SECONDS, registry=registry)
+        self.commit_seconds = Histogram("betable_commit_seconds", "A commit", buckets=SECONDS, registry=registry)
+        for name, help_text, value in (
+            ("betable_kept_scripts", "The number of the last script that is kept", lambda: engine.number),
+            ("betable_log_bytes", "Bytes of the scripts since the last checkpoint", lambda: engine.log_bytes),
+            ("betable_waiting_requests", "Requests that wait for the engine, or for the rest of their bodies", lambda: service.waiting),
+            ("betable_queued_scripts", "Scripts that the engine has not answered", lambda: engine.waiting),
+            ("betable_held_bytes", "Bytes of bodies and replies in memory", lambda: service.held),
+            ("betable_event_readers", "Readers of /events", lambda: len(service.watchers)),
+            ("betable_engine_open", "1 if the engine takes scripts", lambda: engine.is_open),
+            ("betable_engine_starts", "How often the engine's process was started", lambda: engine.starts),
+        ):
+            Gauge(name, help_text, registry=registry).set_function(value)
+        ProcessCollector("betable_engine", lambda: engine.pid, registry=registry)
+        ProcessCollector("betable_http", registry=registry)
+
+    def take(self, group: list[Work], result: Result, before: int) -> None:
+        self.scripts.inc(len(group))
+        self.group.observe(len(group))
+        self.run_seconds.observe(result.run_seconds)
+        if result.number != before:
+            self.commits.inc()
+            self.commit_seconds.observe(result.commit_seconds)
+
+
+class Service:
+    """The handlers of the endpoints over an engine."""
+
+    def __init__(self, path: str, limits: Limits = Limits(), token: bytes | None = None, is_read_only: bool = False) -> None:
+        self.engine = Engine(path, self.take)
+        self.limits, self.token, self.is_read_only = limits, token, is_read_only
+        self.waiting, self.held = 0, 0
+        self.watchers: set[asyncio.Queue[str | None]] = set()
+        self.metrics = Metrics(self.engine, self)
+        self.page = Path(__file__).with_name("page.html").read_text(encoding="utf-8")
+
+    def application(self) -> web.Application:
+        @web.middleware
+        async def answer(request: web.Request, handler: Handler) -> web.StreamResponse:
+            return await self.answer(request, handler)
+
+        application = web.Application(middlewares=[answer])
+        application.add_routes([
+            web.get("/", self.get_page),
+            web.get("/healthz", self.get_health),
+            web.get("/metrics", self.get_metrics),
+            web.post("/run", self.post_run),
+            web.post("/rows", self.post_rows),
+            web.get("/row", self.get_row, allow_head=False),
+            web.get("/rows/{tree}", self.get_rows, allow_head=False),
+            web.get("/sums/{tree}", self.get_sums, allow_head=False),
+            web.get("/trees", self.get_trees),
+            web.get("/tree/{tree}.svg", self.get_picture),
+            web.get("/events", self.get_events, allow_head=False),
+            web.post("/checkpoint", self.post_checkpoint),
+        ])  # fmt: skip
+        application.on_shutdown.append(self.end_events)
+        return application
+
+    # ---- what all requests share ----
+
+    async def answer(self, request: web.Request, handler: Handler) -> web.StreamResponse:
+        """The answer to a request: that of its handler, or a problem as JSON."""
+        resource = request.match_info.route.resource
+        begin, request["held"] = time.perf_counter(), 0
+        try:
+            if request.path not in ("/", "/healthz"):
+                self.expect_permission(request)
+            response = await handler(request)
+        except web.HTTPException as fault:
+            allowed = {"Allow": fault.headers["Allow"]} if "Allow" in fault.headers else {}
+            response = response_of(Problem(fault.status, f"{fault.reason}: {request.method} {request.path}", allowed))
+        except Problem as problem:
+            response = response_of(problem)
+        except (Refused, Lost, Closed, *FAULTS) as fault:
+            response = response_of(problem_of(fault))
+        finally:
+            self.held -= request["held"]
+        self.metrics.requests.labels(resource.canonical if resource else "none", response.status).inc()
+        self.metrics.request_seconds.observe(time.perf_counter() - begin)
+        return response
+
+    def expect_permission(self, request: web.Request) -> None:
+        """That a request has the token. Where there is none, a page of another site must not use the server through a browser on this machine."""
+        if self.token is not None:
+            scheme, _, given = request.headers.get("Authorization", "").partition(" ")
+            if scheme.lower() != "bearer" or not hmac.compare_digest(given.strip().encode("utf-8", "surrogateescape"), self.token):
+                raise Problem(401, "this server wants its token: 'Authorization: Bearer TOKEN'", {"WWW-Authenticate": "Bearer"})
+            return
+        origin, site = request.headers.get("Origin"), request.headers.get("Sec-Fetch-Site", "none")
+        if not is_loopback(host_name(request.host)):
+            raise Problem(421, "a server without a token is asked by a name of this machine: localhost, 127.0.0.1 or [::1]")
+        if site not in ("none", "same-origin") or origin not in (None, f"{request.scheme}://{request.host}"):
+            raise Problem(403, "a page of another site may not use a server without a token")
+
+    @contextmanager
+    def place(self) -> Iterator[None]:
+        """A place among the requests that wait."""
+        if self.waiting >= self.limits.waiting or self.held >= self.limits.held:
+            raise Problem(429, "too many requests wait, or too many bytes of them: try again", {"Retry-After": "1"})
+        self.waiting += 1
+        try:
+            yield
+        finally:
+            self.waiting -= 1
+
+    def hold(self, request: web.Request, count: int) -> None:
+        """Counts bytes that are held for a request until it is answered."""
+        request["held"] += count
+        self.held += count
+
+    async def body(self, request: web.Request) -> bytes:
+        if request.headers.get("Content-Encoding", "identity") != "identity":
+            raise Problem(415, "a body is sent as it is, without a Content-Encoding")
+        if not request.content_type.startswith(BODY_TYPES):
+            raise Problem(415, f"a body is a script, or lines of CSV, and not {request.content_type}")
+        parts, length, size = [], 0, request.content_length or 0
+        try:
+            while size <= self.limits.body and length <= self.limits.body and not request.content.at_eof():
+                if self.held > self.limits.held:
+                    raise Problem(429, "too many bytes of requests wait: try again", {"Retry-After": "1"})
+                async with asyncio.timeout(self.limits.seconds):
+                    parts.append(await request.content.readany())
+                length += len(parts[-1])
+                self.hold(request, len(parts[-1]))
+        except TimeoutError:
+            raise Problem(408, f"the next bytes of the body did not come within {self.limits.seconds:g} seconds") from None
+        if max(size, length) > self.limits.body:
+            raise Problem(413, f"a body has at most {self.limits.body:,} bytes")
+        return b"".join(parts)
+
+    async def sent(self, request: web.Request, parts: Iterator[bytes], headers: dict[str, str]) -> web.StreamResponse:
+        """An answer in parts. A client that does not take them in time is cut off, and so is one whose parts cannot be made."""
+        response = web.StreamResponse(headers={**COMMON_HEADERS, **headers})
+        await response.prepare(request)
+        try:
+            for part in parts:
+                async with asyncio.timeout(self.limits.seconds):
+                    await response.write(part)
+                await asyncio.sleep(0)  # others get their turn between parts
+            await response.write_eof()
+        except (TimeoutError, ConnectionError):
+            if request.transport is not None:
+                request.transport.abort()
+        return response
+
+    def take(self, group: list[Work], result: Result) -> None:
+        """Takes in what a group of scripts gave: measures it, and tells the readers of events which scripts were kept."""
+        before = self.engine.number
+        if group:
+            self.metrics.take(group, result, before)
+        for work, answer in zip(group, result.answers):
+            if isinstance(answer, Answer) and answer.number > before:
+                before = answer.number
+                if self.watchers and work.script is not None:
+                    self.tell(event_of(work.script, answer))
+
+    def tell(self, event: str) -> None:
+        for watcher in list(self.watchers):
+            if watcher.full():
+                # It is too slow. The end of its stream tells it that it has missed something.
+                self.watchers.discard(watcher)
+                watcher.get_nowait()
+                watcher.put_nowait(None)
+            else:
+                watcher.put_nowait(event)
+
+    async def end_events(self, application: web.Application) -> None:
+        for watcher in self.watchers:
+            if watcher.full():
+                watcher.get_nowait()
+            watcher.put_nowait(None)
+
+    # ---- endpoints: changes ----
+
+    async def post_run(self, request: web.Request) -> web.StreamResponse:
+        with self.place():
+            script, state = await self.body(request), self.engine.state
+            if self.is_read_only and (word := changing_word(script)):
+                raise Problem(403, f"'{word}' changes the table, and this server is read-only")
+            answer = await self.engine.run(Work(script, request_id(request)))
+        return await self.replies(request, script, answer, state)
+
+    async def post_rows(self, request: web.Request) -> web.StreamResponse:
+        self.expect_writable()
+        with self.place():
+            script, state = batch_of(await self.body(request)), self.engine.state
+            answer = await self.engine.run(Work(script, request_id(request)))
+        if answer.replies.startswith(b"refused "):
+            raise await asyncio.to_thread(refusal_of_rows, script, answer.replies, state)
+        return await self.replies(request, script, answer, state)
+
+    async def post_checkpoint(self, request: web.Request) -> web.StreamResponse:
+        self.expect_writable()
+        with self.place():
+            answer = await self.engine.run(Work(None))
+        return json_response({"number": answer.number, "log_bytes": self.engine.log_bytes})
+
+    def expect_writable(self) -> None:
+        if self.is_read_only:
+            raise Problem(403, "this server is read-only")
+
+    async def replies(self, request: web.Request, script: bytes, answer: Answer, state: State) -> web.StreamResponse:
+        """The replies to a script: their bytes, or as JSON each with its command."""
+        self.hold(request, len(answer.replies))
+        refused = refused_count(script, answer.replies)
+        self.metrics.refused.inc(refused)
+        headers = {"Betable-Refused": str(refused), "Betable-Number": str(answer.number)}
+        if is_json(request, ""):
+            found = await asyncio.to_thread(replies_with_commands, script, answer.replies, state)
+            return json_response({"replies": found, "refused": refused, "number": answer.number}, headers)
+        parts = (answer.replies[at : at + BLOCK_BYTES] for at in range(0, len(answer.replies), BLOCK_BYTES))
+        return await self.sent(request, parts, {"Content-Type": "text/plain; charset=utf-8", "Content-Length": str(len(answer.replies)), **headers})
+
+    # ---- endpoints: reads ----
+
+    async def get_row(self, request: web.Request) -> web.StreamResponse:
+        query = query_of(request, "key", "format")
+        if "key" not in query:
+            raise Problem(400, "a key has a parameter 'key' for each of its columns")
+        return await self.rows(request, f"get {record_of('key', query['key'])}\n", query)
+
+    async def get_rows(self, request: web.Request) -> web.StreamResponse:
+        query = query_of(request, "from", "to", "limit", "format")
+        return await self.rows(request, f"scan {tree_of(request)}\n{bounds_of(query)}go\n", query)
+
+    async def get_sums(self, request: web.Request) -> web.StreamResponse:
+        query = query_of(request, "columns", "of", "from", "to", "limit", "format")
+        if "of" not in query:
+            raise Problem(400, "'of' names the column whose sum is wanted")
+        head = f"sums {tree_of(request)} {number_of(query, 'columns', 1)} {checked_name(query['of'][0])}\n"
+        return await self.rows(request, f"{head}{bounds_of(query)}go\n", query)
+
+    async def rows(self, request: web.Request, text: str, query: dict[str, list[str]]) -> web.StreamResponse:
+        """The rows of a `get`, a `scan` or of `sums`, as CSV or as JSON."""
+        script, as_json = text.encode(), is_json(request, query.get("format", [""])[0])
+        with self.place():
+            answer = await self.engine.run(Work(script, None, number_of(query, "limit", ALL_ROWS)))
+        self.hold(request, len(answer.replies))
+        if answer.replies.startswith(b"refused "):
+            raise refusal(next(commands(script)), answer.replies, self.engine.state, [])
+        if script.startswith(b"get "):
+            if answer.replies == b"none\n":
+                raise Problem(404, "no row has this key")
+            answer = answer._replace(replies=answer.replies + b"rows 1\n")
+        parts = (json_rows if as_json else csv_rows)(answer, script.startswith(b"sums "))
+        content_type = "application/json" if as_json else "text/csv; charset=utf-8; header=absent"
+        return await self.sent(request, parts, {"Content-Type": content_type, "Betable-More": "true" if answer.is_cut else "false"})
+
+    async def get_trees(self, request: web.Request) -> web.StreamResponse:
+        return json_response(trees_of(self.engine.state))
+
+    async def get_picture(self, request: web.Request) -> web.StreamResponse:
+        query, tree = query_of(request, "columns", "lines"), tree_of(request)
+        columns, lines = max(2, min(32, number_of(query, "columns", 8))), max(1, min(64, number_of(query, "lines", 6)))
+        script = f"image {tree}\n".encode()
+        with self.place():
+            answer = await self.engine.run(Work(script))
+        self.hold(request, len(answer.replies))
+        state = self.engine.state
+        if answer.replies.startswith(b"refused "):
+            raise refusal(next(commands(script)), answer.replies, state, [])
+        if len(answer.replies) > MOST_IMAGE_BYTES:
+            raise Problem(422, f"the image of this tree has {len(answer.replies):,} bytes, and one of at most {MOST_IMAGE_BYTES:,} is drawn")
+        drawn = await asyncio.to_thread(picture_of, answer.replies, tree, state, columns, lines)
+        return web.Response(text=drawn, content_type="image/svg+xml", headers=COMMON_HEADERS)
+
+    async def get_events(self, request: web.Request) -> web.StreamResponse:
+        if len(self.watchers) >= MOST_WATCHERS:
+            raise Problem(429, f"at most {MOST_WATCHERS} clients read events", {"Retry-After": "10"})
+        response = web.StreamResponse(headers={**COMMON_HEADERS, "Content-Type": "text/event-stream"})
+        await response.prepare(request)
+        watcher: asyncio.Queue[str | None] = asyncio.Queue(MOST_EVENTS)
+        self.watchers.add(watcher)
+        event: str | None = f"id: {self.engine.number}\nevent: start\ndata: {json.dumps({'number': self.engine.number})}\n\n"
+        try:
+            while event is not None:
+                async with asyncio.timeout(self.limits.seconds):
+                    await response.write(event.encode())
+                try:
+                    async with asyncio.timeout(EVENT_SECONDS):
+                        event = await watcher.get()
+                except TimeoutError:
+                    event = ":\n\n"
+        except (TimeoutError, ConnectionError):
+            if request.transport is not None:
+                request.transport.abort()
+        finally:
+            self.watchers.discard(watcher)
+        return response
+
+    async def get_metrics(self, request: web.Request) -> web.StreamResponse:
+        return web.Response(body=generate_latest(self.metrics.registry), headers={**COMMON_HEADERS, "Content-Type": "text/plain; version=0.0.4; charset=utf-8"})
+
+    async def get_health(self, request: web.Request) -> web.StreamResponse:
+        is_open = self.engine.is_open
+        return json_response({"status": "open" if is_open else "starting"}, status=200 if is_open else 503)
+
+    async def get_page(self, request: web.Request) -> web.StreamResponse:
+        return web.Response(text=self.page, content_type="text/html", headers={**COMMON_HEADERS, "Content-Security-Policy": content_policy(self.page)})
+
+
+# ---- requests ----
+
+
+def query_of(request: web.Request, *names: str) -> dict[str, list[str]]:
+    """The parameters of a request, each with its values in order."""
+    try:
+        pairs = parse_qsl(request.rel_url.raw_query_string, keep_blank_values=True, strict_parsing=True, errors="strict", max_num_fields=64)
+    except ValueError as fault:
+        if not request.rel_url.raw_query_string:
+            return {}
+        raise Problem(400, f"the query cannot be read: {fault}") from None
+    found: dict[str, list[str]] = {}
+    for name, value in pairs:
+        if name not in names:
+            raise Problem(400, f"'{name[:40]}' is no parameter here: there are {', '.join(names)}")
+        found.setdefault(name, []).append(value)
+    return found
+
+
+def number_of(query: dict[str, list[str]], name: str, otherwise: int) -> int:
+    if name not in query:
+        return otherwise
+    word = query[name][0]
+    if not NUMBER.fullmatch(word.encode()):
+        raise Problem(400, f"'{name}' is a number of 1 to 9 digits")
+    return int(word)
+
+
+def checked_name(word: str) -> str:
+    """A name of a tree or a column, which may be put into a command."""
+    if reason := name_fault(word.encode("utf-8", "replace")):
+        raise Problem(400, reason)
+    return word
+
+
+def tree_of(request: web.Request) -> str:
+    return checked_name(request.match_info["tree"])
+
+
+def record_of(name: str, values: list[str]) -> str:
+    try:
+        return record(values)
+    except ValueError as fault:
+        raise Problem(400, f"'{name}': {fault}") from None
+
+
+def bounds_of(query: dict[str, list[str]]) -> str:
+    """The lines of a block that bound a range: a parameter has a value for each column."""
+    return "".join(f"{word} {record_of(word, query[word])}\n" for word in ("from", "to") if word in query)
+
+
+def request_id(request: web.Request) -> str | None:
+    """The id under which a script is run exactly once, or None."""
+    given = request.headers.get("Idempotency-Key")
+    if given is not None and not REQUEST_ID.fullmatch(given):
+        raise Problem(400, "an Idempotency-Key has 1 to 200 visible letters of ASCII")
+    return given
+
+
+def is_json(request: web.Request, wanted: str) -> bool:
+    if wanted not in ("", "csv", "json"):
+        raise Problem(400, "'format' is csv or json")
+    return wanted == "json" or (not wanted and "application/json" in request.headers.get("Accept", ""))
+
+
+def host_name(host: str) -> str:
+    """The name in a Host header, without its port."""
+    return host[1 : host.find("]")] if host.startswith("[") else host.partition(":")[0]
+
+
+def is_loopback(name: str) -> bool:
+    try:
+        return name == "localhost" or ipaddress.ip_address(name).is_loopback
+    except ValueError:
+        return False
+
+
+def batch_of(body: bytes) -> bytes:
+    """The script of one batch that puts the rows of CSV lines. Line N of the body is line N + 1 of the script."""
+    if BLANK_LINES.search(body):
+        lines = re.sub(rb"^(?=.)(?!\r$)", b"put ", body, flags=re.MULTILINE)
+    else:
+        lines = b"put " + body.removesuffix(b"\n").replace(b"\n", b"\nput ") if body else b""
+    if b'"' in body and (broken := next(broken_quotes_of_lines(lines, 1), None)):
+        raise Problem(400, f"{broken} A row is one line here: a text with a line break comes in by a load", line=broken.first)
+    return b"batch\n" + lines.removesuffix(b"\n") + b"\nend\n"
+
+
+def changing_word(script: bytes) -> str | None:
+    """The first word of a script's commands that changes the table, or None."""
+    return next((command.head.word.decode() for command in commands(script) if command.head.word in CHANGING), None)
+
+
+# ---- answers ----
+
+COMMON_HEADERS = {"Cache-Control": "no-store", "X-Content-Type-Options": "nosniff"}
+
+
+def json_response(found: Any, headers: dict[str, str] | None = None, status: int = 200) -> web.Response:
+    return web.json_response(found, status=status, headers={**COMMON_HEADERS, **(headers or {})})
+
+
+def response_of(problem: Problem) -> web.Response:
+    return json_response(problem.fields, problem.headers, problem.status)
+
+
+def content_policy(page: str) -> str:
+    """The policy of the page: its own script and style, this server, and nothing else."""
+    script, style = (re.search(f"<{tag}>(.*?)</{tag}>", page, re.DOTALL) for tag in ("script", "style"))
+    hashes = [base64.b64encode(hashlib.sha256(part[1].encode()).digest()).decode() if part else "" for part in (script, style)]
+    return f"default-src 'none'; script-src 'sha256-{hashes[0]}'; style-src 'sha256-{hashes[1]}'; img-src blob:; connect-src 'self'; frame-ancestors 'none'"
+
+
+def refused_count(script: bytes, replies: bytes) -> int:
+    if b"refused " not in replies:
+        return 0
+    return sum(reply.startswith(b"refused ") for _, reply in answered(commands(script), replies))
+
+
+def replies_with_commands(script: bytes, replies: bytes, state: State) -> list[dict[str, Any]]:
+    """Each reply with its command: the lines of the reply, or the refusal."""
+    state, found = copied(state), []
+    for command, reply in answered(commands(script), replies):
+        said: dict[str, Any] = {"line": command.head.number, "command": command.head.word.decode(errors="replace")}
+        if reply.startswith(b"refused "):
+            fault = refusal(command, reply, state, [])
+            said["refused"] = {**refusal_fields(fault), "reason": fault.reason}
+        else:
+            said["reply"] = whole_lines(reply[:-1].decode(), "\n")
+        note(state, command, reply)
+        found.append(said)
+    return found
+
+
+def refusal_of_rows(script: bytes, replies: bytes, state: State) -> Problem:
+    """The problem of a batch that was refused: `line` is the line of the body."""
+    command = next(commands(script))
+    fault = refusal(command, replies, state, [])
+    problem = problem_of(fault)
+    if fault.item is not None:
+        problem.fields["line"] = command.messages()[fault.item - 1].number - 1
+    return problem
+
+
+def event_of(script: bytes, answer: Answer) -> str:
+    """The event that a script was kept: its number, and the replies to those of its commands that changed the table."""
+    replies = [reply for command, reply in answered(commands(script), answer.replies) if command.head.word in CHANGING]
+    changes = [reply[:-1].decode() for reply in replies if not reply.startswith(b"refused ")]
+    said = {"number": answer.number, "replies": changes[:MOST_CHANGES], "more": max(0, len(changes) - MOST_CHANGES)}
+    return f"id: {answer.number}\ndata: {json.dumps(said)}\n\n"
+
+
+def line_blocks(replies: bytes) -> Iterator[list[str]]:
+    """The lines of a reply to a `scan` or to `sums` that have rows or groups, in blocks, without the words before the records."""
+    at, last = 0, replies.rfind(b"\n", 0, -1) + 1
+    while at < last:
+        end = replies.find(b"\n", min(at + BLOCK_BYTES, last - 1), last) + 1 or last
+        while end < last and replies.count(b'"', at, end) % 2:
+            end = replies.find(b"\n", end, last) + 1 or last
+        yield [line[4:] for line in whole_lines(replies[at : end - 1].decode(), "\n")]
+        at = end
+
+
+def csv_rows(answer: Answer, is_sums: bool) -> Iterator[bytes]:
+    """Rows as CSV. A group is its count, its sum, and the values that it is of."""
+    for lines in line_blocks(answer.replies):
+        if is_sums:
+            lines = [line.replace(" ", ",", 2) for line in lines]
+        yield "".join(line + "\n" for line in lines).encode()
+
+
+def json_rows(answer: Answer, is_sums: bool) -> Iterator[bytes]:
+    """Rows as JSON. Bytes are in hexadecimal digits, as in a script."""
+    kinds = tuple(kind for _, kind in answer.columns)
+    names = (["count", "sum"] if is_sums else []) + [name for name, _ in answer.columns]
+    yield f'{{"columns": {json.dumps(names)}, "more": {json.dumps(answer.is_cut)}, "rows": ['.encode()
+    comma = ""
+    for lines in line_blocks(answer.replies):
+        counts: list[list[int]] = [[] for _ in lines]
+        if is_sums:
+            groups = [line.split(" ", 2) for line in lines]
+            counts, lines = [[int(count), int(total)] for count, total, _ in groups], [values for _, _, values in groups]
+        rows = ([*count, *(value.hex() if isinstance(value, bytes) else value for value in row)] for count, row in zip(counts, rows_of(lines, kinds)))
+        yield (comma + ",\n".join(json.dumps(row, ensure_ascii=False) for row in rows)).encode()
+        comma = ",\n"
+    yield b"]}\n"
+
+
+def trees_of(state: State) -> dict[str, Any]:
+    """The table as JSON: its columns, and its trees with the columns of their rows and of their keys."""
+    table = state.table
+    if table is None:
+        return {"columns": [], "key": [], "trees": {}}
+
+    def names(columns: list[tuple[bytes, bytes]]) -> list[str]:
+        return [name.decode() for name, _ in columns]
+
+    trees = {}
+    for name in (PRIMARY, *table.indexes):
+        is_complete = name == PRIMARY or table.indexes[name].is_complete
+        trees[name.decode()] = {"columns": names(table.columns_of(name)), "key": names(table.key_of(name)), "complete": is_complete}
+    return {"columns": [{"name": name.decode(), "kind": kind.decode()} for name, kind in table.columns], "key": names(table.key), "trees": trees}
+
+
+def picture_of(replies: bytes, tree: str, state: State, columns: int, lines: int) -> str:
+    """The picture of the image of a tree. Its keys are shown as their values."""
+    key_columns, table = None, state.table
+    if table is not None and table.has_tree(tree.encode()):
+        key = table.key_of(tree.encode())
+        key_columns = KeyColumns([kind.decode() for _, kind in key], [name.decode() for name, _ in key])
+    image = image_of(iter(whole_lines(replies[:-1].decode(), "\n")), 1, "", key_columns)
+    return picture([image], columns, lines, [image.title()])
+
+
+# ---- the command ----
+
+
+def add_words(parser: argparse.ArgumentParser) -> None:
+    """The words of `python3 -m betable serve`."""
+    limits = Limits()
+    parser.add_argument("path", metavar="PATH", help="the file of the table, which is made if there is none")
+    parser.add_argument("--host", default="127.0.0.1", help="the address that is listened on (%(default)s); any other than a loopback one wants --token")
+    parser.add_argument("--port", metavar="N", type=int, default=8470, help="the port (%(default)s); with 0 one that is free")
+    parser.add_argument("--token", metavar="FILE", type=Path, help=f"a file whose first line, of at least {LEAST_TOKEN_BYTES} bytes, each request has to have")
+    parser.add_argument("--read-only", action="store_true", help="refuses what would change the table")
+    parser.add_argument("--most-body", metavar="BYTES", type=int, default=limits.body, help="the most bytes of a body (%(default)s)")
+    parser.add_argument("--most-waiting", metavar="N", type=int, default=limits.waiting, help="the most requests that wait (%(default)s)")
+    parser.add_argument("--most-held", metavar="BYTES", type=int, default=limits.held, help="the most bytes of bodies and replies in memory (%(default)s)")
+    parser.add_argument("--client-seconds", metavar="S", type=float, default=limits.seconds, help="how long a client has for its next bytes (%(default)s)")
+
+
+def run(words: argparse.Namespace) -> int:
+    """Serves until a signal ends it. The status is 0 after a signal, 1 after a fault, and 2 for wrong words."""
+    try:
+        token = words.token.read_bytes().split(b"\n", 1)[0].strip() if words.token else None
+    except OSError as fault:
+        return failed(f"{words.token}: {fault.strerror}", 2)
+    if token is not None and len(token) < LEAST_TOKEN_BYTES:
+        return failed(f"{words.token}: a token has at least {LEAST_TOKEN_BYTES} bytes: 'openssl rand -hex 32' prints one", 2)
+    if token is None and not is_loopback(words.host):
+        return failed(f"{words.host} can be reached by others: --token FILE is wanted", 2)
+    limits = Limits(words.most_body, words.most_waiting, words.most_held, words.client_seconds)
+    try:
+        return asyncio.run(serve(Service(words.path, limits, token, words.read_only), words.host, words.port))
+    except Exception as fault:
+        return failed(str(fault) or type(fault).__name__, 1)
+
+
+def failed(reason: str, status: int) -> int:
+    print(f"betable serve: {reason}", file=sys.stderr)
+    return status
+
+
+async def serve(service: Service, host: str, port: int) -> int:
+    """Opens the table, listens, and ends at a signal: what came in before is answered, and then the engine is ended."""
+    ended, opened = asyncio.Event(), asyncio.Event()
+    for number in (signal.SIGTERM, signal.SIGINT):
+        asyncio.get_running_loop().add_signal_handler(number, ended.set)
+    engine = asyncio.create_task(service.engine.serve(opened))
+    runner = web.AppRunner(service.application(), access_log=None, auto_decompress=False)
+    try:
+        await first_of(opened.wait(), ended.wait(), engine)
+        if not ended.is_set():
+            await runner.setup()
+            site = web.TCPSite(runner, host, port, shutdown_timeout=service.limits.seconds)
+            await site.start()
+            address = runner.addresses[0]
+            name = f"[{address[0]}]" if ":" in address[0] else address[0]
+            print(f"betable: {service.engine.path} is served at http://{name}:{address[1]}", flush=True)
+            await first_of(ended.wait(), engine)
+    finally:
+        await runner.cleanup()
+        await service.engine.end()
+    return 0
+
+
+async def first_of(*waits: Any) -> None:
+    """Waits for the first of these, and raises its fault."""
+    tasks = [asyncio.ensure_future(wait) for wait in waits]
+    done, _ = await asyncio.wait(tasks, return_when=asyncio.FIRST_COMPLETED)
+    for task in done:
+        task.result()
