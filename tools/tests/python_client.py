@@ -14,6 +14,7 @@ import random
 import subprocess
 import sys
 import tempfile
+import threading
 import uuid
 from pathlib import Path
 
@@ -93,6 +94,7 @@ VALUES = [
     (lambda c, s: s.put([(4, "a\rb", True, b"")]), "RowValueError", "column 'city': 'a\\rb' has a line break"),
     (lambda c, s: s.put([(4, "\ud800", True, b"")]), "RowValueError", "column 'city': '\\ud800' has half of a surrogate pair"),
     (lambda c, s: s.put([(n, "a" if n < 19 else "a\nb", True, b"") for n in range(10, 20)]), "RowValueError", "row 10, column 'city': 'a\\nb' has a line break"),
+    (lambda c, s: s.put([(n, "a" if n < 19 else "a\rb", True, b"") for n in range(10, 20)]), "RowValueError", "row 10, column 'city': 'a\\rb' has a line break"),
     (lambda c, s: s.put([(n, "a" if n < 19 else "\udfff", True, b"") for n in range(10, 20)]), "RowValueError", "row 10, column 'city': '\\udfff' has half of a"),
     (lambda c, s: s.put([(n, "a", True, b"" if n < 19 else "") for n in range(10, 20)]), "RowTypeError", "row 10, column 'raw': '' is of type str"),
     (lambda c, s: s.put([(2**63, "a", True, b"")]), "Refused", "refused 6 BadField 1: row 1: column 1 'id' (int): '9223372036854775808' is over the greatest int"),
@@ -429,6 +431,56 @@ def anything_may_be_asked(client, session, dice):
         raise fault
 
 
+def texts_are_keys_as_they_are():
+    """Texts with a byte order mark, quotes, points and nothing in them, as the whole of a row and as the first part of a line."""
+    client = betable()
+    texts = ["", ".", "..", "\ufeff", "\ufeffx", "x\ufeff", '"', 'a"', "a,b", " ", "end", "go", "put 1", "é", "\0", "a" * 254]
+    for load in (False, True):
+        for some in (1, 3, len(texts)):
+            with client.Session() as session:
+                session.run("table 16 64 16 1 name:text\n")
+                for place in range(0, len(texts), some) if not load else [0]:
+                    (session.load if load else session.put)([(text,) for text in (texts if load else texts[place : place + some])])
+                expect(session.scan(), sorted((text,) for text in texts))
+                for text in texts:
+                    expect((text, session.get(text), session.scan("primary", (text,), (text + "\0",))), (text, (text,), [(text,)]))
+                expect(session.batch([client.delete(text) for text in texts]), len(texts))
+                expect(session.scan(), [])
+
+
+def keys_of_two_columns_have_two_values():
+    client = betable()
+    with client.Session() as session:
+        session.run("table 16 64 16 2 land:text city:text qty:int\n")
+        rows = [("n", "o", 1), ("n", "z", 2), ("no", "a", 3), ("o", "x", 4)]
+        session.put(rows)
+        for call in (
+            lambda: session.scan("primary", "no"), lambda: session.get("no"), lambda: session.get(("n", "o")), lambda: session.batch([client.delete("n")]),
+            lambda: session.batch([client.upsert("n", add={"qty": 1})]), lambda: session.scan("primary", ["n", "o", 1]),
+        ):  # fmt: skip
+            expect(isinstance(fault_of(call), client.RowError), True)
+        expect(session.scan("primary", ("n",), ("n", "z")), rows[:1])
+        expect((session.scan("primary", ["no"]), session.get("n", "z"), session.scan()), (rows[2:], rows[1], rows))
+
+
+def messages_that_are_alike_differ_by_their_values():
+    """Upserts of one shape, whose line is made once: texts that need quotes, and values whose Python text is not their field, after plain ones."""
+    client = betable()
+    with client.Session() as session:
+        session.run("table 16 64 16 1 id:int city:text ok:flag raw:bytes qty:int\n")
+        texts, binaries = ["a", "b,c", '"', "", "."], [b"a", b"", b"\xff"]
+        messages = [client.put(number, "x", False, b"", 0) for number in range(9)]
+        messages += [client.upsert(number, set={"city": text}) for number, text in enumerate(texts)]
+        messages += [client.upsert(number, set={"raw": value, "ok": True}) for number, value in enumerate(binaries, 5)]
+        messages += [client.upsert(8, add={"qty": 5}, set={"qty": 1}, max={"qty": 4}), client.upsert(0, add={"qty": 2**62}), client.delete(1)]
+        expect(session.batch(messages), len(messages))
+        wanted = [(number, text, False, b"", 0) for number, text in enumerate(texts)] + [(number, "x", True, value, 0) for number, value in enumerate(binaries, 5)]
+        expect(session.scan(), [(0, "a", False, b"", 2**62), *wanted[2:], (8, "x", False, b"", 6)])
+        for wrong in (client.upsert(0, set={"city": "a\nb"}), client.upsert(0, set={"raw": "a"}), client.upsert("0", add={"qty": 1})):
+            expect(isinstance(fault_of(lambda: session.batch([*messages, wrong])), client.RowError), True)
+        expect(session.get(1), None)
+
+
 # ---- exceptions ----
 
 
@@ -451,6 +503,65 @@ def refusals_say_what_to_do():
         expect(fault.replies[2].rows, [(1, "a", 1)])
         fault = fault_of(lambda: session.batch([client.upsert(1, add={"qty": 2**63})]))
         expect((fault.row, fault.column, fault.value), (1, "qty", 2**63))
+
+
+def the_reason_is_that_of_the_least_refusal():
+    """Of a batch with a line of the wrong length and then a value that is none, the second one is what the refusal names."""
+    client = betable()
+    with client.Session() as session:
+        session.run("table 16 64 16 1 id:int city:text\n")
+        fault = fault_of(lambda: session.run("batch\nput 1\nput x,a\nput y,b\nend\n"))
+        expect((fault.number, fault.item, fault.column, fault.value), (6, 2, "id", "x"))
+        fault = fault_of(lambda: session.run("load\nid,city\n1\nx,a\n.\n"))
+        expect((fault.number, fault.item, fault.value), (6, 2, "x"))
+
+
+class NoMemory:
+    """The library, where a run answers that memory ran out after the first replies of the script were made."""
+
+    def __init__(self, library, script):
+        self.library, self.script = library, script
+
+    def __getattr__(self, name):
+        return getattr(self.library, name)
+
+    def betable_run(self, handle, script, size):
+        self.library.betable_run(handle, self.script, len(self.script))
+        return 1
+
+
+def out_of_memory_says_what_was_carried_out():
+    client = betable()
+    with client.Session() as session:
+        session.run("table 16 64 16 1 id:int city:text\n")
+        session.put([(1, "a")])
+        library, session._library = session._library, NoMemory(session._library, b"get 1\n")
+        fault = fault_of(lambda: session.run("get 1\nindex by_city on city\nbuild by_city 9\n"))
+        expect((type(fault), fault.replies, fault.is_cut, fault.is_lost, fault.taken), (client.OutOfMemory, b"row 1,a\n", False, False, 0))
+        # Perhaps the index was made, so its columns are known.
+        session._library = library
+        session.run("index by_city on city\nbuild by_city 9\n")
+        expect(session.scan("by_city"), [("a", 1)])
+        session._library = NoMemory(library, b"")
+        fault = fault_of(lambda: session.put([(2, "b")]))
+        expect((type(fault), fault.replies, str(fault)), (client.OutOfMemory, b"", "betable: out of memory"))
+        session._library = library
+        expect(session.scan(), [(1, "a")])
+
+
+def a_session_stays_on_its_thread():
+    client, faults = betable(), []
+    session = filled()
+    calls = [lambda: session.put(ROWS), lambda: session.get(1), session.scan, lambda: session.run("get 1\n"), session.close, lambda: session.is_lost]
+    thread = threading.Thread(target=lambda: faults.extend(fault_of(call) for call in calls))
+    thread.start()
+    thread.join()
+    expect([type(fault) for fault in faults], [RuntimeError] * len(calls))
+    expect(session.scan(), ROWS)
+    session.close()
+    session.close()
+    expect({type(fault_of(call)) for call in (calls[0], calls[1], calls[2], calls[3], calls[5])}, {ValueError})
+    expect(client.Session().__enter__().close(), None)
 
 
 def a_load_names_the_line_of_its_file():
@@ -561,6 +672,12 @@ TESTS_OF_TEXTS = [
     calls_without_a_table_are_refused,
     names_are_never_a_piece_of_a_script,
     values_of_all_types_are_stored_exactly_or_refused,
+    texts_are_keys_as_they_are,
+    keys_of_two_columns_have_two_values,
+    messages_that_are_alike_differ_by_their_values,
+    the_reason_is_that_of_the_least_refusal,
+    out_of_memory_says_what_was_carried_out,
+    a_session_stays_on_its_thread,
     refusals_say_what_to_do,
     a_load_names_the_line_of_its_file,
     exceptions_can_be_pickled,
