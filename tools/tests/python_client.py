@@ -446,6 +446,14 @@ def texts_are_keys_as_they_are():
                     expect((text, session.get(text), session.scan("primary", (text,), (text + "\0",))), (text, (text,), [(text,)]))
                 expect(session.batch([client.delete(text) for text in texts]), len(texts))
                 expect(session.scan(), [])
+    # Many rows of which one alone needs quotes.
+    for special in ("\ufeffx", ".", "", "a,b"):
+        for load in (False, True):
+            with client.Session() as session:
+                session.run("table 16 64 16 1 name:text\n")
+                rows = [*(("a" * count,) for count in range(1, 9)), (special,)]
+                (session.load if load else session.put)(rows)
+                expect((special, load, session.scan()), (special, load, sorted(rows)))
 
 
 def keys_of_two_columns_have_two_values():
@@ -479,6 +487,8 @@ def messages_that_are_alike_differ_by_their_values():
         for wrong in (client.upsert(0, set={"city": "a\nb"}), client.upsert(0, set={"raw": "a"}), client.upsert("0", add={"qty": 1})):
             expect(isinstance(fault_of(lambda: session.batch([*messages, wrong])), client.RowError), True)
         expect(session.get(1), None)
+        session.batch([client.upsert(number, set={"qty": Number(7)}) for number in range(2, 4)])
+        expect((session.get(2)[4], session.get(3)[4]), (7, 7))
 
 
 # ---- exceptions ----
