@@ -530,6 +530,35 @@ def csv_of_sqlite3_comes_back():
     expect(there_and_back(stored, "--key", "note"), [wanted[0], *sorted(wanted[1:])])
 
 
+# Files as other programs write them, the words that are asked for, and the rows that are stored.
+OF_OTHER_PROGRAMS = (
+    # A spreadsheet: semicolons, decimal commas, CR LF, letters of Windows, a dash for no value, and words of its own for yes and no.
+    ('Nr.;Bezeichnung;Preis \u20ac;Bestand;Lieferbar\r\n007;"Schraube ""M3"", kurz";1234,50;-;ja\r\n008;Mutter;0,05;;nein\r\n'.encode("cp1252"),
+     "--key Nr. --encoding cp1252 --scale preis=2 --null bestand=- --empty bestand=-1 --flag lieferbar=ja,nein",
+     [["nr", "bezeichnung", "preis", "bestand", "lieferbar"], ["007", 'Schraube "M3", kurz', "123450", "-1", "true"], ["008", "Mutter", "5", "-1", "false"]]),
+    # COPY of PostgreSQL, with (format csv, header, null '\\N').
+    (b'id,host,ok,value,note\n1,h1,t,0.05,"a, ""b"""\n2,\\N,f,\\N,\\N\n3,h1,\\N,12,""\n',
+     "--key id --null \\N --flag ok --empty ok=false --scale value=2 --empty value=-1",
+     [["id", "host", "ok", "value", "note"], ["1", "h1", "true", "5", 'a, "b"'], ["2", "", "false", "-1", ""], ["3", "h1", "false", "1200", ""]]),
+    # to_csv of pandas: the index has no name, ints among which one is missing are floats, and floats have exponents.
+    (b",name,qty,ratio,ok\n0,a,1.0,1e-05,True\n1,b,,0.25,False\n2,c,3.0,,True\n",
+     "--key column_1 --scale qty=0 --empty qty=-1 --scale ratio=5 --empty ratio=-1",
+     [["column_1", "name", "qty", "ratio", "ok"], ["0", "a", "1", "1", "true"], ["1", "b", "-1", "25000", "false"], ["2", "c", "3", "-1", "true"]]),
+    # The shell of SQLite in its mode csv: NULL is an empty field, the empty text is in quotes, and there are no flags.
+    (b'id,name,price,ok\r\n1,"a\r\nb",0.1,1\r\n2,"",2.0,0\r\n3,,1.0e-07,\r\n', "--key id --scale price=7 --flag ok --empty ok=false",
+     [["id", "name", "price", "ok"], ["1", "a\r\nb", "1000000", "true"], ["2", "", "20000000", "false"], ["3", "", "1", "false"]]),
+)  # fmt: skip
+
+
+def csv_of_other_programs_goes_in():
+    """As it is, compressed, and as CSV for a session."""
+    for given, words, rows in OF_OTHER_PROGRAMS:
+        expect(there_and_back(given, *words.split()), rows)
+        expect(there_and_back(gzip.compress(given), *words.split()), rows)
+        status, text, _ = from_csv(given, *words.split(), "--csv")
+        expect((status, [[field.lower() for field in row] for row in read(text)]), (0, [[field.lower() for field in row] for row in rows]))
+
+
 def csv_with_lines_of_a_point_comes_back_mended():
     rows = [["1", "a\n.\nb"], ["2", "\n.\r\n.\n"], ["3", "."], ["4", ".\n"], ["5", "x" * 254 + "\n.\ny"]]
     text = io.StringIO(newline="")
@@ -603,6 +632,7 @@ TESTS = [
     from_csv_takes_one_record_of_each_key,
     csv_comes_back_as_it_was,
     csv_of_sqlite3_comes_back,
+    csv_of_other_programs_goes_in,
     csv_with_lines_of_a_point_comes_back_mended,
     csv_sums_are_exact,
     help_of_from_csv_can_be_followed,
