@@ -15,8 +15,9 @@ The library is libbt_c.so, in the folder that BETABLE_LIBRARY names, beside this
 docs/SCRIPT.md has the language, and docs/C.md the calls and their errors.
 """
 
-from .calls import MOST_MESSAGES, OPERATIONS, Calls, Message, delete, field, put, record, upsert
+from .calls import MOST_MESSAGES, Calls
 from .errors import OutOfMemory, Refused, RowError, RowTypeError, RowValueError
+from .messages import OPERATIONS, Message, delete, field, put, record, upsert
 from .replies import Reply
 from .session import Session
 

@@ -5,7 +5,8 @@ from __future__ import annotations
 import os
 import re
 from abc import ABC, abstractmethod
-from collections.abc import Callable, Iterable, Iterator, Mapping, Sequence
+from collections.abc import Callable, Iterable, Iterator, Sequence
+from copy import copy
 from itertools import islice
 from pathlib import Path
 from typing import Any
@@ -14,118 +15,13 @@ from . import language
 from .errors import OutOfMemory, Refused, RowTypeError, RowValueError
 from .faults import MEANINGS, Fault, faults_of_refusal
 from .forms import head_faults, name_fault
-from .language import Command, Index, State, Table
+from .language import Command, State, Table
+from .messages import Message, message_lines
 from .replies import Reply, answered, kinds_of_rows, rows_of_reply
-from .rows import FIELDS, PLAIN_TEXT, Column, Value, as_iterator, as_tuple, columns_of, key_fields, line_fault, line_field, records, shown
+from .rows import Column, Layout, UNKNOWN, Value, as_iterator, as_tuple, key_fields, layout, records, shown
 
 MOST_MESSAGES = language.MOST_MESSAGES
-OPERATIONS = tuple(word.decode() for word in language.OPERATIONS)
 Row = tuple[Value, ...]
-
-
-# ---- messages ----
-
-
-# Each operation of an upsert with the names of its columns. A message that is no upsert has none.
-Shape = tuple[tuple[str, ...], ...]
-
-
-class Message:
-    """A message of a batch, as `put`, `delete` and `upsert` make it. In a batch each value is written by the kind of its column; `str` gives the line as far
-    as the values tell their kinds."""
-
-    __slots__ = ("word", "shape", "values")
-
-    def __init__(self, word: str, values: tuple[Any, ...], shape: Shape = ()) -> None:
-        # The values are those of the row or of the key, and then those of the columns of the shape, in order.
-        self.word, self.shape, self.values = word, shape, values
-
-    def parts(self) -> tuple[tuple[Any, ...], list[tuple[str, str, Any]]]:
-        """The row or the key, and each operation, column and value of an upsert."""
-        places = [(operation, name) for operation, *names in self.shape for name in names]
-        count = len(self.values) - len(places)
-        return self.values[:count], [(operation, name, value) for (operation, name), value in zip(places, self.values[count:])]
-
-    def __str__(self) -> str:
-        key, changes = self.parts()
-        return f"{self.word} {record([*key, *(part for change in changes for part in change)])}\n"
-
-    def __repr__(self) -> str:
-        key, changes = self.parts()
-        found: dict[str, dict[str, Any]] = {}
-        for operation, name, value in changes:
-            found.setdefault(operation, {})[name] = value
-        words = [*map(repr, key), *(f"{operation}={values!r}" for operation, values in found.items())]
-        return f"{FUNCTIONS[self.word]}({', '.join(words)})"
-
-    def __eq__(self, other: object) -> bool:
-        return isinstance(other, Message) and (self.word, self.shape, self.values) == (other.word, other.shape, other.values)
-
-
-# The functions that make messages, by the words of their lines.
-FUNCTIONS = {"put": "put", "del": "delete", "ups": "upsert"}
-
-
-def put(*row: Any) -> Message:
-    """The message that a row takes the place of the one with its key."""
-    return Message("put", row)
-
-
-def delete(*key: Any) -> Message:
-    """The message that a key has no row."""
-    return Message("del", key)
-
-
-# Shapes that upserts have had, so that those which are equal are one.
-_shapes: dict[Shape, Shape] = {}
-MOST_SHAPES = 1_000
-
-
-def upsert(*key: Any, **operations: Mapping[str, Any]) -> Message:
-    """The message that changes columns of the row of a key: `set`, `add`, `max` and `min` are each a dict of columns and the values to do it with."""
-    shape: list[tuple[str, ...]] = []
-    values = list(key)
-    for operation in OPERATIONS:
-        if operation in operations:
-            changes = operations[operation]
-            if type(changes) is not dict and not isinstance(changes, Mapping):
-                raise TypeError(f"{operation} is a dict of columns and values, and not {shown(changes)}: write {operation}={{'qty': 1}}")
-            shape.append((operation, *changes))
-            values += changes.values()
-    if len(shape) < len(operations):
-        unknown = min(operations.keys() - set(OPERATIONS))
-        raise TypeError(f"an operation is one of {', '.join(OPERATIONS)}, and not {unknown!r}: write upsert(*key, add={{'qty': 1}})")
-    if len(values) == len(key):
-        raise TypeError("an upsert changes a column or more: write upsert(*key, add={'qty': 1})")
-    found = tuple(shape)
-    if len(_shapes) == MOST_SHAPES:
-        _shapes.clear()
-    return Message("ups", tuple(values), _shapes.setdefault(found, found))
-
-
-def field(value: Any) -> str:
-    """A value as a field of a record, by its own type."""
-    return record([value])
-
-
-def record(values: Iterable[Any]) -> str:
-    """Values as a record of a line, each by its own type. A text with a line break can only be loaded."""
-    fields = []
-    for value in as_iterator(values, "the values of a record", "a list of them"):
-        kind = next((kind for kind, types in TYPES_OF_KINDS if isinstance(value, types)), None)
-        if kind is None:
-            raise TypeError(f"a value is an int, a str, a bool or bytes, and not {shown(value)} of type {type(value).__name__}")
-        fields.append(FIELDS[kind](value))
-        if reason := line_fault(value, fields[-1]):
-            raise ValueError(reason)
-    return ",".join(fields)
-
-
-# A bool is an int of Python too.
-TYPES_OF_KINDS: tuple[tuple[str, Any], ...] = (("flag", bool), ("int", int), ("text", str), ("bytes", (bytes, bytearray, memoryview)))
-
-
-# ---- calls ----
 
 
 class Calls(ABC):
@@ -160,7 +56,7 @@ class Calls(ABC):
         """Applies messages of `put`, `delete` and `upsert` in order, and returns how many. More than `most` of them are more than one batch, each of which is
         applied whole or not at all."""
         given = as_iterator(messages, "messages", "[betable.put(..), betable.delete(..)]")
-        return self._in_batches(given, most, lambda some, table, taken: _message_lines(some, table, taken))
+        return self._in_batches(given, most, message_lines)
 
     def put(self, rows: Iterable[Any], most: int = MOST_MESSAGES) -> int:
         """Puts rows, each a tuple or a list with a value for each column, or a dict by their names, and returns how many. More than `most` of them are more
@@ -187,7 +83,7 @@ class Calls(ABC):
         self._table()
         text = Path(path).read_bytes()
         if text.startswith(b"\x1f\x8b"):
-            raise ValueError(f"{os.fspath(path)} is compressed by gzip: write the file that gunzip makes of it")
+            raise ValueError(f"{os.fspath(path)} is compressed by gzip: unpack it first, as by gunzip")
         if line := ends_load(text):
             raise ValueError(f"{os.fspath(path)}, line {line}: a line that is a point alone would end the load")
         return self._loaded(b"".join([b"load\n", text, b"\n.\n"]), os.fspath(path))
@@ -269,32 +165,6 @@ class Calls(ABC):
             raise refusal(command, reply, self.state, [Reply(reply.decode(), command.head.word)], taken, rows, path)
 
 
-class Layout:
-    """The columns of a tree: those of its rows, and those of its key. None where the tree is unknown."""
-
-    def __init__(self, columns: list[Column], key: list[Column]) -> None:
-        self.columns, self.key = columns, key
-        self.forms: dict[tuple[Any, ...], Form] = {}
-        self.kinds, self.key_kinds = [column.kind for column in columns], [column.kind for column in key]
-
-
-UNKNOWN = Layout([], [])
-
-
-def layout(table: Table | None, tree: str = "primary") -> Layout:
-    """The columns of a tree, which are kept with it."""
-    if table is None:
-        return UNKNOWN
-    name = tree.encode()
-    owner: Table | Index | None = table if name == language.PRIMARY else table.indexes.get(name)
-    if owner is None:
-        return UNKNOWN
-    found: Layout | None = owner.__dict__.get("layout")
-    if found is None:
-        found = owner.__dict__["layout"] = Layout(columns_of(table.columns_of(name)), columns_of(table.key_of(name)))
-    return found
-
-
 def _bounds(there: Layout, start: Any, stop: Any) -> str:
     if start is None and stop is None or there is UNKNOWN:
         return ""
@@ -338,75 +208,18 @@ def _with_point(rows: list[Any], columns: list[Column], row: int) -> RowValueErr
     return RowValueError("a line that is a point alone would end the load", row=row)
 
 
-# ---- lines of a batch ----
-
-
-class Form:
-    """The line of messages that are alike but for their values: a text with a place for each value, the columns of these, and which of them are texts."""
-
-    def __init__(self, text: str, columns: list[Column]) -> None:
-        self.text, self.columns = text, columns
-        self.texts = [place for place, column in enumerate(columns) if column.kind == "text"]
-
-
-def _message_lines(messages: list[Any], table: Table, taken: int) -> str:
-    """The lines of messages, each value by the kind of its column."""
-    there, found = layout(table), []
-    forms = there.forms
-    for number, message in enumerate(messages, taken + 1):
-        if type(message) is not Message:
-            reason = f"{shown(message)} is of type {type(message).__name__}, and a message is made by betable.put, betable.delete or betable.upsert"
-            raise RowTypeError(reason, row=number, value=message, taken=taken)
-        values = message.values
-        form = forms.get((message.word, message.shape, *map(type, values)))
-        if form is None or not all([PLAIN_TEXT.fullmatch(values[place]) for place in form.texts]):
-            found.append(_message_line(message, there, number, taken))
-            continue
-        try:
-            found.append(form.text % values)
-        except ValueError:
-            found.append(_message_line(message, there, number, taken))
-    return "".join(found)
-
-
-def _message_line(message: Message, there: Layout, row: int, taken: int) -> str:
-    """The line of one message. Its form is kept for others that are like it, where its values are ints and texts that need no look but at their letters."""
-    key, changes = message.parts()
-    by_name, names = {column.name: column for column in there.columns}, ", ".join(column.name for column in there.columns)
-    if message.word == "put":
-        columns = list(there.columns)
-        as_tuple(key, columns, row, taken)
-    else:
-        columns = list(there.key)
-        key_fields(key, columns, "a key", row=row, taken=taken)
-        for _, name, value in changes:
-            if name not in by_name:
-                raise RowValueError(f"{shown(name)} is no column ({names})", row=row, value=name, taken=taken)
-            columns.append(by_name[name])
-    parts = [",%s"] * len(key) + [f",{operation},{name},%s" for operation, name, _ in changes]
-    form = Form(f"{message.word} {''.join(parts)[1:]}\n", columns)
-    if all(type(value) is PLAIN_TYPES.get(column.kind) for value, column in zip(message.values, columns)):
-        if len(there.forms) == MOST_SHAPES:
-            there.forms.clear()
-        there.forms[(message.word, message.shape, *map(type, message.values))] = form
-    return form.text % tuple([line_field(value, column, row, taken) for value, column in zip(message.values, columns)])
-
-
-# By kind, the type of the values that are their own fields, of texts those that PLAIN_TEXT takes.
-PLAIN_TYPES: dict[str, type] = {"int": int, "text": str}
-
-
 # ---- refusals ----
 
 
 def copied(state: State) -> State:
     """A state that goes on by itself."""
-    copy = State()
-    copy.refused = dict(state.refused)
-    if state.table:
-        copy.table = Table(state.table.line)
-        copy.table.indexes, copy.table.dropped = dict(state.table.indexes), dict(state.table.dropped)
-    return copy
+    found = copy(state)
+    found.refused = dict(state.refused)
+    if state.table is not None:
+        found.table = copy(state.table)
+        found.table.indexes = {name: copy(index) for name, index in state.table.indexes.items()}
+        found.table.dropped = dict(state.table.dropped)
+    return found
 
 
 def note(state: State, command: Command, reply: bytes) -> None:

@@ -19,7 +19,7 @@ from collections.abc import Callable, Iterable, Iterator, Mapping, Sequence
 from typing import Any, NamedTuple
 
 from .errors import RowTypeError, RowValueError
-from .language import GREATEST_INT, LEAST_INT, counted
+from .language import GREATEST_INT, LEAST_INT, PRIMARY, Index, Table, counted
 
 Value = int | str | bool | bytes
 
@@ -34,6 +34,33 @@ class Column(NamedTuple):
 def columns_of(pairs: Iterable[tuple[bytes, bytes]]) -> list[Column]:
     """Columns, of their names and kinds."""
     return [Column(name.decode(), kind.decode()) for name, kind in pairs]
+
+
+class Layout:
+    """The columns of a tree: those of its rows, and those of its key. None where the tree is unknown."""
+
+    def __init__(self, columns: list[Column], key: list[Column]) -> None:
+        self.columns, self.key = columns, key
+        # The lines of messages that are alike, which `messages` keeps here.
+        self.forms: dict[tuple[Any, ...], Any] = {}
+        self.kinds, self.key_kinds = [column.kind for column in columns], [column.kind for column in key]
+
+
+UNKNOWN = Layout([], [])
+
+
+def layout(table: Table | None, tree: str = "primary") -> Layout:
+    """The columns of a tree, which are kept with it."""
+    if table is None:
+        return UNKNOWN
+    name = tree.encode()
+    owner: Table | Index | None = table if name == PRIMARY else table.indexes.get(name)
+    if owner is None:
+        return UNKNOWN
+    found: Layout | None = owner.__dict__.get("layout")
+    if found is None:
+        found = owner.__dict__["layout"] = Layout(columns_of(table.columns_of(name)), columns_of(table.key_of(name)))
+    return found
 
 
 # What a value of each kind is, as it is said to a user.

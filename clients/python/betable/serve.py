@@ -26,13 +26,14 @@ from urllib.parse import parse_qsl
 from aiohttp import web
 from prometheus_client import CollectorRegistry, Counter, Gauge, Histogram, ProcessCollector, generate_latest
 
-from .calls import copied, note, record, refusal
+from .calls import copied, note, refusal
 from .durable import CHANGING, FAULTS, IndexBuilding, RequestReused
 from .engine import ALL_ROWS, Answer, Closed, Engine, Lost, Result, Work
 from .errors import Refused
 from .figures import picture
 from .forms import name_fault
 from .language import MOST_SCRIPT_BYTES, NUMBER, PRIMARY, State, broken_quotes_of_lines, commands
+from .messages import record
 from .replies import answered, whole_lines
 from .rows import rows_of
 from .trees import KeyColumns, image_of
@@ -421,8 +422,8 @@ def number_of(query: dict[str, list[str]], name: str, otherwise: int) -> int:
     if name not in query:
         return otherwise
     word = query[name][0]
-    if not NUMBER.fullmatch(word.encode()):
-        raise Problem(400, f"'{name}' is a number of 1 to 9 digits")
+    if not NUMBER.fullmatch(word.encode("utf-8", "replace")) or int(word) == 0:
+        raise Problem(400, f"'{name}' is a number of 1 to 9 digits, and not 0")
     return int(word)
 
 
