@@ -28,6 +28,7 @@ HERE = Path(__file__).resolve().parent
 NOTHING, HALF, ALL_BUT_A_BYTE, WHOLE = range(4)
 SECTOR = 512
 IN_DOUBT, FAILED = -1, -2  # notes that a step may be kept or not, and that a call failed
+MOST_FAILURES = 100  # of the calls of a client that goes on
 MOST_SUBSETS = 10  # up to so many writes that are not synced all subsets of them are looked at
 
 
@@ -87,7 +88,7 @@ def forked(work: Callable[[], None], folder: str, *, has_bytes: bool = False, ki
     if child == 0:
         status = 1
         try:
-            signal.alarm(120)
+            signal.alarm(20)
             library().faults_begin(folder.encode(), f"{folder}.trace".encode(), has_bytes, ctypes.c_long(kill_at), *map(ctypes.c_long, fails), part, fault)
             work()
             status = 0
@@ -383,7 +384,9 @@ def go_on(folder: str, steps: list[Step], want: list[bytes], is_control: bool) -
     """A client that makes each step again until it is answered."""
     note = library().faults_note
     table, number = None, 0
-    while number < len(steps):
+    for _ in range(len(steps) + MOST_FAILURES):
+        if number == len(steps):
+            break
         try:
             if table is None:
                 table = opened(folder)
@@ -415,6 +418,39 @@ def stop(folder: str, steps: list[Step]) -> None:
         os.kill(os.getpid(), signal.SIGKILL)
     except Exception:
         os.kill(os.getpid(), signal.SIGKILL)
+
+
+def damaged(folder: str, steps: list[Step], *, rounds: int, seed: int = 1) -> Count:
+    """Some bytes of the file of a closed table are changed at random: the table is as it was, or opening it says that it is not."""
+    want, count, dice = list(expected(steps)), Count("bytes changed"), random.Random(seed)
+    if forked(lambda: go(folder, steps), folder) != 0:
+        raise Wrong("the history does not go through")
+    path = Path(f"{folder}/table")
+    whole, refused = path.read_bytes(), 0
+    for number in range(rounds):
+        data = bytearray(whole)
+        for place in dice.sample(range(len(data)), dice.choice([1, 1, 1, 2, 5])):
+            data[place] ^= 1 << dice.randrange(8) if dice.random() < 0.5 else dice.randint(1, 255)
+        path.write_bytes(data)
+        try:
+            with durable.open(path) as table:
+                found = table.replies(PROBE)
+        except (durable.Corrupt, durable.NotATable, durable.NewerFormat):
+            refused += 1
+            count.look(f"change {number}", lambda: None)
+        except Exception as fault:
+            failed = fault
+            count.look(f"change {number}", lambda: fail(f"{type(failed).__name__}: {failed}"))
+        else:
+            count.look(f"change {number}", lambda: None if found == want[-1] else fail("the table is another one"))
+        for name in ("table-wal", "table-journal"):
+            Path(folder, name).unlink(missing_ok=True)
+    count.details = f"{refused:,} of them refused"
+    return count
+
+
+def fail(reason: str) -> None:
+    raise Wrong(reason)
 
 
 class Starved(Session):

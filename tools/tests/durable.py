@@ -400,6 +400,14 @@ def damage_is_found():
             fault = expect_fault(durable().Corrupt, lambda: durable().open(path / "damaged"), reason)
             expect((statement, fault.number), (statement, number))
             expect(str(pickle.loads(pickle.dumps(fault))), str(fault))
+        db = sqlite3.connect(whole)
+        [(page, size)] = db.execute("SELECT rootpage, page_size FROM sqlite_schema, pragma_page_size WHERE name = 'log'")
+        db.close()
+        # A page that says it has one script less than it has.
+        data = bytearray(whole.read_bytes())
+        data[(page - 1) * size + 4] -= 1
+        (path / "damaged").write_bytes(data)
+        expect_fault(durable().Corrupt, lambda: durable().open(path / "damaged"), "backup")
         data = bytearray(whole.read_bytes())
         data[4096:] = b"\xff" * (len(data) - 4096)
         (path / "damaged").write_bytes(data)

@@ -38,7 +38,8 @@ FORMAT = 1  # of the file: raised when an older program could not read it
 ENGINE = 1  # raised when a script may give other replies, or other trees, than before
 APPLICATION_ID = 0x6274626C
 MOST_REQUESTS = 100_000
-PART_BYTES = 1 << 24
+PART_BYTES = 1 << 24  # of a checkpoint: a value of SQLite has a greatest length
+LONG_TEXT = 1 << 25  # of a checkpoint that takes about a second to load
 LARGEST_IDLE_LOG = 1 << 24  # bytes that SQLite's own log keeps on disk when it is empty
 
 CHANGING = {b"table", b"load", b"batch", b"index", b"build", b"drop", b"drain", b"rebuild"}
@@ -170,7 +171,6 @@ class Durable(Calls):
 
     def _connection(self) -> sqlite3.Connection:
         """The file, locked, with its tables."""
-        is_new = not os.path.exists(self.path)
         db = None
         try:
             db = sqlite3.connect(self.path, timeout=0, isolation_level=None)
@@ -181,15 +181,16 @@ class Durable(Calls):
             db.execute(f"PRAGMA journal_size_limit={LARGEST_IDLE_LOG}")
             if _value(db, "PRAGMA user_version") == 0:
                 db.executescript(SCHEMA)
-            else:
-                db.executescript("BEGIN IMMEDIATE; COMMIT")
-            if is_new:
                 _synced(os.path.dirname(self.path))
+            # A transaction takes the lock, which is held until the file is closed.
+            db.executescript("BEGIN IMMEDIATE; COMMIT")
+            if (found := _value(db, "PRAGMA quick_check(1)")) != "ok":
+                raise Corrupt(self.path, None, f"{found}, so restore a backup")
             return db
         except BaseException as fault:
             if db is not None:
                 db.close()
-            if isinstance(fault, sqlite3.Error):
+            if isinstance(fault, (sqlite3.Error, UnicodeDecodeError)):
                 raise _as_named(fault, self.path) from fault
             raise
 
@@ -209,7 +210,7 @@ class Durable(Calls):
                 self._replay(session)
             except BaseException as fault:
                 session.close()
-                if isinstance(fault, sqlite3.Error):
+                if isinstance(fault, (sqlite3.Error, UnicodeDecodeError)):
                     raise _as_named(fault, self.path) from fault
                 raise
             self._session = session
@@ -217,15 +218,18 @@ class Durable(Calls):
 
     def _replay(self, session: Runner) -> None:
         self._state = State()
-        engine, self._number, checksum = self._db.execute("SELECT engine, number, checksum FROM about").fetchone()
+        about: tuple[int, int, int | None] = self._db.execute("SELECT engine, number, checksum FROM about").fetchone() or (ENGINE, 0, None)
+        engine, self._number, checksum = about
         text = b"".join(part for (part,) in self._db.execute("SELECT text FROM checkpoint ORDER BY part"))
         if zlib.crc32(text) != checksum:
             raise Corrupt(self.path, 0, "its bytes are not those that were written, so restore a backup")
         if text:
+            if len(text) > LONG_TEXT:
+                _tell(f"betable: {self.path}: loading a checkpoint of {len(text) >> 20} MiB")
             replies = session.replies(text)
             if REFUSED.search(replies):
                 raise Corrupt(self.path, 0, f"it was refused, so open it with engine {engine} (this is {ENGINE}): {replies.decode()}")
-            self._take(text, replies)
+            self._take(text[: text.index(b"\nload\n") + 1], replies)
         self._log_bytes = 0
         count = (_value(self._db, "SELECT max(number) FROM log") or self._number) - self._number
         # A cursor that is left open would keep the file locked.
@@ -261,8 +265,7 @@ class Durable(Calls):
         """As `replies`, but a script that comes again with the same request id is not run again: the call gives the replies that were kept with the id. So a
         caller that got no answer sends the request again. RequestReused if another script had the id."""
         script = as_script(script)
-        if not isinstance(request_id, str):
-            raise TypeError(f"a request id is a str, and not {request_id!r}")
+        _check_request_id(request_id)
         hash = sha256(script).digest()
         with self._some_group(), self._all_or_nothing():
             found = self._db.execute("SELECT script, replies FROM requests WHERE id = ?", (request_id,)).fetchone()
@@ -278,6 +281,8 @@ class Durable(Calls):
 
     def forget(self, *request_ids: str) -> None:
         """Forgets request ids, whose callers were answered."""
+        for request_id in request_ids:
+            _check_request_id(request_id)
         with self._some_group(), self._all_or_nothing():
             self._begin()
             self._db.executemany("DELETE FROM requests WHERE id = ?", [(request_id,) for request_id in request_ids])
@@ -477,6 +482,12 @@ def _keep_connections() -> None:
 os.register_at_fork(after_in_child=_keep_connections)
 
 
+def _check_request_id(request_id: str) -> None:
+    if not isinstance(request_id, str):
+        raise TypeError(f"a request id is a str, and not {request_id!r}")
+    request_id.encode()
+
+
 def _value(db: sqlite3.Connection, query: str) -> Any:
     return db.execute(query).fetchone()[0]
 
@@ -494,14 +505,14 @@ def _synced(path: str) -> None:
         os.close(file)
 
 
-def _as_named(fault: sqlite3.Error, path: str) -> Exception:
-    """What SQLite says of the file, by the names of this module."""
-    match fault.sqlite_errorcode & 0xFF:
+def _as_named(fault: sqlite3.Error | UnicodeDecodeError, path: str) -> Exception:
+    """What SQLite says of the file, by the names of this module. It quotes damaged names as they are, also if they are no text."""
+    match fault.sqlite_errorcode & 0xFF if isinstance(fault, sqlite3.Error) else sqlite3.SQLITE_CORRUPT:
         case sqlite3.SQLITE_BUSY | sqlite3.SQLITE_LOCKED:
             return InUse(f"{path} is open already, by another process or by this one")
         case sqlite3.SQLITE_NOTADB:
             return NotATable(f"{path} is no SQLite database")
-        case sqlite3.SQLITE_CORRUPT:
+        case sqlite3.SQLITE_CORRUPT | sqlite3.SQLITE_ERROR:
             return Corrupt(path, None, f"{fault}, so restore a backup")
     return OSError(f"{path}: {fault}")
 
@@ -520,14 +531,19 @@ def _records(replies: bytes) -> bytes:
     return b'"'.join(pieces).replace(b"\n.\n", b'\n"."\n')[1:]
 
 
+def _tell(line: str) -> None:
+    """Puts a line in the place of the last one, if standard error is a terminal."""
+    if sys.stderr is not None and sys.stderr.isatty():
+        print(f"\r\033[K{line}", end="", file=sys.stderr, flush=True)
+
+
 def _with_progress(rows: Iterable[Any], line: str) -> Iterator[Any]:
-    """The rows. A line at the terminal says how many have come, once each second."""
-    is_shown, last = False, time.monotonic()
+    """The rows. Once a second a line at the terminal says how many have come."""
+    last = time.monotonic()
     for count, row in enumerate(rows):
         now = time.monotonic()
-        if now - last >= 1 and sys.stderr is not None and sys.stderr.isatty():
-            is_shown, last = True, now
-            print("\r" + line.format(count), end="", file=sys.stderr, flush=True)
+        if now - last >= 1:
+            last = now
+            _tell(line.format(count))
         yield row
-    if is_shown:
-        print("\r\033[K", end="", file=sys.stderr, flush=True)
+    _tell("")

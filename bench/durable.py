@@ -1,0 +1,245 @@
+#!/usr/bin/env python3
+"""What it costs to keep a table on disk: the durable table of clients/python beside SQLite and Redis, each with a sync before a call returns.
+
+    bench/durable.py [--rounds N] [--start-rows N] [--folder FOLDER]
+
+Rows are an int, which is the key and comes in random order, a text of five cities and an int. They go in by batches. Each round does all of them one after the
+other and begins with another one:
+
+    put        betable, `put` of tuples
+    script     betable, scripts that are written before the clock runs
+    group      the same scripts, 16 of them kept by one sync
+    sqlite     the module sqlite3, `executemany` of tuples in one transaction for a batch, WAL, synchronous=FULL, locking_mode=EXCLUSIVE, a cache of 400 MB
+    redis      redis-server, if it is installed: a hash for a row, in one MULTI for a batch, written before the clock runs; appendonly, appendfsync always
+
+Printed are rows a second by the clock, and the ratios to SQLite in the same round, the middle ones of all rounds. Then the time to open a table of many rows,
+from its log and from a checkpoint, beside SQLite's to open a file of the same rows and read each of them once. The files are in a folder that is made in
+FOLDER, or where temporary files are. The library is that of BETABLE_LIBRARY, or of out/ of this repository.
+"""
+
+import argparse
+import os
+import random
+import shutil
+import socket
+import sqlite3
+import subprocess
+import sys
+import tempfile
+import time
+from collections.abc import Iterator
+from contextlib import contextmanager
+from pathlib import Path
+from statistics import median
+
+sys.path.insert(0, str(Path(__file__).resolve().parents[1] / "clients/python"))
+
+from betable import Session, durable
+
+HEAD = "table 16 1024 256 1 id:int city:text qty:int\n"
+INDEX = "index by_city on city include qty\nbuild by_city 1\n"
+CITIES = ["Oslo", "Bergen", "Trondheim", "Stavanger", "Molde"]
+# Rows of a batch, and of all batches.
+SIZES = {1: 1_000, 100: 30_000, 1_000: 200_000, 10_000: 400_000}
+GROUP, LARGE_BATCH = 16, 10_000
+Row = tuple[int, str, int]
+
+
+def rows_of(count: int) -> list[Row]:
+    dice = random.Random(1)
+    numbers = list(range(count))
+    dice.shuffle(numbers)
+    return [(number, dice.choice(CITIES), dice.randrange(1_000)) for number in numbers]
+
+
+def script_of(rows: list[Row]) -> bytes:
+    return ("batch\n" + "".join(f"put {number},{city},{quantity}\n" for number, city, quantity in rows) + "end\n").encode()
+
+
+def parts(rows: list[Row], size: int) -> list[list[Row]]:
+    return [rows[at : at + size] for at in range(0, len(rows), size)]
+
+
+def seconds_of_put(folder: str, rows: list[Row], size: int) -> float:
+    batches = parts(rows, size)
+    with durable.open(f"{folder}/put") as table:
+        table.run(HEAD)
+        begin = time.perf_counter()
+        for batch in batches:
+            table.put(batch)
+        return time.perf_counter() - begin
+
+
+def seconds_of_scripts(folder: str, rows: list[Row], size: int, group: int = 1) -> float:
+    scripts = [script_of(batch) for batch in parts(rows, size)]
+    with durable.open(f"{folder}/script") as table:
+        table.run(HEAD)
+        begin = time.perf_counter()
+        for at in range(0, len(scripts), group):
+            with table.group():
+                for script in scripts[at : at + group]:
+                    table.replies(script)
+        return time.perf_counter() - begin
+
+
+def seconds_of_groups(folder: str, rows: list[Row], size: int) -> float:
+    return seconds_of_scripts(folder, rows, size, GROUP)
+
+
+def sqlite_file(path: str) -> sqlite3.Connection:
+    db = sqlite3.connect(path, isolation_level=None)
+    db.executescript("PRAGMA locking_mode=EXCLUSIVE; PRAGMA journal_mode=WAL; PRAGMA synchronous=FULL; PRAGMA cache_size=-400000")
+    db.execute("CREATE TABLE IF NOT EXISTS t(id INTEGER PRIMARY KEY, city TEXT NOT NULL, qty INTEGER NOT NULL)")
+    return db
+
+
+def seconds_of_sqlite(folder: str, rows: list[Row], size: int) -> float:
+    batches, db = parts(rows, size), sqlite_file(f"{folder}/sqlite")
+    begin = time.perf_counter()
+    for batch in batches:
+        db.execute("BEGIN")
+        db.executemany("INSERT OR REPLACE INTO t VALUES(?, ?, ?)", batch)
+        db.execute("COMMIT")
+    seconds = time.perf_counter() - begin
+    db.close()
+    return seconds
+
+
+def words_of_redis(*words: object) -> bytes:
+    encoded = [str(word).encode() for word in words]
+    return b"*%d\r\n" % len(encoded) + b"".join(b"$%d\r\n%b\r\n" % (len(word), word) for word in encoded)
+
+
+@contextmanager
+def redis_server(folder: str) -> Iterator[socket.socket]:
+    words = ["redis-server", "--port", "0", "--unixsocket", f"{folder}/socket", "--dir", folder, "--save", "", "--appendonly", "yes", "--appendfsync", "always"]
+    server = subprocess.Popen(words, stdout=subprocess.DEVNULL)
+    try:
+        while not os.path.exists(f"{folder}/socket"):
+            time.sleep(0.01)
+        with socket.socket(socket.AF_UNIX) as stream:
+            stream.connect(f"{folder}/socket")
+            yield stream
+    finally:
+        server.terminate()
+        server.wait()
+
+
+def seconds_of_redis(folder: str, rows: list[Row], size: int) -> float:
+    requests = []
+    for batch in parts(rows, size):
+        commands = [words_of_redis("HSET", f"row:{number}", "city", city, "qty", quantity) for number, city, quantity in batch]
+        requests.append(b"".join([words_of_redis("MULTI"), *commands, words_of_redis("EXEC")]))
+    with redis_server(folder) as stream:
+        begin = time.perf_counter()
+        for request, batch in zip(requests, parts(rows, size)):
+            stream.sendall(request)
+            # OK, QUEUED for each row, and a list with a number for each.
+            wanted = len("+OK\r\n") + len("+QUEUED\r\n") * len(batch) + len(f"*{len(batch)}\r\n") + len(":2\r\n") * len(batch)
+            while wanted > 0:
+                wanted -= len(stream.recv(1 << 20))
+        return time.perf_counter() - begin
+
+
+def seconds_of_sync(folder: str) -> float:
+    """What the disk takes for 4 KiB and a sync, the middle of a hundred."""
+    file, found = os.open(f"{folder}/sync", os.O_CREAT | os.O_WRONLY), []
+    for number in range(100):
+        begin = time.perf_counter()
+        os.pwrite(file, bytes(4_096), 4_096 * number)
+        os.fdatasync(file)
+        found.append(time.perf_counter() - begin)
+    os.close(file)
+    return median(found)
+
+
+def ingest(folder: str, rounds: int) -> None:
+    ways = {"put": seconds_of_put, "script": seconds_of_scripts, "group": seconds_of_groups, "sqlite": seconds_of_sqlite}
+    if shutil.which("redis-server"):
+        ways["redis"] = seconds_of_redis
+    names = [*ways]
+    print(f"| Rows a batch | a sync | {' | '.join(names)} | {' | '.join(f'{name} : sqlite' for name in names if name != 'sqlite')} |")
+    print("|---" * (2 * len(names) + 1) + "|")
+    for size, count in SIZES.items():
+        rows, found, syncs = rows_of(count), [], []
+        for turn in range(rounds):
+            order, seconds = names[turn % len(names) :] + names[: turn % len(names)], {}
+            for name in order:
+                place = tempfile.mkdtemp(dir=folder)
+                syncs.append(seconds_of_sync(place))
+                seconds[name] = ways[name](place, rows, size)
+                shutil.rmtree(place)
+            found.append(seconds)
+        rates = [f"{count / median(one[name] for one in found):,.0f}" for name in names]
+        ratios = [f"{median(one['sqlite'] / one[name] for one in found):.1f}" for name in names if name != "sqlite"]
+        print(f"| {size:,} | {1e3 * median(syncs):.2f} ms | {' | '.join(rates + ratios)} |", flush=True)
+
+
+def opened(path: str) -> float:
+    begin = time.perf_counter()
+    table = durable.open(path)
+    seconds = time.perf_counter() - begin
+    table.close()
+    return seconds
+
+
+def read(path: str, query: str) -> float:
+    begin = time.perf_counter()
+    db = sqlite_file(path)
+    db.execute(query).fetchall()
+    seconds = time.perf_counter() - begin
+    db.close()
+    return seconds
+
+
+def size_of(path: str) -> str:
+    return f"{sum(os.path.getsize(path + end) for end in ('', '-wal') if os.path.exists(path + end)) / 1e6:.0f} MB"
+
+
+def starts(folder: str, count: int, rounds: int) -> None:
+    rows, found, notes = rows_of(count), {}, {}
+    for size, index in ((100, ""), (LARGE_BATCH, ""), (LARGE_BATCH, INDEX)):
+        path, name = f"{folder}/table", f"replay of batches of {size:,}{', with an index' if index else ''}"
+        with durable.open(path, sync=False) as table:
+            table.run(HEAD + index)
+            with table.group():
+                for batch in parts(rows, size):
+                    table.replies(script_of(batch))
+            images = table.replies("rebuild primary\nimage primary\n")
+        found[name], notes[name] = [opened(path) for _ in range(rounds)], size_of(path)
+        with durable.open(path) as table:
+            begin = time.perf_counter()
+            table.checkpoint()
+            name = f"checkpoint{', with an index' if index else ''}"
+            found[f"{name}, written"] = [time.perf_counter() - begin]
+            if table.replies("rebuild primary\nimage primary\n") != images:
+                sys.exit("durable: the table is another one after a checkpoint")
+        found[f"{name}, opened"], notes[f"{name}, opened"] = [opened(path) for _ in range(rounds)], size_of(path)
+        os.remove(path)
+    seconds_of_sqlite(folder, rows, LARGE_BATCH)
+    for name, query in (("one row", "SELECT * FROM t WHERE id = 7"), ("each row", "SELECT sum(id), sum(length(city)), sum(qty) FROM t")):
+        found[f"sqlite opened, {name} read"] = [read(f"{folder}/sqlite", query) for _ in range(rounds)]
+    notes["sqlite opened, each row read"] = size_of(f"{folder}/sqlite")
+    print(f"\n| {count:,} rows | seconds | rows a second | file |\n|---|---|---|---|")
+    for name, seconds in found.items():
+        print(f"| {name} | {median(seconds):.4f} | {count / median(seconds):,.0f} | {notes.get(name, '')} |")
+
+
+def main() -> None:
+    parser = argparse.ArgumentParser(description=__doc__, formatter_class=argparse.RawDescriptionHelpFormatter)
+    parser.add_argument("--rounds", type=int, default=5)
+    parser.add_argument("--start-rows", type=int, default=1_000_000)
+    parser.add_argument("--folder")
+    words = parser.parse_args()
+    if words.rounds < 1 or words.start_rows < 1_000:
+        parser.error("one round or more, and 1,000 rows or more")
+    Session().close()  # the library is loaded before a clock runs
+    print(f"load {', '.join(f'{load:.1f}' for load in os.getloadavg())}, the middle of {words.rounds} rounds\n")
+    with tempfile.TemporaryDirectory(dir=words.folder) as folder:
+        ingest(folder, words.rounds)
+        starts(folder, words.start_rows, words.rounds)
+    print(f"\nload {', '.join(f'{load:.1f}' for load in os.getloadavg())}")
+
+
+if __name__ == "__main__":
+    main()
