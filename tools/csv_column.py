@@ -4,10 +4,14 @@ import re
 import shlex
 from collections import Counter
 from decimal import Decimal
+from typing import Callable, Iterable, Iterator, Sequence, TypeAlias
 
 from betable import language
 from betable.language import counted
 from csv_source import shown
+
+# The number of a record, and its line, in words.
+Place: TypeAlias = Callable[[int], str]
 
 MOST_NAMED = 3  # places of one kind that are named
 MOST_TEXT = language.MOST_TEXT_BYTES
@@ -34,7 +38,7 @@ NULL_WORDS = SURE_NULL_WORDS | {"NA", "na", "nan", "NAN", "-nan", "None", "none"
 POINT_INSIDE = re.compile(r"\n\.(?=\r?\n)")
 
 
-def fault_of(kind, value):
+def fault_of(kind: str, value: str) -> str | None:
     """Why a field is no value of a kind, or None."""
     return language.KINDS[kind.encode()].fault(value.encode())
 
@@ -42,29 +46,36 @@ def fault_of(kind, value):
 class Column:
     """A column of the table: the values that its fields have in the script, and what is known of them so far."""
 
-    def __init__(self, place, title, name):
+    def __init__(self, place: int, title: str, name: str) -> None:
         self.place, self.title, self.name = place, title, name
-        self.wanted = self.filling = self.digits = None
-        self.null_words, self.flag_words = frozenset(), None
+        self.wanted: str | None = None
+        self.filling: str | None = None
+        self.digits: int | None = None
+        self.null_words: frozenset[str] = frozenset()
+        self.flag_words: dict[str, str] | None = None
         self.is_cut = self.is_mended = self.is_trimmed = self.has_decimal_commas = False
-        self.values = None  # of a key column all of them
+        self.values: list[str] | None = None  # of a key column all of them
         self.could_be = {"int", "digits", "decimal", "flag", "yes or no"}
         self.count = self.empty = self.cut = self.mended = self.decimals = 0
         self.has_fraction = False
         # The first record, and its field, that is empty, is a word for no value, is no plain int, or is neither a number nor a flag.
-        self.first_empty = self.first_null = self.odd_int = self.odd_one = None
-        self.nulls, self.taken, self.flags = Counter(), Counter(), {}
-        self.faults, self.number_of_faults = [], 0
+        self.first_empty = self.first_null = 0
+        self.odd_int: tuple[int, str] | None = None
+        self.odd_one: tuple[int, str, bool] | None = None
+        self.nulls: Counter[str] = Counter()
+        self.taken: Counter[str] = Counter()
+        self.flags: dict[str, str] = {}
+        self.faults: list[tuple[int, str]] = []
+        self.number_of_faults = 0
 
-    def fault(self, record, sentence):
+    def fault(self, record: int, sentence: str) -> None:
         self.number_of_faults += 1
         if len(self.faults) < MOST_NAMED:
             self.faults.append((record, sentence))
 
-    def values_in_script(self, values, first):
+    def values_in_script(self, values: Sequence[str], first: int) -> list[str]:
         """The values of the column in the script, of those of the file from record `first` on."""
-        if self.is_trimmed:
-            values = [value.strip(" \t") for value in values]
+        values = [value.strip(" \t") for value in values] if self.is_trimmed else list(values)
         if not self.null_words.isdisjoint(values):
             self.taken.update(value for value in values if value in self.null_words)
             values = ["" if value in self.null_words else value for value in values]
@@ -73,13 +84,13 @@ class Column:
             self.first_empty = self.first_empty or first + values.index("")
             self.empty += values.count("")
         if self.flag_words:
-            values = self.as_flags(values)
+            values = self.as_flags(values, self.flag_words)
         if self.digits is not None:
-            values = self.scaled(values, first)
+            values = self.scaled(values, self.digits, first)
         joined = "\n".join(values) + "\n"
         self.learn(values, joined, first)
         if is_filled:
-            values = [value or self.filling for value in values]
+            values = [value or self.filling or "" for value in values]
         if "int" not in self.could_be:
             values = self.fitting_texts(values, joined, first)
         self.count += len(values)
@@ -87,27 +98,26 @@ class Column:
             self.values += values
         return values
 
-    def as_flags(self, values):
+    def as_flags(self, values: list[str], words: dict[str, str]) -> list[str]:
         """The words of flags as true and false; any other word stays as it is."""
         for word in dict.fromkeys(values):
-            if word not in self.flags and word.lower() in self.flag_words:
-                self.flags[word] = self.flag_words[word.lower()]
+            if word not in self.flags and word.lower() in words:
+                self.flags[word] = words[word.lower()]
         return [self.flags.get(value, value) for value in values]
 
-    def scaled(self, values, first):
+    def scaled(self, values: list[str], digits: int, first: int) -> list[str]:
         """Decimals as ints, each with that many digits after the point; what is none stays as it is, and so does an empty field that is filled."""
-        digits, results = self.digits, []
+        results = []
         joined = "\n".join(values) + "\n"
         if digits and re.fullmatch(rf"(?>-?[0-9]{{1,{18 - digits}}}\.[0-9]{{{digits}}}\n)*+", joined) and joined.count("\n") == len(values):
             return list(map(str, map(int, joined.replace(".", "").split())))
         for record, value in enumerate(values, first):
             if value or self.filling is None:
-                value = self.scaled_value(value, record)
+                value = self.scaled_value(value, digits, record)
             results.append(value)
         return results
 
-    def scaled_value(self, value, record):
-        digits = self.digits
+    def scaled_value(self, value: str, digits: int, record: int) -> str:
         if not value or not self.is_decimal(value):
             hint = f" (--null {self.setting(value)} takes such as empty)" if value in NULL_WORDS else "" if value else f" (--empty {self.name}=0 fills such)"
             self.fault(record, f"is {shown(value)}, and no decimal number{hint}")
@@ -123,7 +133,7 @@ class Column:
             self.fault(record, f"is {shown(value)}, and {shown(number)[1:-1]} as an int, which does not fit 64 bits")
         return number
 
-    def fitting_texts(self, values, joined, first):
+    def fitting_texts(self, values: list[str], joined: str, first: int) -> list[str]:
         """Texts without what cannot be loaded, if that is asked for."""
         if "\n.\n" in joined or "\n.\r\n" in joined:
             values = self.without_points(values, first)
@@ -132,7 +142,7 @@ class Column:
             values = self.short(values, first)
         return values
 
-    def without_points(self, values, first):
+    def without_points(self, values: list[str], first: int) -> list[str]:
         """The values with a space after each point that is alone in a line, if that is asked for."""
         results = []
         for record, value in enumerate(values, first):
@@ -144,11 +154,11 @@ class Column:
             results.append(value)
         return results
 
-    def most_bytes(self):
+    def most_bytes(self) -> int:
         """How long a field may be: bytes have two digits each."""
         return 2 * MOST_TEXT if self.wanted == "bytes" else MOST_TEXT
 
-    def short(self, values, first):
+    def short(self, values: list[str], first: int) -> list[str]:
         """The values with no more bytes than a text has, where they are to be cut."""
         results, most = [], self.most_bytes()
         for record, value in enumerate(values, first):
@@ -161,14 +171,14 @@ class Column:
             results.append(value)
         return results
 
-    def learn(self, values, joined, first):
+    def learn(self, values: list[str], joined: str, first: int) -> None:
         """Leaves of the kinds that the column could be those that these values could be too. A word for no value is taken as empty here, and noted."""
         if self.wanted in ("int", "flag"):
             form, are_lines = DIGITS if self.wanted == "int" else FLAGS, joined.count("\n") == len(values)
             if "" in values or not are_lines or not form.fullmatch(joined) or max(map(len, values)) > 18:
-                self.check(values, first)
+                self.check(values, self.wanted, first)
         elif self.wanted == "bytes":
-            self.check(values, first)
+            self.check(values, self.wanted, first)
         elif self.digits is None:
             words = NULL_WORDS.intersection(values)
             if words:
@@ -181,14 +191,13 @@ class Column:
                 self.could_be = self.kinds_of(values, joined) if joined.count("\n") == len(values) else set()
                 self.find_odd_ones(before, values, first)
 
-    def check(self, values, first):
+    def check(self, values: list[str], kind: str, first: int) -> None:
         """Finds the values that are none of the kind that is asked for."""
         for record, value in enumerate(values, first):
-            fault = (value or self.filling is None) and fault_of(self.wanted, value)
-            if fault:
-                self.fault(record, f"is no {self.wanted}: {fault}{self.hint_for(value)}")
+            if (value or self.filling is None) and (fault := fault_of(kind, value)):
+                self.fault(record, f"is no {kind}: {fault}{self.hint_for(value)}")
 
-    def hint_for(self, value):
+    def hint_for(self, value: str) -> str:
         """The option that takes a value which is none of the kind that is asked for."""
         if not value:
             return f" (--empty {self.name}=VALUE fills such)"
@@ -199,14 +208,14 @@ class Column:
         is_fraction = self.wanted == "int" and self.is_decimal(value) and places_of(value) > 0
         return f" (--scale {self.name}={places_of(value)} takes such)" if is_fraction else ""
 
-    def setting(self, *words):
+    def setting(self, *words: str) -> str:
         """What an option is given that takes words of this column, as a shell reads it."""
         return shlex.quote(f"{self.name}={','.join(words)}")
 
-    def kinds_of(self, values, joined):
+    def kinds_of(self, values: list[str], joined: str) -> set[str]:
         """Of the kinds that the column could be those that all these values could be."""
         found = {kind for kind, form in (("flag", FLAGS), ("yes or no", YES_NO)) if kind in self.could_be and form.fullmatch(joined)}
-        if "int" in self.could_be and (SMALL_INTS.fullmatch(joined) or INTS.fullmatch(joined) and not has_great_int(values)):
+        if "int" in self.could_be and (SMALL_INTS.fullmatch(joined) or INTS.fullmatch(joined) and not has_large_int(values)):
             return found | {"int", "digits", "decimal"}
         if "digits" in self.could_be and DIGITS.fullmatch(joined):
             return found | {"digits", "decimal"}
@@ -217,45 +226,46 @@ class Column:
             found.add("decimal")
         return found
 
-    def find_odd_ones(self, before, values, first):
+    def find_odd_ones(self, before: set[str], values: list[str], first: int) -> None:
         """Keeps the first field that is no plain int, and where most are numbers or flags, also but for blanks around them, the first that is neither."""
         if "int" in before - self.could_be and "decimal" in self.could_be:
             self.odd_int = next((first + place, value) for place, value in enumerate(values) if value and not is_plain_int(value))
         if not self.could_be:
-            is_right = self.is_decimal if "decimal" in before and not any(map(FLAGS.fullmatch, (value + "\n" for value in values if value))) else is_flag
+            are_flags = "decimal" not in before or any(is_flag(value) for value in values if value)
+            is_right = is_flag if are_flags else self.is_decimal
             odd = [place for place, value in enumerate(values) if not is_right(value)]
             if self.count + len(values) - self.empty - self.nulls.total() > 2 * len(odd) or all(is_right(values[place].strip()) for place in odd):
-                self.odd_one = first + odd[0], values[odd[0]], is_right
+                self.odd_one = first + odd[0], values[odd[0]], are_flags
 
-    def is_decimal(self, value):
+    def is_decimal(self, value: str) -> bool:
         """Whether a value is a decimal number, an int, or empty."""
         return "\n" not in value and DECIMALS[self.has_decimal_commas].fullmatch(value + "\n") is not None
 
-    def kind(self):
+    def kind(self) -> str:
         """The kind of the column, when all records are known."""
         if self.wanted or self.digits is not None:
             return self.wanted or "int"
         if self.has_gaps() or self.count == 0:
             return "text"
         found = next((kind for kind in ("int", "flag") if kind in self.could_be), "text")
-        return "text" if self.empty and fault_of(found, self.filling) else found
+        return "text" if self.empty and fault_of(found, self.filling or "") else found
 
-    def has_gaps(self):
+    def has_gaps(self) -> bool:
         """Whether fields are empty and not filled, or words for no value."""
-        return bool(self.nulls) or self.empty and self.filling is None
+        return bool(self.nulls) or self.empty > 0 and self.filling is None
 
-    def notes(self, place):
+    def notes(self, place: Place) -> Iterator[str]:
         """What became of the column, in sentences."""
         if self.taken:
-            words = listed([f"{shown(word)} ({count:,})" for word, count in self.taken.items()])
-            yield f"{self.name}: {counted(self.taken.total(), 'field is', 'fields are')} taken as empty: {words}"
+            taken = listed([f"{shown(word)} ({count:,})" for word, count in self.taken.items()])
+            yield f"{self.name}: {counted(self.taken.total(), 'field is', 'fields are')} taken as empty: {taken}"
         if self.empty and self.filling is not None:
             unscaled = ", which is not scaled" if self.digits and self.filling != "0" else ""
             are = counted(self.empty, "empty field is", "empty fields are")
             yield f"{self.name}: {are} {f'stored as {self.filling}{unscaled}' if self.filling else 'left empty'}"
         if self.flags:
-            words = {flag: listed([shown(word) for word, as_flag in self.flags.items() if as_flag == flag]) for flag in ("true", "false")}
-            yield f"{self.name}: flags, {' and '.join(f'{flag} for {found}' for flag, found in words.items() if found)}"
+            found = {flag: listed([shown(word) for word, as_flag in self.flags.items() if as_flag == flag]) for flag in ("true", "false")}
+            yield f"{self.name}: flags, {' and '.join(f'{flag} for {words}' for flag, words in found.items() if words)}"
         if self.digits is not None:
             yield f"{self.name}: decimals, stored as ints {f'times {10**self.digits}' if self.digits else 'without digits after the point'}"
         elif not self.wanted and self.kind() == "text":
@@ -265,7 +275,7 @@ class Column:
         if self.mended:
             yield f"{self.name}: a space is put after {counted(self.mended, 'point that is alone in its line', 'points that are alone in their lines')}"
 
-    def reasons_for_text(self, place):
+    def reasons_for_text(self, place: Place) -> Iterator[str]:
         """Why a column that looks like another kind is text, and the options that make it one."""
         name, gaps = self.name, self.gaps(place)
         if self.empty + self.nulls.total() == self.count:
@@ -277,25 +287,25 @@ class Column:
                 make = "make" if self.nulls and self.filling is None else "makes"
                 yield f"{name}: {kind}s, but {gaps}: kept as text; {self.options_for_gaps(value)} {make} it {kind}"
             else:
-                yield f"{name}: {kind}s, but the filling of empty fields is {shown(self.filling)}: kept as text"
+                yield f"{name}: {kind}s, but the filling of empty fields is {shown(self.filling or '')}: kept as text"
         elif "yes or no" in self.could_be:
             options = f"with {self.options_for_gaps('false')} " if gaps else ""
             yield f"{name}: yes and no{', but ' + gaps if gaps else ''}, kept as text; --flag {name} {options}makes flags of them"
-        elif "decimal" in self.could_be:
-            yield self.reason_for_numbers(place, gaps)
+        elif self.odd_int and "decimal" in self.could_be:
+            yield self.reason_for_numbers(place, gaps, self.odd_int)
         elif self.odd_one:
-            record, value, is_right = self.odd_one
+            record, value, are_flags = self.odd_one
             trim = "; --trim drops spaces around fields" if value.strip() != value else ""
-            neither = "true nor false" if is_right is is_flag else "an int nor a decimal"
+            neither = "true nor false" if are_flags else "an int nor a decimal"
             yield f"{name}: text, as {place(record)} has {shown(value)}, which is neither {neither}{trim}"
         elif words := [word for word in self.nulls if word in SURE_NULL_WORDS]:
             number = sum(self.nulls[word] for word in words)
             are = f"{counted(number, 'field is', 'fields are')} {listed(map(shown, words), 'or')}"
             yield f"{name}: {are}, kept as text; --null {self.setting(*words)} takes such as empty"
 
-    def reason_for_numbers(self, place, gaps):
+    def reason_for_numbers(self, place: Place, gaps: str, odd: tuple[int, str]) -> str:
         """Why a column of numbers is text: numbers that are too large, leading zeros, or decimals."""
-        name, (record, value) = self.name, self.odd_int
+        name, (record, value) = self.name, odd
         options, where = self.options_for_gaps("0"), f"the first {shown(value, 30)} in {place(record)}"
         if "digits" in self.could_be and fault_of("int", value):
             return f"{name}: numbers that do not fit 64 bits, {where}, kept as text"
@@ -308,7 +318,7 @@ class Column:
         scale = f"--scale {name}={decimals} makes {unit}{filling}" if decimals <= 18 else f"with {decimals} digits after the point, and an int has room for 18"
         return f"{name}: decimals, {where}, kept as text; {scale}"
 
-    def gaps(self, place):
+    def gaps(self, place: Place) -> str:
         """Which fields are empty and not filled, or words for no value, in words; the empty text if there are none."""
         found = []
         if self.empty and self.filling is None:
@@ -319,16 +329,16 @@ class Column:
             found.append(f"{are} {self.words_found()}, {'the first ' if number > 1 else ''}in {place(self.first_null)}")
         return ", and ".join(found)
 
-    def words_found(self):
+    def words_found(self) -> str:
         return listed(map(shown, self.nulls), "or")
 
-    def options_for_gaps(self, value):
+    def options_for_gaps(self, value: str) -> str:
         """The options that fill what is empty or a word for no value."""
         null = [f"--null {self.setting(*self.nulls)}"] if self.nulls else []
         empty = [f"--empty {self.name}={value}"] if self.has_gaps() and self.filling is None else []
         return " ".join(null + empty)
 
-    def refusals(self, place):
+    def refusals(self, place: Place) -> Iterator[str]:
         """Why the column cannot be loaded, in sentences."""
         for record, sentence in self.faults:
             yield f"{self.name} of {place(record)} {sentence}"
@@ -336,29 +346,29 @@ class Column:
             yield f"{self.name} of {counted(self.number_of_faults - len(self.faults), 'other record')} too"
 
 
-def listed(words, joining="and"):
+def listed(words: Iterable[str], joining: str = "and") -> str:
     """Words as a list in a sentence."""
     *others, last = [*words] or [""]
     return f"{', '.join(others)} {joining} {last}" if others else last
 
 
-def without_exponent(number):
+def without_exponent(number: str) -> str:
     """A decimal number as one without an exponent."""
     return format(Decimal(number).normalize(), "f") if "e" in number or "E" in number else number
 
 
-def places_of(value):
+def places_of(value: str) -> int:
     """How many digits a decimal number has after its point."""
     return len(without_exponent(value.replace(",", ".")).partition(".")[2])
 
 
-def has_great_int(values):
+def has_large_int(values: list[str]) -> bool:
     return max(map(len, values)) > 18 and any(len(value) > 18 and fault_of("int", value) for value in values)
 
 
-def is_plain_int(value):
-    return INTS.fullmatch(value + "\n") and not fault_of("int", value)
+def is_plain_int(value: str) -> bool:
+    return INTS.fullmatch(value + "\n") is not None and not fault_of("int", value)
 
 
-def is_flag(value):
+def is_flag(value: str) -> bool:
     return "\n" not in value and FLAGS.fullmatch(value + "\n") is not None

@@ -13,6 +13,7 @@ import unicodedata
 import zlib
 from array import array
 from itertools import islice
+from typing import IO, Any, Iterable, Iterator, Sequence
 
 from betable import language
 
@@ -44,7 +45,7 @@ class Faulty(Exception):
     """Words or a file that make no script: sentences."""
 
 
-def shown(text, room=60):
+def shown(text: str, room: int = 60) -> str:
     """A text as it is shown in a sentence: its beginning, with what cannot be seen written as an escape."""
     text = text if len(text) <= room else text[: room - 1] + "…"
     return "'" + "".join(letter if letter.isprintable() else repr(letter)[1:-1] for letter in text) + "'"
@@ -53,8 +54,10 @@ def shown(text, room=60):
 class Source:
     """The text of a file, which can be read several times."""
 
-    def __init__(self, path, encoding):
-        self.path, self.size, self.contents, self.unpacking = path, None, None, None
+    def __init__(self, path: str, encoding: str | None) -> None:
+        self.path, self.size = path, 0
+        self.contents: bytes | None = None
+        self.unpacking: Any = None
         self.name = "standard input" if path == "-" else path
         try:
             self.read_pipe()
@@ -71,7 +74,7 @@ class Source:
         self.encoding = encoding or ("utf-16" if is_utf_16 else "utf-8-sig")
         self.separator, self.is_trimmed = ",", False
 
-    def read_pipe(self):
+    def read_pipe(self) -> None:
         """Reads what can be read once only, as a pipe."""
         with open(0 if self.path == "-" else self.path, "rb") as stream:
             status = os.fstat(stream.fileno())
@@ -83,16 +86,17 @@ class Source:
         if self.size > MOST_WAITING:
             raise Faulty(f"{self.name} has more than {MOST_WAITING:,} bytes: write it to a file, and give the name of that")
 
-    def opened(self):
+    def opened(self) -> IO[bytes]:
         """The bytes from their start, unpacked."""
-        stream = open(self.path, "rb") if self.contents is None else io.BytesIO(self.contents)
-        return self.unpacking.open(stream) if self.unpacking else stream
+        stream: IO[bytes] = open(self.path, "rb") if self.contents is None else io.BytesIO(self.contents)
+        unpacked: IO[bytes] = self.unpacking.open(stream) if self.unpacking else stream
+        return unpacked
 
-    def start(self, size):
+    def start(self, size: int) -> bytes:
         with self.opened() as stream:
             return stream.read(size)
 
-    def is_surely_over(self, most, is_trimmed):
+    def is_surely_over(self, most: float, is_trimmed: bool) -> bool:
         """Whether its records surely have more than `most` bytes, also without their quotes, their line ends, and blanks that are dropped."""
         if self.encoding != "utf-8-sig" or not self.unpacking and self.size <= most:
             return False
@@ -102,18 +106,18 @@ class Source:
                 size += len(piece) - sum(map(piece.count, left_out))
         return size > most
 
-    def text(self):
+    def text(self) -> io.TextIOWrapper:
         """The text from its start, with its line ends as they are."""
         return io.TextIOWrapper(self.opened(), self.encoding, newline="")
 
-    def sample(self):
+    def sample(self) -> str:
         with self.text() as text:
             return text.read(SAMPLE)
 
-    def reader(self, lines, is_strict=False):
+    def reader(self, lines: Iterable[str], is_strict: bool = False) -> Any:
         return csv.reader(lines, delimiter=self.separator, skipinitialspace=self.is_trimmed, strict=is_strict)
 
-    def undecoded(self):
+    def undecoded(self) -> str:
         """The sentence of the first bytes that are no letter, or of a file that is none of text."""
         if is_binary(self.start(SAMPLE)) and not self.has_mark:
             return f"{self.name} is a binary file and no CSV file: save the table as CSV by the program that wrote it"
@@ -126,7 +130,7 @@ class Source:
                     return f"line {number} is no UTF-8: byte {fault.start + 1} is {bad}; --encoding cp1252, latin-1 or another one reads such a file"
         return f"the file is not in {self.encoding}"
 
-    def lines_of_records(self, number):
+    def lines_of_records(self, number: int) -> Sequence[int]:
         """The line in which each record begins, of the first ones, the header first."""
         lines, before = array("L"), 0
         with self.text() as text:
@@ -140,15 +144,15 @@ class Source:
         return lines
 
 
-def is_binary(start):
+def is_binary(start: bytes) -> bool:
     """Whether bytes are none of a text: some are zero, or many are control characters that no text has."""
     controls = sum(start.count(byte) for byte in range(32) if byte not in b"\t\n\v\f\r\x1b")
     return b"\0" in start or controls * 50 > len(start)
 
 
-def separator_of(sample):
+def separator_of(sample: str) -> str:
     """The separator by which most of the first records have as many fields as the header, of equal ones the one with most fields."""
-    best, best_rank = ",", (0, 0)
+    best, best_rank = ",", (0.0, 0)
     for separator in SEPARATORS.values():
         lengths = [len(record) for record in islice(csv.reader(io.StringIO(sample, newline=""), delimiter=separator), 200) if record]
         if len(sample) == SAMPLE and len(lengths) > 1:
@@ -159,13 +163,13 @@ def separator_of(sample):
     return best
 
 
-def line_end_of(sample):
+def line_end_of(sample: str) -> str:
     """The line end of the first line, by its name."""
     found = re.search(r"\r\n|\r|\n", sample)
     return {"\r\n": "CR LF", "\r": "CR"}.get(found[0] if found else "", "LF")
 
 
-def legal_names(titles):
+def legal_names(titles: list[str]) -> list[str]:
     """A name of the language for each title: the title itself where it is one, and else its letters and digits. All are different."""
     names, given = [], {title for title in titles if NAME.fullmatch(title)}
     for place, title in enumerate(titles, 1):
@@ -187,10 +191,10 @@ def legal_names(titles):
 class Titles:
     """The columns of a file: their titles there, and their names in the script."""
 
-    def __init__(self, titles):
+    def __init__(self, titles: list[str]) -> None:
         self.titles, self.names = titles, legal_names(titles)
 
-    def place(self, word):
+    def place(self, word: str) -> int:
         for names in (self.titles, self.names, [title.strip().lower() for title in self.titles]):
             for sought in (word, word.strip().lower()):
                 if sought in names:
@@ -198,15 +202,15 @@ class Titles:
         known = ", ".join(title if title == name else f"{shown(title)} or {name}" for title, name in zip(self.titles, self.names))
         raise Faulty(f"the file has no column {shown(word)}; its columns are: {known}")
 
-    def places(self, word):
+    def places(self, word: str) -> list[int]:
         """The places of several columns, with commas between."""
         if word in self.titles:
             return [self.titles.index(word)]
         return [self.place(name) for name in next(csv.reader([word]), []) if name]
 
-    def settings(self, words, option):
+    def settings(self, words: list[str], option: str) -> dict[int, str]:
         """The settings COLUMN=VALUE of an option, by the places of their columns."""
-        found = {}
+        found: dict[int, str] = {}
         for word in words:
             column, is_there, value = word.partition("=")
             if not is_there:
@@ -217,9 +221,9 @@ class Titles:
             found[place] = value
         return found
 
-    def null_words(self, words):
+    def null_words(self, words: list[str]) -> list[set[str]]:
         """The words that are taken as empty fields of each column, by its place, of WORDS for all columns, and COLUMN=WORDS for one."""
-        found = [set() for _ in self.titles]
+        found: list[set[str]] = [set() for _ in self.titles]
         for word in words:
             column, is_one, some = word.rpartition("=")
             named = set(next(csv.reader([some]), []))
@@ -229,7 +233,7 @@ class Titles:
                 of_column |= named
         return found
 
-    def flag_words(self, words, usual):
+    def flag_words(self, words: list[str], usual: dict[str, str]) -> dict[int, dict[str, str]]:
         """The words of flags and what they are, by the places of their columns: the usual ones, or those of COLUMN=TRUE,FALSE."""
         found = {}
         for word in words:
@@ -242,15 +246,15 @@ class Titles:
         return found
 
 
-def broken_quotes(source):
+def broken_quotes(source: Source) -> Iterator[str]:
     """The quoted fields that go on after their closing quotes, or are never closed, as sentences."""
     ends = re.escape(source.separator) + r"\r\n"
     before, after = (" *", r"[ \t]*") if source.is_trimmed else ("", "")
     field = re.compile(rf'(?:{before}"((?:[^"]|"")*+)("?){after}([^{ends}]*)|[^{ends}]*)(?:[{ends}]|\Z)')
-    lines_of_record = []
+    lines_of_record: list[str] = []
     with source.text() as text:
 
-        def lines():
+        def lines() -> Iterator[str]:
             for line in text:
                 lines_of_record.append(line)
                 yield line
@@ -265,5 +269,5 @@ def broken_quotes(source):
             lines_of_record.clear()
 
 
-def line_breaks(text):
+def line_breaks(text: str) -> int:
     return len(re.findall(r"\r\n|\r|\n", text))

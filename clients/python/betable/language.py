@@ -53,7 +53,7 @@ WORDS = {
 NAME = re.compile(rb"[a-z][a-z0-9_]{0,31}")
 NUMBER = re.compile(rb"[0-9]{1,9}")
 BUFFER = re.compile(rb"[0-9]{1,9}b?")
-INDEX = re.compile(rb"index +\S+ +on +(\S+)(?: +include +(\S+))?(?: +where +(\S+) +(=|<|>=) (.*))? *", re.DOTALL)
+INDEX = re.compile(rb"index +\S+ +on +(\S+)(?: +include +(\S+))?(?: +where +(\S+) +(=|<|>=) (.*))? *\Z", re.DOTALL)
 
 # ---- limits ----
 
@@ -264,9 +264,10 @@ QUOTED_FIELD = re.compile(rb'(?<![^,\r\n])(%b)("?)([^,\r\n]*)' % QUOTED)
 
 
 def matched(pattern: re.Pattern[bytes], text: bytes, at: int = 0) -> re.Match[bytes]:
-    """The match of a pattern that matches at this place, whatever the bytes are."""
+    """The match of a pattern that has to match at this place."""
     found = pattern.match(text, at)
-    assert found is not None
+    if found is None:
+        raise ValueError(f"'{visible(text[at:])}' is of another form")
     return found
 
 
