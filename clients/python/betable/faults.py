@@ -380,7 +380,8 @@ def index_faults(command: Command, table: Table) -> Iterator[Fault]:
     if condition and condition[0] in table.names:
         place = table.names.index(condition[0])
         if reason := KINDS[table.kinds[place]].fault(condition[2]):
-            yield Fault(reason, column_place(table.columns, place))
+            more = "; an index has one condition" if re.search(rb"(?i) (?:and|or) ", condition[2]) else ""
+            yield Fault(reason + more, column_place(table.columns, place))
 
 
 def table_faults(command: Command) -> Iterator[Fault]:

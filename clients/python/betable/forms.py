@@ -6,7 +6,8 @@ from typing import Iterable
 
 from .advice import instead_of, reason_for_more_words
 from .language import (
-    BLOCK_WORDS, BUFFER, CLOSING, FORMS, KINDS, Line, MARK, MOST_DIGITS, MOST_NAME_BYTES, NAME, NUMBER, OPERATORS, any_of, fields, record_of_line, visible,
+    BLOCK_WORDS, BUFFER, CLOSING, FORMS, KINDS, Line, MARK, MOST_DIGITS, MOST_NAME_BYTES, NAME, NUMBER, OPERATORS, any_of, fault_of_int, fields, record_of_line,
+    visible,
 )  # fmt: skip
 
 TAB = b"\t"
@@ -55,6 +56,11 @@ FIXED_WORDS: dict[bytes, tuple[str, ...]] = {
 }  # fmt: skip
 
 
+# The commands of a tree, which may be that of the rows.
+OF_TREES = (b"scan", b"sums", b"image", b"drain", b"rebuild")
+ALL_ROWS = ": the rows are 'primary', and an index has its own name"
+
+
 def words_of(line: Line) -> list[bytes]:
     return [word for word in line.text.split(b" ") if word]
 
@@ -82,7 +88,7 @@ def record_reasons(line: Line) -> list[str]:
 def fixed_word_faults(line: Line) -> list[str]:
     names, words = FIXED_WORDS[line.word], words_of(line)[1:]
     found = [number_fault(word, name) if name in ("N", "G") else name_fault(word) for name, word in zip(names, words)]
-    found += [f"{name} is missing" for name in names[len(words) :]]
+    found += [f"{name} is missing{ALL_ROWS if name == 'NAME' and line.word in OF_TREES else ''}" for name in names[len(words) :]]
     if len(words) > len(names):
         found.append(reason_for_more_words(line, words[len(names) :]))
     return [reason for reason in found if reason]
@@ -144,6 +150,8 @@ def column_fault(word: bytes) -> str | None:
         return f"{text} is no column, which has a name, a colon and a kind"
     if reason := name_fault(name):
         return reason if name else f"{text} has no name before the colon"
+    if not kind:
+        return f"{text}: the kind follows the colon without a space, as '{visible(name, 40)}:int'; a kind is {any_of(KINDS)}"
     return None if kind in KINDS else f"{text}: a kind is {any_of(KINDS)}"
 
 
@@ -178,6 +186,8 @@ def list_faults(words: list[bytes], part: bytes) -> list[str]:
     """Why the first of these words is no list of names, where the second one may show that it has a blank."""
     if not words:
         return [f"the list after '{part.decode()}' is missing"]
+    if words[0].startswith(b"("):
+        return [f"a list has no brackets: '{visible(words[0], 40)}', and names have commas between them and no blanks"]
     if words[0].endswith(b",") or words[1:2] and words[1].startswith(b","):
         return [f"a list has no blanks: '{visible(b' '.join(words), 40)}'"]
     return [reason for name in words[0].split(b",") if (reason := name_fault(name))]
@@ -196,7 +206,10 @@ def where_faults(line: Line, words: list[bytes]) -> list[str | None]:
     if len(words) == 1:
         return [*found, "OP and the record are missing: an operator is =, < or >="]
     if words[1] not in OPERATORS:
-        return [*found, f"'{visible(words[1], 40)}' is no operator: =, < or >="]
+        number = int(words[2]) if len(words) == 3 and fault_of_int(words[2]) is None else None
+        following = {b">": f"of ints '> {number}' is '>= {(number or 0) + 1}'", b"<=": f"of ints '<= {number}' is '< {(number or 0) + 1}'"}.get(words[1])
+        advice = f"; {following}" if following and number is not None else ""
+        return [*found, f"'{visible(words[1], 40)}' is no operator: =, < or >={advice}"]
     constant = CONSTANT.search(line.text)
     return [*found, constant_fault(words[1].decode(), constant[1], constant[2])] if constant else found
 
@@ -218,6 +231,9 @@ def constant_fault(operator: str, space: bytes, rest: bytes) -> str | None:
 
 # ---- lines of a block ----
 
+# Words of other languages, and what they are in a block.
+MEANT = {b"insert": b"put", b"replace": b"put", b"upsert": b"ups", b"update": b"ups", b"delete": b"del", b"remove": b"del", b"start": b"from", b"until": b"to"}
+
 
 def no_block_word(line: Line, head: bytes) -> str:
     """Why a line of a block begins with none of its words."""
@@ -229,4 +245,7 @@ def no_block_word(line: Line, head: bytes) -> str:
         return f"words are in small letters: '{line.word.lower().decode()}'"
     if any(line.word.startswith(word + b"\t") for word in words):
         return f"a tab is where a space belongs: '{visible(line.text, 40)}'"
+    meant = MEANT.get(line.word.lower())
+    if meant in words:
+        return f"'{visible(line.word, 20)}' is '{meant.decode()}' in a {head.decode()}: '{visible(line.text, 40)}'"
     return f"a line of a {head.decode()} begins with {' or '.join(word.decode() for word in words)}: '{visible(line.text, 40)}'"
