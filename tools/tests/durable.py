@@ -184,7 +184,7 @@ def a_script_that_runs_out_of_memory_is_rolled_back_whole():
                 table.replies(ADD)
                 wanted = probe(table)
                 bad = ADD + "index i on city\nbuild i 9\n" + ADD + "drop fails\n" + ADD
-                fault = expect_fault(durable().RolledBack, lambda: table.replies(bad), "nothing of the script was kept")
+                fault = expect_fault(durable().RolledBack, lambda: table.replies(bad), "nothing of the call was kept")
                 expect(isinstance(fault.__cause__, MemoryError), True)
                 expect((probe(table), table.number, table.is_lost), (wanted, 2, False))
                 expect_fault(durable().RolledBack, lambda: table.replies("get 1\ndrop fails\n"))

@@ -38,7 +38,7 @@ FORMAT = 1  # of the file: raised when an older program could not read it
 ENGINE = 1  # raised when a script may give other replies, or other trees, than before
 APPLICATION_ID = 0x6274626C
 MOST_REQUESTS = 100_000
-PART_BYTES = 1 << 24  # of a checkpoint: a value of SQLite has a greatest length
+PART_BYTES = 1 << 20  # of a checkpoint: SQLite copies a value whole
 LONG_TEXT = 1 << 25  # of a checkpoint that takes about a second to load
 LARGEST_IDLE_LOG = 1 << 24  # bytes that SQLite's own log keeps on disk when it is empty
 
@@ -204,6 +204,7 @@ class Durable(Calls):
 
     def _ready(self) -> Runner:
         """The session. If it was dropped, it is made again from the file."""
+        self._check()
         if self._session is None:
             session = self._make()
             try:
@@ -335,7 +336,7 @@ class Durable(Calls):
             self._is_changed = True
             self._roll_back()
             if isinstance(fault, Exception) and not isinstance(fault, Corrupt):
-                raise RolledBack(f"{self.path}: nothing of the script was kept: {fault or type(fault).__name__}") from fault
+                raise RolledBack(f"{self.path}: nothing of the call was kept: {str(fault) or type(fault).__name__}") from fault
             raise
 
     def _begin(self) -> None:
@@ -392,7 +393,8 @@ class Durable(Calls):
             self._is_changed = True
             session.replies(b"".join(b"rebuild %b\n" % name for name in (PRIMARY, *table.indexes)))
             lines = [table.line.text] + [line for name, index in table.indexes.items() for line in (index.line.text, b"build %b 1" % name)]
-            text = b"\n".join([*lines, b"load", b",".join(table.names), b""]) + _records(session.replies(b"scan primary\ngo\n")) + b".\n"
+            lines += [b"load", b",".join(table.names)]
+            text = b"\n".join([*lines, _records(session.replies(b"scan primary\ngo\n")) + b".\n"])
             self._begin()
             self._db.execute("DELETE FROM checkpoint")
             for at in range(0, len(text), PART_BYTES):
@@ -429,21 +431,18 @@ class Durable(Calls):
 
     @property
     def state(self) -> State:
-        self._check()
         self._ready()
         return self._state
 
     @property
     def number(self) -> int:
         """The number of the last script that was kept, counted from 1 on since the table was created."""
-        self._check()
         self._ready()
         return self._number
 
     @property
     def log_bytes(self) -> int:
         """How many bytes the scripts of the log have, which opening the table runs: a checkpoint makes it 0."""
-        self._check()
         self._ready()
         return self._log_bytes
 
@@ -464,10 +463,9 @@ class Durable(Calls):
             raise ValueError("the table is closed")
 
     def _check_outside(self, what: str) -> None:
-        self._check()
+        self._ready()
         if self._is_in_group:
             raise RuntimeError(f"{what} cannot be made in a group: end the group first")
-        self._ready()
 
 
 # A forked child that exits would close its copies of the connections, and so delete SQLite's log, which the parent goes on writing to.
@@ -525,9 +523,11 @@ def _advice(engine: int) -> str:
 
 def _records(replies: bytes) -> bytes:
     """The replies to a scan of the rows as the records of a load. Every second piece between double quotes is inside of quotes."""
-    pieces = (b"\n" + replies[: replies.rindex(b"rows ")]).split(b'"')
+    pieces = replies[: replies.rindex(b"rows ")].split(b'"')
+    del replies
     pieces[::2] = [piece.replace(b"\nrow ", b"\n") for piece in pieces[::2]]
     # A row of one column that is a point would end the load.
+    pieces[0] = b"\n" + pieces[0].removeprefix(b"row ")
     return b'"'.join(pieces).replace(b"\n.\n", b'\n"."\n')[1:]
 
 
