@@ -30,9 +30,9 @@ FRACTION = re.compile(r"[.,][0-9]*[1-9]")
 # The words that --flag takes, in letters of either case.
 TRUE_WORDS, FALSE_WORDS = ("true", "yes", "y", "t", "on", "1"), ("false", "no", "n", "f", "off", "0")
 
-# Words with which other programs write that there is no value: those that are no text either, and those that are such among numbers or flags only.
-SURE_NULL_WORDS = frozenset(["NULL", "null", "Null", "(null)", "\\N", "N/A", "n/a", "#N/A", "#NULL!", "<NA>", "NaN"])
-NULL_WORDS = SURE_NULL_WORDS | {"NA", "na", "nan", "NAN", "-nan", "None", "none", "nil", "-", "--", "?"}
+# Words for no value, and those that are no texts among texts.
+NULL_WORDS = frozenset(map(bytes.decode, language.NULL_WORDS))
+SURE_NULL_WORDS = NULL_WORDS - set(map(bytes.decode, language.NULL_WORDS_OR_TEXTS))
 
 # A line inside of a field, or of the script, that would close the block of a load.
 POINT_INSIDE = re.compile(r"\n\.(?=\r?\n)")
@@ -159,7 +159,7 @@ class Column:
         return 2 * MOST_TEXT if self.wanted == "bytes" else MOST_TEXT
 
     def short(self, values: list[str], first: int) -> list[str]:
-        """The values with no more bytes than a text has, where they are to be cut."""
+        """The values with no more bytes than a text has, if they are to be cut."""
         results, most = [], self.most_bytes()
         for record, value in enumerate(values, first):
             size = len(value.encode())
@@ -227,7 +227,7 @@ class Column:
         return found
 
     def find_odd_ones(self, before: set[str], values: list[str], first: int) -> None:
-        """Keeps the first field that is no plain int, and where most are numbers or flags, also but for blanks around them, the first that is neither."""
+        """Keeps the first field that is no plain int. If most are numbers or flags, or would be without blanks around them, keeps the first that is neither."""
         if "int" in before - self.could_be and "decimal" in self.could_be:
             self.odd_int = next((first + place, value) for place, value in enumerate(values) if value and not is_plain_int(value))
         if not self.could_be:

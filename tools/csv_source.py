@@ -25,13 +25,17 @@ MOST_WAITING = 2**28  # bytes of standard input, which is held since it may be r
 COMPRESSED = ((rb"\x1f\x8b\x08", gzip), (rb"BZh[1-9]1AY&SY", bz2), (rb"\xfd7zXZ\x00", lzma))
 UNPACKING_FAULTS = (gzip.BadGzipFile, EOFError, zlib.error, lzma.LZMAError)
 
-# How a file begins that is none of text, what it is, and how a CSV file is made of it.
+# How a file begins that is no CSV file, what it is, and how one is made of it.
 OTHER_FILES = (
     (b"PK\x03\x04", "a zip archive or a workbook (.xlsx, .ods): unpack it, or save its sheet as CSV"),
     (b"\xd0\xcf\x11\xe0", "a workbook or a document of an old form (.xls, .doc): save its sheet as CSV"),
     (b"\x28\xb5\x2f\xfd", "compressed by zstd: zstd -dc FILE | tools/from_csv - --key COLUMNS"),
     (b"SQLite format 3\0", "a database of SQLite: sqlite3 -header -csv FILE 'select * from TABLE' | tools/from_csv - --key COLUMNS"),
     (b"PAR1", "a Parquet file: save it as CSV by the program that wrote it"),
+    (b'{"', "a JSON file: jq -r '[.id, .name] | @csv' FILE makes CSV of such objects"),
+    (b"[{", "a JSON file: jq -r '.[] | [.id, .name] | @csv' FILE makes CSV of such an array"),
+    (b"<?xml", "an XML file"),
+    (b"<!DOCTYPE", "a web page"),
     (b"%PDF-", "a PDF file"),
     (b"\x89PNG", "a picture"),
     (b"\x7fELF", "a program"),
@@ -170,7 +174,7 @@ def line_end_of(sample: str) -> str:
 
 
 def legal_names(titles: list[str]) -> list[str]:
-    """A name of the language for each title: the title itself where it is one, and else its letters and digits. All are different."""
+    """A name of the language for each title: the title itself if it is one, and otherwise its letters and digits. All are different."""
     names, given = [], {title for title in titles if NAME.fullmatch(title)}
     for place, title in enumerate(titles, 1):
         if NAME.fullmatch(title) and title not in names:

@@ -92,6 +92,10 @@ OF_FROM_CSV = [
     (CITIES, ["--key", "id", "--nul", "x", "--what"], "unrecognized arguments: --what"),
     # Files that are none.
     ("", ["--key", "id"], " has no record, and the first one has to have the names of the columns"),
+    ("sep=;\nid;city\n1;Oslo\n", ["--key", "id"], " is 'sep=', which only a spreadsheet reads: tail -n +2 FILE leaves it out"),
+    ('{"id": 1, "city": "Oslo"}\n', ["--key", "id"],
+     " is no CSV file, but a JSON file: jq -r '[.id, .name] | @csv' FILE makes CSV of such objects"),
+    ("<?xml version='1.0'?>\n", ["--key", "id"], " is no CSV file, but an XML file"),
     (b"id,city\n1,ok\n2,\xe9\n", ["--key", "id"], "line 3 is no UTF-8: byte 3 is E9; --encoding cp1252, latin-1 or another one reads such a file"),
     ("id,city\n1,x\n".encode("utf-16-le"), ["--key", "id"],
      " has zero bytes in its first record: it is a binary file, or UTF-16, which --encoding utf-16-le reads"),

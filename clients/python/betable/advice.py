@@ -98,7 +98,7 @@ def advice_for_get(head: Line, table: Table) -> str | None:
     """That a get is by the key, where its record looks like a text of another column, or names its columns."""
     values = fields(record_of_line(head.rest or b"")[0])
     key, others = [name.decode() for name, _ in table.key], [name.decode() for name, kind in table.columns[table.key_length :] if kind == b"text"]
-    is_text = re.match(rb"(?i)[a-z\x80-\xff]", values[0]) and values[0].lower() not in NULL_WORDS
+    is_text = re.match(rb"(?i)[a-z\x80-\xff]", values[0]) and values[0] not in NULL_WORDS
     if not is_text or table.key[0][1] not in (b"int", b"flag"):
         return None
     if re.match(rb"(?i)(?:where +)?%b *=" % table.key[0][0], values[0]):

@@ -131,7 +131,12 @@ def fault_of_int(field: bytes) -> str | None:
     return f"'{visible(field, 40)}' is {limit}"
 
 
-NULL_WORDS = (b"null", b"none", b"nil", b"nan", b"na", b"n/a", b"#n/a", b"\\n", b"-")  # in small letters
+# Words with which other programs write that there is no value, and those of them that may be texts as well.
+NULL_WORDS = frozenset([
+    b"NULL", b"null", b"Null", b"(null)", b"\\N", b"N/A", b"n/a", b"#N/A", b"#NULL!", b"<NA>", b"NaN", b"nan", b"NAN", b"-nan",
+    b"NA", b"na", b"None", b"none", b"nil", b"-", b"--", b"?",
+])  # fmt: skip
+NULL_WORDS_OR_TEXTS = frozenset([b"NA", b"na", b"None", b"none", b"nil", b"-", b"--", b"?"])
 
 
 def reason_for_no_number(field: bytes) -> str:
@@ -145,7 +150,7 @@ def reason_for_no_number(field: bytes) -> str:
         return f"{text} has a '+', which an int has not"
     if re.fullmatch(rb"-?[0-9]+[.,][0-9]+", field):
         return f"{text} is no whole number: decimals are stored as ints of a fixed unit, as 1250 for 12.50"
-    if field.lower() in NULL_WORDS:
+    if field in NULL_WORDS:
         return f"{text} is no whole number, and there is no null: write a number for it, as 0 or -1"
     if field.startswith(b"'") and field.endswith(b"'"):
         return f"{text} is no whole number: single quotes are letters"
