@@ -7,12 +7,17 @@ import io
 import lzma
 import os
 import pty
+import random
+import re
 import shutil
 import subprocess
 import sys
 import tempfile
+from collections import Counter
+from decimal import Decimal
 from pathlib import Path
 
+from clients import betable
 from common import expect, expect_within, Failure, imported, PROGRAM, run, run_forked, SECONDS, TOP
 from wrong_uses import OF_FROM_CSV, OF_OTHERS
 
@@ -290,6 +295,51 @@ def wrong_uses_of_the_other_tools_say_what_to_do():
                 expect((tool, words, text), (tool, words, ""))
 
 
+# Fields of a column, some of them of another kind.
+POOLS = (["1", "-20", "3"], ["0.05", "12.5", "-3", "1e-2", "7.00"], ["yes", "NO", "y", "0", "1", "true", "False"], ["x", "", "a,b", '"'])
+ODD_FIELDS = ["", "NULL", "n/a", "-", "007", "9223372036854775808", "0.125", " 5", "maybe", "1e300"]
+
+
+def stored(field, nulls, filling, digits, is_flag):
+    """What is to be stored for a field, None if it is to be refused: by another way than that of the tool."""
+    field = "" if field in nulls else field
+    if field == "" and filling is not None:
+        return filling
+    if digits is not None:
+        number = Decimal(field).scaleb(digits) if re.fullmatch(r"-?\d+(\.\d+)?(e[+-]?\d+)?", field) else Decimal("0.5")
+        return str(int(number)) if number == int(number) and -(2**63) <= number < 2**63 else None
+    if is_flag:
+        words = dict.fromkeys(("yes", "y", "1", "true"), "true") | dict.fromkeys(("no", "n", "0", "false"), "false")
+        return words.get(field.lower())
+    return field
+
+
+def from_csv_stores_what_is_asked_for():
+    """Of random columns and options each field is stored as it is asked for, or all of it is refused; and int and flag columns have such values alone."""
+    dice, kinds, refused = random.Random(4), Counter(), 0
+    for _ in range(900):
+        pool = dice.choice(POOLS)
+        fields = [dice.choice(pool + ([dice.choice(ODD_FIELDS)] if dice.random() < 0.4 else [])) for _ in range(dice.randrange(1, 7))]
+        nulls = dice.choice(([], [], ["NULL"], ["n/a", "-"]))
+        digits, is_flag = dice.choice(((None, False), (None, False), (0, False), (2, False), (None, True)))
+        filling = dice.choice((None, "false" if is_flag else dice.choice(("0", "-1"))))
+        words = [f"--null={','.join(nulls)}"] * bool(nulls) + [f"--empty=v={filling}"] * (filling is not None)
+        words += [f"--scale=v={digits}"] * (digits is not None) + ["--flag=v"] * is_flag
+        text = io.StringIO()
+        csv.writer(text).writerows([["k", "v"], *enumerate(fields)])
+        status, script, _ = from_csv(text.getvalue(), "--key", "k", *words)
+        expected = [stored(field, nulls, filling, digits, is_flag) for field in fields]
+        expect((fields, words, status), (fields, words, 2 if None in expected else 0))
+        if status == 0:
+            kind = re.search(r" v:(\w+)\n", script)[1]
+            expect((fields, words, [row[1] for row in read(script.split("load\n")[1])[1:-1]]), (fields, words, expected))
+            form = {"int": r"-?\d{1,19}", "flag": "(?i:true|false)", "text": ".*"}[kind]
+            expect((fields, kind, [bool(re.fullmatch(form, value)) for value in expected]), (fields, kind, [True] * len(fields)))
+            kinds[kind] += 1
+        refused += status
+    expect((min(kinds.values()) > 30, len(kinds), refused > 200), (True, 3, True))
+
+
 def from_csv_takes_one_record_of_each_key():
     """Over several chunks: of 2,500 records each key comes twice, the second time at the same distance, and once a third time."""
     records = [f'{n % 1200},"{n}\r\n"' for n in range(2400)] + ["7,end"]
@@ -551,12 +601,25 @@ OF_OTHER_PROGRAMS = (
 
 
 def csv_of_other_programs_goes_in():
-    """As it is, compressed, and as CSV for a session."""
+    """As it is, and compressed."""
     for given, words, rows in OF_OTHER_PROGRAMS:
         expect(there_and_back(given, *words.split()), rows)
         expect(there_and_back(gzip.compress(given), *words.split()), rows)
-        status, text, _ = from_csv(given, *words.split(), "--csv")
-        expect((status, [[field.lower() for field in row] for row in read(text)]), (0, [[field.lower() for field in row] for row in rows]))
+
+
+def csv_of_other_programs_goes_into_a_session():
+    """By the lines that --csv says and the records that it writes."""
+    for given, words, rows in OF_OTHER_PROGRAMS:
+        status, text, sentences = from_csv(given, *words.split(), "--csv", "--index", "by_last", f"on {rows[0][-1]}")
+        lines = [sentence for sentence in sentences if sentence.startswith(("table ", "index ", "build "))]
+        expect((status, len(lines)), (0, 3))
+        with tempfile.TemporaryDirectory() as folder, betable().Session() as session:
+            path = Path(folder) / "records.csv"
+            path.write_text(text, newline="")
+            session.run("\n".join(lines) + "\n")
+            expect(session.load_csv(path), len(rows) - 1)
+            values = [[value if isinstance(value, str) else str(value).lower() for value in row] for row in session.scan()]
+            expect((values, len(session.scan("by_last"))), (rows[1:], len(rows) - 1))
 
 
 def csv_with_lines_of_a_point_comes_back_mended():
@@ -618,6 +681,7 @@ TESTS_OF_TEXTS = [
     from_csv_refuses_what_cannot_be_loaded,
     from_csv_wants_right_words,
     wrong_uses_of_from_csv_say_what_to_do,
+    from_csv_stores_what_is_asked_for,
     from_csv_warns_of_quotes_that_look_broken,
     from_csv_makes_scripts_of_64_mebibytes_and_no_byte_more,
     from_csv_shows_progress_at_a_terminal_only,
@@ -633,6 +697,7 @@ TESTS = [
     csv_comes_back_as_it_was,
     csv_of_sqlite3_comes_back,
     csv_of_other_programs_goes_in,
+    csv_of_other_programs_goes_into_a_session,
     csv_with_lines_of_a_point_comes_back_mended,
     csv_sums_are_exact,
     help_of_from_csv_can_be_followed,
