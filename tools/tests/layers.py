@@ -83,6 +83,18 @@ def steps_of_building_go_on_in_the_next_shard():
             expect(table.replies(script), session.replies(script))
 
 
+def odd_texts_are_in_their_shards():
+    """Records that are points, line breaks and quotes that are never closed in a load, marks, and ints with more zeros than Python reads."""
+    for table_line, bounds, script in [
+        ("table 4 3 2 1 k:text\n", ["b"], 'load\nk\r.\rc\r"b\n"\r\n"b\r.\rc"\na\n.\nscan primary\ngo\n'),
+        ("table 4 3 2 1 k:text w:text\n", ["b"], 'load\n\nk,w\na,1\rc,"open\n.\nscan primary\ngo\n'),
+        ("table 4 3 2 1 k:text w:text\n", ["b"], 'load\n\n\ufeffk,w\na,1\rc,2\n.\nload\n\ufeffk,w\na,1\nc,2\n.\nget \ufeffc\nget \ufeff\ufeffc\n'),
+        (TABLE, [5], f"batch\nput {'0' * 5_000}7,a,1\nput -{'0' * 5_000}7,b,2\n put \"6\",c,3\nput \ufeff8,d,4\nend\nscan primary\nto {'0' * 5_000}7\ngo\n"),
+    ]:
+        with sharded(*bounds) as table, betable().Session() as session:
+            expect(table.replies(table_line + script), session.replies(table_line + script))
+
+
 def what_shards_cannot_reply_is_refused_by_name():
     """And what was carried out before it is told."""
     not_sharded = betable().sharded.NotSharded
@@ -284,7 +296,11 @@ def a_log_that_lost_scripts_is_noticed():
     one.put([(1, "a", 1)])
     log.scripts.pop()
     expect(fault_of(one.catch_up), diverged)
-    expect(fault_of(lambda: one.put([(1, "a", 1)])), diverged)
+    expect((fault_of(lambda: one.put([(1, "a", 1)])), one.is_lost, len(log.scripts)), (diverged, True, 1))
+    log, one, _ = prepared()
+    one.run(TABLE)
+    log.scripts.pop()
+    expect(fault_of(lambda: one.once("r", "drain primary\n")), diverged)
     # The log has lost a script, and another one is in its place: what comes next shows it.
     log, one, two = prepared()
     one.run(TABLE)
@@ -395,6 +411,7 @@ TESTS_OF_TEXTS = [
     shards_reply_as_one_session_does,
     batches_are_applied_by_all_shards_or_by_none,
     steps_of_building_go_on_in_the_next_shard,
+    odd_texts_are_in_their_shards,
     what_shards_cannot_reply_is_refused_by_name,
     bounds_are_keys_of_the_table,
     calls_on_shards_are_those_of_a_session,

@@ -181,8 +181,8 @@ class PostgresLog:
         COMMIT
     """
     APPEND = """
-        WITH next AS (UPDATE NAME_end SET position = position + 1 WHERE NOT EXISTS (SELECT FROM NAME_log WHERE request_id = %(id)s) RETURNING position)
-        INSERT INTO NAME_log(position, request_id, script, seen, checksum) SELECT position, %(id)s, %(script)s, %(seen)s, %(checksum)s FROM next
+        WITH next AS (UPDATE NAME_end SET position = position + 1 RETURNING position)
+        INSERT INTO NAME_log(position, request_id, script, seen, checksum) SELECT position, %s, %s, %s, %s FROM next
         RETURNING position, pg_notify('NAME', '')
     """
     ENTRIES = """
@@ -221,12 +221,11 @@ class PostgresLog:
             raise Unreachable(f"the server of the log: {fault}") from fault
 
     def append(self, request_id: str, script: bytes, seen: int, checksum: int) -> tuple[int, bool]:
-        values = {"id": request_id, "script": self._psycopg2.Binary(script), "seen": seen, "checksum": checksum}
-        # If another connection appends the same request in the same moment, the second one is refused.
-        with suppress(self._psycopg2.errors.UniqueViolation):
-            if found := self._rows(self.APPEND, values):
-                return found[0][0], True
-        return self._rows("SELECT position FROM NAME_log WHERE request_id = %s", (request_id,))[0][0], False
+        try:
+            return self._rows(self.APPEND, (request_id, self._psycopg2.Binary(script), seen, checksum))[0][0], True
+        except self._psycopg2.errors.UniqueViolation:
+            # The transaction is rolled back, and the position with it.
+            return self._rows("SELECT position FROM NAME_log WHERE request_id = %s", (request_id,))[0][0], False
 
     def end(self) -> int:
         return int(self._rows("SELECT position FROM NAME_end")[0][0])

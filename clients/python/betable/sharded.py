@@ -248,6 +248,8 @@ class Sharded(Calls):
 
     def _shards_of_lines(self, table: Table, lines: list[bytes]) -> list[int]:
         """The shard of each line of a batch."""
+        if not self._bounds:
+            return [0] * len(lines)
         if [kind for _, kind in table.key] != [b"int"]:
             return [self._shard_of_record(table, Line(0, line).rest) for line in lines]
         bounds, found = [bound[0] for bound in self._bounds], []
@@ -265,7 +267,8 @@ class Sharded(Calls):
     def _batch(self, table: Table, command: Command) -> bytes:
         if command.head.text.split() != [b"batch"]:
             return self._of_one(command)
-        lines = [line for line in command.block.split(b"\n") if line.strip(b" \r")]
+        # Most lines begin with a letter; the others may be blank.
+        lines = [line for line in command.block.split(b"\n") if line >= b"!" or line.strip(b" \r")]
         places = self._shards_of_lines(table, lines)
         busy = sorted(set(places)) or [0]
         if len(busy) == 1:
@@ -381,9 +384,7 @@ class Sharded(Calls):
         body = b"".join(bodies)
         name = second_word(command)
         if name != PRIMARY and sum(map(bool, bodies)) > 1:
-            lines, columns = lines_of(body), table.key_of(name)
-            lines.sort(key=lambda line: key_of(columns, fields(line[4:-1])))
-            body = b"".join(lines)
+            body = b"row " + b"row ".join(in_order(table.key_of(name), [line[4:] for line in lines_of(body)]))
         return body + b"rows %d\n" % sum(int(last.split()[1]) for last in lasts)
 
     def _sums(self, table: Table, command: Command) -> bytes:
@@ -396,9 +397,8 @@ class Sharded(Calls):
                 _, count, total, group = line.split(b" ", 3)
                 counts, totals = groups.get(group, (0, 0))
                 groups[group] = counts + int(count), totals + int(total)
-        columns = table.key_of(second_word(command))
-        in_order = sorted(groups, key=lambda group: key_of(columns, fields(group[:-1])))
-        return b"".join(b"sum %d %d %b" % (*groups[group], group) for group in in_order) + b"sums %d\n" % len(groups)
+        lines = [b"sum %d %d %b" % (*groups[group], group) for group in in_order(table.key_of(second_word(command)), list(groups))]
+        return b"".join(lines) + b"sums %d\n" % len(groups)
 
 
 # ---- values and keys ----
@@ -411,18 +411,27 @@ def int_of(field: bytes) -> int:
     return -number if field.startswith(b"-") else number
 
 
+Values = dict[bytes, Callable[[bytes], int | bool | bytes]]
 # By kind: a value that is ordered as the kind is. A field that is no value may have one, and is refused by any shard.
-VALUES: dict[bytes, Callable[[bytes], int | bool | bytes]] = {
+VALUES: Values = {
     b"int": int_of,
     b"text": lambda field: field,
     b"flag": lambda field: field.lower() == b"true",
     b"bytes": lambda field: bytes.fromhex(field.decode("ascii")),
 }
+VALUES_AS_PRINTED: Values = {**VALUES, b"int": int}
 
 
 def key_of(columns: Sequence[tuple[bytes, bytes]], values: Sequence[bytes]) -> Key:
     """The values of fields by the first columns of a key. ValueError where there is none."""
     return tuple([VALUES[kind](field) for (_, kind), field in zip(columns, values)])
+
+
+def in_order(columns: Sequence[tuple[bytes, bytes]], records: list[bytes]) -> list[bytes]:
+    """Records as they are printed, with their line breaks, in the order of a key of which they have the first columns first."""
+    values = zip(*(fields(record[:-1]) for record in records))
+    keys = zip(*(map(VALUES_AS_PRINTED[kind], column) for (_, kind), column in zip(columns, values)))
+    return [record for _, record in sorted(zip(keys, records))]
 
 
 def keys_of_bounds(table: Table, bounds: Sequence[tuple[Value, ...]]) -> list[Key]:
