@@ -21,6 +21,10 @@ SEPARATORS = {"comma": ",", "semicolon": ";", "tab": "\t", "bar": "|"}
 SAMPLE = 65_536  # letters from which separator and names are found
 MOST_WAITING = 2**28  # bytes of standard input, which is held since it may be read twice
 
+# The start of an exponent of a decimal number, and how many bytes one has at most.
+EXPONENT = re.compile(rb"[0-9][eE][+-]?[0-9]")
+MOST_EXPONENT = 5
+
 # How a file begins that is compressed, and the module that reads it.
 COMPRESSED = ((rb"\x1f\x8b\x08", gzip), (rb"BZh[1-9]1AY&SY", bz2), (rb"\xfd7zXZ\x00", lzma))
 UNPACKING_FAULTS = (gzip.BadGzipFile, EOFError, zlib.error, lzma.LZMAError)
@@ -100,14 +104,18 @@ class Source:
         with self.opened() as stream:
             return stream.read(size)
 
-    def is_surely_over(self, most: float, is_trimmed: bool) -> bool:
-        """Whether its records surely have more than `most` bytes, also without their quotes, their line ends, and blanks that are dropped."""
+    def is_surely_over(self, most: float, is_trimmed: bool, is_scaled: bool) -> bool:
+        """Whether its records surely have more than `most` bytes, also without their quotes and line ends, blanks if they are trimmed, and if decimals are made
+        ints their points, zeros, signs and exponents."""
         if self.encoding != "utf-8-sig" or not self.unpacking and self.size <= most:
             return False
-        left_out, size = [b'"', b"\r", b"\n", *([b" ", b"\t"] if is_trimmed else [])], -len(codecs.BOM_UTF8)
+        left_out = b'"\r\n' + (b" \t" if is_trimmed else b"") + (b".,0-" if is_scaled and self.separator != "," else b".0-" if is_scaled else b"")
+        size = -len(codecs.BOM_UTF8)
         with self.opened() as stream:
             while size <= most and (piece := stream.read(2**20)):
                 size += len(piece) - sum(map(piece.count, left_out))
+                # One exponent may be divided between two pieces.
+                size -= MOST_EXPONENT * (len(EXPONENT.findall(piece)) + 1) if is_scaled else 0
         return size > most
 
     def text(self) -> io.TextIOWrapper:

@@ -389,6 +389,26 @@ def from_csv_makes_scripts_of_64_mebibytes_and_no_byte_more():
         expect((status, text, said), (0, path.read_text(), f"2,500 records, 2 columns, divided by ','\n{table}\n"))
 
 
+def from_csv_refuses_early_only_what_has_no_room():
+    """Of random files, with quotes, blanks, exponents and zeros that are dropped: the script of just as many bytes as there may be is written."""
+    tool, dice = imported("tools/from_csv"), random.Random(5)
+    decimals, texts = ["0.00", "-0.50", "12.5", "1e-2", "1.5E+1", "007", "-0", "0e5"], ["x", " y ", '"q"', "a,b", "l\nm", ""]
+    with tempfile.TemporaryDirectory() as folder:
+        path = Path(folder) / "a.csv"
+        for _ in range(200):
+            text = io.StringIO(newline="")
+            records = csv.writer(text, lineterminator=dice.choice(("\n", "\r\n")), quoting=dice.choice((csv.QUOTE_ALL, csv.QUOTE_MINIMAL)))
+            # One of each, so that what is dropped adds up.
+            decimal, note = dice.choice(decimals), dice.choice(texts)
+            records.writerows([["k", "d", "s"], *([place, decimal, note] for place in range(dice.randrange(1, 200)))])
+            path.write_text(text.getvalue(), newline="")
+            words = [str(path), "--key", "k", *dice.choice(([], ["--trim"])), *dice.choice(([], ["--scale", "d=2"]))]
+            tool.MOST_SCRIPT = 2**26
+            size = len(in_process(tool, *words)[1].encode())
+            for tool.MOST_SCRIPT, status in ((size, 0), (size - 1, 2)):
+                expect((words[1:], text.getvalue(), in_process(tool, *words)[0]), (words[1:], text.getvalue(), status))
+
+
 def all_of_terminal(near):
     """What was written to the far end of a terminal, which is closed. It may come in parts."""
     text = b""
@@ -684,6 +704,7 @@ TESTS_OF_TEXTS = [
     from_csv_stores_what_is_asked_for,
     from_csv_warns_of_quotes_that_look_broken,
     from_csv_makes_scripts_of_64_mebibytes_and_no_byte_more,
+    from_csv_refuses_early_only_what_has_no_room,
     from_csv_shows_progress_at_a_terminal_only,
     to_csv_takes_replies_from_a_file,
     to_csv_names_no_two_columns_alike,
