@@ -677,6 +677,21 @@ def integers_of_numpy_are_ints():
             expect(type(fault_of(lambda: session.put([row]))), client.RowTypeError)
 
 
+def the_page_loads_a_large_file_as_it_says():
+    """The lines of docs/HOW_TO.md on a file that is too large for a script, as they stand, on a small one."""
+    shell, python = (TOP / "docs/HOW_TO.md").read_text().split("## A large CSV file\n")[1].split("\n## ")[0].split("```sh\n")[1].split("```python\n")
+    betable()
+    with tempfile.TemporaryDirectory() as folder:
+        line = shell.split("\n```")[0].replace("examples/", f"{TOP}/examples/").replace("tools/", f"{TOP}/tools/")
+        ended = subprocess.run(["sh", "-c", line], cwd=folder, capture_output=True, text=True)
+        expect(ended.returncode, 0)
+        expect_within("table 16 1024 256 1 id:int city:text qty:int", ended.stdout + ended.stderr)
+        code = python.split("```")[0] + "    print(len(session.scan()))\n"
+        environment = {**os.environ, "PYTHONPATH": str(TOP / "clients/python")}
+        ended = subprocess.run([sys.executable, "-B", "-c", code], cwd=folder, capture_output=True, text=True, env=environment)
+        expect((ended.returncode, ended.stdout, ended.stderr), (0, "12\n", ""))
+
+
 TESTS_OF_TEXTS = [
     wrong_uses_of_the_python_client_change_nothing,
     calls_without_a_table_are_refused,
@@ -695,5 +710,6 @@ TESTS_OF_TEXTS = [
     a_missing_library_is_named,
     scripts_of_any_form_are_cut_as_they_are_run,
     integers_of_numpy_are_ints,
+    the_page_loads_a_large_file_as_it_says,
 ]
 TESTS = []
