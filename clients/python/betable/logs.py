@@ -248,7 +248,7 @@ class PostgresLog:
     def keep(self, position: int, checkpoint: bytes) -> None:
         try:
             self._rows("BEGIN; LOCK TABLE NAME_checkpoint IN EXCLUSIVE MODE")
-            if not self._rows("SELECT FROM NAME_checkpoint WHERE position >= %s", (position,)):
+            if not self._rows("SELECT position FROM NAME_checkpoint WHERE position >= %s", (position,)):
                 self._rows("DELETE FROM NAME_checkpoint")
                 for number, part in enumerate(parts_of(checkpoint)):
                     self._rows("INSERT INTO NAME_checkpoint VALUES(%s, %s, %s)", (position, number, self._psycopg2.Binary(part)))
