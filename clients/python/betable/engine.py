@@ -26,6 +26,8 @@ from .replies import reply_end
 # The most works of a group, and the bytes of scripts that close one.
 MOST_GROUP, GROUP_BYTES = 256, 16 << 20
 ALL_ROWS = sys.maxsize
+# How often in a row the process may end before the table is open, and the seconds between two starts, times the number of failures.
+MOST_FAILURES, FAILURE_SECONDS = 5, 0.2
 START = "import sys; from betable.engine import main; sys.exit(main())"
 PR_SET_PDEATHSIG = 1
 # The word with which a line of a row or of a group begins, and that of the line after the last one.
@@ -203,9 +205,18 @@ class Engine:
         return self._process.pid if self._process else 0
 
     async def serve(self, opened: asyncio.Event) -> None:
-        """Keeps the process running until `end`. It raises the fault of a table that cannot be opened."""
+        """Keeps the process running until `end`. It raises the fault of a table that cannot be opened, and Lost if the process ends again and again before."""
+        failures = 0
         while not self._is_ending:
-            await self._start()
+            try:
+                await self._start()
+            except Lost:
+                failures += 1
+                if not opened.is_set() or failures == MOST_FAILURES:
+                    raise
+                await asyncio.sleep(failures * FAILURE_SECONDS)
+                continue
+            failures = 0
             opened.set()
             try:
                 while True:

@@ -216,12 +216,12 @@ class Service:
         parts, length, size = [], 0, request.content_length or 0
         try:
             while size <= self.limits.body and length <= self.limits.body and not request.content.at_eof():
-                if self.held > self.limits.held:
-                    raise Problem(429, "too many bytes of requests wait: try again", {"Retry-After": "1"})
                 async with asyncio.timeout(self.limits.seconds):
                     parts.append(await request.content.readany())
                 length += len(parts[-1])
                 self.hold(request, len(parts[-1]))
+                if self.held > self.limits.held:
+                    raise Problem(429, "too many bytes of requests wait: try again", {"Retry-After": "1"})
         except TimeoutError:
             raise Problem(408, f"the next bytes of the body did not come within {self.limits.seconds:g} seconds") from None
         if max(size, length) > self.limits.body:
@@ -246,8 +246,9 @@ class Service:
     def take(self, group: list[Work], result: Result) -> None:
         """Takes in what a group of scripts gave: measures it, and tells the readers of events which scripts were kept."""
         before = self.engine.number
-        if group:
-            self.metrics.take(group, result, before)
+        if not group:
+            return self.tell(start_event(result.number))
+        self.metrics.take(group, result, before)
         for work, answer in zip(group, result.answers):
             if isinstance(answer, Answer) and answer.number > before:
                 before = answer.number
@@ -371,7 +372,7 @@ class Service:
         await response.prepare(request)
         watcher: asyncio.Queue[str | None] = asyncio.Queue(MOST_EVENTS)
         self.watchers.add(watcher)
-        event: str | None = f"id: {self.engine.number}\nevent: start\ndata: {json.dumps({'number': self.engine.number})}\n\n"
+        event: str | None = start_event(self.engine.number)
         try:
             while event is not None:
                 async with asyncio.timeout(self.limits.seconds):
@@ -498,7 +499,8 @@ COMMON_HEADERS = {"Cache-Control": "no-store", "X-Content-Type-Options": "nosnif
 
 
 def json_response(found: Any, headers: dict[str, str] | None = None, status: int = 200) -> web.Response:
-    return web.json_response(found, status=status, headers={**COMMON_HEADERS, **(headers or {})})
+    headers = {**COMMON_HEADERS, **(headers or {})}
+    return web.Response(text=json.dumps(found, ensure_ascii=False) + "\n", status=status, headers=headers, content_type="application/json")
 
 
 def response_of(problem: Problem) -> web.Response:
@@ -541,6 +543,11 @@ def refusal_of_rows(script: bytes, replies: bytes, state: State) -> Problem:
     if fault.item is not None:
         problem.fields["line"] = command.messages()[fault.item - 1].number - 1
     return problem
+
+
+def start_event(number: int) -> str:
+    """The event that the engine was started, or that a reader has come: the number of the last script that is kept."""
+    return f"id: {number}\nevent: start\ndata: {json.dumps({'number': number})}\n\n"
 
 
 def event_of(script: bytes, answer: Answer) -> str:
@@ -641,6 +648,8 @@ def run(words: argparse.Namespace) -> int:
     if token is None and not is_loopback(words.host):
         return failed(f"{words.host} can be reached by others: --token FILE is wanted", 2)
     limits = Limits(words.most_body, words.most_waiting, words.most_held, words.client_seconds)
+    if limits.held < limits.body:
+        return failed(f"--most-held is at least --most-body, which is {limits.body:,}", 2)
     try:
         return asyncio.run(serve(Service(words.path, limits, token, words.read_only), words.host, words.port))
     except Exception as fault:

@@ -1,0 +1,704 @@
+"""Tests of the server of the Python package: each endpoint, bad requests, shared commits, requests that run once, tokens, readers that are slow, and ends.
+
+Each test has a server of its own, on a free port of 127.0.0.1. The server is run by a Python that has aiohttp and prometheus_client, which may be another one
+than runs the tests; where there is none a line says so, and each test passes without a look. The library is that of BETABLE_LIBRARY, or bin/build_c builds it.
+"""
+
+import base64
+import gzip
+import hashlib
+import json
+import os
+import re
+import resource
+import signal
+import socket
+import subprocess
+import sys
+import tempfile
+import time
+import xml.etree.ElementTree as xml
+from concurrent.futures import ThreadPoolExecutor
+from contextlib import contextmanager
+from functools import cache, wraps
+from http.client import HTTPConnection
+from pathlib import Path
+from urllib.parse import quote
+
+from clients import betable, is_installed, library, places_between, WORKED
+from common import boxes, expect, expect_within, SECONDS, texts, TOP
+
+TABLE = b"table 4 8 4 1 id:int city:text qty:int\nindex by_city on city include qty\nbuild by_city 1\n"
+TOKEN = "0123456789abcdef0123456789abcdef"
+
+
+@cache
+def python():
+    """A Python that has what the server needs, or None."""
+    for path in (sys.executable, "/usr/bin/python3"):
+        if Path(path).exists() and subprocess.run([path, "-c", "import aiohttp, prometheus_client"], capture_output=True).returncode == 0:
+            return path
+    return None
+
+
+def with_aiohttp(test):
+    @wraps(test)
+    def run():
+        if python() is None:
+            print("aiohttp is not installed: the server is not tested")
+        else:
+            test()
+
+    return run
+
+
+# ---- a server ----
+
+
+class Server:
+    """A server of the table in a folder. What it prints on standard error is shown where a test fails."""
+
+    def __init__(self, folder, *words, environment=None):
+        self.path = Path(folder) / "stock.table"
+        self.process = started(self.path, *words, environment=environment)
+        line = self.process.stdout.readline()
+        if not line:
+            raise RuntimeError(f"no server: {self.process.stderr.read()}")
+        self.port = int(line.rsplit(":", 1)[1])
+
+    def ask(self, method, path, body=None, headers=(), seconds=SECONDS):
+        """The status, the headers and the body of an answer."""
+        connection = HTTPConnection("127.0.0.1", self.port, timeout=seconds)
+        try:
+            connection.request(method, path, body, dict(headers))
+            response = connection.getresponse()
+            return response.status, response.headers, response.read()
+        finally:
+            connection.close()
+
+    def run(self, script, **headers):
+        """The replies to a script, which is answered with success."""
+        status, _, body = self.ask("POST", "/run", script, {name.replace("_", "-"): value for name, value in headers.items()})
+        expect((status, body if status != 200 else b""), (200, b""))
+        return body
+
+    def json(self, path):
+        status, _, body = self.ask("GET", path, headers={"Accept": "application/json"})
+        expect((status, body if status != 200 else b""), (200, b""))
+        return json.loads(body)
+
+    def metric(self, name):
+        text = self.ask("GET", "/metrics")[2].decode()
+        return float(re.search(rf"^{re.escape(name)} (\S+)$", text, re.MULTILINE)[1])
+
+    def engine(self):
+        """The id of the engine's process."""
+        return int(Path(f"/proc/{self.process.pid}/task/{self.process.pid}/children").read_text().split()[0])
+
+    @contextmanager
+    def stopped_engine(self):
+        """The engine's process does nothing while this lasts."""
+        process = self.engine()
+        os.kill(process, signal.SIGSTOP)
+        try:
+            yield process
+        finally:
+            if Path(f"/proc/{process}").exists():
+                os.kill(process, signal.SIGCONT)
+
+    def await_metric(self, name, value):
+        until(lambda: self.metric(name) == value)
+
+    def end(self, number=signal.SIGTERM):
+        """The status with which it ends at a signal."""
+        self.process.send_signal(number)
+        return self.process.wait(SECONDS)
+
+
+def started(path, *words, environment=None):
+    library()
+    words = [python(), "-m", "betable", "serve", path, "--port", "0", *map(str, words)]
+    environment = {**os.environ, "PYTHONPATH": str(TOP / "clients/python"), "PYTHONDONTWRITEBYTECODE": "1", **(environment or {})}
+    return subprocess.Popen(words, stdout=subprocess.PIPE, stderr=subprocess.PIPE, text=True, env=environment)
+
+
+@contextmanager
+def server(*words, script=TABLE):
+    with tempfile.TemporaryDirectory() as folder:
+        with served(folder, *words) as found:
+            if script:
+                found.run(script)
+            yield found
+
+
+@contextmanager
+def served(folder, *words):
+    found = Server(folder, *words)
+    try:
+        yield found
+    finally:
+        if found.process.poll() is None:
+            found.process.kill()
+        found.process.communicate()
+
+
+def until(is_so):
+    """Waits until something is so."""
+    end = time.monotonic() + SECONDS
+    while not is_so():
+        if time.monotonic() > end:
+            raise TimeoutError("it did not come to be")
+        time.sleep(0.01)
+
+
+def adds(key):
+    """A script that counts how often it was run."""
+    return b"batch\nups %d,add,qty,1\nend\n" % key
+
+
+def quantities(server):
+    return {key: quantity for key, _, quantity in server.json("/rows/primary")["rows"]}
+
+
+# ---- endpoints ----
+
+
+@with_aiohttp
+def scripts_have_the_replies_of_a_session():
+    for name in ("building_index", "adds_saturate", "deals_leaves"):
+        script = WORKED / name
+        if not script.exists():
+            continue
+        text = script.read_bytes()
+        places = places_between(text)
+        with server(script=b"") as found:
+            parts = [found.run(text[low:high]) for low, high in zip(places, places[1:])]
+        expect((name, b"".join(parts)), (name, Path(f"{script}.stdout").read_bytes()))
+
+
+@with_aiohttp
+def replies_come_as_json_with_their_commands():
+    with server() as found:
+        script = b"batch\nput 1,Oslo,x\nend\nbatch\nput 2,\"a,b\",4\nend\nget 2\nfoo\n"
+        status, headers, body = found.ask("POST", "/run", script, {"Accept": "application/json"})
+        expect((status, headers["Betable-Refused"], headers["Content-Type"]), (200, "2", "application/json; charset=utf-8"))
+        said = json.loads(body)
+        expect((said["refused"], said["number"]), (2, 2))
+        first, second, third, fourth = said["replies"]
+        expect({**first["refused"], "reason": ""}, {"number": 6, "name": "BadField", "line": 1, "item": 1, "column": "qty", "value": "x", "reason": ""})
+        expect_within("qty", first["refused"]["reason"])
+        expect(second, {"line": 4, "command": "batch", "reply": ["batch 1 by_city:1"]})
+        expect(third, {"line": 7, "command": "get", "reply": ['row 2,"a,b",4']})
+        expect((fourth["line"], fourth["refused"]["number"]), (8, 1))
+        expect(found.ask("POST", "/run", script)[1]["Betable-Refused"], "2")
+
+
+@with_aiohttp
+def rows_go_in_and_come_out():
+    hard = ["Oslo", "a,b", 'say "so"', "", "  ", ".", "end", "row 1", "æøå", "\ufeffx"]
+    with server() as found:
+        lines = [betable().record((key, city, key * 10)) for key, city in enumerate(hard)]
+        body = "\r\n" + "\r\n\n".join(lines)
+        status, headers, replies = found.ask("POST", "/rows", body.encode(), {"Content-Type": "text/csv"})
+        expect((status, replies), (200, b"batch %d by_city:%d\n" % (len(hard), len(hard))))
+        rows = found.json("/rows/primary")
+        expect(rows, {"columns": ["id", "city", "qty"], "more": False, "rows": [[key, city, key * 10] for key, city in enumerate(hard)]})
+        expect(found.ask("GET", "/rows/primary?limit=3&format=csv")[2], b'0,Oslo,0\n1,"a,b",10\n2,"say ""so""",20\n')
+        expect(found.ask("GET", "/rows/primary?limit=3")[1]["Betable-More"], "true")
+        expect(found.ask("GET", f"/rows/primary?limit={len(hard)}")[1]["Betable-More"], "false")
+        for city in hard:
+            bound = "from=" + quote(city)
+            expect((city, found.json(f"/rows/by_city?{bound}&limit=1")["rows"]), (city, [[city, hard.index(city), hard.index(city) * 10]]))
+        expect(found.json("/rows/by_city?from=Oslo&from=1&to=P")["rows"], [])
+        expect(found.json("/rows/by_city?from=Oslo&from=0&to=P")["rows"], [["Oslo", 0, 0]])
+        expect(found.ask("GET", "/row?key=1")[2], b'1,"a,b",10\n')
+        expect(found.json("/row?key=2"), {"columns": ["id", "city", "qty"], "more": False, "rows": [[2, 'say "so"', 20]]})
+        # Another 65,536 rows, as many as a batch has: they come back in more than one piece.
+        many = b"".join(b'%d,"x\x22\x22y",1\n' % key for key in range(100, 65_636))
+        expect(found.ask("POST", "/rows", many)[0], 200)
+        expect(found.ask("GET", "/rows/primary?from=100")[2], many)
+        expect([row[0] for row in found.json("/rows/primary?from=100")["rows"]], list(range(100, 65_636)))
+
+
+@with_aiohttp
+def values_of_each_kind_are_written():
+    table = b"table 4 8 4 2 on:flag id:int data:bytes note:text\nload\non,id,data,note\ntrue,-9223372036854775808,00ff,\"a\nrow b\"\nfalse,9223372036854775807,,x\n.\n"
+    with server(script=table) as found:
+        rows = [[False, 2**63 - 1, "", "x"], [True, -(2**63), "00ff", "a\nrow b"]]
+        expect(found.json("/rows/primary")["rows"], rows)
+        expect(found.json("/row?key=true&key=-9223372036854775808")["rows"], rows[1:])
+        expect(found.ask("GET", "/rows/primary")[2], b'false,9223372036854775807,,x\ntrue,-9223372036854775808,00ff,"a\nrow b"\n')
+
+
+@with_aiohttp
+def sums_are_of_groups():
+    with server() as found:
+        found.ask("POST", "/rows", b"1,Oslo,3\n2,\"a, b\",9223372036854775807\n3,Oslo,4\n4,\"a, b\",1\n")
+        expect(found.json("/sums/by_city?of=qty"), {"columns": ["count", "sum", "city"], "more": False, "rows": [[2, 7, "Oslo"], [2, 2**63, "a, b"]]})
+        expect(found.ask("GET", "/sums/by_city?of=qty&columns=2&from=a")[2], b'1,9223372036854775807,"a, b",2\n1,1,"a, b",4\n')
+        expect(found.json("/sums/by_city?of=qty&columns=2&limit=1"), {"columns": ["count", "sum", "city", "id"], "more": True, "rows": [[1, 3, "Oslo", 1]]})
+
+
+@with_aiohttp
+def trees_are_told_and_drawn():
+    with server(script=b"") as found:
+        expect(found.json("/trees"), {"columns": [], "key": [], "trees": {}})
+        found.run(TABLE + b"batch\nput 1,Oslo,3\nend\nindex b on qty,qty\n")
+        columns = [{"name": "id", "kind": "int"}, {"name": "city", "kind": "text"}, {"name": "qty", "kind": "int"}]
+        trees = {
+            "primary": {"columns": ["id", "city", "qty"], "key": ["id"], "complete": True},
+            "by_city": {"columns": ["city", "id", "qty"], "key": ["city", "id"], "complete": True},
+            "b": {"columns": ["qty", "qty", "id"], "key": ["qty", "qty", "id"], "complete": False},
+        }
+        expect(found.json("/trees"), {"columns": columns, "key": ["id"], "trees": trees})
+        found.run(b"build b 9\n")
+        expect(found.json("/trees")["trees"]["b"]["complete"], True)
+        status, headers, body = found.ask("GET", "/tree/by_city.svg?columns=4&lines=2")
+        expect((status, headers["Content-Type"]), (200, "image/svg+xml; charset=utf-8"))
+        picture = xml.fromstring(body)
+        expect((texts(picture, "title"), texts(boxes(picture, "leaf")[0], "row")), (["by_city (city, id), height 1"], ["Oslo 1 → 3"]))
+        found.ask("POST", "/rows", b"".join(b"%d,%b,1\n" % (key, b"x" * 100) for key in range(10_000)))
+        status, _, body = found.ask("GET", "/tree/primary.svg")
+        expect((status, "is drawn" in json.loads(body)["reason"]), (422, True))
+
+
+@with_aiohttp
+def events_tell_which_scripts_were_kept():
+    with server() as found:
+        with events_of(found) as lines:
+            expect([next(lines) for _ in range(3)], ["id: 1", "event: start", 'data: {"number": 1}'])
+            found.run(b'get 1\nbatch\nput 1,"batch 9",2\nend\nbatch\nput x\nend\n')
+            found.run(b"get 1\n")
+            found.run(b"drop by_city\n")
+            expect(next(lines), "id: 2")
+            expect(json.loads(next(lines).removeprefix("data: ")), {"number": 2, "replies": ["batch 1 by_city:1"], "more": 0})
+            expect(next(lines), "id: 3")
+            expect(json.loads(next(lines).removeprefix("data: ")), {"number": 3, "replies": ["dropped by_city"], "more": 0})
+            expect(found.end(), 0)
+            expect(list(lines), [])
+
+
+@contextmanager
+def events_of(server):
+    """The lines of the events of a server that are not empty."""
+    connection = HTTPConnection("127.0.0.1", server.port, timeout=SECONDS)
+    connection.request("GET", "/events")
+    response = connection.getresponse()
+    expect((response.status, response.headers["Content-Type"]), (200, "text/event-stream"))
+    try:
+        yield (line for line in (line.decode().rstrip("\n") for line in response) if line)
+    finally:
+        connection.close()
+
+
+@with_aiohttp
+def page_needs_no_network():
+    with server() as found:
+        status, headers, body = found.ask("GET", "/")
+        expect((status, headers["Content-Type"]), (200, "text/html; charset=utf-8"))
+        text = body.decode()
+        expect(re.findall(r"https?://|//[a-z]+\.|<link|src=|@import", text), [])
+        # The policy allows its own script and style alone.
+        for tag, name in (("script", "script-src"), ("style", "style-src")):
+            part = re.search(f"<{tag}>(.*?)</{tag}>", text, re.DOTALL)[1]
+            digest = base64.b64encode(hashlib.sha256(part.encode()).digest()).decode()
+            expect_within(f"{name} 'sha256-{digest}'", headers["Content-Security-Policy"])
+        # Each metric that the page shows is one of the server's.
+        for name in re.findall(r'(?:value|mean)\("(\w+)"\)', text):
+            expect(found.metric(name if re.search(rf'value\("{name}"\)', text) else f"{name}_count") >= 0, True)
+
+
+# ---- bad requests ----
+
+# What is asked, with headers and a body, and the status and a part of the reason.
+BAD_REQUESTS = [
+    ("GET", "/run", {}, None, 405, "GET /run"),
+    ("PUT", "/rows", {}, b"1,a,1\n", 405, "PUT /rows"),
+    ("POST", "/rows/primary", {}, b"", 405, "POST"),
+    ("HEAD", "/rows/primary", {}, None, 405, ""),
+    ("DELETE", "/", {}, None, 405, "DELETE /"),
+    ("GET", "/nothing", {}, None, 404, "/nothing"),
+    ("GET", "/rows/", {}, None, 404, "/rows/"),
+    ("GET", "/rows/none", {}, None, 404, "none"),
+    ("GET", "/tree/none.svg", {}, None, 404, "none"),
+    ("GET", "/rows/building", {}, None, 409, "building"),
+    ("GET", "/rows/primary%0aimage%20primary", {}, None, 400, "no name"),
+    ("GET", "/rows/primary%20x", {}, None, 400, "no name"),
+    ("GET", "/rows/Primary", {}, None, 400, "primary"),
+    ("GET", "/rows/" + "a" * 33, {}, None, 400, "32"),
+    ("GET", "/rows/%ff", {}, None, 400, "no name"),
+    ("GET", "/rows/primary?from=1%0ago", {}, None, 400, "line break"),
+    ("GET", "/rows/primary?to=1%0dgo", {}, None, 400, "line break"),
+    ("GET", "/rows/primary?from=%ff", {}, None, 400, "utf-8"),
+    ("GET", "/rows/primary?from=x", {}, None, 422, "id"),
+    ("GET", "/rows/primary?from=1&from=2", {}, None, 422, "2"),
+    ("GET", "/rows/primary?limit=0", {}, None, 400, "limit"),
+    ("GET", "/rows/primary?limit=-1", {}, None, 400, "limit"),
+    ("GET", "/rows/primary?limit=1234567890", {}, None, 400, "limit"),
+    ("GET", "/rows/primary?limit=%D9%A1", {}, None, 400, "limit"),
+    ("GET", "/rows/primary?form=1", {}, None, 400, "'form'"),
+    ("GET", "/rows/primary?format=xml", {}, None, 400, "format"),
+    ("GET", "/rows/primary?" + "&".join(["from=1"] * 65), {}, None, 400, "query"),
+    ("GET", "/row", {}, None, 400, "key"),
+    ("GET", "/row?key=7", {}, None, 404, "no row"),
+    ("GET", "/row?key=1&key=2", {}, None, 422, "2"),
+    ("GET", "/sums/primary", {}, None, 400, "'of'"),
+    ("GET", "/sums/primary?of=city", {}, None, 422, "city"),
+    ("GET", "/sums/primary?of=none", {}, None, 422, "none"),
+    ("GET", "/sums/primary?of=qty%0ago", {}, None, 400, "no name"),
+    ("GET", "/sums/primary?of=qty&columns=9", {}, None, 422, ""),
+    ("GET", "/sums/primary?of=qty&columns=x", {}, None, 400, "columns"),
+    ("POST", "/run", {"Content-Type": "application/json"}, b"{}", 415, "application/json"),
+    ("POST", "/rows", {"Content-Type": "multipart/form-data; boundary=x"}, b"", 415, "multipart"),
+    ("POST", "/rows", {"Content-Encoding": "gzip"}, gzip.compress(b"1,a,1\n"), 415, "Content-Encoding"),
+    ("POST", "/run", {"Idempotency-Key": ""}, b"get 1\n", 400, "Idempotency-Key"),
+    ("POST", "/run", {"Idempotency-Key": "a b"}, b"get 1\n", 400, "Idempotency-Key"),
+    ("POST", "/run", {"Idempotency-Key": "a" * 201}, b"get 1\n", 400, "Idempotency-Key"),
+    ("POST", "/run", {}, b"x" * 2_000_001, 413, "2,000,000"),
+    ("POST", "/rows", {}, iter([b"x" * 1_000_000] * 3), 413, "2,000,000"),
+    ("POST", "/rows", {}, b"1,a,1\n2,b\n", 422, "2 fields"),
+    ("POST", "/rows", {}, b"1,a,1\n2,b\xff,1\n", 422, "UTF-8"),
+    ("POST", "/rows", {}, b"1,a\rb,1\n", 422, ""),
+    ("POST", "/rows", {}, b'1,"a\nb",1\n', 400, "line break"),
+    ("POST", "/rows", {}, b"".join(b"%d,a,1\n" % key for key in range(65_537)), 422, "65,53"),
+    ("POST", "/checkpoint", {}, b"", 409, "building"),
+    ("GET", "/healthz", {"Long": "x" * 9_000}, None, 400, None),
+]
+
+
+@with_aiohttp
+def bad_requests_are_told_and_change_nothing():
+    with server("--most-body", 2_000_000) as found:
+        found.run(b"batch\nput 1,Oslo,2\nend\nindex building on qty\n")
+        before = found.run(b"image primary\nimage by_city\nimage building\n")
+        for method, path, headers, body, wanted, part in BAD_REQUESTS:
+            status, given, answer = found.ask(method, path, body, headers)
+            expect((method, path, headers, status), (method, path, headers, wanted))
+            if part is not None and method != "HEAD":
+                said = json.loads(answer)
+                expect((path, said["status"], given["Content-Type"]), (path, wanted, "application/json; charset=utf-8"))
+                expect_within(part, said["reason"])
+            if status == 405:
+                expect((path, bool(given["Allow"])), (path, True))
+        for raw in (b"\x00\xff\r\n\r\n", b"GET / HTTP/9.9\r\n\r\n", b"GET\r\n\r\n", b"POST /run HTTP/1.1\r\nContent-Length: x\r\n\r\n", b"\x16\x03\x01\x02\x00"):
+            with socket.create_connection(("127.0.0.1", found.port), SECONDS) as connection:
+                connection.sendall(raw)
+                connection.shutdown(socket.SHUT_WR)
+                answer = b"".join(iter(lambda: connection.recv(65_536), b""))
+                expect((raw, answer[:13] in (b"", b"HTTP/1.0 400 ", b"HTTP/1.1 400 ")), (raw, True))
+        expect(found.run(b"image primary\nimage by_city\nimage building\n"), before)
+        expect((found.metric("betable_waiting_requests"), found.metric("betable_held_bytes")), (0, 0))
+
+
+@with_aiohttp
+def refused_rows_have_line_and_item():
+    with server() as found:
+        status, _, body = found.ask("POST", "/rows", b'\n1,a,1\r\n\n2,"b, c",x\n3,d,4\n')
+        said = json.loads(body)
+        expect((status, said.pop("reason") != ""), (422, True))
+        expect(said, {"status": 422, "number": 6, "name": "BadField", "line": 4, "item": 2, "column": "qty", "value": "x"})
+        expect(found.json("/rows/primary")["rows"], [])
+        status, _, body = found.ask("POST", "/rows", b'1,a,1\n2,"b\nc",3\n')
+        expect((status, json.loads(body)["line"]), (400, 2))
+
+
+@with_aiohttp
+def limits_are_kept():
+    with server("--most-waiting", 2, "--most-body", 100_000, "--most-held", 100_000, "--client-seconds", 1) as found:
+        with found.stopped_engine(), ThreadPoolExecutor(2) as pool:
+            asked = [pool.submit(found.run, adds(key)) for key in range(2)]
+            found.await_metric("betable_queued_scripts", 2)
+            status, headers, _ = found.ask("POST", "/run", adds(2))
+            expect((status, headers["Retry-After"]), (429, "1"))
+            expect(found.ask("GET", "/rows/primary")[0], 429)
+            os.kill(found.engine(), signal.SIGCONT)
+            expect([answer.result() for answer in asked], [b"batch 1 by_city:1\n"] * 2)
+        with socket.create_connection(("127.0.0.1", found.port), SECONDS) as connection:
+            connection.sendall(b"POST /run HTTP/1.1\r\nHost: localhost\r\nContent-Length: 90000\r\n\r\n" + b"x" * 60_000)
+            found.await_metric("betable_held_bytes", 60_000)
+            expect(found.ask("POST", "/run", b"x" * 60_000)[0], 429)
+            expect(connection.recv(65_536).split(b" ")[1], b"408")
+        expect(quantities(found), {0: 1, 1: 1})
+        expect((found.metric("betable_waiting_requests"), found.metric("betable_held_bytes")), (0, 0))
+
+
+# ---- who may ask ----
+
+
+@with_aiohttp
+def token_is_wanted():
+    with tempfile.TemporaryDirectory() as folder:
+        path = Path(folder) / "token"
+        path.write_text(TOKEN + "\nsecond line\n")
+        with served(folder, "--token", path) as found:
+            right = {"Authorization": f"Bearer {TOKEN}"}
+            for path_asked in ("/run", "/rows/primary", "/metrics", "/events", "/trees", "/checkpoint", "/nothing"):
+                for given in ({}, {"Authorization": TOKEN}, {"Authorization": f"Basic {TOKEN}"}, {"Authorization": f"Bearer {TOKEN}x"}, {"Authorization": "Bearer æ"}):
+                    status, headers, _ = found.ask("GET", path_asked, None, {name: value.encode("latin-1") for name, value in given.items()})
+                    expect((path_asked, given, status, headers["WWW-Authenticate"]), (path_asked, given, 401, "Bearer"))
+            expect([found.ask("GET", open_path)[0] for open_path in ("/", "/healthz")], [200, 200])
+            expect(found.ask("POST", "/run", TABLE, right)[0], 200)
+            expect(found.ask("GET", "/rows/primary", None, {"Authorization": f"bearer {TOKEN}", "Host": "table.example", "Origin": "https://a.example"})[0], 200)
+
+
+@with_aiohttp
+def other_sites_cannot_use_a_server_without_a_token():
+    with server() as found:
+        own = f"http://127.0.0.1:{found.port}"
+        for headers, wanted in [
+            ({"Origin": own}, 200),
+            ({"Host": f"localhost:{found.port}"}, 200),
+            ({"Host": f"[::1]:{found.port}"}, 200),
+            ({"Origin": "https://a.example"}, 403),
+            ({"Origin": "null"}, 403),
+            ({"Origin": f"http://localhost:{found.port}"}, 403),
+            ({"Sec-Fetch-Site": "cross-site"}, 403),
+            ({"Sec-Fetch-Site": "same-site"}, 403),
+            ({"Host": "a.example"}, 421),
+            ({"Host": f"a.example:{found.port}", "Origin": f"http://a.example:{found.port}"}, 421),
+            ({"Host": "127.0.0.1.a.example"}, 421),
+        ]:
+            expect((headers, found.ask("POST", "/run", adds(1), headers)[0]), (headers, wanted))
+        expect(quantities(found), {1: 3})
+
+
+@with_aiohttp
+def read_only_servers_change_nothing():
+    with tempfile.TemporaryDirectory() as folder:
+        with served(folder) as found:
+            found.run(TABLE + b"batch\nput 1,batch,2\nend\n")
+            expect(found.end(), 0)
+        with served(folder, "--read-only") as found:
+            rows = found.run(b"scan primary\ngo\n")
+            changes = [adds(1), b"get 1\nrebuild primary\n", b"  drop by_city\n", b"batch\n", b"load\n", b"table 4 8 4 1 id:int\n", b"index a on qty\n", b"drain primary\r\n"]
+            for script in [*changes, b"scan primary\nfrom 1\ngo\nbuild by_city 1\n"]:
+                status, _, body = found.ask("POST", "/run", script)
+                expect((script, status, "read-only" in json.loads(body)["reason"]), (script, 403, True))
+            expect([found.ask("POST", path, b"1,a,1\n")[0] for path in ("/rows", "/checkpoint")], [403, 403])
+            expect(found.run(b"scan primary\ngo\nget 1\nbatches\n"), rows + b"row 1,batch,2\nrefused 1 Syntax\n")
+            expect(found.json("/rows/by_city")["rows"], [["batch", 1, 2]])
+            expect(found.metric("betable_kept_scripts"), 1)
+
+
+# ---- commits, crashes and ends ----
+
+
+@with_aiohttp
+def requests_that_wait_share_a_commit():
+    count = 40
+    with server() as found, ThreadPoolExecutor(count) as pool:
+        before = found.metric("betable_commits_total")
+        with found.stopped_engine():
+            asked = [pool.submit(found.run, adds(key % 7)) for key in range(count)]
+            found.await_metric("betable_queued_scripts", count)
+        expect({answer.result().split(b":")[0] for answer in asked}, {b"batch 1 by_city"})
+        # The first was sent alone, since nothing ran; the others waited.
+        expect(found.metric("betable_commits_total") - before <= 2, True)
+        expect(found.metric("betable_kept_scripts"), 1 + count)
+        expect(sum(quantities(found).values()), count)
+
+
+@with_aiohttp
+def requests_run_once_over_a_kill():
+    with server() as found, ThreadPoolExecutor(8) as pool:
+        first = found.run(adds(0), Idempotency_Key="first")
+        expect(found.run(adds(0), Idempotency_Key="first"), first)
+        expect(found.ask("POST", "/run", adds(1), {"Idempotency-Key": "first"})[0], 422)
+        expect(found.ask("POST", "/rows", b"9,a,1\n", {"Idempotency-Key": "rows"})[2], found.ask("POST", "/rows", b"9,a,1\n", {"Idempotency-Key": "rows"})[2])
+        with found.stopped_engine() as engine:
+            keys = [*range(1, 8), "rows"]
+            asked = [pool.submit(found.ask, "POST", "/run", adds(key), {"Idempotency-Key": str(key)}) for key in keys[:-1]]
+            asked.append(pool.submit(found.ask, "POST", "/rows", b"9,a,1\n", {"Idempotency-Key": "rows"}))
+            found.await_metric("betable_queued_scripts", len(keys))
+            os.kill(engine, signal.SIGKILL)
+            lost = [answer.result() for answer in asked]
+        expect({(status, headers["Retry-After"]) for status, headers, _ in lost}, {(503, "1")})
+        until(lambda: found.ask("GET", "/healthz")[0] == 200)
+        for _ in range(2):
+            for key in keys[:-1]:
+                found.run(adds(key), Idempotency_Key=str(key))
+        expect(found.run(adds(0), Idempotency_Key="first"), first)
+        expect(quantities(found), {**{key: 1 for key in range(8)}, 9: 1})
+        expect(found.metric("betable_engine_starts"), 2)
+
+
+@with_aiohttp
+def requests_run_once_over_a_kill_of_the_server():
+    with tempfile.TemporaryDirectory() as folder:
+        with served(folder) as found, ThreadPoolExecutor(1) as pool:
+            found.run(TABLE)
+            engine, log = found.engine(), Path(f"{found.path}-wal")
+            with found.stopped_engine():
+                asked = pool.submit(found.ask, "POST", "/run", adds(1), {"Idempotency-Key": "a"})
+                found.await_metric("betable_queued_scripts", 1)
+                size = log.stat().st_size
+                os.kill(found.process.pid, signal.SIGSTOP)
+            # The engine has kept the script when its log has grown and it waits again, and nobody takes its answer.
+            until(lambda: log.stat().st_size > size and " S " in Path(f"/proc/{engine}/stat").read_text())
+            found.process.kill()
+            expect(isinstance(asked.exception(), (ConnectionError, OSError)), True)
+            found.process.wait()
+            until(lambda: not Path(f"/proc/{engine}").exists())
+        with served(folder) as found:
+            expect(found.run(adds(1), Idempotency_Key="a"), b"batch 1 by_city:1\n")
+            expect(quantities(found), {1: 1})
+
+
+@with_aiohttp
+def disk_that_is_full_is_told():
+    with server() as found:
+        engine = found.engine()
+        found.run(adds(1))
+        resource.prlimit(engine, resource.RLIMIT_FSIZE, (100_000, resource.RLIM_INFINITY))
+        script = b"batch\n" + b"".join(b"put %d,%b,1\n" % (key, os.urandom(50).hex().encode()) for key in range(10, 10_000)) + b"end\n"
+        status, _, body = found.ask("POST", "/run", script)
+        expect((status in (503, 507), "reason" in json.loads(body)), (True, True))
+        if Path(f"/proc/{engine}").exists():
+            resource.prlimit(engine, resource.RLIMIT_FSIZE, (resource.RLIM_INFINITY, resource.RLIM_INFINITY))
+        until(lambda: found.ask("GET", "/healthz")[0] == 200)
+        rows = quantities(found)
+        expect((rows.pop(1), len(rows) in ((0,) if status == 507 else (0, 9_990))), (1, True))
+        expect(found.run(adds(2)), b"batch 1 by_city:1\n")
+
+
+@with_aiohttp
+def slow_readers_hold_nothing_up():
+    with server("--client-seconds", 2) as found:
+        for start in range(0, 120_000, 60_000):
+            found.ask("POST", "/rows", b"".join(b"%d,%b,1\n" % (key, b"x" * 200) for key in range(start, start + 60_000)))
+        with socket.socket() as slow:
+            slow.setsockopt(socket.SOL_SOCKET, socket.SO_RCVBUF, 4_096)
+            slow.connect(("127.0.0.1", found.port))
+            slow.sendall(b"GET /rows/primary HTTP/1.1\r\nHost: localhost\r\n\r\n")
+            until(lambda: found.metric("betable_held_bytes") > 20_000_000)
+            expect(found.run(adds(-1)), b"batch 1 by_city:1\n")
+            # It is cut off, and does not get the end of its rows.
+            found.await_metric("betable_held_bytes", 0)
+            received = 0
+            try:
+                while part := slow.recv(1 << 20):
+                    received += len(part)
+            except ConnectionError:
+                pass
+            expect(received < 20_000_000, True)
+
+
+@with_aiohttp
+def signals_end_it_after_what_came_in():
+    for number in (signal.SIGTERM, signal.SIGINT):
+        with tempfile.TemporaryDirectory() as folder:
+            with served(folder) as found, ThreadPoolExecutor(20) as pool:
+                found.run(TABLE)
+                with found.stopped_engine() as engine:
+                    asked = [pool.submit(found.ask, "POST", "/run", adds(key)) for key in range(20)]
+                    found.await_metric("betable_queued_scripts", 20)
+                    # As a service manager or a terminal does, to all processes.
+                    for process in (engine, found.process.pid):
+                        os.kill(process, number)
+                    until(lambda: is_closed(found.port))
+                expect({answer.result()[0] for answer in asked}, {200})
+                expect((number, found.process.wait(SECONDS), found.process.stderr.read()), (number, 0, ""))
+            with served(folder) as found:
+                expect(quantities(found), {key: 1 for key in range(20)})
+
+
+def is_closed(port):
+    try:
+        socket.create_connection(("127.0.0.1", port), SECONDS).close()
+    except ConnectionError:
+        return True
+    return False
+
+
+@with_aiohttp
+def checkpoints_take_the_place_of_the_log():
+    with tempfile.TemporaryDirectory() as folder:
+        with served(folder) as found:
+            found.run(TABLE + adds(1), Idempotency_Key="a")
+            expect(found.metric("betable_log_bytes") > 0, True)
+            status, _, body = found.ask("POST", "/checkpoint")
+            expect((status, json.loads(body)), (200, {"number": 1, "log_bytes": 0}))
+            image = found.run(b"image primary\nimage by_city\n")
+            expect(found.end(), 0)
+        with served(folder) as found:
+            expect(found.run(b"image primary\nimage by_city\n"), image)
+            expect(found.run(TABLE + adds(1), Idempotency_Key="a").splitlines()[-1], b"batch 1 by_city:1")
+            expect(quantities(found), {1: 1})
+
+
+@with_aiohttp
+def what_cannot_be_served_is_told():
+    with tempfile.TemporaryDirectory() as folder:
+        path, short = Path(folder) / "stock.table", Path(folder) / "short"
+        short.write_text("secret\n")
+        other = Path(folder) / "other.table"
+        other.write_text("this is no table, and has been here before\n" * 100)
+        without = Path(folder) / "without"
+        without.mkdir()
+        (without / "aiohttp.py").write_text("raise ModuleNotFoundError('none', name='aiohttp')\n")
+        environment = {"PYTHONPATH": f"{without}:{TOP / 'clients/python'}"}
+        wrong = [
+            ([path, "--host", "0.0.0.0"], 2, "--token"),
+            ([path, "--token", short], 2, "16 bytes"),
+            ([path, "--token", Path(folder) / "none"], 2, "No such file"),
+            ([other], 1, "no SQLite database"),
+            ([folder], 1, folder),
+            ([Path(folder) / "none" / "stock.table"], 1, "none"),
+            ([path, "--most-held", "1000"], 2, "--most-body"),
+        ]
+        for process, (words, status, part) in [(started(*words), (words, status, part)) for words, status, part in wrong]:
+            out, errors = process.communicate(timeout=SECONDS)
+            expect((words, process.returncode, out), (words, status, ""))
+            expect_within(part, errors)
+            expect((words, errors.startswith("betable serve: "), errors.count("\n")), (words, True, 1))
+        process = started(path, environment=environment)
+        expect(process.communicate(timeout=SECONDS)[1], "betable serve: aiohttp is not installed: 'apt-get install python3-aiohttp python3-prometheus-client'\n")
+        with served(folder) as found:
+            process = started(found.path)
+            _, errors = process.communicate(timeout=SECONDS)
+            expect((process.returncode, "open already" in errors), (1, True))
+
+
+@with_aiohttp
+def quick_start_of_the_document_runs():
+    """The commands of docs/SERVICE.md, with a free port in place of theirs; what they print is what it says."""
+    if not is_installed("curl", "the quick start of docs/SERVICE.md is"):
+        return
+    text = (TOP / "docs/SERVICE.md").read_text(encoding="utf-8")
+    commands, printed = re.search(r"```sh\n(.*?)```\n+```text\n(.*?)```", text, re.DOTALL).groups()
+    with socket.create_server(("127.0.0.1", 0)) as free:
+        port = str(free.getsockname()[1])
+    script = commands.replace("8470", port).replace("python3 -m betable", f"{python()} -m betable")
+    with tempfile.TemporaryDirectory() as folder:
+        environment = {**os.environ, "PYTHONPATH": str(TOP / "clients/python"), "PYTHONDONTWRITEBYTECODE": "1"}
+        ended = subprocess.run(["bash", "-eu", "-c", script], capture_output=True, text=True, cwd=folder, env=environment, timeout=SECONDS)
+    expect((ended.returncode, ended.stdout), (0, printed.replace("8470", port)))
+
+
+TESTS_OF_TEXTS = [
+    scripts_have_the_replies_of_a_session,
+    replies_come_as_json_with_their_commands,
+    rows_go_in_and_come_out,
+    values_of_each_kind_are_written,
+    sums_are_of_groups,
+    trees_are_told_and_drawn,
+    events_tell_which_scripts_were_kept,
+    page_needs_no_network,
+    bad_requests_are_told_and_change_nothing,
+    refused_rows_have_line_and_item,
+    limits_are_kept,
+    token_is_wanted,
+    other_sites_cannot_use_a_server_without_a_token,
+    read_only_servers_change_nothing,
+    requests_that_wait_share_a_commit,
+    requests_run_once_over_a_kill,
+    requests_run_once_over_a_kill_of_the_server,
+    disk_that_is_full_is_told,
+    slow_readers_hold_nothing_up,
+    signals_end_it_after_what_came_in,
+    checkpoints_take_the_place_of_the_log,
+    what_cannot_be_served_is_told,
+    quick_start_of_the_document_runs,
+]
+TESTS = []
+BUILDS = [library]
