@@ -27,7 +27,7 @@ import subprocess
 import sys
 import tempfile
 import time
-from collections.abc import Iterator
+from collections.abc import Callable, Iterator
 from contextlib import contextmanager
 from pathlib import Path
 from statistics import median
@@ -43,6 +43,7 @@ CITIES = ["Oslo", "Bergen", "Trondheim", "Stavanger", "Molde"]
 SIZES = {1: 1_000, 100: 30_000, 1_000: 200_000, 10_000: 400_000}
 GROUP, LARGE_BATCH = 16, 10_000
 Row = tuple[int, str, int]
+Way = Callable[[str, list[Row], int], float]
 
 
 def rows_of(count: int) -> list[Row]:
@@ -154,7 +155,7 @@ def seconds_of_sync(folder: str) -> float:
 
 
 def ingest(folder: str, rounds: int) -> None:
-    ways = {"put": seconds_of_put, "script": seconds_of_scripts, "group": seconds_of_groups, "sqlite": seconds_of_sqlite}
+    ways: dict[str, Way] = {"put": seconds_of_put, "script": seconds_of_scripts, "group": seconds_of_groups, "sqlite": seconds_of_sqlite}
     if shutil.which("redis-server"):
         ways["redis"] = seconds_of_redis
     names = [*ways]

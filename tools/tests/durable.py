@@ -438,6 +438,27 @@ def other_files_are_refused_and_left_alone():
         expect({name.name for name in path.iterdir()}, {"text", "other", "numbered", "newer", "folder", "empty"})
 
 
+def names_are_on_disk_before_anything_is_answered():
+    """Each opening syncs the folder, since SQLite makes its log there and goes on if it cannot be synced."""
+    module = durable()
+    synced, paths = module._synced, []
+
+    def failing(path):
+        paths.append(path)
+        raise OSError(5, "Input/output error")
+
+    with folder() as path:
+        try:
+            module._synced = failing
+            for _ in range(2):
+                expect_fault(OSError, lambda: module.open(path / "t"))
+                expect((paths.pop(), paths), (str(path), []))
+        finally:
+            module._synced = synced
+        with module.open(path / "t") as table:
+            expect(table.number, 0)
+
+
 def a_table_is_open_once():
     text = "import sys; from betable import durable\ntry: durable.open(sys.argv[1])\nexcept durable.InUse as fault: print(fault)\nelse: print('open')"
     with folder() as path:
@@ -651,6 +672,7 @@ TESTS_OF_TEXTS = [
     no_checkpoint_is_written_while_an_index_is_building,
     damage_is_found,
     other_files_are_refused_and_left_alone,
+    names_are_on_disk_before_anything_is_answered,
     a_table_is_open_once,
     another_engine_reads_what_agrees_with_it,
     a_backup_is_the_table_as_it_was,

@@ -181,11 +181,11 @@ class Durable(Calls):
             db.execute(f"PRAGMA journal_size_limit={LARGEST_IDLE_LOG}")
             if _value(db, "PRAGMA user_version") == 0:
                 db.executescript(SCHEMA)
-                _synced(os.path.dirname(self.path))
-            # A transaction takes the lock, which is held until the file is closed.
-            db.executescript("BEGIN IMMEDIATE; COMMIT")
             if (found := _value(db, "PRAGMA quick_check(1)")) != "ok":
                 raise Corrupt(self.path, None, f"{found}, so restore a backup")
+            # By now SQLite has made its own log, a second file. Its name has to be on disk before anything is answered, and SQLite would go on if the sync
+            # of the folder fails.
+            _synced(os.path.dirname(self.path))
             return db
         except BaseException as fault:
             if db is not None:
