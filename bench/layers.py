@@ -38,6 +38,7 @@ HEAD = "table 16 1024 256 1 id:int city:text qty:int\nindex by_city on city incl
 LARGE = 65_536
 SHARDS = (1, 2, 4)
 BATCHES = (100, 1_000, 10_000)
+LOGS = ("redis", "postgresql")
 READS = {"sums of the cities": b"sums by_city 1 qty\ngo\n", "scan of the rows": b"scan primary\ngo\n", "scan of the index": b"scan by_city\ngo\n"}
 
 
@@ -115,7 +116,7 @@ def replicas(rows: list[tuple[int, str, int]], rounds: int) -> None:
     loader.exec_module(crash)
     results: dict[tuple[str, int], list[tuple[float, float]]] = {}
     for turn in range(rounds):
-        for log in (None, *crash.SERVERS):
+        for log in (None, *LOGS):
             for size in BATCHES:
                 # Fewer rows where each script waits for the disk.
                 scripts = scripts_of(rows[: min(len(rows), 500 * size)], size)
@@ -126,7 +127,7 @@ def replicas(rows: list[tuple[int, str, int]], rounds: int) -> None:
                     follows = seconds(other.catch_up) if log else 0
                 results.setdefault((log or "one session", size), []).append((count / writes, count / follows if log else 0))
     print(f"\n| Rows a second | {' | '.join(f'batches of {size:,}' for size in BATCHES)} |\n|---|{'---|' * len(BATCHES)}")
-    for log in ("one session", *crash.SERVERS):
+    for log in ("one session", *LOGS):
         cells = []
         for size in BATCHES:
             rate, follow = [median(parts) for parts in zip(*results[log, size])]

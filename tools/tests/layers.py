@@ -3,11 +3,12 @@
 Replicas are tested over a log in this process, and with their processes killed over redis-server and PostgreSQL, and shards over Dask too. Where one of these
 is not installed a line says so, and what needs it passes without a look. Debian's modules are those of /usr/bin/python3, which runs these tests."""
 
-import importlib.util
 import os
 import pickle
+import re
 import shutil
 import subprocess
+import sys
 import tempfile
 from functools import cache
 from pathlib import Path
@@ -169,6 +170,18 @@ def a_killed_shard_loses_the_table():
 def a_durable_table_makes_its_shards_again():
     betable()
     expect(imported("tools/crash/shards").durable_is_equal(2, 3), True)
+
+
+def shards_are_started_by_a_command():
+    """As one of ssh would be. What does not speak as a shard is one that is lost."""
+    package = betable()
+    shard = package.shards.ProcessShard(["env", sys.executable, "-P", "-m", "betable.shard"])
+    with package.sharded.Sharded([package.shards.LocalShard(), shard], [(10,)]) as table:
+        expect(table.replies(TABLE + "batch\nput 1,a,1\nput 11,b,1\nend\nscan primary\ngo\n"), b"table 3\nbatch 2\nrow 1,a,1\nrow 11,b,1\nrows 2\n")
+    expect((fault_of(lambda: table.replies("get 1\n")), fault_of(table.scan)), (ValueError, ValueError))
+    for command in (["echo", "welcome"], ["echo", "done 5"], ["true"], ["cat"]):
+        with package.sharded.Sharded([package.shards.LocalShard(), package.shards.ProcessShard(command)], [(10,)]) as table:
+            expect((raised(package.sharded.ShardLost, lambda table=table: table.replies(TABLE)).shard, table.is_lost), (1, True))
 
 
 def shards_are_actors_of_dask():
@@ -374,6 +387,33 @@ def replicas_over_postgresql_are_killed_and_come_back():
         run("tools/crash/replicas", "postgresql", "--scripts", "40", "--kills", "4", "--server-kills", "1", "--checkpoints", "2")
 
 
+# ---- the page ----
+
+
+def programs_of_the_page_print_what_they_say():
+    """Those of docs/CLUSTER.md, by the lines after them. The one of replicas has a server of its own."""
+    library()
+    programs = re.findall(r"```python\n(.*?)```\n\n```text\n(.*?)```", (TOP / "docs/CLUSTER.md").read_text(), re.DOTALL)
+    expect(len(programs), 3)
+    for program, wanted in programs:
+        if "Replicas" in program:
+            if is_installed("redis-server", "the program of replicas is") and has_module("redis", "the program of replicas is"):
+                with imported("tools/crash/replicas").server("redis") as server:
+                    printed(program.replace("redis://127.0.0.1", server.url), wanted)
+        else:
+            printed(program, wanted)
+
+
+def printed(program, wanted):
+    with tempfile.TemporaryDirectory() as folder:
+        path = Path(folder) / "program.py"
+        path.write_text(program)
+        ended = subprocess.run(
+            [PYTHON, path], capture_output=True, text=True, cwd=folder, timeout=120, env={**os.environ, "PYTHONPATH": str(TOP / "clients/python")}
+        )
+        expect((ended.returncode, ended.stdout, ended.stderr), (0, wanted, ""))
+
+
 # ---- what tests share ----
 
 
@@ -417,6 +457,7 @@ TESTS_OF_TEXTS = [
     calls_on_shards_are_those_of_a_session,
     a_killed_shard_loses_the_table,
     a_durable_table_makes_its_shards_again,
+    shards_are_started_by_a_command,
     shards_are_actors_of_dask,
     replicas_reply_as_one_session_does,
     requests_are_run_once,
@@ -427,6 +468,7 @@ TESTS_OF_TEXTS = [
     logs_are_named_by_urls,
     replicas_over_redis_are_killed_and_come_back,
     replicas_over_postgresql_are_killed_and_come_back,
+    programs_of_the_page_print_what_they_say,
 ]
 TESTS = []
 BUILDS = [what_tests_share_is_built]

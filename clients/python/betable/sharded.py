@@ -91,6 +91,7 @@ class Sharded(Calls):
         self._building: dict[bytes, int] = {}
         self._bounds: list[Key] = []
         self._lost: ShardLost | None = None
+        self._is_closed = False
         self._commands: dict[bytes, Callable[[Table, Command], bytes]] = {
             b"get": self._get, b"batch": self._batch, b"load": self._load, b"scan": self._scan, b"sums": self._sums, b"image": self._image,
             b"index": self._index, b"build": self._build, b"drop": self._drop, b"drain": self._everywhere, b"rebuild": self._rebuild,
@@ -104,6 +105,7 @@ class Sharded(Calls):
 
     @property
     def state(self) -> State:
+        self._check()
         return self._state
 
     @property
@@ -112,10 +114,16 @@ class Sharded(Calls):
         return self._lost is not None
 
     def close(self) -> None:
-        """Gives all shards up."""
-        self._lost = self._lost or ShardLost(0, "the table is closed")
+        """Gives all shards up. A table that is closed stays so."""
+        self._is_closed = True
         for shard in self._shards:
             shard.close()
+
+    def _check(self) -> None:
+        if self._is_closed:
+            raise ValueError("the table is closed")
+        if self._lost:
+            raise self._lost
 
     def replies(self, script: str | bytes) -> bytes:
         """The bytes of the replies to a script. ShardLost, or OutOfMemory, if a shard fails; NotSharded for what shards cannot reply."""
@@ -142,8 +150,7 @@ class Sharded(Calls):
 
     def _ask(self, requests: dict[int, Request]) -> list[bytes]:
         """The replies of shards, which work at the same time."""
-        if self._lost:
-            raise self._lost
+        self._check()
         waits, found, at = [], [], 0
         try:
             for at, (operation, arguments) in requests.items():
@@ -283,7 +290,7 @@ class Sharded(Calls):
                 refusals.append(Refusal(10, 0, b"TooMany"))
             if refusals:
                 return min(refusals).reply()
-            replies = self._ask({shard: ("apply", ()) for shard in busy})
+            replies = self._applied(busy)
         if replies[0].startswith(b"refused "):
             return replies[0]
         self._note_batch(command.block)
@@ -299,6 +306,15 @@ class Sharded(Calls):
                 items = [place for place, of in enumerate(places, 1) if of == shard] if item else []
                 found.append(Refusal(int(number), items[int(item[0]) - 1] if item else 0, name))
         return found
+
+    def _applied(self, shards: Sequence[int]) -> list[bytes]:
+        """The replies of shards to what they have checked, and now apply."""
+        replies = self._ask({shard: ("apply", ()) for shard in shards})
+        for shard, reply in zip(shards, replies):
+            if not reply.startswith((b"batch ", b"loaded ")):
+                self._lost = ShardLost(shard, f"it has checked a command, and now replies {reply!r}")
+                raise self._lost
+        return replies
 
     def _note_batch(self, block: bytes) -> None:
         """What a batch that was applied makes known of the rows."""
@@ -328,11 +344,7 @@ class Sharded(Calls):
             refusals.append(Refusal(13, 0, b"NotEmpty"))
         if refusals:
             return min(refusals).reply()
-        replies = self._ask({shard: ("apply", ()) for shard in self._all})
-        for shard, reply in enumerate(replies):
-            if not reply.startswith(b"loaded "):
-                self._lost = ShardLost(shard, f"it checked a load, and then replied {reply!r}")
-                raise self._lost
+        replies = self._applied(self._all)
         self._rows_known = Rows.SOME if records else self._rows_known
         return b"loaded %d\n" % sum(int(reply.split()[1]) for reply in replies)
 

@@ -56,8 +56,9 @@ class Worker:
             return scratch.replies(script)
 
     def apply(self) -> bytes:
-        """The replies to the script that was checked last."""
-        return self.run(self._checked)
+        """The replies to the script that was checked last, which goes."""
+        script, self._checked = self._checked, b""
+        return self.run(script)
 
     def close(self) -> bytes:
         if self._session is not None:
