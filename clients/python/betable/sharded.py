@@ -24,6 +24,7 @@ from typing import NamedTuple
 
 from .calls import Calls, as_script, note
 from .errors import OutOfMemory
+from .forms import words_of
 from .language import ANSWERS, KINDS, MARK, MOST_MESSAGES, PRIMARY, Command, Line, State, Table, commands, counted, fields, logical_lines
 from .rows import FIELDS, Value
 from .shards import Shard
@@ -213,7 +214,7 @@ class Sharded(Calls):
 
     def _build(self, table: Table, command: Command) -> bytes:
         """Of a step the first shard that is not complete reads the first rows, and if that completes it, the next one the rest."""
-        name, words = second_word(command), command.head.text.split()
+        name, words = second_word(command), words_of(command.head)
         if name not in self._building or len(words) != 3:
             return self._of_one(command)
         script, number, count = script_of(command), 0, 0
@@ -233,7 +234,7 @@ class Sharded(Calls):
         return b"build %b %d %b\n" % (name, count, reply.split()[3])
 
     def _image(self, table: Table, command: Command) -> bytes:
-        if len(command.head.text.split()) == 2 and table.has_tree(name := second_word(command)):
+        if len(words_of(command.head)) == 2 and table.has_tree(name := second_word(command)):
             raise NotSharded(f"image {name.decode()}: the shards have trees of their own, and not one")
         return self._of_one(command)
 
@@ -272,10 +273,10 @@ class Sharded(Calls):
     # ---- batches and loads ----
 
     def _batch(self, table: Table, command: Command) -> bytes:
-        if command.head.text.split() != [b"batch"]:
+        if words_of(command.head) != [b"batch"]:
             return self._of_one(command)
         # Most lines begin with a letter; the others may be blank.
-        lines = [line for line in command.block.split(b"\n") if line >= b"!" or line.strip(b" \r")]
+        lines = [line for line in command.block.split(b"\n") if line >= b"!" or line.removesuffix(b"\r").strip(b" ")]
         places = self._shards_of_lines(table, lines)
         busy = sorted(set(places)) or [0]
         if len(busy) == 1:
@@ -328,7 +329,7 @@ class Sharded(Calls):
             self._rows_known = Rows.SOME
 
     def _load(self, table: Table, command: Command) -> bytes:
-        if command.head.text.split() != [b"load"]:
+        if words_of(command.head) != [b"load"]:
             return self._of_one(command)
         header, *records = [raw for _, raw in command.records()] or [b""]
         places = [self._shard_of(table, fields(record)[: table.key_length]) for record in records]
@@ -477,7 +478,7 @@ def script_of(command: Command) -> bytes:
 
 
 def second_word(command: Command) -> bytes:
-    words = command.head.text.split()
+    words: list[bytes] = words_of(command.head)
     return words[1] if len(words) > 1 else b""
 
 
