@@ -36,16 +36,17 @@ LAST_WORDS = {b"row ": b"rows", b"sum ": b"sums"}
 
 class Work(NamedTuple):
     """A script to be run, or a checkpoint if there is none. A script with the id of a request is run exactly once. A script with `most_rows` is one `get`,
-    `scan` or `sums`: at most that many rows or groups of its reply are returned, and their columns."""
+    `scan` or `sums`: at most that many rows or groups of its reply are returned, and their columns. Replies of more than `most_bytes` are not returned."""
 
     script: bytes | None
     request: str | None = None
     most_rows: int | None = None
+    most_bytes: int = sys.maxsize
 
 
 class Answer(NamedTuple):
-    """The replies to a script, and the number of the last script that the table had kept after it. `is_cut` says whether rows were left out, and `columns`
-    are their names and kinds, if these were asked for."""
+    """The replies to a script, and the number of the last script that the table had kept after it. `is_cut` says whether rows or all of the replies were left
+    out, and `columns` are the names and kinds of the rows' columns, if `most_rows` was given."""
 
     replies: bytes
     number: int
@@ -70,7 +71,7 @@ class Lost(Exception):
 
 
 class Closed(Exception):
-    """The engine is not open, as while its process starts."""
+    """The engine is not open, as while its process starts: nothing was begun."""
 
 
 # ---- the process ----
@@ -129,6 +130,8 @@ def _answer(table: Durable, work: Work) -> Answer | Exception:
         replies = table.replies(script) if work.request is None else table.once(work.request, script)
     except RequestReused as fault:
         return fault  # nothing was run, and the group goes on
+    if len(replies) > work.most_bytes:
+        return Answer(b"", table.number, True)
     if work.most_rows is None:
         return Answer(replies, table.number)
     rows, is_cut = first_rows(replies, work.most_rows)
@@ -295,10 +298,11 @@ class Engine:
                 future.set_result(answer)
 
     def _fail(self) -> None:
-        """The process has ended: what was not answered is answered so."""
+        """The process has ended: what it was given may be kept, and what still waited was not begun."""
         self.is_open = False
-        lost = [*self._group, *self._waiting]
+        faults: list[tuple[asyncio.Future[Answer], Exception]] = [(future, Lost()) for _, future in self._group]
+        faults += [(future, Closed()) for _, future in self._waiting]
         self._group, self._waiting = [], deque()
-        for _, future in lost:
+        for future, fault in faults:
             if not future.done():
-                future.set_exception(Lost())
+                future.set_exception(fault)

@@ -17,8 +17,10 @@ import re
 import signal
 import sys
 import time
+import traceback
 from collections.abc import Awaitable, Callable, Iterator
 from contextlib import contextmanager
+from itertools import islice
 from pathlib import Path
 from typing import Any, NamedTuple
 from urllib.parse import parse_qsl
@@ -77,7 +79,7 @@ def problem_of(fault: Exception) -> Problem:
         reason = "the engine's process ended before it had answered: the script was kept or it was not. Send it again with the same Idempotency-Key"
         return Problem(503, reason, {"Retry-After": "1"})
     if isinstance(fault, Closed):
-        return Problem(503, "the engine is starting: nothing was done", {"Retry-After": "1"})
+        return Problem(503, "the engine is starting: nothing was done, so try again", {"Retry-After": "1"})
     return Problem(409 if isinstance(fault, IndexBuilding) else 422 if isinstance(fault, RequestReused) else 507, str(fault))
 
 
@@ -173,6 +175,9 @@ class Service:
             response = response_of(problem)
         except (Refused, Lost, Closed, *FAULTS) as fault:
             response = response_of(problem_of(fault))
+        except Exception as fault:
+            traceback.print_exception(fault)
+            response = response_of(Problem(500, "a fault of the server, which its standard error tells"))
         finally:
             self.held -= request["held"]
         self.metrics.requests.labels(resource.canonical if resource else "none", response.status).inc()
@@ -237,10 +242,13 @@ class Service:
                 async with asyncio.timeout(self.limits.seconds):
                     await response.write(part)
                 await asyncio.sleep(0)  # others get their turn between parts
-            await response.write_eof()
+            async with asyncio.timeout(self.limits.seconds):
+                await response.write_eof()
         except (TimeoutError, ConnectionError):
-            if request.transport is not None:
-                request.transport.abort()
+            abort(request)
+        except BaseException:
+            abort(request)
+            raise
         return response
 
     def take(self, group: list[Work], result: Result) -> None:
@@ -276,7 +284,7 @@ class Service:
     async def post_run(self, request: web.Request) -> web.StreamResponse:
         with self.place():
             script, state = await self.body(request), self.engine.state
-            if self.is_read_only and (word := changing_word(script)):
+            if self.is_read_only and (word := await aside(len(script), changing_word, script)):
                 raise Problem(403, f"'{word}' changes the table, and this server is read-only")
             answer = await self.engine.run(Work(script, request_id(request)))
         return await self.replies(request, script, answer, state)
@@ -284,7 +292,8 @@ class Service:
     async def post_rows(self, request: web.Request) -> web.StreamResponse:
         self.expect_writable()
         with self.place():
-            script, state = batch_of(await self.body(request)), self.engine.state
+            body, state = await self.body(request), self.engine.state
+            script = await aside(len(body), batch_of, body)
             answer = await self.engine.run(Work(script, request_id(request)))
         if answer.replies.startswith(b"refused "):
             raise await asyncio.to_thread(refusal_of_rows, script, answer.replies, state)
@@ -303,7 +312,7 @@ class Service:
     async def replies(self, request: web.Request, script: bytes, answer: Answer, state: State) -> web.StreamResponse:
         """The replies to a script: their bytes, or as JSON each with its command."""
         self.hold(request, len(answer.replies))
-        refused = refused_count(script, answer.replies)
+        refused = await aside(len(answer.replies), refused_count, script, answer.replies)
         self.metrics.refused.inc(refused)
         headers = {"Betable-Refused": str(refused), "Betable-Number": str(answer.number)}
         if is_json(request, ""):
@@ -355,13 +364,13 @@ class Service:
         columns, lines = max(2, min(32, number_of(query, "columns", 8))), max(1, min(64, number_of(query, "lines", 6)))
         script = f"image {tree}\n".encode()
         with self.place():
-            answer = await self.engine.run(Work(script))
+            answer = await self.engine.run(Work(script, most_bytes=MOST_IMAGE_BYTES))
         self.hold(request, len(answer.replies))
         state = self.engine.state
+        if answer.is_cut:
+            raise Problem(422, f"the tree is too large to be drawn: its image has more than {MOST_IMAGE_BYTES:,} bytes")
         if answer.replies.startswith(b"refused "):
             raise refusal(next(commands(script)), answer.replies, state, [])
-        if len(answer.replies) > MOST_IMAGE_BYTES:
-            raise Problem(422, f"the image of this tree has {len(answer.replies):,} bytes, and one of at most {MOST_IMAGE_BYTES:,} is drawn")
         drawn = await asyncio.to_thread(picture_of, answer.replies, tree, state, columns, lines)
         return web.Response(text=drawn, content_type="image/svg+xml", headers=COMMON_HEADERS)
 
@@ -383,8 +392,7 @@ class Service:
                 except TimeoutError:
                     event = ":\n\n"
         except (TimeoutError, ConnectionError):
-            if request.transport is not None:
-                request.transport.abort()
+            abort(request)
         finally:
             self.watchers.discard(watcher)
         return response
@@ -400,7 +408,18 @@ class Service:
         return web.Response(text=self.page, content_type="text/html", headers={**COMMON_HEADERS, "Content-Security-Policy": content_policy(self.page)})
 
 
+async def aside(size: int, function: Callable[..., Any], *arguments: Any) -> Any:
+    """The result of a function on so many bytes: if these are many, in a thread, so that others get their turn."""
+    return await asyncio.to_thread(function, *arguments) if size > BLOCK_BYTES else function(*arguments)
+
+
 # ---- requests ----
+
+
+def abort(request: web.Request) -> None:
+    """Cuts off a client that was not sent all of its answer."""
+    if request.transport is not None:
+        request.transport.abort()
 
 
 def query_of(request: web.Request, *names: str) -> dict[str, list[str]]:
@@ -551,10 +570,11 @@ def start_event(number: int) -> str:
 
 
 def event_of(script: bytes, answer: Answer) -> str:
-    """The event that a script was kept: its number, and the replies to those of its commands that changed the table."""
-    replies = [reply for command, reply in answered(commands(script), answer.replies) if command.head.word in CHANGING]
-    changes = [reply[:-1].decode() for reply in replies if not reply.startswith(b"refused ")]
-    said = {"number": answer.number, "replies": changes[:MOST_CHANGES], "more": max(0, len(changes) - MOST_CHANGES)}
+    """The event that a script was kept: its number, and the replies to those of its commands that changed the table, as far as an event has them."""
+    with_replies = answered(commands(script), answer.replies)
+    changes = (reply for command, reply in with_replies if command.head.word in CHANGING and not reply.startswith(b"refused "))
+    found = [reply[:-1].decode() for reply in islice(changes, MOST_CHANGES + 1)]
+    said = {"number": answer.number, "replies": found[:MOST_CHANGES], "more": len(found) > MOST_CHANGES}
     return f"id: {answer.number}\ndata: {json.dumps(said)}\n\n"
 
 
