@@ -79,7 +79,7 @@ def library() -> Any:
     return ctypes.CDLL(None)
 
 
-def forked(work: Callable[[], None], folder: str, *, has_bytes: bool = False, kill_at: int = -1, fails: tuple[int, int] = (-1, -1),
+def status_of_fork(work: Callable[[], None], folder: str, *, has_bytes: bool = False, kill_at: int = -1, fails: tuple[int, int] = (-1, -1),
            part: int = WHOLE, fault: int = errno.ENOSPC) -> int:  # fmt: skip
     """The status of a fork that did a work on files below a folder, which is empty at first, with a trace beside the folder."""
     shutil.rmtree(folder, ignore_errors=True)
@@ -111,12 +111,12 @@ def trace_of(folder: str) -> list[Operation]:
     return found
 
 
-def answered(trace: list[Operation]) -> int:
+def answered_steps(trace: list[Operation]) -> int:
     """How many steps were answered."""
     return max([0, *(operation.offset for operation in trace if operation.letter == "n")])
 
 
-def opened(folder: str, *, sync: bool = True, make: Callable[[], Any] = Session) -> Any:
+def table_of(folder: str, *, sync: bool = True, make: Callable[[], Any] = Session) -> Any:
     """The table of a folder. SQLite's own checkpoints come early, so that a short history has some."""
     table = durable.open(f"{folder}/table", sync=sync, make=make)
     table._db.execute("PRAGMA wal_autocheckpoint=8")
@@ -127,15 +127,15 @@ def go(folder: str, steps: list[Step], *, start: int = 0, sync: bool = True) -> 
     """A client: its steps, each noted when it is answered. Half way it closes the table and opens it again."""
     middle = max(start, len(steps) // 2)
     for first, last in ((start, middle), (middle, len(steps))):
-        with opened(folder, sync=sync) as table:
+        with table_of(folder, sync=sync) as table:
             for number in range(first, last):
                 steps[number].make(table, number)
                 library().faults_note(ctypes.c_long(number + 1))
 
 
-def go_without_answers(folder: str, steps: list[Step]) -> None:
+def go_before_answers(folder: str, steps: list[Step]) -> None:
     """A control: a client that takes steps for answered before they are kept."""
-    with opened(folder) as table, table.group():
+    with table_of(folder) as table, table.group():
         for number, step in enumerate(steps):
             if isinstance(step, Once):
                 step.make(table, number)
@@ -152,17 +152,17 @@ def state_of(table: Any, want: list[bytes], least: int, most: int) -> int:
     raise Wrong(f"{least} steps were answered, and the table is that after {states or 'none of them'}")
 
 
-def as_after_a_crash(folder: str, steps: list[Step], want: list[bytes], least: int, most: int) -> int:
+def check_after_crash(folder: str, steps: list[Step], want: list[bytes], least: int, most: int) -> int:
     """Checks that the table has what was answered and no half of a step, goes on with the steps that were not answered, and checks the end. Gives how many
     steps more than the answered ones were there."""
-    with opened(folder) as table:
+    with table_of(folder) as table:
         state = state_of(table, want, least, most)
         for number in range(least, len(steps)):
             # A step that is made by `once` is sent again as it was not answered, also where it was kept.
             if number >= state or steps[number].is_repeatable:
                 steps[number].make(table, number)
         state_of(table, want, len(steps), len(steps))
-    with opened(folder) as table:
+    with table_of(folder) as table:
         state_of(table, want, len(steps), len(steps))
     check_backup(folder, steps, want)
     return state - least
@@ -178,44 +178,44 @@ def check_backup(folder: str, steps: list[Step], want: list[bytes]) -> None:
 # ---- the checks ----
 
 
-def killed(folder: str, steps: list[Step], *, every: int = 1, parts: tuple[int, ...] = (HALF, ALL_BUT_A_BYTE, WHOLE), is_control: bool = False) -> Count:
+def kills(folder: str, steps: list[Step], *, every: int = 1, parts: tuple[int, ...] = (HALF, ALL_BUT_A_BYTE, WHOLE), is_control: bool = False) -> Count:
     """The process is killed at each operation, of which a part is carried out."""
     want, count = list(expected(steps)), Count("control of kills" if is_control else "killed")
-    work = (lambda: go_without_answers(folder, steps)) if is_control else (lambda: go(folder, steps))
-    if forked(work, folder) != 0:
+    work = (lambda: go_before_answers(folder, steps)) if is_control else (lambda: go(folder, steps))
+    if status_of_fork(work, folder) != 0:
         raise Wrong("the history does not go through")
     operations = [operation for operation in trace_of(folder) if operation.letter != "n"]
     for part in parts:
         for number in range(0, len(operations), every):
-            if forked(work, folder, kill_at=number, part=part) != -signal.SIGKILL:
+            if status_of_fork(work, folder, kill_at=number, part=part) != -signal.SIGKILL:
                 raise Wrong(f"operation {number} was not come to")
-            done = answered(trace_of(folder))
-            count.look(f"killed at operation {number}, part {part}", lambda: as_after_a_crash(folder, steps, want, done, done + 1))
+            done = answered_steps(trace_of(folder))
+            count.look(f"killed at operation {number}, part {part}", lambda: check_after_crash(folder, steps, want, done, done + 1))
     return count
 
 
-def without_power(folder: str, steps: list[Step], *, subsets: int = MOST_SUBSETS, mixes: int = 2, sync: bool = True, seed: int = 1) -> Count:
+def power_losses(folder: str, steps: list[Step], *, subsets: int = MOST_SUBSETS, mixes: int = 2, sync: bool = True, seed: int = 1) -> Count:
     """The power is lost: of what was not synced each subset is on disk, and some with writes of which sectors are there, old, or zeros."""
     want, count, dice = list(expected(steps)), Count("power lost" if sync else "control of power lost"), random.Random(seed)
-    if forked(lambda: go(folder, steps, sync=sync), folder, has_bytes=True) != 0:
+    if status_of_fork(lambda: go(folder, steps, sync=sync), folder, has_bytes=True) != 0:
         raise Wrong("the history does not go through")
     seen = set()
     for what, files, done in disks(folder, trace_of(folder), dice, subsets, mixes):
         key = done, frozenset(files.items())
         if key not in seen:
             seen.add(key)
-            count.look(what, lambda: on_disk(files, folder, steps, want, done, done + 1))
+            count.look(what, lambda: check_on_disk(files, folder, steps, want, done, done + 1))
     return count
 
 
-def on_disk(files: dict[str, bytes], folder: str, steps: list[Step], want: list[bytes], least: int, most: int) -> int:
+def check_on_disk(files: dict[str, bytes], folder: str, steps: list[Step], want: list[bytes], least: int, most: int) -> int:
     """Checks the table of files that a power loss has left."""
     place = f"{folder}.disk"
     shutil.rmtree(place, ignore_errors=True)
     os.makedirs(place)
     for name, data in files.items():
         Path(place, name).write_bytes(data)
-    with opened(place) as table:
+    with table_of(place) as table:
         state = state_of(table, want, least, most)
     if any(isinstance(step, Backup) for step in steps[:least]) or "backup" in files:
         check_backup(place, steps, want)
@@ -270,7 +270,7 @@ class Disk:
                 data[operation.offset : operation.offset + len(operation.data)] = operation.data
         return bytes(data)
 
-    def as_found(self, there: list[tuple[int, Operation]]) -> dict[str, bytes]:
+    def found_files(self, there: list[tuple[int, Operation]]) -> dict[str, bytes]:
         """The files after a power loss, if of what is pending this is on disk."""
         names = dict(self.names)
         for _, operation in (entry for entry in there if entry[0] < 0):
@@ -285,7 +285,7 @@ def last_disks(folder: str, trace: list[Operation], dice: random.Random) -> Iter
         if operation.letter != "n":
             disk.take(operation, folder)
     for subset in subsets_of(disk.pending, dice, 1):
-        yield f"{len(subset)} of {len(disk.pending)} there", disk.as_found(subset)
+        yield f"{len(subset)} of {len(disk.pending)} there", disk.found_files(subset)
 
 
 def disks(folder: str, trace: list[Operation], dice: random.Random, most: int, mixes: int) -> Iterator[tuple[str, dict[str, bytes], int]]:
@@ -297,9 +297,9 @@ def disks(folder: str, trace: list[Operation], dice: random.Random, most: int, m
             continue
         if operation.letter == "s":
             for subset in subsets_of(disk.pending, dice, most):
-                yield f"operation {number}, {len(subset)} of {len(disk.pending)} there", disk.as_found(subset), done
+                yield f"operation {number}, {len(subset)} of {len(disk.pending)} there", disk.found_files(subset), done
             for _ in range(mixes if disk.pending else 0):
-                yield f"operation {number}, sectors mixed", disk.as_found(mixed(disk.pending, dice)), done
+                yield f"operation {number}, sectors mixed", disk.found_files(mixed_sectors(disk.pending, dice)), done
         disk.take(operation, folder)
 
 
@@ -321,7 +321,7 @@ def subsets_of(pending: list[tuple[int, Operation]], dice: random.Random, most: 
             yield subset
 
 
-def mixed(pending: list[tuple[int, Operation]], dice: random.Random) -> list[tuple[int, Operation]]:
+def mixed_sectors(pending: list[tuple[int, Operation]], dice: random.Random) -> list[tuple[int, Operation]]:
     """Of each write some sectors, some zeros in place of sectors, or a first part. Of names the first ones."""
     kept = dice.randint(0, sum(file < 0 for file, _ in pending))
     found: list[tuple[int, Operation]] = []
@@ -343,11 +343,11 @@ def mixed(pending: list[tuple[int, Operation]], dice: random.Random) -> list[tup
     return found
 
 
-def faulty(folder: str, steps: list[Step], *, every: int = 1, lengths: tuple[int, ...] = (1, 3), is_control: bool = False) -> Count:
+def failures(folder: str, steps: list[Step], *, every: int = 1, lengths: tuple[int, ...] = (1, 3), is_control: bool = False) -> Count:
     """Each operation fails, and some after it: writes with ENOSPC or EIO, of which half may be carried out, and all others with EIO. A client makes each step
     again until it is answered. Another one is killed as soon as a step has failed, and a third one loses its power: nothing of that step may be there."""
     want, count, dice = list(expected(steps)), Count("control of faults" if is_control else "faults"), random.Random(1)
-    if forked(lambda: go(folder, steps), folder) != 0:
+    if status_of_fork(lambda: go(folder, steps), folder) != 0:
         raise Wrong("the history does not go through")
     total = sum(operation.letter != "n" for operation in trace_of(folder))
     manners = [(NOTHING, errno.ENOSPC), (HALF, errno.ENOSPC), (WHOLE, errno.EIO)]
@@ -355,29 +355,29 @@ def faulty(folder: str, steps: list[Step], *, every: int = 1, lengths: tuple[int
         for number in range(0, total, every):
             part, fault = manners[number % len(manners)]
             words: dict[str, Any] = {"fails": (number, number + length - 1), "part": part, "fault": fault}
-            status = forked(lambda: go_on(folder, steps, want, is_control), folder, **words)
+            status = status_of_fork(lambda: go_on(folder, steps, want, is_control), folder, **words)
             trace = trace_of(folder)
-            count.faults, count.doubts = count.faults + noted(trace, FAILED) + noted(trace, IN_DOUBT), count.doubts + noted(trace, IN_DOUBT)
-            count.look(f"operations {number} to {number + length - 1} fail", lambda: as_at_the_end(folder, steps, want, status))
+            count.faults, count.doubts = count.faults + note_count(trace, FAILED) + note_count(trace, IN_DOUBT), count.doubts + note_count(trace, IN_DOUBT)
+            count.look(f"operations {number} to {number + length - 1} fail", lambda: check_at_end(folder, steps, want, status))
             if not is_control:
-                forked(lambda: stop(folder, steps), folder, has_bytes=True, **words)
+                status_of_fork(lambda: stop(folder, steps), folder, has_bytes=True, **words)
                 trace = trace_of(folder)
-                done = answered(trace)
-                most = done + noted(trace, IN_DOUBT)
+                done = answered_steps(trace)
+                most = done + note_count(trace, IN_DOUBT)
                 for what, files in last_disks(folder, trace, dice):
-                    count.look(f"operation {number} failed, {what}", lambda: on_disk(files, folder, steps, want, done, most))
-                count.look(f"killed when operation {number} failed", lambda: as_after_a_crash(folder, steps, want, done, most))
+                    count.look(f"operation {number} failed, {what}", lambda: check_on_disk(files, folder, steps, want, done, most))
+                count.look(f"killed when operation {number} failed", lambda: check_after_crash(folder, steps, want, done, most))
     return count
 
 
-def noted(trace: list[Operation], note: int) -> int:
+def note_count(trace: list[Operation], note: int) -> int:
     return sum(operation.letter == "n" and operation.offset == note for operation in trace)
 
 
-def as_at_the_end(folder: str, steps: list[Step], want: list[bytes], status: int) -> int:
+def check_at_end(folder: str, steps: list[Step], want: list[bytes], status: int) -> int:
     if status != 0:
         raise Wrong(f"the client ended with status {status}: {Path(f'{folder}.fault').read_text() if status == 1 else ''}")
-    return as_after_a_crash(folder, steps, want, len(steps), len(steps))
+    return check_after_crash(folder, steps, want, len(steps), len(steps))
 
 
 def go_on(folder: str, steps: list[Step], want: list[bytes], is_control: bool) -> None:
@@ -389,7 +389,7 @@ def go_on(folder: str, steps: list[Step], want: list[bytes], is_control: bool) -
             break
         try:
             if table is None:
-                table = opened(folder)
+                table = table_of(folder)
                 if is_control:
                     table._drop = lambda: None
                 # After a doubt the table says whether the step was kept. One that was made by `once` is sent again.
@@ -420,10 +420,10 @@ def stop(folder: str, steps: list[Step]) -> None:
         os.kill(os.getpid(), signal.SIGKILL)
 
 
-def damaged(folder: str, steps: list[Step], *, rounds: int, seed: int = 1) -> Count:
+def damages(folder: str, steps: list[Step], *, rounds: int, seed: int = 1) -> Count:
     """Some bytes of the file of a closed table are changed at random: the table is as it was, or opening it says that it is not."""
     want, count, dice = list(expected(steps)), Count("bytes changed"), random.Random(seed)
-    if forked(lambda: go(folder, steps), folder) != 0:
+    if status_of_fork(lambda: go(folder, steps), folder) != 0:
         raise Wrong("the history does not go through")
     path = Path(f"{folder}/table")
     whole, refused = path.read_bytes(), 0
@@ -466,12 +466,12 @@ class Starved(Session):
             library().faults_count_requests(False, ctypes.c_long(-1))
 
 
-def starved(folder: str, steps: list[Step], *, every: int = 1) -> Count:
+def memory_refusals(folder: str, steps: list[Step], *, every: int = 1) -> Count:
     """Each request for memory in the runs of the scripts is refused. The step is rolled back and made again, or the process is gone."""
     want, count = list(expected(steps)), Count("memory refused")
 
     def work() -> None:
-        with opened(folder, make=Starved) as table:
+        with table_of(folder, make=Starved) as table:
             for number, step in enumerate(steps):
                 try:
                     step.make(table, number)
@@ -482,22 +482,22 @@ def starved(folder: str, steps: list[Step], *, every: int = 1) -> Count:
         Path(f"{folder}.requests").write_text(str(library().faults_requests()))
 
     Starved.refused = -1
-    if forked(work, folder) != 0:
+    if status_of_fork(work, folder) != 0:
         raise Wrong("the history does not go through")
     for refused in range(0, int(Path(f"{folder}.requests").read_text()), every):
         Starved.refused = refused
-        status = forked(work, folder)
+        status = status_of_fork(work, folder)
         trace = trace_of(folder)
-        done = answered(trace)
-        count.faults += noted(trace, FAILED)
-        count.look(f"request {refused} refused, status {status}", lambda: as_after_a_crash(folder, steps, want, done, done + 1))
+        done = answered_steps(trace)
+        count.faults += note_count(trace, FAILED)
+        count.look(f"request {refused} refused, status {status}", lambda: check_after_crash(folder, steps, want, done, done + 1))
     return count
 
 
 # ---- the process ----
 
 
-def compiled(folder: str) -> str:
+def faults_library(folder: str) -> str:
     """faults.c as a library in a folder."""
     path = f"{folder}/faults.so"
     words = ["cc", "-std=c11", "-O1", "-Wall", "-Wextra", "-Werror", "-shared", "-fPIC", str(HERE / "faults.c"), "-o", path]
@@ -505,10 +505,10 @@ def compiled(folder: str) -> str:
     return path
 
 
-def preloaded(script: str | Path, *words: str) -> int:
+def status_with_faults(script: str | Path, *words: str) -> int:
     """Runs a script of Python with faults.c, in this folder, and gives its status."""
     with tempfile.TemporaryDirectory(dir=folder_in_memory()) as folder:
-        environment = {**os.environ, "LD_PRELOAD": compiled(folder), "TMPDIR": folder}
+        environment = {**os.environ, "LD_PRELOAD": faults_library(folder), "TMPDIR": folder}
         return subprocess.run([sys.executable, "-B", script, *words], env=environment).returncode
 
 

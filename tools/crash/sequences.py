@@ -110,7 +110,7 @@ class Pair:
                 self.roll_back(parts)
 
 
-def compared(folder: str, seed: int, first: int, count: int) -> Counter[str]:
+def comparison(folder: str, seed: int, first: int, count: int) -> Counter[str]:
     """Runs scripts of a seed, by their numbers, and counts what was compared."""
     found: Counter[str] = Counter()
     for number in range(first, first + count):

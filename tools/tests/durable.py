@@ -441,7 +441,7 @@ def other_files_are_refused_and_left_alone():
 def names_are_on_disk_before_anything_is_answered():
     """Each opening syncs the folder, since SQLite makes its log there and goes on if it cannot be synced."""
     module = durable()
-    synced, paths = module._synced, []
+    synced, paths = module._sync_path, []
 
     def failing(path):
         paths.append(path)
@@ -449,12 +449,12 @@ def names_are_on_disk_before_anything_is_answered():
 
     with folder() as path:
         try:
-            module._synced = failing
+            module._sync_path = failing
             for _ in range(2):
                 expect_fault(OSError, lambda: module.open(path / "t"))
                 expect((paths.pop(), paths), (str(path), []))
         finally:
-            module._synced = synced
+            module._sync_path = synced
         with module.open(path / "t") as table:
             expect(table.number, 0)
 
@@ -500,7 +500,7 @@ def another_engine_reads_what_agrees_with_it():
             with module.open(path / "t", make=Other) as table:
                 expect((table.get(1), table.replies(ADD)), ((1, "", 1), b"batch of 1\n"))
             # What an engine has agreed with is its own.
-            expect_within("the library is another one", str(fault_of(lambda: module.open(path / "t"))))
+            expect_within("the library is not the one that wrote it", str(fault_of(lambda: module.open(path / "t"))))
         finally:
             module.ENGINE = engine
 

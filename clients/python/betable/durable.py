@@ -185,13 +185,13 @@ class Durable(Calls):
                 raise Corrupt(self.path, None, f"{found}, so restore a backup")
             # By now SQLite has made its own log, a second file. Its name has to be on disk before anything is answered, and SQLite would go on if the sync
             # of the folder fails.
-            _synced(os.path.dirname(self.path))
+            _sync_path(os.path.dirname(self.path))
             return db
         except BaseException as fault:
             if db is not None:
                 db.close()
             if isinstance(fault, (sqlite3.Error, UnicodeDecodeError)):
-                raise _as_named(fault, self.path) from fault
+                raise _named_fault(fault, self.path) from fault
             raise
 
     def _check_format(self, db: sqlite3.Connection) -> None:
@@ -212,7 +212,7 @@ class Durable(Calls):
             except BaseException as fault:
                 session.close()
                 if isinstance(fault, (sqlite3.Error, UnicodeDecodeError)):
-                    raise _as_named(fault, self.path) from fault
+                    raise _named_fault(fault, self.path) from fault
                 raise
             self._session = session
         return self._session
@@ -415,9 +415,9 @@ class Durable(Calls):
                 os.remove(part)
             with closing(sqlite3.connect(part, isolation_level=None)) as copy:
                 self._db.backup(copy)
-            _synced(part)
+            _sync_path(part)
             os.rename(part, path)
-            _synced(os.path.dirname(path))
+            _sync_path(os.path.dirname(path))
         except sqlite3.Error as fault:
             raise OSError(f"{path}: no backup was written: {fault}") from fault
 
@@ -494,7 +494,7 @@ def _checksum(script: bytes, replies: bytes) -> int:
     return zlib.crc32(replies, zlib.crc32(script))
 
 
-def _synced(path: str) -> None:
+def _sync_path(path: str) -> None:
     """A file, or the names in a folder, on disk."""
     file = os.open(path, os.O_RDONLY)
     try:
@@ -503,7 +503,7 @@ def _synced(path: str) -> None:
         os.close(file)
 
 
-def _as_named(fault: sqlite3.Error | UnicodeDecodeError, path: str) -> Exception:
+def _named_fault(fault: sqlite3.Error | UnicodeDecodeError, path: str) -> Exception:
     """What SQLite says of the file, by the names of this module. It quotes damaged names as they are, also if they are no text."""
     match fault.sqlite_errorcode & 0xFF if isinstance(fault, sqlite3.Error) else sqlite3.SQLITE_CORRUPT:
         case sqlite3.SQLITE_BUSY | sqlite3.SQLITE_LOCKED:
@@ -517,7 +517,7 @@ def _as_named(fault: sqlite3.Error | UnicodeDecodeError, path: str) -> Exception
 
 def _advice(engine: int) -> str:
     if engine == ENGINE:
-        return "it or its replies are not those that were kept: the file is damaged, or the library is another one"
+        return "it or its replies are not those that were kept: the file is damaged, so restore a backup, or the library is not the one that wrote it"
     return f"it was kept by engine {engine}, and engine {ENGINE} replies otherwise: open the table with the version that wrote it, write a checkpoint, and update"
 
 
