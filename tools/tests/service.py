@@ -402,7 +402,7 @@ def refused_rows_have_line_and_item():
 
 @with_aiohttp
 def limits_are_kept():
-    with server("--most-waiting", 2, "--most-body", 100_000, "--most-held", 100_000, "--client-seconds", 1) as found:
+    with server("--most-waiting", 2, "--most-body", 100_000, "--most-held", 100_000) as found:
         with found.stopped_engine(), ThreadPoolExecutor(2) as pool:
             asked = [pool.submit(found.run, adds(key)) for key in range(2)]
             found.await_metric("betable_queued_scripts", 2)
@@ -415,9 +415,17 @@ def limits_are_kept():
             connection.sendall(b"POST /run HTTP/1.1\r\nHost: localhost\r\nContent-Length: 90000\r\n\r\n" + b"x" * 60_000)
             found.await_metric("betable_held_bytes", 60_000)
             expect(found.ask("POST", "/run", b"x" * 60_000)[0], 429)
-            expect(connection.recv(65_536).split(b" ")[1], b"408")
+        found.await_metric("betable_held_bytes", 0)
         expect(quantities(found), {0: 1, 1: 1})
         expect((found.metric("betable_waiting_requests"), found.metric("betable_held_bytes")), (0, 0))
+
+
+@with_aiohttp
+def bodies_that_stop_coming_are_told():
+    with server("--client-seconds", 1) as found, socket.create_connection(("127.0.0.1", found.port), SECONDS) as connection:
+        connection.sendall(b"POST /run HTTP/1.1\r\nHost: localhost\r\nContent-Length: 100\r\n\r\nbatch\n")
+        expect(connection.recv(65_536).split(b" ")[1], b"408")
+        expect(found.metric("betable_held_bytes"), 0)
 
 
 # ---- who may ask ----
@@ -485,15 +493,24 @@ def read_only_servers_change_nothing():
 def requests_that_wait_share_a_commit():
     count = 40
     with server() as found, ThreadPoolExecutor(count) as pool:
-        before = found.metric("betable_commits_total")
+        before, counted = commits_of(found.path), found.metric("betable_commits_total")
         with found.stopped_engine():
             asked = [pool.submit(found.run, adds(key % 7)) for key in range(count)]
             found.await_metric("betable_queued_scripts", count)
         expect({answer.result().split(b":")[0] for answer in asked}, {b"batch 1 by_city"})
         # The first was sent alone, since nothing ran; the others waited.
-        expect(found.metric("betable_commits_total") - before <= 2, True)
+        expect(1 <= commits_of(found.path) - before <= 2, True)
+        expect(found.metric("betable_commits_total") - counted, commits_of(found.path) - before)
         expect(found.metric("betable_kept_scripts"), 1 + count)
         expect(sum(quantities(found).values()), count)
+
+
+def commits_of(path):
+    """How many transactions are in SQLite's log of a table: the frames in which one ends, of those written since the log began."""
+    log = Path(f"{path}-wal").read_bytes()
+    size = 24 + int.from_bytes(log[8:12], "big")
+    frames = [log[at : at + 24] for at in range(32, len(log), size)]
+    return sum(frame[4:8] != bytes(4) and frame[8:16] == log[16:24] for frame in frames)
 
 
 @with_aiohttp
@@ -561,7 +578,7 @@ def disk_that_is_full_is_told():
 
 @with_aiohttp
 def slow_readers_hold_nothing_up():
-    with server("--client-seconds", 2) as found:
+    with server("--client-seconds", 4) as found:
         for start in range(0, 120_000, 60_000):
             found.ask("POST", "/rows", b"".join(b"%d,%b,1\n" % (key, b"x" * 200) for key in range(start, start + 60_000)))
         with socket.socket() as slow:
@@ -687,6 +704,7 @@ TESTS_OF_TEXTS = [
     bad_requests_are_told_and_change_nothing,
     refused_rows_have_line_and_item,
     limits_are_kept,
+    bodies_that_stop_coming_are_told,
     token_is_wanted,
     other_sites_cannot_use_a_server_without_a_token,
     read_only_servers_change_nothing,

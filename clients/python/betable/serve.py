@@ -296,6 +296,7 @@ class Service:
             script = await aside(len(body), batch_of, body)
             answer = await self.engine.run(Work(script, request_id(request)))
         if answer.replies.startswith(b"refused "):
+            self.metrics.refused.inc()
             raise await asyncio.to_thread(refusal_of_rows, script, answer.replies, state)
         return await self.replies(request, script, answer, state)
 
@@ -318,8 +319,10 @@ class Service:
         if is_json(request, ""):
             found = await asyncio.to_thread(replies_with_commands, script, answer.replies, state)
             return json_response({"replies": found, "refused": refused, "number": answer.number}, headers)
-        parts = (answer.replies[at : at + BLOCK_BYTES] for at in range(0, len(answer.replies), BLOCK_BYTES))
-        return await self.sent(request, parts, {"Content-Type": "text/plain; charset=utf-8", "Content-Length": str(len(answer.replies)), **headers})
+        headers |= {"Content-Type": "text/plain; charset=utf-8", "Content-Length": str(len(answer.replies))}
+        if len(answer.replies) <= BLOCK_BYTES:
+            return web.Response(body=answer.replies, headers={**COMMON_HEADERS, **headers})
+        return await self.sent(request, (answer.replies[at : at + BLOCK_BYTES] for at in range(0, len(answer.replies), BLOCK_BYTES)), headers)
 
     # ---- endpoints: reads ----
 
