@@ -22,6 +22,8 @@ REQUEST_SECONDS = 86_400
 # How many scripts are read from a log at a time.
 MOST_ENTRIES = 64
 PART_BYTES = 1 << 24
+# After how long a server that does not speak is taken for one that cannot be reached, unless the URL says otherwise, and how long a wait for a script may be.
+SECONDS_TO_CONNECT, SECONDS_TO_REPLY, LONGEST_WAIT = 10, 30, 10
 
 
 class Unreachable(ConnectionError):
@@ -51,7 +53,7 @@ class Log(Protocol):
         """The first scripts of those from one position to another."""
 
     def wait(self, position: int, seconds: float) -> None:
-        """Waits until a position has a script, or for these seconds."""
+        """Waits until a position has a script, or for these seconds, which are at most LONGEST_WAIT."""
 
     def checkpoint(self) -> tuple[int, bytes] | None:
         """The last checkpoint: its position, and its bytes."""
@@ -115,7 +117,7 @@ class RedisLog:
 
     def __init__(self, url: str, name: str) -> None:
         self._redis = imported("redis", "python3-redis, or redis of PyPI")
-        self._client = self._redis.Redis.from_url(url)
+        self._client = self._redis.Redis.from_url(url, socket_connect_timeout=SECONDS_TO_CONNECT, socket_timeout=SECONDS_TO_REPLY)
         self._log, self._last, self._prefix = f"{{{name}}}:log", f"{{{name}}}:checkpoint", f"{{{name}}}:"
         self._append, self._end, self._keep = map(self._client.register_script, (self.APPEND, self.END, self.KEEP))
 
@@ -199,9 +201,15 @@ class PostgresLog:
         DELETE FROM NAME_log WHERE script IS NULL AND appended < now() - interval 'SECONDS seconds'
     """
 
+    # In seconds, and the last one in milliseconds.
+    TIMEOUTS = {
+        "connect_timeout": SECONDS_TO_CONNECT, "keepalives_idle": SECONDS_TO_CONNECT, "keepalives_interval": SECONDS_TO_CONNECT, "keepalives_count": 2,
+        "tcp_user_timeout": 1_000 * SECONDS_TO_REPLY,
+    }  # fmt: skip
+
     def __init__(self, url: str, name: str) -> None:
         self._psycopg2 = imported("psycopg2", "python3-psycopg2, or psycopg2 of PyPI")
-        self._url, self._name = url, name
+        self._options, self._name = {**self.TIMEOUTS, **self._psycopg2.extensions.parse_dsn(url)}, name
         self._connection: Any = None
         self._rows(self.SCHEMA)
 
@@ -209,7 +217,7 @@ class PostgresLog:
         """The rows of a query, which is a transaction by itself unless it says otherwise."""
         try:
             if self._connection is None:
-                self._connection = self._psycopg2.connect(self._url)
+                self._connection = self._psycopg2.connect(**self._options)
                 self._connection.autocommit = True
                 # An answered script is on disk, and on that of the standby that synchronous_standby_names names.
                 self._rows("SET synchronous_commit = on; LISTEN NAME")
@@ -235,11 +243,13 @@ class PostgresLog:
         return [Entry(position, request_id, bytes(script), seen, checksum) for position, request_id, script, seen, checksum in found]
 
     def wait(self, position: int, seconds: float) -> None:
-        if self.end() < position and self._connection is not None:
+        if self._connection is not None:
+            self._connection.notifies.clear()
+        # What is appended meanwhile is notified with the reply, or after it.
+        if self.end() < position and not self._connection.notifies:
             select.select([self._connection], [], [], seconds)
             with suppress(self._psycopg2.OperationalError):
                 self._connection.poll()
-            self._connection.notifies.clear()
 
     def checkpoint(self) -> tuple[int, bytes] | None:
         found = self._rows(self.CHECKPOINT)

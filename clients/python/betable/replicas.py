@@ -26,7 +26,7 @@ from typing import Any, Literal, NamedTuple, TypeVar
 from .calls import Calls, as_script, note
 from .durable import CHANGING, DEFINING, REFUSED, IndexBuilding, RequestReused, Runner, _records
 from .language import PRIMARY, State, commands
-from .logs import Entry, Log, Unreachable, log_of
+from .logs import LONGEST_WAIT, Entry, Log, Unreachable, log_of
 from .replies import answered
 from .session import Session
 from .sharded import NotSharded
@@ -202,10 +202,9 @@ class Replicas(Calls):
     def catch_up(self, seconds: float = 0) -> int:
         """Runs what the log has, and if that is nothing new waits up to these seconds for a script. The position afterwards."""
         self._ready()
-        end = self._reached(self._log.end)
-        if end == self._position and seconds > 0:
-            self._reached(lambda: self._log.wait(self._position + 1, seconds))
-            end = self._reached(self._log.end)
+        begin = time.monotonic()
+        while (end := self._reached(self._log.end)) == self._position and (left := begin + seconds - time.monotonic()) > 0:
+            self._reached(partial(self._log.wait, end + 1, min(left, LONGEST_WAIT)))
         if end < self._position:
             raise self._diverged(end, f"it is the last, and this replica has run {self._position} scripts, so the log has lost some")
         self._run_to(end)
