@@ -12,7 +12,7 @@
  *   c path            a file is created                    s path            a file, or the names in a folder, are synced
  *   w path at n ..    n bytes are written at an offset     r path            a file is removed
  *   t path n          a file has n bytes from now on       m path .. n new   a file gets a new name, of n bytes
- *   n "" number       a note of the test
+ *   n "" number       a note of the test                   f path            a sync fails
  */
 #define _GNU_SOURCE
 #include <errno.h>
@@ -161,6 +161,8 @@ static bool is_let(char letter, const char *path, long offset, const char *name)
     if (what == FAIL || (what == DIE && part != WHOLE)) {
         if (what == DIE)
             die();
+        if (letter == 's')
+            record('f', path, 0, NULL, 0);
         errno = EIO;
         return false;
     }

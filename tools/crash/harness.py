@@ -233,7 +233,10 @@ class Disk:
 
     def take(self, operation: Operation, folder: str) -> None:
         letter, name = operation.letter, os.path.basename(operation.path)
-        if letter == "s" and operation.path == folder:
+        if letter == "f":
+            # What a sync that failed had to write may be lost for good, as a kernel does not write it again. Names are.
+            self.pending = [entry for entry in self.pending if operation.path == folder or entry[0] != self.current.get(name)]
+        elif letter == "s" and operation.path == folder:
             for _, one in [entry for entry in self.pending if entry[0] < 0]:
                 self._rename(self.names, one)
             self.pending = [entry for entry in self.pending if entry[0] >= 0]
@@ -345,7 +348,8 @@ def mixed_sectors(pending: list[tuple[int, Operation]], dice: random.Random) -> 
 
 def failures(folder: str, steps: list[Step], *, every: int = 1, lengths: tuple[int, ...] = (1, 3), is_control: bool = False) -> Count:
     """Each operation fails, and some after it: writes with ENOSPC or EIO, of which half may be carried out, and all others with EIO. A client makes each step
-    again until it is answered. Another one is killed as soon as a step has failed, and a third one loses its power: nothing of that step may be there."""
+    again until it is answered, and loses its power at the end. Another one is killed as soon as a step has failed, and a third one loses its power there:
+    nothing of that step may be found."""
     want, count, dice = list(expected(steps)), Count("control of faults" if is_control else "faults"), random.Random(1)
     if status_of_fork(lambda: go(folder, steps), folder) != 0:
         raise Wrong("the history does not go through")
@@ -355,9 +359,11 @@ def failures(folder: str, steps: list[Step], *, every: int = 1, lengths: tuple[i
         for number in range(0, total, every):
             part, fault = manners[number % len(manners)]
             words: dict[str, Any] = {"fails": (number, number + length - 1), "part": part, "fault": fault}
-            status = status_of_fork(lambda: go_on(folder, steps, want, is_control), folder, **words)
+            status = status_of_fork(lambda: go_on(folder, steps, want, is_control), folder, has_bytes=True, **words)
             trace = trace_of(folder)
             count.faults, count.doubts = count.faults + note_count(trace, FAILED) + note_count(trace, IN_DOUBT), count.doubts + note_count(trace, IN_DOUBT)
+            for what, files in last_disks(folder, trace, dice):
+                count.look(f"operation {number} failed and {what} at the end", lambda: check_on_disk(files, folder, steps, want, len(steps), len(steps)))
             count.look(f"operations {number} to {number + length - 1} fail", lambda: check_at_end(folder, steps, want, status))
             if not is_control:
                 status_of_fork(lambda: stop(folder, steps), folder, has_bytes=True, **words)
@@ -471,6 +477,8 @@ def memory_refusals(folder: str, steps: list[Step], *, every: int = 1) -> Count:
     want, count = list(expected(steps)), Count("memory refused")
 
     def work() -> None:
+        # What a process says that is out of memory is not of interest.
+        os.dup2(os.open(os.devnull, os.O_WRONLY), 2)
         with table_of(folder, make=Starved) as table:
             for number, step in enumerate(steps):
                 try:

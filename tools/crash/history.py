@@ -73,14 +73,15 @@ class Checkpoint(Step):
 
 
 class Backup(Step):
-    """A file beside the table's, if an attempt that was not answered has not left it there."""
+    """A file beside the table's, in place of one that was left by an attempt that was not answered."""
 
     is_repeatable = True
 
     def make(self, table: Any, number: int) -> None:
         path = os.path.join(os.path.dirname(table.path), "backup")
-        if not os.path.exists(path):
-            table.backup(path)
+        if table.path and os.path.exists(path):
+            os.remove(path)
+        table.backup(path)
 
 
 CITIES = ["Oslo", "Bergen", '"a,b"', ""]

@@ -648,6 +648,14 @@ def what_fails_to_be_written_is_rolled_back():
     expect(crashed("faults")["faults"] > 500, True)
 
 
+def what_runs_out_of_memory_is_rolled_back():
+    expect(crashed("memory")["memory refused"] > 10, True)
+
+
+def changed_bytes_are_found():
+    expect(crashed("damage")["bytes changed"], 500)
+
+
 def wrong_clients_and_files_without_sync_fail_these_tests():
     expect(len(crashed("controls")), 3)
 
@@ -683,6 +691,8 @@ TESTS_OF_TEXTS = [
     what_was_answered_outlives_a_kill_at_each_write,
     what_was_answered_outlives_a_loss_of_power,
     what_fails_to_be_written_is_rolled_back,
+    what_runs_out_of_memory_is_rolled_back,
+    changed_bytes_are_found,
     wrong_clients_and_files_without_sync_fail_these_tests,
     replies_to_random_scripts_are_those_of_a_session,
 ]

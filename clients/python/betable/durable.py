@@ -176,7 +176,8 @@ class Durable(Calls):
             db = sqlite3.connect(self.path, timeout=0, isolation_level=None)
             db.execute("PRAGMA locking_mode=EXCLUSIVE")
             self._check_format(db)
-            db.execute("PRAGMA journal_mode=WAL")
+            if (mode := _value(db, "PRAGMA journal_mode=WAL")) != "wal":
+                raise OSError(f"{self.path}: SQLite keeps its log by {mode}, and not by WAL, so that the end of a transaction would not be synced")
             db.execute(f"PRAGMA synchronous={'FULL' if self._sync else 'NORMAL'}")
             db.execute(f"PRAGMA journal_size_limit={LARGEST_IDLE_LOG}")
             if _value(db, "PRAGMA user_version") == 0:
