@@ -60,7 +60,7 @@ class Server:
 
     def __init__(self, folder, *words, environment=None):
         self.path = Path(folder) / "stock.table"
-        self.process = started(self.path, *words, environment=environment)
+        self.process = process_of(self.path, *words, environment=environment)
         line = self.process.stdout.readline()
         if not line:
             raise RuntimeError(f"no server: {self.process.stderr.read()}")
@@ -115,7 +115,7 @@ class Server:
         return self.process.wait(SECONDS)
 
 
-def started(path, *words, environment=None):
+def process_of(path, *words, environment=None):
     library()
     words = [python(), "-m", "betable", "serve", path, "--port", "0", *map(str, words)]
     environment = {**os.environ, "PYTHONPATH": str(TOP / "clients/python"), "PYTHONDONTWRITEBYTECODE": "1", **(environment or {})}
@@ -125,14 +125,14 @@ def started(path, *words, environment=None):
 @contextmanager
 def server(*words, script=TABLE):
     with tempfile.TemporaryDirectory() as folder:
-        with served(folder, *words) as found:
+        with server_in(folder, *words) as found:
             if script:
                 found.run(script)
             yield found
 
 
 @contextmanager
-def served(folder, *words):
+def server_in(folder, *words):
     found = Server(folder, *words)
     try:
         yield found
@@ -220,7 +220,8 @@ def rows_go_in_and_come_out():
 
 @with_aiohttp
 def values_of_each_kind_are_written():
-    table = b"table 4 8 4 2 on:flag id:int data:bytes note:text\nload\non,id,data,note\ntrue,-9223372036854775808,00ff,\"a\nrow b\"\nfalse,9223372036854775807,,x\n.\n"
+    table = b"table 4 8 4 2 on:flag id:int data:bytes note:text\nload\non,id,data,note\n"
+    table += b'true,-9223372036854775808,00ff,"a\nrow b"\nfalse,9223372036854775807,,x\n.\n'
     with server(script=table) as found:
         rows = [[False, 2**63 - 1, "", "x"], [True, -(2**63), "00ff", "a\nrow b"]]
         expect(found.json("/rows/primary")["rows"], rows)
@@ -362,6 +363,14 @@ BAD_REQUESTS = [
     ("POST", "/checkpoint", {}, b"", 409, "building"),
     ("GET", "/healthz", {"Long": "x" * 9_000}, None, 400, None),
 ]
+# Bytes that are no request of HTTP.
+NO_REQUESTS = [
+    b"\x00\xff\r\n\r\n",
+    b"GET / HTTP/9.9\r\n\r\n",
+    b"GET\r\n\r\n",
+    b"POST /run HTTP/1.1\r\nContent-Length: x\r\n\r\n",
+    b"\x16\x03\x01\x02\x00",
+]
 
 
 @with_aiohttp
@@ -378,7 +387,7 @@ def bad_requests_are_told_and_change_nothing():
                 expect_within(part, said["reason"])
             if status == 405:
                 expect((path, bool(given["Allow"])), (path, True))
-        for raw in (b"\x00\xff\r\n\r\n", b"GET / HTTP/9.9\r\n\r\n", b"GET\r\n\r\n", b"POST /run HTTP/1.1\r\nContent-Length: x\r\n\r\n", b"\x16\x03\x01\x02\x00"):
+        for raw in NO_REQUESTS:
             with socket.create_connection(("127.0.0.1", found.port), SECONDS) as connection:
                 connection.sendall(raw)
                 connection.shutdown(socket.SHUT_WR)
@@ -436,15 +445,15 @@ def token_is_wanted():
     with tempfile.TemporaryDirectory() as folder:
         path = Path(folder) / "token"
         path.write_text(TOKEN + "\nsecond line\n")
-        with served(folder, "--token", path) as found:
-            right = {"Authorization": f"Bearer {TOKEN}"}
-            for path_asked in ("/run", "/rows/primary", "/metrics", "/events", "/trees", "/checkpoint", "/nothing"):
-                for given in ({}, {"Authorization": TOKEN}, {"Authorization": f"Basic {TOKEN}"}, {"Authorization": f"Bearer {TOKEN}x"}, {"Authorization": "Bearer æ"}):
-                    status, headers, _ = found.ask("GET", path_asked, None, {name: value.encode("latin-1") for name, value in given.items()})
-                    expect((path_asked, given, status, headers["WWW-Authenticate"]), (path_asked, given, 401, "Bearer"))
-            expect([found.ask("GET", open_path)[0] for open_path in ("/", "/healthz")], [200, 200])
-            expect(found.ask("POST", "/run", TABLE, right)[0], 200)
-            expect(found.ask("GET", "/rows/primary", None, {"Authorization": f"bearer {TOKEN}", "Host": "table.example", "Origin": "https://a.example"})[0], 200)
+        with server_in(folder, "--token", path) as found:
+            for asked in ("/run", "/rows/primary", "/metrics", "/events", "/trees", "/checkpoint", "/nothing"):
+                for given in (None, TOKEN, f"Basic {TOKEN}", f"Bearer {TOKEN}x", f"Bearer {TOKEN[:-1]}", "Bearer æ", "Bearer"):
+                    status, headers, _ = found.ask("GET", asked, None, {"Authorization": given.encode("latin-1")} if given else {})
+                    expect((asked, given, status, headers["WWW-Authenticate"]), (asked, given, 401, "Bearer"))
+            expect([found.ask("GET", asked)[0] for asked in ("/", "/healthz")], [200, 200])
+            expect(found.ask("POST", "/run", TABLE, {"Authorization": f"Bearer {TOKEN}"})[0], 200)
+            elsewhere = {"Authorization": f"bearer {TOKEN}", "Host": "table.example", "Origin": "https://a.example"}
+            expect(found.ask("GET", "/rows/primary", None, elsewhere)[0], 200)
 
 
 @with_aiohttp
@@ -471,13 +480,13 @@ def other_sites_cannot_use_a_server_without_a_token():
 @with_aiohttp
 def read_only_servers_change_nothing():
     with tempfile.TemporaryDirectory() as folder:
-        with served(folder) as found:
+        with server_in(folder) as found:
             found.run(TABLE + b"batch\nput 1,batch,2\nend\n")
             expect(found.end(), 0)
-        with served(folder, "--read-only") as found:
+        with server_in(folder, "--read-only") as found:
             rows = found.run(b"scan primary\ngo\n")
-            changes = [adds(1), b"get 1\nrebuild primary\n", b"  drop by_city\n", b"batch\n", b"load\n", b"table 4 8 4 1 id:int\n", b"index a on qty\n", b"drain primary\r\n"]
-            for script in [*changes, b"scan primary\nfrom 1\ngo\nbuild by_city 1\n"]:
+            changes = [adds(1), b"get 1\nrebuild primary\n", b"  drop by_city\n", b"batch\n", b"load\n", b"table 4 8 4 1 id:int\n", b"index a on qty\n"]
+            for script in [*changes, b"drain primary\r\n", b"scan primary\nfrom 1\ngo\nbuild by_city 1\n"]:
                 status, _, body = found.ask("POST", "/run", script)
                 expect((script, status, "read-only" in json.loads(body)["reason"]), (script, 403, True))
             expect([found.ask("POST", path, b"1,a,1\n")[0] for path in ("/rows", "/checkpoint")], [403, 403])
@@ -540,7 +549,7 @@ def requests_run_once_over_a_kill():
 @with_aiohttp
 def requests_run_once_over_a_kill_of_the_server():
     with tempfile.TemporaryDirectory() as folder:
-        with served(folder) as found, ThreadPoolExecutor(1) as pool:
+        with server_in(folder) as found, ThreadPoolExecutor(1) as pool:
             found.run(TABLE)
             engine, log = found.engine(), Path(f"{found.path}-wal")
             with found.stopped_engine():
@@ -554,7 +563,7 @@ def requests_run_once_over_a_kill_of_the_server():
             expect(isinstance(asked.exception(), (ConnectionError, OSError)), True)
             found.process.wait()
             until(lambda: not Path(f"/proc/{engine}").exists())
-        with served(folder) as found:
+        with server_in(folder) as found:
             expect(found.run(adds(1), Idempotency_Key="a"), b"batch 1 by_city:1\n")
             expect(quantities(found), {1: 1})
 
@@ -602,7 +611,7 @@ def slow_readers_hold_nothing_up():
 def signals_end_it_after_what_came_in():
     for number in (signal.SIGTERM, signal.SIGINT):
         with tempfile.TemporaryDirectory() as folder:
-            with served(folder) as found, ThreadPoolExecutor(20) as pool:
+            with server_in(folder) as found, ThreadPoolExecutor(20) as pool:
                 found.run(TABLE)
                 with found.stopped_engine() as engine:
                     asked = [pool.submit(found.ask, "POST", "/run", adds(key)) for key in range(20)]
@@ -613,7 +622,7 @@ def signals_end_it_after_what_came_in():
                     until(lambda: is_closed(found.port))
                 expect({answer.result()[0] for answer in asked}, {200})
                 expect((number, found.process.wait(SECONDS), found.process.stderr.read()), (number, 0, ""))
-            with served(folder) as found:
+            with server_in(folder) as found:
                 expect(quantities(found), {key: 1 for key in range(20)})
 
 
@@ -628,14 +637,14 @@ def is_closed(port):
 @with_aiohttp
 def checkpoints_take_the_place_of_the_log():
     with tempfile.TemporaryDirectory() as folder:
-        with served(folder) as found:
+        with server_in(folder) as found:
             found.run(TABLE + adds(1), Idempotency_Key="a")
             expect(found.metric("betable_log_bytes") > 0, True)
             status, _, body = found.ask("POST", "/checkpoint")
             expect((status, json.loads(body)), (200, {"number": 1, "log_bytes": 0}))
             image = found.run(b"image primary\nimage by_city\n")
             expect(found.end(), 0)
-        with served(folder) as found:
+        with server_in(folder) as found:
             expect(found.run(b"image primary\nimage by_city\n"), image)
             expect(found.run(TABLE + adds(1), Idempotency_Key="a").splitlines()[-1], b"batch 1 by_city:1")
             expect(quantities(found), {1: 1})
@@ -661,16 +670,17 @@ def what_cannot_be_served_is_told():
             ([Path(folder) / "none" / "stock.table"], 1, "none"),
             ([path, "--most-held", "1000"], 2, "--most-body"),
         ]
-        for process, (words, status, part) in [(started(*words), (words, status, part)) for words, status, part in wrong]:
+        for process, (words, status, part) in [(process_of(*words), (words, status, part)) for words, status, part in wrong]:
             out, errors = process.communicate(timeout=SECONDS)
             expect((words, process.returncode, out), (words, status, ""))
             expect_within(part, errors)
             expect((words, errors.startswith("betable serve: "), errors.count("\n")), (words, True, 1))
-        process = started(path, environment=environment)
-        expect(process.communicate(timeout=SECONDS)[1], "betable serve: aiohttp is not installed: 'apt-get install python3-aiohttp python3-prometheus-client'\n")
-        with served(folder) as found:
+        process = process_of(path, environment=environment)
+        errors = process.communicate(timeout=SECONDS)[1]
+        expect(errors, "betable serve: aiohttp is not installed: 'apt-get install python3-aiohttp python3-prometheus-client'\n")
+        with server_in(folder) as found:
             for words, part in (([found.path], "open already"), ([path, "--port", found.port], "address already in use")):
-                process = started(*words)
+                process = process_of(*words)
                 _, errors = process.communicate(timeout=SECONDS)
                 expect((words, process.returncode), (words, 1))
                 expect_within(part, errors)

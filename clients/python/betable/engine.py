@@ -196,6 +196,8 @@ class Engine:
         self._waiting: deque[tuple[Work, asyncio.Future[Answer]]] = deque()
         self._group: list[tuple[Work, asyncio.Future[Answer]]] = []
         self._process: asyncio.subprocess.Process | None = None
+        self._stdin: asyncio.StreamWriter
+        self._stdout: asyncio.StreamReader
         self._is_ending = False
 
     @property
@@ -226,14 +228,14 @@ class Engine:
                     self._take(await self._receive())
             except (asyncio.IncompleteReadError, ConnectionError):
                 self._fail()
-            await self._process.wait()  # type: ignore[union-attr]
+            await self._process_end()
 
     async def end(self) -> None:
         """Ends the process, after it has answered the works that were sent to it."""
         self._is_ending, self.is_open = True, False
-        if self._process and self._process.stdin:
-            self._process.stdin.close()
-            await self._process.wait()
+        if self._process is not None:
+            self._stdin.close()
+            await self._process_end()
 
     async def run(self, work: Work) -> Answer:
         """The answer to a work, once it is on disk."""
@@ -248,21 +250,27 @@ class Engine:
     async def _start(self) -> None:
         # The process finds the package where this one has found it.
         folders = [str(Path(__file__).resolve().parents[1]), os.environ.get("PYTHONPATH", "")]
-        self._process = await asyncio.create_subprocess_exec(
+        process = await asyncio.create_subprocess_exec(
             sys.executable, "-P", "-c", START, self.path, str(os.getpid()), stdin=asyncio.subprocess.PIPE, stdout=asyncio.subprocess.PIPE,
             limit=1 << 20, env={**os.environ, "PYTHONPATH": os.pathsep.join(filter(None, folders))},
         )  # fmt: skip
+        assert process.stdin is not None and process.stdout is not None
+        self._process, self._stdin, self._stdout = process, process.stdin, process.stdout
         self.starts += 1
         try:
             self._take(await self._receive())
         except asyncio.IncompleteReadError:
-            raise Lost(f"the engine's process ended with status {await self._process.wait()} before the table was open") from None
+            raise Lost(f"the engine's process ended with status {await self._process_end()} before the table was open") from None
         self.is_open = not self._is_ending
 
+    async def _process_end(self) -> int:
+        """The status of the process, once it has ended."""
+        assert self._process is not None
+        return await self._process.wait()
+
     async def _receive(self) -> Result:
-        stdout = self._process.stdout  # type: ignore[union-attr]
-        head = await stdout.readexactly(8)  # type: ignore[union-attr]
-        found: Result | Exception = pickle.loads(await stdout.readexactly(int.from_bytes(head, "big")))  # type: ignore[union-attr]
+        head = await self._stdout.readexactly(8)
+        found: Result | Exception = pickle.loads(await self._stdout.readexactly(int.from_bytes(head, "big")))
         if isinstance(found, Exception):
             raise found
         return found
@@ -282,7 +290,7 @@ class Engine:
             if work.script is None:
                 break
         if self._group:
-            self._process.stdin.write(_frame([work for work, _ in self._group]))  # type: ignore[union-attr]
+            self._stdin.write(_frame([work for work, _ in self._group]))
 
     def _take(self, result: Result) -> None:
         group, self._group = self._group, []

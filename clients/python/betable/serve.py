@@ -233,7 +233,7 @@ class Service:
             raise Problem(413, f"a body has at most {self.limits.body:,} bytes")
         return b"".join(parts)
 
-    async def sent(self, request: web.Request, parts: Iterator[bytes], headers: dict[str, str]) -> web.StreamResponse:
+    async def response_in_parts(self, request: web.Request, parts: Iterator[bytes], headers: dict[str, str]) -> web.StreamResponse:
         """An answer in parts. A client that does not take them in time is cut off, and so is one whose parts cannot be made."""
         response = web.StreamResponse(headers={**COMMON_HEADERS, **headers})
         await response.prepare(request)
@@ -284,7 +284,7 @@ class Service:
     async def post_run(self, request: web.Request) -> web.StreamResponse:
         with self.place():
             script, state = await self.body(request), self.engine.state
-            if self.is_read_only and (word := await aside(len(script), changing_word, script)):
+            if self.is_read_only and (word := await in_thread_if_large(len(script), changing_word, script)):
                 raise Problem(403, f"'{word}' changes the table, and this server is read-only")
             answer = await self.engine.run(Work(script, request_id(request)))
         return await self.replies(request, script, answer, state)
@@ -293,7 +293,7 @@ class Service:
         self.expect_writable()
         with self.place():
             body, state = await self.body(request), self.engine.state
-            script = await aside(len(body), batch_of, body)
+            script = await in_thread_if_large(len(body), batch_of, body)
             answer = await self.engine.run(Work(script, request_id(request)))
         if answer.replies.startswith(b"refused "):
             self.metrics.refused.inc()
@@ -313,7 +313,7 @@ class Service:
     async def replies(self, request: web.Request, script: bytes, answer: Answer, state: State) -> web.StreamResponse:
         """The replies to a script: their bytes, or as JSON each with its command."""
         self.hold(request, len(answer.replies))
-        refused = await aside(len(answer.replies), refused_count, script, answer.replies)
+        refused = await in_thread_if_large(len(answer.replies), refused_count, script, answer.replies)
         self.metrics.refused.inc(refused)
         headers = {"Betable-Refused": str(refused), "Betable-Number": str(answer.number)}
         if is_json(request, ""):
@@ -322,7 +322,8 @@ class Service:
         headers |= {"Content-Type": "text/plain; charset=utf-8", "Content-Length": str(len(answer.replies))}
         if len(answer.replies) <= BLOCK_BYTES:
             return web.Response(body=answer.replies, headers={**COMMON_HEADERS, **headers})
-        return await self.sent(request, (answer.replies[at : at + BLOCK_BYTES] for at in range(0, len(answer.replies), BLOCK_BYTES)), headers)
+        parts = (answer.replies[at : at + BLOCK_BYTES] for at in range(0, len(answer.replies), BLOCK_BYTES))
+        return await self.response_in_parts(request, parts, headers)
 
     # ---- endpoints: reads ----
 
@@ -357,7 +358,7 @@ class Service:
             answer = answer._replace(replies=answer.replies + b"rows 1\n")
         parts = (json_rows if as_json else csv_rows)(answer, script.startswith(b"sums "))
         content_type = "application/json" if as_json else "text/csv; charset=utf-8; header=absent"
-        return await self.sent(request, parts, {"Content-Type": content_type, "Betable-More": "true" if answer.is_cut else "false"})
+        return await self.response_in_parts(request, parts, {"Content-Type": content_type, "Betable-More": "true" if answer.is_cut else "false"})
 
     async def get_trees(self, request: web.Request) -> web.StreamResponse:
         return json_response(trees_of(self.engine.state))
@@ -411,8 +412,8 @@ class Service:
         return web.Response(text=self.page, content_type="text/html", headers={**COMMON_HEADERS, "Content-Security-Policy": content_policy(self.page)})
 
 
-async def aside(size: int, function: Callable[..., Any], *arguments: Any) -> Any:
-    """The result of a function on so many bytes: if these are many, in a thread, so that others get their turn."""
+async def in_thread_if_large(size: int, function: Callable[..., Any], *arguments: Any) -> Any:
+    """The result of a function on so many bytes: if they are many it runs in a thread, so that other requests get their turn."""
     return await asyncio.to_thread(function, *arguments) if size > BLOCK_BYTES else function(*arguments)
 
 
@@ -665,21 +666,21 @@ def run(words: argparse.Namespace) -> int:
     try:
         token = words.token.read_bytes().split(b"\n", 1)[0].strip() if words.token else None
     except OSError as fault:
-        return failed(f"{words.token}: {fault.strerror}", 2)
+        return fail(f"{words.token}: {fault.strerror}", 2)
     if token is not None and len(token) < LEAST_TOKEN_BYTES:
-        return failed(f"{words.token}: a token has at least {LEAST_TOKEN_BYTES} bytes: 'openssl rand -hex 32' prints one", 2)
+        return fail(f"{words.token}: a token has at least {LEAST_TOKEN_BYTES} bytes: 'openssl rand -hex 32' prints one", 2)
     if token is None and not is_loopback(words.host):
-        return failed(f"{words.host} can be reached by others: --token FILE is wanted", 2)
+        return fail(f"{words.host} can be reached by others: --token FILE is wanted", 2)
     limits = Limits(words.most_body, words.most_waiting, words.most_held, words.client_seconds)
     if limits.held < limits.body:
-        return failed(f"--most-held is at least --most-body, which is {limits.body:,}", 2)
+        return fail(f"--most-held is at least --most-body, which is {limits.body:,}", 2)
     try:
         return asyncio.run(serve(Service(words.path, limits, token, words.read_only), words.host, words.port))
     except Exception as fault:
-        return failed(str(fault) or type(fault).__name__, 1)
+        return fail(str(fault) or type(fault).__name__, 1)
 
 
-def failed(reason: str, status: int) -> int:
+def fail(reason: str, status: int) -> int:
     print(f"betable serve: {reason}", file=sys.stderr)
     return status
 
