@@ -13,7 +13,14 @@
 
 The library is libbt_c.so, in the folder that BETABLE_LIBRARY names, beside this package, or in out/ of the repository, where bin/build_c builds it.
 docs/SCRIPT.md has the language, and docs/C.md the calls and their errors.
+
+Layers over sessions have the same calls: `open` gives a table that is kept on disk (docs/DURABLE.md), `Replicas` and `Sharded` one on several machines
+(docs/CLUSTER.md), and `python3 -m betable serve` serves one by HTTP (docs/SERVICE.md). They are imported when they are first used.
 """
+
+from importlib import import_module
+from typing import TYPE_CHECKING, Any
+
 
 from .calls import MOST_MESSAGES, Calls
 from .errors import OutOfMemory, Refused, RowError, RowTypeError, RowValueError
@@ -21,21 +28,66 @@ from .messages import OPERATIONS, Message, delete, field, put, record, upsert
 from .replies import Reply
 from .session import Session
 
+if TYPE_CHECKING:
+    from .durable import Corrupt, Durable, InDoubt, IndexBuilding, InUse, NewerFormat, NotATable, RequestReused, RolledBack, open
+    from .logs import Unreachable
+    from .replicas import Diverged, Replicas, ReplyForgotten, Unanswered
+    from .sharded import NotSharded, Sharded, ShardLost
+    from .shards import DaskShard, LocalShard, ProcessShard, ShardEnded
+
+# The names of the layers, by their modules.
+_LAYERS = {
+    "durable": ("Corrupt", "Durable", "InDoubt", "IndexBuilding", "InUse", "NewerFormat", "NotATable", "RequestReused", "RolledBack", "open"),
+    "logs": ("Unreachable",),
+    "replicas": ("Diverged", "Replicas", "ReplyForgotten", "Unanswered"),
+    "sharded": ("NotSharded", "Sharded", "ShardLost"),
+    "shards": ("DaskShard", "LocalShard", "ProcessShard", "ShardEnded"),
+}
+
+# Without `open`, which would hide that of Python.
 __all__ = [
     "MOST_MESSAGES",
     "OPERATIONS",
     "Calls",
+    "Corrupt",
+    "DaskShard",
+    "Diverged",
+    "Durable",
+    "InDoubt",
+    "InUse",
+    "IndexBuilding",
+    "LocalShard",
     "Message",
+    "NewerFormat",
+    "NotATable",
+    "NotSharded",
     "OutOfMemory",
+    "ProcessShard",
     "Refused",
+    "Replicas",
     "Reply",
+    "ReplyForgotten",
+    "RequestReused",
+    "RolledBack",
     "RowError",
     "RowTypeError",
     "RowValueError",
     "Session",
+    "ShardEnded",
+    "ShardLost",
+    "Sharded",
+    "Unanswered",
+    "Unreachable",
     "delete",
     "field",
     "put",
     "record",
     "upsert",
 ]
+
+
+def __getattr__(name: str) -> Any:
+    for module, names in _LAYERS.items():
+        if name in names:
+            return getattr(import_module(f".{module}", __name__), name)
+    raise AttributeError(f"module {__name__!r} has no attribute {name!r}")
