@@ -189,7 +189,7 @@ class Service:
         if self.token is not None:
             scheme, _, given = request.headers.get("Authorization", "").partition(" ")
             if scheme.lower() != "bearer" or not hmac.compare_digest(given.strip().encode("utf-8", "surrogateescape"), self.token):
-                raise Problem(401, "this server wants its token: 'Authorization: Bearer TOKEN'", {"WWW-Authenticate": "Bearer"})
+                raise Problem(401, "this server needs its token: 'Authorization: Bearer TOKEN'", {"WWW-Authenticate": "Bearer"})
             return
         origin, site = request.headers.get("Origin"), request.headers.get("Sec-Fetch-Site", "none")
         if not is_loopback(host_name(request.host)):
@@ -340,7 +340,7 @@ class Service:
     async def get_sums(self, request: web.Request) -> web.StreamResponse:
         query = query_of(request, "columns", "of", "from", "to", "limit", "format")
         if "of" not in query:
-            raise Problem(400, "'of' names the column whose sum is wanted")
+            raise Problem(400, "'of' names the column whose sum is asked for")
         head = f"sums {tree_of(request)} {number_of(query, 'columns', 1)} {checked_name(query['of'][0])}\n"
         return await self.rows(request, f"{head}{bounds_of(query)}go\n", query)
 
@@ -651,7 +651,7 @@ def add_words(parser: argparse.ArgumentParser) -> None:
     """The words of `python3 -m betable serve`."""
     limits = Limits()
     parser.add_argument("path", metavar="PATH", help="the file of the table, which is made if there is none")
-    parser.add_argument("--host", default="127.0.0.1", help="the address that is listened on (%(default)s); any other than a loopback one wants --token")
+    parser.add_argument("--host", default="127.0.0.1", help="the address that is listened on (%(default)s); any other than a loopback one needs --token")
     parser.add_argument("--port", metavar="N", type=int, default=8470, help="the port (%(default)s); with 0 one that is free")
     parser.add_argument("--token", metavar="FILE", type=Path, help=f"a file whose first line, of at least {LEAST_TOKEN_BYTES} bytes, each request has to have")
     parser.add_argument("--read-only", action="store_true", help="refuses what would change the table")
@@ -670,7 +670,7 @@ def run(words: argparse.Namespace) -> int:
     if token is not None and len(token) < LEAST_TOKEN_BYTES:
         return fail(f"{words.token}: a token has at least {LEAST_TOKEN_BYTES} bytes: 'openssl rand -hex 32' prints one", 2)
     if token is None and not is_loopback(words.host):
-        return fail(f"{words.host} can be reached by others: --token FILE is wanted", 2)
+        return fail(f"{words.host} can be reached by others: it needs --token FILE", 2)
     limits = Limits(words.most_body, words.most_waiting, words.most_held, words.client_seconds)
     if limits.held < limits.body:
         return fail(f"--most-held is at least --most-body, which is {limits.body:,}", 2)
