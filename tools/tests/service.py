@@ -702,7 +702,19 @@ def quick_start_of_the_document_runs():
     expect((ended.returncode, ended.stdout), (0, printed.replace("8470", port)))
 
 
+def endpoints_and_statuses_of_the_document_are_those_of_the_server():
+    code = (TOP / "clients/python/betable/serve.py").read_text(encoding="utf-8")
+    text = (TOP / "docs/SERVICE.md").read_text(encoding="utf-8")
+    routes = {(method.upper(), path.replace("{tree}", "TREE")) for method, path in re.findall(r'web\.(get|post)\("([^"]+)"', code)}
+    expect({tuple(found) for found in re.findall(r"^\| `(GET|POST) ([^`?]+)", text, re.MULTILINE)}, routes)
+    statuses = {*re.findall(r"Problem\((\d{3})", code), *re.findall(r"\b(4\d\d|5\d\d) if", code), *re.findall(r": (4\d\d|5\d\d)[,}]", code), "507", "405"}
+    expect({status for line in re.findall(r"^\| (\d{3}(?:, \d{3})*) \|", text, re.MULTILINE) for status in line.split(", ")}, statuses)
+    options = set(re.findall(r'add_argument\("(--[a-z-]+)"', code))
+    expect(set(re.findall(r"`(--[a-z-]+)", text)) - {"--help"}, options - {"--port"})
+
+
 TESTS_OF_TEXTS = [
+    endpoints_and_statuses_of_the_document_are_those_of_the_server,
     scripts_have_the_replies_of_a_session,
     replies_come_as_json_with_their_commands,
     rows_go_in_and_come_out,
