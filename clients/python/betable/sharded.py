@@ -25,7 +25,7 @@ from typing import NamedTuple
 from .calls import Calls, as_script, note
 from .errors import OutOfMemory
 from .forms import words_of
-from .language import ANSWERS, KINDS, MARK, MOST_MESSAGES, PRIMARY, Command, Line, State, Table, commands, counted, fields, logical_lines
+from .language import ANSWERS, KINDS, MARK, MOST_MESSAGES, PRIMARY, Command, State, Table, commands, counted, fields, logical_lines
 from .rows import FIELDS, Value
 from .shards import Shard
 
@@ -241,25 +241,25 @@ class Sharded(Calls):
     # ---- keys ----
 
     def _shard_of(self, table: Table, values: Sequence[bytes]) -> int:
-        """The shard that has a key, given by its first fields. What is no key is refused by any shard."""
+        """The shard of the key that these fields begin with. What is no key is refused by any shard."""
         try:
             return bisect_right(self._bounds, key_of(table.key, values))
         except ValueError:
             return 0
 
-    def _shard_of_record(self, table: Table, rest: bytes | None) -> int:
-        """The shard of the key with which the record begins that ends a line."""
-        return self._shard_of(table, fields((rest or b"").removeprefix(MARK))[: table.key_length])
+    def _shard_of_line(self, table: Table, line: bytes) -> int:
+        """The shard of the key with which the record of a line begins."""
+        return self._shard_of(table, fields(record_of(line)))
 
     def _get(self, table: Table, command: Command) -> bytes:
-        return self._of_one(command, self._shard_of_record(table, command.head.rest))
+        return self._of_one(command, self._shard_of_line(table, command.head.raw))
 
     def _shards_of_lines(self, table: Table, lines: list[bytes]) -> list[int]:
         """The shard of each line of a batch."""
         if not self._bounds:
             return [0] * len(lines)
         if [kind for _, kind in table.key] != [b"int"]:
-            return [self._shard_of_record(table, Line(0, line).rest) for line in lines]
+            return [self._shard_of_line(table, line) for line in lines]
         bounds, found = [bound[0] for bound in self._bounds], []
         for line in lines:
             end = line.find(b",")
@@ -267,7 +267,7 @@ class Sharded(Calls):
                 # What Python reads as an int and is none, as ` 1`, is refused by any shard.
                 found.append(bisect_right(bounds, int(line[4:end] if end >= 0 else line[4:])))
             except ValueError:
-                found.append(self._shard_of_record(table, Line(0, line).rest))
+                found.append(self._shard_of_line(table, line))
         return found
 
     # ---- batches and loads ----
@@ -332,7 +332,7 @@ class Sharded(Calls):
         if words_of(command.head) != [b"load"]:
             return self._of_one(command)
         header, *records = [raw for _, raw in command.records()] or [b""]
-        places = [self._shard_of(table, fields(record)[: table.key_length]) for record in records]
+        places = [self._shard_of(table, fields(record)) for record in records]
         # Carriage returns before the records: no record is a line by itself, which might close the block, and no byte order mark is at the start.
         parts = {shard: [b"", header] for shard in self._all}
         for shard, record in zip(places, records):
@@ -369,7 +369,7 @@ class Sharded(Calls):
         first, last = 0, len(self._bounds)
         try:
             for line in lines:
-                key = key_of(table.key, fields((line.rest or b"").removeprefix(MARK)))
+                key = key_of(table.key, fields(record_of(line.raw)))
                 if line.word == b"from":
                     first = bisect_right(self._bounds, key)
                 else:
@@ -475,6 +475,11 @@ def script_of(command: Command) -> bytes:
     """A command as a script of its own."""
     closing = command.closing + b"\n" if command.closing and command.is_closed else b""
     return b"%b\n%b%b" % (command.head.raw, command.block, closing)
+
+
+def record_of(line: bytes) -> bytes:
+    """The record of a line, after its first word and one space."""
+    return line.removesuffix(b"\r").lstrip(b" ").partition(b" ")[2].removeprefix(MARK)
 
 
 def second_word(command: Command) -> bytes:
