@@ -44,7 +44,9 @@ LARGEST_IDLE_LOG = 1 << 24  # bytes that SQLite's own log keeps on disk when it 
 
 CHANGING = {b"table", b"load", b"batch", b"index", b"build", b"drop", b"drain", b"rebuild"}
 DEFINING = {b"table", b"index", b"build", b"drop"}
-# How the reply begins to a command that changes and is not refused.
+# A line of a script that may begin a command which changes, how the reply to one begins that is not refused, and how that to one may begin which defines.
+CHANGING_LINE = re.compile(rb"^ *(?:%b)" % b"|".join(sorted(CHANGING)), re.MULTILINE)
+DEFINED = re.compile(rb"^(?:%b)" % b"|".join(sorted(DEFINING)), re.MULTILINE)
 CHANGED = re.compile(rb"^(?:table|loaded|batch|index|build|dropped|drained|rebuilt) ", re.MULTILINE)
 REFUSED = re.compile(rb"^refused ", re.MULTILINE)
 
@@ -231,7 +233,7 @@ class Durable(Calls):
             replies = session.replies(text)
             if REFUSED.search(replies):
                 raise Corrupt(self.path, 0, f"it was refused, so open it with engine {engine} (this is {ENGINE}): {replies.decode()}")
-            self._take(text[: text.index(b"\nload\n") + 1], replies)
+            self._note(text[: text.index(b"\nload\n") + 1], replies)
         self._log_bytes = 0
         count = (_value(self._db, "SELECT max(number) FROM log") or self._number) - self._number
         # A cursor that is left open would keep the file locked.
@@ -242,18 +244,16 @@ class Durable(Calls):
                 replies = session.replies(script)
                 if _checksum(script, replies) != checksum:
                     raise Corrupt(self.path, number, _advice(engine))
-                self._take(script, replies)
+                self._note(script, replies)
                 self._number, self._log_bytes = number, self._log_bytes + len(script)
         if engine != ENGINE:
             self._db.execute("UPDATE about SET engine = ?", (ENGINE,))
 
-    def _take(self, script: bytes, replies: bytes) -> set[bytes]:
-        """The first words of the commands of a script that was run. What they define is noted."""
-        words = {command.head.word for command in commands(script)}
-        if words & DEFINING:
+    def _note(self, script: bytes, replies: bytes) -> None:
+        """Notes what a script has defined."""
+        if DEFINED.search(replies):
             for command, reply in answered(commands(script), replies):
                 note(self._state, command, reply)
-        return words
 
     # ---- scripts ----
 
@@ -291,12 +291,13 @@ class Durable(Calls):
 
     def _run(self, script: bytes) -> bytes:
         replies = self._ready().replies(script)
-        words = self._take(script, replies)
-        if words & CHANGING and CHANGED.search(replies):
+        # A script that only reads may print rows which look like other replies.
+        if CHANGING_LINE.search(script) and CHANGED.search(replies):
             self._begin()
             self._is_changed = True
             self._number, self._log_bytes = self._number + 1, self._log_bytes + len(script)
             self._db.execute("INSERT INTO log VALUES(?, ?, ?)", (self._number, script, _checksum(script, replies)))
+            self._note(script, replies)
         return replies
 
     # ---- groups ----
