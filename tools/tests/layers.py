@@ -89,7 +89,8 @@ def odd_texts_are_in_their_shards():
     for table_line, bounds, script in [
         ("table 4 3 2 1 k:text\n", ["b"], 'load\nk\r.\rc\r"b\n"\r\n"b\r.\rc"\na\n.\nscan primary\ngo\n'),
         (TABLE, [5], "".join(f"batch{head}\n{line}\nput 1,a,1\nput 9,b,1\nend\n" for head, line in [(" \t", ""), ("\t", ""), ("  ", "\r\r"), ("", " \r")])),
-        (TABLE, [5], "load \t\nid,city,qty\n1,a,1\n.\nscan primary \t\ngo\nindex q on qty\nbuild q \t 1\nbuild q 1 \r\nget 1\t\ndrop q\x0b\nsums primary 1\tid\ngo\n"),
+        (TABLE, [5], "image primary \t\nimage primary\t\nload \t\nid,city,qty\n1,a,1\n.\nscan primary \t\ngo\nsums primary 1\tid\ngo\n"),
+        (TABLE, [5], "index q on qty\nbuild q \t 1\nbuild q 1 \r\nget 1\t\ndrop q\x0b\nscan q\ngo\n"),
         ("table 4 3 2 1 k:text w:text\n", ["b"], 'load\n\nk,w\na,1\rc,"open\n.\nscan primary\ngo\n'),
         ("table 4 3 2 1 k:text w:text\n", ["b"], 'load\n\n\ufeffk,w\na,1\rc,2\n.\nload\n\ufeffk,w\na,1\nc,2\n.\nget \ufeffc\nget \ufeff\ufeffc\n'),
         (TABLE, [5], f"batch\nput {'0' * 5_000}7,a,1\nput -{'0' * 5_000}7,b,2\n put \"6\",c,3\nput \ufeff8,d,4\nend\nscan primary\nto {'0' * 5_000}7\ngo\n"),

@@ -24,7 +24,7 @@ from functools import partial
 from typing import Any, Literal, NamedTuple, TypeVar
 
 from .calls import Calls, as_script, note
-from .durable import CHANGING, DEFINING, REFUSED, IndexBuilding, RequestReused, Runner, _records
+from .durable import CHANGING_LINE, DEFINED, REFUSED, IndexBuilding, RequestReused, Runner, _records
 from .language import PRIMARY, State, commands
 from .logs import LONGEST_WAIT, Entry, Log, Unreachable, log_of
 from .replies import answered
@@ -161,7 +161,7 @@ class Replicas(Calls):
     def replies(self, script: str | bytes) -> bytes:
         """The bytes of the replies to a script, which goes into the log if it may change the table."""
         text = as_script(script)
-        if any(command.head.word in CHANGING for command in commands(text)):
+        if CHANGING_LINE.search(text):
             return self.once(uuid.uuid4().hex, text)
         self._see()
         return self._kept(lambda runner: runner.replies(text))
@@ -338,6 +338,6 @@ class Replicas(Calls):
 
     def _note(self, script: bytes, replies: bytes) -> None:
         """Takes what a script defines into the state."""
-        if any(command.head.word in DEFINING for command in commands(script)):
+        if DEFINED.search(replies):
             for command, reply in answered(commands(script), replies):
                 note(self._state, command, reply)
