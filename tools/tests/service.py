@@ -384,6 +384,7 @@ def bad_requests_are_told_and_change_nothing():
             if part is not None and method != "HEAD":
                 said = json.loads(answer)
                 expect((path, said["status"], given["Content-Type"]), (path, wanted, "application/json; charset=utf-8"))
+                expect((path, "line" in said), (path, method == "POST" and path == "/rows" and ("item" in said or status == 400)))
                 expect_within(part, said["reason"])
             if status == 405:
                 expect((path, bool(given["Allow"])), (path, True))
@@ -703,7 +704,8 @@ def quick_start_of_the_document_runs():
 
 
 def endpoints_and_statuses_of_the_document_are_those_of_the_server():
-    code = (TOP / "clients/python/betable/serve.py").read_text(encoding="utf-8")
+    package = TOP / "clients/python/betable"
+    code = "".join((package / name).read_text(encoding="utf-8") for name in ("serve.py", "http_requests.py", "http_answers.py"))
     text = (TOP / "docs/SERVICE.md").read_text(encoding="utf-8")
     routes = {(method.upper(), path.replace("{tree}", "TREE")) for method, path in re.findall(r'web\.(get|post)\("([^"]+)"', code)}
     expect({tuple(found) for found in re.findall(r"^\| `(GET|POST) ([^`?]+)", text, re.MULTILINE)}, routes)

@@ -8,50 +8,40 @@ from __future__ import annotations
 
 import argparse
 import asyncio
-import base64
-import hashlib
 import hmac
-import ipaddress
 import json
-import re
 import signal
 import sys
 import time
 import traceback
 from collections.abc import Awaitable, Callable, Iterator
 from contextlib import contextmanager
-from itertools import islice
 from pathlib import Path
 from typing import Any, NamedTuple
-from urllib.parse import parse_qsl
 
 from aiohttp import web
 from prometheus_client import CollectorRegistry, Counter, Gauge, Histogram, ProcessCollector, generate_latest
 
-from .calls import copied, note, refusal
-from .durable import CHANGING, FAULTS, IndexBuilding, RequestReused
+from .calls import refusal
+from .durable import FAULTS
 from .engine import ALL_ROWS, Answer, Closed, Engine, Lost, Result, Work
 from .errors import Refused
-from .figures import picture
-from .forms import name_fault
-from .language import MOST_SCRIPT_BYTES, NUMBER, PRIMARY, State, broken_quotes_of_lines, commands
-from .messages import record
-from .replies import answered, whole_lines
-from .rows import rows_of
-from .trees import KeyColumns, image_of
+from .http_answers import (
+    BLOCK_BYTES, content_policy, csv_rows, event_of, json_rows, picture_of, refusal_of_rows, refused_count, replies_with_commands, start_event, trees_of,
+)  # fmt: skip
+from .http_requests import (
+    Problem, batch_of, bounds_of, changing_word, checked_name, host_name, is_json, is_loopback, number_of, problem_of, query_of, record_of, request_id, tree_of,
+)  # fmt: skip
+from .language import MOST_SCRIPT_BYTES, State, commands
 
 Handler = Callable[[web.Request], Awaitable[web.StreamResponse]]
-BLOCK_BYTES = 65_536  # of a reply that are written at once
 MOST_IMAGE_BYTES = 1 << 20  # of a tree that is drawn
-MOST_EVENTS, MOST_WATCHERS, MOST_CHANGES = 256, 64, 100  # that wait for a reader; readers; replies in an event
+MOST_EVENTS, MOST_WATCHERS = 256, 64  # that wait for a reader; readers
 EVENT_SECONDS = 15  # after which a reader of events gets a comment, so that proxies keep the connection
 LEAST_TOKEN_BYTES = 16
-REQUEST_ID = re.compile(r"[!-~]{1,200}")
 BODY_TYPES = ("text/", "application/octet-stream", "application/x-www-form-urlencoded")
-# The statuses of refusals outside of /run, by their numbers; of the others it is 422.
-STATUSES = {3: 409, 8: 404, 11: 409, 18: 503}
-BLANK_LINES = re.compile(rb"^\r?\n|\n\r?\n")
 SECONDS = (0.0003, 0.001, 0.003, 0.01, 0.03, 0.1, 0.3, 1, 3, 10, 30)
+COMMON_HEADERS = {"Cache-Control": "no-store", "X-Content-Type-Options": "nosniff"}
 
 
 class Limits(NamedTuple):
@@ -61,31 +51,6 @@ class Limits(NamedTuple):
     waiting: int = 1_024
     held: int = 256 << 20
     seconds: float = 60
-
-
-class Problem(Exception):
-    """An answer that is no success: its status, the reason, further fields, and headers."""
-
-    def __init__(self, status: int, reason: str, headers: dict[str, str] | None = None, **fields: Any) -> None:
-        super().__init__(reason)
-        self.status, self.headers, self.fields = status, headers or {}, {"status": status, "reason": reason, **fields}
-
-
-def problem_of(fault: Exception) -> Problem:
-    """The problem that a fault of the engine is to a client."""
-    if isinstance(fault, Refused):
-        return Problem(STATUSES.get(fault.number, 422), fault.reason or str(fault), **refusal_fields(fault))
-    if isinstance(fault, Lost):
-        reason = "the engine's process ended before it had answered: the script was kept or it was not. Send it again with the same Idempotency-Key"
-        return Problem(503, reason, {"Retry-After": "1"})
-    if isinstance(fault, Closed):
-        return Problem(503, "the engine is starting: nothing was done, so try again", {"Retry-After": "1"})
-    return Problem(409 if isinstance(fault, IndexBuilding) else 422 if isinstance(fault, RequestReused) else 507, str(fault))
-
-
-def refusal_fields(fault: Refused) -> dict[str, Any]:
-    fields = {"number": fault.number, "name": fault.name, "line": fault.line, "item": fault.item, "column": fault.column, "value": fault.value}
-    return {name: value for name, value in fields.items() if value is not None}
 
 
 class Metrics:
@@ -412,113 +377,15 @@ class Service:
         return web.Response(text=self.page, content_type="text/html", headers={**COMMON_HEADERS, "Content-Security-Policy": content_policy(self.page)})
 
 
-async def in_thread_if_large(size: int, function: Callable[..., Any], *arguments: Any) -> Any:
-    """The result of a function on so many bytes: if they are many it runs in a thread, so that other requests get their turn."""
-    return await asyncio.to_thread(function, *arguments) if size > BLOCK_BYTES else function(*arguments)
-
-
-# ---- requests ----
-
-
 def abort(request: web.Request) -> None:
     """Cuts off a client that was not sent all of its answer."""
     if request.transport is not None:
         request.transport.abort()
 
 
-def query_of(request: web.Request, *names: str) -> dict[str, list[str]]:
-    """The parameters of a request, each with its values in order."""
-    try:
-        pairs = parse_qsl(request.rel_url.raw_query_string, keep_blank_values=True, strict_parsing=True, errors="strict", max_num_fields=64)
-    except ValueError as fault:
-        if not request.rel_url.raw_query_string:
-            return {}
-        raise Problem(400, f"the query cannot be read: {fault}") from None
-    found: dict[str, list[str]] = {}
-    for name, value in pairs:
-        if name not in names:
-            raise Problem(400, f"'{name[:40]}' is no parameter here: there are {', '.join(names)}")
-        found.setdefault(name, []).append(value)
-    return found
-
-
-def number_of(query: dict[str, list[str]], name: str, otherwise: int) -> int:
-    if name not in query:
-        return otherwise
-    word = query[name][0]
-    if not NUMBER.fullmatch(word.encode("utf-8", "replace")) or int(word) == 0:
-        raise Problem(400, f"'{name}' is a number of 1 to 9 digits, and not 0")
-    return int(word)
-
-
-def checked_name(word: str) -> str:
-    """A name of a tree or a column, which may be put into a command."""
-    if reason := name_fault(word.encode("utf-8", "replace")):
-        raise Problem(400, reason)
-    return word
-
-
-def tree_of(request: web.Request) -> str:
-    return checked_name(request.match_info["tree"])
-
-
-def record_of(name: str, values: list[str]) -> str:
-    try:
-        return record(values)
-    except ValueError as fault:
-        raise Problem(400, f"'{name}': {fault}") from None
-
-
-def bounds_of(query: dict[str, list[str]]) -> str:
-    """The lines of a block that bound a range: a parameter has a value for each column."""
-    return "".join(f"{word} {record_of(word, query[word])}\n" for word in ("from", "to") if word in query)
-
-
-def request_id(request: web.Request) -> str | None:
-    """The id under which a script is run exactly once, or None."""
-    given = request.headers.get("Idempotency-Key")
-    if given is not None and not REQUEST_ID.fullmatch(given):
-        raise Problem(400, "an Idempotency-Key has 1 to 200 visible letters of ASCII")
-    return given
-
-
-def is_json(request: web.Request, wanted: str) -> bool:
-    if wanted not in ("", "csv", "json"):
-        raise Problem(400, "'format' is csv or json")
-    return wanted == "json" or (not wanted and "application/json" in request.headers.get("Accept", ""))
-
-
-def host_name(host: str) -> str:
-    """The name in a Host header, without its port."""
-    return host[1 : host.find("]")] if host.startswith("[") else host.partition(":")[0]
-
-
-def is_loopback(name: str) -> bool:
-    try:
-        return name == "localhost" or ipaddress.ip_address(name).is_loopback
-    except ValueError:
-        return False
-
-
-def batch_of(body: bytes) -> bytes:
-    """The script of one batch that puts the rows of CSV lines. Line N of the body is line N + 1 of the script."""
-    if BLANK_LINES.search(body):
-        lines = re.sub(rb"^(?=.)(?!\r$)", b"put ", body, flags=re.MULTILINE)
-    else:
-        lines = b"put " + body.removesuffix(b"\n").replace(b"\n", b"\nput ") if body else b""
-    if b'"' in body and (broken := next(broken_quotes_of_lines(lines, 1), None)):
-        raise Problem(400, f"{broken} A row is one line here: a text with a line break comes in by a load", line=broken.first)
-    return b"batch\n" + lines.removesuffix(b"\n") + b"\nend\n"
-
-
-def changing_word(script: bytes) -> str | None:
-    """The first word of a script's commands that changes the table, or None."""
-    return next((command.head.word.decode() for command in commands(script) if command.head.word in CHANGING), None)
-
-
-# ---- answers ----
-
-COMMON_HEADERS = {"Cache-Control": "no-store", "X-Content-Type-Options": "nosniff"}
+async def in_thread_if_large(size: int, function: Callable[..., Any], *arguments: Any) -> Any:
+    """The result of a function on so many bytes: if they are many it runs in a thread, so that other requests get their turn."""
+    return await asyncio.to_thread(function, *arguments) if size > BLOCK_BYTES else function(*arguments)
 
 
 def json_response(found: Any, headers: dict[str, str] | None = None, status: int = 200) -> web.Response:
@@ -528,120 +395,6 @@ def json_response(found: Any, headers: dict[str, str] | None = None, status: int
 
 def response_of(problem: Problem) -> web.Response:
     return json_response(problem.fields, problem.headers, problem.status)
-
-
-def content_policy(page: str) -> str:
-    """The policy of the page: its own script and style, this server, and nothing else."""
-    script, style = (re.search(f"<{tag}>(.*?)</{tag}>", page, re.DOTALL) for tag in ("script", "style"))
-    hashes = [base64.b64encode(hashlib.sha256(part[1].encode()).digest()).decode() if part else "" for part in (script, style)]
-    return f"default-src 'none'; script-src 'sha256-{hashes[0]}'; style-src 'sha256-{hashes[1]}'; img-src blob:; connect-src 'self'; frame-ancestors 'none'"
-
-
-def refused_count(script: bytes, replies: bytes) -> int:
-    if b"refused " not in replies:
-        return 0
-    return sum(reply.startswith(b"refused ") for _, reply in answered(commands(script), replies))
-
-
-def replies_with_commands(script: bytes, replies: bytes, state: State) -> list[dict[str, Any]]:
-    """Each reply with its command: the lines of the reply, or the refusal."""
-    state, found = copied(state), []
-    for command, reply in answered(commands(script), replies):
-        said: dict[str, Any] = {"line": command.head.number, "command": command.head.word.decode(errors="replace")}
-        if reply.startswith(b"refused "):
-            fault = refusal(command, reply, state, [])
-            said["refused"] = {**refusal_fields(fault), "reason": fault.reason}
-        else:
-            said["reply"] = whole_lines(reply[:-1].decode(), "\n")
-        note(state, command, reply)
-        found.append(said)
-    return found
-
-
-def refusal_of_rows(script: bytes, replies: bytes, state: State) -> Problem:
-    """The problem of a batch that was refused: `line` is the line of the body."""
-    command = next(commands(script))
-    fault = refusal(command, replies, state, [])
-    problem = problem_of(fault)
-    if fault.item is not None:
-        problem.fields["line"] = command.messages()[fault.item - 1].number - 1
-    return problem
-
-
-def start_event(number: int) -> str:
-    """The event that the engine was started, or that a reader has come: the number of the last script that is kept."""
-    return f"id: {number}\nevent: start\ndata: {json.dumps({'number': number})}\n\n"
-
-
-def event_of(script: bytes, answer: Answer) -> str:
-    """The event that a script was kept: its number, and the replies to those of its commands that changed the table, as far as an event has them."""
-    with_replies = answered(commands(script), answer.replies)
-    changes = (reply for command, reply in with_replies if command.head.word in CHANGING and not reply.startswith(b"refused "))
-    found = [reply[:-1].decode() for reply in islice(changes, MOST_CHANGES + 1)]
-    said = {"number": answer.number, "replies": found[:MOST_CHANGES], "more": len(found) > MOST_CHANGES}
-    return f"id: {answer.number}\ndata: {json.dumps(said)}\n\n"
-
-
-def line_blocks(replies: bytes) -> Iterator[list[str]]:
-    """The lines of a reply to a `scan` or to `sums` that have rows or groups, in blocks, without the words before the records."""
-    at, last = 0, replies.rfind(b"\n", 0, -1) + 1
-    while at < last:
-        end = replies.find(b"\n", min(at + BLOCK_BYTES, last - 1), last) + 1 or last
-        while end < last and replies.count(b'"', at, end) % 2:
-            end = replies.find(b"\n", end, last) + 1 or last
-        yield [line[4:] for line in whole_lines(replies[at : end - 1].decode(), "\n")]
-        at = end
-
-
-def csv_rows(answer: Answer, is_sums: bool) -> Iterator[bytes]:
-    """Rows as CSV. A group is its count, its sum, and the values that it is of."""
-    for lines in line_blocks(answer.replies):
-        if is_sums:
-            lines = [line.replace(" ", ",", 2) for line in lines]
-        yield "".join(line + "\n" for line in lines).encode()
-
-
-def json_rows(answer: Answer, is_sums: bool) -> Iterator[bytes]:
-    """Rows as JSON. Bytes are in hexadecimal digits, as in a script."""
-    kinds = tuple(kind for _, kind in answer.columns)
-    names = (["count", "sum"] if is_sums else []) + [name for name, _ in answer.columns]
-    yield f'{{"columns": {json.dumps(names)}, "more": {json.dumps(answer.is_cut)}, "rows": ['.encode()
-    comma = ""
-    for lines in line_blocks(answer.replies):
-        counts: list[list[int]] = [[] for _ in lines]
-        if is_sums:
-            groups = [line.split(" ", 2) for line in lines]
-            counts, lines = [[int(count), int(total)] for count, total, _ in groups], [values for _, _, values in groups]
-        rows = ([*count, *(value.hex() if isinstance(value, bytes) else value for value in row)] for count, row in zip(counts, rows_of(lines, kinds)))
-        yield (comma + ",\n".join(json.dumps(row, ensure_ascii=False) for row in rows)).encode()
-        comma = ",\n"
-    yield b"]}\n"
-
-
-def trees_of(state: State) -> dict[str, Any]:
-    """The table as JSON: its columns, and its trees with the columns of their rows and of their keys."""
-    table = state.table
-    if table is None:
-        return {"columns": [], "key": [], "trees": {}}
-
-    def names(columns: list[tuple[bytes, bytes]]) -> list[str]:
-        return [name.decode() for name, _ in columns]
-
-    trees = {}
-    for name in (PRIMARY, *table.indexes):
-        is_complete = name == PRIMARY or table.indexes[name].is_complete
-        trees[name.decode()] = {"columns": names(table.columns_of(name)), "key": names(table.key_of(name)), "complete": is_complete}
-    return {"columns": [{"name": name.decode(), "kind": kind.decode()} for name, kind in table.columns], "key": names(table.key), "trees": trees}
-
-
-def picture_of(replies: bytes, tree: str, state: State, columns: int, lines: int) -> str:
-    """The picture of the image of a tree. Its keys are shown as their values."""
-    key_columns, table = None, state.table
-    if table is not None and table.has_tree(tree.encode()):
-        key = table.key_of(tree.encode())
-        key_columns = KeyColumns([kind.decode() for _, kind in key], [name.decode() for name, _ in key])
-    image = image_of(iter(whole_lines(replies[:-1].decode(), "\n")), 1, "", key_columns)
-    return picture([image], columns, lines, [image.title()])
 
 
 # ---- the command ----

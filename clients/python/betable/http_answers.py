@@ -1,0 +1,138 @@
+"""Answers of the server: replies of the engine as CSV, as JSON, as events and as pictures."""
+
+from __future__ import annotations
+
+import base64
+import hashlib
+import json
+import re
+from collections.abc import Iterator
+from itertools import islice
+from typing import Any
+
+from .calls import copied, note, refusal
+from .durable import CHANGING
+from .engine import Answer
+from .figures import picture
+from .http_requests import Problem, problem_of, refusal_fields
+from .language import PRIMARY, State, commands
+from .replies import answered, whole_lines
+from .rows import rows_of
+from .trees import KeyColumns, image_of
+
+BLOCK_BYTES = 65_536  # of a reply that are written at once
+MOST_CHANGES = 100  # replies in an event
+
+
+def content_policy(page: str) -> str:
+    """The policy of the page: its own script and style, this server, and nothing else."""
+    script, style = (re.search(f"<{tag}>(.*?)</{tag}>", page, re.DOTALL) for tag in ("script", "style"))
+    hashes = [base64.b64encode(hashlib.sha256(part[1].encode()).digest()).decode() if part else "" for part in (script, style)]
+    return f"default-src 'none'; script-src 'sha256-{hashes[0]}'; style-src 'sha256-{hashes[1]}'; img-src blob:; connect-src 'self'; frame-ancestors 'none'"
+
+
+def refused_count(script: bytes, replies: bytes) -> int:
+    if b"refused " not in replies:
+        return 0
+    return sum(reply.startswith(b"refused ") for _, reply in answered(commands(script), replies))
+
+
+def replies_with_commands(script: bytes, replies: bytes, state: State) -> list[dict[str, Any]]:
+    """Each reply with its command: the lines of the reply, or the refusal."""
+    state, found = copied(state), []
+    for command, reply in answered(commands(script), replies):
+        said: dict[str, Any] = {"line": command.head.number, "command": command.head.word.decode(errors="replace")}
+        if reply.startswith(b"refused "):
+            fault = refusal(command, reply, state, [])
+            said["refused"] = {**refusal_fields(fault), "reason": fault.reason}
+        else:
+            said["reply"] = whole_lines(reply[:-1].decode(), "\n")
+        note(state, command, reply)
+        found.append(said)
+    return found
+
+
+def refusal_of_rows(script: bytes, replies: bytes, state: State) -> Problem:
+    """The problem of a batch that was refused: `line` is the line of the body."""
+    command = next(commands(script))
+    fault = refusal(command, replies, state, [])
+    problem = problem_of(fault)
+    if fault.item is not None:
+        problem.fields["line"] = command.messages()[fault.item - 1].number - 1
+    return problem
+
+
+def start_event(number: int) -> str:
+    """The event that the engine was started, or that a reader has come: the number of the last script that is kept."""
+    return f"id: {number}\nevent: start\ndata: {json.dumps({'number': number})}\n\n"
+
+
+def event_of(script: bytes, answer: Answer) -> str:
+    """The event that a script was kept: its number, and the replies to those of its commands that changed the table, as far as an event has them."""
+    with_replies = answered(commands(script), answer.replies)
+    changes = (reply for command, reply in with_replies if command.head.word in CHANGING and not reply.startswith(b"refused "))
+    found = [reply[:-1].decode() for reply in islice(changes, MOST_CHANGES + 1)]
+    said = {"number": answer.number, "replies": found[:MOST_CHANGES], "more": len(found) > MOST_CHANGES}
+    return f"id: {answer.number}\ndata: {json.dumps(said)}\n\n"
+
+
+def line_blocks(replies: bytes) -> Iterator[list[str]]:
+    """The lines of a reply to a `scan` or to `sums` that have rows or groups, in blocks, without the words before the records."""
+    at, last = 0, replies.rfind(b"\n", 0, -1) + 1
+    while at < last:
+        end = replies.find(b"\n", min(at + BLOCK_BYTES, last - 1), last) + 1 or last
+        while end < last and replies.count(b'"', at, end) % 2:
+            end = replies.find(b"\n", end, last) + 1 or last
+        yield [line[4:] for line in whole_lines(replies[at : end - 1].decode(), "\n")]
+        at = end
+
+
+def csv_rows(answer: Answer, is_sums: bool) -> Iterator[bytes]:
+    """Rows as CSV. A group is its count, its sum, and the values that it is of."""
+    for lines in line_blocks(answer.replies):
+        if is_sums:
+            lines = [line.replace(" ", ",", 2) for line in lines]
+        yield "".join(line + "\n" for line in lines).encode()
+
+
+def json_rows(answer: Answer, is_sums: bool) -> Iterator[bytes]:
+    """Rows as JSON. Bytes are in hexadecimal digits, as in a script."""
+    kinds = tuple(kind for _, kind in answer.columns)
+    names = (["count", "sum"] if is_sums else []) + [name for name, _ in answer.columns]
+    yield f'{{"columns": {json.dumps(names)}, "more": {json.dumps(answer.is_cut)}, "rows": ['.encode()
+    comma = ""
+    for lines in line_blocks(answer.replies):
+        counts: list[list[int]] = [[] for _ in lines]
+        if is_sums:
+            groups = [line.split(" ", 2) for line in lines]
+            counts, lines = [[int(count), int(total)] for count, total, _ in groups], [values for _, _, values in groups]
+        rows = ([*count, *(value.hex() if isinstance(value, bytes) else value for value in row)] for count, row in zip(counts, rows_of(lines, kinds)))
+        yield (comma + ",\n".join(json.dumps(row, ensure_ascii=False) for row in rows)).encode()
+        comma = ",\n"
+    yield b"]}\n"
+
+
+def trees_of(state: State) -> dict[str, Any]:
+    """The table as JSON: its columns, and its trees with the columns of their rows and of their keys."""
+    table = state.table
+    if table is None:
+        return {"columns": [], "key": [], "trees": {}}
+
+    def names(columns: list[tuple[bytes, bytes]]) -> list[str]:
+        return [name.decode() for name, _ in columns]
+
+    trees = {}
+    for name in (PRIMARY, *table.indexes):
+        is_complete = name == PRIMARY or table.indexes[name].is_complete
+        trees[name.decode()] = {"columns": names(table.columns_of(name)), "key": names(table.key_of(name)), "complete": is_complete}
+    return {"columns": [{"name": name.decode(), "kind": kind.decode()} for name, kind in table.columns], "key": names(table.key), "trees": trees}
+
+
+def picture_of(replies: bytes, tree: str, state: State, columns: int, lines: int) -> str:
+    """The picture of the image of a tree. Its keys are shown as their values."""
+    key_columns, table = None, state.table
+    if table is not None and table.has_tree(tree.encode()):
+        key = table.key_of(tree.encode())
+        key_columns = KeyColumns([kind.decode() for _, kind in key], [name.decode() for name, _ in key])
+    image = image_of(iter(whole_lines(replies[:-1].decode(), "\n")), 1, "", key_columns)
+    return picture([image], columns, lines, [image.title()])

@@ -1,0 +1,144 @@
+"""Requests of the server: their parameters, names, ids and rows, each checked before it goes into a script. What is wrong is a `Problem`."""
+
+from __future__ import annotations
+
+import ipaddress
+import re
+from typing import Any
+from urllib.parse import parse_qsl
+
+from aiohttp import web
+
+from .durable import CHANGING, IndexBuilding, RequestReused
+from .engine import Closed, Lost
+from .errors import Refused
+from .forms import name_fault
+from .language import NUMBER, broken_quotes_of_lines, commands
+from .messages import record
+
+REQUEST_ID = re.compile(r"[!-~]{1,200}")
+# The statuses of refusals outside of /run, by their numbers; of the others it is 422.
+STATUSES = {3: 409, 8: 404, 11: 409, 18: 503}
+BLANK_LINES = re.compile(rb"^\r?\n|\n\r?\n")
+
+
+# ---- problems ----
+
+
+class Problem(Exception):
+    """An answer that is no success: its status, the reason, further fields, and headers."""
+
+    def __init__(self, status: int, reason: str, headers: dict[str, str] | None = None, **fields: Any) -> None:
+        super().__init__(reason)
+        self.status, self.headers, self.fields = status, headers or {}, {"status": status, "reason": reason, **fields}
+
+
+def problem_of(fault: Exception) -> Problem:
+    """The problem that a fault of the engine is to a client."""
+    if isinstance(fault, Refused):
+        fields = {name: value for name, value in refusal_fields(fault).items() if name != "line"}  # which is that of a script that the client has not sent
+        return Problem(STATUSES.get(fault.number, 422), fault.reason or str(fault), **fields)
+    if isinstance(fault, Lost):
+        reason = "the engine's process ended before it had answered: the script was kept or it was not. Send it again with the same Idempotency-Key"
+        return Problem(503, reason, {"Retry-After": "1"})
+    if isinstance(fault, Closed):
+        return Problem(503, "the engine is starting: nothing was done, so try again", {"Retry-After": "1"})
+    return Problem(409 if isinstance(fault, IndexBuilding) else 422 if isinstance(fault, RequestReused) else 507, str(fault))
+
+
+def refusal_fields(fault: Refused) -> dict[str, Any]:
+    fields = {"number": fault.number, "name": fault.name, "line": fault.line, "item": fault.item, "column": fault.column, "value": fault.value}
+    return {name: value for name, value in fields.items() if value is not None}
+
+
+# ---- parameters ----
+
+
+def query_of(request: web.Request, *names: str) -> dict[str, list[str]]:
+    """The parameters of a request, each with its values in order."""
+    try:
+        pairs = parse_qsl(request.rel_url.raw_query_string, keep_blank_values=True, strict_parsing=True, errors="strict", max_num_fields=64)
+    except ValueError as fault:
+        if not request.rel_url.raw_query_string:
+            return {}
+        raise Problem(400, f"the query cannot be read: {fault}") from None
+    found: dict[str, list[str]] = {}
+    for name, value in pairs:
+        if name not in names:
+            raise Problem(400, f"'{name[:40]}' is no parameter here: there are {', '.join(names)}")
+        found.setdefault(name, []).append(value)
+    return found
+
+
+def number_of(query: dict[str, list[str]], name: str, otherwise: int) -> int:
+    if name not in query:
+        return otherwise
+    word = query[name][0]
+    if not NUMBER.fullmatch(word.encode("utf-8", "replace")) or int(word) == 0:
+        raise Problem(400, f"'{name}' is a number of 1 to 9 digits, and not 0")
+    return int(word)
+
+
+def checked_name(word: str) -> str:
+    """A name of a tree or a column, which may be put into a command."""
+    if reason := name_fault(word.encode("utf-8", "replace")):
+        raise Problem(400, reason)
+    return word
+
+
+def tree_of(request: web.Request) -> str:
+    return checked_name(request.match_info["tree"])
+
+
+def record_of(name: str, values: list[str]) -> str:
+    try:
+        return record(values)
+    except ValueError as fault:
+        raise Problem(400, f"'{name}': {fault}") from None
+
+
+def bounds_of(query: dict[str, list[str]]) -> str:
+    """The lines of a block that bound a range: a parameter has a value for each column."""
+    return "".join(f"{word} {record_of(word, query[word])}\n" for word in ("from", "to") if word in query)
+
+
+def request_id(request: web.Request) -> str | None:
+    """The id under which a script is run exactly once, or None."""
+    given = request.headers.get("Idempotency-Key")
+    if given is not None and not REQUEST_ID.fullmatch(given):
+        raise Problem(400, "an Idempotency-Key has 1 to 200 visible letters of ASCII")
+    return given
+
+
+def is_json(request: web.Request, wanted: str) -> bool:
+    if wanted not in ("", "csv", "json"):
+        raise Problem(400, "'format' is csv or json")
+    return wanted == "json" or (not wanted and "application/json" in request.headers.get("Accept", ""))
+
+
+def host_name(host: str) -> str:
+    """The name in a Host header, without its port."""
+    return host[1 : host.find("]")] if host.startswith("[") else host.partition(":")[0]
+
+
+def is_loopback(name: str) -> bool:
+    try:
+        return name == "localhost" or ipaddress.ip_address(name).is_loopback
+    except ValueError:
+        return False
+
+
+def batch_of(body: bytes) -> bytes:
+    """The script of one batch that puts the rows of CSV lines. Line N of the body is line N + 1 of the script."""
+    if BLANK_LINES.search(body):
+        lines = re.sub(rb"^(?=.)(?!\r$)", b"put ", body, flags=re.MULTILINE)
+    else:
+        lines = b"put " + body.removesuffix(b"\n").replace(b"\n", b"\nput ") if body else b""
+    if b'"' in body and (broken := next(broken_quotes_of_lines(lines, 1), None)):
+        raise Problem(400, f"{broken} A row is one line here: a text with a line break comes in by a load", line=broken.first)
+    return b"batch\n" + lines.removesuffix(b"\n") + b"\nend\n"
+
+
+def changing_word(script: bytes) -> str | None:
+    """The first word of a script's commands that changes the table, or None."""
+    return next((command.head.word.decode() for command in commands(script) if command.head.word in CHANGING), None)
