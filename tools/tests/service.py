@@ -11,6 +11,7 @@ import json
 import os
 import re
 import resource
+import select
 import signal
 import socket
 import subprocess
@@ -627,6 +628,25 @@ def signals_end_it_after_what_came_in():
                 expect(quantities(found), {key: 1 for key in range(20)})
 
 
+@with_aiohttp
+def signals_end_it_while_the_table_opens():
+    with tempfile.TemporaryDirectory() as folder:
+        while True:
+            process = process_of(Path(folder) / "stock.table")
+            children = Path(f"/proc/{process.pid}/task/{process.pid}/children")
+            until(lambda: process.poll() is not None or children.read_text())
+            engine = int(children.read_text())
+            os.kill(engine, signal.SIGSTOP)
+            if not select.select([process.stdout], [], [], 0)[0]:
+                break
+            # The table was open already.
+            process.kill()
+            process.communicate()
+        process.send_signal(signal.SIGTERM)
+        expect((process.wait(SECONDS), *process.communicate()), (0, "", ""))
+        until(lambda: not Path(f"/proc/{engine}").exists())
+
+
 def is_closed(port):
     try:
         socket.create_connection(("127.0.0.1", port), SECONDS).close()
@@ -738,6 +758,7 @@ TESTS_OF_TEXTS = [
     disk_that_is_full_is_told,
     slow_readers_hold_nothing_up,
     signals_end_it_after_what_came_in,
+    signals_end_it_while_the_table_opens,
     checkpoints_take_the_place_of_the_log,
     what_cannot_be_served_is_told,
     quick_start_of_the_document_runs,

@@ -216,6 +216,8 @@ class Engine:
             try:
                 await self._start()
             except Lost:
+                if self._is_ending:
+                    return
                 failures += 1
                 if not opened.is_set() or failures == MOST_FAILURES:
                     raise
@@ -230,12 +232,13 @@ class Engine:
                 self._fail()
             await self._process_end()
 
-    async def end(self) -> None:
-        """Ends the process, after it has answered the works that were sent to it."""
-        self._is_ending, self.is_open = True, False
-        if self._process is not None:
+    def end(self) -> None:
+        """Ends `serve`. The process answers the works that were sent to it before; one that is still opening the table is killed."""
+        is_open, self.is_open, self._is_ending = self.is_open, False, True
+        if self._process is not None and is_open:
             self._stdin.close()
-            await self._process_end()
+        elif self._process is not None and self._process.returncode is None:
+            self._process.kill()
 
     async def run(self, work: Work) -> Answer:
         """The answer to a work, once it is on disk."""
@@ -257,6 +260,8 @@ class Engine:
         assert process.stdin is not None and process.stdout is not None
         self._process, self._stdin, self._stdout = process, process.stdin, process.stdout
         self.starts += 1
+        if self._is_ending:
+            process.kill()
         try:
             self._take(await self._receive())
         except asyncio.IncompleteReadError:

@@ -443,8 +443,8 @@ async def serve(service: Service, host: str, port: int) -> int:
     ended, opened = asyncio.Event(), asyncio.Event()
     for number in (signal.SIGTERM, signal.SIGINT):
         asyncio.get_running_loop().add_signal_handler(number, ended.set)
-    engine = asyncio.create_task(service.engine.serve(opened))
     runner = web.AppRunner(service.application(), access_log=None, auto_decompress=False)
+    engine = asyncio.create_task(service.engine.serve(opened))
     try:
         await first_of(opened.wait(), ended.wait(), engine)
         if not ended.is_set():
@@ -457,7 +457,8 @@ async def serve(service: Service, host: str, port: int) -> int:
             await first_of(ended.wait(), engine)
     finally:
         await runner.cleanup()
-        await service.engine.end()
+        service.engine.end()
+        await asyncio.wait([engine])
     return 0
 
 
