@@ -1,0 +1,282 @@
+-- The rows of a dump are those that it was made of.
+use Rattle.std.proofs.Common.{ℕ, zero, suc, ◌≡◌, ◌∙◌, ◌+◌, ◌≤◌, ◌==◌, ◌&&◌, ◌++◌, Bool, true, false, List, [], ◌∷◌, length, map, Option, Some, None, Result, Ok, Err, ap, sym, subst, refl, arith, append_assoc, append-nil, length-append, if◌then◌else◌, codes, T, eq-eqb, is_some, cond}
+use Rattle.std.proofs.lemmas.List.{length-map}
+use Rattle.std.specs.Cmp.Lexicographic.{pointwise}
+use Rattle.std.specs.FinMap.{find, is_sorted, put}
+use Rattle.std.specs.FinMap.Entries.{below_all, by_order}
+use Rattle.std.specs.List.{AllByRecursion, filter_map}
+use Rattle.std.specs.Ordering.{is_eq, ordering_reverse}
+use Rattle.std.specs.Prelude.{flat_map, fold}
+use Rattle.std.specs.Result.{result_err, result_ok}
+use Rattle.std.specs.declared.cmp.Ordering.TheVariants.{Less, Greater}
+use Rattle.csv.specs.Machine.{next_record}
+use Rattle.csv.specs.Reading.{default_config, records, records_from, records_next, strip_bom}
+use Rattle.csv.specs.Writing.{default_writer, is_blank, read_back, row_body, row_text}
+use Rattle.csv.specs.declared.parser.State.TheVariants as state
+use Rattle.csv.proofs.RoundTrip.{read-write, rows_text}
+use Rattle.bt_rowtype.specs.Loads.{is_header}
+use Rattle.bt_rowtype.specs.Ops.{all_read, unless}
+use Rattle.bt_rowtype.specs.Records.{has_mark, record_text}
+use Rattle.bt_rowtype.specs.Refusals.{least}
+use Rattle.bt_rowtype.specs.Schemas.{Schema, fit_columns, fits_kind, is_schema}
+use Rattle.bt_rowtype.specs.Values.{or_refused, read_as, text_of, values_of}
+use Rattle.bt_rowtype.specs.declared.refusal.Refusal.{Refusal}
+use Rattle.bt_rowtype.specs.declared.refusal.Refusal.TheVariants.{BadField, BadLength, BadSchema, DuplicateKey}
+use Rattle.bt_rowtype.specs.declared.schema.Column.{Column}
+use Rattle.bt_rowtype.specs.declared.value.Value.{Value}
+use Rattle.bt_keycode.specs.Keys.{Key, key_cmp}
+use Rattle.bt_keycode.specs.Standing.{AllStand, AreOf, IsOf, RowMap, row_key}
+use Rattle.bt_keycode.proofs.offered.Order.{is_less, total_keys}
+use Rattle.bt_keycode.proofs.offered.Truths.{t_first, t_second, true_t}
+use Rattle.bt_load.specs.Loads.{text_rows, typed_from, under_header}
+use Rattle.bt_load.specs.Maps.{map_of, map_with_rows}
+use Rattle.bt_view.specs.RecordTexts.{record_line}
+use Rattle.bt_batch.specs.Batches.{and_then, map_ok}
+use Rattle.bt_node.specs.Messages.{between}
+use Rattle.bt_node.proofs.offered.Portions.{between-all}
+use Rattle.bt_table.specs.Calls.{Load, NamedTree, Rebuild, after_load, load_refusals, loaded_rows, step, tree_named, unless_any, with_rows}
+use Rattle.bt_table.specs.Standing.{IsSoundTable}
+use Rattle.bt_table.specs.Tables.{Intact, PlainTable}
+use Rattle.bt_table.specs.declared.reply.Reply.TheVariants.{Loaded}
+use Rattle.bt_table.proofs.Sound.{rows_sorted}
+use Rattle.std.proofs.lemmas.Bool.Decides.{nat_tests}
+use Rattle.bt_laws.specs.Dumps.{AreShown, HasOnlyBytes, IsDumpable, IsReadyFor, dump_of, header_line}
+use Rattle.bt_laws.specs.CanonicalForms.{AreOfOneDefinition, HaveSameRows, image_after, is_of_all_rows}
+use Rattle.bt_laws.proofs.FromScratch.{loaded_from_scratch, of_table, rebuilt_from_scratch, table_of, trees_alike}
+use Rattle.bt_laws.proofs.ValueTexts.{values_of_texts}
+
+-- ---- the text as records
+
+-- the fields of rows
+abbrev fields_of : List (List Value) → List (List (List ℕ))
+fields_of rows = map (λ row. map text_of row) rows
+
+-- the names of columns
+abbrev names_of : List Column → List (List ℕ)
+names_of columns = map (λ c. c.name) columns
+
+line_text : (fields : List (List ℕ)) → record_text fields ++ codes "\n" ≡ row_text default_writer fields
+line_text fields = append_assoc (row_body default_writer fields) (if is_blank default_writer fields then 34 ∷ 34 ∷ [] else []) (10 ∷ [])
+
+lines_text : (rows : List (List Value)) → flat_map record_line rows ≡ rows_text (fields_of rows)
+unfolding rows_text
+lines_text [] = refl
+lines_text (row ∷ rows) = λ i. line_text (map text_of row) i ++ lines_text rows i
+
+dump_text : (columns : List Column) (rows : List (List Value)) → dump_of columns rows ≡ rows_text (names_of columns ∷ fields_of rows)
+unfolding rows_text
+dump_text columns rows = λ i. line_text (names_of columns) i ++ lines_text rows i
+
+nothing_left : next_record default_config state.StartRecord [] [] [] ≡ None
+unfolding next_record
+nothing_left = refl
+
+line_long : (fields : List (List ℕ)) → 1 ≤ length (row_text default_writer fields)
+line_long fields =
+    let blank : List ℕ = if is_blank default_writer fields then 34 ∷ 34 ∷ [] else [] in
+    omega (arith, length-append (row_body default_writer fields) (blank ++ 10 ∷ []), length-append blank (10 ∷ []))
+
+lines_long : (rows : List (List (List ℕ))) → length rows ≤ length (rows_text rows)
+unfolding rows_text
+lines_long [] = omega arith
+lines_long (row ∷ rows) = omega (arith, length-append (row_text default_writer row) (rows_text rows), line_long row, lines_long rows)
+
+-- all records are read, where as many may be
+read_all : (n : ℕ) (rows : List (List (List ℕ))) → length rows ≤ n → records_from default_config n state.StartRecord (rows_text rows) ≡ map read_back rows
+unfolding records_from rows_text
+read_all zero [] few = refl
+read_all (suc n) [] few = ap (records_next (records_from default_config n)) nothing_left
+read_all zero (row ∷ rows) few = absurd (omega (arith, few))
+read_all (suc n) (row ∷ rows) few =
+    ap (records_next (records_from default_config n)) (read-write row (rows_text rows)) ∙ ap (λ (rest : List (List (List ℕ))). read_back row ∷ rest) (read_all n rows (omega (arith, few)))
+
+-- ---- no byte order mark
+
+unmarked : (line more : List ℕ) → has_mark (line ++ 10 ∷ []) ≡ false → has_mark ((line ++ 10 ∷ []) ++ more) ≡ false
+unmarked [] [] plain = refl
+unmarked [] (b ∷ []) plain = refl
+unmarked [] (b ∷ c ∷ more) plain = refl
+unmarked (a ∷ []) [] plain = refl
+unmarked (a ∷ []) (c ∷ more) plain = elim (a == 0xEF) as (λ t. (t && false && (c == 0xBF)) ≡ false) [ true ↦ refl | false ↦ refl ]
+unmarked (a ∷ b ∷ []) more plain = plain
+unmarked (a ∷ b ∷ c ∷ line) more plain = plain
+
+unstripped : (text : List ℕ) → has_mark text ≡ false → strip_bom text ≡ text
+unfolding strip_bom
+unstripped [] plain = refl
+unstripped (a ∷ []) plain = refl
+unstripped (a ∷ b ∷ []) plain = refl
+unstripped (a ∷ b ∷ c ∷ rest) plain = ap (λ t. if t then rest else a ∷ b ∷ c ∷ rest) plain
+
+-- ---- the records as rows
+
+same_bytes : (bytes : List ℕ) → pointwise ◌==◌ bytes bytes ≡ true
+same_bytes [] = refl
+same_bytes (b ∷ bytes) = ap (λ t. t && pointwise ◌==◌ bytes bytes) (eq-eqb b b refl) ∙ same_bytes bytes
+
+own_header : (columns : List Column) → is_header columns (names_of columns) ≡ true
+own_header [] = refl
+own_header (c ∷ columns) = ap (λ t. t && is_header columns (names_of columns)) (same_bytes c.name) ∙ own_header columns
+
+fit_length : (columns : List Column) (row : List Value) → fit_columns columns row ≡ true → length row ≡ length columns
+fit_length [] [] fits = refl
+fit_length [] (v ∷ row) fits = absurd cc
+fit_length (c ∷ columns) [] fits = absurd cc
+fit_length (c ∷ columns) (v ∷ row) fits = by_first (fits_kind c.kind v) fits (λ rest. fit_length columns row rest)
+  where
+    by_first : (b : Bool) → (b && fit_columns columns row) ≡ true → (fit_columns columns row ≡ true → length row ≡ length columns) → suc (length row) ≡ suc (length columns)
+    by_first true rest more = ap suc (more rest)
+    by_first false rest more = absurd cc
+
+row_read : (columns : List Column) (item : ℕ) (row : List Value) → IsOf columns row → AllByRecursion HasOnlyBytes row → read_as columns item (map text_of row) ≡ Ok row
+row_read columns item row of bytes =
+    let long : (length (map text_of row) == length columns) ≡ true = eq-eqb _ _ (length-map row text_of ∙ fit_length columns row of.fits) in
+    ap (λ t. if t then or_refused (BadField item) (values_of columns (map text_of row)) else Err (BadLength item)) long
+    ∙ ap (or_refused (BadField item)) (values_of_texts columns row of.fits of.in_range bytes)
+
+-- each was read
+abbrev found : List (List Value) → List (Result (List Value) Refusal)
+found rows = map (λ row. Ok row) rows
+
+rows_read : (columns : List Column) (item : ℕ) (rows : List (List Value)) → AreOf columns rows → AllByRecursion (AllByRecursion HasOnlyBytes) rows → typed_from columns item (fields_of rows) ≡ found rows
+rows_read columns item [] of bytes = refl
+rows_read columns item (row ∷ rows) of bytes = λ i. row_read columns item row of.0 bytes.0 i ∷ rows_read columns (item + 1) rows of.1 bytes.1 i
+
+none_refused : (rows : List (List Value)) → filter_map result_err (found rows) ≡ []
+none_refused [] = refl
+none_refused (row ∷ rows) = none_refused rows
+
+all_found : (rows : List (List Value)) → filter_map result_ok (found rows) ≡ rows
+all_found [] = refl
+all_found (row ∷ rows) = ap (λ (rest : List (List Value)). row ∷ rest) (all_found rows)
+
+all_read-found : (rows : List (List Value)) → all_read (found rows) ≡ Ok rows
+all_read-found rows = λ i. unless (least (none_refused rows i)) (all_found rows i)
+
+-- fields of rows with columns are read back
+read_back-fields : (columns : List Column) (rows : List (List Value)) → 1 ≤ length columns → AreOf columns rows → map read_back (fields_of rows) ≡ fields_of rows
+read_back-fields columns [] some of = refl
+read_back-fields columns ([] ∷ rows) some of = absurd (omega (arith, some, fit_length columns [] of.0.fits))
+read_back-fields columns ((v ∷ row) ∷ rows) some of = ap (λ (rest : List (List (List ℕ))). map text_of (v ∷ row) ∷ rest) (read_back-fields columns rows some of.1)
+
+read_back-names : (columns : List Column) → 1 ≤ length columns → read_back (names_of columns) ≡ names_of columns
+read_back-names [] some = absurd (omega (arith, some))
+read_back-names (c ∷ columns) some = refl
+
+-- the rows of a dump
+dumped_rows : (columns : List Column) (rows : List (List Value)) → 1 ≤ length columns → has_mark (header_line columns) ≡ false → AreOf columns rows → AllByRecursion (AllByRecursion HasOnlyBytes) rows → text_rows columns (dump_of columns rows) ≡ Ok rows
+dumped_rows columns rows some plain of bytes =
+    let text = dump_of columns rows in
+    let no_mark : has_mark text ≡ false = unmarked (record_text (names_of columns)) (flat_map record_line rows) plain in
+    let whole : strip_bom text ≡ text = unstripped text no_mark in
+    let all : records default_config text ≡ names_of columns ∷ fields_of rows =
+    ap (records default_config) (dump_text columns rows)
+    ∙ read_all (length (rows_text (names_of columns ∷ fields_of rows)) + 1) (names_of columns ∷ fields_of rows) (omega (arith, lines_long (names_of columns ∷ fields_of rows)))
+    ∙ (λ i. read_back-names columns some i ∷ read_back-fields columns rows some of i) in
+    ap (λ (t : List ℕ). if has_mark t then Err BadSchema else under_header columns (records default_config t)) whole
+    ∙ ap (λ t. if t then Err BadSchema else under_header columns (records default_config text)) no_mark
+    ∙ ap (under_header columns) all
+    ∙ ap (λ t. if t then all_read (typed_from columns 1 (fields_of rows)) else Err BadSchema) (own_header columns)
+    ∙ ap all_read (rows_read columns 1 rows of bytes) ∙ all_read-found rows
+
+-- ---- the rows as a map
+
+-- each key is before this one
+abbrev AllLess : Key → RowMap → Type 0
+AllLess k [] = Unit {0}
+AllLess k (r ∷ rows) = (key_cmp r.0 k ≡ Less) × AllLess k rows
+
+past : (a b : Key) → key_cmp a b ≡ Less → key_cmp b a ≡ Greater
+past a b less = total_keys.antisymm b a ∙ ap ordering_reverse less
+
+put_last : (k : Key) (row : List Value) (rows : RowMap) → AllLess k rows → put key_cmp k row rows ≡ rows ++ (k, row) ∷ []
+put_last k row [] less = refl
+put_last k row (r ∷ rows) less =
+    ap (λ o. by_order o ((k, row) ∷ r ∷ rows) ((r.0, row) ∷ rows) (r ∷ put key_cmp k row rows)) (past r.0 k less.0) ∙ ap (λ (rest : RowMap). r ∷ rest) (put_last k row rows less.1)
+
+find_none : (k : Key) (rows : RowMap) → AllLess k rows → find key_cmp k rows ≡ None
+find_none k [] less = refl
+find_none k (r ∷ rows) less = ap (λ o. cond (is_eq o) (Some r.1) (find key_cmp k rows)) (past r.0 k less.0) ∙ find_none k rows less.1
+
+-- the keys before one in a sorted list are less
+below_less : (k x : Key) (done : RowMap) (row : List Value) (rest : RowMap) → T (below_all key_cmp x (done ++ (k, row) ∷ rest)) → key_cmp x k ≡ Less
+below_less k x [] row rest below = is_less (key_cmp x k) (true_t _ (t_first _ _ below))
+below_less k x (r ∷ done) row rest below = below_less k x done row rest (t_second _ _ below)
+
+sorted_less : (k : Key) (done : RowMap) (row : List Value) (rest : RowMap) → T (is_sorted key_cmp (done ++ (k, row) ∷ rest)) → AllLess k done
+sorted_less k [] row rest sorted = tt
+sorted_less k (r ∷ done) row rest sorted = (below_less k r.0 done row rest (t_first _ _ sorted), sorted_less k done row rest (t_second _ _ sorted))
+
+-- rows that are put one after the other by rising key stand in this order
+put_all : (schema : Schema) (item : ℕ) (done rows : RowMap) → T (is_sorted key_cmp (done ++ rows)) → AllStand schema rows → map_with_rows schema.keys item done (map (λ r. r.1) rows) ≡ Ok (done ++ rows)
+put_all schema item done [] sorted stand = ap (λ (m : RowMap). Ok m) (sym (append-nil done))
+put_all schema item done (r ∷ rows) sorted stand =
+    let key : row_key schema.keys r.1 ≡ r.0 = sym stand.0.placed in
+    let less = sorted_less r.0 done r.1 rows sorted in
+    let joined : (done ++ r ∷ []) ++ rows ≡ done ++ r ∷ rows = append_assoc done (r ∷ []) rows in
+    ap (λ (k : Key). if is_some (find key_cmp k done) then Err (DuplicateKey item) else map_with_rows schema.keys (item + 1) (put key_cmp k r.1 done) (map (λ x. x.1) rows)) key
+    ∙ ap (λ (o : Option (List Value)). if is_some o then Err (DuplicateKey item) else map_with_rows schema.keys (item + 1) (put key_cmp r.0 r.1 done) (map (λ x. x.1) rows)) (find_none r.0 done less)
+    ∙ ap (λ (m : RowMap). map_with_rows schema.keys (item + 1) m (map (λ x. x.1) rows)) (put_last r.0 r.1 done less)
+    ∙ put_all schema (item + 1) (done ++ r ∷ []) rows (subst (λ (m : RowMap). T (is_sorted key_cmp m)) (sym joined) sorted) stand.1
+    ∙ ap (λ (m : RowMap). Ok m) joined
+
+mapped_again : (schema : Schema) (rows : RowMap) → T (is_sorted key_cmp rows) → AllStand schema rows → map_of schema.keys (map (λ r. r.1) rows) ≡ Ok rows
+mapped_again schema rows sorted stand = put_all schema 1 [] rows sorted stand
+
+stand_of : (schema : Schema) (rows : RowMap) → AllStand schema rows → AreOf schema.columns (map (λ r. r.1) rows)
+stand_of schema [] stand = tt
+stand_of schema (r ∷ rows) stand = (record { fits = stand.0.fits; in_range = stand.0.in_range }, stand_of schema rows stand.1)
+
+bytes_of : (rows : RowMap) → AllByRecursion (λ row. AllByRecursion HasOnlyBytes row.1) rows → AllByRecursion (AllByRecursion HasOnlyBytes) (map (λ r. r.1) rows)
+bytes_of [] bytes = tt
+bytes_of (r ∷ rows) bytes = (bytes.0, bytes_of rows bytes.1)
+
+-- ---- the table that loads the dump
+
+-- what is seen of a table by a scan of all its rows
+scanned : (table : PlainTable) (rows : List (List Value)) → AreShown table rows → map (λ r. r.1) table.rows ≡ rows
+scanned table rows is =
+    let all : Ok (map (λ r. r.1) (between None None table.rows)) ≡ Ok rows = is in
+    let same : map (λ r. r.1) (between None None table.rows) ≡ rows = cc in
+    ap (λ (m : RowMap). map (λ r. r.1) m) (sym (between-all table.rows)) ∙ same
+
+some_column : (columns : List Column) (keys : ℕ) → is_schema columns keys ≡ true → 1 ≤ length columns
+some_column columns keys test = grind (arith, nat_tests)
+
+module _ (table other : PlainTable) (dumpable : IsDumpable table) (can : IsReadyFor table other) (rows : List (List Value)) (seen : AreShown table rows) where
+  loads : loaded_rows other (dump_of table.schema.columns rows) ≡ Ok table.rows
+  loads =
+      let text = dump_of table.schema.columns rows in
+      let are = scanned table rows seen in
+      let some = some_column table.schema.columns table.schema.keys dumpable.schema in
+      let of : AreOf table.schema.columns rows = subst (AreOf table.schema.columns) are (stand_of table.schema table.rows dumpable.sound.rows) in
+      let bytes : AllByRecursion (AllByRecursion HasOnlyBytes) rows = subst (AllByRecursion (AllByRecursion HasOnlyBytes)) are (bytes_of table.rows dumpable.bytes) in
+      let read : text_rows other.schema.columns text ≡ Ok rows = ap (λ (s : Schema). text_rows s.columns text) can.schema ∙ dumped_rows table.schema.columns rows some dumpable.header of bytes in
+      let sorted = rows_sorted table dumpable.sound in
+      ap (λ (r : Result (List (List Value)) Refusal). and_then (map_of other.schema.keys) (and_then (unless_any (load_refusals other.indexes other.tree)) r)) read
+      ∙ ap (λ (rs : List Refusal). and_then (map_of other.schema.keys) (unless_any rs rows)) can.allowed
+      ∙ ap (λ (s : Schema). map_of s.keys rows) can.schema
+      ∙ ap (map_of table.schema.keys) (sym are)
+      ∙ mapped_again table.schema table.rows sorted dumpable.sound.rows
+
+  pub same_rows : step (Intact other) (Load (dump_of table.schema.columns rows)) ≡ Ok (Intact (with_rows other table.rows), Loaded (length table.rows))
+  same_rows = ap (map_ok (after_load other)) loads
+
+  module _ (sound : IsSoundTable other) (shape : other.shape ≡ table.shape) (name : List ℕ) (tree loaded : NamedTree) where
+    pub same_images : tree_named (Intact table) name ≡ Ok tree → tree_named (Intact (with_rows other table.rows)) name ≡ Ok loaded → AreOfOneDefinition tree loaded → is_of_all_rows tree ≡ true →
+        image_after (Intact other) (Load (dump_of table.schema.columns rows)) name ≡ image_after (Intact table) (Rebuild name) name
+    same_images first second one all =
+        let whole : HaveSameRows table (with_rows other table.rows) = record { columns = ap (λ (s : Schema). s.columns) (sym can.schema); shape = sym shape; rows = refl } in
+        let here = subst (λ (t : PlainTable). HaveSameRows t (with_rows other table.rows)) (sym (of_table table name tree first)) whole in
+        let both = subst (λ (t : PlainTable). HaveSameRows (table_of tree) t) (sym (of_table (with_rows other table.rows) name loaded second)) here in
+        loaded_from_scratch other sound name table.rows (dump_of table.schema.columns rows) loads loaded second
+        ∙ ap (λ (text : List ℕ). Ok text) (sym (trees_alike name tree loaded both one)) ∙ sym (rebuilt_from_scratch table dumpable.sound name tree first all)
+
+-- ---- the text that is made row by row
+
+visited_from : (text : List ℕ) (rows : RowMap) → fold (λ all row. all ++ record_line row.1) text rows ≡ text ++ flat_map record_line (map (λ r. r.1) rows)
+visited_from text [] = sym (append-nil text)
+visited_from text (r ∷ rows) = visited_from (text ++ record_line r.1) rows ∙ append_assoc text (record_line r.1) (flat_map record_line (map (λ r. r.1) rows))
+
+pub visited : (rows : RowMap) → fold (λ text row. text ++ record_line row.1) [] rows ≡ flat_map record_line (map (λ row. row.1) rows)
+visited rows = visited_from [] rows

@@ -1,0 +1,53 @@
+-- How much goes down with a flush, and how many flushes packets lead to.
+use Rattle.std.specs.Prelude.{ℕ, zero, suc, ◌+◌, ◌*◌, ◌-◌, ◌<◌, ◌≤◌, List, [], ◌∷◌, length, map}
+use Rattle.std.specs.List.{AllByRecursion}
+use Rattle.bt_node.specs.Flushes.{Child, Flush, flush_at, flushed, loads, pending_load, shared, sunk}
+use Rattle.bt_node.specs.Loops.{opened_items}
+use Rattle.bt_node.specs.Messages.{Meaning, Messages, load, with_messages}
+use Rattle.bt_node.specs.Plans.{total}
+use Rattle.bt_node.specs.Trees.{Nodes, Shape, Tree, children, height, height_below, inner, leaf, node, none}
+use Rattle.bt_node.specs.declared.form.mode.Mode.TheVariants.{Absorb}
+
+module _ {V M : Type 0} (meaning : Meaning V M) (shape : Shape) where
+  -- the children that are flushed, in turn: the fullest, while more is pending than the buffer has room for
+  abbrev pub flushed_children : Flush V M → List (Child V M) → List (Child V M)
+  flushed_children flush cs = opened_items (pending_load meaning.weigh shape) (flushed flush) shape.buffer (total (loads meaning.weigh shape cs)) cs
+
+  -- how many children are flushed in a node and below it when a packet comes, with a bound on the height of the node
+  abbrev pub flush_count_at : ℕ → Tree V M → Messages M → ℕ
+  flush_count_at high (leaf rows) packet = 0
+  flush_count_at zero (inner ns buffer) packet = 0
+  flush_count_at (suc high) (inner ns buffer) packet =
+      total (map (λ c. suc (flush_count_at high c.tree c.pending)) (flushed_children (flush_at meaning Absorb high shape) (shared (children ns) (with_messages packet buffer))))
+
+  -- how many are when a packet comes into a tree
+  abbrev pub flush_count : Tree V M → Messages M → ℕ
+  flush_count t packet = flush_count_at (height t) t packet
+
+  -- when packets come one after the other
+  abbrev pub flush_counts : Tree V M → List (Messages M) → ℕ
+  flush_counts t [] = 0
+  flush_counts t (packet ∷ packets) = flush_count t packet + flush_counts (sunk meaning shape t packet) packets
+
+  -- the room that packets take, each times the levels below the root of the tree that it comes into
+  abbrev pub levels_ahead : Tree V M → List (Messages M) → ℕ
+  levels_ahead t [] = 0
+  levels_ahead t (packet ∷ packets) = load meaning.weigh shape.measure packet * (height t - 1) + levels_ahead (sunk meaning shape t packet) packets
+
+  -- the room that the messages in buffers take, each times the levels below its node
+  abbrev mutual
+    pub levels_pending : Tree V M → ℕ
+    levels_pending (leaf rows) = 0
+    levels_pending (inner ns buffer) = load meaning.weigh shape.measure buffer * height_below ns + levels_pending_below ns
+
+    pub levels_pending_below : Nodes V M → ℕ
+    levels_pending_below none = 0
+    levels_pending_below (node k t ns) = levels_pending t + levels_pending_below ns
+
+  -- Each flush takes down more than the part of the buffer's room that a child has of it.
+  abbrev pub FlushesAreLarge : Flush V M → List (Child V M) → Type 0
+  FlushesAreLarge flush cs = AllByRecursion (λ c. shape.buffer < length cs * pending_load meaning.weigh shape c) (flushed_children flush cs)
+
+  -- Flushes, each as much as its part of the buffer, are no more than the levels that messages go down at most.
+  abbrev pub FlushesAreFew : Tree V M → List (Messages M) → Type 0
+  FlushesAreFew t packets = flush_counts t packets * suc shape.buffer ≤ shape.fanout * (levels_pending t + levels_ahead t packets)

@@ -1,0 +1,5 @@
+pub mod CanonicalForms
+pub mod Cuts
+pub mod Dumps
+pub mod FlushSizes
+pub mod Heights

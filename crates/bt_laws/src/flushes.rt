@@ -1,0 +1,19 @@
+//! How large flushes are, and how many there are.
+ghost use Rattle.std.specs.Prelude.{List};
+ghost use Rattle.bt_messages.specs.Meanings.{meaning_of};
+ghost use Rattle.bt_messages.specs.Weights.{weigh_of};
+ghost use Rattle.bt_messages.specs.declared.message.Message.{Message};
+ghost use Rattle.bt_node.specs.Fits.{HasShape};
+ghost use Rattle.bt_node.specs.Flushes.{Child, Flush};
+ghost use Rattle.bt_node.specs.Messages.{Messages};
+ghost use Rattle.bt_node.specs.Trees.{Shape, Tree};
+ghost use Rattle.bt_laws.specs.FlushSizes.{FlushesAreFew, FlushesAreLarge};
+
+use bt_messages::Merge;
+
+/// Each flush of a child is large, so packets lead to few flushes (Bender et al., ";login:" 40(5), 2015). How much room messages take is their load: their
+/// number, or what they weigh.
+pub fn flush_sizes<V: Merge>()
+    ensures large { (shape : Shape) (flush : Flush V (Message V V.Delta)) (children : List (Child V (Message V V.Delta))) → FlushesAreLarge (meaning_of V.terms) shape flush children }
+    ensures few { (shape : Shape) (tree : Tree V (Message V V.Delta)) (packets : List (Messages (Message V V.Delta))) → HasShape (weigh_of V.terms) shape tree → FlushesAreFew (meaning_of V.terms) shape tree packets }
+{}
