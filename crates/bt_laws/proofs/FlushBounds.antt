@@ -13,11 +13,11 @@ use Rattle.bt_node.specs.Messages.{Meaning, Messages, Rows, before, from, load, 
 use Rattle.bt_node.specs.Plans.{fullest, most, place_of, total}
 use Rattle.bt_node.specs.Trees.{Nodes, Shape, Siblings, Tree, children, height, height_below, inner, leaf, node, nodes, none}
 use Rattle.bt_node.specs.declared.form.mode.Mode.TheVariants.{Absorb}
-use Rattle.bt_node.proofs.lemmas.deals.Parts.{joined, joined-deal}
-use Rattle.bt_node.proofs.offered.FlushSteps.{fit_there, anywhere, length-shared}
+use Rattle.bt_node.proofs.lemmas.deals.Parts.{AllNonEmpty, full-deal, joined, joined-deal}
+use Rattle.bt_node.proofs.offered.FlushSteps.{anywhere, fit_there, led-full, length-shared, some_length}
 use Rattle.bt_node.proofs.offered.ShapedTrees.{sunk-has_shape}
 use Rattle.bt_laws.proofs.LeafCounts.{node_wide, nodes_wide}
-use Rattle.bt_laws.specs.FlushSizes.{FlushesAreFew, FlushesAreLarge, flush_count, flush_count_at, flush_counts, levels_ahead, levels_pending, levels_pending_below}
+use Rattle.bt_laws.specs.FlushSizes.{FlushesAreFew, FlushesAreFewInAll, FlushesAreLarge, arrived, sunk_all, flush_count, flush_count_at, flush_counts, levels_ahead, levels_pending, levels_pending_below}
 
 -- ---- the loop
 
@@ -537,6 +537,94 @@ module _ {V M : Type 0} (meaning : Meaning V M) (shape : Shape) where
       let high = (node_wide meaning.weigh shape has.levels None None t has.fits.lies has.fits.sized).high in
       let start : pot (height t) t ≡ levels_pending meaning shape t = ap (λ h. pot h t) high ∙ pot_is has.levels None None t has.fits.lies has.fits.sized in
       subst (λ n. flush_counts meaning shape t packets * suc shape.buffer ≤ shape.fanout * (n + levels_ahead meaning shape t packets)) start (run_paid t packets has)
+
+  -- ---- a tree grows no lower
+
+  -- siblings that are at least this high
+  AreTall : ℕ → Siblings V M → Type 0
+  AreTall h [] = Unit {0}
+  AreTall h (x ∷ xs) = (h ≤ height x.1) × AreTall h xs
+
+  tall-pivot_first : (h : ℕ) (k : Key) (xs : Siblings V M) → AreTall h xs → AreTall h (pivot_first k xs)
+  unfolding AreTall
+  tall-pivot_first h k [] tall = tt
+  tall-pivot_first h k (x ∷ xs) tall = tall
+
+  tall-rest : (h : ℕ) (xs ys : Siblings V M) → AreTall h (xs ++ ys) → AreTall h ys
+  unfolding AreTall
+  tall-rest h [] ys tall = tall
+  tall-rest h (x ∷ xs) ys tall = tall-rest h xs ys tall.1
+
+  tall-groups : (h : ℕ) (gs : List (List (Child V M))) → AllNonEmpty gs → AreTall h (without (joined gs)) → AreTall (suc h) (map gathered gs)
+  unfolding AreTall
+  tall-groups h [] full tall = tt
+  tall-groups h ([] ∷ gs) full tall = absurd full.0
+  tall-groups h ((c ∷ g) ∷ gs) full tall =
+      (omega (arith, tall.0), tall-groups h gs full.1 (tall-rest h (without g) (without (joined gs)) (subst (AreTall h) (without-append g (joined gs)) tall.1)))
+
+  some_group : (gs : List (List (Child V M))) (c : Child V M) (cs : List (Child V M)) → joined gs ≡ c ∷ cs → 1 ≤ length (pivot_first [] (map gathered gs))
+  some_group [] c cs is = absurd cc
+  some_group (g ∷ gs) c cs is = omega arith
+
+  -- the one node above siblings is no lower than they
+  crown_tall : (levels h : ℕ) → 0 < shape.fanout → (xs : Siblings V M) → 1 ≤ length xs → AreTall h xs → h ≤ height (crown_within levels shape xs)
+  unfolding AreTall
+  crown_tall levels h fan [] some tall = absurd (omega (arith, some))
+  crown_tall levels h fan (x ∷ []) some tall = tall.0
+  crown_tall zero h fan (x ∷ y ∷ xs) some tall = tall.0
+  crown_tall (suc levels) h fan (x ∷ y ∷ xs) some tall =
+      let first : Child V M = record { pivot = x.0; tree = x.1; pending = [] } in
+      let others : List (Child V M) = none_pending (y ∷ xs) in
+      let gs = deal shape.fanout (first ∷ others) in
+      let all = joined-deal shape.fanout (first ∷ others) in
+      let under = subst (λ (cs : List (Child V M)). AreTall h (without cs)) (sym all) (subst (AreTall h) (sym (without-none (x ∷ y ∷ xs))) tall) in
+      let above = crown_tall levels (suc h) fan (grouped shape (none_pending (x ∷ y ∷ xs))) (some_group gs first others all)
+      (tall-pivot_first (suc h) [] (map gathered gs) (tall-groups h gs (full-deal shape.fanout first others fan) under)) in
+      omega (arith, above)
+
+  siblings-tall : (levels : ℕ) (low high : Option Key) (xs : Siblings V M) → SiblingsLie levels low high xs → AreSized meaning.weigh shape (nodes xs) → AreTall (suc levels) xs
+  unfolding AreTall
+  siblings-tall levels low high [] lie sized = tt
+  siblings-tall levels low high (x ∷ []) lie sized = (omega (arith, (node_wide meaning.weigh shape levels low high x.1 lie sized.0).high), tt)
+  siblings-tall levels low high (x ∷ y ∷ xs) lie sized =
+      (omega (arith, (node_wide meaning.weigh shape levels low (Some y.0) x.1 lie.2 sized.0).high), siblings-tall levels (Some y.0) high (y ∷ xs) lie.3 sized.1)
+
+  grows : (t : Tree V M) (packet : Messages M) → HasShape meaning.weigh shape t → height t ≤ height (sunk meaning shape t packet)
+  grows t packet has =
+      let high = (node_wide meaning.weigh shape has.levels None None t has.fits.lies has.fits.sized).high in
+      let fits = fit_there meaning Absorb shape has.roomy t packet _ refl has.levels None None has.fits (anywhere packet) in
+      let xs = absorb meaning shape t packet in
+      let tall = crown_tall (length xs) (suc has.levels) (omega (arith, has.roomy.fanout)) xs (some_length xs (led-full xs fits.led)) (siblings-tall has.levels None None xs fits.lie fits.sized) in
+      omega (arith, high, tall)
+
+  grows_all : (t : Tree V M) (packets : List (Messages M)) → HasShape meaning.weigh shape t → height t ≤ height (sunk_all meaning shape t packets)
+  grows_all t [] has = omega arith
+  grows_all t (packet ∷ packets) has =
+      let next = grows_all (sunk meaning shape t packet) packets (sunk-has_shape meaning shape t has packet) in
+      omega (arith, grows t packet has, next)
+
+  ahead_sum : (one others below rest most now : ℕ) → now ≤ most → rest ≤ others * most → below ≡ one * now → below + rest ≤ (one + others) * most
+  ahead_sum one others below rest most now less more is =
+      let own = mul-le-mul_left one less in
+      omega (arith, own, more, is)
+
+  ahead_all : (t : Tree V M) (packets : List (Messages M)) → HasShape meaning.weigh shape t →
+      levels_ahead meaning shape t packets ≤ arrived meaning shape packets * (height (sunk_all meaning shape t packets) - 1)
+  ahead_all t [] has = omega arith
+  ahead_all t (packet ∷ packets) has =
+      let next = sunk meaning shape t packet in
+      let shaped = sunk-has_shape meaning shape t has packet in
+      let grown : height t - 1 ≤ height (sunk_all meaning shape next packets) - 1 = omega (arith, grows t packet has, grows_all next packets shaped) in
+      ahead_sum (room packet) (arrived meaning shape packets) (room packet * (height t - 1)) (levels_ahead meaning shape next packets) (height (sunk_all meaning shape next packets) - 1) (height t - 1)
+      grown (ahead_all next packets shaped) refl
+
+  pub few_in_all : (t : Tree V M) (packets : List (Messages M)) → HasShape meaning.weigh shape t → FlushesAreFewInAll meaning shape t packets
+  few_in_all t packets has =
+      let sharp = few t packets has in
+      let ahead : levels_pending meaning shape t + levels_ahead meaning shape t packets ≤ levels_pending meaning shape t + arrived meaning shape packets * (height (sunk_all meaning shape t packets) - 1) =
+      omega (arith, ahead_all t packets has) in
+      let more = mul-le-mul_left shape.fanout ahead in
+      omega (arith, sharp, more)
 
   pub large : (flush : Flush V M) (cs : List (Child V M)) → FlushesAreLarge meaning shape flush cs
   large flush cs = large_from w (flushed flush) (flushed-none flush) (length cs) shape.buffer (total (loads meaning.weigh shape cs)) cs (heavy-few w cs)

@@ -7,13 +7,17 @@ ghost use Rattle.bt_node.specs.Fits.{HasShape};
 ghost use Rattle.bt_node.specs.Flushes.{Child, Flush};
 ghost use Rattle.bt_node.specs.Messages.{Messages};
 ghost use Rattle.bt_node.specs.Trees.{Shape, Tree};
-ghost use Rattle.bt_laws.specs.FlushSizes.{FlushesAreFew, FlushesAreLarge};
+ghost use Rattle.bt_laws.specs.FlushSizes.{FlushesAreFew, FlushesAreFewInAll, FlushesAreLarge};
 
 use bt_messages::Merge;
 
-/// Each flush of a child is large, so packets lead to few flushes (Bender et al., ";login:" 40(5), 2015). How much room messages take is their load: their
-/// number, or what they weigh.
+/// Each flush of a child is large, so packets lead to few flushes (Bender et al., ";login:" 40(5), 2015): the flushes times the buffer and one, divided by the
+/// fanout, are at most the messages that came times the levels below the root.
+///
+/// The clauses speak of load, so they hold for both measures of a buffer: the load of messages is their number, or what they weigh.
 pub fn flush_sizes<V: Merge>()
     ensures large { (shape : Shape) (flush : Flush V (Message V V.Delta)) (children : List (Child V (Message V V.Delta))) → FlushesAreLarge (meaning_of V.terms) shape flush children }
     ensures few { (shape : Shape) (tree : Tree V (Message V V.Delta)) (packets : List (Messages (Message V V.Delta))) → HasShape (weigh_of V.terms) shape tree → FlushesAreFew (meaning_of V.terms) shape tree packets }
-{}
+    ensures in_all { (shape : Shape) (tree : Tree V (Message V V.Delta)) (packets : List (Messages (Message V V.Delta))) → HasShape (weigh_of V.terms) shape tree → FlushesAreFewInAll (meaning_of V.terms) shape tree packets }
+{
+}
