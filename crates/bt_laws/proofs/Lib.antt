@@ -1,6 +1,8 @@
 pub mod CutScripts
 pub mod FlushBounds
 pub mod FromScratch
+pub mod ImageRows
 pub mod LeafCounts
 pub mod Reloaded
+pub mod ToldRows
 pub mod ValueTexts

@@ -40,7 +40,8 @@ use Rattle.bt_table.specs.Tables.{Intact, PlainTable}
 use Rattle.bt_table.specs.declared.reply.Reply.TheVariants.{Loaded}
 use Rattle.bt_table.proofs.Sound.{rows_sorted}
 use Rattle.std.proofs.lemmas.Bool.Decides.{nat_tests}
-use Rattle.bt_laws.specs.Dumps.{AreShown, HasOnlyBytes, IsDumpable, IsReadyFor, dump_of, header_line}
+use Rattle.bt_laws.specs.Dumps.{AreShown, HasPlainHeader, IsReadyFor, dump_of, header_line}
+use Rattle.bt_laws.specs.StoredTables.{HasOnlyBytes, IsStored}
 use Rattle.bt_laws.specs.CanonicalForms.{AreOfOneDefinition, HaveSameRows, image_after, is_of_all_rows}
 use Rattle.bt_laws.proofs.FromScratch.{loaded_from_scratch, of_table, rebuilt_from_scratch, table_of, trees_alike}
 use Rattle.bt_laws.proofs.ValueTexts.{values_of_texts}
@@ -243,21 +244,21 @@ scanned table rows is =
 some_column : (columns : List Column) (keys : ℕ) → is_schema columns keys ≡ true → 1 ≤ length columns
 some_column columns keys test = grind (arith, nat_tests)
 
-module _ (table other : PlainTable) (dumpable : IsDumpable table) (can : IsReadyFor table other) (rows : List (List Value)) (seen : AreShown table rows) where
+module _ (table other : PlainTable) (stored : IsStored table) (header : HasPlainHeader table) (can : IsReadyFor table other) (rows : List (List Value)) (seen : AreShown table rows) where
   loads : loaded_rows other (dump_of table.schema.columns rows) ≡ Ok table.rows
   loads =
       let text = dump_of table.schema.columns rows in
       let are = scanned table rows seen in
-      let some = some_column table.schema.columns table.schema.keys dumpable.schema in
-      let of : AreOf table.schema.columns rows = subst (AreOf table.schema.columns) are (stand_of table.schema table.rows dumpable.sound.rows) in
-      let bytes : AllByRecursion (AllByRecursion HasOnlyBytes) rows = subst (AllByRecursion (AllByRecursion HasOnlyBytes)) are (bytes_of table.rows dumpable.bytes) in
-      let read : text_rows other.schema.columns text ≡ Ok rows = ap (λ (s : Schema). text_rows s.columns text) can.schema ∙ dumped_rows table.schema.columns rows some dumpable.header of bytes in
-      let sorted = rows_sorted table dumpable.sound in
+      let some = some_column table.schema.columns table.schema.keys stored.schema in
+      let of : AreOf table.schema.columns rows = subst (AreOf table.schema.columns) are (stand_of table.schema table.rows stored.sound.rows) in
+      let bytes : AllByRecursion (AllByRecursion HasOnlyBytes) rows = subst (AllByRecursion (AllByRecursion HasOnlyBytes)) are (bytes_of table.rows stored.bytes) in
+      let read : text_rows other.schema.columns text ≡ Ok rows = ap (λ (s : Schema). text_rows s.columns text) can.schema ∙ dumped_rows table.schema.columns rows some header of bytes in
+      let sorted = rows_sorted table stored.sound in
       ap (λ (r : Result (List (List Value)) Refusal). and_then (map_of other.schema.keys) (and_then (unless_any (load_refusals other.indexes other.tree)) r)) read
       ∙ ap (λ (rs : List Refusal). and_then (map_of other.schema.keys) (unless_any rs rows)) can.allowed
       ∙ ap (λ (s : Schema). map_of s.keys rows) can.schema
       ∙ ap (map_of table.schema.keys) (sym are)
-      ∙ mapped_again table.schema table.rows sorted dumpable.sound.rows
+      ∙ mapped_again table.schema table.rows sorted stored.sound.rows
 
   pub same_rows : step (Intact other) (Load (dump_of table.schema.columns rows)) ≡ Ok (Intact (with_rows other table.rows), Loaded (length table.rows))
   same_rows = ap (map_ok (after_load other)) loads
@@ -270,7 +271,7 @@ module _ (table other : PlainTable) (dumpable : IsDumpable table) (can : IsReady
         let here = subst (λ (t : PlainTable). HaveSameRows t (with_rows other table.rows)) (sym (of_table table name tree first)) whole in
         let both = subst (λ (t : PlainTable). HaveSameRows (table_of tree) t) (sym (of_table (with_rows other table.rows) name loaded second)) here in
         loaded_from_scratch other sound name table.rows (dump_of table.schema.columns rows) loads loaded second
-        ∙ ap (λ (text : List ℕ). Ok text) (sym (trees_alike name tree loaded both one)) ∙ sym (rebuilt_from_scratch table dumpable.sound name tree first all)
+        ∙ ap (λ (text : List ℕ). Ok text) (sym (trees_alike name tree loaded both one)) ∙ sym (rebuilt_from_scratch table stored.sound name tree first all)
 
 -- ---- the text that is made row by row
 

@@ -18,11 +18,11 @@ use Rattle.bt_rowtype.specs.declared.value.Kind.{Kind}
 use Rattle.bt_rowtype.specs.declared.value.Value.{Value}
 use Rattle.bt_rowtype.specs.declared.value.Value.TheVariants as value
 use Rattle.bt_rowtype.proofs.offered.Kinds.{fits_kind_of}
-use Rattle.bt_laws.specs.Dumps.{HasOnlyBytes}
+use Rattle.bt_laws.specs.StoredTables.{HasOnlyBytes}
 
 -- ---- numbers
 
-own : IsNumeralModel (λ ds. list_all is_digit ds ≡ true) number_written
+pub own : IsNumeralModel (λ ds. list_all is_digit ds ≡ true) number_written
 own = numerals_by_fold _ (search rules) digits_after (search rules)
 
 -- digits with a number that is small enough

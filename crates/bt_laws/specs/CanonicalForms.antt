@@ -1,5 +1,5 @@
 -- The form of a table that depends on its columns, its shape and its rows alone.
-use Rattle.std.specs.Prelude.{◌≡◌, Bool, List, Ok, Result, map, true, ℕ}
+use Rattle.std.specs.Prelude.{◌≡◌, Bool, List, Ok, Result, codes, map, true, ℕ}
 use Rattle.std.specs.List.{list_all}
 use Rattle.bt_rowtype.specs.declared.refusal.Refusal.{Refusal}
 use Rattle.bt_rowtype.specs.declared.value.Value.{Value}
@@ -81,3 +81,10 @@ RebuildAlike first second name =
     is_of_all_rows tree ≡ true →
     is_of_all_rows other ≡ true →
     image_after (Intact first) (Rebuild name) name ≡ image_after (Intact second) (Rebuild name) name
+
+-- Tables of one schema whose trees of rows have the same image once they are rebuilt have the same rows.
+abbrev pub ImagesTellRows : PlainTable → PlainTable → Type 0
+ImagesTellRows first second =
+    first.schema ≡ second.schema →
+    image_after (Intact first) (Rebuild (codes "primary")) (codes "primary") ≡ image_after (Intact second) (Rebuild (codes "primary")) (codes "primary") →
+    first.rows ≡ second.rows

@@ -1,13 +1,9 @@
 -- A table as a text that another table loads.
-use Rattle.std.specs.Prelude.{◌≡◌, ◌++◌, ◌<◌, List, [], None, Ok, codes, false, flat_map, length, map, true, ℕ}
-use Rattle.std.specs.List.{AllByRecursion}
+use Rattle.std.specs.Prelude.{◌≡◌, ◌++◌, List, [], None, Ok, codes, false, flat_map, length, map, true, ℕ}
 use Rattle.bt_rowtype.specs.Records.{has_mark, record_text}
-use Rattle.bt_rowtype.specs.Schemas.{is_schema}
 use Rattle.bt_rowtype.specs.declared.schema.Column.{Column}
 use Rattle.bt_rowtype.specs.declared.value.Value.{Value}
-use Rattle.bt_rowtype.specs.declared.value.Value.TheVariants as value
 use Rattle.bt_table.specs.Calls.{Load, NamedTree, Rebuild, load_refusals, step, tree_named, with_rows}
-use Rattle.bt_table.specs.Standing.{IsSoundTable}
 use Rattle.bt_table.specs.Tables.{Intact, PlainTable}
 use Rattle.bt_table.specs.declared.reply.Reply.TheVariants.{Loaded}
 use Rattle.bt_view.specs.Ranges.{scan}
@@ -30,18 +26,9 @@ AreShown table rows = scan (Intact table) (codes "primary") None None ≡ Ok row
 
 -- ---- two tables
 
--- each number in a value of kind bytes is a byte
-abbrev pub HasOnlyBytes : Value → Type 0
-HasOnlyBytes (value.Bytes bytes) = AllByRecursion (λ b. b < 256) bytes
-HasOnlyBytes other = Unit {0}
-
--- A table that can be dumped. The first three facts are true of each table of a program. The last one is where no name begins with a byte order mark, which a
--- load would drop, so of each table of a script.
-pub record IsDumpable (table : PlainTable) : Type 0 where
-  pub sound : IsSoundTable table
-  pub schema : is_schema table.schema.columns table.schema.keys ≡ true
-  pub bytes : AllByRecursion (λ row. AllByRecursion HasOnlyBytes row.1) table.rows
-  pub header : has_mark (header_line table.schema.columns) ≡ false
+-- the header does not begin with a byte order mark, which a load would drop; no name of the language does
+abbrev pub HasPlainHeader : PlainTable → Type 0
+HasPlainHeader table = has_mark (header_line table.schema.columns) ≡ false
 
 -- another table of the same schema to which no refusal of a load applies: it has no rows, and no index that is building
 pub record IsReadyFor (table other : PlainTable) : Type 0 where

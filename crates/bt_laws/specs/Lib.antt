@@ -3,3 +3,4 @@ pub mod Cuts
 pub mod Dumps
 pub mod FlushSizes
 pub mod Heights
+pub mod StoredTables

@@ -2,10 +2,11 @@
 ghost use Rattle.std.specs.Prelude.{List, ℕ};
 ghost use Rattle.bt_table.specs.Standing.{IsSoundTable};
 ghost use Rattle.bt_table.specs.Tables.{PlainTable};
-ghost use Rattle.bt_laws.specs.CanonicalForms.{HaveSameRows, IsLoadedOnceRebuilt, LoadsFromScratch, RebuildAlike, RebuildsFromScratch};
+ghost use Rattle.bt_laws.specs.CanonicalForms.{HaveSameRows, ImagesTellRows, IsLoadedOnceRebuilt, LoadsFromScratch, RebuildAlike, RebuildsFromScratch};
+ghost use Rattle.bt_laws.specs.StoredTables.{IsStored};
 
 /// The image of a tree that was rebuilt depends on the columns, the shape and the rows of the table alone, and of an index on its definition. That of a table
-/// that has loaded a text does too.
+/// that has loaded a text does too. And the image of a rebuilt tree of rows tells the rows.
 ///
 /// Each table that is not lost is sound (`IsSoundTable`), so what was done to it before, in which order and by whom, is not seen.
 pub fn canonical_form()
@@ -13,4 +14,5 @@ pub fn canonical_form()
     ensures loaded { (table : PlainTable) (text name : List ℕ) → IsSoundTable table → LoadsFromScratch table text name }
     ensures whole { (table : PlainTable) → IsSoundTable table → IsLoadedOnceRebuilt table }
     ensures alike { (first second : PlainTable) (name : List ℕ) → IsSoundTable first → IsSoundTable second → HaveSameRows first second → RebuildAlike first second name }
+    ensures told { (first second : PlainTable) → IsStored first → IsStored second → ImagesTellRows first second }
 {}

@@ -5,14 +5,15 @@ ghost use Rattle.bt_node.specs.Messages.{Rows};
 ghost use Rattle.bt_table.specs.Standing.{IsSoundTable};
 ghost use Rattle.bt_table.specs.Tables.{PlainTable};
 ghost use Rattle.bt_view.specs.RecordTexts.{record_line};
-ghost use Rattle.bt_laws.specs.Dumps.{IsDumpable, IsReadyFor, LoadsImagesOf, LoadsRowsOf};
+ghost use Rattle.bt_laws.specs.Dumps.{HasPlainHeader, IsReadyFor, LoadsImagesOf, LoadsRowsOf};
+ghost use Rattle.bt_laws.specs.StoredTables.{IsStored};
 
 /// The dump of a table is a header with the names of its columns, and after it the text that a `RecordText` of bt_view has after a scan of all rows. A table
 /// without rows that loads it has the same rows, and the same images once the trees of the first table are rebuilt.
 ///
 /// The clause `visited` says that the text of a `RecordText`, to which each row adds its line, is the lines of all rows.
 pub fn dump_and_load()
-    ensures rows { (table other : PlainTable) → IsDumpable table → IsReadyFor table other → LoadsRowsOf table other }
-    ensures images { (table other : PlainTable) → IsDumpable table → IsReadyFor table other → IsSoundTable other → other.shape ≡ table.shape → LoadsImagesOf table other }
+    ensures rows { (table other : PlainTable) → IsStored table → HasPlainHeader table → IsReadyFor table other → LoadsRowsOf table other }
+    ensures images { (table other : PlainTable) → IsStored table → HasPlainHeader table → IsReadyFor table other → IsSoundTable other → other.shape ≡ table.shape → LoadsImagesOf table other }
     ensures visited { (rows : Rows (List Value)) → fold (λ text row. text ++ record_line row.1) [] rows ≡ flat_map record_line (map (λ row. row.1) rows) }
 {}

@@ -19,5 +19,4 @@ pub fn flush_sizes<V: Merge>()
     ensures large { (shape : Shape) (flush : Flush V (Message V V.Delta)) (children : List (Child V (Message V V.Delta))) → FlushesAreLarge (meaning_of V.terms) shape flush children }
     ensures few { (shape : Shape) (tree : Tree V (Message V V.Delta)) (packets : List (Messages (Message V V.Delta))) → HasShape (weigh_of V.terms) shape tree → FlushesAreFew (meaning_of V.terms) shape tree packets }
     ensures in_all { (shape : Shape) (tree : Tree V (Message V V.Delta)) (packets : List (Messages (Message V V.Delta))) → HasShape (weigh_of V.terms) shape tree → FlushesAreFewInAll (meaning_of V.terms) shape tree packets }
-{
-}
+{}
