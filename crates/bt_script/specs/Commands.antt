@@ -1,5 +1,5 @@
 -- The commands of a script.
-use Rattle.std.specs.Prelude.{ℕ, ◌≡◌, ◌==◌, ◌&&◌, ◌<◌, ◌≤◌, ◌+◌, ◌-◌, not, Bool, List, [], ◌∷◌, ◌++◌, length, map, filter, take, drop, get_or, nat_le, Option, Some, None, Result, Ok, Err, if◌then◌else◌, codes, option_and_then, option_map, is_some, is_none, fold, ⊤}
+use Rattle.std.specs.Prelude.{ℕ, ◌≡◌, ◌==◌, ◌&&◌, ◌<◌, ◌≤◌, ◌+◌, ◌-◌, not, Bool, List, [], ◌∷◌, ◌++◌, length, map, filter, take, drop, get_or, nat_le, Option, Some, None, Result, Ok, Err, if◌then◌else◌, codes, option_and_then, option_map, is_some, is_none, fold, unwrap_or, ⊤}
 use Rattle.std.specs.List.{slice_split}
 use Rattle.std.specs.Cmp.Lexicographic.{pointwise}
 use Rattle.bt_rowtype.specs.Kinds.{kind_of_word}
@@ -35,13 +35,17 @@ all_some [] = Some []
 all_some (None ∷ rest) = None
 all_some (Some x ∷ rest) = option_map (λ xs. x ∷ xs) (all_some rest)
 
+-- what follows from a part of a line, if it has that part
+abbrev pub if_some : {A B : Type 0} → Option A → (A → Option B) → Option B
+if_some part rest = option_and_then rest part
+
 -- what stands behind a prefix, where a line begins with it
 abbrev pub behind_prefix : List ℕ → List ℕ → Option (List ℕ)
 behind_prefix prefix line = if is_word (take (length prefix) line) prefix then Some (drop (length prefix) line) else None
 
 -- the record behind a prefix
 abbrev pub record_behind : List ℕ → List ℕ → Option (List (List ℕ))
-record_behind prefix line = option_and_then record_of (behind_prefix prefix line)
+record_behind prefix line = if_some (behind_prefix prefix line) record_of
 
 -- a message of a batch: put, del or ups, one space and a record
 abbrev pub item_from : List ℕ → Option Item
@@ -83,8 +87,11 @@ table_from fanout buffer leaf keys columns = Table (record { fanout = fanout; bu
 unfoldable pub table_command : List (List ℕ) → Option Command
 table_command ws =
     if nat_le 6 (length ws) then
-    option_and_then (λ fanout. option_and_then (λ buffer. option_and_then (λ leaf. option_and_then (λ keys. option_map (table_from fanout buffer leaf keys)
-    (all_some (map column_of (drop 5 ws)))) (number_of_word (word_at ws 4))) (number_of_word (word_at ws 3))) (capacity_of_word (word_at ws 2))) (number_of_word (word_at ws 1))
+    if_some (number_of_word (word_at ws 1)) (λ fanout.
+    if_some (capacity_of_word (word_at ws 2)) (λ buffer.
+    if_some (number_of_word (word_at ws 3)) (λ leaf.
+    if_some (number_of_word (word_at ws 4)) (λ keys.
+    option_map (table_from fanout buffer leaf keys) (all_some (map column_of (drop 5 ws)))))))
     else None
 
 -- batch, with its messages
@@ -108,15 +115,19 @@ with_bound bounds line =
 
 -- and that of a line, where it is not blank
 abbrev pub and_bound : Option Bounds → List ℕ → Option Bounds
-and_bound bounds line = if is_blank line then bounds else option_and_then (λ own. with_bound own (without_spaces line)) bounds
+and_bound bounds line = if is_blank line then bounds else if_some bounds (λ own. with_bound own (without_spaces line))
 
 -- the bounds of a block
 unfoldable pub bounds_of : List (List ℕ) → Option Bounds
 bounds_of block = fold (λ bounds line. and_bound bounds (without_return line)) (Some unbounded) block
 
+-- the name after the first word, if no other word follows
+abbrev pub only_name : List (List ℕ) → Option (List ℕ)
+only_name ws = if length ws == 2 then name_of_word (word_at ws 1) else None
+
 -- scan and the name of a tree, with its bounds
 abbrev pub scan_command : List (List ℕ) → Option Bounds → Option Command
-scan_command ws bounds = if (length ws == 2) && is_name (word_at ws 1) then option_map (Scan (word_at ws 1)) bounds else None
+scan_command ws bounds = if_some (only_name ws) (λ tree. option_map (Scan tree) bounds)
 
 abbrev pub sums_from : List ℕ → ℕ → List ℕ → Bounds → Command
 sums_from tree columns column bounds = Sums (record { tree = tree; columns = columns; column = column; bounds = bounds })
@@ -125,17 +136,15 @@ sums_from tree columns column bounds = Sums (record { tree = tree; columns = col
 unfoldable pub sums_command : List (List ℕ) → Option Bounds → Option Command
 sums_command ws bounds =
     if length ws == 4 then
-    option_and_then (λ tree. option_and_then (λ columns. option_and_then (λ column. option_map (sums_from tree columns column) bounds)
-    (name_of_word (word_at ws 3))) (number_of_word (word_at ws 2))) (name_of_word (word_at ws 1))
+    if_some (name_of_word (word_at ws 1)) (λ tree.
+    if_some (number_of_word (word_at ws 2)) (λ columns.
+    if_some (name_of_word (word_at ws 3)) (λ column.
+    option_map (sums_from tree columns column) bounds)))
     else None
 
 -- get, one space and a record
 abbrev pub get_command : List ℕ → Option Command
 get_command head = option_map Get (record_behind (codes "get ") (without_spaces head))
-
--- the name that stands behind the first word, with no other word behind it
-abbrev pub only_name : List (List ℕ) → Option (List ℕ)
-only_name ws = if length ws == 2 then name_of_word (word_at ws 1) else None
 
 -- the names that commas join
 unfoldable pub names_of : List ℕ → Option (List (List ℕ))
@@ -155,13 +164,14 @@ only_field (field ∷ other ∷ fields) = None
 
 -- the constant of a filter: one space and a record of one field
 abbrev pub constant_of : List ℕ → Option (List ℕ)
-constant_of rest = option_and_then only_field (record_behind (codes " ") rest)
+constant_of rest = if_some (record_behind (codes " ") rest) only_field
 
 -- the filter behind the word at a place: a column, a test and a constant
 unfoldable pub filter_of : List ℕ → List (List ℕ) → ℕ → Option Filter
 filter_of head ws at =
-    option_and_then (λ column. option_and_then (λ t. option_map (λ constant. record { column = column; test = t; constant = constant })
-    (constant_of (behind_words (at + 3) head))) (test_of (word_at ws (at + 2)))) (name_of_word (word_at ws (at + 1)))
+    if_some (name_of_word (word_at ws (at + 1))) (λ column.
+    if_some (test_of (word_at ws (at + 2))) (λ t.
+    option_map (λ constant. record { column = column; test = t; constant = constant }) (constant_of (behind_words (at + 3) head))))
 
 -- the filter of an index, which begins with the word at a place: none, where the line ends before it
 abbrev pub filter_from : List ℕ → List (List ℕ) → ℕ → Option (Option Filter)
@@ -188,14 +198,18 @@ index_from name on include filter = Index (record { name = name; on = on; includ
 unfoldable pub index_command : List ℕ → List (List ℕ) → Option Command
 index_command head ws =
     if is_word (word_at ws 2) (codes "on") then
-    option_and_then (λ name. option_and_then (λ on. option_and_then (λ include. option_map (index_from name on include)
-    (index_filter head ws)) (included_of ws)) (names_of (word_at ws 3))) (name_of_word (word_at ws 1))
+    if_some (name_of_word (word_at ws 1)) (λ name.
+    if_some (names_of (word_at ws 3)) (λ on.
+    if_some (included_of ws) (λ include.
+    option_map (index_from name on include) (index_filter head ws))))
     else None
 
 -- build, the name of an index and a number
 unfoldable pub build_command : List (List ℕ) → Option Command
 build_command ws =
-    if length ws == 3 then option_and_then (λ name. option_map (Build name) (number_of_word (word_at ws 2))) (name_of_word (word_at ws 1))
+    if length ws == 3 then
+    if_some (name_of_word (word_at ws 1)) (λ name.
+    option_map (Build name) (number_of_word (word_at ws 2)))
     else None
 
 -- whether the first of the words is this one
@@ -212,27 +226,31 @@ command_on ws name =
 
 -- image, drop, drain or rebuild, and one name
 abbrev pub named_command : List (List ℕ) → Option Command
-named_command ws = option_and_then (command_on ws) (only_name ws)
+named_command ws = if_some (only_name ws) (command_on ws)
 
--- the line that closes the block of a command, where it has one
+-- the line that closes the block of a command, and the command with the lines of its block, if it has a block
+abbrev pub block_of : List (List ℕ) → Option (List ℕ × (List (List ℕ) → Option Command))
+block_of ws =
+    if begins ws (codes "batch") then Some (codes "end", λ block. batch_command ws (items_of block))
+    else (if begins ws (codes "scan") then Some (codes "go", λ block. scan_command ws (bounds_of block))
+    else (if begins ws (codes "sums") then Some (codes "go", λ block. sums_command ws (bounds_of block))
+    else (if begins ws (codes "load") then Some (codes ".", λ block. load_command ws (text_of_lines block)) else None)))
+
+-- the line that closes the block of a command, if it has one
 unfoldable pub closing_of : List (List ℕ) → Option (List ℕ)
-closing_of ws =
-    if begins ws (codes "batch") then Some (codes "end")
-    else (if begins ws (codes "scan") then Some (codes "go")
-    else (if begins ws (codes "sums") then Some (codes "go")
-    else (if begins ws (codes "load") then Some (codes ".") else None)))
+closing_of ws = option_map (λ form. form.0) (block_of ws)
+
+-- the command of a head line without a block
+abbrev pub line_command : List ℕ → List (List ℕ) → Option Command
+line_command head ws =
+    if begins ws (codes "table") then table_command ws
+    else (if begins ws (codes "get") then get_command head
+    else (if begins ws (codes "index") then index_command head ws
+    else (if begins ws (codes "build") then build_command ws else named_command ws)))
 
 -- the command of its head line, which has these words, and of the lines of its block, if it is one
 abbrev pub command_from : List ℕ → List (List ℕ) → List (List ℕ) → Option Command
-command_from head ws block =
-    if begins ws (codes "batch") then batch_command ws (items_of block)
-    else (if begins ws (codes "scan") then scan_command ws (bounds_of block)
-    else (if begins ws (codes "sums") then sums_command ws (bounds_of block)
-    else (if begins ws (codes "load") then load_command ws (text_of_lines block)
-    else (if begins ws (codes "table") then table_command ws
-    else (if begins ws (codes "get") then get_command head
-    else (if begins ws (codes "index") then index_command head ws
-    else (if begins ws (codes "build") then build_command ws else named_command ws)))))))
+command_from head ws block = unwrap_or (option_map (λ form. form.1 block) (block_of ws)) (line_command head ws)
 
 -- the command of its head line and the lines of its block, if it is one
 unfoldable pub command_of : List ℕ → List (List ℕ) → Option Command

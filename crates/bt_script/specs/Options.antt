@@ -31,6 +31,18 @@ betable = fold with_rule (new_app (codes "betable")) options
 unfoldable pub rows_of_words : List Text → List Row
 rows_of_words words = matches_of betable words
 
+-- the number of workers where the words name none
+abbrev pub default_workers : ℕ
+default_workers = 4
+
+-- the depth at which trees are cut into jobs where the words name none
+abbrev pub default_cut : ℕ
+default_cut = 2
+
+-- the grain where the words name none
+abbrev pub default_grain : ℕ
+default_grain = 64
+
 -- the number that an option gives, and `default` where it is absent
 abbrev pub number_given : Text → ℕ → List Text → ℕ
 number_given name default words = unwrap_or (option_map (λ text. digits_value 10 (without_leading_plus text)) (first_of name (rows_of_words words))) default

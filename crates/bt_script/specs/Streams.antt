@@ -4,6 +4,10 @@ use Rattle.std.specs.Io.KnownBytes.{Appends, Consumes}
 use Rattle.std.specs.Io.Iter.{u64_saturate}
 use Rattle.bt_script.specs.declared.counted.Counted.{Counted}
 
+-- how many bytes a script has at most, 64 MiB
+abbrev pub script_limit : ℕ
+script_limit = 67108864
+
 -- the reader or writer within
 abbrev pub source_of : {T : Type 0} → Counted T → T
 source_of stream = stream.inner

@@ -1,6 +1,6 @@
 //! The reading of a whole script and the writing of text.
 ghost use Rattle.std.specs.Prelude.{◌≡◌, ◌≤◌, ◌+◌, true, length, IfOk, OnOk, OnErr, IfSome, IsErrOf};
-ghost use Rattle.bt_script.specs.Streams.{FailsToGive, Gave, GaveAtMost, Took, TookPrefix, has_failed, source_of};
+ghost use Rattle.bt_script.specs.Streams.{FailsToGive, Gave, GaveAtMost, Took, TookPrefix, has_failed, script_limit, source_of};
 
 use crate::counted::Counted;
 use std::alloc::{AllocError, Global};
@@ -48,12 +48,12 @@ impl From<AllocError> for RunFault {
 pub fn read_script<R: Read>(alloc: Global, reader: &mut Counted<R>) -> Result<Vec<u8>, RunFault>
     ensures ok { IfOk result (λ script. Gave R.remaining reader.old reader.new script.items) }
     ensures whole { IfOk result (λ script. IfSome (R.remaining (source_of reader.old)) (λ bytes. bytes ≡ script.items)) }
-    ensures short { IfOk result (λ script. length script.items ≤ SCRIPT_LIMIT) }
+    ensures short { IfOk result (λ script. length script.items ≤ script_limit) }
     ensures healthy { OnOk result (has_failed reader.new ≡ has_failed reader.old) }
     // No more than one byte past the limit is read, also before an error.
-    ensures at_most { GaveAtMost R.remaining reader.old reader.new (SCRIPT_LIMIT + 1) }
-    ensures read { IsErrOf result RunFault.Read → FailsToGive R.remaining reader.old reader.new SCRIPT_LIMIT }
-    ensures memory { IsErrOf result RunFault.OutOfMemory → (has_failed reader.new ≡ has_failed reader.old) × GaveAtMost R.remaining reader.old reader.new SCRIPT_LIMIT }
+    ensures at_most { GaveAtMost R.remaining reader.old reader.new (script_limit + 1) }
+    ensures read { IsErrOf result RunFault.Read → FailsToGive R.remaining reader.old reader.new script_limit }
+    ensures memory { IsErrOf result RunFault.OutOfMemory → (has_failed reader.new ≡ has_failed reader.old) × GaveAtMost R.remaining reader.old reader.new script_limit }
     ensures write { IsErrOf result RunFault.Write → ⊥ }
 {
     let mut script = Vec::new(alloc);

@@ -3,7 +3,7 @@ ghost use Rattle.std.specs.Prelude.{◌≡◌, ◌⊎◌, [], false, IfOk, IfErr
 ghost use Rattle.clap.specs.Words.{FailsBy, IsParsedFrom, app_of, first_of, first_value, found_of, kind_of, rows_of, rule_of};
 ghost use Rattle.clap.specs.declared.builder.command.Command.{Command};
 ghost use Rattle.bt_script.specs.inside.Errors.{ComesOf};
-ghost use Rattle.bt_script.specs.Options.{AreWithinLimits, HasFault, MustBeRefused, betable, kinds_of_words, number_given, number_rule, option_rule, rows_of_words};
+ghost use Rattle.bt_script.specs.Options.{AreWithinLimits, HasFault, MustBeRefused, betable, default_cut, default_grain, default_workers, kinds_of_words, number_given, number_rule, option_rule, rows_of_words};
 
 use bt_gang::{DEEPEST_CUT, LARGEST_GRAIN, MOST_WORKERS};
 use bt_rowtype::Texts;
@@ -28,7 +28,7 @@ pub struct Words {
     pub workers: usize,
     /// At which depth trees are cut into jobs.
     pub cut: usize,
-    /// From how many messages on a packet is worked by jobs.
+    /// From how many messages on a packet is divided into jobs.
     pub grain: usize,
 }
 
@@ -65,7 +65,7 @@ const CUT_HELP: &str =
     "Cuts trees into jobs at depth D, 1 to 6 (default 2); take more for more, smaller jobs; changes no reply";
 
 const GRAIN_HELP: &str =
-    "Works packets of fewer than G messages in one thread, 1 to 65536 (default 64); changes no reply";
+    "Divides packets of G messages or more into jobs, 1 to 65536 (default 64); changes no reply";
 
 // What the help text says behind the options: the commands of a script.
 const COMMANDS: &str = "\
@@ -81,7 +81,7 @@ A script is a list of commands:
   build NAME N                reads the next N rows into an index
   drop NAME                   takes an index away
   drain TREE                  empties the buffers of a tree
-  rebuild TREE                packs the rows of a tree anew
+  rebuild TREE                packs the rows of a tree from scratch
 A kind is int, text, flag or bytes.
 An operation is set, add, max or min, followed by a column and its argument.
 A command that cannot be carried out is answered by 'refused', a number and a name.
@@ -167,9 +167,9 @@ fn words_error(alloc: Global, error: &Error) -> WordsError
 /// What the words of the command line say, the program's name first.
 pub fn read_words(alloc: Global, words: &Texts) -> Result<Words, WordsError>
     ensures script { IfOk result (λ said. option_map string_bytes said.script ≡ first_of (codes "script") (rows_of_words words.now)) }
-    ensures workers { IfOk result (λ said. said.workers ≡ number_given (codes "workers") DEFAULT_WORKERS words.now) }
-    ensures cut { IfOk result (λ said. said.cut ≡ number_given (codes "cut") DEFAULT_CUT words.now) }
-    ensures grain { IfOk result (λ said. said.grain ≡ number_given (codes "grain") DEFAULT_GRAIN words.now) }
+    ensures workers { IfOk result (λ said. said.workers ≡ number_given (codes "workers") default_workers words.now) }
+    ensures cut { IfOk result (λ said. said.cut ≡ number_given (codes "cut") default_cut words.now) }
+    ensures grain { IfOk result (λ said. said.grain ≡ number_given (codes "grain") default_grain words.now) }
     ensures within { IfOk result (λ said. AreWithinLimits said.workers said.cut said.grain) }
     ensures ok { OnOk result (kinds_of_words words.now ≡ []) }
     ensures err { IfErr result (HasFault words.now) }

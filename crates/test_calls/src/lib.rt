@@ -9,6 +9,8 @@ mod codes;
 #[cfg(test)]
 mod indexes;
 #[cfg(test)]
+mod loads;
+#[cfg(test)]
 mod messages;
 #[cfg(test)]
 mod operations;

@@ -197,6 +197,23 @@ fn compare_bins<R: Print + AllocGlobal>(rt: &R, bins: &Bins<Row>) -> Result<()> 
         bail!("there is no bin");
     }
     compare!(rt, "Bins::weight", bins.weight(0));
+    compare!(rt, "Bins::count", bins.count(0));
+    compare!(rt, "Bins::total", bins.total());
+    Ok(())
+}
+
+// The number of messages that are taken from the bin, and of those that are left.
+fn taken_counts(bins: Bins<Row>) -> (usize, usize) {
+    let mut bins = bins;
+    if bins.len() == 0 {
+        return (0, 0);
+    }
+    let taken = bins.take(0);
+    (taken.len(), bins.total())
+}
+
+fn compare_taken<R: Print + AllocGlobal>(rt: &R) -> Result<()> {
+    compare_made!(rt, "Bins::take", one_bin(rt.alloc())?, made => taken_counts(made));
     Ok(())
 }
 
@@ -219,7 +236,8 @@ fn compare_all_weights<R: Print + AllocGlobal>(rt: &R) -> Result<()> {
     let alloc = rt.alloc();
     compare_weights(rt, &row(alloc)?, &change(alloc)?)?;
     compare_weighed(rt, &key(alloc, 1)?, &Message::Put(row(alloc)?))?;
-    compare_bins(rt, &one_bin(alloc)?)
+    compare_bins(rt, &one_bin(alloc)?)?;
+    compare_taken(rt)
 }
 
 fn compare_plans<R: Print + AllocGlobal>(rt: &R, loads: &[u128]) -> Result<()> {

@@ -1,4 +1,4 @@
-//! Batches, steps of building and drains by crews: two jobs are run at the same time, and small packets have none.
+//! Batches, steps of building and drains by crews: two jobs are run at the same time, and packets have jobs from the grain on.
 use crate::gates::{Counting, Meeting};
 use crate::tables::{
     EIGHT_MESSAGES, SIX_ROWS, apply, create_index, image_of_rows, primary, table_after,
@@ -60,19 +60,21 @@ fn two_jobs_of_a_batch(rt: HostRuntime) -> Result<(), Fail> {
 }
 
 #[test]
-fn no_jobs_below_the_grain(rt: HostRuntime) -> Result<(), Fail> {
+fn jobs_from_the_grain_on(rt: HostRuntime) -> Result<(), Fail> {
     let alloc = rt.alloc();
-    let mut table = table_after(alloc, &[SIX_ROWS])?;
-    let gate = Counting {
-        entered: AtomicUsize::new(0),
-    };
-    let crew = Crew::new(2, 1, 9, &gate as &(dyn Gate + Sync))?;
-    drop(apply(&rt, alloc, &mut table, EIGHT_MESSAGES, &crew)?);
-    assert_eq!(&rt;
-        image_of_rows(alloc, &table)?.as_slice(),
-        AFTER_EIGHT.as_bytes()
-    );
-    assert_eq!(&rt; gate.entered.load(Ordering::SeqCst), 0);
+    for (grain, jobs) in [(9, 0), (8, 2)] {
+        let mut table = table_after(alloc, &[SIX_ROWS])?;
+        let gate = Counting {
+            entered: AtomicUsize::new(0),
+        };
+        let crew = Crew::new(2, 1, grain, &gate as &(dyn Gate + Sync))?;
+        drop(apply(&rt, alloc, &mut table, EIGHT_MESSAGES, &crew)?);
+        assert_eq!(&rt;
+            image_of_rows(alloc, &table)?.as_slice(),
+            AFTER_EIGHT.as_bytes()
+        );
+        assert_eq!(&rt; gate.entered.load(Ordering::SeqCst), jobs);
+    }
     Ok(())
 }
 

@@ -301,6 +301,19 @@ fn a_script_without_end(rt: HostRuntime) {
     assert_eq!(rt; reader.count(), 67_108_865);
 }
 
+#[test]
+fn faults_have_their_texts(rt: HostRuntime) -> Result<(), Fail> {
+    for (fault, text) in [
+        (RunFault::Read, "read failed"),
+        (RunFault::Write, "write failed"),
+        (RunFault::OutOfMemory, "out of memory"),
+    ] {
+        let shown = format!(in rt.alloc(); "{fault}")?;
+        assert_eq!(&rt; shown.as_bytes(), text.as_bytes());
+    }
+    Ok(())
+}
+
 // A table and a batch of so many equal lines, and a look at key 1.
 fn long_script(alloc: Global, line: &[u8], count: u32) -> Result<Vec<u8>, AllocError> {
     let mut script = Vec::from_slice(alloc, b"table 4 3 2 1 id:int note:text\nbatch\n")?;

@@ -1,0 +1,87 @@
+"""Tests of the program by crews: worked scripts by all crews, how many threads a batch starts, and a deep tree on the stack of a worker."""
+
+import os
+import subprocess
+import tempfile
+from functools import cache
+from pathlib import Path
+
+from common import expect, PROGRAM, run, SECONDS, TOP
+
+HERE = Path(__file__).resolve().parent
+TABLE = "table 4 1 2 1 id:int qty:int"
+INDEX = "index by_qty on qty\nbuild by_qty 1"
+
+
+def worked_scripts_have_the_same_replies_by_all_crews():
+    status, text, errors = run("tools/every_crew", "examples", "crates/test_scripts/data", seconds=1800)
+    expect((status, errors, text.splitlines()[-1].split(", ")[-1]), (0, "", "0 faults"))
+
+
+def every_crew_finds_other_replies():
+    with tempfile.TemporaryDirectory() as folder:
+        (Path(folder) / "script").write_text("get 1\n")
+        (Path(folder) / "script.stdout").write_text("none\n")
+        status, text, errors = run("tools/every_crew", folder)
+    expect((status, errors, text.splitlines()[-1]), (1, "", "1 scripts, 30 runs, 30 faults"))
+
+
+@cache
+def libraries():
+    """A folder for the preloaded library, which goes with the process."""
+    return tempfile.TemporaryDirectory()
+
+
+def library_of_threads():
+    """The preloaded library, which counts threads and lets each run to its end before it returns to the thread that started it."""
+    path = Path(libraries().name) / "threads.so"
+    if not path.exists():
+        words = ["cc", "-std=c11", "-O1", "-Wall", "-Wextra", "-Werror", "-shared", "-fPIC", HERE / "c/threads.c", "-o", path]
+        compiled = subprocess.run(words, capture_output=True, text=True)
+        expect((compiled.returncode, compiled.stderr), (0, ""))
+    return path
+
+
+def run_and_threads(script, workers):
+    """The replies to a script by this many workers, with a cut and a grain of 1, and how many threads were started."""
+    words = [PROGRAM, "--workers", str(workers), "--cut", "1", "--grain", "1"]
+    with tempfile.NamedTemporaryFile() as threads:
+        settings = {"LD_PRELOAD": str(library_of_threads()), "THREADS_FILE": threads.name}
+        ended = subprocess.run(words, input=script.encode(), capture_output=True, env={**os.environ, **settings}, timeout=SECONDS)
+        count = len(threads.read())
+    expect((ended.returncode, ended.stderr), (0, b""))
+    return ended.stdout.decode(), count
+
+
+def puts(keys):
+    return "\n".join(["batch", *(f"put {key},{key}" for key in keys), "end", ""])
+
+
+def pieces_of_a_batch_are_worked_by_two_threads():
+    """Of a batch into an empty table. The caller starts one thread for the lines that it does not read itself, and one to merge what both have sorted. The
+    tree is one leaf, which is one job, and needs no thread. With an index there is one thread more for the entries, one to merge these, and one since
+    there are two leaves."""
+    for heads, started in (([TABLE], 2), ([TABLE, INDEX], 5)):
+        script = "\n".join([*heads, puts(range(2_000))])
+        alone, none = run_and_threads(script, 1)
+        by_two, some = run_and_threads(script, 2)
+        expect((by_two == alone, none, some), (True, 0, started))
+
+
+def a_worker_goes_down_a_deep_tree():
+    """Rows by falling keys, each in a batch of its own, make a tree of ten levels, and then a message goes down to each row. The started thread takes all
+    the jobs, so what a job needs of the stack below the root is on the worker's."""
+    rows = range(2_000, 0, -1)
+    script = "\n".join([TABLE, *(puts([row]) for row in rows), puts(rows), "drain primary", "image primary", ""])
+    alone, none = run_and_threads(script, 1)
+    by_two, some = run_and_threads(script, 2)
+    expect("\nimage primary height 10\n" in alone, True)
+    expect((by_two == alone, none, some > 0), (True, 0, True))
+
+
+TESTS = [
+    worked_scripts_have_the_same_replies_by_all_crews,
+    every_crew_finds_other_replies,
+    pieces_of_a_batch_are_worked_by_two_threads,
+    a_worker_goes_down_a_deep_tree,
+]
