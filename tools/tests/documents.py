@@ -230,15 +230,17 @@ def the_measures_of_the_readme_are_those_of_the_results():
     expect(len(told) >= 6, True)
 
 
-def definitions_stand_where_the_page_says():
-    found = 0
-    for lines in paragraphs(section("docs/PROOFS.md", "## Where the definitions stand")):
+def definitions_are_where_the_page_says():
+    """The page names each file of definitions of the crates that it lists, and no others."""
+    named = set()
+    for lines in paragraphs(section("docs/PROOFS.md", "## Where the definitions are")):
         crate, *names = quoted(" ".join(lines))
-        for name in names:
-            if crate.startswith("bt_") and re.fullmatch(r"[A-Z][a-z]+", name):
-                expect((crate, name, (TOP / f"crates/{crate}/specs/{name}.antt").exists()), (crate, name, True))
-                found += 1
-    expect(found > 40, True)
+        named |= {(crate, name) for name in names if crate.startswith("bt_")}
+    paths = [(crate, path) for crate in {crate for crate, _ in named} for path in TOP.glob(f"crates/{crate}/specs/*.antt")]
+    files = {(crate, path.stem) for crate, path in paths if path.stem not in ("Lib", "inside")}
+    expect(sorted(files - named), [])
+    expect(sorted((crate, name) for crate, name in named - files if re.fullmatch(r"[A-Z][a-z]+", name)), [])
+    expect(len(files) > 40, True)
 
 
 def recipes_are_listed():
@@ -427,7 +429,7 @@ TESTS_OF_TEXTS = [
     crates_stand_as_the_architecture_says,
     the_sentence_is_the_same_on_both_pages,
     the_measures_of_the_readme_are_those_of_the_results,
-    definitions_stand_where_the_page_says,
+    definitions_are_where_the_page_says,
     recipes_are_listed,
     limits_of_the_document_are_those_of_the_model,
     workloads_of_the_benchmark_are_told,
