@@ -29,7 +29,7 @@ is_word text word = pointwise ◌==◌ text word
 abbrev pub word_at : List (List ℕ) → ℕ → List ℕ
 word_at ws place = get_or ws place []
 
--- all of them, where each is there
+-- all of them, if each exists
 abbrev pub all_some : {A : Type 0} → List (Option A) → Option (List A)
 all_some [] = Some []
 all_some (None ∷ rest) = None
@@ -39,11 +39,11 @@ all_some (Some x ∷ rest) = option_map (λ xs. x ∷ xs) (all_some rest)
 abbrev pub if_some : {A B : Type 0} → Option A → (A → Option B) → Option B
 if_some part rest = option_and_then rest part
 
--- what stands behind a prefix, where a line begins with it
+-- what follows a prefix, if a line begins with it
 abbrev pub behind_prefix : List ℕ → List ℕ → Option (List ℕ)
 behind_prefix prefix line = if is_word (take (length prefix) line) prefix then Some (drop (length prefix) line) else None
 
--- the record behind a prefix
+-- the record that follows a prefix
 abbrev pub record_behind : List ℕ → List ℕ → Option (List (List ℕ))
 record_behind prefix line = if_some (behind_prefix prefix line) record_of
 
@@ -72,18 +72,18 @@ column_from parts =
 unfoldable pub column_of : List ℕ → Option Column
 column_of word = column_from (slice_split (λ b. b == 58) word)
 
--- the last byte of a word, where it has one
+-- the last byte of a word, or 0 if the word is empty
 abbrev pub last_byte : List ℕ → ℕ
 last_byte word = get_or word (length word - 1) 0
 
--- the capacity of a buffer that a word writes: a number of messages, or with `b` behind it of bytes
+-- the capacity of a buffer that a word writes: a number of messages, or a number of bytes if a `b` follows it
 abbrev pub capacity_of_word : List ℕ → Option Capacity
 capacity_of_word word = if last_byte word == 98 then option_map Bytes (number_of_word (take (length word - 1) word)) else option_map Messages (number_of_word word)
 
 abbrev pub table_from : ℕ → Capacity → ℕ → ℕ → List Column → Command
 table_from fanout buffer leaf keys columns = Table (record { fanout = fanout; buffer = buffer; leaf = leaf; keys = keys; columns = columns })
 
--- table, four numbers, of which the second may have a `b` behind it, and one column or more
+-- table, four numbers and one column or more; a `b` may follow the second number
 unfoldable pub table_command : List (List ℕ) → Option Command
 table_command ws =
     if nat_le 6 (length ws) then
@@ -98,7 +98,7 @@ table_command ws =
 abbrev pub batch_command : List (List ℕ) → Option (List Item) → Option Command
 batch_command ws items = if length ws == 1 then option_map Batch items else None
 
--- load, with the text of its block as it stands
+-- load, with the unchanged text of its block
 abbrev pub load_command : List (List ℕ) → List ℕ → Option Command
 load_command ws text = if length ws == 1 then Some (Load text) else None
 
@@ -106,14 +106,14 @@ load_command ws text = if length ws == 1 then Some (Load text) else None
 abbrev pub unbounded : Bounds
 unbounded = record { from = None; to = None }
 
--- bounds and that of one line more: from is the first one, and each stands once
+-- bounds and that of one line more: from is the first one, and each comes once
 abbrev pub with_bound : Bounds → List ℕ → Option Bounds
 with_bound bounds line =
     if is_some (behind_prefix (codes "from ") line)
     then (if is_none bounds.from && is_none bounds.to then option_map (λ from. record { from = Some from; to = None }) (record_behind (codes "from ") line) else None)
     else (if is_none bounds.to then option_map (λ to. record { from = bounds.from; to = Some to }) (record_behind (codes "to ") line) else None)
 
--- and that of a line, where it is not blank
+-- and that of a line, unless it is blank
 abbrev pub and_bound : Option Bounds → List ℕ → Option Bounds
 and_bound bounds line = if is_blank line then bounds else if_some bounds (λ own. with_bound own (without_spaces line))
 
@@ -150,13 +150,13 @@ get_command head = option_map Get (record_behind (codes "get ") (without_spaces 
 unfoldable pub names_of : List ℕ → Option (List (List ℕ))
 names_of word = all_some (map name_of_word (slice_split (λ b. b == 44) word))
 
--- how a test is spelled
+-- the test that a word writes
 abbrev pub test_of : List ℕ → Option Test
 test_of word =
     if is_word word (codes "=") then Some test.Equal
     else (if is_word word (codes "<") then Some test.Less else (if is_word word (codes ">=") then Some test.AtLeast else None))
 
--- the field of a record that has no other one
+-- the field of a record of one field
 abbrev pub only_field : List (List ℕ) → Option (List ℕ)
 only_field [] = None
 only_field (field ∷ []) = Some field
@@ -166,14 +166,14 @@ only_field (field ∷ other ∷ fields) = None
 abbrev pub constant_of : List ℕ → Option (List ℕ)
 constant_of rest = if_some (record_behind (codes " ") rest) only_field
 
--- the filter behind the word at a place: a column, a test and a constant
+-- the filter after the word at a place: a column, a test and a constant
 unfoldable pub filter_of : List ℕ → List (List ℕ) → ℕ → Option Filter
 filter_of head ws at =
     if_some (name_of_word (word_at ws (at + 1))) (λ column.
     if_some (test_of (word_at ws (at + 2))) (λ t.
     option_map (λ constant. record { column = column; test = t; constant = constant }) (constant_of (behind_words (at + 3) head))))
 
--- the filter of an index, which begins with the word at a place: none, where the line ends before it
+-- the filter of an index, which begins with the word at a place, or none if the line ends before it
 abbrev pub filter_from : List ℕ → List (List ℕ) → ℕ → Option (Option Filter)
 filter_from head ws at =
     if length ws == at then Some None
@@ -187,14 +187,14 @@ includes ws = is_word (word_at ws 4) (codes "include")
 abbrev pub included_of : List (List ℕ) → Option (List (List ℕ))
 included_of ws = if includes ws then names_of (word_at ws 5) else Some []
 
--- the filter of an index, which stands behind the columns
+-- the filter of an index, which follows the columns
 abbrev pub index_filter : List ℕ → List (List ℕ) → Option (Option Filter)
 index_filter head ws = filter_from head ws (if includes ws then 6 else 4)
 
 abbrev pub index_from : List ℕ → List (List ℕ) → List (List ℕ) → Option Filter → Command
 index_from name on include filter = Index (record { name = name; on = on; include = include; filter = filter })
 
--- index, its name, `on` and the names of columns, the columns to include and the filter, as far as they are there
+-- index, its name, `on` and the names of columns, and then the columns to include and the filter, if it has them
 unfoldable pub index_command : List ℕ → List (List ℕ) → Option Command
 index_command head ws =
     if is_word (word_at ws 2) (codes "on") then
@@ -269,12 +269,12 @@ abbrev pub unfinished : Option Command → Answer
 unfinished None = Err Syntax
 unfinished (Some command) = Err Unfinished
 
--- where a line stands: outside of blocks, or in the block of this head line, with this closing line and these lines before it
+-- where a line is: outside of blocks, or in the block of this head line, with this closing line and these lines before it
 pub data Place : Type 0 where
   Outside : Place
   Inside : (head : List ℕ) → (closing : List ℕ) → (block : List (List ℕ)) → Place
 
--- a head line: the command itself where it has no block, or else the start of its block
+-- a head line: the command itself if it has no block, or the start of its block
 abbrev pub opened : List ℕ → Option (List ℕ) → Place × List Answer
 opened head None = (Outside, or_syntax (command_of head []) ∷ [])
 opened head (Some closing) = (Inside head closing [], [])
@@ -282,7 +282,7 @@ opened head (Some closing) = (Inside head closing [], [])
 abbrev pub head_step : List ℕ → Place × List Answer
 head_step head = opened head (closing_of (words head))
 
--- one line: where the next one stands, and the command that ends here, if one does
+-- one line: where the next one is, and the command that ends here, if one does
 unfoldable pub line_step : Place → List ℕ → Place × List Answer
 line_step Outside line = if is_blank_line line then (Outside, []) else head_step (without_return line)
 line_step (Inside head closing block) line =

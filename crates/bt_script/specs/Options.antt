@@ -31,19 +31,19 @@ betable = fold with_rule (new_app (codes "betable")) options
 unfoldable pub rows_of_words : List Text → List Row
 rows_of_words words = matches_of betable words
 
--- the number of workers where the words name none
+-- the number of workers if the words name none
 abbrev pub default_workers : ℕ
 default_workers = 4
 
--- the depth at which trees are cut into jobs where the words name none
+-- the depth at which trees are cut into jobs if the words name none
 abbrev pub default_cut : ℕ
 default_cut = 2
 
--- the grain where the words name none
+-- the grain if the words name none
 abbrev pub default_grain : ℕ
 default_grain = 64
 
--- the number that an option gives, and `default` where it is absent
+-- the number that an option gives, and `default` if it is absent
 abbrev pub number_given : Text → ℕ → List Text → ℕ
 number_given name default words = unwrap_or (option_map (λ text. digits_value 10 (without_leading_plus text)) (first_of name (rows_of_words words))) default
 
@@ -51,7 +51,7 @@ number_given name default words = unwrap_or (option_map (λ text. digits_value 1
 abbrev pub AreWithinLimits : ℕ → ℕ → ℕ → Type 0
 AreWithinLimits workers cut grain = IsCrew workers cut grain
 
--- the kinds of fault that the words have, and none where they are read
+-- the kinds of fault that the words have, and none if they are read
 unfoldable pub kinds_of_words : List Text → Kinds
 kinds_of_words words = fault_of betable words
 
@@ -71,7 +71,7 @@ MustBeRefused words = IsFaulty words × (AsksHelp words → ⊥)
 abbrev pub IsToReadInput : List Text → Type 0
 IsToReadInput words = (kinds_of_words words ≡ []) × (first_of (codes "script") (rows_of_words words) ≡ None)
 
--- the words have the fault that an error names; want of memory may come at any words
+-- the words have the fault that an error names; any words may be answered as out of memory
 abbrev pub HasFault : List Text → WordsError → Type 0
 HasFault words Faulty = IsFaulty words
 HasFault words (Help text) = AsksHelp words

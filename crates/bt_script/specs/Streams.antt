@@ -20,19 +20,19 @@ has_failed stream = stream.failed
 abbrev pub has_unflushed : {T : Type 0} → Counted T → Bool
 has_unflushed stream = stream.unflushed
 
--- how many bytes it gave as a reader, or took as a writer; held at the greatest u64
+-- how many bytes it gave as a reader, or took as a writer; held at the largest u64
 abbrev pub count_of : {T : Type 0} → Counted T → ℕ
 count_of stream = u64_saturate stream.count
 
--- a stream counted so many more bytes
+-- a stream counted this many more bytes
 abbrev pub Counts : {T : Type 0} → Counted T → Counted T → ℕ → Type 0
 Counts old new more = count_of new ≡ u64_saturate (count_of old + more)
 
--- a read or write counted the bytes that it passed on, and none where it failed
+-- a read or write counted the bytes that it passed on, and none if it failed
 abbrev pub CountsPassed : {T E : Type 0} → Counted T → Counted T → Result ℕ E → Type 0
 CountsPassed old new result = MatchResult result (λ passed. Counts old new passed) (λ _. count_of new ≡ count_of old)
 
--- a reader gave these bytes: it counted them, and where its bytes are known, they began with them
+-- a reader gave these bytes: it counted them, and if its bytes are known, they began with them
 abbrev pub Gave : {R : Type 0} → (R → Option (List ℕ)) → Counted R → Counted R → List ℕ → Type 0
 Gave remaining old new bytes = Consumes (remaining (source_of old)) (remaining (source_of new)) bytes × Counts old new (length bytes)
 
@@ -48,7 +48,7 @@ FailsToGive remaining old new limit = (has_failed new ≡ true) ⊎ ((bytes : Li
 abbrev pub GivesWithin : {R : Type 0} → (R → Option (List ℕ)) → Counted R → Counted R → ℕ → Type 0
 GivesWithin remaining old new limit = (has_failed new ≡ false) × GaveAtMost remaining old new limit
 
--- a writer took these bytes: it counted them, and where its bytes are known, they grew by them
+-- a writer took these bytes: it counted them, and if its bytes are known, they grew by them
 abbrev pub Took : {W : Type 0} → (W → Option (List ℕ)) → Counted W → Counted W → List ℕ → Type 0
 Took contents old new bytes = Appends (contents (source_of old)) (contents (source_of new)) bytes × Counts old new (length bytes)
 
@@ -56,7 +56,7 @@ Took contents old new bytes = Appends (contents (source_of old)) (contents (sour
 abbrev pub TookPrefix : {W : Type 0} → (W → Option (List ℕ)) → Counted W → Counted W → List ℕ → Type 0
 TookPrefix contents old new text = (count : ℕ) × Took contents old new (take count text)
 
--- a write of so many bytes failed: an error, or it took none of some
+-- a write of this many bytes failed: an error, or it took none of some
 abbrev pub write_failed : {E : Type 0} → Result ℕ E → ℕ → Bool
 write_failed (Ok taken) offered = (taken == 0) && not (offered == 0)
 write_failed (Err error) offered = true

@@ -13,9 +13,9 @@ pub const SCRIPT_LIMIT: usize = 67_108_864;
 // How many bytes one read asks for.
 const PIECE_SIZE: usize = 8_192;
 
-// How many bytes the room for a piece has, of which a piece is used. The C library gives the end of its heap back to the system
-// where more is free than twice the greatest block that it mapped by itself and gave back, 32 MiB at most; without such a block
-// it does so after each batch, and the next one has its pages made anew.
+// How many bytes the room for a piece has, of which only a piece is used. The C library gives the end of its heap back to the system if more is free than
+// twice the largest block that it mapped by itself and gave back, 32 MiB at most. Without such a block it does so after each batch, and the next batch has to
+// get the pages again.
 const ROOM_SIZE: usize = 33_488_896;
 
 /// Why a run ends early.
@@ -27,7 +27,7 @@ pub enum RunFault {
     /// A write or a flush failed.
     #[error("write failed")]
     Write,
-    /// A request for memory was refused.
+    /// An allocation failed.
     #[error("out of memory")]
     OutOfMemory,
 }

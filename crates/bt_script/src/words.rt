@@ -12,19 +12,19 @@ use clap::error::ErrorKind;
 use clap::{Arg, ArgAction, ArgMatches, Command, Error};
 use std::alloc::{AllocError, Global};
 
-/// The number of workers where the words name none.
+/// The number of workers if the words name none.
 pub(crate) const DEFAULT_WORKERS: usize = 4;
-/// The depth at which trees are cut into jobs where the words name none.
+/// The depth at which trees are cut into jobs if the words name none.
 pub(crate) const DEFAULT_CUT: usize = 2;
-/// The grain where the words name none.
+/// The grain if the words name none.
 pub(crate) const DEFAULT_GRAIN: usize = 64;
 
 /// What the words say.
 #[derive(Drop)]
 pub struct Words {
-    /// The file of the script, where one is named. Otherwise the script is the standard input.
+    /// The file of the script, if one is named. Otherwise the script is the standard input.
     pub script: Option<String>,
-    /// How many threads work, of which the caller is one.
+    /// How many threads work, including the caller.
     pub workers: usize,
     /// At which depth trees are cut into jobs.
     pub cut: usize,
@@ -32,15 +32,14 @@ pub struct Words {
     pub grain: usize,
 }
 
-/// Why the words say nothing to run.
+/// Why there is nothing to run.
 #[derive(Drop)]
 pub enum WordsError {
-    /// An unknown option, an option twice or without its value, a number that is none or outside its limits, or a word too
-    /// many.
+    /// An unknown option, an option twice or without its value, a number that is none or outside its limits, or a word too many.
     Faulty,
     /// The words ask for help, with the text to print.
     Help(String),
-    /// A request for memory was refused.
+    /// An allocation failed.
     OutOfMemory,
 }
 
@@ -67,7 +66,7 @@ const CUT_HELP: &str =
 const GRAIN_HELP: &str =
     "Divides packets of G messages or more into jobs, 1 to 65536 (default 64); changes no reply";
 
-// What the help text says behind the options: the commands of a script.
+// What the help text says after the options: the commands of a script.
 const COMMANDS: &str = "\
 A script is a list of commands:
   table F C L K name:kind ..  makes the table: fanout, buffer and leaf of its tree, number of key columns, columns
@@ -136,7 +135,7 @@ fn parse<'a>(alloc: Global, words: &'a [String]) -> Result<ArgMatches<'a>, Error
     command(alloc)?.try_get_matches_from(words)
 }
 
-// The text of an option, where it is given.
+// The text of an option, if it is given.
 fn text_of(
     alloc: Global,
     matches: &ArgMatches<'_>,

@@ -13,6 +13,6 @@ summed_of ws =
     option_map (λ column. (tree, columns, column)) (name_of_word (word_at ws 3))))
     else None
 
--- the index of a name and of the columns that it is ordered by, with what the words say behind them
+-- the index of a name and of the columns that it is ordered by, with what the words after them say
 abbrev pub index_on : List ℕ → List (List ℕ) → List ℕ → List (List ℕ) → Option Command
 index_on head ws name on = if_some (included_of ws) (λ include. option_map (index_from name on include) (index_filter head ws))
