@@ -48,12 +48,11 @@ typedef struct {
 typedef enum {
     /* All that was asked is done. A command that is refused is answered so, and is done too: see betable_refused_count. */
     BETABLE_DONE = 0,
-    /* A request for memory was refused. After a run the replies of the first commands are there, which were carried out. The command behind them has no reply:
-       it changed nothing, or it was carried out and memory was wanting for its reply, or the table is lost: see betable_is_lost. Those behind it were not
-       carried out. The session can be used. */
+    /* A request for memory was refused. After a run the whole replies of the first n commands are there, and the table is the one after these n commands, the
+       one after n + 1 of them, or lost: see betable_is_lost. No further command was carried out. The session can be used. */
     BETABLE_OUT_OF_MEMORY = 1,
-    /* A request for memory was refused while a reply was put to the others: its command was carried out, and of this reply the first bytes are there, if any.
-       Those behind it were not carried out. */
+    /* A request for memory was refused while a reply was added to the others. The table is the one after n + 1 commands: the whole replies of the first n are
+       there, and the first bytes of the next one, if any. No further command was carried out. */
     BETABLE_REPLY_CUT = 2,
     /* The session is not open. Nothing was done, and its address was not read. */
     BETABLE_NOT_OPEN = 3,
@@ -77,7 +76,8 @@ size_t betable_copy_replies(betable_session *session, size_t from, unsigned char
 /* How many commands of the last script were refused. 0 where the session is not open, and after a run that was not DONE. */
 size_t betable_refused_count(betable_session *session) BETABLE_NOT_NULL;
 
-/* Whether the table was lost, since a request for memory was refused while it was changed: each further command on it is answered 'refused 18 Failed'. */
+/* Whether the table was lost, since a request for memory was refused while it was changed. A lost table stays lost, and each command on it but `table` has the
+   reply 'refused 18 Failed'. */
 bool betable_is_lost(betable_session *session) BETABLE_NOT_NULL;
 
 /* Closes a session, and gives its memory back. DONE or NOT_OPEN. */

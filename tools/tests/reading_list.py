@@ -1,5 +1,6 @@
 """Tests of tools/reading_list."""
 
+import re
 import tempfile
 from pathlib import Path
 
@@ -233,6 +234,45 @@ def reading_list_is_put_between_its_two_lines():
     expect((status, "old" in document), (1, True))
 
 
+def definitions_of(*roots):
+    """The definitions that the clauses of these functions rest on, by file, as bt_shell/specs/Runs. Where none is given, those of the statement on the whole."""
+    status, text, errors = run_forked("tools/reading_list", *roots)
+    expect((status, errors), (0, ""))
+    entries = re.split(r"^- ", text.partition("Types and constants")[0], flags=re.MULTILINE)[1:]
+    return {names[0]: names[1:] for names in (re.findall(r"`([^`]+)`", entry) for entry in entries)}
+
+
+def steps_of_reading():
+    """The steps of what there is to read in docs/VERIFYING.md: the number of lines, and the files."""
+    section = (TOP / "docs/VERIFYING.md").read_text().split("## What to read, in order\n")[1].split("\n## ")[0]
+    for step in re.findall(r"^\d+\. (.+(?:\n   .+)*)", section, re.MULTILINE):
+        step = " ".join(step.split())
+        files = [f"{crate}/specs/{name}" for crate, names in re.findall(r"(bt_\w+)/specs: (\w+(?:, \w+)*)", step) for name in names.split(", ")]
+        yield int(re.match(r"\*\*(\d+) lines\.\*\*", step).group(1)), files
+
+
+def steps_of_reading_have_each_file_of_the_list_once():
+    expect(sorted(file for _, files in steps_of_reading() for file in files), sorted(definitions_of()))
+
+
+def steps_of_reading_have_their_numbers_of_lines():
+    for count, files in steps_of_reading():
+        expect((files, count), (files, sum(len((TOP / f"crates/{file}.antt").read_text().splitlines()) for file in files)))
+
+
+def sum_of_the_steps_of_reading_is_that_of_the_document():
+    steps = list(steps_of_reading())
+    expect_within(f"{sum(count for count, _ in steps):,} lines in {sum(len(files) for _, files in steps)} files", (TOP / "docs/VERIFYING.md").read_text())
+
+
+def names_of_the_theorem_are_defined_in_their_files():
+    run_file = "bt_shell/src/script_run.rt"
+    files = definitions_of(*(f"{run_file}:{name}" for name in ("replies_to", "run_script", "run_commands")))
+    named = re.findall(r"^\| .+ \| `(\w+)` \| (\S+) \|$", (TOP / "docs/THEOREM.md").read_text(), re.MULTILINE)
+    expect(len(named) > 30, True)
+    expect([(name, file) for name, file in named if name not in files.get(file, [])], [])
+
+
 # Those that ask for no program.
 TESTS_OF_TEXTS = [
     reading_list_is_that_of_the_document,
@@ -243,6 +283,10 @@ TESTS_OF_TEXTS = [
     reading_list_names_what_nothing_explains,
     reading_list_names_two_definitions_of_one_name,
     reading_list_is_put_between_its_two_lines,
+    steps_of_reading_have_each_file_of_the_list_once,
+    steps_of_reading_have_their_numbers_of_lines,
+    sum_of_the_steps_of_reading_is_that_of_the_document,
+    names_of_the_theorem_are_defined_in_their_files,
 ]
 
 TESTS = []

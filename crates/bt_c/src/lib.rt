@@ -12,11 +12,14 @@
 //! ```
 #![tactic(auto)]
 
-ghost use Rattle.std.specs.Prelude.{◌≡◌, ◌≢◌, ◌⊎◌, ◌-◌, [], IfSome, List, None, ℕ, drop, is_some, length, min, take, true, false};
+ghost use Rattle.std.specs.Prelude.{◌≡◌, ◌≢◌, ◌⊎◌, ◌-◌, [], IfSome, List, None, Some, ℕ, drop, flat_map, is_some, length, min, take, true, false};
 ghost use Rattle.std.specs.Option.{MatchOption};
 ghost use Rattle.bt_script.specs.Commands.{commands};
+ghost use Rattle.bt_shell.specs.Faults.{StopsBetweenReplies, StopsWithinReply, lost_reply};
 ghost use Rattle.bt_shell.specs.Runs.{AreOneRun, EndsBetweenCommands, after_commands, refused_count, replies};
 ghost use Rattle.bt_shell.specs.Steps.{State};
+ghost use Rattle.bt_table.specs.Standing.{CompleteIndexesHold, IsSoundUnlessLost};
+ghost use Rattle.bt_table.specs.Tables.{Lost};
 ghost use Rattle.bt_c.specs.Sessions.{StaysOpen, code_of, is_lost, session_of};
 ghost use Rattle.bt_c.specs.declared.status.Status.TheVariants as status;
 
@@ -52,9 +55,11 @@ pub extern "C" fn betable_open(alloc: Global, handle: &mut Handle) -> u32
 
 /// Carries out the commands of a script on the session's table. Their replies are kept until the next run.
 ///
-/// `Done`: each command has its reply, and the table is what they leave. `OutOfMemory`: the replies of the first commands are there, whole; the command
-/// behind them changed nothing, or is carried out and memory was wanting for its reply, or the table is lost. `ReplyCut`: memory was wanting for the list of
-/// replies; the command of the last one is carried out, and the reply is not whole.
+/// `Done`: each command has its reply, and the table is what they leave. `OutOfMemory`: the whole replies of the first n commands are there, and the table is the
+/// one after these n commands, the one after n + 1 of them, or lost. `ReplyCut`: a request for memory was refused for the list of replies; the table is the one
+/// after n + 1 commands, and the whole replies of the first n are there with the first bytes of the next one, if any.
+///
+/// A lost table stays lost, and each command on it but `table` is refused as `Failed`.
 #[unsafe(no_mangle)]
 pub extern "C" fn betable_run(alloc: Global, handle: &mut Handle, script: &[u8]) -> u32
     ensures closed { session_of handle.old ≡ None → (result ≡ code_of status.NotOpen) × (session_of handle.new ≡ None) }
@@ -63,11 +68,18 @@ pub extern "C" fn betable_run(alloc: Global, handle: &mut Handle, script: &[u8])
     ensures written { result ≡ code_of status.Done → StaysOpen handle.old handle.new (λ old new. new.text.items ≡ replies old.table (commands script.now)) }
     ensures state { result ≡ code_of status.Done → StaysOpen handle.old handle.new (λ old new. new.table ≡ after_commands old.table (commands script.now)) }
     ensures refused { result ≡ code_of status.Done → StaysOpen handle.old handle.new (λ old new. new.refused ≡ refused_count old.table (commands script.now)) }
-    ensures memory { result ≡ code_of status.OutOfMemory → StaysOpen handle.old handle.new (λ old new. (n : ℕ) × (new.text.items ≡ replies old.table (take n (commands script.now)))) }
-    ensures cut { result ≡ code_of status.ReplyCut → StaysOpen handle.old handle.new (λ old new. (n : ℕ) × (new.text.items ≡ take n (replies old.table (commands script.now)))) }
+    ensures memory { result ≡ code_of status.OutOfMemory → StaysOpen handle.old handle.new (λ old new. StopsBetweenReplies (λ bytes. new.text.items ≡ bytes) old.table new.table script.now) }
+    ensures cut { result ≡ code_of status.ReplyCut → StaysOpen handle.old handle.new (λ old new. StopsWithinReply (λ bytes. new.text.items ≡ bytes) old.table new.table script.now) }
     ensures uncounted { result ≢ code_of status.Done → IfSome (session_of handle.new) (λ session. session.refused ≡ 0) }
 
-    // This script behind any that ends between two commands is the rest of one script.
+    // A lost table stays lost, and each command on it but `table` is refused as Failed.
+    ensures lost { is_some (session_of handle.old) ≡ true → StaysOpen handle.old handle.new (λ old new. old.table ≡ Some Lost → (new.table ≡ Some Lost) × (replies old.table (commands script.now) ≡ flat_map lost_reply (commands script.now))) }
+
+    // Whatever the result is, the table is sound unless it is lost, and so each complete index holds exactly the entries that its definition selects from the rows.
+    ensures sound { IfSome (session_of handle.new) (λ session. IfSome session.table IsSoundUnlessLost) }
+    ensures complete { IfSome (session_of handle.new) (λ session. IfSome session.table CompleteIndexesHold) }
+
+    // This script after any that ends between two commands is the rest of one script.
     ensures one_run { (first : List ℕ) (before : State) → EndsBetweenCommands first → AreOneRun before first script.now }
 {
     let Some(mut session) = handle.take(alloc) else {

@@ -1,7 +1,10 @@
 //! A table that lives between calls, and the replies that are still to be taken.
-ghost use Rattle.std.specs.Prelude.{◌≡◌, ◌-◌, ◌++◌, [], IfOk, IsErrOf, OnErr, OnOk, None, ℕ, drop, length, min, take};
+ghost use Rattle.std.specs.Prelude.{◌≡◌, ◌-◌, ◌++◌, [], IfOk, IfSome, IsErrOf, OnErr, OnOk, None, Some, drop, flat_map, length, min, take};
 ghost use Rattle.bt_script.specs.Commands.{commands};
+ghost use Rattle.bt_shell.specs.Faults.{StopsBetweenReplies, StopsWithinReply, lost_reply};
 ghost use Rattle.bt_shell.specs.Runs.{after_commands, refused_count, replies};
+ghost use Rattle.bt_table.specs.Standing.{CompleteIndexesHold, IsSoundUnlessLost};
+ghost use Rattle.bt_table.specs.Tables.{Lost};
 ghost use Rattle.bt_c.specs.Sessions.{is_lost};
 
 use bt_script::{Counted, RunFault};
@@ -18,7 +21,7 @@ pub struct Session {
     pub refused: usize,
 }
 
-// Carries out the commands of a script on a table, puts their replies behind a text, and answers how many were refused.
+// Carries out the commands of a script on a table, puts their replies after a text, and returns how many were refused.
 fn run_into(
     alloc: Global,
     script: &[u8],
@@ -28,9 +31,12 @@ fn run_into(
     ensures written { OnOk result (text.new.items ≡ text.old.items ++ replies table.old (commands script.now)) }
     ensures state { OnOk result (table.new ≡ after_commands table.old (commands script.now)) }
     ensures refused { IfOk result (λ count. count ≡ refused_count table.old (commands script.now)) }
-    ensures prefix { OnErr result ((n : ℕ) × (text.new.items ≡ text.old.items ++ take n (replies table.old (commands script.now)))) }
     ensures no_read { IsErrOf result RunFault.Read → ⊥ }
-    ensures memory { IsErrOf result RunFault.OutOfMemory → (n : ℕ) × (text.new.items ≡ text.old.items ++ replies table.old (take n (commands script.now))) }
+    ensures write { IsErrOf result RunFault.Write → StopsWithinReply (λ bytes. text.new.items ≡ text.old.items ++ bytes) table.old table.new script.now }
+    ensures memory { IsErrOf result RunFault.OutOfMemory → StopsBetweenReplies (λ bytes. text.new.items ≡ text.old.items ++ bytes) table.old table.new script.now }
+    ensures lost { table.old ≡ Some Lost → (table.new ≡ Some Lost) × (replies table.old (commands script.now) ≡ flat_map lost_reply (commands script.now)) }
+    ensures sound { IfSome table.new IsSoundUnlessLost }
+    ensures complete { IfSome table.new CompleteIndexesHold }
 {
     let mut writer = Counted::new(mem::replace(text, Vec::new(alloc)));
     let counted = run_commands(&(), alloc, script, table, &mut writer, &Alone);
@@ -57,9 +63,12 @@ impl Session {
         ensures state { OnOk result (self.new.table ≡ after_commands self.old.table (commands script.now)) }
         ensures refused { OnOk result (self.new.refused ≡ refused_count self.old.table (commands script.now)) }
         ensures uncounted { OnErr result (self.new.refused ≡ 0) }
-        ensures prefix { OnErr result ((n : ℕ) × (self.new.text.items ≡ take n (replies self.old.table (commands script.now)))) }
         ensures no_read { IsErrOf result RunFault.Read → ⊥ }
-        ensures memory { IsErrOf result RunFault.OutOfMemory → (n : ℕ) × (self.new.text.items ≡ replies self.old.table (take n (commands script.now))) }
+        ensures write { IsErrOf result RunFault.Write → StopsWithinReply (λ bytes. self.new.text.items ≡ bytes) self.old.table self.new.table script.now }
+        ensures memory { IsErrOf result RunFault.OutOfMemory → StopsBetweenReplies (λ bytes. self.new.text.items ≡ bytes) self.old.table self.new.table script.now }
+        ensures lost { self.old.table ≡ Some Lost → (self.new.table ≡ Some Lost) × (replies self.old.table (commands script.now) ≡ flat_map lost_reply (commands script.now)) }
+        ensures sound { IfSome self.new.table IsSoundUnlessLost }
+        ensures complete { IfSome self.new.table CompleteIndexesHold }
     {
         self.text.clear();
         self.refused = 0;

@@ -1,4 +1,8 @@
+pub mod Contents
 pub mod Definitions
+pub mod Faults
+pub mod Records
+pub mod Refusals
 pub mod Replied
 pub mod Sound
 pub mod Turns

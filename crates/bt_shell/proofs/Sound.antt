@@ -1,5 +1,5 @@
 -- A table stays sound along the commands of a script. Serves the run.
-use Rattle.std.proofs.Common.{ℕ, ◌≡◌, ◌≤◌, arith, not, Bool, true, false, List, [], ◌∷◌, ◌++◌, refl, length, Option, Some, None, IfSome, IfOk, Result, Ok, Err, codes}
+use Rattle.std.proofs.Common.{ℕ, ◌≡◌, ◌≤◌, ◌+◌, arith, not, Bool, true, false, List, [], ◌∷◌, ◌++◌, refl, sym, subst, inl, inr, length, take, Option, Some, None, IfSome, IfOk, Result, Ok, Err, codes}
 use Rattle.std.proofs.lemmas.Bool.Decides.{nat_tests}
 use Rattle.bt_rowtype.specs.Refusals.{least}
 use Rattle.bt_rowtype.specs.Schemas.{is_schema}
@@ -15,16 +15,18 @@ use Rattle.bt_script.specs.declared.command.TableForm.{TableForm}
 use Rattle.bt_fanout.specs.Definitions.{definition_as}
 use Rattle.bt_fanout.specs.Entries.{Definition}
 use Rattle.bt_fanout.proofs.offered.Definitions.{definition_suits}
+use Rattle.bt_shell.specs.Faults.{IsLeftAfter}
 use Rattle.bt_shell.specs.Replies.{count_line}
 use Rattle.bt_shell.specs.Runs.{after_commands}
 use Rattle.bt_shell.specs.Steps.{Done, State, call_outcome, creation_outcome, definition_of, definition_or_least, done_or_refused, form_refusals, is_allowed, outcome, read_outcome, shape_of, table_of, turn}
+use Rattle.bt_shell.proofs.Faults.{stays_lost}
 use Rattle.bt_batch.specs.Batches.{one_if}
 use Rattle.bt_table.specs.Calls as call
 use Rattle.bt_table.specs.Calls.{name_refusals, step}
-use Rattle.bt_table.specs.Standing.{CompleteIndexesHold, IsSound}
+use Rattle.bt_table.specs.Standing.{CompleteIndexesHold, IsSound, IsSoundUnlessLost}
 use Rattle.bt_table.specs.Tables.{Intact, Lost, TableState}
 use Rattle.bt_table.specs.declared.reply.Reply.{Reply}
-use Rattle.bt_table.proofs.offered.Steps.{empty_is_sound, shape_is_roomy, sound_hold, step_keeps_sound}
+use Rattle.bt_table.proofs.offered.Steps.{empty_is_sound, shape_is_roomy, sound_hold, step_keeps_sound, unless_lost_hold}
 
 -- a table that no refusal applies to has a schema and a shape
 both_allowed : (exists schema shape : Bool) → least (one_if exists TableExists ++ (one_if (not schema) BadSchema ++ one_if (not shape) BadShape)) ≡ None → (schema ≡ true) × (shape ≡ true)
@@ -123,3 +125,27 @@ commands_keep_sound state (answer ∷ more) sound = commands_keep_sound (turn st
 pub hold_where_sound : (state : State) → IfSome state IsSound → IfSome state CompleteIndexesHold
 hold_where_sound None sound = tt
 hold_where_sound (Some table) sound = sound_hold table sound
+
+-- ---- a table that may be lost
+
+unless_lost : (state : State) → IfSome state IsSound → IfSome state IsSoundUnlessLost
+unless_lost None sound = tt
+unless_lost (Some (Intact table)) sound = sound
+unless_lost (Some Lost) sound = absurd sound
+
+commands_keep_sound_unless_lost : (state : State) (answers : List Answer) → IfSome state IsSoundUnlessLost → IfSome (after_commands state answers) IsSoundUnlessLost
+commands_keep_sound_unless_lost None answers sound = unless_lost _ (commands_keep_sound None answers tt)
+commands_keep_sound_unless_lost (Some (Intact table)) answers sound = unless_lost _ (commands_keep_sound (Some (Intact table)) answers sound)
+commands_keep_sound_unless_lost (Some Lost) answers sound = subst (λ (state : State). IfSome state IsSoundUnlessLost) (sym (stays_lost answers).0) tt
+
+-- whichever table is left, it is sound unless it is lost
+pub left_keeps_sound : (begin left : State) (answers : List Answer) (n : ℕ) → IfSome begin IsSoundUnlessLost → IsLeftAfter begin left answers n → IfSome left IsSoundUnlessLost
+left_keeps_sound begin left answers n sound (inl first) =
+    subst (λ (state : State). IfSome state IsSoundUnlessLost) (sym first) (commands_keep_sound_unless_lost begin (take n answers) sound)
+left_keeps_sound begin left answers n sound (inr (inl more)) =
+    subst (λ (state : State). IfSome state IsSoundUnlessLost) (sym more) (commands_keep_sound_unless_lost begin (take (n + 1) answers) sound)
+left_keeps_sound begin left answers n sound (inr (inr lost)) = subst (λ (state : State). IfSome state IsSoundUnlessLost) (sym lost) tt
+
+pub hold_unless_lost : (state : State) → IfSome state IsSoundUnlessLost → IfSome state CompleteIndexesHold
+hold_unless_lost None sound = tt
+hold_unless_lost (Some table) sound = unless_lost_hold table sound

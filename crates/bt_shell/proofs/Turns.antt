@@ -70,22 +70,29 @@ module _ {W : Type 0} (contents : W → Option (List ℕ)) (old : Counted W) (be
       prefix-more contents old mid new (replies begin all) (replies begin so_far.done) text (replies (turn table next.answer).0 more) so_far.took
       (whole mid table all others so_far ∙ ap (λ (l : List ℕ). replies begin so_far.done ++ l) said) prefix
 
+  -- the replies to the commands so far and to the next one, and the table after these
+  module _ (mid : Counted W) (table after : State) (all others more : List Answer) (text : List ℕ) {refused : Bool} (so_far : HasRun contents old mid begin table all others) (next : IsTurn table after others more text refused) where
+    pub said_with_next : replies begin (so_far.done ++ next.answer ∷ []) ≡ replies begin so_far.done ++ text
+    said_with_next =
+        replies-append begin so_far.done (next.answer ∷ [])
+        ∙ ap (λ (state : State). replies begin so_far.done ++ replies state (next.answer ∷ [])) (sym so_far.left)
+        ∙ ap (λ (l : List ℕ). replies begin so_far.done ++ l)
+        (replies-one table next.answer [] ∙ ap (λ (l : List ℕ). (turn table next.answer).1 ++ l) (replies-none (turn table next.answer).0) ∙ append-nil (turn table next.answer).1 ∙ sym next.said)
+
+    pub left_with_next : after ≡ after_commands begin (so_far.done ++ next.answer ∷ [])
+    left_with_next =
+        next.left ∙ ap (λ (state : State). (turn state next.answer).0) so_far.left
+        ∙ sym (after_commands-append begin so_far.done (next.answer ∷ []) ∙ after-one (after_commands begin so_far.done) next.answer)
+
   -- the reply to the next one
   pub run_goes_on : (mid new : Counted W) (table after : State) (all others more : List Answer) (text : List ℕ) {refused : Bool} → HasRun contents old mid begin table all others → IsTurn table after others more text refused
       → Took contents mid new text → HasRun contents old new begin after all more
-  run_goes_on mid new table after all others more text so_far next took =
-      let done = so_far.done ++ next.answer ∷ [] in
-      let said : replies begin done ≡ replies begin so_far.done ++ text =
-      replies-append begin so_far.done (next.answer ∷ [])
-      ∙ ap (λ (state : State). replies begin so_far.done ++ replies state (next.answer ∷ [])) (sym so_far.left)
-      ∙ ap (λ (l : List ℕ). replies begin so_far.done ++ l)
-      (replies-one table next.answer [] ∙ ap (λ (l : List ℕ). (turn table next.answer).1 ++ l) (replies-none (turn table next.answer).0) ∙ append-nil (turn table next.answer).1 ∙ sym next.said) in
-      record {
-        done = done;
-        split = so_far.split ∙ ap (λ (l : List Answer). so_far.done ++ l) next.first ∙ sym (append_assoc so_far.done (next.answer ∷ []) more);
-        left = next.left ∙ ap (λ (state : State). (turn state next.answer).0) so_far.left ∙ sym (after_commands-append begin so_far.done (next.answer ∷ []) ∙ after-one (after_commands begin so_far.done) next.answer);
-        took = subst (λ (l : List ℕ). Took contents old new l) (sym said) (Took-trans contents old mid new (replies begin so_far.done) text so_far.took took);
-      }
+  run_goes_on mid new table after all others more text so_far next took = record {
+    done = so_far.done ++ next.answer ∷ [];
+    split = so_far.split ∙ ap (λ (l : List Answer). so_far.done ++ l) next.first ∙ sym (append_assoc so_far.done (next.answer ∷ []) more);
+    left = left_with_next mid table after all others more text so_far next;
+    took = subst (λ (l : List ℕ). Took contents old new l) (sym (said_with_next mid table after all others more text so_far next)) (Took-trans contents old mid new (replies begin so_far.done) text so_far.took took);
+  }
 
   -- no command is left
   pub run_ends : (new : Counted W) (table : State) (all others : List Answer) → HasRun contents old new begin table all others → others ≡ [] → Took contents old new (replies begin all)

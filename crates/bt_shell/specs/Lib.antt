@@ -1,3 +1,5 @@
+pub mod Contents
+pub mod Faults
 pub mod Programs
 pub mod Replies
 pub mod Runs

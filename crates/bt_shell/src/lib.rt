@@ -31,5 +31,5 @@ pub use bt_script::{
 pub use bt_table::{Alone, Workforce};
 pub use program_run::{ProgramFault, program};
 pub use replies::Lines;
-pub use script_run::{run_commands, run_script};
+pub use script_run::{replies_to, run_commands, run_script};
 pub use workforce::ScriptWorkforce;

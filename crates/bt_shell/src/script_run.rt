@@ -1,11 +1,14 @@
 //! The run of a script.
-ghost use Rattle.std.specs.Prelude.{◌≡◌, ◌+◌, ◌<◌, ◌^◌, false, true, IfOk, IfSome, IsErrOf, OnErr, OnOk, ℕ, List};
+ghost use Rattle.std.specs.Prelude.{◌≡◌, ◌+◌, ◌<◌, ◌^◌, false, true, flat_map, IfOk, IfSome, IsErrOf, OnErr, OnOk, ℕ, List, Some};
 ghost use Rattle.std.specs.Io.KnownBytes.{Keeps};
 ghost use Rattle.bt_script.specs.Commands.{commands};
 ghost use Rattle.bt_script.specs.Streams.{FailsToGive, GaveAtMost, GivesWithin, Took, TookPrefix, count_of, has_failed, has_unflushed, source_of};
-ghost use Rattle.bt_shell.specs.Runs.{AreOneRun, EndsBetweenCommands, IsWholeRun, TookReplies, WritesPrefix, WritesReplies, after_commands, one_where, refused_count, replies, state_after_commands};
+ghost use Rattle.bt_shell.specs.Contents.{BatchesAreFolded, CutsDoNotShow, NoTreeShows, ShapeIsNoContent, UpkeepKeepsContents};
+ghost use Rattle.bt_shell.specs.Faults.{StopsBetweenReplies, StopsWithinReply, lost_reply};
+ghost use Rattle.bt_shell.specs.Runs.{AreOneRun, EndsBetweenCommands, IsWholeRun, WritesPrefix, WritesReplies, after_commands, one_where, refused_count, replies, run, state_after_commands};
 ghost use Rattle.bt_shell.specs.Steps.{State};
-ghost use Rattle.bt_table.specs.Standing.{CompleteIndexesHold, IsSound};
+ghost use Rattle.bt_table.specs.Standing.{CompleteIndexesHold, IsSound, IsSoundUnlessLost};
+ghost use Rattle.bt_table.specs.Tables.{Lost};
 
 use crate::context::Context;
 use crate::turn::next_reply;
@@ -37,13 +40,34 @@ fn count_with(count: usize, refused: bool) -> usize
     if refused { count + 1 } else { count }
 }
 
+// What is true of a table between any two calls. Nothing is done.
+fn soundness(table: &Option<Table>)
+    ensures { IfSome table.now IsSoundUnlessLost }
+{
+    if let Some(table) = table {
+        let _schema = table.schema();
+    }
+}
+
+// What is true of all states and commands, and of those of a script. Nothing is done.
+fn laws(_script: &[u8])
+    ensures one_run { (first : List ℕ) (before : State) → EndsBetweenCommands first → AreOneRun before first _script.now }
+    ensures no_tree { NoTreeShows }
+    ensures upkeep { UpkeepKeepsContents }
+    ensures shape { ShapeIsNoContent }
+    ensures folded { BatchesAreFolded }
+    ensures cuts { CutsDoNotShow }
+{}
+
 /// Carries out the commands of a script on a table that lives on, or on none so far, writes the reply to each of them and flushes these.
-/// Answers how many of the commands were refused.
+/// Returns how many of the commands were refused.
 ///
-/// What is written is what the commands are answered from that table on, by the definition `replies`, and after a fault a prefix of it; what
-/// is left is what they leave of that table. So the run of one script and then of another is the run of both as one, where the first ends
-/// between two commands. `Write`: the writer failed. `OutOfMemory`: a request for memory was refused; the command at hand has written
-/// nothing, and those before it are carried out.
+/// What is written are the replies that the commands have from that table on, by the definition `replies`, and the table is then what they leave of it. So
+/// the run of one script and then of another is the run of both as one, if the first ends between two commands. `Write`: the writer failed.
+/// `OutOfMemory`: a request for memory was refused, and no byte is written of the reply to the command at hand.
+///
+/// After a fault the table is the one after the commands with whole replies or after one command more, or it is lost. A lost table stays lost, and each
+/// command on it but `table` is refused as `Failed`.
 pub fn run_commands<W: Write, T, C: ScriptWorkforce<T>>(
     rt: &T,
     alloc: Global,
@@ -59,13 +83,31 @@ pub fn run_commands<W: Write, T, C: ScriptWorkforce<T>>(
     ensures healthy { OnOk result (has_failed writer.new ≡ has_failed writer.old) }
     ensures flushed { OnOk result (has_unflushed writer.new ≡ false) }
     ensures err { OnErr result (TookPrefix W.contents writer.old writer.new (replies table.old (commands script.now))) }
-    ensures no_read { IsErrOf result RunFault.Read → ⊥ }
-    ensures write { IsErrOf result RunFault.Write → has_failed writer.new ≡ true }
-    ensures memory { IsErrOf result RunFault.OutOfMemory → (has_failed writer.new ≡ has_failed writer.old) × TookReplies W.contents table.old writer.old writer.new script.now }
 
-    // This script behind any that ends between two commands is the rest of one script.
+    // Which fault it is, how many commands have their whole replies, and which table is left.
+    ensures no_read { IsErrOf result RunFault.Read → ⊥ }
+    ensures write { IsErrOf result RunFault.Write → (has_failed writer.new ≡ true) × StopsWithinReply (Took W.contents writer.old writer.new) table.old table.new script.now }
+    ensures memory { IsErrOf result RunFault.OutOfMemory → (has_failed writer.new ≡ has_failed writer.old) × StopsBetweenReplies (Took W.contents writer.old writer.new) table.old table.new script.now }
+
+    // A lost table stays lost, and each command on it but `table` is refused as Failed.
+    ensures lost { table.old ≡ Some Lost → (table.new ≡ Some Lost) × (replies table.old (commands script.now) ≡ flat_map lost_reply (commands script.now)) }
+
+    // Whatever the result is, the table is sound unless it is lost, and so each complete index holds exactly the entries that its definition selects from the rows.
+    ensures sound { IfSome table.new IsSoundUnlessLost }
+    ensures complete { IfSome table.new CompleteIndexesHold }
+
+    // This script after any that ends between two commands is the rest of one script.
     ensures one_run { (first : List ℕ) (before : State) → EndsBetweenCommands first → AreOneRun before first script.now }
+
+    // No reply but an image, and whether a load is taken, depends on trees, on shapes, on upkeep, or on how messages are cut into batches.
+    ensures no_tree { NoTreeShows }
+    ensures upkeep { UpkeepKeepsContents }
+    ensures shape { ShapeIsNoContent }
+    ensures folded { BatchesAreFolded }
+    ensures cuts { CutsDoNotShow }
 {
+    soundness(table);
+    laws(script);
     let context = Context { rt, alloc, crew };
     let mut at = 0;
     let mut refused = 0;
@@ -78,6 +120,22 @@ pub fn run_commands<W: Write, T, C: ScriptWorkforce<T>>(
     }
     flush_output(writer)?;
     Ok(refused)
+}
+
+/// The replies to a script, each command of which is carried out in turn, from no table on.
+pub fn replies_to<T, C: ScriptWorkforce<T>>(
+    rt: &T,
+    alloc: Global,
+    script: &[u8],
+    workforce: &C,
+) -> Result<Vec<u8>, RunFault>
+    requires ready { C.accepts workforce.now }
+    ensures { IfOk result (λ text. text.items ≡ run script.now) }
+{
+    let mut table = None;
+    let mut writer = Counted::new(Vec::new(alloc));
+    run_commands(rt, alloc, script, &mut table, &mut writer, workforce)?;
+    Ok(writer.into_inner())
 }
 
 /// What a run has in memory between commands: the script, and the table where there is one. The caller says what becomes of

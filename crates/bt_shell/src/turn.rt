@@ -1,8 +1,9 @@
 //! The table between commands, and the reply to each.
-ghost use Rattle.std.specs.Prelude.{◌≡◌, ◌<◌, ◌≤◌, false, true, None, Ok, Some, IfErr, IfOk, IfNone, IfSome, OnOk, [], drop, length};
+ghost use Rattle.std.specs.Prelude.{◌≡◌, ◌<◌, ◌≤◌, false, true, None, Ok, Some, IfErr, IfOk, IfNone, IfSome, IsErrOf, OnErr, OnOk, [], drop, length};
 ghost use Rattle.bt_script.specs.Commands.{commands};
 ghost use Rattle.bt_script.specs.declared.command.Command.TheVariants as command;
-ghost use Rattle.bt_shell.specs.inside.Turns.{CarriesOut, IsTurn};
+ghost use Rattle.bt_shell.specs.Faults.{IsLeftAfter};
+ghost use Rattle.bt_shell.specs.inside.Turns.{CarriesOut, IsCutShort, IsTurn};
 ghost use Rattle.bt_shell.specs.Replies as spec;
 ghost use Rattle.bt_shell.specs.Replies.{refused_text};
 ghost use Rattle.bt_shell.specs.Steps as step;
@@ -33,9 +34,10 @@ fn shape_of(fanout: u32, buffer: Capacity, leaf: u32) -> Result<Shape, Refusal>
     }
 }
 
-// The text of what a call on the table answers.
+// The text of what a call on the table returns.
 fn call_text(alloc: Global, reply: Result<Reply, Refusal>) -> Result<ReplyText, Refusal>
-    ensures { Answers (map_ok spec.reply_text reply) result }
+    ensures answer { Answers (map_ok spec.reply_text reply) result }
+    ensures refused { IfErr reply (IsErrOf result) }
 {
     Ok(reply_text(alloc, reply?)?)
 }
@@ -65,7 +67,8 @@ fn index_def(alloc: Global, table: &Table, form: &IndexForm) -> Result<IndexDef,
 
 // Creates an index.
 fn create_index(alloc: Global, table: &mut Table, form: IndexForm) -> Result<ReplyText, Refusal>
-    ensures { CarriesOut (Some table.old) (Some table.new) (command.Index form) result }
+    ensures done { CarriesOut (Some table.old) (Some table.new) (command.Index form) result }
+    ensures memory { IsErrOf result Refusal.OutOfMemory → IsCutShort (Some table.old) (Some table.new) (command.Index form) }
 {
     let def = index_def(alloc, table, &form);
     let IndexForm {
@@ -123,7 +126,8 @@ fn reply_of_table<T, C: ScriptWorkforce<T>>(
     room: Vec<u8>,
 ) -> Result<ReplyText, Refusal>
     requires ready { C.accepts context.now.crew.now }
-    ensures { CarriesOut (Some table.old) (Some table.new) command.entry result }
+    ensures done { CarriesOut (Some table.old) (Some table.new) command.entry result }
+    ensures memory { IsErrOf result Refusal.OutOfMemory → IsCutShort (Some table.old) (Some table.new) command.entry }
 {
     let Context { rt, alloc, crew } = *context;
     match command {
@@ -152,15 +156,17 @@ fn create_table(
     form: TableForm,
 ) -> Result<ReplyText, Refusal>
     requires { table.old ≡ None }
-    ensures { CarriesOut table.old table.new (command.Table form) result }
+    ensures done { CarriesOut table.old table.new (command.Table form) result }
+    ensures memory { IsErrOf result Refusal.OutOfMemory → table.new ≡ table.old }
 {
     let count = form.columns.len();
     let Ok(schema) = Schema::new(form.columns, form.keys as usize) else {
         return Err(Refusal::BadSchema);
     };
     let shape = shape_of(form.fanout, form.buffer, form.leaf)?;
+    let text = count_reply(alloc, b"table ", count)?;
     *table = Some(Table::new(alloc, schema, shape));
-    Ok(count_reply(alloc, b"table ", count)?)
+    Ok(text)
 }
 
 // The reply to a command that is not refused, or its refusal.
@@ -171,7 +177,8 @@ fn command_reply<T, C: ScriptWorkforce<T>>(
     room: Vec<u8>,
 ) -> Result<ReplyText, Refusal>
     requires ready { C.accepts context.now.crew.now }
-    ensures { CarriesOut table.old table.new command.entry result }
+    ensures done { CarriesOut table.old table.new command.entry result }
+    ensures memory { IsErrOf result Refusal.OutOfMemory → IsCutShort table.old table.new command.entry }
 {
     if let Some(table) = table {
         return reply_of_table(context, table, command, room);
@@ -200,7 +207,7 @@ fn refusal_answer(alloc: Global, refusal: Refusal) -> Result<CommandReply, Alloc
     })
 }
 
-// The reply to a command, and what the command does. An `Err` is for want of memory.
+// The reply to a command, and what the command does. An `Err` is for a refused request for memory.
 fn take_turn<T, C: ScriptWorkforce<T>>(
     context: &Context<'_, T, C>,
     table: &mut Option<Table>,
@@ -211,6 +218,7 @@ fn take_turn<T, C: ScriptWorkforce<T>>(
     ensures text { IfOk result (λ reply. reply.text ≡ (step.turn table.old (Ok command.entry)).1) }
     ensures refused { IfOk result (λ reply. reply.refused ≡ step.has_refusal table.old (Ok command.entry)) }
     ensures state { OnOk result (table.new ≡ (step.turn table.old (Ok command.entry)).0) }
+    ensures left { OnErr result (IsCutShort table.old table.new command.entry) }
 {
     match command_reply(context, table, command, room) {
         Ok(text) => Ok(CommandReply {
@@ -222,7 +230,8 @@ fn take_turn<T, C: ScriptWorkforce<T>>(
     }
 }
 
-/// The reply to the command that stands at a place, with the place behind it, or `None` where no further one does. An `Err` is for want of memory.
+/// The reply to the command at a place, with the place after it, or `None` if there is none further. An `Err` is for a refused request for memory: the table is
+/// as it was, as the command leaves it, or lost.
 ///
 /// A reply of many lines takes the room of a list, such as the reply before it, so that scans one after the other ask for it once.
 pub(crate) fn next_reply<T, C: ScriptWorkforce<T>>(
@@ -237,6 +246,7 @@ pub(crate) fn next_reply<T, C: ScriptWorkforce<T>>(
     ensures end { IfOk result (λ found. IfNone found (commands (drop at script.now) ≡ [])) }
     ensures kept { IfOk result (λ found. IfNone found (table.new ≡ table.old)) }
     ensures past { IfOk result (λ found. IfSome found (λ f. (at < f.1) × (f.1 ≤ length script.now))) }
+    ensures left { OnErr result (IsLeftAfter table.old table.new (commands (drop at script.now)) 0) }
 {
     match parse_command(context.alloc, script, at)? {
         Parsed::End => Ok(None),

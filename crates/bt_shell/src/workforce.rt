@@ -1,7 +1,8 @@
 //! Who works for a script: the caller alone, or a crew.
-ghost use Rattle.std.specs.Prelude.{fold};
+ghost use Rattle.std.specs.Prelude.{◌≡◌, ◌≢◌, fold, IfErr, IsErrOf, None};
 ghost use Rattle.bt_rowtype.specs.Answers.{Answers};
 ghost use Rattle.bt_batch.specs.Batches.{map_ok};
+ghost use Rattle.bt_table.specs.Calls.{tree_named};
 ghost use Rattle.bt_view.specs.Groups as groups;
 ghost use Rattle.bt_view.specs.Ranges as ranges;
 ghost use Rattle.bt_shell.specs.Replies.{row_line};
@@ -31,7 +32,9 @@ pub trait ScriptWorkforce<T>: Workforce<T> {
         lines: Lines,
     ) -> Result<Lines, Refusal>
         requires ready { Self.accepts self.now }
-        ensures answer { Answers (map_ok (fold (with_line (λ row. row_line row.1)) lines) (ranges.scan_with_keys table.now name.now bounds.now.from bounds.now.to)) result };
+        ensures answer { Answers (map_ok (fold (with_line (λ row. row_line row.1)) lines) (ranges.scan_with_keys table.now name.now bounds.now.from bounds.now.to)) result }
+        ensures certain { IfErr (tree_named table.now name.now) (IsErrOf result) }
+        ensures unbounded { bounds.now.from ≡ None → bounds.now.to ≡ None → IfErr (ranges.scan table.now name.now None None) (IsErrOf result) };
 
     /// The groups of the rows of a tree between two bounds, with the sum of a column.
     fn sums(
@@ -42,7 +45,9 @@ pub trait ScriptWorkforce<T>: Workforce<T> {
         form: &SumsForm<'_>,
     ) -> Result<Sequence<Sum>, Refusal>
         requires ready { Self.accepts self.now }
-        ensures answer { Answers (groups.sums table.now form.now.tree form.now.columns form.now.column form.now.bounds.from form.now.bounds.to) result };
+        ensures answer { Answers (groups.sums table.now form.now.tree form.now.columns form.now.column form.now.bounds.from form.now.bounds.to) result }
+        ensures certain { IfErr (tree_named table.now form.now.tree) (IsErrOf result) }
+        ensures unbounded { form.now.bounds.from ≡ None → form.now.bounds.to ≡ None → IfErr (groups.sums table.now form.now.tree form.now.columns form.now.column None None) (λ e. e ≢ Refusal.TooMany → IsErrOf result e) };
 }
 
 impl<T> ScriptWorkforce<T> for Alone {

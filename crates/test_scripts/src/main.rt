@@ -4,7 +4,7 @@
 #![tactic(auto)]
 
 use anyhow::{Context, Result, bail};
-use bt_shell::{Alone, Counted, Crew, NoGate, ScriptWorkforce, run_script};
+use bt_shell::{Alone, Crew, NoGate, replies_to};
 use std::fs;
 use std::rt::Files;
 use std::sync::Wait;
@@ -20,24 +20,6 @@ fn crew_of([workers, cut, grain]: [usize; 3]) -> Result<Crew<NoGate>> {
     }
 }
 
-// What a run of the script writes.
-fn replies_to<R: AllocGlobal, C: ScriptWorkforce<R>>(
-    rt: &R,
-    script: &[u8],
-    crew: &C,
-) -> Result<Vec<u8>>
-    requires ready { C.accepts crew.now }
-{
-    let alloc = rt.alloc();
-    let mut reader = Counted::new(script);
-    let mut text = Vec::new(alloc);
-    {
-        let mut writer = Counted::new(&mut text);
-        run_script(rt, alloc, &mut reader, &mut writer, crew)?;
-    }
-    Ok(text)
-}
-
 // Replays one script by the caller alone and by each crew, and gives the number of bytes of its replies.
 fn replay<R: Files + AllocGlobal + Threads + Wait + Sync>(rt: &R, name: &str) -> Result<usize> {
     let alloc = rt.alloc();
@@ -45,13 +27,15 @@ fn replay<R: Files + AllocGlobal + Threads + Wait + Sync>(rt: &R, name: &str) ->
     let expected = fs::read(rt, format!(in alloc; "{name}.stdout")?.as_str()).context(format_args!(
         "reading {name}.stdout"
     ))?;
-    let text = replies_to(rt, script.as_slice(), &Alone).context(format_args!("running {name}"))?;
+    let text = replies_to(rt, alloc, script.as_slice(), &Alone).context(format_args!(
+        "running {name}"
+    ))?;
     if text.as_slice() != expected.as_slice() {
         bail!("{name}: its replies differ");
     }
     for sizes in CREWS {
         let crew = crew_of(sizes)?;
-        let text = replies_to(rt, script.as_slice(), &crew).context(format_args!(
+        let text = replies_to(rt, alloc, script.as_slice(), &crew).context(format_args!(
             "running {name}"
         ))?;
         if text.as_slice() != expected.as_slice() {

@@ -1,15 +1,20 @@
--- What it is that a command is carried out, is refused, and is answered in its turn.
-use Rattle.std.specs.Prelude.{ℕ, ◌≡◌, ◌≢◌, Bool, List, ◌∷◌, Result, Ok, Err}
+-- What it is that a command is carried out, is refused, is cut short, and is answered in its turn.
+use Rattle.std.specs.Prelude.{ℕ, ◌≡◌, ◌≢◌, ◌⊎◌, Bool, List, ◌∷◌, Some, Result, Ok, Err}
 use Rattle.bt_rowtype.specs.declared.refusal.Refusal.{Refusal}
 use Rattle.bt_rowtype.specs.declared.refusal.Refusal.TheVariants.{OutOfMemory}
 use Rattle.bt_script.specs.Commands.{Answer}
 use Rattle.bt_script.specs.declared.command.Command.{Command}
+use Rattle.bt_table.specs.Tables.{Lost}
 use Rattle.bt_shell.specs.Steps.{State, has_refusal, outcome, turn}
 
 -- A command leaves this table and is answered by this text, or it is refused so and leaves the table as it was, unless memory was wanting.
 abbrev pub CarriesOut : State → State → Command → Result (List ℕ) Refusal → Type 0
 CarriesOut old new command (Ok text) = outcome old command ≡ Ok (new, text)
 CarriesOut old new command (Err refusal) = refusal ≢ OutOfMemory → (outcome old command ≡ Err refusal) × (new ≡ old)
+
+-- A command for which memory is refused leaves the table as it was, as the command leaves it, or lost.
+abbrev pub IsCutShort : State → State → Command → Type 0
+IsCutShort old new command = (new ≡ old) ⊎ (new ≡ (turn old (Ok command)).0) ⊎ (new ≡ Some Lost)
 
 -- one turn: the first of these commands is answered by a text, a refusal or none, and leaves a table, and then come the others
 pub record IsTurn (old new : State) (all others : List Answer) (text : List ℕ) (refused : Bool) : Type 0 where

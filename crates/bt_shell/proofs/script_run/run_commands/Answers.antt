@@ -2,8 +2,9 @@ use Rattle.std.proofs.Common.{ℕ, [], ◌+◌, ◌≡◌, ◌∙◌, ap, arith,
 use Rattle.bt_shell.specs.Runs.{refused_count}
 use Rattle.bt_script.specs.Commands.{commands}
 use Rattle.bt_script.proofs.offered.Streams.{Took-kept, Took-nil}
-use Rattle.bt_shell.proofs.offered.Joins.{are_one_run}
-use Rattle.bt_shell.proofs.Turns.{count_ends, count_goes_on, on_err, run_begins, run_breaks, run_goes_on, run_prefix, run_replies}
+use Rattle.bt_shell.proofs.Faults.{left_at_end, left_by_next, left_later, lost_is_left, stops_at_end, stops_between, stops_within}
+use Rattle.bt_shell.proofs.Sound.{hold_unless_lost, left_keeps_sound}
+use Rattle.bt_shell.proofs.Turns.{count_ends, count_goes_on, on_err, run_begins, run_breaks, run_goes_on, run_leaves, run_prefix}
 use Rattle.bt_shell.proofs.script_run.run_commands.Goals as goal
 
 pub commands-init : goal.commands-init
@@ -15,7 +16,8 @@ commands-init g c = record {
   so_far = run_begins g.W.Write.contents c.args.writer.now c.args.table.now (commands c.args.script.now) (Took-nil g.W.Write.contents c.args.writer.now (omega arith));
 }
 
--- memory is wanted before the next command
+-- ---- memory is refused at the next command
+
 pub returns-in_err-reply-clause-err : goal.returns-in_err-reply-clause-err
 returns-in_err-reply-clause-err g c =
     let all = commands c.args.script.now in
@@ -24,12 +26,21 @@ returns-in_err-reply-clause-err g c =
 
 pub returns-in_err-reply-clause-memory : goal.returns-in_err-reply-clause-memory
 returns-in_err-reply-clause-memory g c =
-    λ _. (
-      c.commands.invariant.healthy,
-      run_replies g.W.Write.contents c.args.writer.now c.args.table.now c.commands.writer c.commands.table c.args.script.now (commands (drop c.commands.at c.args.script.now)) c.commands.invariant.so_far,
-    )
+    λ _. (c.commands.invariant.healthy, stops_between c.args.script.now c.commands.invariant.so_far c.next_reply.new.table c.in_err-reply.ensures.left)
 
--- the reply is not written whole
+pub returns-in_err-reply-clause-lost : goal.returns-in_err-reply-clause-lost
+returns-in_err-reply-clause-lost g c =
+    lost_is_left c.args.table.now c.next_reply.new.table (commands c.args.script.now) _ (left_later c.commands.invariant.so_far c.next_reply.new.table c.in_err-reply.ensures.left)
+
+pub returns-in_err-reply-clause-sound : goal.returns-in_err-reply-clause-sound
+returns-in_err-reply-clause-sound g c =
+    left_keeps_sound c.args.table.now c.next_reply.new.table (commands c.args.script.now) _ c.soundness.ensures (left_later c.commands.invariant.so_far c.next_reply.new.table c.in_err-reply.ensures.left)
+
+pub returns-in_err-reply-clause-complete : goal.returns-in_err-reply-clause-complete
+returns-in_err-reply-clause-complete g c = hold_unless_lost c.next_reply.new.table (returns-in_err-reply-clause-sound g c)
+
+-- ---- the reply is not written whole
+
 pub returns-in_err-write_to-clause-err : goal.returns-in_err-write_to-clause-err
 returns-in_err-write_to-clause-err g c =
     let script = c.args.script.now in
@@ -37,6 +48,24 @@ returns-in_err-write_to-clause-err g c =
     on_err c.from_residual-in_err-write_to.result _
     (run_breaks g.W.Write.contents c.args.writer.now c.args.table.now c.commands.writer c.write_to.new.writer c.commands.table c.next_reply.new.table (commands script)
     (commands (drop c.commands.at script)) (commands (drop c.in-Some.next script)) c.in-Some.reply.text c.commands.invariant.so_far next c.in_err-write_to.ensures.err)
+
+pub returns-in_err-write_to-clause-write : goal.returns-in_err-write_to-clause-write
+returns-in_err-write_to-clause-write g c =
+    let next = rw c.in-Some.is at c.in_ok-reply.ensures.step in
+    λ _. (c.in_err-write_to.ensures.fault.1, stops_within c.args.script.now c.commands.invariant.so_far c.write_to.new.writer next c.in_err-write_to.ensures.err)
+
+pub returns-in_err-write_to-clause-lost : goal.returns-in_err-write_to-clause-lost
+returns-in_err-write_to-clause-lost g c =
+    let next = rw c.in-Some.is at c.in_ok-reply.ensures.step in
+    lost_is_left c.args.table.now c.next_reply.new.table (commands c.args.script.now) _ (left_by_next c.commands.invariant.so_far next)
+
+pub returns-in_err-write_to-clause-sound : goal.returns-in_err-write_to-clause-sound
+returns-in_err-write_to-clause-sound g c =
+    let next = rw c.in-Some.is at c.in_ok-reply.ensures.step in
+    left_keeps_sound c.args.table.now c.next_reply.new.table (commands c.args.script.now) _ c.soundness.ensures (left_by_next c.commands.invariant.so_far next)
+
+pub returns-in_err-write_to-clause-complete : goal.returns-in_err-write_to-clause-complete
+returns-in_err-write_to-clause-complete g c = hold_unless_lost c.next_reply.new.table (returns-in_err-write_to-clause-sound g c)
 
 pub commands-preserved : goal.commands-preserved
 commands-preserved g c =
@@ -53,7 +82,8 @@ commands-preserved g c =
           (commands (drop c.commands.at script)) (commands (drop c.in-Some.next script)) c.in-Some.reply.text c.commands.invariant.so_far next c.in_ok-write_to.ensures.ok;
     }
 
--- all is written, and the flush fails
+-- ---- all is written, and the flush fails
+
 pub returns-in_err-flush_output-clause-err : goal.returns-in_err-flush_output-clause-err
 returns-in_err-flush_output-clause-err g c =
     let script = c.args.script.now in
@@ -61,23 +91,49 @@ returns-in_err-flush_output-clause-err g c =
     on_err c.from_residual-in_err-flush_output.result _
     (so_far.0, Took-kept g.W.Write.contents c.args.writer.now c.commands.writer c.flush_output.new.writer _ so_far.1 c.flush_output.ensures.bytes c.flush_output.ensures.count)
 
--- this script behind another
-pub returns-in_err-reply-clause-one_run : goal.returns-in_err-reply-clause-one_run
-returns-in_err-reply-clause-one_run g c = λ first before ends. are_one_run before first c.args.script.now ends
+pub returns-in_err-flush_output-clause-write : goal.returns-in_err-flush_output-clause-write
+returns-in_err-flush_output-clause-write g c =
+    let script = c.args.script.now in
+    let none : commands (drop c.commands.at script) ≡ [] = search rules in
+    let kept : c.next_reply.new.table ≡ c.commands.table = search rules in
+    let stop = stops_at_end script c.commands.invariant.so_far c.flush_output.new.writer none c.flush_output.ensures.bytes c.flush_output.ensures.count in
+    λ _. (c.in_err-flush_output.ensures.fault.1, rw kept stop)
 
-pub returns-in_err-write_to-clause-one_run : goal.returns-in_err-write_to-clause-one_run
-returns-in_err-write_to-clause-one_run g c = λ first before ends. are_one_run before first c.args.script.now ends
+pub returns-in_err-flush_output-clause-lost : goal.returns-in_err-flush_output-clause-lost
+returns-in_err-flush_output-clause-lost g c =
+    let none : commands (drop c.commands.at c.args.script.now) ≡ [] = search rules in
+    let kept : c.next_reply.new.table ≡ c.commands.table = search rules in
+    rw kept (lost_is_left c.args.table.now c.commands.table (commands c.args.script.now) _ (left_at_end c.commands.invariant.so_far none))
 
-pub returns-in_err-flush_output-clause-one_run : goal.returns-in_err-flush_output-clause-one_run
-returns-in_err-flush_output-clause-one_run g c = λ first before ends. are_one_run before first c.args.script.now ends
+pub returns-in_err-flush_output-clause-sound : goal.returns-in_err-flush_output-clause-sound
+returns-in_err-flush_output-clause-sound g c =
+    let none : commands (drop c.commands.at c.args.script.now) ≡ [] = search rules in
+    let kept : c.next_reply.new.table ≡ c.commands.table = search rules in
+    rw kept (left_keeps_sound c.args.table.now c.commands.table (commands c.args.script.now) _ c.soundness.ensures (left_at_end c.commands.invariant.so_far none))
 
-pub returns-clause-one_run : goal.returns-clause-one_run
-returns-clause-one_run g c = λ first before ends. are_one_run before first c.args.script.now ends
+pub returns-in_err-flush_output-clause-complete : goal.returns-in_err-flush_output-clause-complete
+returns-in_err-flush_output-clause-complete g c = hold_unless_lost c.next_reply.new.table (returns-in_err-flush_output-clause-sound g c)
 
--- all are counted
+-- ---- all commands have their replies
+
 pub returns-clause-refused : goal.returns-clause-refused
 returns-clause-refused g c =
     let all = commands c.args.script.now in
     let others = commands (drop c.commands.at c.args.script.now) in
     let none : others ≡ [] = search rules in
     sym (count_ends c.args.table.now c.commands.table all others c.commands.refused c.commands.invariant.counted none)
+
+pub returns-clause-lost : goal.returns-clause-lost
+returns-clause-lost g c =
+    let none : commands (drop c.commands.at c.args.script.now) ≡ [] = search rules in
+    let kept : c.next_reply.new.table ≡ c.commands.table = search rules in
+    rw kept (lost_is_left c.args.table.now c.commands.table (commands c.args.script.now) _ (left_at_end c.commands.invariant.so_far none))
+
+pub returns-clause-sound : goal.returns-clause-sound
+returns-clause-sound g c =
+    let none : commands (drop c.commands.at c.args.script.now) ≡ [] = search rules in
+    let kept : c.next_reply.new.table ≡ c.commands.table = search rules in
+    rw kept (left_keeps_sound c.args.table.now c.commands.table (commands c.args.script.now) _ c.soundness.ensures (left_at_end c.commands.invariant.so_far none))
+
+pub returns-clause-complete : goal.returns-clause-complete
+returns-clause-complete g c = hold_unless_lost c.next_reply.new.table (returns-clause-sound g c)

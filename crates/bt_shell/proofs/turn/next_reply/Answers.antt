@@ -1,4 +1,7 @@
-use Rattle.std.proofs.Common.{refl, Ok, Err}
+use Rattle.std.proofs.Common.{refl, Ok, Err, drop}
+use Rattle.bt_script.specs.Commands.{commands}
+use Rattle.bt_shell.proofs.Faults.{left_as_it_was, left_by_command}
+use Rattle.bt_shell.proofs.Turns.{on_err}
 use Rattle.bt_shell.proofs.turn.next_reply.Goals as goal
 
 pub returns-in_ok-reply-in-Bad-clause-step : goal.returns-in_ok-reply-in-Bad-clause-step
@@ -18,3 +21,17 @@ returns-in_ok-reply-in-Good-clause-step g c = record {
   left = c.in_ok-reply-in-Good.ensures.state;
   judged = c.in_ok-reply-in-Good.ensures.refused;
 }
+
+-- memory is refused: no command is read, its refusal has no text, or the command is cut short
+pub returns-in_err-parse_command-clause-left : goal.returns-in_err-parse_command-clause-left
+returns-in_err-parse_command-clause-left g c = on_err c.from_residual.result _ (left_as_it_was c.args.table.now c.args.table.now (commands (drop c.args.at c.args.script.now)) refl)
+
+pub returns-in_err-reply-in-Bad-clause-left : goal.returns-in_err-reply-in-Bad-clause-left
+returns-in_err-reply-in-Bad-clause-left g c = on_err c.from_residual-in_err-reply-in-Bad.result _ (left_as_it_was c.args.table.now c.args.table.now (commands (drop c.args.at c.args.script.now)) refl)
+
+pub returns-in_err-reply-in-Good-clause-left : goal.returns-in_err-reply-in-Good-clause-left
+returns-in_err-reply-in-Good-clause-left g c =
+    let all = commands (drop c.args.at c.args.script.now) in
+    let others = commands (drop c.in-Good.next c.args.script.now) in
+    on_err c.from_residual-in_err-reply-in-Good.result _
+    (left_by_command c.args.table.now _ c.in-Good.command all others (rw c.in-Good.is at c.in_ok-parse_command.ensures.found) c.in_err-reply-in-Good.ensures.left)

@@ -7,7 +7,7 @@ use Rattle.bt_shell.specs.inside.Lines.{with_line}
 use Rattle.bt_shell.specs.Replies.{row_line}
 use Rattle.bt_shell.proofs.workforce.CrewRefDynGateSyncScriptWorkforce.scan.Goals as goal
 
-pub returns : goal.returns
-returns g c =
+pub returns-clause-answer : goal.returns-clause-answer
+returns-clause-answer g c =
     let shown : Answers (map_ok (fold (with_line (λ (row : Key × List Value). row_line row.1)) c.args.lines) _) c.scan.result = c.scan.ensures.answer in
-    record { answer = search rules }
+    search rules
