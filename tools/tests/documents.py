@@ -184,7 +184,7 @@ def the_newest_kind_and_operation_stand_in_the_files_of_their_rows():
     table = rows(section("docs/ARCHITECTURE.md", "## Where to change what"))
     sources = [path for folder in ("src", "specs", "proofs") for path in (TOP / "crates").glob(f"bt_*/{folder}/**/*") if path.suffix in (".rt", ".antt")]
     for change, pattern in (("a kind of values", r"\b(?:Kind|Value|ValueRef|kind|value)(?:::|\.)Bytes\b"), ("what is done with a number", r"\bMin\b")):
-        [files] = [{file_of(crate, name) for name in quoted(files)} for crate, about, files in table if about.startswith(change)]
+        files = {file_of(crate, name) for crate, about, files in table if about.startswith(change) for name in quoted(files)}
         named = {path for path in sources if not path.name.startswith("Worked") and re.search(pattern, path.read_text())}
         expect((change, sorted(map(str, named))), (change, sorted(map(str, files))))
 
