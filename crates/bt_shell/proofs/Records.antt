@@ -118,10 +118,10 @@ upsert_alike schema i j fields =
     elim (is_upsert schema.keys (length fields)) as (λ (b : Bool). result_ok (if b then both_read (key_as schema i fields) (ops_as schema i fields) else Err (BadLength i))
     ≡ result_ok (if b then both_read (key_as schema j fields) (ops_as schema j fields) else Err (BadLength j))) [
       | true ↦ (
-        ok_of_both (key_as schema i fields) (ops_as schema i fields)
-        ∙ ap (λ o. both o (result_ok (ops_as schema i fields))) (ok_of_refused (BadField i) (BadField j) (values_of (take schema.keys schema.columns) (take schema.keys fields)))
-        ∙ ap (both (result_ok (key_as schema j fields))) (ops_as_alike schema i j fields)
-        ∙ sym (ok_of_both (key_as schema j fields) (ops_as schema j fields)))
+          ok_of_both (key_as schema i fields) (ops_as schema i fields)
+          ∙ ap (λ o. both o (result_ok (ops_as schema i fields))) (ok_of_refused (BadField i) (BadField j) (values_of (take schema.keys schema.columns) (take schema.keys fields)))
+          ∙ ap (both (result_ok (key_as schema j fields))) (ops_as_alike schema i j fields)
+          ∙ sym (ok_of_both (key_as schema j fields) (ops_as schema j fields)))
       | false ↦ refl
     ]
 
