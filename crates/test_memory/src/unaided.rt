@@ -203,7 +203,7 @@ fn compare_bins<R: Print + AllocGlobal>(rt: &R, bins: &Bins<Row>) -> Result<()> 
 }
 
 // The number of messages that are taken from the bin, and of those that are left.
-fn taken_counts(bins: Bins<Row>) -> (usize, usize) {
+fn taken_counts(bins: Bins<Row>) -> (usize, u128) {
     let mut bins = bins;
     if bins.len() == 0 {
         return (0, 0);
