@@ -637,7 +637,7 @@ def scripts_over_a_layer_are_run_by_it():
 
 def crashed(*names):
     library()
-    ended = subprocess.run([sys.executable, "-B", TOP / "tools/crash/run", "--short", *names], capture_output=True, text=True, timeout=SECONDS)
+    ended = subprocess.run([sys.executable, "-B", TOP / "tools/crash/run", "--short", *names], capture_output=True, text=True, timeout=3 * SECONDS)
     expect((ended.returncode, ended.stderr), (0, ""))
     return {line.split(":")[0]: int(re.search(r": ([\d,]+) looked at", line)[1].replace(",", "")) for line in ended.stdout.splitlines() if " looked at" in line}
 
