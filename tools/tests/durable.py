@@ -25,7 +25,7 @@ HARD_TEXTS = ["", ".", "..", "a\nb", "a\r", "\r\n", "\n", '"', '""', "a\"b", ","
 HARD_TABLE = "table 4 60b 2 2 v:text k:int f:flag b:bytes w:text\n"
 HARD_INDEXES = """index a on w where w = "x, y"
  index  c on f,b include v,v where b >= 0a
-index d on v where v =  x \r
+index d on v where w =  x \r
 index gone on k
 index e on w,w,b,f include k where f < true
 index f on k where w = ""
