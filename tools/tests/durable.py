@@ -465,6 +465,20 @@ def names_are_on_disk_before_anything_is_answered():
             expect(table.number, 0)
 
 
+def a_file_that_sqlite_cannot_keep_by_wal_is_refused():
+    """It goes on without, and then the end of a transaction, at which a file is removed, is not on disk when the call returns."""
+    module = durable()
+    value = module._value
+    with folder() as path:
+        try:
+            module._value = lambda db, query: "delete" if query == "PRAGMA journal_mode=WAL" else value(db, query)
+            expect_fault(OSError, lambda: module.open(path / "t"), "WAL")
+        finally:
+            module._value = value
+        with module.open(path / "t") as table:
+            expect(table._db.execute("PRAGMA journal_mode").fetchone(), ("wal",))
+
+
 def a_table_is_open_once():
     text = "import sys; from betable import durable\ntry: durable.open(sys.argv[1])\nexcept durable.InUse as fault: print(fault)\nelse: print('open')"
     with folder() as path:
@@ -687,6 +701,7 @@ TESTS_OF_TEXTS = [
     damage_is_found,
     other_files_are_refused_and_left_alone,
     names_are_on_disk_before_anything_is_answered,
+    a_file_that_sqlite_cannot_keep_by_wal_is_refused,
     a_table_is_open_once,
     another_engine_reads_what_agrees_with_it,
     a_backup_is_the_table_as_it_was,
