@@ -121,8 +121,11 @@ with t.group(): t.replies(sys.argv[3]); t.replies(sys.argv[3])
 os.kill(os.getpid(), 9)"""
     with folder() as path:
         expect(run_python(text, path / "t", TABLE, ADD)[0], -9)
+        expect((path / "t-wal").stat().st_size > 0, True)
         with durable().open(path / "t") as table:
             expect((table.get(1), table.number), ((1, "", 3), 4))
+            # What SQLite reads of its own log may not be on disk, so opening has written it to the file of the table.
+            expect((path / "t-wal").stat().st_size, 0)
 
 
 def scripts_that_change_nothing_are_not_kept():
