@@ -186,7 +186,7 @@ def kills(folder: str, steps: list[Step], *, every: int = 1, parts: tuple[int, .
         raise Wrong("the history does not go through")
     operations = [operation for operation in trace_of(folder) if operation.letter != "n"]
     for part in parts:
-        for number in range(0, len(operations), every):
+        for number in range(part % every, len(operations), every):
             if status_of_fork(work, folder, kill_at=number, part=part) != -signal.SIGKILL:
                 raise Wrong(f"operation {number} was not come to")
             done = answered_steps(trace_of(folder))
@@ -356,7 +356,7 @@ def failures(folder: str, steps: list[Step], *, every: int = 1, lengths: tuple[i
     total = sum(operation.letter != "n" for operation in trace_of(folder))
     manners = [(NOTHING, errno.ENOSPC), (HALF, errno.ENOSPC), (WHOLE, errno.EIO)]
     for length in lengths:
-        for number in range(0, total, every):
+        for number in range(length % every, total, every):
             part, fault = manners[number % len(manners)]
             words: dict[str, Any] = {"fails": (number, number + length - 1), "part": part, "fault": fault}
             status = status_of_fork(lambda: go_on(folder, steps, want, is_control), folder, has_bytes=True, **words)

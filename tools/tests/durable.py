@@ -25,7 +25,7 @@ HARD_TEXTS = ["", ".", "..", "a\nb", "a\r", "\r\n", "\n", '"', '""', "a\"b", ","
 HARD_TABLE = "table 4 60b 2 2 v:text k:int f:flag b:bytes w:text\n"
 HARD_INDEXES = """index a on w where w = "x, y"
  index  c on f,b include v,v where b >= 0a
-index d on v where v =  x \r
+index d on v where w =  x \r
 index gone on k
 index e on w,w,b,f include k where f < true
 index f on k where w = ""
@@ -121,8 +121,11 @@ with t.group(): t.replies(sys.argv[3]); t.replies(sys.argv[3])
 os.kill(os.getpid(), 9)"""
     with folder() as path:
         expect(run_python(text, path / "t", TABLE, ADD)[0], -9)
+        expect((path / "t-wal").stat().st_size > 0, True)
         with durable().open(path / "t") as table:
             expect((table.get(1), table.number), ((1, "", 3), 4))
+            # What SQLite reads of its own log may not be on disk, so opening has written it to the file of the table.
+            expect((path / "t-wal").stat().st_size, 0)
 
 
 def scripts_that_change_nothing_are_not_kept():
@@ -465,6 +468,20 @@ def names_are_on_disk_before_anything_is_answered():
             expect(table.number, 0)
 
 
+def a_file_that_sqlite_cannot_keep_by_wal_is_refused():
+    """It goes on without, and then the end of a transaction, at which a file is removed, is not on disk when the call returns."""
+    module = durable()
+    value = module._value
+    with folder() as path:
+        try:
+            module._value = lambda db, query: "delete" if query == "PRAGMA journal_mode=WAL" else value(db, query)
+            expect_fault(OSError, lambda: module.open(path / "t"), "WAL")
+        finally:
+            module._value = value
+        with module.open(path / "t") as table:
+            expect(table._db.execute("PRAGMA journal_mode").fetchone(), ("wal",))
+
+
 def a_table_is_open_once():
     text = "import sys; from betable import durable\ntry: durable.open(sys.argv[1])\nexcept durable.InUse as fault: print(fault)\nelse: print('open')"
     with folder() as path:
@@ -637,7 +654,7 @@ def scripts_over_a_layer_are_run_by_it():
 
 def crashed(*names):
     library()
-    ended = subprocess.run([sys.executable, "-B", TOP / "tools/crash/run", "--short", *names], capture_output=True, text=True, timeout=SECONDS)
+    ended = subprocess.run([sys.executable, "-B", TOP / "tools/crash/run", "--short", *names], capture_output=True, text=True, timeout=3 * SECONDS)
     expect((ended.returncode, ended.stderr), (0, ""))
     return {line.split(":")[0]: int(re.search(r": ([\d,]+) looked at", line)[1].replace(",", "")) for line in ended.stdout.splitlines() if " looked at" in line}
 
@@ -687,6 +704,7 @@ TESTS_OF_TEXTS = [
     damage_is_found,
     other_files_are_refused_and_left_alone,
     names_are_on_disk_before_anything_is_answered,
+    a_file_that_sqlite_cannot_keep_by_wal_is_refused,
     a_table_is_open_once,
     another_engine_reads_what_agrees_with_it,
     a_backup_is_the_table_as_it_was,

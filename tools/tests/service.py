@@ -488,11 +488,11 @@ def read_only_servers_change_nothing():
         with server_in(folder, "--read-only") as found:
             rows = found.run(b"scan primary\ngo\n")
             changes = [adds(1), b"get 1\nrebuild primary\n", b"  drop by_city\n", b"batch\n", b"load\n", b"table 4 8 4 1 id:int\n", b"index a on qty\n"]
-            for script in [*changes, b"drain primary\r\n", b"scan primary\nfrom 1\ngo\nbuild by_city 1\n"]:
+            for script in [*changes, b"drain primary\r\n", b"scan primary\nfrom 1\ngo\nbuild by_city 1\n", b"scan primary\nbatch\n"]:
                 status, _, body = found.ask("POST", "/run", script)
                 expect((script, status, "read-only" in json.loads(body)["reason"]), (script, 403, True))
             expect([found.ask("POST", path, b"1,a,1\n")[0] for path in ("/rows", "/checkpoint")], [403, 403])
-            expect(found.run(b"scan primary\ngo\nget 1\nbatches\n"), rows + b"row 1,batch,2\nrefused 1 Syntax\n")
+            expect(found.run(b"scan primary\ngo\nget 1\nput batch\n"), rows + b"row 1,batch,2\nrefused 1 Syntax\n")
             expect(found.json("/rows/by_city")["rows"], [["batch", 1, 2]])
             expect(found.metric("betable_kept_scripts"), 1)
 

@@ -186,8 +186,10 @@ class Durable(Calls):
                 db.executescript(SCHEMA)
             if (found := _value(db, "PRAGMA quick_check(1)")) != "ok":
                 raise Corrupt(self.path, None, f"{found}, so restore a backup")
-            # By now SQLite has made its own log, a second file. Its name has to be on disk before anything is answered, and SQLite would go on if the sync
-            # of the folder fails.
+            # What a crash has left in SQLite's own log, a second file, is written to the first one: if a sync had failed before, the log as it is read may
+            # not be that on disk.
+            db.execute("PRAGMA wal_checkpoint(TRUNCATE)").fetchall()
+            # The name of that file has to be on disk before anything is answered, and SQLite would go on if the sync of the folder fails.
             _sync_path(os.path.dirname(self.path))
             return db
         except BaseException as fault:

@@ -9,11 +9,11 @@ from urllib.parse import parse_qsl
 
 from aiohttp import web
 
-from .durable import CHANGING, IndexBuilding, RequestReused
+from .durable import CHANGING_LINE, IndexBuilding, RequestReused
 from .engine import Closed, Lost
 from .errors import Refused
 from .forms import name_fault
-from .language import NUMBER, broken_quotes_of_lines, commands
+from .language import NUMBER, broken_quotes_of_lines
 from .messages import record
 
 REQUEST_ID = re.compile(r"[!-~]{1,200}")
@@ -140,5 +140,6 @@ def batch_of(body: bytes) -> bytes:
 
 
 def changing_word(script: bytes) -> str | None:
-    """The first word of a script's commands that changes the table, or None."""
-    return next((command.head.word.decode() for command in commands(script) if command.head.word in CHANGING), None)
+    """The word of the first line that may begin a command which changes the table, wherever the line is, or None."""
+    found = CHANGING_LINE.search(script)
+    return found[0].strip().decode() if found else None

@@ -249,7 +249,7 @@ class Service:
     async def post_run(self, request: web.Request) -> web.StreamResponse:
         with self.place():
             script, state = await self.body(request), self.engine.state
-            if self.is_read_only and (word := await in_thread_if_large(len(script), changing_word, script)):
+            if self.is_read_only and (word := changing_word(script)):
                 raise Problem(403, f"'{word}' changes the table, and this server is read-only")
             answer = await self.engine.run(Work(script, request_id(request)))
         return await self.replies(request, script, answer, state)

@@ -442,9 +442,8 @@ def key_of(columns: Sequence[tuple[bytes, bytes]], values: Sequence[bytes]) -> K
 
 def in_order(columns: Sequence[tuple[bytes, bytes]], records: list[bytes]) -> list[bytes]:
     """Records as they are printed, with their line breaks, in the order of a key of which they have the first columns first."""
-    values = zip(*(fields(record[:-1]) for record in records))
-    keys = zip(*(map(VALUES_AS_PRINTED[kind], column) for (_, kind), column in zip(columns, values)))
-    return [record for _, record in sorted(zip(keys, records))]
+    values = [VALUES_AS_PRINTED[kind] for _, kind in columns]
+    return sorted(records, key=lambda record: [value(field) for value, field in zip(values, fields(record[:-1]))])
 
 
 def keys_of_bounds(table: Table, bounds: Sequence[tuple[Value, ...]]) -> list[Key]:
