@@ -14,7 +14,7 @@ from functools import cache
 from pathlib import Path
 
 from clients import fault_of, library
-from common import TOP, expect, expect_within, imported
+from common import SECONDS, TOP, expect, expect_within, imported
 
 PYTHON = "/usr/bin/python3"
 TABLE = "table 16 64 16 1 id:int city:text qty:int\n"
@@ -189,7 +189,7 @@ def shards_are_started_by_a_command():
 
 def shards_are_actors_of_dask():
     if has_module("distributed", "shards over Dask are"):
-        run("tools/crash/shards", "--scripts", "0", "--processes", "0", "--kills", "0", "--dask", "12")
+        run("tools/crash/shards", "--scripts", "0", "--processes", "0", "--kills", "0", "--dask", "8")
 
 
 # ---- replicas ----
@@ -412,7 +412,7 @@ def printed(program, wanted):
         path = Path(folder) / "program.py"
         path.write_text(program)
         ended = subprocess.run(
-            [PYTHON, path], capture_output=True, text=True, cwd=folder, timeout=120, env={**os.environ, "PYTHONPATH": str(TOP / "clients/python")}
+            [PYTHON, path], capture_output=True, text=True, cwd=folder, timeout=2 * SECONDS, env={**os.environ, "PYTHONPATH": str(TOP / "clients/python")}
         )
         expect((ended.returncode, ended.stdout, ended.stderr), (0, wanted, ""))
 
@@ -445,7 +445,7 @@ def has_module(name, what):
 
 def run(*words):
     library()
-    ended = subprocess.run([PYTHON, TOP / words[0], *words[1:]], capture_output=True, text=True, timeout=120)
+    ended = subprocess.run([PYTHON, TOP / words[0], *words[1:]], capture_output=True, text=True, timeout=2 * SECONDS)
     expect((ended.returncode, ended.stderr), (0, ""))
     expect_within(" 0 differences", ended.stdout)
 
