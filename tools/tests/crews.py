@@ -6,7 +6,7 @@ import tempfile
 from functools import cache
 from pathlib import Path
 
-from common import expect, PROGRAM, run, SECONDS, TOP
+from common import expect, PROGRAM, run, SECONDS
 
 HERE = Path(__file__).resolve().parent
 TABLE = "table 4 1 2 1 id:int qty:int"
