@@ -3,8 +3,8 @@
 
     bench/layers.py [--rows N] [--rounds N]
 
-Rows are an int, a city of 1,000 and a quantity, in random order, in scripts of one batch, and the table has an index on the city that includes the quantity. The
-scripts are made before the clock runs. Shards are processes, of which the bounds take equal parts; rows that go to one shard alone are those of a caller that
+Rows are an int, a city of 1,000 and a quantity, in random order, in scripts of one batch, and the table has an index on the city that includes the quantity.
+The scripts are made before the clock runs. Shards are processes, of which the bounds take equal parts; rows that go to one shard alone are those of a caller that
 knows the bounds. The replicas are two in this process, of which one runs the scripts and the other runs what the log has at the end; the logs are redis-server
 with an append-only file that is synced always, and PostgreSQL, both on this machine with their files in a temporary folder. Rounds take all in turn; printed is
 the middle one, by the clock, and the load of the machine before and after. The library is that of BETABLE_LIBRARY, or of out/ of this repository.
@@ -80,7 +80,8 @@ def shards(rows: list[tuple[int, str, int]], rounds: int) -> None:
     """One session, tables among shards, and the same with rows that a caller has divided."""
     span = max(row[0] for row in rows) + 1
     in_order = sorted(rows)
-    divided = {count: [row for place in range(count) for row in shuffled(in_order[len(rows) * place // count : len(rows) * (place + 1) // count])] for count in SHARDS}
+    parts = {count: [in_order[len(rows) * place // count : len(rows) * (place + 1) // count] for place in range(count)] for count in SHARDS}
+    divided = {count: [row for part in parts[count] for row in shuffled(part)] for count in SHARDS}
     for one in (rows, *divided.values()):
         scripts_of_rows[id(one)] = scripts_of(one, LARGE)
     results: dict[str, list[list[float]]] = {}

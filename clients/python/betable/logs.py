@@ -1,7 +1,7 @@
 """Ordered logs of scripts for replicas: a stream of Redis, and a table of PostgreSQL.
 
-A log gives each script the next position, counted from 1 without gaps, and gives a request id that it has had the position of the first time. Beside the scripts
-it keeps the last checkpoint: the bytes from which a replica begins at a position, instead of with the first script.
+A log gives each script the next position, counted from 1 without gaps, and gives a request id that it has had the position of the first time. Beside the
+scripts it keeps the last checkpoint: the bytes from which a replica begins at a position, instead of with the first script.
 """
 
 from __future__ import annotations

@@ -4,8 +4,8 @@
         table.run("table 16 1024 256 1 id:int city:text qty:int\\n")
         table.put([(1, "Oslo", 30)])
 
-A script that may change the table goes into the log. Every replica runs the scripts of the log in its order, so every replica gives the same replies and has the
-same trees; a caller gets those of its own replica. A request id makes a script run once, however often it is sent. Scripts that only read are run on the
+A script that may change the table goes into the log. Every replica runs the scripts of the log in its order, so every replica gives the same replies and has
+the same trees; a caller gets those of its own replica. A request id makes a script run once, however often it is sent. Scripts that only read are run on the
 replica alone.
 
 A replica has its table in memory, and begins with the last checkpoint of the log and the scripts after it. If running a script fails, it begins again with the
@@ -174,8 +174,8 @@ class Replicas(Calls):
             self.catch_up()
 
     def once(self, request_id: str, script: str | bytes) -> bytes:
-        """As `replies`, by the log in any case. A script that comes again with the same request id is not run again: the call gives its replies. So a caller that got
-        no answer sends the request again. RequestReused if another script had the id."""
+        """As `replies`, by the log in any case. A script that comes again with the same request id is not run again: the call gives its replies. So a caller that
+        got no answer sends the request again. RequestReused if another script had the id."""
         text = as_script(script)
         self._run_by_log(request_id, text)
         outcome = self._outcomes.found.get(request_id)
