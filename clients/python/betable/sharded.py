@@ -5,9 +5,9 @@
         table.run("table 16 1024 256 1 id:int city:text qty:int\\n")
         table.put((number, "Oslo", 30) for number in range(1_000_000))
 
-Each bound is a tuple of values for the first columns of the key: the first shard has the keys before the first bound, the second those from there to
-before the second bound, and so on. The replies are those of one session, byte for byte. What shards cannot reply as one session does raises NotSharded: an `image`, and
-a `load` after deletes.
+Each bound is a tuple of values for the first columns of the key: the first shard has the keys before the first bound, the second those from there to before the
+second bound, and so on. The replies are those of one session, byte for byte. What shards cannot reply as one session does raises NotSharded: an `image`, and a
+`load` after deletes.
 
 A batch is applied by all of its shards or by none. Which refusal a batch gets does not depend on the rows, so each shard first checks its part on a table
 without rows; if none refuses, all apply. If a shard is lost, the table is: a durable table over shards makes all of them again from its log.
