@@ -7,7 +7,8 @@ Rows are an int, a city of 1,000 and a quantity, in random order, in scripts of 
 The scripts are made before the clock runs. Shards are processes, of which the bounds take equal parts; rows that go to one shard alone are those of a caller
 that knows the bounds. The replicas are two in this process, of which one runs the scripts and the other runs what the log has at the end; the logs are
 redis-server with an append-only file that is synced always, and PostgreSQL, both on this machine with their files in a temporary folder. Rounds take all
-in turn; printed is the middle one, by the clock, and the load of the machine before and after. The library is that of BETABLE_LIBRARY, or of out/ of this repository.
+in turn; printed is the middle one, by the clock, and the load of the machine before and after. The library is
+that of BETABLE_LIBRARY, or of out/ of this repository.
 """
 
 from __future__ import annotations
