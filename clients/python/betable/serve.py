@@ -95,7 +95,7 @@ class Service:
     def __init__(self, path: str, limits: Limits = Limits(), token: bytes | None = None, is_read_only: bool = False) -> None:
         self.engine = Engine(path, self.take)
         self.limits, self.token, self.is_read_only = limits, token, is_read_only
-        self.waiting, self.held = 0, 0
+        self.waiting, self.held, self.is_ending = 0, 0, False
         self.watchers: set[asyncio.Queue[str | None]] = set()
         self.metrics = Metrics(self.engine, self)
         self.page = Path(__file__).with_name("page.html").read_text(encoding="utf-8")
@@ -239,6 +239,8 @@ class Service:
                 watcher.put_nowait(event)
 
     async def end_events(self, application: web.Application) -> None:
+        """Ends the streams of events, and those that begin later, so that the server can end."""
+        self.is_ending = True
         for watcher in self.watchers:
             if watcher.full():
                 watcher.get_nowait()
@@ -346,12 +348,14 @@ class Service:
     async def get_events(self, request: web.Request) -> web.StreamResponse:
         if len(self.watchers) >= MOST_WATCHERS:
             raise Problem(429, f"at most {MOST_WATCHERS} clients read events", {"Retry-After": "10"})
-        response = web.StreamResponse(headers={**COMMON_HEADERS, "Content-Type": "text/event-stream"})
-        await response.prepare(request)
+        if self.is_ending:
+            raise Problem(503, "the server is ending", {"Retry-After": "1"})
         watcher: asyncio.Queue[str | None] = asyncio.Queue(MOST_EVENTS)
         self.watchers.add(watcher)
+        response = web.StreamResponse(headers={**COMMON_HEADERS, "Content-Type": "text/event-stream"})
         event: str | None = start_event(self.engine.number)
         try:
+            await response.prepare(request)
             while event is not None:
                 async with asyncio.timeout(self.limits.seconds):
                     await response.write(event.encode())
