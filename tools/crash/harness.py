@@ -88,7 +88,7 @@ def status_of_fork(work: Callable[[], None], folder: str, *, has_bytes: bool = F
     if child == 0:
         status = 1
         try:
-            signal.alarm(20)
+            signal.alarm(100)
             library().faults_begin(folder.encode(), f"{folder}.trace".encode(), has_bytes, ctypes.c_long(kill_at), *map(ctypes.c_long, fails), part, fault)
             work()
             status = 0
