@@ -628,6 +628,10 @@ def signals_end_it_after_what_came_in():
                 expect(quantities(found), {key: 1 for key in range(20)})
 
 
+def command_line(process):
+    return Path(f"/proc/{process}/cmdline").read_bytes()
+
+
 @with_aiohttp
 def signals_end_it_while_the_table_opens():
     with tempfile.TemporaryDirectory() as folder:
@@ -636,6 +640,8 @@ def signals_end_it_while_the_table_opens():
             children = Path(f"/proc/{process.pid}/task/{process.pid}/children")
             until(lambda: process.poll() is not None or children.read_text())
             engine = int(children.read_text())
+            # A child that is stopped before it runs its own program would hold its parent up.
+            until(lambda: command_line(engine) != command_line(process.pid))
             os.kill(engine, signal.SIGSTOP)
             if not select.select([process.stdout], [], [], 0)[0]:
                 break
