@@ -40,7 +40,7 @@ HEAD = "table 16 1024 256 1 id:int city:text qty:int\n"
 INDEX = "index by_city on city include qty\nbuild by_city 1\n"
 CITIES = ["Oslo", "Bergen", "Trondheim", "Stavanger", "Molde"]
 # Rows of a batch, and of all batches.
-SIZES = {1: 1_000, 100: 30_000, 1_000: 200_000, 10_000: 400_000}
+SIZES = {1: 2_000, 100: 200_000, 1_000: 400_000, 10_000: 400_000}
 GROUP, LARGE_BATCH = 16, 10_000
 Row = tuple[int, str, int]
 Way = Callable[[str, list[Row], int], float]
