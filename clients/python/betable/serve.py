@@ -38,6 +38,7 @@ Handler = Callable[[web.Request], Awaitable[web.StreamResponse]]
 MOST_IMAGE_BYTES = 1 << 20  # of a tree that is drawn
 MOST_EVENTS, MOST_WATCHERS = 256, 64  # that wait for a reader; readers
 EVENT_SECONDS = 15  # after which a reader of events gets a comment, so that proxies keep the connection
+ENDING_SECONDS = 1  # within which a server that is ending gives up a body whose next bytes do not come
 LEAST_TOKEN_BYTES = 16
 BODY_TYPES = ("text/", "application/octet-stream", "application/x-www-form-urlencoded")
 SECONDS = (0.0003, 0.001, 0.003, 0.01, 0.03, 0.1, 0.3, 1, 3, 10, 30)
@@ -184,19 +185,29 @@ class Service:
         if not request.content_type.startswith(BODY_TYPES):
             raise Problem(415, f"a body is a script, or lines of CSV, and not {request.content_type}")
         parts, length, size = [], 0, request.content_length or 0
-        try:
-            while size <= self.limits.body and length <= self.limits.body and not request.content.at_eof():
-                async with asyncio.timeout(self.limits.seconds):
-                    parts.append(await request.content.readany())
-                length += len(parts[-1])
-                self.hold(request, len(parts[-1]))
-                if self.held > self.limits.held:
-                    raise Problem(429, "too many bytes of requests wait: try again", {"Retry-After": "1"})
-        except TimeoutError:
-            raise Problem(408, f"the next bytes of the body did not come within {self.limits.seconds:g} seconds") from None
+        while size <= self.limits.body and length <= self.limits.body and not request.content.at_eof():
+            parts.append(await self.next_part(request))
+            length += len(parts[-1])
+            self.hold(request, len(parts[-1]))
+            if self.held > self.limits.held:
+                raise Problem(429, "too many bytes of requests wait: try again", {"Retry-After": "1"})
         if max(size, length) > self.limits.body:
             raise Problem(413, f"a body has at most {self.limits.body:,} bytes")
         return b"".join(parts)
+
+    async def next_part(self, request: web.Request) -> bytes:
+        """The next bytes of a body. A server that is ending takes in no more of them, so it does not wait for them either."""
+        loop = asyncio.get_running_loop()
+        end = loop.time() + self.limits.seconds
+        while True:
+            try:
+                async with asyncio.timeout_at(min(end, loop.time() + ENDING_SECONDS)):
+                    return await request.content.readany()
+            except TimeoutError:
+                if self.is_ending:
+                    raise Problem(503, "the server is ending, and nothing was done", {"Retry-After": "1"}) from None
+                if loop.time() >= end:
+                    raise Problem(408, f"the next bytes of the body did not come within {self.limits.seconds:g} seconds") from None
 
     async def response_in_parts(self, request: web.Request, parts: Iterator[bytes], headers: dict[str, str]) -> web.StreamResponse:
         """An answer in parts. A client that does not take them in time is cut off, and so is one whose parts cannot be made."""
