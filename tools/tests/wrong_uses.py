@@ -136,7 +136,6 @@ OF_OTHERS = [
     ("explain_words", "--file FILE", SCRIPT, 0, "  '--file' is no option: did you mean --script FILE?"),
     ("explain_words", "-V", "", 0, "  '-V' is no option: did you mean --version?"),
     ("explain_words", "-v", "", 0, "  '-v' is no option: did you mean --version?"),
-    ("explain_words", "-h", "", 0, "  '-h' is no option: did you mean --help?"),
     ("explain_words", "help", "", 0, "  'help' is no option: did you mean --help?"),
     ("explain_words", "--threads 4", "", 0, "  '--threads' is no option: did you mean --workers?"),
     ("explain_words", "--workers=0", "", 0, "  --workers takes a number from 1 to 64, and '0' is none"),
