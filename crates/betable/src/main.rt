@@ -1,8 +1,8 @@
 //! Runs a script of table commands, of a file or of standard input.
 #![tactic(auto)]
 
-use bt_rowtype::Texts;
 use bt_shell::{Counted, ProgramFault, RunFault, program, read_words};
+use bt_value::Texts;
 use std::alloc::Global;
 use std::io::{BufWriter, ErrorKind, IsTerminal, Read, Write};
 use std::process::ExitCode;

@@ -4,10 +4,10 @@ use Rattle.std.proofs.lemmas.Bool.Decides.{nat_tests}
 use Rattle.std.proofs.lemmas.List.{drop_more}
 use Rattle.std.proofs.lemmas.Option.{none-some}
 use Rattle.bt_batch.specs.Batches.{read_batch, read_message}
-use Rattle.bt_rowtype.specs.Refusals.{is_lesser, least, least_from, lesser}
-use Rattle.bt_rowtype.specs.Schemas.{Schema}
+use Rattle.bt_value.specs.Refusals.{is_lesser, least, least_from, lesser}
+use Rattle.bt_row.specs.Schemas.{Schema}
 use Rattle.bt_rowtype.specs.declared.item.Item.{Item}
-use Rattle.bt_rowtype.specs.declared.refusal.Refusal.{Refusal}
+use Rattle.bt_value.specs.declared.refusal.Refusal.{Refusal}
 
 -- ---- the least refusal of lists one behind the other
 

@@ -1,15 +1,15 @@
 -- What the records of a batch spell.
-use Rattle.std.specs.Prelude.{ℕ, ◌+◌, nat_lt, Bool, List, [], ◌∷◌, ◌++◌, length, take, Result, Ok, Err, if◌then◌else◌}
+use Rattle.std.specs.Prelude.{ℕ, ◌+◌, nat_lt, List, [], ◌∷◌, ◌++◌, length, take, Result}
 use Rattle.std.specs.List.{filter_map}
 use Rattle.std.specs.Result.{result_err, result_ok}
+use Rattle.bt_value.specs.Results.{map_ok, one_if}
 use Rattle.bt_batch.specs.declared.line_messages.TheConstants.{MOST_MESSAGES}
-use Rattle.bt_rowtype.specs.Ops.{Change, default_row, upsert_as}
-use Rattle.bt_rowtype.specs.Schemas.{Schema}
-use Rattle.bt_rowtype.specs.Values.{read_as}
-use Rattle.bt_rowtype.specs.declared.upsert.op.Op.{Op}
-use Rattle.bt_rowtype.specs.declared.refusal.Refusal.{Refusal}
-use Rattle.bt_rowtype.specs.declared.refusal.Refusal.TheVariants.{TooMany}
-use Rattle.bt_rowtype.specs.declared.value.Value.{Value}
+use Rattle.bt_row.specs.Ops.{Change, default_row, upsert_as}
+use Rattle.bt_row.specs.Schemas.{Schema, read_as}
+use Rattle.bt_row.specs.declared.op.Op.{Op}
+use Rattle.bt_value.specs.declared.refusal.Refusal.{Refusal}
+use Rattle.bt_value.specs.declared.refusal.Refusal.TheVariants.{TooMany}
+use Rattle.bt_value.specs.declared.value.Value.{Value}
 use Rattle.bt_keycode.specs.Codes.{code_of}
 use Rattle.bt_keycode.specs.Keys.{Key}
 use Rattle.bt_messages.specs.declared.message.Message.{Message}
@@ -23,16 +23,6 @@ KeyedMessage = Key × Message (List Value) Change
 
 abbrev pub RowMessages : Type 0
 RowMessages = List KeyedMessage
-
--- what is made of a value, where it could be read
-abbrev pub map_ok : {A B : Type 0} → (A → B) → Result A Refusal → Result B Refusal
-map_ok make (Ok value) = Ok (make value)
-map_ok make (Err refusal) = Err refusal
-
--- what is answered for a value, where it could be had
-abbrev pub and_then : {A B : Type 0} → (A → Result B Refusal) → Result A Refusal → Result B Refusal
-and_then next (Ok value) = next value
-and_then next (Err refusal) = Err refusal
 
 -- the values of the key that fields spell in a table, or their refusal as this item
 abbrev pub read_key : Schema → ℕ → List (List ℕ) → Result (List Value) Refusal
@@ -64,10 +54,6 @@ read_batch schema item (line ∷ lines) = read_message schema item line ∷ read
 -- the messages of a batch
 abbrev pub messages_of : Schema → List Item → RowMessages
 messages_of schema items = filter_map result_ok (read_batch schema 1 items)
-
--- a refusal, where it applies
-abbrev pub one_if : Bool → Refusal → List Refusal
-one_if applies refusal = if applies then refusal ∷ [] else []
 
 -- the refusals that apply to a batch: those of its records, and that of too many
 abbrev pub batch_refusals : Schema → List Item → List Refusal

@@ -2,13 +2,15 @@
 ghost use Rattle.std.specs.Prelude.{◌≡◌, ◌+◌, ◌<◌, ◌^◌, ◌∷◌, [], Some, IfOk, length};
 ghost use Rattle.std.specs.List.{filter_map};
 ghost use Rattle.std.specs.Result.{result_err, result_ok};
-ghost use Rattle.bt_rowtype.specs.Answers.{Answers};
-ghost use Rattle.bt_rowtype.specs.Refusals.{least, least_from};
+ghost use Rattle.bt_value.specs.Answers.{Answers};
+ghost use Rattle.bt_value.specs.Refusals.{least, least_from};
 ghost use Rattle.bt_batch.specs.Batches as spec;
 
 use bt_keycode::{Key, encode_row};
 use bt_messages::Message;
-use bt_rowtype::{Collected, Item, RecordReader, Refusal, Row, Schema, least_with};
+use bt_row::{Row, Schema};
+use bt_rowtype::{Item, RecordReader};
+use bt_value::{Collected, Refusal, least_with};
 use std::alloc::{AllocError, Global};
 
 /// The most messages of a batch.

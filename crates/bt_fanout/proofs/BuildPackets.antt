@@ -1,8 +1,8 @@
 -- The packet of a step of building.
 use Rattle.std.proofs.Common.{◌≡◌, ℕ, zero, suc, not, List, [], ◌∷◌, ◌++◌, take, refl, ap, ◌∙◌}
-use Rattle.bt_rowtype.specs.declared.value.Kind.{Kind}
-use Rattle.bt_rowtype.specs.declared.value.Value.{Value}
-use Rattle.bt_rowtype.proofs.offered.SameValues.{same_values-sound}
+use Rattle.bt_value.specs.declared.value.Kind.{Kind}
+use Rattle.bt_value.specs.declared.value.Value.{Value}
+use Rattle.bt_value.proofs.offered.SameValues.{same_values-sound}
 use Rattle.bt_messages.specs.Effects.{Rows, merged_entry, rows_after}
 use Rattle.bt_messages.specs.Messages.{sorted_batch}
 use Rattle.bt_fanout.specs.Covers.{is_covered, next_rows, put_of_entry, puts_of}

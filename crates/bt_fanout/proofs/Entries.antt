@@ -1,9 +1,9 @@
 -- Entries of rows of the same kinds: those of two keys have two keys.
 use Rattle.std.proofs.Common.{◌≡◌, ℕ, Bool, true, false, List, [], ◌∷◌, ◌++◌, get_or, map, refl, sym, ap, ◌∙◌, ◌⊎◌, inl, inr, Some, None, if◌then◌else◌}
 use Rattle.std.proofs.Math.ListN.{get_or-map}
-use Rattle.bt_rowtype.specs.declared.value.Kind.{Kind}
-use Rattle.bt_rowtype.specs.declared.value.Value.{Value}
-use Rattle.bt_rowtype.specs.declared.value.Value.TheVariants as value
+use Rattle.bt_value.specs.declared.value.Kind.{Kind}
+use Rattle.bt_value.specs.declared.value.Value.{Value}
+use Rattle.bt_value.specs.declared.value.Value.TheVariants as value
 use Rattle.bt_keycode.specs.Codes.{HaveSameKinds, code_of, kind_of}
 use Rattle.bt_keycode.proofs.offered.Codes.{no_proper_prefix}
 use Rattle.bt_fanout.specs.Entries.{Definition, StandsUnder, entry_of, passes, picked, value_in}

@@ -7,7 +7,7 @@ use Rattle.std.specs.Ordering.{eq_by_cmp}
 use Rattle.std.specs.Cmp.{tied_itself}
 use Rattle.std.specs.FinMap.{find, put}
 use Rattle.std.specs.FinMap.Entries.{below_all, by_order, is_sorted}
-use Rattle.bt_rowtype.specs.declared.value.Value.{Value}
+use Rattle.bt_value.specs.declared.value.Value.{Value}
 use Rattle.bt_messages.specs.Effects.{Rows, rows_after, value_after}
 use Rattle.bt_keycode.specs.Keys.{AllFrom, IsSorted, is_before, key_cmp}
 use Rattle.bt_messages.specs.Messages.{Messages}

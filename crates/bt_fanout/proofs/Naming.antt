@@ -6,21 +6,22 @@ use Rattle.std.specs.Cmp.Lexicographic.{pointwise}
 use Rattle.std.specs.Option.{is_none}
 use Rattle.std.specs.Result.{IfErr, result_err, result_map_both}
 use Rattle.std.proofs.lemmas.List.{length-map}
-use Rattle.bt_rowtype.specs.Ops.{at_column, both_read, named_from}
-use Rattle.bt_rowtype.specs.Refusals.{lesser}
-use Rattle.bt_rowtype.specs.Values.{or_refused, value_of}
-use Rattle.bt_rowtype.specs.declared.refusal.Refusal.{Refusal}
-use Rattle.bt_rowtype.specs.declared.refusal.Refusal.TheVariants.{BadField, NoSuchColumn, TooMany}
-use Rattle.bt_rowtype.specs.declared.schema.Column.{Column}
-use Rattle.bt_rowtype.specs.declared.value.Kind.{Kind}
-use Rattle.bt_rowtype.specs.declared.value.Kind.TheVariants as kind
-use Rattle.bt_rowtype.specs.declared.value.Value.{Value}
-use Rattle.bt_rowtype.proofs.offered.Kinds.{fits_kind_of, value_fits}
+use Rattle.bt_row.specs.Ops.{at_column, named_from}
+use Rattle.bt_value.specs.Results.{both_read, or_refused}
+use Rattle.bt_value.specs.Refusals.{lesser}
+use Rattle.bt_value.specs.Values.{value_of}
+use Rattle.bt_value.specs.declared.refusal.Refusal.{Refusal}
+use Rattle.bt_value.specs.declared.refusal.Refusal.TheVariants.{BadField, NoSuchColumn, TooMany}
+use Rattle.bt_row.specs.declared.schema.Column.{Column}
+use Rattle.bt_value.specs.declared.value.Kind.{Kind}
+use Rattle.bt_value.specs.declared.value.Kind.TheVariants as kind
+use Rattle.bt_value.specs.declared.value.Value.{Value}
+use Rattle.bt_value.proofs.offered.Kinds.{fits_kind_of, value_fits}
 use Rattle.bt_keycode.specs.Codes.{kind_of}
 use Rattle.bt_fanout.specs.Definitions.{chosen, condition_at, condition_in, kinds_of, most_included, most_on, places_of}
 use Rattle.bt_fanout.specs.Entries.{HasKind, HasPlace, SuitsKinds}
 use Rattle.bt_fanout.specs.declared.definition.Condition.{Condition}
-use Rattle.bt_rowtype.specs.declared.filter.Filter.{Filter}
+use Rattle.bt_row.specs.declared.filter.Filter.{Filter}
 use Rattle.bt_fanout.proofs.offered.Suiting.{all_more, all_none}
 
 -- ---- places one by one

@@ -2,9 +2,9 @@
 use Rattle.std.proofs.Common.{◌≡◌, ◌<◌, ◌+◌, ◌++◌, ℕ, false, List, [], ◌∷◌, ap, append_assoc, sym, ◌∙◌, drop, get_or, length, slice_get, Some}
 use Rattle.std.proofs.lemmas.List.{drop_more}
 use Rattle.std.proofs.lemmas.Option.{get_or_from_slice_get}
-use Rattle.bt_rowtype.specs.declared.value.Value.{Value}
-use Rattle.bt_rowtype.specs.declared.value.Value.TheVariants as value
-pub use Rattle.bt_rowtype.proofs.offered.Kinds.{has_bytes}
+use Rattle.bt_value.specs.declared.value.Value.{Value}
+use Rattle.bt_value.specs.declared.value.Value.TheVariants as value
+pub use Rattle.bt_value.proofs.offered.Kinds.{bytes_fit}
 use Rattle.bt_keycode.specs.Codes.{code_of, code_of_value}
 use Rattle.bt_fanout.specs.Entries.{picked, value_in}
 

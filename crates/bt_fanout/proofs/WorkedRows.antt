@@ -1,10 +1,10 @@
 -- Index messages, computed.
 use Rattle.std.proofs.Common.{◌≡◌, ℕ, ◌<◌, List, [], ◌∷◌, ◌++◌, Some, None, arith, fold, length, refl, pos}
-use Rattle.bt_rowtype.specs.declared.filter.Test.TheVariants as test
-use Rattle.bt_rowtype.specs.declared.value.Kind.{Kind}
-use Rattle.bt_rowtype.specs.declared.value.Kind.TheVariants as kind
-use Rattle.bt_rowtype.specs.declared.value.Value.{Value}
-use Rattle.bt_rowtype.specs.declared.value.Value.TheVariants as value
+use Rattle.bt_row.specs.declared.filter.Test.TheVariants as test
+use Rattle.bt_value.specs.declared.value.Kind.{Kind}
+use Rattle.bt_value.specs.declared.value.Kind.TheVariants as kind
+use Rattle.bt_value.specs.declared.value.Value.{Value}
+use Rattle.bt_value.specs.declared.value.Value.TheVariants as value
 use Rattle.bt_keycode.specs.Codes.{code_of, eight_bytes}
 use Rattle.bt_messages.specs.Effects.{Rows, rows_after}
 use Rattle.bt_messages.specs.Messages.{Messages, messages_between, sorted_batch}

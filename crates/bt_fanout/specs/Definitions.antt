@@ -1,16 +1,17 @@
 -- How the names of columns, and a filter, make a definition of an index.
 use Rattle.std.specs.Prelude.{ℕ, ◌&&◌, List, [], ◌∷◌, length, map, nat_le, Option, Some, None, option_and_then, option_map, Result, Ok, Err, if◌then◌else◌}
 use Rattle.std.specs.Result.{result_map_both}
-use Rattle.bt_rowtype.specs.Ops.{at_column, both_read, named_from}
-use Rattle.bt_rowtype.specs.Schemas.{Schema}
-use Rattle.bt_rowtype.specs.Values.{or_refused, value_of}
-use Rattle.bt_rowtype.specs.declared.refusal.Refusal.{Refusal}
-use Rattle.bt_rowtype.specs.declared.refusal.Refusal.TheVariants.{BadField, NoSuchColumn, TooMany}
-use Rattle.bt_rowtype.specs.declared.schema.Column.{Column}
-use Rattle.bt_rowtype.specs.declared.value.Kind.{Kind}
+use Rattle.bt_row.specs.Ops.{at_column, named_from}
+use Rattle.bt_value.specs.Results.{both_read, or_refused}
+use Rattle.bt_row.specs.Schemas.{Schema}
+use Rattle.bt_value.specs.Values.{value_of}
+use Rattle.bt_value.specs.declared.refusal.Refusal.{Refusal}
+use Rattle.bt_value.specs.declared.refusal.Refusal.TheVariants.{BadField, NoSuchColumn, TooMany}
+use Rattle.bt_row.specs.declared.schema.Column.{Column}
+use Rattle.bt_value.specs.declared.value.Kind.{Kind}
 use Rattle.bt_fanout.specs.Entries.{Definition}
 use Rattle.bt_fanout.specs.declared.definition.Condition.{Condition}
-use Rattle.bt_rowtype.specs.declared.filter.Filter.{Filter}
+use Rattle.bt_row.specs.declared.filter.Filter.{Filter}
 
 -- columns that an index is ordered by
 abbrev pub most_on : ℕ

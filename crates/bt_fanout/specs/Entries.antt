@@ -3,18 +3,18 @@ use Rattle.std.specs.Prelude.{ℕ, ◌≡◌, ◌<◌, ◌≤◌, ◌&&◌, ◌+
 use Rattle.std.specs.List.{All, list_all}
 use Rattle.std.specs.Ordering.{is_eq, is_lt}
 use Rattle.std.specs.declared.cmp.Ordering.{Ordering}
-use Rattle.bt_rowtype.specs.Values.{value_cmp}
-pub use Rattle.bt_rowtype.specs.Values.{same_value, same_values}
-use Rattle.bt_rowtype.specs.declared.value.Kind.{Kind}
-use Rattle.bt_rowtype.specs.declared.value.Kind.TheVariants as kind
-use Rattle.bt_rowtype.specs.declared.value.Value.{Value}
-use Rattle.bt_rowtype.specs.declared.value.Value.TheVariants as value
+use Rattle.bt_value.specs.Values.{value_cmp}
+pub use Rattle.bt_value.specs.Values.{same_value, same_values}
+use Rattle.bt_value.specs.declared.value.Kind.{Kind}
+use Rattle.bt_value.specs.declared.value.Kind.TheVariants as kind
+use Rattle.bt_value.specs.declared.value.Value.{Value}
+use Rattle.bt_value.specs.declared.value.Value.TheVariants as value
 use Rattle.bt_keycode.specs.Codes.{code_of, kind_of}
 use Rattle.bt_keycode.specs.Keys.{Key}
 use Rattle.bt_keycode.specs.Standing.{row_key}
 use Rattle.bt_fanout.specs.declared.definition.Condition.{Condition}
-use Rattle.bt_rowtype.specs.declared.filter.Test.{Test}
-use Rattle.bt_rowtype.specs.declared.filter.Test.TheVariants as test
+use Rattle.bt_row.specs.declared.filter.Test.{Test}
+use Rattle.bt_row.specs.declared.filter.Test.TheVariants as test
 
 -- what a contract sees of a definition of an index: the places of the columns that it is ordered by and of those that it includes, the condition on its
 -- rows, if it has one, and how many columns are the key of the table

@@ -2,8 +2,8 @@
 use Rattle.std.specs.Prelude.{◌≡◌, ◌++◌, ℕ, List, [], ◌∷◌, Some, T, length}
 use Rattle.std.specs.FinMap.{is_sorted}
 use Rattle.std.specs.List.{All}
-use Rattle.bt_rowtype.specs.declared.value.Kind.{Kind}
-use Rattle.bt_rowtype.specs.declared.value.Value.{Value}
+use Rattle.bt_value.specs.declared.value.Kind.{Kind}
+use Rattle.bt_value.specs.declared.value.Value.{Value}
 use Rattle.bt_keycode.specs.Keys.{key_cmp}
 use Rattle.bt_messages.specs.Effects.{Rows, rows_after}
 use Rattle.bt_messages.specs.Messages.{Messages, sorted_batch}

@@ -14,7 +14,7 @@ use crate::definition::IndexDef;
 use crate::selecting::entry;
 use bt_keycode::Key;
 use bt_messages::{Entry, Message};
-use bt_rowtype::Row;
+use bt_row::Row;
 use std::alloc::{AllocError, Global};
 
 // Adds a put of an entry, if there is one.

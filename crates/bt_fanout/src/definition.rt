@@ -2,12 +2,13 @@
 ghost use Rattle.std.specs.Prelude.{◌≡◌, Err, IfErr, IfOk, nat_lt};
 ghost use Rattle.std.specs.List.{list_all};
 ghost use Rattle.std.specs.Option.{option_copied};
-ghost use Rattle.bt_rowtype.specs.Answers.{Answers};
+ghost use Rattle.bt_value.specs.Answers.{Answers};
 ghost use Rattle.bt_fanout.specs.Definitions.{definition_as, kinds_of};
 ghost use Rattle.bt_fanout.specs.Entries as spec;
 
 use crate::definition_parts::read_parts;
-use bt_rowtype::{Filter, Refusal, Schema, Sequence, Test, Texts, Value};
+use bt_row::{Filter, Schema, Test};
+use bt_value::{Refusal, Sequence, Texts, Value};
 use std::alloc::Global;
 use std::marker::Model;
 

@@ -2,14 +2,14 @@
 ghost use Rattle.std.specs.Prelude.{◌≡◌, Err, IfErr, IfSome, None, Option, Result, is_some, map, string_bytes};
 ghost use Rattle.std.specs.Option.{option_copied};
 ghost use Rattle.std.specs.Result.{result_err};
-ghost use Rattle.bt_rowtype.specs.Answers.{Answers};
-ghost use Rattle.bt_rowtype.specs.Ops.{both_read};
-ghost use Rattle.bt_rowtype.specs.Refusals.{lesser};
-ghost use Rattle.bt_rowtype.specs.Values.{or_refused};
+ghost use Rattle.bt_value.specs.Answers.{Answers};
+ghost use Rattle.bt_value.specs.Results.{both_read, or_refused};
+ghost use Rattle.bt_value.specs.Refusals.{lesser};
 ghost use Rattle.bt_fanout.specs.Definitions as spec;
 
 use crate::definition::{Condition, MOST_INCLUDED, MOST_ON};
-use bt_rowtype::{Column, Filter, Refusal, Sequence, find_column, read_field};
+use bt_row::{Column, Filter, find_column};
+use bt_value::{Refusal, Sequence, read_field};
 use std::alloc::Global;
 
 // The condition of a filter.

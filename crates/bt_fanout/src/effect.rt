@@ -1,6 +1,6 @@
 //! What a batch does to the row of a key.
 use bt_keycode::Key;
-use bt_rowtype::Row;
+use bt_row::Row;
 
 /// The row that a key had before a batch, and the row that it has after it.
 #[derive(Debug, Drop)]

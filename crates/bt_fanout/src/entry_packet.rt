@@ -1,7 +1,7 @@
 //! The messages of an index for what a batch does to rows.
 ghost use Rattle.std.specs.Prelude.{◌≡◌, ◌++◌, ◌∷◌, [], IfOk, OnOk, Some};
 ghost use Rattle.std.specs.List.{All};
-ghost use Rattle.bt_rowtype.specs.Views.{value_of_ref};
+ghost use Rattle.bt_value.specs.Views.{value_of_ref};
 ghost use Rattle.bt_messages.specs.Messages.{sorted_batch};
 ghost use Rattle.bt_messages.specs.declared.message.Message.TheVariants.{Del, Put};
 ghost use Rattle.bt_fanout.specs.Effects.{SuitsEffect, SuitsIn, sent_for, sent_for_all};
@@ -16,7 +16,7 @@ use crate::effect::Effect;
 use crate::selecting::entry;
 use bt_keycode::Key;
 use bt_messages::{Entry, Message, Packet};
-use bt_rowtype::{Row, same_values};
+use bt_row::{Row, same_values};
 use std::alloc::{AllocError, Global};
 use std::cmp::Ordering;
 

@@ -12,7 +12,7 @@ use bt_gather::values;
 use bt_keycode::Key;
 use bt_messages::{BufferMessages, Message, Packet, effect_borrowed};
 use bt_node::Tree;
-use bt_rowtype::{Row, copy_row};
+use bt_row::{Row, copy_row};
 use std::alloc::{AllocError, Global};
 use std::cmp::Ordering;
 use std::sync::Wait;

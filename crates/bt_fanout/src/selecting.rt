@@ -8,12 +8,12 @@ ghost use Rattle.bt_fanout.specs.Entries.{HasPlace, IsWithin, entry_of, meets, p
 use crate::definition::{Condition, IndexDef};
 use bt_keycode::{CodeBuilder, Key};
 use bt_messages::Entry;
-use bt_rowtype::{Row, Test, compare_values};
+use bt_row::{Row, Test, compare_values};
 use std::alloc::{AllocError, Global};
 use std::cmp::Ordering;
 
 // Adds the values of a row at places.
-#[tactic(auto, using(crate::proofs::Picking::has_bytes, crate::proofs::Picking::value_seen))]
+#[tactic(auto, using(crate::proofs::Picking::bytes_fit, crate::proofs::Picking::value_seen))]
 fn add_picked(
     alloc: Global,
     values: &mut Row,
@@ -55,7 +55,7 @@ fn meets_condition(condition: &Option<Condition>, row: &Row) -> bool
 }
 
 // Adds the codes of the values of a row at places.
-#[tactic(auto, using(crate::proofs::Picking::has_bytes, crate::proofs::Picking::value_seen))]
+#[tactic(auto, using(crate::proofs::Picking::bytes_fit, crate::proofs::Picking::value_seen))]
 fn add_picked_codes(code: &mut CodeBuilder, row: &Row, places: &[usize]) -> Result<(), AllocError>
     requires { All (λ place. place < length row.now) places.now }
     ensures { OnOk result (code.new ≡ code.old ++ code_of (picked places.now row.now)) }

@@ -16,7 +16,7 @@ use crate::selecting::entry;
 use bt_keycode::Key;
 use bt_messages::{Entry, Message, Packet};
 use bt_node::{Tree, Visitor};
-use bt_rowtype::Row;
+use bt_row::Row;
 use std::alloc::{AllocError, Global};
 use std::marker::Model;
 

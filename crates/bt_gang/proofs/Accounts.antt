@@ -1,7 +1,7 @@
 -- Whatever run of the board: no job is lost and none comes twice.
 use Rattle.std.proofs.Common.{◌≡◌, ℕ, zero, suc, ◌+◌, ◌<◌, List, [], ◌∷◌, ◌++◌, length, get_or, set, replicate, Option, None, Some, refl, sym, ap, ◌∙◌, subst, arith}
 use Rattle.std.proofs.lemmas.List.{length-set, length-replicate, get_or-set_same}
-use Rattle.bt_rowtype.specs.Lists.{concatenation}
+use Rattle.bt_value.specs.Lists.{concatenation}
 use Rattle.bt_gang.specs.Numbers.{sum_over, is_it, below}
 use Rattle.bt_gang.specs.Board.{State, start, held_job, taken_by, after_put, after_take, after_hand, Event, IsRun, IsReached, holding, IsAccounted}
 use Rattle.bt_gang.specs.Board.Event.{Put, Take, Hand}

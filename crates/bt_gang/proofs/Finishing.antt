@@ -10,7 +10,7 @@ use Rattle.bt_gang.specs.declared.job_runs.GangFault.{GangFault}
 use Rattle.bt_gang.specs.declared.job_runs.GangFault.TheVariants.{OutOfMemory}
 use Rattle.bt_gang.specs.declared.team.Served.{Served}
 use Rattle.bt_gang.specs.declared.workers.Worker.{Worker}
-use Rattle.bt_rowtype.specs.Lists.{concatenation}
+use Rattle.bt_value.specs.Lists.{concatenation}
 use Rattle.bt_gang.specs.Numbers.{occurrences, below, once_below}
 use Rattle.bt_gang.specs.Numbered.{numbered, present}
 use Rattle.bt_gang.specs.declared.crew.TheConstants.{MOST_WORKERS}

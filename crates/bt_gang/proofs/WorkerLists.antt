@@ -11,7 +11,7 @@ use native.Mathlib.Decide.{ℕ_discrete}
 use Rattle.bt_gang.specs.declared.answers.Answers.{Answers}
 use Rattle.bt_gang.specs.declared.rule.Known.{Known}
 use Rattle.bt_gang.specs.declared.rule.TakenList.{TakenList}
-use Rattle.bt_rowtype.specs.Lists.{concatenation}
+use Rattle.bt_value.specs.Lists.{concatenation}
 use Rattle.bt_gang.specs.Numbers.{sum_over, is_it, occurrences, below, once_below}
 use Rattle.bt_gang.specs.Numbered.{numbered, present}
 use Rattle.bt_gang.specs.Queue.{taken_list, workers_of, numbers_of, AreOwnLists, IsBoardOf}

@@ -4,7 +4,7 @@ use mathlib.Core.Option.{some}
 use lib.ListN.{get_elem?}
 use Rattle.bt_gang.specs.declared.job_runs.GangFault.{GangFault}
 use Rattle.bt_gang.specs.declared.job_runs.GangFault.TheVariants.{OutOfMemory, Job}
-use Rattle.bt_rowtype.specs.Lists.{concatenation}
+use Rattle.bt_value.specs.Lists.{concatenation}
 use Rattle.bt_gang.specs.Numbers.{occurrences, once_below}
 use Rattle.bt_gang.specs.Board.{State, IsReached}
 use Rattle.bt_gang.specs.declared.crew.TheConstants.{MOST_WORKERS}

@@ -1,9 +1,9 @@
 //! Who works, and what is called around each job.
 ghost use Rattle.std.specs.Prelude.{◌≡◌, ◌<◌, IfErr, IfOk, max, min};
-ghost use Rattle.bt_rowtype.specs.declared.refusal.Refusal.TheVariants.{BadCrew};
+ghost use Rattle.bt_value.specs.declared.refusal.Refusal.TheVariants.{BadCrew};
 ghost use Rattle.bt_gang.specs.Crews.{IsCrew};
 
-use bt_rowtype::Refusal;
+use bt_value::Refusal;
 
 /// The most workers of a crew.
 pub const MOST_WORKERS: usize = 64;

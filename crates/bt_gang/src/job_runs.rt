@@ -1,7 +1,7 @@
 //! All jobs of a call, run by a crew.
 ghost use Rattle.std.specs.Prelude.{◌≡◌, ◌+◌, ◌≤◌, [], ◌++◌, ◌∷◌, All, IfErr, IfOk, IsSome, None, length, map, replicate, vec_capacity, vec_len};
 ghost use Rattle.crossbeam_queue.specs.Passes.{view};
-ghost use Rattle.bt_rowtype.specs.Lists.{concatenation};
+ghost use Rattle.bt_value.specs.Lists.{concatenation};
 ghost use Rattle.bt_gang.specs.Numbered.{numbered, present};
 ghost use Rattle.bt_gang.specs.Queue.{NothingWaits};
 ghost use Rattle.bt_gang.specs.declared.job_runs.GangFault.TheVariants.{OutOfMemory};

@@ -2,7 +2,7 @@
 ghost use Rattle.std.specs.Prelude.{◌≡◌, ◌+◌, ◌≤◌, ◌<◌, ◌++◌, IfOk, List, None, OnOk, Option, drop, length, map, take};
 ghost use Rattle.std.specs.FinMap.{find};
 ghost use Rattle.std.specs.List.{All};
-ghost use Rattle.bt_rowtype.specs.Lists.{concatenation};
+ghost use Rattle.bt_value.specs.Lists.{concatenation};
 ghost use Rattle.bt_keycode.specs.Keys.{Key, key_cmp};
 ghost use Rattle.bt_messages.specs.Effects.{effect_of};
 ghost use Rattle.bt_node.specs.Flushes.{holds};

@@ -2,13 +2,13 @@
 use Rattle.std.proofs.Common.{◌≡◌, ◌≤◌, ◌+◌, ◌*◌, ◌∷◌, ◌++◌, ◌∙◌, [], ℕ, zero, suc, ℤ, List, ap, arith, false, length, nat_eq, refl}
 use Rattle.std.proofs.lemmas.List.{length-append}
 use Rattle.std.specs.List.{list_any}
-use Rattle.bt_rowtype.specs.Kinds.{Content, Number, Bytes, Bit, content_of, kind_of}
-use Rattle.bt_rowtype.specs.Texts.{most_value_bytes}
-use Rattle.bt_rowtype.specs.Values.{AreTaken, HasBytes}
-use Rattle.bt_rowtype.specs.declared.value.Kind.{Kind}
-use Rattle.bt_rowtype.specs.declared.value.Value.{Value}
-pub use Rattle.bt_rowtype.proofs.offered.Kinds.{bytes_length}
-use Rattle.bt_rowtype.proofs.offered.Kinds.{taken_length}
+use Rattle.bt_value.specs.Kinds.{Content, Number, Bytes, Bit, content_of, kind_of}
+use Rattle.bt_value.specs.Texts.{most_value_bytes}
+use Rattle.bt_value.specs.Values.{BytesFitKind, BytesFit}
+use Rattle.bt_value.specs.declared.value.Kind.{Kind}
+use Rattle.bt_value.specs.declared.value.Value.{Value}
+pub use Rattle.bt_value.proofs.offered.Kinds.{bytes_length}
+use Rattle.bt_value.proofs.offered.Kinds.{taken_length}
 use Rattle.bt_keycode.specs.Codes.{code_of_content, code_of_value, eight_bytes, escaped, raised}
 use Rattle.bt_keycode.specs.inside.CodeBeginnings.{IsShort}
 use Rattle.bt_keycode.proofs.Escapes.{escaped-first, escaped-kept, escaped_parts}
@@ -40,12 +40,12 @@ unfolding eight_bytes
 length_int n = refl
 
 -- a value has no more bytes than it may have
-few_taken : (k : Kind) (c : Content) → AreTaken k c → IsShort c
+few_taken : (k : Kind) (c : Content) → BytesFitKind k c → IsShort c
 few_taken k (Number n) taken = tt
 few_taken k (Bytes bytes) taken = taken_length k bytes taken
 few_taken k (Bit bit) taken = tt
 
-pub is_short : (v : Value) → HasBytes v → IsShort (content_of v)
+pub is_short : (v : Value) → BytesFit v → IsShort (content_of v)
 is_short v taken = few_taken (kind_of v) (content_of v) taken
 
 -- and its code has at most 512
@@ -54,5 +54,5 @@ short_content (Number n) short = omega (arith, length_int n)
 short_content (Bytes bytes) short = omega (arith, length-append (escaped bytes) (0 ∷ 1 ∷ []), short_escaped bytes short)
 short_content (Bit bit) short = omega arith
 
-pub short_code : (v : Value) → HasBytes v → length (code_of_value v) ≤ 512
+pub short_code : (v : Value) → BytesFit v → length (code_of_value v) ≤ 512
 short_code v taken = short_content (content_of v) (is_short v taken)

@@ -8,11 +8,11 @@ use Rattle.std.specs.Ordering.{bool_cmp, int_cmp, nat_cmp, ordering_then, MatchO
 use Rattle.std.specs.declared.cmp.Ordering.{Ordering}
 use Rattle.std.specs.declared.cmp.Ordering.TheVariants.{Less, Equal, Greater}
 use Rattle.std.proofs.lemmas.Int.{ints}
-use Rattle.bt_rowtype.specs.Kinds.{Content, Number, Bytes, Bit, content_of, form_in, form_of}
-use Rattle.bt_rowtype.specs.Values.{IsInRange, LiesInRange, content_cmp, value_cmp}
-use Rattle.bt_rowtype.specs.declared.value.Kind.{Kind}
-use Rattle.bt_rowtype.specs.declared.value.Value.{Value}
-use Rattle.bt_rowtype.proofs.offered.Kinds.{form_held}
+use Rattle.bt_value.specs.Kinds.{Content, Number, Bytes, Bit, content_of, form_in, form_of}
+use Rattle.bt_value.specs.Values.{IsInRange, LiesInRange, content_cmp, value_cmp}
+use Rattle.bt_value.specs.declared.value.Kind.{Kind}
+use Rattle.bt_value.specs.declared.value.Value.{Value}
+use Rattle.bt_value.proofs.offered.Kinds.{form_held}
 use Rattle.bt_keycode.specs.Codes.{HaveSameKinds, code_of, code_of_content, code_of_value, eight_bytes, escaped, kind_of, raised}
 use Rattle.bt_keycode.specs.inside.CodeBeginnings.{HasBits}
 use Rattle.bt_keycode.proofs.Escapes.{escaped_compare, escaped_unique, then_assoc, then_equal}

@@ -1,6 +1,6 @@
 -- The code of one value alone, for `encode` of an int.
 use Rattle.std.proofs.Common.{◌≡◌, [], ◌∷◌, append-nil}
-use Rattle.bt_rowtype.specs.declared.value.Value.{Value}
+use Rattle.bt_value.specs.declared.value.Value.{Value}
 use Rattle.bt_keycode.specs.Codes.{code_of, code_of_value}
 
 pub code_of_one : (v : Value) → code_of (v ∷ []) ≡ code_of_value v

@@ -1,12 +1,12 @@
 -- One code stands for one list of values of given kinds: what `decode` stands on.
 use Rattle.std.proofs.Common.{◌≡◌, ℕ, List, [], ◌∷◌, ◌++◌, map, take, drop, length, ◌-◌, ◌<◌, ◌≤◌, append_assoc, append-nil, get_or, ◌+◌, refl, sym, ap, subst, ◌∙◌, Bool, true, false, Some, ℤ, SFits, w64, to_z, of_z, arith}
-use Rattle.bt_rowtype.specs.Kinds.{Content, Number, Bytes, Bit, content_of, form_in, form_of, value_with}
-use Rattle.bt_rowtype.specs.Texts.{most_value_bytes}
-use Rattle.bt_rowtype.specs.Values.{AreInRange, IsInRange, LiesInRange, takes_content}
-use Rattle.bt_rowtype.specs.declared.value.Form.TheVariants as form
-use Rattle.bt_rowtype.specs.declared.value.Kind.{Kind}
-use Rattle.bt_rowtype.specs.declared.value.Value.{Value}
-use Rattle.bt_rowtype.proofs.offered.Kinds.{content_with, form_held, has_bytes, kind_with, with_content}
+use Rattle.bt_value.specs.Kinds.{Content, Number, Bytes, Bit, content_of, form_in, form_of, value_with}
+use Rattle.bt_value.specs.Texts.{most_value_bytes}
+use Rattle.bt_value.specs.Values.{AreInRange, IsInRange, LiesInRange, takes_content}
+use Rattle.bt_value.specs.declared.value.Form.TheVariants as form
+use Rattle.bt_value.specs.declared.value.Kind.{Kind}
+use Rattle.bt_value.specs.declared.value.Value.{Value}
+use Rattle.bt_value.proofs.offered.Kinds.{content_with, form_held, bytes_fit, kind_with, with_content}
 use Rattle.bt_keycode.specs.Codes.{IsCode, IsCodeOf, IsNoCode, code_of, code_of_content, code_of_value, eight_bytes, escaped, kind_of, raised}
 use Rattle.bt_keycode.specs.Prefixes.{first_eight}
 use Rattle.bt_keycode.proofs.CodeLengths.{is_short}
@@ -150,7 +150,7 @@ taken_in k (Bit bit) fits = refl
 
 -- where nothing of its form begins, no value of a kind does
 pub no_value : (k : Kind) (bytes : List ℕ) → BeginsWithNoContent (form_of k) bytes → BeginsWithNo k bytes
-no_value k bytes none v rest b = none (content_of v) rest (held_in k bytes v rest b) (is_short v (has_bytes v b.in_range))
+no_value k bytes none v rest b = none (content_of v) rest (held_in k bytes v rest b) (is_short v (bytes_fit v b.in_range))
 
 -- nor where the kind does not take it
 pub not_taken : (k : Kind) (bytes : List ℕ) (c : Content) (rest : List ℕ) → BeginsWithContent (form_of k) bytes c rest → takes_content k c ≡ false → BeginsWithNo k bytes

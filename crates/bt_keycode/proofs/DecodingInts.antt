@@ -5,7 +5,7 @@ use Rattle.std.specs.Int.{from_be_bytes}
 use Rattle.bt_keycode.specs.Codes.{eight_bytes, raised}
 use Rattle.std.proofs.Math.ListN.{length-drop}
 use Rattle.std.proofs.Math.Seq.{take-length}
-use Rattle.bt_rowtype.specs.Paddings.{padded}
+use Rattle.bt_value.specs.Paddings.{padded}
 use Rattle.bt_keycode.specs.Prefixes.{first_eight}
 
 pub raised_below : (a : ℤ) → SFits w64 a → raised a < 2 ^ 64

@@ -6,7 +6,7 @@ use Rattle.std.specs.Ordering.{nat_cmp, ordering_then, MatchOrdering}
 use Rattle.std.specs.declared.cmp.Ordering.{Ordering}
 use Rattle.std.specs.declared.cmp.Ordering.TheVariants.{Less, Equal, Greater}
 use Rattle.std.proofs.Math.Seq.{drop-nil}
-use Rattle.bt_rowtype.specs.Paddings.{padded}
+use Rattle.bt_value.specs.Paddings.{padded}
 use Rattle.bt_keycode.specs.Prefixes.{first_eight}
 
 -- the eight places, written out

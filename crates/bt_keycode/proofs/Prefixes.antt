@@ -6,7 +6,7 @@ use Rattle.std.specs.Cmp.Lexicographic.{slice_cmp}
 use Rattle.std.specs.Ordering.{nat_cmp, MatchOrdering}
 use Rattle.std.specs.declared.cmp.Ordering.{Ordering}
 use Rattle.std.specs.declared.cmp.Ordering.TheVariants.{Less, Equal, Greater}
-use Rattle.bt_rowtype.specs.Paddings.{padded}
+use Rattle.bt_value.specs.Paddings.{padded}
 use Rattle.bt_keycode.specs.Codes.{eight_bytes}
 use Rattle.bt_keycode.specs.Prefixes.{first_eight}
 use Rattle.bt_keycode.proofs.Numbers.{slice_cmp-eight_bytes}

@@ -1,9 +1,9 @@
 -- Codes of worked values, and their lengths, computed from the definitions.
 use Rattle.std.proofs.Common.{◌≡◌, true, false, [], ◌∷◌, pos, negsuc, refl, codes}
-use Rattle.bt_rowtype.specs.declared.upsert.op.Op.TheVariants.{Add, Set}
-use Rattle.bt_rowtype.specs.declared.value.Value.TheVariants as value
+use Rattle.bt_row.specs.declared.op.Op.TheVariants.{Add, Set}
+use Rattle.bt_value.specs.declared.value.Value.TheVariants as value
 use Rattle.bt_keycode.specs.Codes.{code_of, eight_bytes}
-use Rattle.bt_rowtype.specs.Hex.{hex_text}
+use Rattle.bt_value.specs.Hex.{hex_text}
 use Rattle.bt_keycode.specs.Lengths.{byte_weight, change_code_length, code_length}
 
 -- of 3

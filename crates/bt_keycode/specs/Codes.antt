@@ -1,11 +1,11 @@
 -- The key code of values, and which bytes are one.
 use Rattle.std.specs.Int.{bytes_high_first}
 use Rattle.std.specs.Prelude.{ℕ, suc, ◌≡◌, ◌==◌, ◌+◌, ◌-◌, ◌^◌, ◌++◌, List, [], ◌∷◌, map, if◌then◌else◌, ℤ, pos, negsuc}
-use Rattle.bt_rowtype.specs.Values.{AreInRange}
-use Rattle.bt_rowtype.specs.Kinds.{Content, Number, Bytes, Bit, content_of}
-pub use Rattle.bt_rowtype.specs.Kinds.{kind_of}
-use Rattle.bt_rowtype.specs.declared.value.Kind.{Kind}
-use Rattle.bt_rowtype.specs.declared.value.Value.{Value}
+use Rattle.bt_value.specs.Values.{AreInRange}
+use Rattle.bt_value.specs.Kinds.{Content, Number, Bytes, Bit, content_of}
+pub use Rattle.bt_value.specs.Kinds.{kind_of}
+use Rattle.bt_value.specs.declared.value.Kind.{Kind}
+use Rattle.bt_value.specs.declared.value.Value.{Value}
 
 -- an int moved up by 2^63, which inverts the sign bit of its 64 bits
 abbrev pub raised : ℤ → ℕ

@@ -1,11 +1,11 @@
 -- Values from their code: of what values bytes are the code, and what code they begin with.
 use Rattle.std.specs.Int.{from_be_bytes, w64}
 use Rattle.std.specs.Prelude.{ℕ, zero, suc, ◌==◌, ◌-◌, ◌^◌, ◌++◌, List, [], ◌∷◌, drop, get_or, nat_le, take, Option, Some, None, option_and_then, option_map, if◌then◌else◌, ℤ, pos, negsuc}
-use Rattle.bt_rowtype.specs.Kinds.{Content, Number, Bytes, Bit, form_of, value_with}
-use Rattle.bt_rowtype.specs.declared.value.Form.{Form}
-use Rattle.bt_rowtype.specs.declared.value.Form.TheVariants as form
-use Rattle.bt_rowtype.specs.declared.value.Kind.{Kind}
-use Rattle.bt_rowtype.specs.declared.value.Value.{Value}
+use Rattle.bt_value.specs.Kinds.{Content, Number, Bytes, Bit, form_of, value_with}
+use Rattle.bt_value.specs.declared.value.Form.{Form}
+use Rattle.bt_value.specs.declared.value.Form.TheVariants as form
+use Rattle.bt_value.specs.declared.value.Kind.{Kind}
+use Rattle.bt_value.specs.declared.value.Value.{Value}
 
 -- what is read from the code of bytes, with these before it
 abbrev pub after_bytes : List ℕ → Option (List ℕ × List ℕ) → Option (List ℕ × List ℕ)

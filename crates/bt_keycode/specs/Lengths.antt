@@ -1,8 +1,8 @@
 -- The lengths of key codes, as weights: numbers of bytes that are held at a most.
 use Rattle.std.specs.List.{sum_by}
 use Rattle.std.specs.Prelude.{ℕ, ◌+◌, List, length, map, min}
-use Rattle.bt_rowtype.specs.Ops.{Change, argument_of}
-use Rattle.bt_rowtype.specs.declared.value.Value.{Value}
+use Rattle.bt_row.specs.Ops.{Change, argument_of}
+use Rattle.bt_value.specs.declared.value.Value.{Value}
 use Rattle.bt_keycode.specs.Codes.{code_of, code_of_value}
 
 -- the most that anything weighs, in bytes

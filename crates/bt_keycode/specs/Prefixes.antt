@@ -1,7 +1,7 @@
 -- The first eight bytes of a key, which are compared as a number.
 use Rattle.std.specs.Prelude.{ℕ, cond, List, []}
 use lib.Dec.{leb}
-use Rattle.bt_rowtype.specs.Paddings.{padded}
+use Rattle.bt_value.specs.Paddings.{padded}
 
 -- the first eight bytes of a list, with zeros in place of those that it hasn't
 unfoldable pub first_eight : List ℕ → List ℕ

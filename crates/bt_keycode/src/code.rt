@@ -1,12 +1,13 @@
 //! The key code of values.
 ghost use Rattle.std.specs.Prelude.{◌≡◌, ◌≤◌, IfOk, length, take};
-ghost use Rattle.bt_rowtype.specs.Values.{value_cmp, values_cmp};
+ghost use Rattle.bt_value.specs.Values.{value_cmp, values_cmp};
 ghost use Rattle.bt_keycode.specs.Codes.{HaveSameKinds, IsNoProperPrefix, code_of, code_of_value, eight_bytes, kind_of, raised};
 ghost use Rattle.bt_keycode.specs.Keys.{key_cmp};
 
 use crate::code_builder::{CodeBuilder, int_code};
 use crate::key::Key;
-use bt_rowtype::{Content, Row, Value, Values, compare_values};
+use bt_row::{Row, Values, compare_values};
+use bt_value::{Content, Value};
 use std::alloc::{AllocError, Global};
 use std::cmp::Ordering;
 

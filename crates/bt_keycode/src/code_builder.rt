@@ -1,11 +1,12 @@
 //! The code of values that are added one after the other.
 ghost use Rattle.std.specs.Prelude.{◌≡◌, ◌++◌, ◌∷◌, [], IfOk, OnOk, OnErr};
 ghost use Rattle.bt_keycode.specs.Codes.{code_of_value, eight_bytes, escaped, raised};
-ghost use Rattle.bt_rowtype.specs.Views.{value_of_ref};
+ghost use Rattle.bt_value.specs.Views.{value_of_ref};
 
 use crate::key::Key;
 use crate::zeros::split_at_zero;
-use bt_rowtype::{Content, GrowingBytes, ValueRef};
+use bt_row::GrowingBytes;
+use bt_value::{Content, ValueRef};
 use std::alloc::{AllocError, Global};
 use std::marker::Model;
 

@@ -3,12 +3,13 @@ ghost use Rattle.std.specs.Prelude.{◌≡◌, ◌<◌, ◌≤◌, ◌++◌, ◌
 ghost use Rattle.bt_keycode.specs.Codes.{IsCode, IsCodeOf, IsNoCode, raised};
 ghost use Rattle.bt_keycode.specs.Decodings.{after_bytes, unescaped};
 ghost use Rattle.bt_keycode.specs.inside.CodeBeginnings.{BeginsWith, BeginsWithContent, BeginsWithNo, BeginsWithNoContent, reading_at_end};
-ghost use Rattle.bt_rowtype.specs.Views.{content_of_ref, value_of_ref};
-ghost use Rattle.bt_rowtype.specs.declared.value.Value.{Value as value};
+ghost use Rattle.bt_value.specs.Views.{content_of_ref, value_of_ref};
+ghost use Rattle.bt_value.specs.declared.value.Value.{Value as value};
 
 use crate::key::prefix_of;
 use crate::zeros::split_at_zero;
-use bt_rowtype::{Content, Form, Kind, MOST_VALUE_BYTES, Row, ValueRef};
+use bt_row::Row;
+use bt_value::{Content, Form, Kind, MOST_VALUE_BYTES, ValueRef};
 use std::alloc::{AllocError, Global};
 
 /// Why bytes are not decoded.

@@ -1,12 +1,12 @@
 //! Keys: lists of bytes in the order of bytes.
 ghost use Rattle.std.specs.Prelude.{◌≡◌, ◌++◌, ◌≤◌, [], IfNone, IfOk, IfSome, OnOk, OnErr, drop, length};
-ghost use Rattle.bt_rowtype.specs.Hex.{hex_text};
-ghost use Rattle.bt_rowtype.specs.Paddings.{padded};
+ghost use Rattle.bt_value.specs.Hex.{hex_text};
+ghost use Rattle.bt_value.specs.Paddings.{padded};
 ghost use Rattle.bt_keycode.specs.Keys.{key_cmp};
 ghost use Rattle.bt_keycode.specs.Codes.{eight_bytes};
 ghost use Rattle.bt_keycode.specs.Prefixes.{first_eight};
 
-use bt_rowtype::{Bytes, SHORT_BYTES, write_hex};
+use bt_value::{Bytes, SHORT_BYTES, write_hex};
 use std::alloc::{AllocError, Global};
 use std::cmp::Ordering;
 use std::marker::Model;

@@ -2,11 +2,12 @@
 ghost use Rattle.std.specs.Prelude.{◌≡◌, ◌≤◌, ◌+◌, ◌++◌, ◌∷◌, [], length};
 ghost use Rattle.bt_keycode.specs.Codes.{code_of_value, escaped};
 ghost use Rattle.bt_keycode.specs.Lengths.{byte_weight, change_code_length, code_length};
-ghost use Rattle.bt_rowtype.specs.Values.{HasBytes};
-ghost use Rattle.bt_rowtype.specs.Views.{value_of_ref};
+ghost use Rattle.bt_value.specs.Values.{BytesFit};
+ghost use Rattle.bt_value.specs.Views.{value_of_ref};
 
 use crate::zeros::split_at_zero;
-use bt_rowtype::{Change, Content, MOST_VALUE_BYTES, Row, Value, ValueRef, Values};
+use bt_row::{Change, Row, Values};
+use bt_value::{Content, MOST_VALUE_BYTES, Value, ValueRef};
 
 /// The most that anything weighs, in bytes: the greatest number of 24 bits.
 pub const MOST_WEIGHT: u64 = 16_777_215;
@@ -38,7 +39,7 @@ fn bytes_len(bytes: &[u8]) -> u64
 // The length of the code of a value. The longest is that of 255 zero bytes.
 #[tactic(auto, using(crate::proofs::CodeLengths::length_int, crate::proofs::CodeLengths::short_code, crate::proofs::CodeLengths::bytes_length))]
 fn value_len(value: ValueRef<'_>) -> u64
-    requires { HasBytes (value_of_ref value) }
+    requires { BytesFit (value_of_ref value) }
     ensures len { result ≡ length (code_of_value (value_of_ref value.entry)) }
     ensures bound { result ≤ 512 }
 {

@@ -1,18 +1,17 @@
 -- A tree that is rebuilt, or loaded, is the one that is built from scratch.
 use Rattle.std.proofs.Common.{ℕ, suc, zero, ◌≡◌, ◌∙◌, ◌+◌, ◌≤◌, ◌⊎◌, Bool, true, false, List, [], ◌∷◌, ap, sym, subst, refl, arith, map, set, if◌then◌else◌, inl, inr, Option, Some, None, option_map, Result, Ok, IfSome, ◌&&◌}
 use Rattle.std.specs.List.{list_all}
-use Rattle.bt_rowtype.specs.Schemas.{Schema}
-use Rattle.bt_rowtype.specs.Values.{or_refused}
-use Rattle.bt_rowtype.specs.declared.refusal.Refusal.{Refusal}
-use Rattle.bt_rowtype.specs.declared.refusal.Refusal.TheVariants.{NoSuchTree}
-use Rattle.bt_rowtype.specs.declared.value.Value.{Value}
+use Rattle.bt_row.specs.Schemas.{Schema}
+use Rattle.bt_value.specs.Results.{or_refused, and_then, map_ok}
+use Rattle.bt_value.specs.declared.refusal.Refusal.{Refusal}
+use Rattle.bt_value.specs.declared.refusal.Refusal.TheVariants.{NoSuchTree}
+use Rattle.bt_value.specs.declared.value.Value.{Value}
 use Rattle.bt_node.specs.Drains.{packed, rebuilt}
 use Rattle.bt_node.specs.Messages.{Rows}
 use Rattle.bt_node.specs.Trees.{Shape}
 use Rattle.bt_fanout.specs.Effects.{entry_effect}
 use Rattle.bt_fanout.specs.Entries.{entry_of}
 use Rattle.bt_fanout.specs.Selections.{select}
-use Rattle.bt_batch.specs.Batches.{and_then, map_ok}
 use Rattle.bt_table.specs.Calls.{Load, NamedTree, Primary, Rebuild, Rebuilding, Secondary, is_primary, loaded_rows, renewed_index, secondary, step, tree_named, with_index_at, with_renewed_index, with_renewed_rows, with_rows, after_load}
 use Rattle.bt_table.specs.Indexes.{EntryTree, Index, index_named, index_named_from, is_complete, is_name_of, packed_index, with_tree}
 use Rattle.bt_table.specs.Standing.{AreSoundIndexes, IsSoundIndex, IsSoundTable}

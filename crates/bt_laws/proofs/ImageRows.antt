@@ -11,13 +11,13 @@ use Rattle.csv.specs.Writing.{default_writer, is_blank, read_back, row_body}
 use Rattle.csv.specs.Writing as writing
 use Rattle.csv.specs.declared.parser.State.TheVariants as state
 use Rattle.csv.proofs.RoundTrip.{read-write}
-use Rattle.bt_rowtype.specs.Hex.{hex_digit, hex_text}
-use Rattle.bt_rowtype.specs.Ints.{digits_after, is_digit, number_written}
-use Rattle.bt_rowtype.specs.Records.{record_text}
-use Rattle.bt_rowtype.specs.Schemas.{Schema, fit_columns}
-use Rattle.bt_rowtype.specs.Values.{AreInRange, text_of, values_of}
-use Rattle.bt_rowtype.specs.declared.schema.Column.{Column}
-use Rattle.bt_rowtype.specs.declared.value.Value.{Value}
+use Rattle.bt_value.specs.Hex.{hex_digit, hex_text}
+use Rattle.bt_value.specs.Ints.{digits_after, is_digit, number_written}
+use Rattle.bt_row.specs.RecordTexts.{record_text}
+use Rattle.bt_row.specs.Schemas.{Schema, fit_columns, values_of}
+use Rattle.bt_value.specs.Values.{AreInRange, text_of}
+use Rattle.bt_row.specs.declared.schema.Column.{Column}
+use Rattle.bt_value.specs.declared.value.Value.{Value}
 use Rattle.bt_keycode.specs.Keys.{Key}
 use Rattle.bt_keycode.specs.Standing.{AllStand, RowMap, Stands, row_key}
 use Rattle.bt_messages.specs.declared.message.Message.{Message}

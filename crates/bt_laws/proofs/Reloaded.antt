@@ -15,15 +15,16 @@ use Rattle.csv.specs.Writing.{default_writer, is_blank, read_back, row_body, row
 use Rattle.csv.specs.declared.parser.State.TheVariants as state
 use Rattle.csv.proofs.RoundTrip.{read-write, rows_text}
 use Rattle.bt_rowtype.specs.Loads.{is_header}
-use Rattle.bt_rowtype.specs.Ops.{all_read, unless}
-use Rattle.bt_rowtype.specs.Records.{has_mark, record_text}
-use Rattle.bt_rowtype.specs.Refusals.{least}
-use Rattle.bt_rowtype.specs.Schemas.{Schema, fit_columns, fits_kind, is_schema}
-use Rattle.bt_rowtype.specs.Values.{or_refused, read_as, text_of, values_of}
-use Rattle.bt_rowtype.specs.declared.refusal.Refusal.{Refusal}
-use Rattle.bt_rowtype.specs.declared.refusal.Refusal.TheVariants.{BadField, BadLength, BadSchema, DuplicateKey}
-use Rattle.bt_rowtype.specs.declared.schema.Column.{Column}
-use Rattle.bt_rowtype.specs.declared.value.Value.{Value}
+use Rattle.bt_value.specs.Results.{all_read, unless, or_refused, and_then, map_ok}
+use Rattle.bt_record.specs.Records.{has_mark}
+use Rattle.bt_row.specs.RecordTexts.{record_text}
+use Rattle.bt_value.specs.Refusals.{least}
+use Rattle.bt_row.specs.Schemas.{Schema, fit_columns, is_schema, read_as, values_of}
+use Rattle.bt_value.specs.Values.{fits_kind, text_of}
+use Rattle.bt_value.specs.declared.refusal.Refusal.{Refusal}
+use Rattle.bt_value.specs.declared.refusal.Refusal.TheVariants.{BadField, BadLength, BadSchema, DuplicateKey}
+use Rattle.bt_row.specs.declared.schema.Column.{Column}
+use Rattle.bt_value.specs.declared.value.Value.{Value}
 use Rattle.bt_keycode.specs.Keys.{Key, key_cmp}
 use Rattle.bt_keycode.specs.Standing.{AllStand, AreOf, IsOf, RowMap, row_key}
 use Rattle.bt_keycode.proofs.offered.Order.{is_less, total_keys}
@@ -31,7 +32,6 @@ use Rattle.bt_keycode.proofs.offered.Truths.{t_first, t_second, true_t}
 use Rattle.bt_load.specs.Loads.{text_rows, typed_from, under_header}
 use Rattle.bt_load.specs.Maps.{map_of, map_with_rows}
 use Rattle.bt_view.specs.RecordTexts.{record_line}
-use Rattle.bt_batch.specs.Batches.{and_then, map_ok}
 use Rattle.bt_node.specs.Messages.{between}
 use Rattle.bt_node.proofs.offered.Portions.{between-all}
 use Rattle.bt_table.specs.Calls.{Load, NamedTree, Rebuild, after_load, load_refusals, loaded_rows, step, tree_named, unless_any, with_rows}

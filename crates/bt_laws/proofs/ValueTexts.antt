@@ -7,17 +7,17 @@ use Rattle.std.proofs.lemmas.Str.Parse.{IsNumeralModel, numerals_by_fold}
 use Rattle.std.specs.Fmt.{decimal, signed_decimal}
 use Rattle.std.specs.List.{AllByRecursion, list_all}
 use Rattle.std.specs.Prelude.{FitsSigned, map, option_and_then, option_map}
-use Rattle.bt_rowtype.specs.Hex.{byte_of, bytes_of_hex, digit_of, hex_digit, hex_text}
-use Rattle.bt_rowtype.specs.Ints.{digits_after, int_of, is_digit, is_numeral, number_up_to, number_written}
-use Rattle.bt_rowtype.specs.Kinds.{kind_of}
-use Rattle.bt_rowtype.specs.Schemas.{fit_columns, fits_kind}
-use Rattle.bt_rowtype.specs.Texts.{is_binary}
-use Rattle.bt_rowtype.specs.Values.{AreInRange, IsInRange, text_of, value_of, values_of, with_first}
-use Rattle.bt_rowtype.specs.declared.schema.Column.{Column}
-use Rattle.bt_rowtype.specs.declared.value.Kind.{Kind}
-use Rattle.bt_rowtype.specs.declared.value.Value.{Value}
-use Rattle.bt_rowtype.specs.declared.value.Value.TheVariants as value
-use Rattle.bt_rowtype.proofs.offered.Kinds.{fits_kind_of}
+use Rattle.bt_value.specs.Hex.{byte_of, bytes_of_hex, digit_of, hex_digit, hex_text}
+use Rattle.bt_value.specs.Ints.{digits_after, int_of, is_digit, is_numeral, number_up_to, number_written}
+use Rattle.bt_value.specs.Kinds.{kind_of}
+use Rattle.bt_row.specs.Schemas.{fit_columns, values_of, with_first}
+use Rattle.bt_value.specs.Values.{fits_kind, AreInRange, IsInRange, text_of, value_of}
+use Rattle.bt_value.specs.Texts.{is_binary}
+use Rattle.bt_row.specs.declared.schema.Column.{Column}
+use Rattle.bt_value.specs.declared.value.Kind.{Kind}
+use Rattle.bt_value.specs.declared.value.Value.{Value}
+use Rattle.bt_value.specs.declared.value.Value.TheVariants as value
+use Rattle.bt_value.proofs.offered.Kinds.{fits_kind_of}
 use Rattle.bt_laws.specs.StoredTables.{HasOnlyBytes}
 
 -- ---- numbers

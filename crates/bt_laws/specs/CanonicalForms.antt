@@ -1,13 +1,13 @@
 -- The form of a table that depends on its columns, its shape and its rows alone.
 use Rattle.std.specs.Prelude.{◌≡◌, Bool, List, Ok, Result, codes, map, true, ℕ}
 use Rattle.std.specs.List.{list_all}
-use Rattle.bt_rowtype.specs.declared.refusal.Refusal.{Refusal}
-use Rattle.bt_rowtype.specs.declared.value.Value.{Value}
+use Rattle.bt_value.specs.declared.refusal.Refusal.{Refusal}
+use Rattle.bt_value.specs.declared.value.Value.{Value}
 use Rattle.bt_node.specs.Drains.{packed}
 use Rattle.bt_node.specs.Messages.{Rows}
 use Rattle.bt_fanout.specs.Entries.{entry_of}
 use Rattle.bt_fanout.specs.Selections.{select}
-use Rattle.bt_batch.specs.Batches.{and_then}
+use Rattle.bt_value.specs.Results.{and_then}
 use Rattle.bt_table.specs.Calls.{Call, Load, NamedTree, Primary, Rebuild, Rebuilding, Secondary, loaded_rows, renewed_index, step, tree_named, with_renewed_rows, with_rows}
 use Rattle.bt_table.specs.Indexes.{is_complete}
 use Rattle.bt_table.specs.Tables.{Intact, PlainTable, TableState}

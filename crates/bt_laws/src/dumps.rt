@@ -1,6 +1,6 @@
 //! Tables that are dumped and loaded again.
 ghost use Rattle.std.specs.Prelude.{◌≡◌, ◌++◌, List, [], flat_map, fold, map};
-ghost use Rattle.bt_rowtype.specs.declared.value.Value.{Value};
+ghost use Rattle.bt_value.specs.declared.value.Value.{Value};
 ghost use Rattle.bt_node.specs.Messages.{Rows};
 ghost use Rattle.bt_table.specs.Standing.{IsSoundTable};
 ghost use Rattle.bt_table.specs.Tables.{PlainTable};

@@ -1,6 +1,6 @@
 -- Keys that are made each by itself.
 use Rattle.std.proofs.Common.{◌≡◌, ℕ, suc, ◌+◌, ◌<◌, List, [], ◌∷◌, get_or, length, refl, ap, ◌∙◌, arith}
-use Rattle.bt_rowtype.specs.declared.value.Value.{Value}
+use Rattle.bt_value.specs.declared.value.Value.{Value}
 use Rattle.bt_keycode.specs.Standing.{row_key}
 use Rattle.bt_load.specs.Steps.{AreKeysOrNone, no_key}
 use Rattle.bt_load.specs.inside.Sorts.{HaveKeys, placed_from}

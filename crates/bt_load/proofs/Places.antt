@@ -2,7 +2,7 @@
 use Rattle.std.proofs.Common.{◌≡◌, ℕ, zero, suc, ◌+◌, ◌<◌, ◌≤◌, List, [], ◌∷◌, get_or, length, refl, ◌∙◌, arith, subst}
 use Rattle.std.proofs.lemmas.List.Sorted.{IsPermutation-map}
 use Rattle.std.specs.List.Sorted.{IsPermutation}
-use Rattle.bt_rowtype.specs.declared.value.Value.{Value}
+use Rattle.bt_value.specs.declared.value.Value.{Value}
 use Rattle.bt_keycode.specs.Occurrences.{AreDistinctBelow, occurrences}
 use Rattle.bt_keycode.proofs.offered.Occurrences.{distinct_first, distinct_moved, distinct_none, occurrences-cons, occurrences-first, occurrences-other}
 use Rattle.bt_load.specs.inside.Sorts.{placed_from, places_of}

@@ -2,14 +2,15 @@
 use Rattle.std.proofs.Common.{◌≡◌, ℕ, List, [], ◌∷◌, ◌+◌, refl, subst, Option, Some, None, Result, Ok, Err, IfOk}
 use Rattle.std.specs.List.{filter_map}
 use Rattle.std.specs.Result.{result_err, result_map_both, result_ok}
-use Rattle.bt_rowtype.specs.Answers.{Answers}
-use Rattle.bt_rowtype.specs.Ops.{all_read, unless}
-use Rattle.bt_rowtype.specs.Refusals.{least}
-use Rattle.bt_rowtype.specs.Values.{AreInRange, read_as}
-use Rattle.bt_rowtype.specs.declared.refusal.Refusal.{Refusal}
-use Rattle.bt_rowtype.specs.declared.schema.Column.{Column}
-use Rattle.bt_rowtype.specs.declared.value.Value.{Value}
-use Rattle.bt_rowtype.proofs.offered.Fits.{read_fits}
+use Rattle.bt_value.specs.Answers.{Answers}
+use Rattle.bt_value.specs.Results.{all_read, unless}
+use Rattle.bt_value.specs.Refusals.{least}
+use Rattle.bt_value.specs.Values.{AreInRange}
+use Rattle.bt_row.specs.Schemas.{read_as}
+use Rattle.bt_value.specs.declared.refusal.Refusal.{Refusal}
+use Rattle.bt_row.specs.declared.schema.Column.{Column}
+use Rattle.bt_value.specs.declared.value.Value.{Value}
+use Rattle.bt_row.proofs.offered.Fits.{read_fits}
 use Rattle.bt_keycode.proofs.offered.Ranges.{read_in_range}
 use Rattle.bt_load.specs.Loads.{typed_from}
 use Rattle.bt_keycode.specs.Standing.{AreOf}

@@ -4,8 +4,8 @@ use Rattle.std.proofs.lemmas.List.Elements.{All-cons, All-head, All-nil, All-tai
 use Rattle.std.proofs.lemmas.List.Sorted.{All-permutation}
 use Rattle.std.specs.List.{All}
 use Rattle.std.specs.List.Sorted.{IsPermutation}
-use Rattle.bt_rowtype.specs.Schemas.{Schema}
-use Rattle.bt_rowtype.specs.declared.value.Value.{Value}
+use Rattle.bt_row.specs.Schemas.{Schema}
+use Rattle.bt_value.specs.declared.value.Value.{Value}
 use Rattle.bt_keycode.specs.Keys.{Key}
 use Rattle.bt_keycode.specs.Standing.{AllAreUnder, AllStand, AreOf, RowMap, Stands, row_key}
 use Rattle.bt_load.proofs.Maps.{keyed}

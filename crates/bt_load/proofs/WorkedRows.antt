@@ -3,12 +3,12 @@ use Rattle.std.proofs.Common.{ℕ, List, [], ◌∷◌, ◌++◌, ◌≡◌, ref
 use Rattle.std.specs.Prelude.{Ok, Err, pos}
 use Rattle.std.specs.Char.{encode_utf8}
 use Rattle.std.specs.Str.{chars, is_utf8}
-use Rattle.bt_rowtype.specs.declared.refusal.Refusal.TheVariants.{BadField, BadLength, BadSchema, DuplicateKey}
-use Rattle.bt_rowtype.specs.declared.schema.Column.{Column}
-use Rattle.bt_rowtype.specs.declared.value.Kind.TheVariants as kind
-use Rattle.bt_rowtype.specs.declared.value.Value.{Value}
-use Rattle.bt_rowtype.specs.declared.value.Value.TheVariants as value
-use Rattle.bt_rowtype.proofs.offered.OnLiterals.{rowtype_on_literals}
+use Rattle.bt_value.specs.declared.refusal.Refusal.TheVariants.{BadField, BadLength, BadSchema, DuplicateKey}
+use Rattle.bt_row.specs.declared.schema.Column.{Column}
+use Rattle.bt_value.specs.declared.value.Kind.TheVariants as kind
+use Rattle.bt_value.specs.declared.value.Value.{Value}
+use Rattle.bt_value.specs.declared.value.Value.TheVariants as value
+use Rattle.bt_value.proofs.offered.OnLiterals.{values_on_literals}
 use Rattle.bt_keycode.specs.Keys.{Key}
 use Rattle.bt_keycode.specs.Codes.{eight_bytes}
 use Rattle.bt_load.specs.Loads.{text_rows}
@@ -30,42 +30,42 @@ mark = 239 ∷ 187 ∷ 191 ∷ []
 -- ---- texts
 
 pub header_alone : text_rows columns (codes "id,name\n") ≡ Ok []
-unfolding rowtype_on_literals
+unfolding values_on_literals
 header_alone = refl
 
 pub three_rows : text_rows columns (codes "id,name\n2,\"x,y\"\n1,a\n3,b\n") ≡ Ok (row 2 (codes "x,y") ∷ row 1 (codes "a") ∷ row 3 (codes "b") ∷ [])
-unfolding rowtype_on_literals chars encode_utf8 is_utf8
+unfolding values_on_literals chars encode_utf8 is_utf8
 three_rows = refl
 
 pub header_differs : text_rows columns (codes "id,nam\n1,a\n") ≡ Err BadSchema
-unfolding rowtype_on_literals
+unfolding values_on_literals
 header_differs = refl
 
 -- the names in another order
 pub header_turned : text_rows columns (codes "name,id\n1,a\n") ≡ Err BadSchema
-unfolding rowtype_on_literals
+unfolding values_on_literals
 header_turned = refl
 
 pub no_header : text_rows columns [] ≡ Err BadSchema
-unfolding rowtype_on_literals
+unfolding values_on_literals
 no_header = refl
 
 pub one_mark : text_rows columns (mark ++ codes "id,name\r\n1,a\r\n") ≡ Ok (row 1 (codes "a") ∷ [])
-unfolding rowtype_on_literals chars encode_utf8 is_utf8
+unfolding values_on_literals chars encode_utf8 is_utf8
 one_mark = refl
 
 pub two_marks : text_rows columns (mark ++ mark ++ codes "id,name\n1,a\n") ≡ Err BadSchema
-unfolding rowtype_on_literals
+unfolding values_on_literals
 two_marks = refl
 
 -- the least number and not the first record
 pub least_number : text_rows columns (codes "id,name\n1\nx,b\n1,c\n") ≡ Err (BadField 2)
-unfolding rowtype_on_literals chars encode_utf8 is_utf8
+unfolding values_on_literals chars encode_utf8 is_utf8
 least_number = refl
 
 -- records are counted behind the header
 pub short_record : text_rows columns (codes "id,name\n1,a\n1,b\n1\n") ≡ Err (BadLength 3)
-unfolding rowtype_on_literals chars encode_utf8 is_utf8
+unfolding values_on_literals chars encode_utf8 is_utf8
 short_record = refl
 
 -- ---- keys

@@ -2,13 +2,13 @@
 use Rattle.std.specs.Prelude.{ℕ, ◌+◌, List, [], ◌∷◌, Result, Err, if◌then◌else◌}
 use Rattle.csv.specs.Reading.{default_config, records, strip_bom}
 use Rattle.bt_rowtype.specs.Loads.{is_header}
-use Rattle.bt_rowtype.specs.Ops.{all_read}
-use Rattle.bt_rowtype.specs.Records.{has_mark}
-use Rattle.bt_rowtype.specs.Values.{read_as}
-use Rattle.bt_rowtype.specs.declared.refusal.Refusal.{Refusal}
-use Rattle.bt_rowtype.specs.declared.refusal.Refusal.TheVariants.{BadSchema}
-use Rattle.bt_rowtype.specs.declared.schema.Column.{Column}
-use Rattle.bt_rowtype.specs.declared.value.Value.{Value}
+use Rattle.bt_value.specs.Results.{all_read}
+use Rattle.bt_record.specs.Records.{has_mark}
+use Rattle.bt_row.specs.Schemas.{read_as}
+use Rattle.bt_value.specs.declared.refusal.Refusal.{Refusal}
+use Rattle.bt_value.specs.declared.refusal.Refusal.TheVariants.{BadSchema}
+use Rattle.bt_row.specs.declared.schema.Column.{Column}
+use Rattle.bt_value.specs.declared.value.Value.{Value}
 
 -- what each of these records is read as, the first of them as this item
 abbrev pub typed_from : List Column → ℕ → List (List (List ℕ)) → List (Result (List Value) Refusal)

@@ -5,7 +5,8 @@ ghost use Rattle.bt_load.specs.Steps.{AreKeysOrNone, AreRowsOrNone, placed_cmp};
 
 use crate::placed::{Placed, encode_piece, placed_order};
 use crate::typing::type_piece;
-use bt_rowtype::{RecordLine, Row, Schema};
+use bt_record::RecordLine;
+use bt_row::{Row, Schema};
 use rayon::prelude::*;
 use std::alloc::Global;
 use std::thread::Threads;

@@ -9,7 +9,8 @@ ghost use Rattle.bt_load.specs.inside.Sorts.{HaveKeys, IsFirstRepeat, IsKeyBelow
 
 use crate::loading::Loading;
 use bt_keycode::{Key, encode_row};
-use bt_rowtype::{Refusal, Row};
+use bt_row::Row;
+use bt_value::Refusal;
 use std::alloc::{AllocError, Global};
 use std::cmp::Ordering;
 use std::mem;

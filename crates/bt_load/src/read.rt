@@ -1,14 +1,17 @@
 //! The rows of a text.
 ghost use Rattle.std.specs.Prelude.{◌≡◌, IfOk};
 ghost use Rattle.std.specs.Result.{result_map_both};
-ghost use Rattle.bt_rowtype.specs.Answers.{Answers};
-ghost use Rattle.bt_rowtype.specs.Ops.{all_read};
+ghost use Rattle.bt_value.specs.Answers.{Answers};
+ghost use Rattle.bt_value.specs.Results.{all_read};
 ghost use Rattle.bt_load.specs.Loads.{text_rows, typed_from};
 ghost use Rattle.bt_keycode.specs.Standing.{AreOf};
 
 use crate::loading::{InThreads, Loading};
 use crate::typing::{all_have_values, rows_or_none, type_in_turn};
-use bt_rowtype::{RecordLine, RecordReader, Records, Refusal, Row, Schema};
+use bt_record::{RecordLine, Records};
+use bt_row::{Row, Schema};
+use bt_rowtype::RecordReader;
+use bt_value::Refusal;
 use std::alloc::{AllocError, Global};
 use std::thread::Threads;
 

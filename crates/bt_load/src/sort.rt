@@ -2,7 +2,7 @@
 ghost use Rattle.std.specs.FinMap.{is_sorted};
 ghost use Rattle.std.specs.Prelude.{◌≡◌, IfOk, IsTrue};
 ghost use Rattle.std.specs.Result.{result_map_both};
-ghost use Rattle.bt_rowtype.specs.Answers.{Answers};
+ghost use Rattle.bt_value.specs.Answers.{Answers};
 ghost use Rattle.bt_keycode.specs.Keys.{key_cmp};
 ghost use Rattle.bt_load.specs.Maps.{map_of};
 ghost use Rattle.bt_keycode.specs.Standing.{AllAreUnder, AllStand, AreOf};
@@ -10,7 +10,8 @@ ghost use Rattle.bt_keycode.specs.Standing.{AllAreUnder, AllStand, AreOf};
 use crate::loading::{InThreads, Loading};
 use crate::placed::{ordered_keys, with_rows};
 use bt_keycode::Key;
-use bt_rowtype::{Refusal, Row, Schema};
+use bt_row::{Row, Schema};
+use bt_value::Refusal;
 use std::alloc::Global;
 use std::thread::Threads;
 

@@ -4,7 +4,10 @@ ghost use Rattle.bt_load.specs.Steps.{AreRowsOrNone, IsRowOrNone};
 ghost use Rattle.bt_load.specs.inside.Typed.{HaveValues, IsReadingOf};
 
 use crate::loading::Loading;
-use bt_rowtype::{Collected, RecordLine, RecordReader, Row, Schema};
+use bt_record::RecordLine;
+use bt_row::{Row, Schema};
+use bt_rowtype::RecordReader;
+use bt_value::Collected;
 use std::alloc::{AllocError, Global};
 
 // What records spell, the first of them as item 1, one after the other.

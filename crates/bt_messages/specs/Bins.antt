@@ -1,6 +1,6 @@
 -- Messages divided at pivots, and bins: one list of messages for each child.
 use Rattle.std.specs.Prelude.{◌≡◌, true, List, [], ◌∷◌, ◌++◌}
-use Rattle.bt_rowtype.specs.Lists.{concatenation}
+use Rattle.bt_value.specs.Lists.{concatenation}
 use Rattle.bt_keycode.specs.Keys.{AllFrom, IsSorted, Key, is_before}
 use Rattle.bt_messages.specs.Messages.{Messages, messages_before, messages_from, with_messages}
 

@@ -5,8 +5,8 @@ use Rattle.bt_keycode.specs.Codes.{code_of}
 use Rattle.bt_keycode.specs.Lengths.{op_length}
 use Rattle.bt_messages.specs.Effects.{merged_entry}
 use Rattle.bt_messages.specs.Terms.{Terms}
-use Rattle.bt_rowtype.specs.Ops.{Change, argument_of, merged}
-use Rattle.bt_rowtype.specs.declared.value.Value.{Value}
+use Rattle.bt_row.specs.Ops.{Change, argument_of, merged}
+use Rattle.bt_value.specs.declared.value.Value.{Value}
 
 -- a put, and what goes to an index: the key code of all values
 abbrev pub row_payload : List Value → ℕ

@@ -1,7 +1,7 @@
 //! The messages of several buffers, gone through one buffer after the other.
 ghost use Rattle.std.specs.Prelude.{◌≡◌, ◌<◌, ◌≤◌, ◌++◌, [], MatchOption, length, true};
 ghost use Rattle.std.specs.Iterator.{YieldsFirstBy, item_count};
-ghost use Rattle.bt_rowtype.specs.Lists.{concatenation};
+ghost use Rattle.bt_value.specs.Lists.{concatenation};
 
 use crate::buffer::Buffer;
 use crate::iter::Messages;
@@ -18,7 +18,7 @@ pub struct BufferMessages<'a, V: Merge> {
 
 impl<'a, V: Merge> Model for BufferMessages<'a, V> {
     ghost use Rattle.std.specs.Prelude.{◌++◌, List, ℕ};
-    ghost use Rattle.bt_rowtype.specs.Lists.{concatenation};
+    ghost use Rattle.bt_value.specs.Lists.{concatenation};
     ghost use Rattle.bt_messages.specs.declared.message.Message.{Message};
 
     ghost Value = { List (List ℕ × Message V V.Delta) };

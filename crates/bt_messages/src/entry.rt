@@ -5,7 +5,7 @@ ghost use Rattle.bt_messages.specs.Payloads.{entry_terms, row_payload};
 
 use crate::message::Merge;
 use bt_keycode::row_code_len;
-use bt_rowtype::{Row, copy_row};
+use bt_row::{Row, copy_row};
 use std::alloc::{AllocError, Global};
 use std::marker::Model;
 
@@ -17,7 +17,7 @@ pub struct Entry {
 
 impl Model for Entry {
     ghost use Rattle.std.specs.Prelude.{List};
-    ghost use Rattle.bt_rowtype.specs.declared.value.Value.{Value as value};
+    ghost use Rattle.bt_value.specs.declared.value.Value.{Value as value};
 
     ghost Value = { List value };
 

@@ -7,7 +7,7 @@ ghost use Rattle.bt_messages.specs.Terms.{Terms};
 ghost use Rattle.bt_messages.specs.Weights.{weigh_of};
 
 use bt_keycode::{Key, MOST_WEIGHT, change_code_len, row_code_len};
-use bt_rowtype::{Change, Row, copy_change, copy_row};
+use bt_row::{Change, Row, copy_change, copy_row};
 use std::alloc::{AllocError, Global};
 
 /// What messages carry to a key.
@@ -40,7 +40,7 @@ pub trait Merge: Drop {
 }
 
 impl Merge for Row {
-    ghost use Rattle.bt_rowtype.specs.Ops as ops;
+    ghost use Rattle.bt_row.specs.Ops as ops;
 
     type Delta = Change;
 

@@ -1,7 +1,7 @@
 //! Packets: what is sent on at one time, in runs.
 ghost use Rattle.std.specs.Prelude.{◌≡◌, ◌==◌, ◌<◌, ◌≤◌, ◌-◌, ◌++◌, ◌^◌, [], IfOk, OnOk, OnErr, length};
 ghost use Rattle.bt_keycode.specs.Keys.{IsSorted};
-ghost use Rattle.bt_rowtype.specs.Lists.{concatenation};
+ghost use Rattle.bt_value.specs.Lists.{concatenation};
 ghost use Rattle.bt_messages.specs.Effects.{DoTheSame, effect_of};
 ghost use Rattle.bt_messages.specs.Messages.{sorted_batch, with_messages};
 ghost use Rattle.bt_messages.specs.inside.Runs.{AreRuns, AreSome};
@@ -30,7 +30,7 @@ pub struct Packet<V: Merge> {
 
 impl<V: Merge> Model for Packet<V> {
     ghost use Rattle.std.specs.Prelude.{◌++◌, List, ℕ};
-    ghost use Rattle.bt_rowtype.specs.Lists.{concatenation};
+    ghost use Rattle.bt_value.specs.Lists.{concatenation};
     ghost use Rattle.bt_messages.specs.inside.Runs.{AreRuns};
     ghost use Rattle.bt_messages.specs.declared.message.Message.{Message};
 

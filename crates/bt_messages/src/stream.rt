@@ -1,7 +1,7 @@
 //! Streams: sorted messages that are taken off at the front.
 ghost use Rattle.std.specs.Prelude.{◌≡◌, ◌==◌, ◌+◌, ◌-◌, ◌<◌, ◌≤◌, ◌^◌, ◌∷◌, ◌++◌, [], ℕ, true, IfOk, MatchOption, OnOk, Some, drop, length, map, slice_index_or, take, vec_len, vec_capacity};
 ghost use Rattle.bt_keycode.specs.Keys.{AllFrom, IsSorted};
-ghost use Rattle.bt_rowtype.specs.Lists.{concatenation};
+ghost use Rattle.bt_value.specs.Lists.{concatenation};
 ghost use Rattle.bt_messages.specs.Bins.{AllBefore, parts};
 ghost use Rattle.bt_messages.specs.Parts.{parted, total};
 ghost use Rattle.bt_messages.specs.Messages.{messages_before, messages_from, with_messages};
@@ -36,7 +36,7 @@ pub struct Stream<V: Merge> {
 
 impl<V: Merge> Model for Stream<V> {
     ghost use Rattle.std.specs.Prelude.{◌+◌, ◌++◌, List, length, ℕ};
-    ghost use Rattle.bt_rowtype.specs.Lists.{concatenation};
+    ghost use Rattle.bt_value.specs.Lists.{concatenation};
     ghost use Rattle.bt_messages.specs.inside.Runs.{AreRuns};
     ghost use Rattle.bt_messages.specs.declared.message.Message.{Message};
 

@@ -1,7 +1,7 @@
 -- What an inner node does with the messages that come to it.
 use Rattle.std.specs.Prelude.{◌≡◌, ◌≤◌, ℕ, List, drop, false, length, take, true}
 use Rattle.bt_keycode.specs.Keys.{Key}
-use Rattle.bt_rowtype.specs.Lists.{concatenation}
+use Rattle.bt_value.specs.Lists.{concatenation}
 use Rattle.bt_messages.specs.Bins.{parts}
 use Rattle.bt_messages.specs.Parts.{parted, total}
 use Rattle.bt_messages.specs.Shares.{AreShares, counts}

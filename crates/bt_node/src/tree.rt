@@ -6,7 +6,7 @@ ghost use Rattle.bt_messages.specs.Effects.{effect_of};
 ghost use Rattle.bt_messages.specs.Meanings.{meaning_of};
 ghost use Rattle.bt_messages.specs.Weights.{load, weigh_of};
 ghost use Rattle.bt_messages.specs.declared.message.Message.{Message};
-ghost use Rattle.bt_rowtype.specs.Lists.{concatenation};
+ghost use Rattle.bt_value.specs.Lists.{concatenation};
 ghost use Rattle.bt_messages.specs.Bins.{LieBetween};
 ghost use Rattle.bt_node.specs.Drains.{AreDry, IsDry, drain, drained, packed, rebuilt};
 ghost use Rattle.bt_node.specs.Fits.{AreFit, HasShape, IsInOrder};

@@ -5,7 +5,7 @@ use Rattle.std.proofs.lemmas.List.{length-map}
 use Rattle.std.specs.declared.option.Option.{Option}
 use Rattle.std.specs.declared.option.Option.TheVariants.{Some}
 use Rattle.bt_keycode.specs.Keys.{Key, AllWithin, IsSorted, SideBySide}
-use Rattle.bt_rowtype.specs.Lists.{concatenation}
+use Rattle.bt_value.specs.Lists.{concatenation}
 use Rattle.bt_messages.specs.Bins.{LieBetween, parts}
 use Rattle.bt_messages.proofs.offered.Parts.{concatenation_sorted, parts-concatenation}
 use Rattle.bt_messages.proofs.offered.Placed.{sorted-with_messages}
@@ -15,8 +15,7 @@ use Rattle.bt_node.specs.Marks.{has_room}
 use Rattle.bt_node.specs.Messages.{Meaning, Messages, load, with_messages}
 use Rattle.bt_node.specs.Trees.{Shape, Tree, leaf, inner, children}
 use Rattle.bt_node.specs.declared.form.mode.Mode.{Mode}
-use Rattle.bt_node.proofs.offered.FlushSteps.{ChildLies, ChildrenLie, ChildrenSized, all_pending, all_pending-shared, all_pending-within, divided-lie, flushed-fits, length-shared, names, start-lies}
-use Rattle.bt_node.proofs.offered.FlushSteps.{flushed-slots, names-slots, slots}
+use Rattle.bt_node.proofs.offered.FlushSteps.{ChildLies, ChildrenLie, ChildrenSized, all_pending, all_pending-shared, all_pending-within, divided-lie, flushed-fits, length-shared, names, start-lies, flushed-slots, names-slots, slots}
 use Rattle.bt_plan.specs.Pieces.{Holed, HoledChild, HoledFits, HoledNodes, IsSent, Place, hole, holed_nodes, opened, pivots_below, shared_below, whole, with_bins}
 use Rattle.bt_plan.specs.Cuts.{Job, child_place, cut_out, left_pending}
 use Rattle.bt_plan.specs.Laws.{JobFits}

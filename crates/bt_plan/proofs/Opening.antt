@@ -4,7 +4,7 @@ use Rattle.std.proofs.lemmas.Bool.{cond-false}
 use Rattle.std.proofs.lemmas.List.{length-map}
 use Rattle.std.specs.List.{flat_map, zip}
 use Rattle.bt_keycode.specs.Keys.{AllFrom, IsSorted, Key}
-use Rattle.bt_rowtype.specs.Lists.{concatenation}
+use Rattle.bt_value.specs.Lists.{concatenation}
 use Rattle.bt_messages.specs.Bins.{LieBetween, added, each_with, parts}
 use Rattle.bt_messages.specs.Parts.{parted, total}
 use Rattle.bt_messages.specs.Shares.{AreShares, counts}
@@ -26,8 +26,7 @@ use Rattle.bt_node.specs.declared.form.mode.Mode.{Mode}
 use Rattle.bt_node.specs.declared.flush.opening.Opened as code
 use Rattle.bt_node.specs.declared.flush.opening.Step.{Step}
 use Rattle.bt_node.specs.declared.flush.opening.Step.TheVariants.{Opens}
-use Rattle.bt_node.proofs.offered.FlushSteps.{bins-length, children-nodes, led-full, length-flush_marks, length-shared, pending-with_pending, pivots-with_pending, shares-length, some_length, with_pending-shared}
-use Rattle.bt_node.proofs.offered.FlushSteps.{from-back, from-joined, from-prefix}
+use Rattle.bt_node.proofs.offered.FlushSteps.{bins-length, children-nodes, led-full, length-flush_marks, length-shared, pending-with_pending, pivots-with_pending, shares-length, some_length, with_pending-shared, from-back, from-joined, from-prefix}
 use Rattle.bt_plan.specs.Cuts.{Job, child_place, cut_out, hole_of, left_pending}
 use Rattle.bt_plan.specs.Pieces.{Holed, Place, child, hole, holed_nodes, holes, holes_below, opened, whole, with_holes, with_holes_below}
 use Rattle.bt_plan.specs.inside.Cutting.{AreSizedNodes, cut_each, kept_bins}

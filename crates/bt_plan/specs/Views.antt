@@ -1,7 +1,7 @@
 -- What the values of the code stand for.
 use Rattle.std.specs.Prelude.{◌≡◌, ◌+◌, ℕ, List, length, map}
 use Rattle.bt_keycode.specs.Keys.{Key}
-use Rattle.bt_rowtype.specs.Lists.{concatenation}
+use Rattle.bt_value.specs.Lists.{concatenation}
 use Rattle.bt_messages.specs.Bins.{LieBetween}
 use Rattle.bt_messages.specs.declared.message.Message.{Message}
 use Rattle.bt_node.specs.Messages.{Messages}

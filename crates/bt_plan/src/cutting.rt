@@ -1,7 +1,7 @@
 //! How the flushes of a tree are moved out of it.
 ghost use Rattle.std.specs.Prelude.{◌≡◌, ◌≤◌, ◌<◌, ◌+◌, ◌++◌, ◌∷◌, [], IfOk, OnOk, cond, drop, length, map, suc, take};
 ghost use Rattle.std.specs.List.{flat_map};
-ghost use Rattle.bt_rowtype.specs.Lists.{concatenation};
+ghost use Rattle.bt_value.specs.Lists.{concatenation};
 ghost use Rattle.bt_messages.specs.Bins.{LieBetween, each_with};
 ghost use Rattle.bt_messages.specs.Parts.{parted, total};
 ghost use Rattle.bt_messages.specs.Meanings.{meaning_of};

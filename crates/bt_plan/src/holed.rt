@@ -13,7 +13,7 @@
 //! node with holes below it is opened: it keeps its children, the pivots between them, and what is left in their bins. A contract sees the bins, one after the
 //! other, as the node's buffer.
 ghost use Rattle.std.specs.Prelude.{◌≡◌, ◌+◌, length};
-ghost use Rattle.bt_rowtype.specs.Lists.{concatenation};
+ghost use Rattle.bt_value.specs.Lists.{concatenation};
 ghost use Rattle.bt_messages.specs.Bins.{LieBetween};
 ghost use Rattle.bt_node.specs.Trees.{with_pivots};
 ghost use Rattle.bt_plan.specs.Pieces as pieces;

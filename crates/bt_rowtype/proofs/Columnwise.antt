@@ -1,12 +1,12 @@
 -- Going over columns and the fields under each, one by one. Serves the loop that reads values.
-use Rattle.std.proofs.Common.{ℕ, suc, eq-eqb, List, [], ◌∷◌, ◌++◌, ◌+◌, ◌<◌, ◌≤◌, ◌≡◌, ◌∙◌, refl, sym, ap, arith, length, length-take, take, drop, get_or, Option, Some, None, Ok, Err, append_assoc}
+use Rattle.std.proofs.Common.{ℕ, suc, eq-eqb, List, [], ◌∷◌, ◌++◌, ◌+◌, ◌<◌, ◌≤◌, ◌≡◌, ◌∙◌, refl, sym, ap, arith, length, length-take, take, drop, get_or, Option, Some, None, Ok, append_assoc}
 use Rattle.std.proofs.lemmas.List.{drop_more, get_or-take}
 use Rattle.std.proofs.lemmas.Option.{get_or_from_slice_get}
 use Rattle.std.specs.Prelude.{option_map, slice_get}
-use Rattle.bt_rowtype.specs.Values.{or_refused, read_as, value_of, values_of, with_first}
-use Rattle.bt_rowtype.specs.declared.refusal.Refusal.{Refusal}
-use Rattle.bt_rowtype.specs.declared.schema.Column.{Column}
-use Rattle.bt_rowtype.specs.declared.value.Value.{Value}
+use Rattle.bt_row.specs.Schemas.{read_as, values_of, with_first}
+use Rattle.bt_value.specs.Values.{value_of}
+use Rattle.bt_row.specs.declared.schema.Column.{Column}
+use Rattle.bt_value.specs.declared.value.Value.{Value}
 
 -- values before others, where those are there
 abbrev pub behind : List Value → Option (List Value) → Option (List Value)
@@ -55,16 +55,6 @@ pub first_none : (columns : List Column) (fields : List (List ℕ)) (place : ℕ
 first_none columns fields place column prefix field within long at_column at_field is =
     let here : place < length (take (length columns) fields) = omega (arith, within, long, length-take (length columns) fields) in
     values-drop-none columns (take (length columns) fields) place column prefix within here (first_value columns fields place column field None within at_column at_field is)
-
--- ---- what a record is read as
-
-pub some_read : {T : Type 0} (refusal : Refusal) (o : Option T) (value : T) → or_refused refusal o ≡ Ok value → o ≡ Some value
-some_read refusal None value is = absurd cc
-some_read refusal (Some v) value is = let e : v ≡ value = cc in ap Some e
-
-pub none_read : {T : Type 0} (refusal e : Refusal) (o : Option T) → or_refused refusal o ≡ Err e → (o ≡ None) × (refusal ≡ e)
-none_read refusal e None is = (refl, (let same : refusal ≡ e = cc in same))
-none_read refusal e (Some v) is = absurd cc
 
 -- ---- one more column
 

@@ -2,10 +2,10 @@
 use Rattle.std.proofs.Common.{ℕ, List, [], ◌∷◌, ◌+◌, ◌<◌, ◌≡◌, refl, arith, length, length-drop, drop, get_or, slice_get, Some, Result}
 use Rattle.std.proofs.lemmas.List.{drop_more}
 use Rattle.bt_rowtype.proofs.Columnwise.{at_place}
-use Rattle.bt_rowtype.specs.Ops.{op_of, ops_of}
-use Rattle.bt_rowtype.specs.Schemas.{Schema}
-use Rattle.bt_rowtype.specs.declared.upsert.op.Op.{Op}
-use Rattle.bt_rowtype.specs.declared.refusal.Refusal.{Refusal}
+use Rattle.bt_row.specs.Ops.{op_of, ops_of}
+use Rattle.bt_row.specs.Schemas.{Schema}
+use Rattle.bt_row.specs.declared.op.Op.{Op}
+use Rattle.bt_value.specs.declared.refusal.Refusal.{Refusal}
 
 -- the operation of the three fields from a place on
 abbrev pub op_at : Schema → ℕ → List (List ℕ) → ℕ → Result Op Refusal

@@ -1,5 +1,5 @@
 //! The messages of a batch as records spell them.
-use crate::record::line::RecordLine;
+use bt_record::RecordLine;
 
 /// A message of a batch. Its record lies in the script, and is cut when it is read.
 #[derive(Drop)]

@@ -1,67 +1,33 @@
 //! Reading lines by a schema, one after the other.
-ghost use Rattle.std.specs.Prelude.{◌≡◌, ◌≢◌, ◌<◌, ◌≤◌, is_some, length, take, true, IfErr, IfNone, IfOk, IfSome};
+ghost use Rattle.std.specs.Prelude.{◌≡◌, ◌≢◌, ◌<◌, ◌≤◌, length, take, IfErr, IfOk};
 ghost use Rattle.std.specs.Result.{result_map_both};
-ghost use Rattle.bt_rowtype.specs.Answers.{Answers};
+ghost use Rattle.bt_value.specs.Answers.{Answers};
 ghost use Rattle.bt_rowtype.specs.Loads as loads;
-ghost use Rattle.bt_rowtype.specs.Ops as spec;
-ghost use Rattle.bt_rowtype.specs.Records.{csv_record};
-ghost use Rattle.bt_rowtype.specs.inside.RecordParts.{fields_in};
-ghost use Rattle.bt_rowtype.specs.Values.{prefix_as, read_as};
+ghost use Rattle.bt_row.specs.Ops as spec;
+ghost use Rattle.bt_row.specs.Schemas.{prefix_as, read_as};
 
-use crate::record::commas::cut_plain;
-use crate::record::csv_states::cut_quoted;
-use crate::record::fields::{FieldSpan, FieldsRef};
-use crate::record::header::are_names;
-use crate::record::line::RecordLine;
-use crate::refusal::Refusal;
-use crate::row::Row;
-use crate::row::plain_row::read_plain_row;
-use crate::row::row_reader::{read_fields, read_values};
-use crate::schema::{Column, Schema};
-use crate::upsert::apply::default_row;
-use crate::upsert::change::Change;
-use crate::upsert::op::{MOST_OPS, one_op};
+use crate::header::are_names;
+use crate::plain_row::read_plain_row;
+use crate::row_reader::{read_fields, read_values};
 use crate::upsert::{Upsert, read_plain_upsert, read_upsert_record};
+use bt_record::{FieldsRef, RecordCutter, RecordLine};
+use bt_row::{Change, Column, MOST_OPS, Row, Schema, default_row, one_op};
+use bt_value::Refusal;
 use std::alloc::{AllocError, Global};
 
-/// What lines are cut into, one after the other: the spans of the fields, and the bytes of the fields where the line has
-/// quotes. A line takes no memory that one before it has taken, and one of too many fields no more than one of the most.
+/// Reads lines, one after the other. A line takes no memory that one before it has taken, and one of too many fields no more than
+/// one of the most.
 #[derive(Drop)]
 pub struct RecordReader {
-    bytes: Vec<u8>,
-    spans: Vec<FieldSpan>,
+    cutter: RecordCutter,
 }
 
 impl RecordReader {
-    /// Nothing was cut.
+    /// Nothing was read.
     pub fn new(alloc: Global) -> Self {
         RecordReader {
-            bytes: Vec::new(alloc),
-            spans: Vec::new(alloc),
+            cutter: RecordCutter::new(alloc),
         }
-    }
-
-    // The fields of a text, unless they are more than these.
-    //
-    // A text without quotes lends its own bytes, and is cut at its commas; any other, which is dearer, is read byte by byte, by
-    // the states of csv's reader.
-    fn fields<'a>(
-        &'a mut self,
-        text: &'a [u8],
-        most: usize,
-    ) -> Result<Option<FieldsRef<'a>>, AllocError>
-        requires { is_some (csv_record text.now) ≡ true }
-        ensures fields { IfOk result (λ found. IfSome found (λ fields. fields ≡ fields_in text.now)) }
-        ensures few { IfOk result (λ found. IfSome found (λ fields. length fields ≤ most)) }
-        ensures many { IfOk result (λ found. IfNone found (most < length (fields_in text.now))) }
-    {
-        if cut_plain(&mut self.spans, text, most)? {
-            return Ok(Some(FieldsRef::new(text, self.spans.as_slice())));
-        }
-        if cut_quoted(&mut self.bytes, &mut self.spans, text, most)? {
-            return Ok(Some(FieldsRef::new(self.bytes.as_slice(), self.spans.as_slice())));
-        }
-        Ok(None)
     }
 
     // The fields of a line, or `BadLength` of this item where they are more than these.
@@ -75,7 +41,7 @@ impl RecordReader {
         ensures few { IfOk result (λ fields. length fields ≤ most) }
         ensures many { IfErr result (λ e. e ≢ Refusal.OutOfMemory → (e ≡ Refusal.BadLength item) × (most < length line.now)) }
     {
-        match self.fields(line.text(), most)? {
+        match self.cutter.fields(line, most)? {
             Some(fields) => Ok(fields),
             None => Err(Refusal::BadLength(item)),
         }
@@ -89,7 +55,7 @@ impl RecordReader {
     ) -> Result<bool, AllocError>
         ensures { IfOk result (λ same. same ≡ loads.is_header columns.now line.now) }
     {
-        match self.fields(line.text(), columns.len())? {
+        match self.cutter.fields(line, columns.len())? {
             Some(fields) => Ok(are_names(columns, &fields)),
             None => Ok(false),
         }
@@ -180,7 +146,7 @@ impl RecordReader {
     /// first.
     ///
     /// No list is made of one operation that makes a number, where the line is plain.
-    #[tactic(auto, using(crate::proofs::offered::Fits::upsert_begins))]
+    #[tactic(auto, using(bt_row::proofs::offered::Fits::upsert_begins))]
     pub fn read_change(
         &mut self,
         alloc: Global,

@@ -2,34 +2,19 @@
 ghost use Rattle.std.specs.Prelude.{◌≡◌, ◌≢◌, ◌≤◌, ◌∷◌, [], Err, IfErr, IfOk, IfSome, List, Ok, drop, false, is_some, length, true};
 ghost use Rattle.std.specs.List.{filter_map};
 ghost use Rattle.std.specs.Result.{result_err, result_map_both, result_ok};
-ghost use Rattle.bt_rowtype.specs.Answers.{Answers};
-ghost use Rattle.bt_rowtype.specs.Ints.{int_of};
-ghost use Rattle.bt_rowtype.specs.Ops as spec;
-ghost use Rattle.bt_rowtype.specs.Records.{csv_record};
-ghost use Rattle.bt_rowtype.specs.Refusals.{least};
-ghost use Rattle.bt_rowtype.specs.Values.{or_refused};
-ghost use Rattle.bt_rowtype.specs.inside.RecordParts.{fields_in};
-ghost use Rattle.bt_rowtype.specs.declared.value.Value.{Value};
+ghost use Rattle.bt_value.specs.Answers.{Answers};
+ghost use Rattle.bt_value.specs.Ints.{int_of};
+ghost use Rattle.bt_row.specs.Ops as spec;
+ghost use Rattle.bt_record.specs.Records.{csv_record, fields_in};
+ghost use Rattle.bt_value.specs.Refusals.{least};
+ghost use Rattle.bt_value.specs.Results.{both_read, or_refused};
+ghost use Rattle.bt_value.specs.declared.value.Value.{Value};
 
-pub(crate) mod apply;
-pub(crate) mod arguments;
-pub(crate) mod arithmetic;
-pub(crate) mod change;
-pub(crate) mod op;
-pub(crate) mod op_faults;
-
-use crate::collected::Collected;
-use crate::record::fields::{Fields, FieldsRef};
-use crate::refusal::Refusal;
-use crate::row::Row;
-use crate::row::plain_field::plain_group;
-use crate::row::plain_row::read_plain_columns;
-use crate::row::row_reader::read_fields;
-use crate::schema::{Schema, find_column};
-use crate::upsert::op::{Arithmetic, MOST_OPS, Op, Ops, SET_WORD};
-use crate::value::Kind;
-use crate::value::field::read_value;
-use crate::value::int::read_int;
+use crate::plain_row::read_plain_columns;
+use crate::row_reader::read_fields;
+use bt_record::{Fields, FieldsRef};
+use bt_row::{Arithmetic, MOST_OPS, Op, Ops, Row, SET_WORD, Schema, find_column};
+use bt_value::{Collected, Kind, Refusal, plain_group, read_int, read_value};
 use std::alloc::{AllocError, Global};
 
 /// The key and the operations of an upsert.
@@ -191,7 +176,7 @@ fn refusal_with_ops(
     fields: &FieldsRef<'_>,
     refusal: Refusal,
 ) -> Refusal
-    ensures { result ≢ Refusal.OutOfMemory → spec.both_read {S = List Value} (Err refusal) (spec.ops_as schema.now item fields.now) ≡ Err result }
+    ensures { result ≢ Refusal.OutOfMemory → both_read {S = List Value} (Err refusal) (spec.ops_as schema.now item fields.now) ≡ Err result }
 {
     match read_ops_record(alloc, schema, item, fields) {
         Ok(_) => refusal,

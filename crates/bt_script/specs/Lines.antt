@@ -1,7 +1,7 @@
 -- The lines of a script, the words of a line, and what a word spells.
 use Rattle.std.specs.Prelude.{ℕ, ◌==◌, ◌&&◌, ◌||◌, ◌-◌, not, Bool, List, [], ◌∷◌, ◌++◌, length, take, drop, get_or, filter, Option, Some, None, if◌then◌else◌, nat_le, zero, suc}
 use Rattle.std.specs.List.{list_all, onto_first, slice_split, take_while}
-use Rattle.bt_rowtype.specs.Ints.{is_digit, number_written}
+use Rattle.bt_value.specs.Ints.{is_digit, number_written}
 
 -- the lines: a line feed ends each, and a last one without it counts where it has bytes
 abbrev pub lines : List ℕ → List (List ℕ)

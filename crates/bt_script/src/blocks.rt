@@ -7,7 +7,8 @@ use crate::command::{Bounds, Items};
 use crate::lines::{
     behind_prefix, is_blank, is_word, next_line, record_behind, without_return, without_spaces,
 };
-use bt_rowtype::{Item, RecordLine};
+use bt_record::RecordLine;
+use bt_rowtype::Item;
 use std::alloc::{AllocError, Global};
 
 // The message of a line of a batch, which begins with its word.

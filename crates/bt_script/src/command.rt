@@ -1,6 +1,9 @@
 //! Commands, and what stands at a place of a script.
 use crate::load::BlockText;
-use bt_rowtype::{Columns, Filter, Item, RecordLine, Refusal, Sequence, Text, Texts};
+use bt_record::RecordLine;
+use bt_row::{Columns, Filter};
+use bt_rowtype::Item;
+use bt_value::{Refusal, Sequence, Text, Texts};
 
 /// The messages of a batch, in order.
 pub type Items<'a> = Sequence<Item<'a>>;

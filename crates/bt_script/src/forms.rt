@@ -9,7 +9,8 @@ use crate::lines::{
     without_spaces, word_at,
 };
 use crate::load::BlockText;
-use bt_rowtype::{Bytes, Column, Columns, Filter, Kind, Test, Text, Texts};
+use bt_row::{Column, Columns, Filter, Test};
+use bt_value::{Bytes, Kind, Text, Texts};
 use std::alloc::{AllocError, Global};
 
 // A column: its name, a colon and its kind.

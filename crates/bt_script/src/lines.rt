@@ -1,11 +1,12 @@
 //! Lines, words, numbers and names.
 ghost use Rattle.std.specs.Prelude.{◌≡◌, ◌==◌, ◌∷◌, ◌++◌, ◌<◌, ◌≤◌, Bool, IfOk, IfSome, drop, length, map, not, option_map, true};
 ghost use Rattle.std.specs.List.{list_all, slice_split, take_while};
-ghost use Rattle.bt_rowtype.specs.Ints.{is_digit, number_written};
+ghost use Rattle.bt_value.specs.Ints.{is_digit, number_written};
 ghost use Rattle.bt_script.specs.Commands as spec;
 ghost use Rattle.bt_script.specs.Lines as text;
 
-use bt_rowtype::{RecordLine, Text, Texts};
+use bt_record::RecordLine;
+use bt_value::{Text, Texts};
 use memchr::memchr;
 use std::alloc::{AllocError, Global};
 use std::str;

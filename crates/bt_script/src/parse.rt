@@ -8,7 +8,7 @@ use crate::command::{Command, Parsed};
 use crate::forms::{batch_command, line_command, load_command, scan_command, sums_command};
 use crate::lines::{begins, is_blank, next_line, without_return, words};
 use crate::load::read_block_text;
-use bt_rowtype::Refusal;
+use bt_value::Refusal;
 use std::alloc::{AllocError, Global};
 
 // What stands at the place of a command, whose block, where it has one, ends so.

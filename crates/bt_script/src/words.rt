@@ -6,7 +6,7 @@ ghost use Rattle.bt_script.specs.inside.Errors.{ComesOf};
 ghost use Rattle.bt_script.specs.Options.{AreWithinLimits, HasFault, MustBeRefused, betable, default_cut, default_grain, default_workers, kinds_of_words, number_given, number_rule, option_rule, rows_of_words};
 
 use bt_gang::{DEEPEST_CUT, LARGEST_GRAIN, MOST_WORKERS};
-use bt_rowtype::Texts;
+use bt_value::Texts;
 use clap::builder::ValueParser;
 use clap::error::ErrorKind;
 use clap::{Arg, ArgAction, ArgMatches, Command, Error};

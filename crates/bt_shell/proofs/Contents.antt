@@ -4,16 +4,15 @@ use Rattle.std.proofs.lemmas.List.{drop-map, length-map, map-append, take-map}
 use Rattle.std.proofs.Math.Seq.{map-set_same}
 use Rattle.std.specs.FinMap.{find}
 use Rattle.std.specs.List.{remove}
-use Rattle.bt_rowtype.specs.Lists.{concatenation}
-use Rattle.bt_rowtype.specs.Ops.{unless}
-use Rattle.bt_rowtype.specs.Refusals.{least}
-use Rattle.bt_rowtype.specs.Schemas.{Schema, is_schema}
-use Rattle.bt_rowtype.specs.Values.{or_refused}
+use Rattle.bt_value.specs.Lists.{concatenation}
+use Rattle.bt_value.specs.Results.{unless, or_refused, and_then, map_ok, one_if}
+use Rattle.bt_value.specs.Refusals.{least}
+use Rattle.bt_row.specs.Schemas.{Schema, is_schema}
 use Rattle.bt_rowtype.specs.declared.item.Item.{Item}
-use Rattle.bt_rowtype.specs.declared.refusal.Refusal.{Refusal}
-use Rattle.bt_rowtype.specs.declared.refusal.Refusal.TheVariants.{AlreadyComplete, BadSchema, BadShape, NameTaken, NoSuchTree, TableExists, TooMany}
-use Rattle.bt_rowtype.specs.declared.schema.Column.{Column}
-use Rattle.bt_rowtype.specs.declared.value.Value.{Value}
+use Rattle.bt_value.specs.declared.refusal.Refusal.{Refusal}
+use Rattle.bt_value.specs.declared.refusal.Refusal.TheVariants.{AlreadyComplete, BadSchema, BadShape, NameTaken, NoSuchTree, TableExists, TooMany}
+use Rattle.bt_row.specs.declared.schema.Column.{Column}
+use Rattle.bt_value.specs.declared.value.Value.{Value}
 use Rattle.bt_keycode.specs.Codes.{code_of}
 use Rattle.bt_keycode.specs.Keys.{Key, key_cmp}
 use Rattle.bt_messages.specs.Effects.{Rows, rows_after, with_value}
@@ -22,7 +21,7 @@ use Rattle.bt_node.specs.Trees.{Shape, leaf}
 use Rattle.bt_fanout.specs.Definitions.{definition_as}
 use Rattle.bt_fanout.specs.Effects.{row_effect}
 use Rattle.bt_fanout.specs.Entries.{Definition}
-use Rattle.bt_batch.specs.Batches.{RowMessages, and_then, batch_refusals, map_ok, messages_of, one_if, read_key}
+use Rattle.bt_batch.specs.Batches.{RowMessages, batch_refusals, messages_of, read_key}
 use Rattle.bt_script.specs.Commands.{Answer}
 use Rattle.bt_script.specs.declared.command.Command.{Command}
 use Rattle.bt_script.specs.declared.command.Command.TheVariants as command

@@ -1,8 +1,8 @@
 -- The least refusal of a new index. Serves the command that makes one.
 use Rattle.std.proofs.Common.{◌≡◌, ◌∙◌, [], ◌∷◌, Some, Err, ap, sym}
-use Rattle.bt_rowtype.specs.Refusals.{least, least_from, lesser}
-use Rattle.bt_rowtype.specs.Schemas.{Schema}
-use Rattle.bt_rowtype.specs.declared.refusal.Refusal.{Refusal}
+use Rattle.bt_value.specs.Refusals.{least, least_from, lesser}
+use Rattle.bt_row.specs.Schemas.{Schema}
+use Rattle.bt_value.specs.declared.refusal.Refusal.{Refusal}
 use Rattle.bt_fanout.specs.Definitions.{definition_as}
 use Rattle.bt_script.specs.declared.command.IndexForm.{IndexForm}
 use Rattle.bt_shell.specs.Steps.{definition_of, definition_or_least}

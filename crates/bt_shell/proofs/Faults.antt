@@ -3,9 +3,9 @@ use Rattle.std.proofs.Common.{ℕ, Bool, ◌≡◌, ◌≤◌, ◌+◌, ◌∙�
 use Rattle.std.proofs.Math.Seq.{take-append-add, take-length}
 use Rattle.std.proofs.lemmas.List.{take_all, take_at}
 use Rattle.std.specs.Io.KnownBytes.{Keeps}
-use Rattle.bt_rowtype.specs.Ops.{unless}
-use Rattle.bt_rowtype.specs.Refusals.{least}
-use Rattle.bt_rowtype.specs.Schemas.{is_schema}
+use Rattle.bt_value.specs.Results.{unless}
+use Rattle.bt_value.specs.Refusals.{least}
+use Rattle.bt_row.specs.Schemas.{is_schema}
 use Rattle.bt_script.specs.Commands.{Answer, commands}
 use Rattle.bt_script.specs.Streams.{Took, TookPrefix, count_of, source_of}
 use Rattle.bt_script.specs.declared.command.Command.{Command}

@@ -3,23 +3,24 @@ use Rattle.std.proofs.Common.{ℕ, ◌≡◌, ◌∙◌, ◌+◌, ◌==◌, Bool
 use Rattle.std.specs.Cmp.Lexicographic.{pointwise}
 use Rattle.std.specs.List.{cons_option, filter_map}
 use Rattle.std.specs.Result.{result_err, result_ok}
-use Rattle.bt_rowtype.specs.Arithmetic.{arithmetic_of_word, op_making}
-use Rattle.bt_rowtype.specs.Ints.{int_of}
-use Rattle.bt_rowtype.specs.Ops.{all_read, at_column, both_read, is_upsert, key_as, making_of, making_of_kind, number_op_of, op_of, open_column, ops_as, ops_of, set_of, set_word, unless, upsert_as}
-use Rattle.bt_rowtype.specs.Refusals.{least, least_from, lesser}
-use Rattle.bt_rowtype.specs.Schemas.{Schema}
-use Rattle.bt_rowtype.specs.Values.{or_refused, read_as, value_of, values_of}
+use Rattle.bt_row.specs.Arithmetic.{arithmetic_of_word, op_making}
+use Rattle.bt_value.specs.Ints.{int_of}
+use Rattle.bt_value.specs.Results.{all_read, both_read, unless, or_refused, map_ok}
+use Rattle.bt_row.specs.Ops.{at_column, is_upsert, key_as, making_of, making_of_kind, number_op_of, op_of, open_column, ops_as, ops_of, set_of, set_word, upsert_as}
+use Rattle.bt_value.specs.Refusals.{least, least_from, lesser}
+use Rattle.bt_row.specs.Schemas.{Schema, read_as, values_of}
+use Rattle.bt_value.specs.Values.{value_of}
 use Rattle.bt_rowtype.specs.declared.item.Item.{Item}
 use Rattle.bt_rowtype.specs.declared.item.Item.TheVariants.{Put, Del, Ups}
-use Rattle.bt_rowtype.specs.declared.refusal.Refusal.{Refusal}
-use Rattle.bt_rowtype.specs.declared.refusal.Refusal.TheVariants.{BadField, BadLength}
-use Rattle.bt_rowtype.specs.declared.schema.Column.{Column}
-use Rattle.bt_rowtype.specs.declared.upsert.op.Arithmetic.{Arithmetic}
-use Rattle.bt_rowtype.specs.declared.upsert.op.Op.TheVariants.{Set}
-use Rattle.bt_rowtype.specs.declared.value.Kind.{Kind}
-use Rattle.bt_rowtype.specs.declared.value.Kind.TheVariants as kind
-use Rattle.bt_rowtype.specs.declared.value.Value.{Value}
-use Rattle.bt_batch.specs.Batches.{KeyedMessage, del_of, map_ok, messages_of, put_of, read_batch, read_message, ups_of}
+use Rattle.bt_value.specs.declared.refusal.Refusal.{Refusal}
+use Rattle.bt_value.specs.declared.refusal.Refusal.TheVariants.{BadField, BadLength}
+use Rattle.bt_row.specs.declared.schema.Column.{Column}
+use Rattle.bt_row.specs.declared.op.Arithmetic.{Arithmetic}
+use Rattle.bt_row.specs.declared.op.Op.TheVariants.{Set}
+use Rattle.bt_value.specs.declared.value.Kind.{Kind}
+use Rattle.bt_value.specs.declared.value.Kind.TheVariants as kind
+use Rattle.bt_value.specs.declared.value.Value.{Value}
+use Rattle.bt_batch.specs.Batches.{KeyedMessage, del_of, messages_of, put_of, read_batch, read_message, ups_of}
 use Rattle.bt_script.specs.Commands.{all_some}
 
 -- ---- the value of a result

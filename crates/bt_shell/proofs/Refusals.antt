@@ -1,7 +1,7 @@
 -- That there is a table comes before all that the form of another one would say.
 use Rattle.std.proofs.Common.{◌≡◌, ◌++◌, Bool, true, false, not, Err, refl}
-use Rattle.bt_rowtype.specs.declared.refusal.Refusal.TheVariants.{BadSchema, BadShape, TableExists}
-use Rattle.bt_batch.specs.Batches.{one_if}
+use Rattle.bt_value.specs.declared.refusal.Refusal.TheVariants.{BadSchema, BadShape, TableExists}
+use Rattle.bt_value.specs.Results.{one_if}
 use Rattle.bt_table.specs.Calls.{unless_any}
 
 pub exists_first : {A : Type 0} (schema shape : Bool) (value : A) → unless_any (one_if true TableExists ++ (one_if (not schema) BadSchema ++ one_if (not shape) BadShape)) value ≡ Err TableExists

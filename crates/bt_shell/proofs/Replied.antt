@@ -1,8 +1,8 @@
 -- Lines, written one after the other.
 use Rattle.std.proofs.Common.{◌≡◌, ◌+◌, ℕ, List, [], ◌∷◌, ◌++◌, Result, Ok, Err, append_assoc, append-nil, fold, length, sym, ap, ◌∙◌, arith}
 use Rattle.std.specs.Prelude.{flat_map}
-use Rattle.bt_rowtype.specs.declared.refusal.Refusal.{Refusal}
-use Rattle.bt_batch.specs.Batches.{map_ok}
+use Rattle.bt_value.specs.declared.refusal.Refusal.{Refusal}
+use Rattle.bt_value.specs.Results.{map_ok}
 use Rattle.bt_shell.specs.inside.Lines.{with_line}
 use Rattle.bt_shell.specs.Replies.{count_line}
 

@@ -1,12 +1,12 @@
 -- A table stays sound along the commands of a script. Serves the run.
 use Rattle.std.proofs.Common.{ℕ, ◌≡◌, ◌≤◌, ◌+◌, arith, not, Bool, true, false, List, [], ◌∷◌, ◌++◌, refl, sym, subst, inl, inr, length, take, Option, Some, None, IfSome, IfOk, Result, Ok, Err, codes}
 use Rattle.std.proofs.lemmas.Bool.Decides.{nat_tests}
-use Rattle.bt_rowtype.specs.Refusals.{least}
-use Rattle.bt_rowtype.specs.Schemas.{is_schema}
-use Rattle.bt_rowtype.specs.Ops.{unless}
-use Rattle.bt_rowtype.specs.declared.schema.Column.{Column}
-use Rattle.bt_rowtype.specs.declared.refusal.Refusal.{Refusal}
-use Rattle.bt_rowtype.specs.declared.refusal.Refusal.TheVariants.{BadSchema, BadShape, TableExists}
+use Rattle.bt_value.specs.Refusals.{least}
+use Rattle.bt_row.specs.Schemas.{is_schema}
+use Rattle.bt_value.specs.Results.{unless, one_if}
+use Rattle.bt_row.specs.declared.schema.Column.{Column}
+use Rattle.bt_value.specs.declared.refusal.Refusal.{Refusal}
+use Rattle.bt_value.specs.declared.refusal.Refusal.TheVariants.{BadSchema, BadShape, TableExists}
 use Rattle.bt_script.specs.Commands.{Answer}
 use Rattle.bt_script.specs.declared.command.Command.{Command}
 use Rattle.bt_script.specs.declared.command.Command.TheVariants.{Batch, Build, Drain, Drop, Get, Image, Index, Load, Rebuild, Scan, Sums, Table}
@@ -20,7 +20,6 @@ use Rattle.bt_shell.specs.Replies.{count_line}
 use Rattle.bt_shell.specs.Runs.{after_commands}
 use Rattle.bt_shell.specs.Steps.{Done, State, call_outcome, creation_outcome, definition_of, definition_or_least, done_or_refused, form_refusals, is_allowed, outcome, read_outcome, shape_of, table_of, turn}
 use Rattle.bt_shell.proofs.Faults.{stays_lost}
-use Rattle.bt_batch.specs.Batches.{one_if}
 use Rattle.bt_table.specs.Calls as call
 use Rattle.bt_table.specs.Calls.{name_refusals, step}
 use Rattle.bt_table.specs.Standing.{CompleteIndexesHold, IsSound, IsSoundUnlessLost}

@@ -1,10 +1,10 @@
 -- What of a table is no tree: it alone decides every reply but that of an image, and whether a load is taken.
 use Rattle.std.specs.Prelude.{ℕ, ◌≡◌, true, List, [], ◌∷◌, ◌++◌, map, Option, Some, None, Ok, Err}
-use Rattle.bt_rowtype.specs.Lists.{concatenation}
-use Rattle.bt_rowtype.specs.Refusals.{least}
-use Rattle.bt_rowtype.specs.Schemas.{Schema}
+use Rattle.bt_value.specs.Lists.{concatenation}
+use Rattle.bt_value.specs.Refusals.{least}
+use Rattle.bt_row.specs.Schemas.{Schema}
 use Rattle.bt_rowtype.specs.declared.item.Item.{Item}
-use Rattle.bt_rowtype.specs.declared.value.Value.{Value}
+use Rattle.bt_value.specs.declared.value.Value.{Value}
 use Rattle.bt_messages.specs.Effects.{Rows, rows_after}
 use Rattle.bt_fanout.specs.Effects.{row_effect}
 use Rattle.bt_batch.specs.Batches.{RowMessages, batch_refusals}

@@ -1,6 +1,6 @@
 -- Where a fault stops a run: how many commands have their whole replies, and which table is left.
 use Rattle.std.specs.Prelude.{ℕ, ◌≡◌, ◌≤◌, ◌+◌, ◌⊎◌, List, length, take, Some, Ok, Err}
-use Rattle.bt_rowtype.specs.declared.refusal.Refusal.TheVariants.{Failed, TableExists}
+use Rattle.bt_value.specs.declared.refusal.Refusal.TheVariants.{Failed, TableExists}
 use Rattle.bt_script.specs.Commands.{Answer, commands}
 use Rattle.bt_script.specs.declared.command.Command.TheVariants.{Table}
 use Rattle.bt_table.specs.Tables.{Lost}

@@ -1,11 +1,11 @@
 -- The texts of replies.
 use Rattle.std.specs.Prelude.{ℕ, Bool, true, false, List, [], ◌++◌, length, map, flat_map, Option, Some, None, codes, decimal}
 use Rattle.std.specs.Fmt.{signed_decimal}
-use Rattle.bt_rowtype.specs.Records.{record_text}
-use Rattle.bt_rowtype.specs.Refusals.{item_of, name_of, number_of}
-use Rattle.bt_rowtype.specs.Values.{text_of}
-use Rattle.bt_rowtype.specs.declared.refusal.Refusal.{Refusal}
-use Rattle.bt_rowtype.specs.declared.value.Value.{Value}
+use Rattle.bt_row.specs.RecordTexts.{record_text}
+use Rattle.bt_value.specs.Refusals.{item_of, name_of, number_of}
+use Rattle.bt_value.specs.Values.{text_of}
+use Rattle.bt_value.specs.declared.refusal.Refusal.{Refusal}
+use Rattle.bt_value.specs.declared.value.Value.{Value}
 use Rattle.bt_table.specs.declared.reply.Reply.{Reply}
 use Rattle.bt_table.specs.declared.reply.Reply.TheVariants.{Batch, Built, Created, Drained, Dropped, Loaded, Rebuilt, Row}
 use Rattle.bt_table.specs.declared.reply.SentCount.{SentCount}

@@ -1,9 +1,9 @@
 -- What a command does to the table, what it is answered, and why it is refused.
 use Rattle.std.specs.Prelude.{ℕ, not, Bool, true, List, ◌++◌, length, Option, Some, None, is_err, is_some, Result, Ok, Err, codes}
-use Rattle.bt_rowtype.specs.Refusals.{least, lesser}
-use Rattle.bt_rowtype.specs.Schemas.{is_schema}
-use Rattle.bt_rowtype.specs.declared.refusal.Refusal.{Refusal}
-use Rattle.bt_rowtype.specs.declared.refusal.Refusal.TheVariants.{BadSchema, BadShape, Failed, NoTable, TableExists}
+use Rattle.bt_value.specs.Refusals.{least, lesser}
+use Rattle.bt_row.specs.Schemas.{is_schema}
+use Rattle.bt_value.specs.declared.refusal.Refusal.{Refusal}
+use Rattle.bt_value.specs.declared.refusal.Refusal.TheVariants.{BadSchema, BadShape, Failed, NoTable, TableExists}
 use Rattle.bt_messages.specs.declared.measure.Measure.TheVariants as measure
 use Rattle.bt_node.specs.Shapes.{is_shape}
 use Rattle.bt_node.specs.Trees.{Shape}
@@ -20,7 +20,7 @@ use Rattle.bt_view.specs.Groups.{sums}
 use Rattle.bt_view.specs.Images.{image}
 use Rattle.bt_view.specs.Ranges.{scan}
 use Rattle.bt_shell.specs.Replies.{count_line, refused_text, reply_text, scan_reply, sums_reply}
-use Rattle.bt_batch.specs.Batches.{map_ok, one_if}
+use Rattle.bt_value.specs.Results.{map_ok, one_if}
 use Rattle.bt_table.specs.Calls as call
 use Rattle.bt_table.specs.Calls.{name_refusals, step, unless_any}
 use Rattle.bt_table.specs.Tables.{TableState, Intact, Lost, empty_table}

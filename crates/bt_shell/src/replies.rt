@@ -7,8 +7,9 @@ ghost use Rattle.bt_shell.specs.inside.Lines.{lines_as_one, with_line, with_line
 use crate::reply_text::ReplyText;
 use bt_keycode::Key;
 use bt_node::{ForkVisitor, Visitor};
-use bt_rowtype::{Refusal, Row, Text, write_number, write_row};
+use bt_row::{Row, write_row};
 use bt_table::{Reply, SentCount};
+use bt_value::{Refusal, Text, write_number};
 use bt_view::Sum;
 use itoa::Buffer;
 use std::alloc::{AllocError, Global};

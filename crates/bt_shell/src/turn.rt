@@ -7,8 +7,8 @@ ghost use Rattle.bt_shell.specs.inside.Turns.{CarriesOut, IsCutShort, IsTurn};
 ghost use Rattle.bt_shell.specs.Replies as spec;
 ghost use Rattle.bt_shell.specs.Replies.{refused_text};
 ghost use Rattle.bt_shell.specs.Steps as step;
-ghost use Rattle.bt_rowtype.specs.Answers.{Answers};
-ghost use Rattle.bt_batch.specs.Batches.{map_ok};
+ghost use Rattle.bt_value.specs.Answers.{Answers};
+ghost use Rattle.bt_value.specs.Results.{map_ok};
 ghost use Rattle.bt_table.specs.Standing.{Suits};
 
 use crate::context::Context;
@@ -17,9 +17,10 @@ use crate::reply_text::ReplyText;
 use crate::workforce::ScriptWorkforce;
 use bt_fanout::IndexDef;
 use bt_node::Shape;
-use bt_rowtype::{Refusal, Schema, Text, least_with};
+use bt_row::Schema;
 use bt_script::{Bounds, Capacity, Command, IndexForm, Parsed, SumsForm, TableForm, parse_command};
 use bt_table::{Reply, Table};
+use bt_value::{Refusal, Text, least_with};
 use std::alloc::{AllocError, Global};
 
 // A shape whose buffers have this capacity, within the limits.

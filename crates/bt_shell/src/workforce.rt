@@ -1,7 +1,7 @@
 //! Who works for a script: the caller alone, or a crew.
 ghost use Rattle.std.specs.Prelude.{◌≡◌, ◌≢◌, fold, IfErr, IsErrOf, None};
-ghost use Rattle.bt_rowtype.specs.Answers.{Answers};
-ghost use Rattle.bt_batch.specs.Batches.{map_ok};
+ghost use Rattle.bt_value.specs.Answers.{Answers};
+ghost use Rattle.bt_value.specs.Results.{map_ok};
 ghost use Rattle.bt_table.specs.Calls.{tree_named};
 ghost use Rattle.bt_view.specs.Groups as groups;
 ghost use Rattle.bt_view.specs.Ranges as ranges;
@@ -10,9 +10,9 @@ ghost use Rattle.bt_shell.specs.inside.Lines.{with_line};
 
 use crate::replies::Lines;
 use bt_gang::{Crew, Gate, NoGate};
-use bt_rowtype::{Refusal, Sequence, Text};
 use bt_script::{Bounds, SumsForm};
 use bt_table::{Alone, Table, Workforce};
+use bt_value::{Refusal, Sequence, Text};
 use bt_view::{Sum, scan, scan_alone, sums, sums_alone};
 use std::alloc::Global;
 use std::sync::Wait;

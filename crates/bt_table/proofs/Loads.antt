@@ -2,9 +2,9 @@
 use Rattle.std.proofs.Common.{ℕ, ◌+◌, ◌≡◌, true, false, T, List, [], ◌∷◌, refl, subst, is_some, Ok, Err, if◌then◌else◌}
 use Rattle.std.specs.FinMap.{find, is_sorted, put}
 use Rattle.std.specs.FinMap.Entries.{is_sorted-put}
-use Rattle.bt_rowtype.specs.Schemas.{Schema}
-use Rattle.bt_rowtype.specs.declared.refusal.Refusal.TheVariants.{DuplicateKey}
-use Rattle.bt_rowtype.specs.declared.value.Value.{Value}
+use Rattle.bt_row.specs.Schemas.{Schema}
+use Rattle.bt_value.specs.declared.refusal.Refusal.TheVariants.{DuplicateKey}
+use Rattle.bt_value.specs.declared.value.Value.{Value}
 use Rattle.bt_keycode.specs.Keys.{key_cmp}
 use Rattle.bt_keycode.proofs.offered.Order.{total_keys}
 use Rattle.bt_keycode.specs.Standing.{AreOf, RowMap, row_key}

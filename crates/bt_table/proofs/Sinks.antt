@@ -8,7 +8,7 @@ use Rattle.bt_node.specs.Flushes.{holds, sunk}
 use Rattle.bt_node.specs.Messages.{rows_after}
 use Rattle.bt_node.specs.Trees.{Shape}
 use Rattle.bt_node.proofs.offered.ShapedTrees.{holds-sorted, sunk-has_shape, sunk-holds}
-use Rattle.bt_rowtype.specs.Schemas.{Schema}
+use Rattle.bt_row.specs.Schemas.{Schema}
 use Rattle.bt_batch.specs.Batches.{RowMessages}
 use Rattle.bt_table.specs.Indexes.{EntryTree, Index, indexes_after}
 use Rattle.bt_table.specs.Tables.{RowTree, after_batch, held_by}

@@ -3,16 +3,16 @@ use Rattle.std.proofs.Common.{ℕ, arith, ◌+◌, ◌≡◌, ◌∙◌, ◌++�
 use Rattle.std.specs.FinMap.{is_sorted}
 use Rattle.std.specs.List.{filter_map, list_all}
 use Rattle.std.specs.Result.{result_ok}
-use Rattle.bt_rowtype.specs.Ops.{after_ops, default_row, upsert_as}
-use Rattle.bt_rowtype.specs.Fits.{OpsFit}
-use Rattle.bt_rowtype.specs.Schemas.{Schema, fit_columns}
-use Rattle.bt_rowtype.specs.Values.{AreInRange, read_as}
-use Rattle.bt_rowtype.specs.declared.upsert.op.Op.{Op}
-use Rattle.bt_rowtype.specs.Refusals.{least}
-use Rattle.bt_rowtype.specs.declared.refusal.Refusal.{Refusal}
-use Rattle.bt_rowtype.specs.declared.refusal.Refusal.TheVariants.{Building, NotEmpty}
-use Rattle.bt_rowtype.specs.declared.value.Value.{Value}
-use Rattle.bt_rowtype.proofs.offered.Fits.{after_ops_fits, after_ops_key, default_row_fits, default_row_key, read_fits, upsert_fits}
+use Rattle.bt_row.specs.Ops.{after_ops, default_row, upsert_as}
+use Rattle.bt_row.specs.Fits.{OpsFit}
+use Rattle.bt_row.specs.Schemas.{Schema, fit_columns, read_as}
+use Rattle.bt_value.specs.Values.{AreInRange}
+use Rattle.bt_row.specs.declared.op.Op.{Op}
+use Rattle.bt_value.specs.Refusals.{least}
+use Rattle.bt_value.specs.declared.refusal.Refusal.{Refusal}
+use Rattle.bt_value.specs.declared.refusal.Refusal.TheVariants.{Building, NotEmpty}
+use Rattle.bt_value.specs.declared.value.Value.{Value}
+use Rattle.bt_row.proofs.offered.Fits.{after_ops_fits, after_ops_key, default_row_fits, default_row_key, read_fits, upsert_fits}
 use Rattle.bt_keycode.specs.Codes.{code_of}
 use Rattle.bt_keycode.proofs.offered.Ranges.{OpsInRange, after_ops_in_range, default_row_in_range, read_in_range, upsert_in_range}
 use Rattle.bt_keycode.specs.Keys.{key_cmp}
@@ -25,7 +25,8 @@ use Rattle.bt_node.proofs.offered.ShapedTrees.{holds-sorted}
 use Rattle.bt_fanout.specs.Effects.{entry_effect, entry_meaning, row_effect, row_meaning}
 use Rattle.bt_rowtype.specs.declared.item.Item.{Item}
 use Rattle.bt_rowtype.specs.declared.item.Item.TheVariants.{Put, Del, Ups}
-use Rattle.bt_batch.specs.Batches.{KeyedMessage, RowMessages, del_of, map_ok, messages_of, one_if, put_of, read_batch, read_key, read_message, ups_of}
+use Rattle.bt_batch.specs.Batches.{KeyedMessage, RowMessages, del_of, messages_of, put_of, read_batch, read_key, read_message, ups_of}
+use Rattle.bt_value.specs.Results.{map_ok, one_if}
 use Rattle.bt_table.specs.Standing.{AllStand, AreOfSchema, IsOfSchema, IsSoundIndex, IsSoundTable, Stands, Suits}
 use Rattle.bt_table.specs.Tables.{Intact, PlainTable, after_batch}
 use Rattle.bt_fanout.specs.Entries.{Definition}

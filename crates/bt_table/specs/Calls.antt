@@ -3,13 +3,12 @@ use Rattle.std.specs.Prelude.{ℕ, ◌≡◌, ◌≢◌, ◌≤◌, ◌==◌, �
 use Rattle.std.specs.Cmp.Lexicographic.{pointwise}
 use Rattle.std.specs.FinMap.{find}
 use Rattle.std.specs.List.{list_all, remove}
-use Rattle.bt_rowtype.specs.Refusals.{least}
-use Rattle.bt_rowtype.specs.Schemas.{Schema}
-use Rattle.bt_rowtype.specs.declared.refusal.Refusal.{Refusal}
-use Rattle.bt_rowtype.specs.Values.{or_refused}
-use Rattle.bt_rowtype.specs.Ops.{unless}
-use Rattle.bt_rowtype.specs.declared.refusal.Refusal.TheVariants.{AlreadyComplete, Building, Failed, NameTaken, NoSuchTree, NotEmpty, OutOfMemory, TooMany}
-use Rattle.bt_rowtype.specs.declared.value.Value.{Value}
+use Rattle.bt_value.specs.Refusals.{least}
+use Rattle.bt_row.specs.Schemas.{Schema}
+use Rattle.bt_value.specs.declared.refusal.Refusal.{Refusal}
+use Rattle.bt_value.specs.Results.{or_refused, unless, and_then, map_ok, one_if}
+use Rattle.bt_value.specs.declared.refusal.Refusal.TheVariants.{AlreadyComplete, Building, Failed, NameTaken, NoSuchTree, NotEmpty, OutOfMemory, TooMany}
+use Rattle.bt_value.specs.declared.value.Value.{Value}
 use Rattle.bt_keycode.specs.Codes.{code_of}
 use Rattle.bt_keycode.specs.Keys.{key_cmp}
 use Rattle.bt_node.specs.Drains.{drained, packed, rebuilt}
@@ -25,7 +24,7 @@ use Rattle.bt_fanout.specs.Effects.{entry_effect, entry_meaning, row_effect, row
 use Rattle.bt_fanout.specs.Definitions.{kinds_of}
 use Rattle.bt_fanout.specs.Entries.{Definition, SuitsKinds}
 use Rattle.bt_fanout.specs.Promises.{index_of}
-use Rattle.bt_batch.specs.Batches.{RowMessages, and_then, batch_refusals, map_ok, messages_of, one_if, read_key}
+use Rattle.bt_batch.specs.Batches.{RowMessages, batch_refusals, messages_of, read_key}
 use Rattle.bt_table.specs.Indexes.{Index, built_index, empty_index, index_named, index_of_ref, is_complete, packed_index, packet_of, sent_count, with_tree}
 use Rattle.bt_table.specs.Standing.{AllStand, HoldsSelection, KeysRise}
 use Rattle.bt_table.specs.Tables.{PlainTable, RowTree, TableState, Intact, Lost, after_batch}

@@ -1,7 +1,7 @@
 -- The indexes of a table: how they are found, what a batch or a step of building sends them, and what they are after it and after a load.
 use Rattle.std.specs.Prelude.{ℕ, suc, ◌==◌, Bool, List, [], ◌∷◌, length, map, Option, Some, None, if◌then◌else◌}
 use Rattle.std.specs.Cmp.Lexicographic.{pointwise}
-use Rattle.bt_rowtype.specs.declared.value.Value.{Value}
+use Rattle.bt_value.specs.declared.value.Value.{Value}
 use Rattle.bt_messages.specs.Effects.{Rows}
 use Rattle.bt_messages.specs.Messages.{Messages, sorted_batch}
 use Rattle.bt_node.specs.Drains.{packed}

@@ -1,8 +1,8 @@
 -- A table, and what a batch leaves of it.
 use Rattle.std.specs.Prelude.{List, [], Option, Some, None}
-use Rattle.bt_rowtype.specs.Ops.{Change}
-use Rattle.bt_rowtype.specs.Schemas.{Schema}
-use Rattle.bt_rowtype.specs.declared.value.Value.{Value}
+use Rattle.bt_row.specs.Ops.{Change}
+use Rattle.bt_row.specs.Schemas.{Schema}
+use Rattle.bt_value.specs.declared.value.Value.{Value}
 use Rattle.bt_messages.specs.Messages.{sorted_batch}
 use Rattle.bt_messages.specs.declared.message.Message.{Message}
 use Rattle.bt_node.specs.Flushes.{holds, sunk}

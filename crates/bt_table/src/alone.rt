@@ -11,7 +11,9 @@ use bt_fanout::{Cover, Effect, IndexDef, effects_alone, index_packet_alone};
 use bt_load::InTurn;
 use bt_messages::{Entry, Merge, Packet};
 use bt_node::Tree;
-use bt_rowtype::{Item, Refusal, Row, Schema};
+use bt_row::{Row, Schema};
+use bt_rowtype::Item;
+use bt_value::Refusal;
 use std::alloc::{AllocError, Global};
 
 /// The caller alone: no thread is started, and nothing waits.

@@ -16,7 +16,8 @@ use bt_fanout::{Cover, Effect, IndexDef, sorted_entries, wider};
 use bt_keycode::Key;
 use bt_messages::{Entry, Packet};
 use bt_node::{Shape, Tree, pack};
-use bt_rowtype::{Row, Sequence, Text};
+use bt_row::Row;
+use bt_value::{Sequence, Text};
 use std::alloc::{AllocError, Global};
 use std::mem;
 

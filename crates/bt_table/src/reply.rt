@@ -1,5 +1,6 @@
 //! What a table answers.
-use bt_rowtype::{Row, Sequence, Text};
+use bt_row::Row;
+use bt_value::{Sequence, Text};
 
 /// How many messages of a batch an index was sent.
 #[derive(Drop)]

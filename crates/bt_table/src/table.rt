@@ -2,7 +2,7 @@
 #![tactic(auto, using(crate::proofs::offered::Steps::unless_lost_hold))]
 
 ghost use Rattle.std.specs.Prelude.{◌≡◌, Err, IfErr, IfOk, IsErrOf, None, OnErr, OnOk, Some};
-ghost use Rattle.bt_rowtype.specs.Refusals.{least};
+ghost use Rattle.bt_value.specs.Refusals.{least};
 ghost use Rattle.bt_table.specs.Calls as spec;
 ghost use Rattle.bt_table.specs.Calls.{Apply, CreateIndex, DropIndex, Get, IsCertain, IsRefused, IsStep, Shows, StaysOrIsLost, index_refusals, is_primary, step, tree_named};
 ghost use Rattle.bt_table.specs.Standing.{CompleteIndexesHold, HasSchema, IsSoundUnlessLost, Suits};
@@ -21,7 +21,10 @@ use crate::workforce::Workforce;
 use bt_fanout::{BuildStep, IndexDef, build_step};
 use bt_keycode::encode_row;
 use bt_node::{Shape, Tree};
-use bt_rowtype::{Item, RecordLine, RecordReader, Refusal, Row, Schema, Text};
+use bt_record::RecordLine;
+use bt_row::{Row, Schema};
+use bt_rowtype::{Item, RecordReader};
+use bt_value::{Refusal, Text};
 use std::alloc::Global;
 use std::marker::Model;
 

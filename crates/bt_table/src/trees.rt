@@ -9,7 +9,7 @@ use crate::table::MOST_INDEXES;
 use crate::workforce::Workforce;
 use bt_messages::{Entry, Packet};
 use bt_node::Tree;
-use bt_rowtype::Row;
+use bt_row::Row;
 use std::alloc::{AllocError, Global};
 
 /// The trees of a table.

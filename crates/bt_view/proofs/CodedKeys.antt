@@ -6,12 +6,11 @@ use Rattle.std.proofs.lemmas.Slice.Eq.{bytes_eq-Decides}
 use Rattle.std.specs.Cmp.Lexicographic.{pointwise}
 use Rattle.std.specs.Prelude.{option_and_then}
 use Rattle.std.specs.Str.{bytes_eq}
-use Rattle.bt_rowtype.specs.Kinds.{Content, Number, Bytes, Bit, content_of}
-use Rattle.bt_rowtype.specs.Schemas.{fits_kind}
-use Rattle.bt_rowtype.specs.Values.{AreInRange, IsInRange, LiesInRange, same_kind, takes_content}
-use Rattle.bt_rowtype.specs.declared.value.Kind.{Kind}
-use Rattle.bt_rowtype.specs.declared.value.Value.{Value}
-use Rattle.bt_rowtype.proofs.offered.Kinds.{fits_kind_of, same_kind-itself}
+use Rattle.bt_value.specs.Kinds.{Content, Number, Bytes, Bit, content_of}
+use Rattle.bt_value.specs.Values.{fits_kind, AreInRange, IsInRange, LiesInRange, same_kind, takes_content}
+use Rattle.bt_value.specs.declared.value.Kind.{Kind}
+use Rattle.bt_value.specs.declared.value.Value.{Value}
+use Rattle.bt_value.proofs.offered.Kinds.{fits_kind_of, same_kind-itself}
 use Rattle.bt_keycode.specs.Codes.{IsCodeOf, IsNoCode, code_of, kind_of}
 use Rattle.bt_keycode.specs.Decodings.{decoded}
 use Rattle.bt_keycode.specs.Keys.{Key}

@@ -3,11 +3,11 @@ use Rattle.std.proofs.Common.{◌≡◌, ◌∙◌, ◌≤◌, ℕ, Bool, true, 
 use Rattle.std.proofs.lemmas.List.{get_or-append_right, length-map, length-take-le, map-append, take-append-drop, take-append-le, take-map, take_at}
 use Rattle.std.proofs.lemmas.Option.{none-some}
 use Rattle.std.specs.Prelude.{◌+◌, ◌-◌, ◌+ℤ◌, nat_le}
-use Rattle.bt_rowtype.specs.Values.{same_values}
-use Rattle.bt_rowtype.specs.declared.value.Kind.{Kind}
-use Rattle.bt_rowtype.specs.declared.value.Value.{Value}
-use Rattle.bt_rowtype.specs.declared.value.Value.TheVariants as value
-use Rattle.bt_rowtype.proofs.offered.SameValues.{same_values-sound}
+use Rattle.bt_value.specs.Values.{same_values}
+use Rattle.bt_value.specs.declared.value.Kind.{Kind}
+use Rattle.bt_value.specs.declared.value.Value.{Value}
+use Rattle.bt_value.specs.declared.value.Value.TheVariants as value
+use Rattle.bt_value.proofs.offered.SameValues.{same_values-sound}
 use Rattle.bt_keycode.specs.Codes.{IsCodeOf, code_of, kind_of}
 use Rattle.bt_keycode.specs.Keys.{Key}
 use Rattle.bt_keycode.proofs.offered.Ranges.{take_in_range}

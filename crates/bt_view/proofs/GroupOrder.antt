@@ -6,11 +6,12 @@ use Rattle.std.specs.FinMap.{find, put}
 use Rattle.std.specs.FinMap.Entries.{by_order}
 use Rattle.std.specs.Ordering.{is_eq, ordering_reverse}
 use Rattle.std.specs.declared.cmp.Ordering.TheVariants.{Greater}
-use Rattle.bt_rowtype.specs.Values.{AreInRange, or_refused, same_values}
-use Rattle.bt_rowtype.specs.declared.refusal.Refusal.TheVariants.{TooMany}
-use Rattle.bt_rowtype.specs.declared.value.Kind.{Kind}
-use Rattle.bt_rowtype.specs.declared.value.Value.{Value}
-use Rattle.bt_rowtype.proofs.offered.SameValues.{same_values-complete, same_values-sound}
+use Rattle.bt_value.specs.Values.{AreInRange, same_values}
+use Rattle.bt_value.specs.Results.{or_refused}
+use Rattle.bt_value.specs.declared.refusal.Refusal.TheVariants.{TooMany}
+use Rattle.bt_value.specs.declared.value.Kind.{Kind}
+use Rattle.bt_value.specs.declared.value.Value.{Value}
+use Rattle.bt_value.proofs.offered.SameValues.{same_values-complete, same_values-sound}
 use Rattle.bt_keycode.specs.Codes.{code_of, kind_of}
 use Rattle.bt_keycode.specs.Keys.{Key, is_before, key_cmp}
 use Rattle.bt_keycode.proofs.offered.Codes.{same_code}

@@ -3,10 +3,10 @@ use Rattle.std.proofs.Common.{ℕ, suc, ◌≡◌, ◌∙◌, ◌≤◌, ◌<◌
 use Rattle.std.proofs.lemmas.List.{length-append, length-map, length-take, map-append, take_at}
 use Rattle.std.specs.Cmp.Lexicographic.{pointwise}
 use Rattle.std.specs.Prelude.{option_map}
-use Rattle.bt_rowtype.specs.Ops.{named_from}
-use Rattle.bt_rowtype.specs.Schemas.{Schema}
-use Rattle.bt_rowtype.specs.declared.schema.Column.{Column}
-use Rattle.bt_rowtype.specs.declared.value.Kind.{Kind}
+use Rattle.bt_row.specs.Ops.{named_from}
+use Rattle.bt_row.specs.Schemas.{Schema}
+use Rattle.bt_row.specs.declared.schema.Column.{Column}
+use Rattle.bt_value.specs.declared.value.Kind.{Kind}
 use Rattle.bt_fanout.specs.Entries.{Definition}
 use Rattle.bt_view.specs.Ranges.{column_in, index_schema}
 use Rattle.bt_view.specs.inside.Entries.{index_kinds}

@@ -9,11 +9,11 @@ use Rattle.std.specs.Ordering.{is_eq}
 use Rattle.std.specs.Prelude.{option_map}
 use Rattle.std.specs.declared.cmp.Ordering.{Ordering}
 use Rattle.std.specs.declared.cmp.Ordering.TheVariants.{Less, Equal, Greater}
-use Rattle.bt_rowtype.specs.Values.{AreInRange, IsInRange}
-use Rattle.bt_rowtype.specs.Schemas.{Schema, fit_columns, fits_kind}
-use Rattle.bt_rowtype.specs.declared.schema.Column.{Column}
-use Rattle.bt_rowtype.specs.declared.value.Kind.{Kind}
-use Rattle.bt_rowtype.specs.declared.value.Value.{Value}
+use Rattle.bt_value.specs.Values.{AreInRange, IsInRange, fits_kind}
+use Rattle.bt_row.specs.Schemas.{Schema, fit_columns}
+use Rattle.bt_row.specs.declared.schema.Column.{Column}
+use Rattle.bt_value.specs.declared.value.Kind.{Kind}
+use Rattle.bt_value.specs.declared.value.Value.{Value}
 use Rattle.bt_keycode.specs.Codes.{code_of, code_of_value, kind_of}
 use Rattle.bt_keycode.specs.Keys.{Key, key_cmp}
 use Rattle.bt_keycode.proofs.offered.Order.{same_key, total_keys}

@@ -2,12 +2,12 @@
 use Rattle.std.proofs.Common.{◌≡◌, ◌≢◌, ◌∙◌, ◌≤◌, ◌<◌, ℕ, arith, length, Bool, true, false, List, [], Option, Some, Result, Ok, Err, ap, fold, map, refl, subst, sym, take, if◌then◌else◌}
 use Rattle.std.proofs.lemmas.List.{length-map}
 use Rattle.std.specs.List.{All}
-use Rattle.bt_rowtype.specs.Schemas.{Schema}
-use Rattle.bt_rowtype.specs.declared.refusal.Refusal.{Refusal}
-use Rattle.bt_rowtype.specs.Values.{or_refused}
-use Rattle.bt_rowtype.specs.declared.refusal.Refusal.TheVariants.{Building, OutOfMemory, TooMany}
-use Rattle.bt_rowtype.specs.declared.schema.Column.{Column}
-use Rattle.bt_rowtype.specs.declared.value.Value.{Value}
+use Rattle.bt_row.specs.Schemas.{Schema}
+use Rattle.bt_value.specs.declared.refusal.Refusal.{Refusal}
+use Rattle.bt_value.specs.Results.{or_refused, and_then, map_ok}
+use Rattle.bt_value.specs.declared.refusal.Refusal.TheVariants.{Building, OutOfMemory, TooMany}
+use Rattle.bt_row.specs.declared.schema.Column.{Column}
+use Rattle.bt_value.specs.declared.value.Value.{Value}
 use Rattle.bt_node.specs.Flushes.{holds}
 use Rattle.bt_node.specs.Messages.{Rows, between}
 use Rattle.bt_fanout.specs.Covers.{is_whole}
@@ -15,7 +15,6 @@ use Rattle.bt_fanout.specs.Definitions.{kinds_of}
 use Rattle.bt_fanout.specs.Effects.{entry_effect}
 use Rattle.bt_fanout.specs.Entries.{entry_of}
 use Rattle.bt_fanout.specs.Selections.{select}
-use Rattle.bt_batch.specs.Batches.{and_then, map_ok}
 use Rattle.bt_table.specs.Calls.{Secondary, ShowsIndex}
 use Rattle.bt_table.specs.Tables.{PlainTable}
 use Rattle.bt_table.specs.Indexes.{Index}

@@ -4,10 +4,10 @@ use Rattle.std.specs.FinMap.Entries.{below_all}
 use Rattle.std.specs.Ordering.{is_eq, is_lt, ordering_then}
 use Rattle.std.specs.declared.cmp.Ordering.{Ordering}
 use Rattle.std.specs.declared.cmp.Ordering.TheVariants.{Less, Equal, Greater}
-use Rattle.bt_rowtype.specs.Schemas.{Schema}
-use Rattle.bt_rowtype.specs.Values.{AreInRange, value_cmp, values_cmp}
-use Rattle.bt_rowtype.specs.declared.value.Kind.{Kind}
-use Rattle.bt_rowtype.specs.declared.value.Value.{Value}
+use Rattle.bt_row.specs.Schemas.{Schema}
+use Rattle.bt_value.specs.Values.{AreInRange, value_cmp, values_cmp}
+use Rattle.bt_value.specs.declared.value.Kind.{Kind}
+use Rattle.bt_value.specs.declared.value.Value.{Value}
 use Rattle.bt_keycode.specs.Codes.{HaveSameKinds, code_of}
 use Rattle.bt_keycode.specs.Keys.{Key, is_before, is_between}
 use Rattle.bt_keycode.proofs.offered.Codes.{codes_ordered}

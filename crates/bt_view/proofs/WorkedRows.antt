@@ -1,12 +1,12 @@
 -- Rows of an index, computed by the definitions themselves. Serves as a test of the definitions.
 use Rattle.std.proofs.Common.{List, [], ◌∷◌, ℕ, ◌≡◌, refl, codes, pos}
 use Rattle.std.specs.Prelude.{Ok, Err, Some, None}
-use Rattle.bt_rowtype.specs.Schemas.{Schema}
-use Rattle.bt_rowtype.specs.declared.refusal.Refusal.TheVariants.{BadField, Building, NoSuchColumn}
-use Rattle.bt_rowtype.specs.declared.value.Kind.TheVariants as kind
-use Rattle.bt_rowtype.specs.declared.value.Value.{Value}
-use Rattle.bt_rowtype.specs.declared.value.Value.TheVariants as value
-use Rattle.bt_rowtype.proofs.offered.OnLiterals.{rowtype_on_literals}
+use Rattle.bt_row.specs.Schemas.{Schema}
+use Rattle.bt_value.specs.declared.refusal.Refusal.TheVariants.{BadField, Building, NoSuchColumn}
+use Rattle.bt_value.specs.declared.value.Kind.TheVariants as kind
+use Rattle.bt_value.specs.declared.value.Value.{Value}
+use Rattle.bt_value.specs.declared.value.Value.TheVariants as value
+use Rattle.bt_value.proofs.offered.OnLiterals.{values_on_literals}
 use Rattle.bt_keycode.specs.Codes.{code_of, eight_bytes}
 use Rattle.bt_messages.specs.declared.measure.Measure.TheVariants as measures
 use Rattle.bt_node.specs.Trees.{leaf}
@@ -35,28 +35,28 @@ with_cover cover = Intact (record (empty_table stock (record { fanout = 4; buffe
 
 -- its columns, those of the key, the included ones; by rising qty, and then by key
 pub rows_of_index : scan (with_cover Whole) (codes "q") None None ≡ Ok (row 10 2 7 ∷ row 20 1 7 ∷ row 20 3 7 ∷ [])
-unfolding eight_bytes rowtype_on_literals
+unfolding eight_bytes values_on_literals
 rows_of_index = refl
 
 -- from a qty on, and before a qty and a key
 pub range_of_index : scan (with_cover Whole) (codes "q") (Some (codes "20" ∷ [])) (Some (codes "20" ∷ codes "3" ∷ [])) ≡ Ok (row 20 1 7 ∷ [])
-unfolding eight_bytes rowtype_on_literals
+unfolding eight_bytes values_on_literals
 range_of_index = refl
 
 pub sums_of_index : sums (with_cover Whole) (codes "q") 1 (codes "id") None None
     ≡ Ok (record { group = value.Int (pos 10) ∷ []; count = 1; total = pos 2 } ∷ record { group = value.Int (pos 20) ∷ []; count = 2; total = pos 4 } ∷ [])
-unfolding eight_bytes rowtype_on_literals
+unfolding eight_bytes values_on_literals
 sums_of_index = refl
 
 -- a bound is read before a building index is refused, and that before a group of more columns than its key
 pub wrong_bound : scan (with_cover (UpTo (code_of (value.Int (pos 3) ∷ [])))) (codes "q") None (Some (codes "x" ∷ [])) ≡ Err (BadField 2)
-unfolding eight_bytes rowtype_on_literals
+unfolding eight_bytes values_on_literals
 wrong_bound = refl
 
 pub still_building : sums (with_cover (UpTo (code_of (value.Int (pos 3) ∷ [])))) (codes "q") 3 (codes "id") None None ≡ Err Building
-unfolding eight_bytes rowtype_on_literals
+unfolding eight_bytes values_on_literals
 still_building = refl
 
 pub wide_group : sums (with_cover Whole) (codes "q") 3 (codes "id") None None ≡ Err NoSuchColumn
-unfolding eight_bytes rowtype_on_literals
+unfolding eight_bytes values_on_literals
 wide_group = refl

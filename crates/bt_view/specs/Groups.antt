@@ -1,21 +1,20 @@
 -- Groups of rows: how many rows each has, and the sum of a column.
 use Rattle.std.specs.Prelude.{ℕ, ◌+◌, ◌&&◌, false, List, [], fold, get_or, map, nat_le, take, Option, Some, None, option_map, Result, Ok, Err, if◌then◌else◌, ℤ, pos, ◌+ℤ◌}
 use Rattle.std.specs.FinMap.{find, put}
-use Rattle.bt_rowtype.specs.Ops.{at_column, named_from}
-use Rattle.bt_rowtype.specs.Values.{or_refused}
-use Rattle.bt_rowtype.specs.declared.refusal.Refusal.{Refusal}
-use Rattle.bt_rowtype.specs.declared.refusal.Refusal.TheVariants.{NoSuchColumn, NotInt, TooMany}
-use Rattle.bt_rowtype.specs.declared.schema.Column.{Column}
-use Rattle.bt_rowtype.specs.declared.value.Kind.{Kind}
-use Rattle.bt_rowtype.specs.declared.value.Kind.TheVariants as kind
-use Rattle.bt_rowtype.specs.declared.value.Value.{Value}
-use Rattle.bt_rowtype.specs.declared.value.Value.TheVariants as value
+use Rattle.bt_row.specs.Ops.{at_column, named_from}
+use Rattle.bt_value.specs.Results.{or_refused, and_then}
+use Rattle.bt_value.specs.declared.refusal.Refusal.{Refusal}
+use Rattle.bt_value.specs.declared.refusal.Refusal.TheVariants.{NoSuchColumn, NotInt, TooMany}
+use Rattle.bt_row.specs.declared.schema.Column.{Column}
+use Rattle.bt_value.specs.declared.value.Kind.{Kind}
+use Rattle.bt_value.specs.declared.value.Kind.TheVariants as kind
+use Rattle.bt_value.specs.declared.value.Value.{Value}
+use Rattle.bt_value.specs.declared.value.Value.TheVariants as value
 use Rattle.bt_keycode.specs.Codes.{code_of}
 use Rattle.bt_keycode.specs.Keys.{key_cmp}
 use Rattle.bt_node.specs.Messages.{Rows}
 use Rattle.bt_table.specs.Calls.{NamedTree, tree_named}
 use Rattle.bt_table.specs.Tables.{TableState}
-use Rattle.bt_batch.specs.Batches.{and_then}
 use Rattle.bt_view.specs.Ranges.{range_of, rows_of_tree, rows_within, schema_of}
 use Rattle.bt_view.specs.declared.groups.Sum.{Sum}
 

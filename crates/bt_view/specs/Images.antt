@@ -1,20 +1,20 @@
 -- A tree as text.
 use Rattle.std.specs.Prelude.{ℕ, ◌-◌, ◌^◌, min, List, [], ◌∷◌, ◌++◌, length, map, flat_map, get_or, codes, decimal, Result}
-use Rattle.bt_rowtype.specs.Records.{record_text}
-use Rattle.bt_rowtype.specs.Values.{text_of}
-use Rattle.bt_rowtype.specs.Arithmetic.{action_of}
-use Rattle.bt_rowtype.specs.Ops.{Change, argument_of, place_in, word_in}
-use Rattle.bt_rowtype.specs.declared.upsert.op.Op.{Op}
-use Rattle.bt_rowtype.specs.declared.refusal.Refusal.{Refusal}
-use Rattle.bt_rowtype.specs.declared.schema.Column.{Column}
-use Rattle.bt_rowtype.specs.declared.value.Value.{Value}
-use Rattle.bt_rowtype.specs.declared.value.Value.TheVariants as value
-use Rattle.bt_rowtype.specs.Hex.{hex_text}
+use Rattle.bt_row.specs.RecordTexts.{record_text}
+use Rattle.bt_value.specs.Values.{text_of}
+use Rattle.bt_row.specs.Arithmetic.{action_of}
+use Rattle.bt_row.specs.Ops.{Change, argument_of, place_in, word_in}
+use Rattle.bt_row.specs.declared.op.Op.{Op}
+use Rattle.bt_value.specs.declared.refusal.Refusal.{Refusal}
+use Rattle.bt_row.specs.declared.schema.Column.{Column}
+use Rattle.bt_value.specs.declared.value.Value.{Value}
+use Rattle.bt_value.specs.declared.value.Value.TheVariants as value
+use Rattle.bt_value.specs.Hex.{hex_text}
 use Rattle.bt_messages.specs.declared.message.Message.{Message}
 use Rattle.bt_messages.specs.declared.message.Message.TheVariants as message
 use Rattle.bt_keycode.specs.Keys.{Key}
 use Rattle.bt_node.specs.Trees.{Tree, leaf, inner, Nodes, none, node, children, height}
-use Rattle.bt_batch.specs.Batches.{map_ok}
+use Rattle.bt_value.specs.Results.{map_ok}
 use Rattle.bt_table.specs.Calls.{NamedTree, Primary, Secondary, tree_named}
 use Rattle.bt_table.specs.Indexes.{EntryTree}
 use Rattle.bt_table.specs.Tables.{RowTree, TableState}

@@ -1,13 +1,12 @@
 -- The rows of a tree of a table, and those of a range.
 use Rattle.std.specs.Prelude.{ℕ, ◌+◌, ◌++◌, List, [], get_or, length, map, take, Option, Some, None, option_map, Result, Ok, Err, if◌then◌else◌}
-use Rattle.bt_rowtype.specs.Ops.{both_read}
-use Rattle.bt_rowtype.specs.Schemas.{Schema}
-use Rattle.bt_rowtype.specs.Values.{prefix_as}
-use Rattle.bt_rowtype.specs.declared.refusal.Refusal.{Refusal}
-use Rattle.bt_rowtype.specs.declared.refusal.Refusal.TheVariants.{Building}
-use Rattle.bt_rowtype.specs.declared.schema.Column.{Column}
-use Rattle.bt_rowtype.specs.declared.value.Kind.TheVariants as kind
-use Rattle.bt_rowtype.specs.declared.value.Value.{Value}
+use Rattle.bt_value.specs.Results.{both_read, and_then, map_ok}
+use Rattle.bt_row.specs.Schemas.{Schema, prefix_as}
+use Rattle.bt_value.specs.declared.refusal.Refusal.{Refusal}
+use Rattle.bt_value.specs.declared.refusal.Refusal.TheVariants.{Building}
+use Rattle.bt_row.specs.declared.schema.Column.{Column}
+use Rattle.bt_value.specs.declared.value.Kind.TheVariants as kind
+use Rattle.bt_value.specs.declared.value.Value.{Value}
 use Rattle.bt_keycode.specs.Codes.{code_of}
 use Rattle.bt_keycode.specs.Keys.{Key}
 use Rattle.bt_node.specs.Messages.{Rows, between}
@@ -15,7 +14,6 @@ use Rattle.bt_fanout.specs.Covers.{is_whole}
 use Rattle.bt_fanout.specs.Entries.{Definition, entry_of, picked}
 use Rattle.bt_fanout.specs.Selections.{select}
 use Rattle.bt_fanout.specs.declared.cover.Cover.{Cover}
-use Rattle.bt_batch.specs.Batches.{and_then, map_ok}
 use Rattle.bt_table.specs.Calls.{NamedTree, Primary, Secondary, tree_named}
 use Rattle.bt_table.specs.Tables.{TableState}
 use Rattle.bt_view.specs.declared.range.KeyRange.{KeyRange}

@@ -1,11 +1,12 @@
 //! The columns of the rows of an index.
 ghost use Rattle.std.specs.Prelude.{◌≡◌, ◌<◌, ◌≤◌, ◌++◌, IfOk, IfSome, OnOk, length, map, take};
-ghost use Rattle.bt_rowtype.specs.Ops.{named_from};
+ghost use Rattle.bt_row.specs.Ops.{named_from};
 ghost use Rattle.bt_view.specs.Ranges as spec;
 ghost use Rattle.bt_view.specs.inside.Entries.{index_kinds};
 
 use bt_fanout::IndexDef;
-use bt_rowtype::{Column, Columns, Kind, Schema, Text, find_column};
+use bt_row::{Column, Columns, Schema, find_column};
+use bt_value::{Kind, Text};
 use std::alloc::{AllocError, Global};
 
 fn copy_column(alloc: Global, column: &Column) -> Result<Column, AllocError>

@@ -1,10 +1,11 @@
 //! How values are drawn in the image of a tree.
 ghost use Rattle.std.specs.Prelude.{◌≡◌, ◌≤◌, ◌++◌, ◌∷◌, [], IfOk, List, OnOk, flat_map, get_or, length, map, ℕ};
-ghost use Rattle.bt_rowtype.specs.declared.value.Value.TheVariants as value;
+ghost use Rattle.bt_value.specs.declared.value.Value.TheVariants as value;
 ghost use Rattle.bt_view.specs.Images as spec;
 
 use bt_messages::{Entry, Merge};
-use bt_rowtype::{Change, Column, MOST_VALUE_BYTES, Op, Row, Text, Value, write_row};
+use bt_row::{Change, Column, Op, Row, write_row};
+use bt_value::{MOST_VALUE_BYTES, Text, Value};
 use std::alloc::{AllocError, Global};
 
 /// How the values of a tree are drawn, each behind the key of its line.

@@ -4,7 +4,7 @@
 //! group, and only what stands behind the front is decoded.
 ghost use Rattle.std.specs.Prelude.{◌≡◌, ◌≢◌, ◌≤◌, ◌++◌, [], IfOk, IfSome, List, MatchOption, Some, drop, length, take, ℕ};
 ghost use Rattle.bt_keycode.specs.Codes.{code_of};
-ghost use Rattle.bt_rowtype.specs.declared.value.Value.{Value as value};
+ghost use Rattle.bt_value.specs.declared.value.Value.{Value as value};
 ghost use Rattle.bt_view.specs.Groups.{number_in};
 ghost use Rattle.bt_view.specs.inside.Entries.{after_entry, row_of_entry};
 ghost use Rattle.bt_view.specs.inside.EntryParts.{entries_as_one};
@@ -17,7 +17,8 @@ use crate::groups::{Grouping, number_in};
 use bt_keycode::{Key, encode_row};
 use bt_messages::Entry;
 use bt_node::{ForkVisitor, Visitor};
-use bt_rowtype::{Kind, Row};
+use bt_row::Row;
+use bt_value::Kind;
 use std::alloc::{AllocError, Global};
 use std::marker::Model;
 
@@ -32,7 +33,7 @@ pub(crate) struct EntryGroups<'a> {
 
 impl<'a> Model for EntryGroups<'a> {
     ghost use Rattle.std.specs.Prelude.{List, ℕ};
-    ghost use Rattle.bt_rowtype.specs.declared.value.Kind.{Kind as kind};
+    ghost use Rattle.bt_value.specs.declared.value.Kind.{Kind as kind};
     ghost use Rattle.bt_view.specs.inside.Fronts.{IsFrontWhereKept};
     ghost use Rattle.bt_view.specs.inside.Neighbours.{Groups};
 

@@ -6,7 +6,8 @@ ghost use Rattle.bt_view.specs.inside.EntryParts.{entries_as_one};
 use bt_keycode::{DecodeError, Key, decode_onto};
 use bt_messages::Entry;
 use bt_node::{ForkVisitor, Visitor};
-use bt_rowtype::{Kind, Row};
+use bt_row::Row;
+use bt_value::Kind;
 use std::alloc::{AllocError, Global};
 use std::marker::Model;
 
@@ -19,7 +20,7 @@ pub(crate) struct EntryRows<'a, S: Visitor<Row>> {
 
 impl<'a, S: Visitor<Row>> Model for EntryRows<'a, S> {
     ghost use Rattle.std.specs.Prelude.{List};
-    ghost use Rattle.bt_rowtype.specs.declared.value.Kind.{Kind as kind};
+    ghost use Rattle.bt_value.specs.declared.value.Kind.{Kind as kind};
 
     ghost Value = { List kind × S };
 

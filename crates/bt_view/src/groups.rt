@@ -1,17 +1,18 @@
 //! Groups of rows: how many rows each has, and the sum of a column.
 ghost use Rattle.std.specs.Prelude.{◌≡◌, ◌≤◌, ◌∷◌, [], IfOk, List, None, Some, false, if◌then◌else◌, take, true};
-ghost use Rattle.bt_rowtype.specs.Answers.{Answers};
-ghost use Rattle.bt_rowtype.specs.Values.{or_refused};
-ghost use Rattle.bt_rowtype.specs.Views.{value_of_ref};
+ghost use Rattle.bt_value.specs.Answers.{Answers};
+ghost use Rattle.bt_value.specs.Results.{or_refused};
+ghost use Rattle.bt_value.specs.Views.{value_of_ref};
 ghost use Rattle.bt_view.specs.Groups as spec;
-ghost use Rattle.bt_rowtype.specs.declared.value.Value.{Value as value};
+ghost use Rattle.bt_value.specs.declared.value.Value.{Value as value};
 ghost use Rattle.bt_view.specs.inside.Fronts.{IsLastOf};
 ghost use Rattle.bt_view.specs.inside.GroupParts.{groups_as_one};
 ghost use Rattle.bt_view.specs.inside.Neighbours.{AreBounded, IsBounded, grouped, groups_then, joined_with, after_row};
 
 use bt_keycode::Key;
 use bt_node::{ForkVisitor, Visitor};
-use bt_rowtype::{Kind, Refusal, Row, Sequence, ValueRef, same_values};
+use bt_row::{Row, same_values};
+use bt_value::{Kind, Refusal, Sequence, ValueRef};
 use std::alloc::{AllocError, Global};
 use std::marker::Model;
 use std::mem::replace;

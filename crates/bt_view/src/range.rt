@@ -1,11 +1,14 @@
 //! The range of keys between two bounds.
 ghost use Rattle.std.specs.Prelude.{◌≡◌, None, Ok};
 ghost use Rattle.std.specs.Option.{option_copied};
-ghost use Rattle.bt_rowtype.specs.Answers.{Answers};
+ghost use Rattle.bt_value.specs.Answers.{Answers};
 ghost use Rattle.bt_view.specs.Ranges as spec;
 
 use bt_keycode::{Key, encode_row};
-use bt_rowtype::{Column, RecordLine, RecordReader, Refusal, least_with};
+use bt_record::RecordLine;
+use bt_row::Column;
+use bt_rowtype::RecordReader;
+use bt_value::{Refusal, least_with};
 use std::alloc::Global;
 
 /// The keys at or past `from` and before `to`. A bound that is absent does not limit.

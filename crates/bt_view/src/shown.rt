@@ -1,11 +1,11 @@
 //! What is shown of a table: which rows, by a crew or alone.
 ghost use Rattle.std.specs.Prelude.{◌≡◌, ◌≢◌, ◌≤◌, IfErr, IfOk, IsErrOf, None, Ok, fold, take};
 ghost use Rattle.std.specs.Option.{option_copied};
-ghost use Rattle.bt_rowtype.specs.Answers.{Answers};
+ghost use Rattle.bt_value.specs.Answers.{Answers};
 ghost use Rattle.bt_fanout.specs.Effects.{entry_effect};
 ghost use Rattle.bt_node.specs.Flushes.{holds};
 ghost use Rattle.bt_node.specs.Messages.{between};
-ghost use Rattle.bt_batch.specs.Batches.{and_then};
+ghost use Rattle.bt_value.specs.Results.{and_then};
 ghost use Rattle.bt_table.specs.Calls.{Secondary, ShowsIndex, tree_named};
 ghost use Rattle.bt_table.specs.Indexes.{index_of_ref};
 ghost use Rattle.bt_table.specs.Tables.{PlainTable};
@@ -25,8 +25,10 @@ use bt_gang::{Crew, Gate};
 use bt_gather::read;
 use bt_messages::Entry;
 use bt_node::{ForkVisitor, Tree, Visitor};
-use bt_rowtype::{Kind, RecordLine, Refusal, Row, Schema, Text, find_column};
+use bt_record::RecordLine;
+use bt_row::{Row, Schema, find_column};
 use bt_table::{IndexRef, Table, TreeRef};
+use bt_value::{Kind, Refusal, Text};
 use std::alloc::{AllocError, Global};
 use std::sync::Wait;
 use std::thread::Threads;

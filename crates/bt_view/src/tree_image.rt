@@ -9,7 +9,7 @@ use crate::drawing::Drawing;
 use bt_keycode::Key;
 use bt_messages::{Merge, Message};
 use bt_node::Walk;
-use bt_rowtype::{Text, write_number};
+use bt_value::{Text, write_number};
 use itoa::Buffer;
 use std::alloc::{AllocError, Global};
 

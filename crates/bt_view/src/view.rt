@@ -1,8 +1,8 @@
 //! Scans, grouped sums and images of the trees of a table.
 ghost use Rattle.std.specs.Prelude.{◌≡◌, ◌≢◌, Err, IfErr, IfOk, IsErrOf, None, Ok, fold};
 ghost use Rattle.std.specs.Option.{option_copied};
-ghost use Rattle.bt_rowtype.specs.Answers.{Answers};
-ghost use Rattle.bt_batch.specs.Batches.{map_ok};
+ghost use Rattle.bt_value.specs.Answers.{Answers};
+ghost use Rattle.bt_value.specs.Results.{map_ok};
 ghost use Rattle.bt_table.specs.Calls.{tree_named};
 ghost use Rattle.bt_view.specs.Groups as groups;
 ghost use Rattle.bt_view.specs.Images as images;
@@ -14,8 +14,10 @@ use crate::shown::{rows_to_show, rows_to_sum, show, show_alone, sum, sum_alone};
 use crate::tree_image::image_text;
 use bt_gang::{Crew, Gate};
 use bt_node::{ForkVisitor, Visitor};
-use bt_rowtype::{RecordLine, Refusal, Row, Sequence, Text};
+use bt_record::RecordLine;
+use bt_row::Row;
 use bt_table::{Table, TreeRef};
+use bt_value::{Refusal, Sequence, Text};
 use std::alloc::Global;
 use std::sync::Wait;
 use std::thread::Threads;

@@ -5,7 +5,7 @@ ghost use Rattle.bt_view.specs.RecordTexts.{record_line};
 
 use bt_keycode::Key;
 use bt_node::{ForkVisitor, Visitor};
-use bt_rowtype::{Row, copy_row, write_row};
+use bt_row::{Row, copy_row, write_row};
 use std::alloc::{AllocError, Global};
 use std::marker::Model;
 
@@ -17,7 +17,7 @@ pub struct RowList {
 
 impl Model for RowList {
     ghost use Rattle.std.specs.Prelude.{List};
-    ghost use Rattle.bt_rowtype.specs.declared.value.Value.{Value as value};
+    ghost use Rattle.bt_value.specs.declared.value.Value.{Value as value};
 
     ghost Value = { List (List value) };
 

@@ -1,8 +1,8 @@
 -- What a step of building sends and leaves.
 use Rattle.std.proofs.Common.{◌≡◌, ◌∙◌, ℕ, not, T, List, ap, refl, sym}
 use Rattle.std.specs.FinMap.{is_sorted}
-use Rattle.bt_rowtype.specs.declared.value.Kind.{Kind}
-use Rattle.bt_rowtype.specs.declared.value.Value.{Value}
+use Rattle.bt_value.specs.declared.value.Kind.{Kind}
+use Rattle.bt_value.specs.declared.value.Value.{Value}
 use Rattle.bt_keycode.specs.Keys.{key_cmp}
 use Rattle.bt_messages.specs.Effects.{Rows, rows_after}
 use Rattle.bt_messages.specs.Messages.{sorted_batch}

@@ -1,7 +1,7 @@
 -- Effects on fewer keys: what an index is sent is the same, where the keys that it covers are among them.
 use Rattle.std.proofs.Common.{◌≡◌, true, false, not, cond, List, [], ◌∷◌, ◌++◌, refl, sym, ap, ◌∙◌, if◌then◌else◌, true≢false}
 use Rattle.std.specs.List.{filter}
-use Rattle.bt_rowtype.specs.declared.value.Value.{Value}
+use Rattle.bt_value.specs.declared.value.Value.{Value}
 use Rattle.bt_keycode.specs.Keys.{Key, is_before}
 use Rattle.bt_keycode.proofs.offered.Order.{before_chain, later_chain}
 use Rattle.bt_messages.specs.Effects.{Rows}

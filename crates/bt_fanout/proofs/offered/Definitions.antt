@@ -1,10 +1,10 @@
 -- A definition by names is one of its schema.
 use Rattle.std.proofs.Common.{ℕ, ◌≡◌, ◌≤◌, List, Option, Result, Ok, Err, length, refl, subst}
 use Rattle.std.specs.Result.{result_map_both}
-use Rattle.bt_rowtype.specs.Ops.{both_read}
-use Rattle.bt_rowtype.specs.Schemas.{Schema}
-use Rattle.bt_rowtype.specs.declared.filter.Filter.{Filter}
-use Rattle.bt_rowtype.specs.declared.refusal.Refusal.{Refusal}
+use Rattle.bt_value.specs.Results.{both_read}
+use Rattle.bt_row.specs.Schemas.{Schema}
+use Rattle.bt_row.specs.declared.filter.Filter.{Filter}
+use Rattle.bt_value.specs.declared.refusal.Refusal.{Refusal}
 use Rattle.bt_fanout.specs.Definitions.{chosen, condition_in, definition_as, kinds_of}
 use Rattle.bt_fanout.specs.Entries.{Definition, SuitsKinds}
 use Rattle.bt_fanout.specs.declared.definition.Condition.{Condition}

@@ -1,9 +1,10 @@
 -- A row of a schema, under the code of its key columns, stands as the laws of an index ask.
 use Rattle.std.proofs.Common.{◌≡◌, ◌&&◌, ◌∙◌, Bool, true, false, List, [], ◌∷◌, ap, map, refl, sym, take, true≢false}
-use Rattle.bt_rowtype.specs.Schemas.{Schema, fit_columns, fits_kind}
-use Rattle.bt_rowtype.specs.declared.schema.Column.{Column}
-use Rattle.bt_rowtype.specs.declared.value.Value.{Value}
-use Rattle.bt_rowtype.proofs.offered.Kinds.{fits_kind_of}
+use Rattle.bt_row.specs.Schemas.{Schema, fit_columns}
+use Rattle.bt_value.specs.Values.{fits_kind}
+use Rattle.bt_row.specs.declared.schema.Column.{Column}
+use Rattle.bt_value.specs.declared.value.Value.{Value}
+use Rattle.bt_value.proofs.offered.Kinds.{fits_kind_of}
 use Rattle.bt_keycode.specs.Codes.{code_of, kind_of}
 use Rattle.bt_keycode.specs.Keys.{Key}
 use Rattle.bt_messages.specs.Effects.{Rows}

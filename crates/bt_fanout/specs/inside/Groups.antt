@@ -2,7 +2,7 @@
 use Rattle.std.specs.Prelude.{ℕ, suc, [], ◌∷◌, List, drop, fold, take, Option, Some, None, if◌then◌else◌}
 use Rattle.std.specs.List.{filter}
 use Rattle.std.specs.Ordering.{eq_by_cmp}
-use Rattle.bt_rowtype.specs.declared.value.Value.{Value}
+use Rattle.bt_value.specs.declared.value.Value.{Value}
 use Rattle.bt_keycode.specs.Keys.{Key, key_cmp}
 use Rattle.bt_messages.specs.Messages.{Messages}
 use Rattle.bt_fanout.specs.Covers.{is_covered}

@@ -1,6 +1,6 @@
 -- A step of building that takes rows one by one.
 use Rattle.std.specs.Prelude.{ℕ, ◌-◌, ◌==◌, [], ◌++◌, List, length, nat_lt, Option, Some, None, if◌then◌else◌}
-use Rattle.bt_rowtype.specs.declared.value.Value.{Value}
+use Rattle.bt_value.specs.declared.value.Value.{Value}
 use Rattle.bt_keycode.specs.Keys.{Key}
 use Rattle.bt_messages.specs.Messages.{Messages}
 use Rattle.bt_fanout.specs.Covers.{put_of_entry}

@@ -11,7 +11,7 @@ use Rattle.bt_gang.specs.declared.team.Served.{Served}
 use Rattle.bt_gang.specs.declared.team.Team.{Team}
 use Rattle.bt_gang.specs.Answers.{AllMay, FoundNothing}
 use Rattle.bt_gang.specs.Numbered.{numbered}
-use Rattle.bt_rowtype.specs.Lists.{concatenation}
+use Rattle.bt_value.specs.Lists.{concatenation}
 use Rattle.bt_gang.specs.Queue.{NothingWaits, known, taken_list}
 use Rattle.bt_gang.specs.inside.Places.{answers_in}
 use Rattle.bt_gang.specs.inside.Workers.{AllByNumber, HasServedCaller, HasServedIfStarted, IsReady, IsReadyCaller, own_list, lists_back, lists_left}

@@ -1,8 +1,8 @@
 -- Codes of values of the same kinds: their order, and that none begins another. The order of a table's rows stands on these.
 use Rattle.std.proofs.Common.{◌≡◌, List, [], ◌∷◌, ◌++◌, refl, ap, ◌∙◌}
 use Rattle.std.specs.Ordering.{ordering_then}
-use Rattle.bt_rowtype.specs.Values.{AreInRange, value_cmp, values_cmp}
-use Rattle.bt_rowtype.specs.declared.value.Value.{Value}
+use Rattle.bt_value.specs.Values.{AreInRange, value_cmp, values_cmp}
+use Rattle.bt_value.specs.declared.value.Value.{Value}
 use Rattle.bt_keycode.specs.Codes.{HaveSameKinds, IsNoProperPrefix, code_of, kind_of}
 use Rattle.bt_keycode.specs.Keys.{key_cmp}
 use Rattle.bt_keycode.proofs.Codes.{codes_compare, no_prefix, value_ordered}

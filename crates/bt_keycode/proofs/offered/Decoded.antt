@@ -4,10 +4,10 @@ use Rattle.std.proofs.lemmas.Bool.Decides.{nat_tests}
 use Rattle.std.proofs.lemmas.Nat.{from_be_bytes-to_be_bytes_8}
 use Rattle.std.specs.Int.{from_be_bytes}
 use Rattle.std.specs.Prelude.{option_and_then, option_map}
-use Rattle.bt_rowtype.specs.Values.{AreInRange, IsInRange}
-use Rattle.bt_rowtype.specs.declared.value.Value.{Value}
-use Rattle.bt_rowtype.specs.Kinds.{Content, Number, Bytes, Bit, content_of, form_in, value_with}
-use Rattle.bt_rowtype.proofs.offered.Kinds.{form_held, with_content}
+use Rattle.bt_value.specs.Values.{AreInRange, IsInRange}
+use Rattle.bt_value.specs.declared.value.Value.{Value}
+use Rattle.bt_value.specs.Kinds.{Content, Number, Bytes, Bit, content_of, form_in, value_with}
+use Rattle.bt_value.proofs.offered.Kinds.{form_held, with_content}
 use Rattle.bt_keycode.specs.Codes.{code_of, code_of_content, code_of_value, eight_bytes, kind_of, raised}
 use Rattle.bt_keycode.specs.Decodings.{decoded, first_content, first_value, lowered, unescaped}
 use Rattle.bt_keycode.specs.inside.CodeBeginnings.{HasBits}

@@ -6,7 +6,7 @@ use Rattle.std.specs.Cmp.{nat_cmp_total, nat_cmp_is, ranks, tied_itself}
 use Rattle.std.specs.Ordering.{nat_cmp, ordering_then, ordering_reverse, MatchOrdering}
 use Rattle.std.specs.declared.cmp.Ordering.{Ordering}
 use Rattle.std.specs.declared.cmp.Ordering.TheVariants.{Less, Equal, Greater}
-use Rattle.bt_rowtype.specs.Paddings.{padded}
+use Rattle.bt_value.specs.Paddings.{padded}
 use Rattle.bt_keycode.specs.Keys.{Key, key_cmp}
 use Rattle.bt_keycode.specs.Codes.{eight_bytes}
 use Rattle.bt_keycode.specs.Prefixes.{first_eight, rest_of}

@@ -5,25 +5,26 @@ use Rattle.std.specs.Int.{w64}
 use Rattle.std.specs.List.{filter_map}
 use Rattle.std.specs.Prelude.{FitsSigned, option_map}
 use Rattle.std.specs.Result.{result_err, result_ok}
-use Rattle.bt_rowtype.specs.Arithmetic.{Action, Makes, Sets, action_of, arithmetic_of_word, op_making, new_value}
-use Rattle.bt_rowtype.specs.Ints.{int_of}
-use Rattle.bt_rowtype.specs.Ops.{after_action, after_op, after_ops, all_read, argument_in, argument_of, at_column, both_read, default_row, is_upsert, key_as, making_of, making_of_kind, number_op_of, op_of, open_column, ops_as, ops_of, set_of, unless, upsert_as}
-use Rattle.bt_rowtype.specs.Values.{AreInRange, IsInRange, default_of, or_refused, read_as, value_of, values_of, with_first}
-use Rattle.bt_rowtype.specs.Refusals.{least}
-use Rattle.bt_rowtype.specs.Schemas.{Schema}
-use Rattle.bt_rowtype.specs.declared.upsert.op.Arithmetic.{Arithmetic}
-use Rattle.bt_rowtype.specs.declared.upsert.op.Op.{Op}
-use Rattle.bt_rowtype.specs.declared.upsert.op.Op.TheVariants.{Set}
-use Rattle.bt_rowtype.specs.declared.refusal.Refusal.{Refusal}
-use Rattle.bt_rowtype.specs.declared.refusal.Refusal.TheVariants.{BadField, BadLength}
-use Rattle.bt_rowtype.specs.declared.schema.Column.{Column}
-use Rattle.bt_rowtype.specs.declared.value.Kind.{Kind}
-use Rattle.bt_rowtype.specs.declared.value.Kind.TheVariants as kind
-use Rattle.bt_rowtype.specs.declared.value.Value.{Value}
-use Rattle.bt_rowtype.specs.declared.value.Value.TheVariants as value
-use Rattle.bt_rowtype.proofs.offered.Actions.{action_making, new_number_fits}
-use Rattle.bt_rowtype.proofs.offered.IntRanges.{int_in_range}
-use Rattle.bt_rowtype.proofs.offered.Kinds.{default_in_range, value_in_range}
+use Rattle.bt_row.specs.Arithmetic.{Action, Makes, Sets, action_of, arithmetic_of_word, op_making, new_value}
+use Rattle.bt_value.specs.Ints.{int_of}
+use Rattle.bt_row.specs.Ops.{after_action, after_op, after_ops, argument_in, argument_of, at_column, default_row, is_upsert, key_as, making_of, making_of_kind, number_op_of, op_of, open_column, ops_as, ops_of, set_of, upsert_as}
+use Rattle.bt_value.specs.Results.{all_read, both_read, unless, or_refused}
+use Rattle.bt_value.specs.Values.{AreInRange, IsInRange, default_of, value_of}
+use Rattle.bt_row.specs.Schemas.{read_as, values_of, with_first, Schema}
+use Rattle.bt_value.specs.Refusals.{least}
+use Rattle.bt_row.specs.declared.op.Arithmetic.{Arithmetic}
+use Rattle.bt_row.specs.declared.op.Op.{Op}
+use Rattle.bt_row.specs.declared.op.Op.TheVariants.{Set}
+use Rattle.bt_value.specs.declared.refusal.Refusal.{Refusal}
+use Rattle.bt_value.specs.declared.refusal.Refusal.TheVariants.{BadField, BadLength}
+use Rattle.bt_row.specs.declared.schema.Column.{Column}
+use Rattle.bt_value.specs.declared.value.Kind.{Kind}
+use Rattle.bt_value.specs.declared.value.Kind.TheVariants as kind
+use Rattle.bt_value.specs.declared.value.Value.{Value}
+use Rattle.bt_value.specs.declared.value.Value.TheVariants as value
+use Rattle.bt_row.proofs.offered.Actions.{action_making, new_number_fits}
+use Rattle.bt_value.proofs.offered.IntRanges.{int_in_range}
+use Rattle.bt_value.proofs.offered.Kinds.{default_in_range, value_in_range}
 
 -- ---- lists of values in range
 

@@ -1,12 +1,12 @@
 -- What bytes begin with: the code of a value, and the code of a list of values.
 use Rattle.std.specs.Int.{w64}
 use Rattle.std.specs.Prelude.{ℕ, zero, suc, ◌≡◌, ◌++◌, ◌≤◌, List, [], ◌∷◌, length, map, Option, Some, None, FitsSigned}
-use Rattle.bt_rowtype.specs.Kinds.{Content, Number, Bytes, form_in}
-use Rattle.bt_rowtype.specs.Texts.{most_value_bytes}
-use Rattle.bt_rowtype.specs.Values.{AreInRange, IsInRange}
-use Rattle.bt_rowtype.specs.declared.value.Form.{Form}
-use Rattle.bt_rowtype.specs.declared.value.Kind.{Kind}
-use Rattle.bt_rowtype.specs.declared.value.Value.{Value}
+use Rattle.bt_value.specs.Kinds.{Content, Number, Bytes, form_in}
+use Rattle.bt_value.specs.Texts.{most_value_bytes}
+use Rattle.bt_value.specs.Values.{AreInRange, IsInRange}
+use Rattle.bt_value.specs.declared.value.Form.{Form}
+use Rattle.bt_value.specs.declared.value.Kind.{Kind}
+use Rattle.bt_value.specs.declared.value.Value.{Value}
 use Rattle.bt_keycode.specs.Codes.{code_of, code_of_content, code_of_value, kind_of}
 
 -- bytes begin with the code of a value of this kind, within range, and these come after it

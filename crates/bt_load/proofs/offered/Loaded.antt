@@ -2,11 +2,11 @@
 use Rattle.std.proofs.Common.{◌≡◌, ℕ, true, false, List, [], ◌∷◌, Ok, Err, if◌then◌else◌}
 use Rattle.csv.specs.Reading.{default_config, records, strip_bom}
 use Rattle.bt_rowtype.specs.Loads.{is_header}
-use Rattle.bt_rowtype.specs.Ops.{all_read}
-use Rattle.bt_rowtype.specs.Records.{has_mark}
-use Rattle.bt_rowtype.specs.declared.refusal.Refusal.TheVariants.{BadSchema}
-use Rattle.bt_rowtype.specs.declared.schema.Column.{Column}
-use Rattle.bt_rowtype.specs.declared.value.Value.{Value}
+use Rattle.bt_value.specs.Results.{all_read}
+use Rattle.bt_record.specs.Records.{has_mark}
+use Rattle.bt_value.specs.declared.refusal.Refusal.TheVariants.{BadSchema}
+use Rattle.bt_row.specs.declared.schema.Column.{Column}
+use Rattle.bt_value.specs.declared.value.Value.{Value}
 use Rattle.bt_load.specs.Loads.{text_rows, typed_from, under_header}
 use Rattle.bt_keycode.specs.Standing.{AreOf}
 use Rattle.bt_load.proofs.Rows.{read_rows}

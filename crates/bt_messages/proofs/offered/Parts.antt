@@ -7,7 +7,7 @@ use Rattle.bt_messages.specs.Messages.{Messages, messages_before, messages_from,
 use Rattle.bt_keycode.proofs.offered.Order.{before_later, from_earlier, not_after, not_before_itself}
 use Rattle.bt_messages.proofs.offered.Placed.{sorted-with_messages}
 use Rattle.bt_messages.proofs.Cuts.{behind, filter_sorted}
-use Rattle.bt_rowtype.specs.Lists.{concatenation}
+use Rattle.bt_value.specs.Lists.{concatenation}
 use Rattle.bt_messages.specs.Bins.{AllBefore, LieBetween, added, each_with, parts}
 use Rattle.bt_messages.specs.Parts.{total}
 

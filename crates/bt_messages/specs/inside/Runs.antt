@@ -1,7 +1,7 @@
 -- Sorted messages in runs, one list after the other, so that whole lists of them can be given away.
 use Rattle.std.specs.Prelude.{ℕ, ◌≡◌, ◌<◌, ◌^◌, Bool, false, List, [], ◌∷◌, ◌++◌, length}
 use Rattle.bt_keycode.specs.Keys.{IsSorted, Key, is_before}
-use Rattle.bt_rowtype.specs.Lists.{concatenation}
+use Rattle.bt_value.specs.Lists.{concatenation}
 use Rattle.bt_messages.specs.Messages.{Messages}
 
 -- none of these lists is empty

@@ -1,7 +1,7 @@
 -- The tree that a node stands for, by what the node is made of.
 use Rattle.bt_node.specs.declared.form.node.NodeKind.{NodeKind}
 use Rattle.bt_node.specs.declared.form.node.NodeKind.TheVariants.{Leaf, Inner}
-use Rattle.bt_rowtype.specs.Lists.{concatenation}
+use Rattle.bt_value.specs.Lists.{concatenation}
 use Rattle.bt_messages.specs.Bins.{LieBetween}
 use Rattle.bt_messages.specs.declared.message.Message.{Message}
 use Rattle.bt_node.specs.Trees.{Tree, leaf, inner, nodes, pivots_of}

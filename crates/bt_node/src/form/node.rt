@@ -19,7 +19,7 @@ ghost use Rattle.bt_node.specs.Parts.{AreRising, IsApart};
 ghost use Rattle.bt_node.specs.Trees.{pivots_of, with_pivots};
 ghost use Rattle.bt_node.specs.Trees as trees;
 ghost use Rattle.bt_node.specs.inside.NodeKinds.{HasBins, tree_of};
-ghost use Rattle.bt_rowtype.specs.Lists.{concatenation};
+ghost use Rattle.bt_value.specs.Lists.{concatenation};
 ghost use Rattle.bt_messages.specs.Bins.{LieBetween};
 
 use crate::form::rows::Rows;

@@ -3,7 +3,7 @@ ghost use Rattle.std.specs.Prelude.{◌≡◌, ◌≤◌, false, true, IfErr, If
 ghost use Rattle.bt_node.specs.Shapes.{is_shape};
 
 use bt_messages::Measure;
-use bt_rowtype::Refusal;
+use bt_value::Refusal;
 use std::marker::Model;
 
 /// The smallest fanout: with it the parts into which children are dealt have two of them or more.

@@ -1,10 +1,11 @@
 -- A row that grows by the fields of a record.
 use Rattle.std.specs.Prelude.{ℕ, List, [], ◌∷◌, ◌++◌, Option, Result, option_map}
-use Rattle.bt_rowtype.specs.Values.{or_refused, value_of}
-use Rattle.bt_rowtype.specs.declared.refusal.Refusal.{Refusal}
-use Rattle.bt_rowtype.specs.declared.refusal.Refusal.TheVariants.{BadField}
-use Rattle.bt_rowtype.specs.declared.value.Kind.{Kind}
-use Rattle.bt_rowtype.specs.declared.value.Value.{Value}
+use Rattle.bt_value.specs.Results.{or_refused}
+use Rattle.bt_value.specs.Values.{value_of}
+use Rattle.bt_value.specs.declared.refusal.Refusal.{Refusal}
+use Rattle.bt_value.specs.declared.refusal.Refusal.TheVariants.{BadField}
+use Rattle.bt_value.specs.declared.value.Kind.{Kind}
+use Rattle.bt_value.specs.declared.value.Value.{Value}
 
 -- a row and behind it a value that was read, or the refusal of its field as this item
 abbrev pub with_read_value : ℕ → Option Value → List Value → Result (List Value) Refusal

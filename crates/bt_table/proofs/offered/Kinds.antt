@@ -1,9 +1,10 @@
 -- The kinds of the first values of a row of a schema. The order of a table's rows stands on it, and that of their groups.
 use Rattle.std.proofs.Common.{◌≡◌, ℕ, Bool, true, false, ◌&&◌, List, [], ◌∷◌, refl, map, take, suc, zero}
-use Rattle.bt_rowtype.specs.Schemas.{fit_columns, fits_kind}
-use Rattle.bt_rowtype.specs.declared.schema.Column.{Column}
-use Rattle.bt_rowtype.specs.declared.value.Value.{Value}
-use Rattle.bt_rowtype.proofs.offered.Kinds.{fits_kind_of}
+use Rattle.bt_row.specs.Schemas.{fit_columns}
+use Rattle.bt_value.specs.Values.{fits_kind}
+use Rattle.bt_row.specs.declared.schema.Column.{Column}
+use Rattle.bt_value.specs.declared.value.Value.{Value}
+use Rattle.bt_value.proofs.offered.Kinds.{fits_kind_of}
 use Rattle.bt_keycode.specs.Codes.{kind_of}
 
 pub key_kinds : (n : ℕ) (columns : List Column) (row : List Value) → fit_columns columns row ≡ true → map kind_of (take n row) ≡ map (λ c. c.kind) (take n columns)

@@ -3,13 +3,12 @@ use Rattle.std.proofs.Common.{ℕ, ◌≡◌, ◌≤◌, true, false, refl, leng
 use Rattle.std.specs.FinMap.{find}
 use Rattle.std.specs.List.{All, list_all}
 use Rattle.std.proofs.lemmas.Bool.Decides.{nat_tests}
-use Rattle.bt_rowtype.specs.Refusals.{least}
-use Rattle.bt_rowtype.specs.Schemas.{Schema}
-use Rattle.bt_rowtype.specs.declared.refusal.Refusal.{Refusal}
-use Rattle.bt_rowtype.specs.declared.refusal.Refusal.TheVariants.{AlreadyComplete, NoSuchTree}
-use Rattle.bt_rowtype.specs.declared.value.Value.{Value}
-use Rattle.bt_rowtype.specs.Values.{or_refused}
-use Rattle.bt_rowtype.specs.Ops.{unless}
+use Rattle.bt_value.specs.Refusals.{least}
+use Rattle.bt_row.specs.Schemas.{Schema}
+use Rattle.bt_value.specs.declared.refusal.Refusal.{Refusal}
+use Rattle.bt_value.specs.declared.refusal.Refusal.TheVariants.{AlreadyComplete, NoSuchTree}
+use Rattle.bt_value.specs.declared.value.Value.{Value}
+use Rattle.bt_value.specs.Results.{or_refused, unless, and_then, map_ok}
 use Rattle.bt_keycode.specs.Codes.{code_of}
 use Rattle.bt_keycode.specs.Keys.{key_cmp}
 use Rattle.bt_node.specs.Fits.{IsRoomy}
@@ -21,7 +20,7 @@ use Rattle.bt_load.specs.Maps.{map_of}
 use Rattle.bt_load.proofs.offered.Loaded.{text_rows-of}
 use Rattle.bt_keycode.specs.Standing.{AreOf}
 use Rattle.bt_table.proofs.Loads.{map_of-sorted, map_of-stand}
-use Rattle.bt_batch.specs.Batches.{and_then, batch_refusals, map_ok, messages_of, read_key}
+use Rattle.bt_batch.specs.Batches.{batch_refusals, messages_of, read_key}
 use Rattle.bt_table.specs.Calls.{after_build, after_load, built, Call, Apply, BuildStep, CreateIndex, Drain, DropIndex, Get, Load, Rebuild, Upkeep, Draining, Rebuilding, dropped, is_bare, is_primary, load_refusals, name_refusals, sent_counts, step, unless_any, with_index, with_renewed, with_renewed_index, with_renewed_rows}
 use Rattle.bt_table.specs.Indexes.{Index, index_named, is_complete}
 use Rattle.bt_table.specs.Standing.{AreSoundIndexes, CompleteIndexesHold, HoldsSelection, IsSound, IsSoundTable, IsSoundUnlessLost, Suits}

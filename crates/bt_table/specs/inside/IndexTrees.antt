@@ -1,6 +1,6 @@
 -- What the code knows of the indexes of a table apart from their trees, and the trees of their entries as a batch and a load make them: by the packets that effects on rows mean, and packed of the entries of all rows.
 use Rattle.std.specs.Prelude.{ℕ, Bool, List, [], ◌∷◌, length}
-use Rattle.bt_rowtype.specs.declared.value.Value.{Value}
+use Rattle.bt_value.specs.declared.value.Value.{Value}
 use Rattle.bt_messages.specs.Effects.{Rows}
 use Rattle.bt_messages.specs.Messages.{Messages, sorted_batch}
 use Rattle.bt_node.specs.Drains.{packed}

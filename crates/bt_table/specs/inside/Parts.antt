@@ -1,6 +1,6 @@
 -- What is true of the parts of a table between any two calls.
 use Rattle.std.specs.Prelude.{◌≡◌, ◌≤◌, List, Option, Some, None, length}
-use Rattle.bt_rowtype.specs.Schemas.{Schema}
+use Rattle.bt_row.specs.Schemas.{Schema}
 use Rattle.bt_table.specs.Standing.{IsSoundUnlessLost}
 use Rattle.bt_table.specs.Tables.{state_of}
 use Rattle.bt_table.specs.declared.index.IndexHead.{IndexHead}

@@ -2,7 +2,7 @@
 #![tactic(auto, using(crate::proofs::offered::Steps::unless_lost_hold))]
 
 ghost use Rattle.std.specs.Prelude.{◌≡◌, IfErr, IfOk, IsErrOf, None, OnErr, OnOk, Some, length};
-ghost use Rattle.bt_rowtype.specs.Refusals.{least};
+ghost use Rattle.bt_value.specs.Refusals.{least};
 ghost use Rattle.bt_table.specs.Calls as spec;
 ghost use Rattle.bt_table.specs.Indexes.{indexes_of};
 ghost use Rattle.bt_table.specs.Calls.{IsRefused, IsStep, Load};
@@ -15,7 +15,8 @@ use crate::table::Table;
 use crate::trees::{Trees, put_trees};
 use bt_load::{InThreads, Loading, load_rows_by, read_records_by};
 use bt_node::{Tree, pack};
-use bt_rowtype::{Refusal, Row};
+use bt_row::Row;
+use bt_value::Refusal;
 use std::alloc::Global;
 use std::thread::Threads;
 

@@ -14,7 +14,7 @@ use crate::trees::{Trees, put_trees, take_trees};
 use crate::workforce::Workforce;
 use bt_messages::Entry;
 use bt_node::Tree;
-use bt_rowtype::{Refusal, Text};
+use bt_value::{Refusal, Text};
 use std::alloc::Global;
 
 // Which tree has a name: that of the rows, or that of an index, with its place.

@@ -1,10 +1,10 @@
 -- What is made of rows without their keys is made of the rows alone.
 use Rattle.std.proofs.Common.{◌≡◌, ℕ, List, Option, Result, Ok, Err, ap, fold, map, refl, sym}
 use Rattle.std.proofs.lemmas.List.Folds.{fold-map}
-use Rattle.bt_rowtype.specs.declared.refusal.Refusal.{Refusal}
-use Rattle.bt_rowtype.specs.declared.value.Value.{Value}
+use Rattle.bt_value.specs.declared.refusal.Refusal.{Refusal}
+use Rattle.bt_value.specs.declared.value.Value.{Value}
 use Rattle.bt_node.specs.Messages.{Rows}
-use Rattle.bt_batch.specs.Batches.{map_ok}
+use Rattle.bt_value.specs.Results.{map_ok}
 use Rattle.bt_table.specs.Tables.{TableState}
 use Rattle.bt_view.specs.Ranges.{scan, scan_with_keys}
 

@@ -3,10 +3,11 @@ use Rattle.std.specs.Cmp.Lexicographic.{pointwise}
 use Rattle.std.specs.List.{filter_map}
 use Rattle.std.specs.Prelude.{◌^◌, ◌&&◌, ◌++◌, Bool, true, List, map, nat_lt, take, Option, Some, None, option_and_then, option_map, if◌then◌else◌, pos, negsuc}
 use Rattle.std.specs.Str.{bytes_eq}
-use Rattle.bt_rowtype.specs.Kinds.{Content, Number, content_of}
-use Rattle.bt_rowtype.specs.Schemas.{Schema, fits_kind}
-use Rattle.bt_rowtype.specs.declared.value.Kind.{Kind}
-use Rattle.bt_rowtype.specs.declared.value.Value.{Value}
+use Rattle.bt_value.specs.Kinds.{Content, Number, content_of}
+use Rattle.bt_row.specs.Schemas.{Schema}
+use Rattle.bt_value.specs.Values.{fits_kind}
+use Rattle.bt_value.specs.declared.value.Kind.{Kind}
+use Rattle.bt_value.specs.declared.value.Value.{Value}
 use Rattle.bt_keycode.specs.Codes.{code_of}
 use Rattle.bt_keycode.specs.Decodings.{decoded}
 use Rattle.bt_keycode.specs.Keys.{Key}

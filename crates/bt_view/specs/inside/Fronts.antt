@@ -1,7 +1,7 @@
 -- What the front of a key tells: that its entry is of the last group.
 use Rattle.std.specs.Prelude.{ℕ, ◌≡◌, ◌≤◌, ◌++◌, List, [], ◌∷◌, length, take, Option, Some, None}
-use Rattle.bt_rowtype.specs.declared.value.Kind.{Kind}
-use Rattle.bt_rowtype.specs.declared.value.Value.{Value}
+use Rattle.bt_value.specs.declared.value.Kind.{Kind}
+use Rattle.bt_value.specs.declared.value.Value.{Value}
 use Rattle.bt_keycode.specs.Codes.{IsCodeOf}
 use Rattle.bt_keycode.specs.Keys.{Key}
 use Rattle.bt_view.specs.inside.Neighbours.{Groups}

@@ -3,9 +3,9 @@ use Rattle.std.proofs.Common.{◌≡◌, ◌∙◌, ℕ, Bool, true, false, if�
 use Rattle.std.proofs.Math.IntN.{+ℤ_assoc}
 use Rattle.std.proofs.lemmas.Bool.Decides.{nat_tests}
 use Rattle.std.specs.Prelude.{ℤ, ◌+◌, ◌+ℤ◌, nat_le}
-use Rattle.bt_rowtype.specs.Values.{same_values}
-use Rattle.bt_rowtype.specs.declared.value.Value.{Value}
-use Rattle.bt_rowtype.proofs.offered.SameValues.{same_values-sound}
+use Rattle.bt_value.specs.Values.{same_values}
+use Rattle.bt_value.specs.declared.value.Value.{Value}
+use Rattle.bt_value.proofs.offered.SameValues.{same_values-sound}
 use Rattle.bt_keycode.specs.Keys.{Key}
 use Rattle.bt_node.specs.Folds.{joined_as_one}
 use Rattle.bt_view.specs.Groups.{group_of, most_rows, with_more}

@@ -1,8 +1,8 @@
 -- Groups of rows that come one after the other.
 use Rattle.std.specs.Prelude.{ℕ, ◌≡◌, ◌*◌, false, List, [], ◌∷◌, map, take, Option, Some, None, option_map, if◌then◌else◌, ℤ, pos, neg_ℤ, ◌≤ℤ◌}
-use Rattle.bt_rowtype.specs.Values.{AreInRange, same_values}
-use Rattle.bt_rowtype.specs.declared.value.Kind.{Kind}
-use Rattle.bt_rowtype.specs.declared.value.Value.{Value}
+use Rattle.bt_value.specs.Values.{AreInRange, same_values}
+use Rattle.bt_value.specs.declared.value.Kind.{Kind}
+use Rattle.bt_value.specs.declared.value.Value.{Value}
 use Rattle.bt_keycode.specs.Codes.{code_of, kind_of}
 use Rattle.bt_keycode.specs.Keys.{Key, is_before}
 use Rattle.bt_view.specs.Groups.{group_of, with_more}

@@ -1,9 +1,9 @@
 -- What comes before rows are shown.
 use Rattle.std.specs.Prelude.{◌≡◌, ◌≢◌, List, fold, Result, Ok, Err}
-use Rattle.bt_rowtype.specs.Values.{or_refused}
-use Rattle.bt_rowtype.specs.declared.refusal.Refusal.{Refusal}
-use Rattle.bt_rowtype.specs.declared.refusal.Refusal.TheVariants.{OutOfMemory, TooMany}
-use Rattle.bt_rowtype.specs.declared.value.Value.{Value}
+use Rattle.bt_value.specs.Results.{or_refused}
+use Rattle.bt_value.specs.declared.refusal.Refusal.{Refusal}
+use Rattle.bt_value.specs.declared.refusal.Refusal.TheVariants.{OutOfMemory, TooMany}
+use Rattle.bt_value.specs.declared.value.Value.{Value}
 use Rattle.bt_node.specs.Flushes.{holds}
 use Rattle.bt_node.specs.Messages.{Rows, between}
 use Rattle.bt_fanout.specs.Effects.{entry_effect, row_effect}

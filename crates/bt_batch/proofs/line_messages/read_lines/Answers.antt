@@ -3,9 +3,9 @@ use Rattle.std.specs.List.{filter_map}
 use Rattle.std.specs.Result.{result_err, result_ok}
 use Rattle.bt_batch.specs.Batches.{KeyedMessage, read_batch, read_message}
 use Rattle.bt_batch.proofs.Batches.{read_next}
-use Rattle.bt_rowtype.proofs.offered.Readings.{is_answer, with_refusal, with_value}
-use Rattle.bt_rowtype.specs.Refusals.{least_from}
-use Rattle.bt_rowtype.specs.declared.refusal.Refusal.{Refusal}
+use Rattle.bt_value.proofs.offered.Readings.{is_answer, with_refusal, with_value}
+use Rattle.bt_value.specs.Refusals.{least_from}
+use Rattle.bt_value.specs.declared.refusal.Refusal.{Refusal}
 use Rattle.bt_batch.proofs.line_messages.read_lines.Goals as goal
 
 pub loop-place-preserved : goal.loop-place-preserved

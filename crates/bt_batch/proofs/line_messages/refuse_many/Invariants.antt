@@ -1,7 +1,7 @@
 use Rattle.std.proofs.Common.{◌≡◌, ◌+◌, drop}
 use Rattle.std.specs.List.{filter_map}
 use Rattle.std.specs.Result.{result_err}
-use Rattle.bt_rowtype.specs.Refusals.{least, least_from}
+use Rattle.bt_value.specs.Refusals.{least, least_from}
 use Rattle.bt_batch.specs.Batches.{read_batch}
 use Rattle.bt_batch.proofs.line_messages.refuse_many.Given as goal
 

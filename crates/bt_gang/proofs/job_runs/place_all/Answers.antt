@@ -1,7 +1,7 @@
 use Rattle.std.proofs.Common.{◌≡◌, ◌∙◌, ◌++◌, [], map, ap, sym, append-nil, rules, arith}
 use Rattle.std.proofs.lemmas.List.{nil_from_length}
 use Rattle.bt_gang.specs.inside.Places.{answers_in, numbers_in, puts}
-use Rattle.bt_rowtype.specs.Lists.{concatenation}
+use Rattle.bt_value.specs.Lists.{concatenation}
 use Rattle.bt_gang.proofs.Filling.{placed_more, below_one, below_more, listed_more}
 use Rattle.bt_gang.proofs.job_runs.place_all.Goals as goal
 

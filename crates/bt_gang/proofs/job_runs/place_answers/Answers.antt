@@ -1,6 +1,6 @@
 use Rattle.std.proofs.Common.{◌≡◌, ◌+◌, ◌<◌, ◌≤◌, ℕ, length, map, ap, arith}
 use Rattle.bt_gang.specs.Numbered.{present}
-use Rattle.bt_rowtype.specs.Lists.{concatenation}
+use Rattle.bt_value.specs.Lists.{concatenation}
 use Rattle.bt_gang.specs.inside.Places.{answers_in}
 use Rattle.bt_gang.proofs.Finishing.{below_own, below_rest, filled_all, lists_placed}
 use Rattle.bt_gang.proofs.job_runs.place_answers.Goals as goal

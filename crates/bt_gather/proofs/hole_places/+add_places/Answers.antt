@@ -1,5 +1,5 @@
 use Rattle.std.proofs.Common.{◌<◌, ◌∙◌, ◌++◌, ap, arith, length, subst}
-use Rattle.bt_rowtype.specs.Lists.{concatenation}
+use Rattle.bt_value.specs.Lists.{concatenation}
 use Rattle.bt_plan.specs.Views.{HasPivotsAndBins, holed_of}
 use Rattle.bt_gather.specs.inside.Views.{node_places}
 use Rattle.bt_gather.proofs.HolePlaces.{child_shallower, holes_of_children}

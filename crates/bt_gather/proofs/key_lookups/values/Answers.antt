@@ -1,7 +1,7 @@
 use Rattle.std.proofs.Common.{◌≡◌, ◌<◌, ◌∙◌, ◌++◌, ◌∷◌, [], List, ap, arith, length, map, refl}
 use Rattle.std.specs.FinMap.{find}
 use Rattle.std.specs.List.{flat_map}
-use Rattle.bt_rowtype.specs.Lists.{concatenation}
+use Rattle.bt_value.specs.Lists.{concatenation}
 use Rattle.bt_keycode.specs.Keys.{Key, key_cmp}
 use Rattle.bt_messages.specs.Effects.{effect_of}
 use Rattle.bt_node.specs.Flushes.{holds}

@@ -1,5 +1,5 @@
 use Rattle.std.proofs.Common.{◌≡◌, length}
-use Rattle.bt_rowtype.specs.Values.{values_cmp}
+use Rattle.bt_value.specs.Values.{values_cmp}
 use Rattle.bt_keycode.specs.Codes.{HaveSameKinds, code_of}
 use Rattle.bt_keycode.specs.Keys.{key_cmp}
 use Rattle.bt_keycode.proofs.code.cmp_rows.Given as goal

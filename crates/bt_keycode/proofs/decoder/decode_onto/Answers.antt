@@ -1,7 +1,7 @@
 use Rattle.std.proofs.Common.{◌≡◌, arith, ◌∙◌, ◌++◌, ◌∷◌, [], ap, append_assoc, length, refl, sym}
 use Rattle.std.proofs.lemmas.Bool.{eqb-false}
-use Rattle.bt_rowtype.specs.Views.{value_of_ref}
-use Rattle.bt_rowtype.specs.declared.value.Kind.TheVariants as kind
+use Rattle.bt_value.specs.Views.{value_of_ref}
+use Rattle.bt_value.specs.declared.value.Kind.TheVariants as kind
 use Rattle.bt_keycode.proofs.Decoding.{goes_on, goes_past, no_values, none_begins, of_all}
 use Rattle.bt_keycode.proofs.decoder.decode_onto.Goals as goal
 

@@ -1,5 +1,5 @@
 use Rattle.std.proofs.Common.{◌∙◌, subst, sym}
-use Rattle.bt_rowtype.specs.Views.{content_of_ref}
+use Rattle.bt_value.specs.Views.{content_of_ref}
 use Rattle.bt_keycode.specs.inside.CodeBeginnings.{BeginsWithContent, BeginsWithNoContent}
 use Rattle.bt_keycode.proofs.Decoding.{no_value, not_taken, value_found}
 use Rattle.bt_keycode.proofs.decoder.first_value.Goals as goal

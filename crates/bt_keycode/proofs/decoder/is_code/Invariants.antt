@@ -1,5 +1,5 @@
 use Rattle.std.proofs.Common.{List, take}
-use Rattle.bt_rowtype.specs.declared.value.Value.{Value}
+use Rattle.bt_value.specs.declared.value.Value.{Value}
 use Rattle.bt_keycode.specs.inside.CodeBeginnings.{BeginsWithAll}
 use Rattle.bt_keycode.proofs.decoder.is_code.Given as goal
 

@@ -1,5 +1,5 @@
 use Rattle.std.proofs.Common.{◌≡◌, ◌≤◌, length, take}
-use Rattle.bt_rowtype.specs.Texts.{most_value_bytes}
+use Rattle.bt_value.specs.Texts.{most_value_bytes}
 use Rattle.bt_keycode.specs.Decodings.{after_bytes, unescaped}
 use Rattle.bt_keycode.proofs.decoder.unescape.Given as goal
 

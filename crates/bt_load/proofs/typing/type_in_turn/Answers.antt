@@ -1,11 +1,11 @@
 use Rattle.std.proofs.Common.{◌≡◌, ℕ, ◌∙◌, ◌∷◌, ◌++◌, ◌+◌, List, Result, ap, sym, drop}
 use Rattle.std.specs.List.{filter_map}
 use Rattle.std.specs.Result.{result_err, result_ok}
-use Rattle.bt_rowtype.specs.Refusals.{least_from}
-use Rattle.bt_rowtype.specs.declared.refusal.Refusal.{Refusal}
-use Rattle.bt_rowtype.specs.declared.value.Value.{Value}
-use Rattle.bt_rowtype.proofs.offered.Readings.{is_answer, with_refusal, with_value}
-use Rattle.bt_rowtype.specs.Values.{read_as}
+use Rattle.bt_value.specs.Refusals.{least_from}
+use Rattle.bt_value.specs.declared.refusal.Refusal.{Refusal}
+use Rattle.bt_value.specs.declared.value.Value.{Value}
+use Rattle.bt_value.proofs.offered.Readings.{is_answer, with_refusal, with_value}
+use Rattle.bt_row.specs.Schemas.{read_as}
 use Rattle.bt_load.specs.Loads.{typed_from}
 use Rattle.bt_load.proofs.Typed.{typed_next}
 use Rattle.bt_load.proofs.typing.type_in_turn.Goals as goal

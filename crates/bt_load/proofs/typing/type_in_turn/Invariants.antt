@@ -1,7 +1,7 @@
 use Rattle.std.proofs.Common.{◌≡◌, ◌+◌, ◌++◌, drop}
 use Rattle.std.specs.List.{filter_map}
 use Rattle.std.specs.Result.{result_err, result_ok}
-use Rattle.bt_rowtype.specs.Refusals.{least, least_from}
+use Rattle.bt_value.specs.Refusals.{least, least_from}
 use Rattle.bt_load.specs.Loads.{typed_from}
 use Rattle.bt_load.proofs.typing.type_in_turn.Given as goal
 

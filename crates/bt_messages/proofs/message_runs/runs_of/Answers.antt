@@ -1,6 +1,6 @@
 use Rattle.std.proofs.Common.{◌≡◌, ◌∷◌, ◌++◌, [], ◌∙◌, ap, append-nil, append_assoc, arith, rules, subst, sym}
 use Rattle.std.proofs.lemmas.List.{nil_from_length}
-use Rattle.bt_rowtype.specs.Lists.{concatenation}
+use Rattle.bt_value.specs.Lists.{concatenation}
 use Rattle.bt_messages.specs.inside.Runs.{AreSome}
 use Rattle.bt_messages.proofs.RunLists.{run_sorted}
 use Rattle.bt_messages.proofs.message_runs.runs_of.Goals as goal

@@ -1,5 +1,5 @@
 use Rattle.std.proofs.Common.{◌++◌, ◌∙◌, ap, arith}
-use Rattle.bt_rowtype.specs.Lists.{concatenation}
+use Rattle.bt_value.specs.Lists.{concatenation}
 use Rattle.bt_messages.proofs.RunLists.{whole_runs}
 use Rattle.bt_messages.proofs.packet.sorted_by_messages.Goals as goal
 

@@ -1,5 +1,5 @@
 use Rattle.std.proofs.Common.{◌≡◌, ◌+◌, ◌<◌, ap, arith, length, suc, take}
-use Rattle.bt_rowtype.specs.Lists.{concatenation}
+use Rattle.bt_value.specs.Lists.{concatenation}
 use Rattle.bt_messages.proofs.RunLists.{one_more_run, run_within}
 use Rattle.bt_messages.proofs.stream.count_of.Goals as goal
 

@@ -1,5 +1,5 @@
 use Rattle.std.proofs.Common.{◌++◌, arith}
-use Rattle.bt_rowtype.specs.Lists.{concatenation}
+use Rattle.bt_value.specs.Lists.{concatenation}
 use Rattle.bt_messages.proofs.PacketMerges.{fewer_left, moved_count, moved_runs, some_left}
 use Rattle.bt_messages.proofs.RunLists.{run_sorted}
 use Rattle.bt_messages.proofs.offered.Placed.{sorted-with_messages}

@@ -4,7 +4,7 @@ use Rattle.std.proofs.lemmas.Bool.{ne_eqb}
 use Rattle.std.proofs.lemmas.List.{nil_from_length}
 use Rattle.std.specs.List.{zip}
 use Rattle.bt_keycode.specs.Keys.{Key}
-use Rattle.bt_rowtype.specs.Lists.{concatenation}
+use Rattle.bt_value.specs.Lists.{concatenation}
 use Rattle.bt_messages.specs.Bins.{LieBetween}
 use Rattle.bt_node.specs.Children.{AreDivided, behind_pivot, with_pending}
 use Rattle.bt_node.specs.Fits.{IsLed}

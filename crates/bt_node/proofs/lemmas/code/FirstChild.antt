@@ -3,7 +3,7 @@ use Rattle.std.proofs.Common.{◌≡◌, ◌∙◌, ◌<◌, ◌≤◌, ◌+◌,
 use Rattle.std.proofs.lemmas.List.{append-nil, length-map}
 use Rattle.std.specs.Option.{option_or}
 use Rattle.bt_keycode.specs.Keys.{AllWithin, IsSorted, Key, is_before_lower, is_before_upper, is_between}
-use Rattle.bt_rowtype.specs.Lists.{concatenation}
+use Rattle.bt_value.specs.Lists.{concatenation}
 use Rattle.bt_messages.specs.Bins.{LieBetween}
 use Rattle.bt_messages.specs.Messages.{messages_outside as outside}
 use Rattle.bt_messages.specs.declared.message.Message.{Message}

@@ -7,7 +7,7 @@ use Rattle.std.specs.Prelude.{slice_get}
 use Rattle.std.specs.declared.option.Option.{Option}
 use Rattle.std.specs.declared.option.Option.TheVariants.{None, Some}
 use Rattle.bt_keycode.specs.Keys.{Key, is_between, key_cmp}
-use Rattle.bt_rowtype.specs.Lists.{concatenation}
+use Rattle.bt_value.specs.Lists.{concatenation}
 use Rattle.bt_messages.specs.Bins.{LieBetween}
 use Rattle.bt_messages.specs.declared.message.Message.{Message}
 use Rattle.bt_node.specs.Fits.{Lies}

@@ -4,7 +4,7 @@ use Rattle.std.proofs.lemmas.List.{length-map}
 use Rattle.std.specs.declared.option.Option.{Option}
 use Rattle.std.specs.declared.option.Option.TheVariants.{None, Some}
 use Rattle.bt_keycode.specs.Keys.{AllFrom, AllWithin, IsSorted, Key}
-use Rattle.bt_rowtype.specs.Lists.{concatenation}
+use Rattle.bt_value.specs.Lists.{concatenation}
 use Rattle.bt_messages.specs.Bins.{AllBefore, LieBetween, each_with, parts}
 use Rattle.bt_messages.specs.Parts.{parted}
 use Rattle.bt_messages.proofs.offered.Parts.{added_is, lie_length, parts-concatenation}

@@ -2,7 +2,7 @@
 use Rattle.std.proofs.Common.{◌≡◌, ◌<◌, ◌≤◌, ℕ, suc, true, false, cond, List, [], ◌∷◌, ◌++◌, append-nil, get_or, length, refl, sym, ap, ◌∙◌, arith, Option}
 use Rattle.bt_keycode.specs.Keys.{Key, is_before, is_between}
 use Rattle.bt_keycode.proofs.offered.Order.{apart_back}
-use Rattle.bt_rowtype.specs.Lists.{concatenation}
+use Rattle.bt_value.specs.Lists.{concatenation}
 use Rattle.bt_messages.specs.Bins.{AllBefore, LieBetween}
 use Rattle.bt_messages.proofs.offered.Parts.{lie_length}
 use Rattle.bt_messages.proofs.offered.Rows.{value_before}

@@ -2,7 +2,7 @@ use Rattle.std.proofs.Common.{◌<◌, ◌≤◌, ◌∙◌, ◌++◌, ◌∷◌
 use Rattle.std.proofs.Math.Seq.{take-length}
 use Rattle.std.proofs.lemmas.List.{length-append, length-map}
 use Rattle.std.proofs.lemmas.Result.{IfOk-weaker, on_ok_weaker}
-use Rattle.bt_rowtype.specs.Lists.{concatenation}
+use Rattle.bt_value.specs.Lists.{concatenation}
 use Rattle.bt_messages.specs.Bins.{LieBetween}
 use Rattle.bt_messages.specs.Messages.{with_messages}
 use Rattle.bt_messages.specs.Weights.{weigh_of}
@@ -14,8 +14,7 @@ use Rattle.bt_plan.specs.Cuts.{hole_of}
 use Rattle.bt_plan.specs.Pieces.{Place, holed_nodes, holes, opened, with_holes}
 use Rattle.bt_plan.specs.Views.{job_of, node_place}
 use Rattle.bt_plan.specs.inside.Cutting.{AreSizedNodes}
-use Rattle.bt_plan.proofs.Opening.{bins_long, cuts_long, is_open, kept_divided, marks_long, node-jobs, node-with_holes, nodes_few, nodes_sized, rest_left, shares_long}
-use Rattle.bt_plan.proofs.Opening.{inner-cut, leaf-cut, only-come}
+use Rattle.bt_plan.proofs.Opening.{bins_long, cuts_long, is_open, kept_divided, marks_long, node-jobs, node-with_holes, nodes_few, nodes_sized, rest_left, shares_long, inner-cut, leaf-cut, only-come}
 use Rattle.bt_plan.proofs.Steps.{left_after, next_bin, next_child, no_share, one_made, one_made_of, some_made_of}
 use Rattle.bt_plan.proofs.cutting.+cuts.Goals as goal
 

@@ -2,11 +2,11 @@ use Rattle.std.proofs.Common.{◌≡◌, ◌∙◌, ◌∷◌, ◌++◌, ◌+◌
 use Rattle.std.proofs.lemmas.List.{append-nil}
 use Rattle.std.specs.List.{filter_map}
 use Rattle.std.specs.Result.{result_err, result_ok}
-use Rattle.bt_rowtype.specs.Ops.{ops_of}
-use Rattle.bt_rowtype.specs.Refusals.{least_from}
-use Rattle.bt_rowtype.specs.declared.upsert.op.Op.{Op}
-use Rattle.bt_rowtype.specs.declared.refusal.Refusal.{Refusal}
-use Rattle.bt_rowtype.proofs.offered.Readings.{is_answer, with_refusal, with_value}
+use Rattle.bt_row.specs.Ops.{ops_of}
+use Rattle.bt_value.specs.Refusals.{least_from}
+use Rattle.bt_row.specs.declared.op.Op.{Op}
+use Rattle.bt_value.specs.declared.refusal.Refusal.{Refusal}
+use Rattle.bt_value.proofs.offered.Readings.{is_answer, with_refusal, with_value}
 use Rattle.bt_rowtype.proofs.Groups.{op_of_fields, ops_end, ops_more}
 use Rattle.bt_rowtype.proofs.upsert.read_groups.Goals as goal
 

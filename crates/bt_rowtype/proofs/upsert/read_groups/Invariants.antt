@@ -1,8 +1,8 @@
 use Rattle.std.proofs.Common.{◌≡◌, ◌+◌, ◌*◌, ◌++◌, drop}
 use Rattle.std.specs.List.{filter_map}
 use Rattle.std.specs.Result.{result_err, result_ok}
-use Rattle.bt_rowtype.specs.Ops.{ops_of}
-use Rattle.bt_rowtype.specs.Refusals.{least, least_from}
+use Rattle.bt_row.specs.Ops.{ops_of}
+use Rattle.bt_value.specs.Refusals.{least, least_from}
 use Rattle.bt_rowtype.proofs.upsert.read_groups.Given as goal
 
 -- the operations so far, and the least refusal so far, stand for the groups before this one

@@ -1,5 +1,5 @@
 use Rattle.std.proofs.Common.{◌≡◌, ◌<◌, ◌^◌, drop}
-use Rattle.bt_rowtype.specs.Ints.{digits_after, number_written}
+use Rattle.bt_value.specs.Ints.{digits_after, number_written}
 use Rattle.bt_script.proofs.lines.digits_value.Given as goal
 
 abbrev pub invariant-loop-digit : goal.invariant-loop-digit

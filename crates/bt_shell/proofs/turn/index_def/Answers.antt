@@ -1,6 +1,6 @@
 use Rattle.std.proofs.Common.{rules, ◌≡◌, ◌≢◌, Err, Some}
-use Rattle.bt_rowtype.specs.Refusals.{least}
-use Rattle.bt_rowtype.specs.declared.refusal.Refusal.TheVariants.{OutOfMemory}
+use Rattle.bt_value.specs.Refusals.{least}
+use Rattle.bt_value.specs.declared.refusal.Refusal.TheVariants.{OutOfMemory}
 use Rattle.bt_fanout.specs.Definitions.{definition_as}
 use Rattle.bt_table.specs.Calls.{index_refusals}
 use Rattle.bt_table.specs.Standing.{HasSchema}

@@ -1,6 +1,6 @@
 use Rattle.std.proofs.Common.{◌≡◌, ◌∙◌, Err, Some, ap, refl}
-use Rattle.bt_rowtype.specs.Schemas.{is_schema}
-use Rattle.bt_rowtype.specs.declared.refusal.Refusal.TheVariants.{TableExists}
+use Rattle.bt_row.specs.Schemas.{is_schema}
+use Rattle.bt_value.specs.declared.refusal.Refusal.TheVariants.{TableExists}
 use Rattle.bt_script.specs.declared.command.TableForm.{TableForm}
 use Rattle.bt_script.specs.declared.command.Command.TheVariants.{Table}
 use Rattle.bt_table.specs.Tables.{TableState}

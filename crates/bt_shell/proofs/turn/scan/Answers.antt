@@ -1,7 +1,7 @@
 use Rattle.std.proofs.Common.{rules, ◌≡◌, ◌≢◌, ◌∙◌, Err, Ok, Some, ap, codes, fold, sym}
-use Rattle.bt_rowtype.specs.declared.refusal.Refusal.TheVariants.{OutOfMemory}
+use Rattle.bt_value.specs.declared.refusal.Refusal.TheVariants.{OutOfMemory}
 use Rattle.bt_script.specs.declared.command.Command.TheVariants.{Scan}
-use Rattle.bt_batch.specs.Batches.{map_ok}
+use Rattle.bt_value.specs.Results.{map_ok}
 use Rattle.bt_view.specs.Ranges.{scan, scan_with_keys}
 use Rattle.bt_view.proofs.offered.Scans.{without_keys}
 use Rattle.bt_shell.specs.inside.Lines.{with_line}

@@ -1,5 +1,5 @@
 use Rattle.std.proofs.Common.{◌≡◌, ◌∙◌, ◌<◌, ◌+◌, IfSome, None, Some, ap, arith, length, map, rules, subst, sym, take}
-use Rattle.bt_rowtype.specs.Ops.{named_from}
+use Rattle.bt_row.specs.Ops.{named_from}
 use Rattle.bt_view.specs.Ranges.{column_in}
 use Rattle.bt_view.proofs.IndexColumns.{found_included, found_key, found_on, found_within, keys_long, later}
 use Rattle.bt_view.proofs.columns.find_index_column.Goals as goal

@@ -1,5 +1,5 @@
 use Rattle.std.proofs.Common.{◌≡◌, drop, map}
-use Rattle.bt_rowtype.specs.Ops.{named_from}
+use Rattle.bt_row.specs.Ops.{named_from}
 use Rattle.bt_view.specs.Ranges.{column_in}
 use Rattle.bt_view.proofs.columns.find_placed.Given as goal
 

@@ -1,7 +1,7 @@
 use Rattle.std.proofs.Common.{rules, ◌≡◌, ◌∙◌, ◌++◌, List, Some, ap, length, sym, take}
 use Rattle.std.proofs.Math.Seq.{take-length}
 use Rattle.std.specs.Prelude.{option_map}
-use Rattle.bt_rowtype.specs.declared.value.Value.{Value}
+use Rattle.bt_value.specs.declared.value.Value.{Value}
 use Rattle.bt_keycode.specs.Codes.{IsCodeOf, IsNoCode}
 use Rattle.bt_view.proofs.CodedKeys.{no_values, values_of_code}
 use Rattle.bt_view.proofs.entry_rows.row_of_entry.Goals as goal

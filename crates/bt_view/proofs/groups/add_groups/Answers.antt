@@ -1,6 +1,6 @@
 use Rattle.std.proofs.Common.{rules, ◌≡◌, ◌∙◌, ◌<◌, ◌==◌, ◌++◌, ◌∷◌, [], Bool, List, None, Some, ap, arith, false, length, set, subst, sym, true, ℕ}
 use Rattle.std.proofs.lemmas.Bool.Decides.{nat_tests}
-use Rattle.bt_rowtype.specs.Values.{same_values}
+use Rattle.bt_value.specs.Values.{same_values}
 use Rattle.bt_view.specs.Groups.{with_more}
 use Rattle.bt_view.specs.inside.GroupParts.{none_then}
 use Rattle.bt_view.specs.inside.Neighbours.{AreBounded, groups_then}

@@ -1,5 +1,5 @@
 use Rattle.std.proofs.Common.{rules, ◌≡◌, ◌∙◌, ◌∷◌, [], None, Some, ap, arith, refl, subst, sym}
-use Rattle.bt_rowtype.proofs.offered.SameValues.{same_values-complete}
+use Rattle.bt_value.proofs.offered.SameValues.{same_values-complete}
 use Rattle.bt_view.specs.Groups.{with_more}
 use Rattle.bt_view.specs.inside.Neighbours.{AreBounded}
 use Rattle.bt_view.specs.declared.groups.Sum.{Sum}

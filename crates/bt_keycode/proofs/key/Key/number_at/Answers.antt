@@ -1,6 +1,6 @@
 use Rattle.std.proofs.Common.{◌+◌, ◌≤◌, ◌≡◌, ◌∙◌, ap, arith, rules, length}
 use Rattle.std.proofs.lemmas.List.{take_rest}
-use Rattle.bt_rowtype.specs.Paddings.{padded}
+use Rattle.bt_value.specs.Paddings.{padded}
 use Rattle.bt_keycode.specs.Prefixes.{first_eight}
 use Rattle.bt_keycode.proofs.Prefixes.{eight_of_padded}
 use Rattle.bt_keycode.proofs.key.Key.number_at.Goals as goal

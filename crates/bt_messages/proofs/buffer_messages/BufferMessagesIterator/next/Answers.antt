@@ -1,6 +1,6 @@
 use Rattle.std.proofs.Common.{◌++◌, ◌∙◌, ap, arith, sym}
 use Rattle.std.proofs.lemmas.List.{nil_from_length}
-use Rattle.bt_rowtype.specs.Lists.{concatenation}
+use Rattle.bt_value.specs.Lists.{concatenation}
 use Rattle.bt_messages.proofs.buffer_messages.BufferMessagesIterator.next.Goals as goal
 
 pub loop-self-init : goal.loop-self-init

@@ -1,5 +1,5 @@
 use Rattle.std.proofs.Common.{◌≡◌, ◌++◌, length}
-use Rattle.bt_rowtype.specs.Lists.{concatenation}
+use Rattle.bt_value.specs.Lists.{concatenation}
 use Rattle.bt_messages.proofs.buffer_messages.BufferMessagesIterator.next.Given as goal
 
 abbrev pub invariant-loop-self : goal.invariant-loop-self

@@ -1,6 +1,6 @@
 use Rattle.std.proofs.Common.{◌≡◌, ◌<◌, ◌+◌, ◌-◌, ◌∙◌, ◌++◌, [], ap, arith, drop, get_or, length, rules, subst, suc, take}
 use Rattle.bt_keycode.specs.Keys.{AllFrom}
-use Rattle.bt_rowtype.specs.Lists.{concatenation}
+use Rattle.bt_value.specs.Lists.{concatenation}
 use Rattle.bt_messages.proofs.RunLists.{Parts, counted_within, from_front, placed_run, sorted_left, sorted_right}
 use Rattle.bt_messages.proofs.Sharing.{any_default}
 use Rattle.bt_messages.proofs.stream.Stream.count_before.Given.{Over}

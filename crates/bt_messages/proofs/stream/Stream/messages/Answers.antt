@@ -1,6 +1,6 @@
 use Rattle.std.proofs.Common.{◌∙◌, subst, sym}
 use Rattle.bt_keycode.specs.Keys.{IsSorted}
-use Rattle.bt_rowtype.specs.Lists.{concatenation}
+use Rattle.bt_value.specs.Lists.{concatenation}
 use Rattle.bt_messages.proofs.RunLists.{sorted_left, sorted_right, walked}
 use Rattle.bt_messages.proofs.stream.Stream.messages.Goals as goal
 

@@ -1,5 +1,5 @@
 use Rattle.std.proofs.Common.{◌≡◌, ◌++◌, ◌∙◌, [], ap, arith, deque_len, length}
-use Rattle.bt_rowtype.specs.Lists.{concatenation}
+use Rattle.bt_value.specs.Lists.{concatenation}
 use Rattle.bt_messages.proofs.RunLists.{first_popped, some_there}
 use Rattle.bt_messages.proofs.stream.Stream.pop.Goals as goal
 use Rattle.bt_messages.proofs.stream.Stream.pop.Goals.{else-is_empty, then-is_empty}

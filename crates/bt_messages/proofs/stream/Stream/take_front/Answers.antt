@@ -1,5 +1,5 @@
 use Rattle.std.proofs.Common.{◌≤◌, ◌-◌, ◌++◌, ◌∙◌, ap, arith, subst, sym, take}
-use Rattle.bt_rowtype.specs.Lists.{concatenation}
+use Rattle.bt_value.specs.Lists.{concatenation}
 use Rattle.bt_messages.specs.inside.Runs.{AreSome}
 use Rattle.bt_messages.proofs.RunLists.{all_runs, enough_left, none_left, run_taken, some-push}
 use Rattle.bt_messages.proofs.stream.Stream.take_front.Goals as goal

@@ -1,6 +1,6 @@
 use Rattle.std.proofs.Common.{◌∙◌, ◌+◌, ◌++◌, ap, arith, drop, length, length-drop, map, subst, sym, take}
 use Rattle.std.proofs.lemmas.Result.{IfOk-weaker}
-use Rattle.bt_rowtype.specs.Lists.{concatenation}
+use Rattle.bt_value.specs.Lists.{concatenation}
 use Rattle.bt_messages.specs.Bins.{LieBetween}
 use Rattle.bt_messages.specs.Effects.{effect_of}
 use Rattle.bt_node.specs.inside.NodeKinds.{HasBins, tree_of}

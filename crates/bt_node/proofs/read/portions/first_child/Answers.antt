@@ -1,7 +1,7 @@
 use Rattle.std.proofs.Common.{◌≡◌, ◌∙◌, None, ap, rules, subst, sym}
 use Rattle.std.specs.Option.{option_copied, option_or}
 use Rattle.bt_keycode.specs.Keys.{IsSorted, is_between}
-use Rattle.bt_rowtype.specs.Lists.{concatenation}
+use Rattle.bt_value.specs.Lists.{concatenation}
 use Rattle.bt_messages.specs.Bins.{LieBetween}
 use Rattle.bt_messages.specs.Effects.{effect_of}
 use Rattle.bt_node.specs.inside.NodeKinds.{HasBins, tree_of}

@@ -1,8 +1,8 @@
 use Rattle.std.proofs.Common.{rules, List, fold}
 use Rattle.bt_keycode.specs.Keys.{Key}
-use Rattle.bt_rowtype.specs.Answers.{Answers}
-use Rattle.bt_rowtype.specs.declared.value.Value.{Value}
-use Rattle.bt_batch.specs.Batches.{map_ok}
+use Rattle.bt_value.specs.Answers.{Answers}
+use Rattle.bt_value.specs.declared.value.Value.{Value}
+use Rattle.bt_value.specs.Results.{map_ok}
 use Rattle.bt_shell.specs.inside.Lines.{with_line}
 use Rattle.bt_shell.specs.Replies.{row_line}
 use Rattle.bt_shell.proofs.workforce.CrewNoGateScriptWorkforce.scan.Goals as goal

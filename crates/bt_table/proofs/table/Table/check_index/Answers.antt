@@ -1,8 +1,8 @@
 use Rattle.std.proofs.Common.{rules, ◌≡◌, ◌∙◌, Option, Some, None, ap, arith, false, is_some, length, nat_le, option_map, refl, sym, true}
 use Rattle.std.proofs.lemmas.Bool.Decides.{nat_tests}
-use Rattle.bt_rowtype.specs.Refusals.{least}
-use Rattle.bt_rowtype.specs.declared.refusal.Refusal.TheVariants.{TooMany}
-use Rattle.bt_batch.specs.Batches.{one_if}
+use Rattle.bt_value.specs.Refusals.{least}
+use Rattle.bt_value.specs.declared.refusal.Refusal.TheVariants.{TooMany}
+use Rattle.bt_value.specs.Results.{one_if}
 use Rattle.bt_table.specs.Indexes.{index_named, indexes_of}
 use Rattle.bt_table.specs.declared.table.TheConstants.{MOST_INDEXES}
 use Rattle.bt_table.proofs.Steps.{refused_by_number}

@@ -1,7 +1,7 @@
 use Rattle.std.proofs.Common.{rules, ◌≡◌, ◌++◌, ◌∷◌, [], None, ap, false, if◌then◌else◌, refl, subst, sym, true}
 use Rattle.std.specs.Prelude.{is_ok}
 use Rattle.bt_node.specs.Trees.{leaf}
-use Rattle.bt_rowtype.specs.Refusals.{least}
+use Rattle.bt_value.specs.Refusals.{least}
 use Rattle.bt_table.specs.Calls.{index_refusals}
 use Rattle.bt_table.specs.inside.IndexTrees.{empty_head}
 use Rattle.bt_table.proofs.Steps.{added_is_sound, create_is_step, has_trees, not_added_is}

@@ -1,8 +1,8 @@
 use Rattle.std.proofs.Common.{◌≡◌, ◌∙◌, ◌++◌, Bool, Some, ap, false, not, refl, sym, true}
 use Rattle.std.specs.List.{list_all}
-use Rattle.bt_rowtype.specs.Refusals.{least}
-use Rattle.bt_rowtype.specs.declared.refusal.Refusal.TheVariants.{Building, NotEmpty}
-use Rattle.bt_batch.specs.Batches.{one_if}
+use Rattle.bt_value.specs.Refusals.{least}
+use Rattle.bt_value.specs.declared.refusal.Refusal.TheVariants.{Building, NotEmpty}
+use Rattle.bt_value.specs.Results.{one_if}
 use Rattle.bt_table.specs.Calls.{is_bare}
 use Rattle.bt_table.specs.Indexes.{indexes_of, is_complete}
 use Rattle.bt_table.proofs.Indexes.{complete_are}

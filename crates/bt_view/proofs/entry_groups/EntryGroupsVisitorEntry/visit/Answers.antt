@@ -1,6 +1,6 @@
 use Rattle.std.proofs.Common.{rules, ◌≡◌, ◌∙◌, ℕ, List, Some, of_z, subst, sym, take, to_z}
 use Rattle.std.specs.Int.{w64}
-use Rattle.bt_rowtype.specs.declared.value.Value.{Value}
+use Rattle.bt_value.specs.declared.value.Value.{Value}
 use Rattle.bt_view.specs.Groups.{number_in}
 use Rattle.bt_view.specs.inside.Entries.{row_of_entry}
 use Rattle.bt_view.specs.inside.Fronts.{IsFrontWhereKept, IsLastOf}

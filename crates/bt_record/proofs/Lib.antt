@@ -1,0 +1,9 @@
+pub mod Found
+pub mod Marks
+pub mod Pieces
+pub mod Plain
+pub mod ReaderSteps
+pub mod RecordEnds
+pub mod RecordsOf
+pub mod Returns
+pub mod offered

@@ -1,0 +1,2 @@
+-- What crates above cite of the lemmas of this crate.
+pub mod PlainTexts

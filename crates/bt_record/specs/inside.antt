@@ -1,0 +1,4 @@
+-- Definitions that only private clauses cite: how the code's values are seen, and the steps of its loops.
+pub mod CsvStates
+pub mod Pieces
+pub mod RecordParts

@@ -1,0 +1,16 @@
+-- Fields as parts of bytes, by the spans in which they stand.
+use Rattle.std.specs.Prelude.{ℕ, ◌≤◌, ◌-◌, List, [], ◌∷◌, take, drop, map, ⊤}
+use Rattle.bt_record.specs.declared.fields.FieldSpan.{FieldSpan}
+
+-- the part of bytes in a span
+abbrev pub part : List ℕ → FieldSpan → List ℕ
+part bytes span = take (span.end - span.start) (drop span.start bytes)
+
+-- the parts of bytes in spans
+abbrev pub pieces : List ℕ → List FieldSpan → List (List ℕ)
+pieces bytes spans = map (λ span. part bytes span) spans
+
+-- spans that lie within so many bytes
+abbrev pub LieWithin : ℕ → List FieldSpan → Type 0
+LieWithin size [] = ⊤
+LieWithin size (span ∷ spans) = (span.start ≤ span.end) × (span.end ≤ size) × LieWithin size spans

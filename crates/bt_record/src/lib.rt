@@ -1,0 +1,24 @@
+//! Records, as `csv` reads them: a text is cut into records, and a record into its fields.
+//!
+//! The records of a CSV text are borrowed one after the other ([`Records`]), and so is the record of one line ([`RecordLine`]). A line
+//! is cut when its fields are asked for: into owned ones ([`Fields`]), or by a [`RecordCutter`], which takes memory for the longest line
+//! alone. Nothing here knows of kinds or columns: a field is bytes.
+//!
+//! ```text
+//! let mut records = Records::new(b"7,\"Oslo, west\"\n8,Lima\n")?;   // None after a second byte order mark
+//! let line = records.next()?;
+//! let fields = line.fields(alloc)?;                           // 7 and Oslo, west
+//! ```
+#![tactic(auto)]
+
+mod commas;
+mod csv_states;
+mod fields;
+mod line;
+mod record_cutter;
+mod records;
+
+pub use fields::{Fields, FieldsRef};
+pub use line::{RecordLine, read_record};
+pub use record_cutter::RecordCutter;
+pub use records::Records;

@@ -1,0 +1,100 @@
+//! The records of a text, one after the other.
+ghost use Rattle.std.specs.Prelude.{◌≡◌, ◌≤◌, ◌+◌, ◌∷◌, [], drop, false, length, true, IfNone, IfSome, MatchOption};
+ghost use Rattle.csv.specs.Reading.{default_config, records, strip_bom};
+ghost use Rattle.bt_record.specs.Records.{has_mark as is_behind_mark};
+ghost use Rattle.bt_record.specs.inside.RecordParts.{EndsAt, begins_record, is_line_end as ends_line};
+
+use crate::csv_states::record_end;
+use crate::line::{RecordLine, has_mark, without_mark};
+use memchr::memchr3;
+use std::marker::Model;
+
+/// The records of a text that are left, as `csv` reads them, lent. A contract sees the fields of each.
+#[derive(Drop)]
+pub struct Records<'a> {
+    rest: &'a [u8],
+}
+
+impl<'a> Model for Records<'a> {
+    ghost use Rattle.std.specs.Prelude.{List, ℕ};
+    ghost use Rattle.csv.specs.Reading.{default_config, records};
+
+    ghost Value = { List (List (List ℕ)) };
+
+    ghost view = { λ a. records default_config a.rest.now };
+}
+
+// Whether a byte ends a line.
+fn is_line_end(byte: u8) -> bool
+    ensures { result ≡ ends_line byte }
+{
+    matches!(byte, b'\r' | b'\n')
+}
+
+// A text from its first record on, if it has one: csv reads over the line ends before it.
+fn skip_line_ends(text: &[u8]) -> Option<&[u8]>
+    ensures { MatchOption result (records default_config text.now ≡ []) (λ rest. (begins_record rest.now ≡ true) × (records default_config rest.now ≡ records default_config text.now)) }
+{
+    let mut rest = text;
+    while let [byte, others @ ..] = rest {
+        if !is_line_end(*byte) {
+            return Some(rest);
+        }
+        rest = others;
+    }
+    None
+}
+
+// Where the first record of a text ends, with which the text begins. Only one with a quote before its first line end is read byte
+// by byte.
+fn find_record_end(text: &[u8]) -> usize
+    requires { begins_record text.now ≡ true }
+    ensures within { result ≤ length text.now }
+    ensures ends { EndsAt text.now result }
+{
+    let Some(place) = memchr3(b'"', b'\r', b'\n', text) else {
+        return text.len();
+    };
+    if text[place] == b'"' {
+        record_end(text)
+    } else {
+        place
+    }
+}
+
+// What stands behind the byte at a place.
+fn rest_behind(text: &[u8], place: usize) -> &[u8]
+    requires { place ≤ length text.now }
+    ensures { result.now ≡ drop (place + 1) text.now }
+{
+    match &text[place..] {
+        [_, rest @ ..] => rest,
+        [] => &[],
+    }
+}
+
+impl<'a> Records<'a> {
+    /// The records of a text, from which one byte order mark is dropped. None where another stands behind it.
+    pub fn new(text: &'a [u8]) -> Option<Self>
+        ensures some { IfSome result (λ found. found ≡ records default_config (strip_bom text.now)) }
+        ensures unmarked { IfSome result (λ _. is_behind_mark (strip_bom text.now) ≡ false) }
+        ensures none { IfNone result (is_behind_mark (strip_bom text.now) ≡ true) }
+    {
+        let rest = without_mark(text);
+        if has_mark(rest) {
+            return None;
+        }
+        Some(Records { rest })
+    }
+
+    /// The next record, if one is left.
+    pub fn next(&mut self) -> Option<RecordLine<'a>>
+        ensures some { IfSome result (λ line. self.old ≡ line ∷ self.new) }
+        ensures none { IfNone result ((self.old ≡ []) × (self.new ≡ [])) }
+    {
+        let text = skip_line_ends(self.rest)?;
+        let place = find_record_end(text);
+        self.rest = rest_behind(text, place);
+        Some(RecordLine::of(&text[..place]))
+    }
+}

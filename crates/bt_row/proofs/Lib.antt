@@ -1,0 +1,9 @@
+pub mod LentValues
+pub mod Packing
+pub mod ReadFits
+pub mod RecordTexts
+pub mod Replacements
+pub mod RowFits
+pub mod Walks
+pub mod WorkedOps
+pub mod offered

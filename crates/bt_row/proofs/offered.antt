@@ -1,0 +1,3 @@
+-- What crates above cite of the lemmas of this crate.
+pub mod Actions
+pub mod Fits

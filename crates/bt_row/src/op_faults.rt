@@ -1,0 +1,90 @@
+//! Whether operations are ones of a schema.
+ghost use Rattle.std.specs.Prelude.{◌≡◌};
+ghost use Rattle.std.specs.List.{filter_map};
+ghost use Rattle.std.specs.Option.{option_to_list};
+ghost use Rattle.bt_row.specs.Ops as spec;
+ghost use Rattle.bt_value.specs.Refusals.{least, least_from};
+
+use crate::op::{Action, MOST_OPS, Op};
+use crate::schema::{Schema, is_of_kind};
+use bt_value::{Kind, Refusal, Value, least_with};
+
+// The kind of the column at a place, where operations may change it.
+fn open_kind(schema: &Schema, place: usize) -> Option<Kind>
+    ensures { result ≡ spec.open_kind schema.now place }
+{
+    if place < schema.keys() {
+        return None;
+    }
+    let column = schema.columns().get(place)?;
+    Some(column.kind)
+}
+
+// The fault of an operation that sets a value in a column of this kind; no kind stands for no column that it may change.
+fn set_fault(item: u64, value: &Value, kind: Option<Kind>) -> Option<Refusal>
+    ensures { result ≡ spec.set_fault item value.now kind }
+{
+    let Some(kind) = kind else {
+        return Some(Refusal::NoSuchColumn);
+    };
+    if is_of_kind(kind, value.as_ref()) {
+        return None;
+    }
+    Some(Refusal::BadField(item))
+}
+
+// The fault of an operation that makes a number in a column of this kind, or where there is none.
+fn number_fault(kind: Option<Kind>) -> Option<Refusal>
+    ensures { result ≡ spec.number_fault kind }
+{
+    match kind {
+        None => Some(Refusal::NoSuchColumn),
+        Some(Kind::Int) => None,
+        Some(_) => Some(Refusal::NotInt),
+    }
+}
+
+// The fault of an operation, if it has one.
+fn fault_of(schema: &Schema, item: u64, op: &Op) -> Option<Refusal>
+    ensures { result ≡ spec.fault_of schema.now item op.now }
+{
+    match op.action() {
+        Action::Set(place, value) => set_fault(item, value, open_kind(schema, place)),
+        Action::Make(_, place, _) => number_fault(open_kind(schema, place)),
+    }
+}
+
+// The least of the refusal that was found, if one was, and of a fault, if there is one.
+fn with_fault(found: Option<Refusal>, fault: Option<Refusal>) -> Option<Refusal>
+    ensures { result ≡ least_from found (option_to_list fault) }
+{
+    match fault {
+        Some(fault) => Some(least_with(found, fault)),
+        None => found,
+    }
+}
+
+// The least fault of operations, if they have one.
+fn least_fault(schema: &Schema, item: u64, ops: &[Op]) -> Option<Refusal>
+    ensures { result ≡ least (filter_map (spec.fault_of schema.now item) ops.now) }
+{
+    let mut found = None;
+    for op in ops {
+        found = with_fault(found, fault_of(schema, item, op));
+    }
+    found
+}
+
+/// Whether these are 1 to 16 operations on columns behind the key of this schema, each with a value of its column, or on an
+/// int where it makes a number. They are refused as in [`read_ops`]. Takes no memory.
+pub fn check_ops(schema: &Schema, item: u64, ops: &[Op]) -> Result<(), Refusal>
+    ensures { result ≡ spec.checked_ops schema.now item ops.now }
+{
+    if ops.is_empty() || ops.len() > MOST_OPS {
+        return Err(Refusal::BadLength(item));
+    }
+    match least_fault(schema, item, ops) {
+        Some(refusal) => Err(refusal),
+        None => Ok(()),
+    }
+}

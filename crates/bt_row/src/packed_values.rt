@@ -1,0 +1,115 @@
+//! Reading values in a string of bytes.
+ghost use Rattle.std.specs.Prelude.{◌≡◌, ◌≤◌, ◌<◌, drop, length};
+ghost use Rattle.bt_row.specs.inside.Packing.{IsAt, IsPacked, content_at as content_of_form, first_of, int_from, unpacked, width_in as width_of_form, width_of};
+ghost use Rattle.bt_value.specs.Views.{content_of_ref, value_of_ref};
+
+use bt_value::{Content, Form, Kind, ValueRef, tail};
+
+/// The int of the eight bytes behind a tag.
+#[tactic(auto, unfolding(crate::specs::inside::Packing::int_from))]
+pub(crate) fn int_at(bytes: &[u8]) -> i64
+    requires { 9 ≤ length bytes.now }
+    ensures { result ≡ int_from (drop 1 bytes.now) }
+{
+    u64::from_le_bytes([
+        bytes[1], bytes[2], bytes[3], bytes[4], bytes[5], bytes[6], bytes[7], bytes[8],
+    ])
+    .cast_signed()
+}
+
+// How many bytes a value of a form takes, of which these stand behind the tag.
+#[inline(always)]
+fn width_in(form: Form, behind: &[u8]) -> usize
+    ensures { result ≡ width_of_form form behind.now }
+{
+    match form {
+        Form::Number => 9,
+        Form::Bytes => match behind {
+            [len, ..] => *len as usize + 2,
+            [] => 2,
+        },
+        Form::Bit => 1,
+    }
+}
+
+/// How many bytes the first value takes.
+pub(crate) fn width(bytes: &[u8]) -> usize
+    ensures { result ≡ width_of bytes.now }
+{
+    match bytes {
+        [tag, behind @ ..] => width_in(Kind::from_tag(*tag).form(), behind),
+        [] => 0,
+    }
+}
+
+// What a value of a form holds, with whose tag the bytes begin; a bit is set or not.
+#[inline(always)]
+fn content_at<'a>(form: Form, is_set: bool, bytes: &'a [u8]) -> Content<'a>
+    requires some { 0 < length bytes.now }
+    requires within { width_of_form form (drop 1 bytes.now) ≤ length bytes.now }
+    ensures { content_of_ref result ≡ content_of_form form is_set (drop 1 bytes.now) }
+{
+    match form {
+        Form::Number => Content::Number(int_at(bytes)),
+        Form::Bytes => Content::Bytes(&bytes[2..bytes[1] as usize + 2]),
+        Form::Bit => Content::Bit(is_set),
+    }
+}
+
+/// The first value.
+pub(crate) fn first<'a>(bytes: &'a [u8]) -> ValueRef<'a>
+    requires some { 0 < length bytes.now }
+    requires within { width_of bytes.now ≤ length bytes.now }
+    ensures { value_of_ref result ≡ first_of bytes.now }
+{
+    let tag = bytes[0];
+    let kind = Kind::from_tag(tag);
+    ValueRef::with(kind, content_at(kind.form(), tag == kind.tag() + 1, bytes))
+}
+
+/// How many bytes the value takes that begins here.
+pub(crate) fn width_at(bytes: &[u8], at: usize) -> usize
+    requires { at ≤ length bytes.now }
+    ensures { result ≡ width_of (drop at bytes.now) }
+{
+    width(tail(bytes, at))
+}
+
+/// The value that begins here.
+pub(crate) fn first_at<'a>(bytes: &'a [u8], at: usize) -> ValueRef<'a>
+    requires some { at < length bytes.now }
+    requires left { 0 < length (drop at bytes.now) }
+    requires within { width_of (drop at bytes.now) ≤ length (drop at bytes.now) }
+    ensures { value_of_ref result ≡ first_of (drop at bytes.now) }
+{
+    first(tail(bytes, at))
+}
+
+/// Where the value at a place begins, or the end where there are fewer.
+pub(crate) fn offset(bytes: &[u8], place: usize) -> usize
+    requires { IsPacked bytes.now }
+    ensures { IsAt bytes.now place result }
+{
+    let mut at = 0;
+    let mut passed = 0;
+    while passed < place && at < bytes.len() {
+        at += width_at(bytes, at);
+        passed += 1;
+    }
+    at
+}
+
+/// How many values there are.
+#[tactic(auto, using(crate::proofs::Walks::walked_all, crate::proofs::Walks::walk_begins))]
+pub(crate) fn count(bytes: &[u8]) -> usize
+    requires { IsPacked bytes.now }
+    ensures { result ≡ length (unpacked bytes.now) }
+{
+    let mut at = 0;
+    let mut passed = 0;
+    while at < bytes.len() {
+        at += width_at(bytes, at);
+        passed += 1;
+    }
+    passed
+}

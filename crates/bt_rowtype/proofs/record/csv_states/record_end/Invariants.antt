@@ -1,7 +1,0 @@
-use Rattle.bt_rowtype.specs.inside.CsvStates.{csv_state}
-use Rattle.bt_rowtype.proofs.RecordEnds.{Inside}
-use Rattle.bt_rowtype.proofs.record.csv_states.record_end.Given as goal
-
--- no record ends before this place
-abbrev pub invariant-loop-place : goal.invariant-loop-place
-invariant-loop-place l = Inside l.text l.place (csv_state l.state)

@@ -1,7 +1,0 @@
-use Rattle.std.proofs.Common.{◌≡◌, drop}
-use Rattle.bt_rowtype.specs.Schemas.{fit_columns}
-use Rattle.bt_rowtype.proofs.schema.are_of_columns.Given as goal
-
--- the values from here on decide
-abbrev pub invariant-loop-column : goal.invariant-loop-column
-invariant-loop-column l = fit_columns l.columns l.fn.values ≡ fit_columns (drop l.column-index l.columns) l.rest

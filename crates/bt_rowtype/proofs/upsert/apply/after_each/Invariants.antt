@@ -1,7 +1,0 @@
-use Rattle.std.proofs.Common.{◌≡◌, drop}
-use Rattle.bt_rowtype.specs.Ops.{after_ops}
-use Rattle.bt_rowtype.proofs.upsert.apply.after_each.Given as goal
-
--- the operations from here on are to be done
-abbrev pub invariant-loop-op : goal.invariant-loop-op
-invariant-loop-op l = after_ops l.ops l.fn.row ≡ after_ops (drop l.op-index l.ops) l.after

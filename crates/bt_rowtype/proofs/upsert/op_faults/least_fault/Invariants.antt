@@ -1,9 +1,0 @@
-use Rattle.std.proofs.Common.{◌≡◌, drop}
-use Rattle.std.specs.List.{filter_map}
-use Rattle.bt_rowtype.specs.Ops.{fault_of}
-use Rattle.bt_rowtype.specs.Refusals.{least, least_from}
-use Rattle.bt_rowtype.proofs.upsert.op_faults.least_fault.Given as goal
-
--- the least fault so far stands for the operations before this one
-abbrev pub invariant-loop-op : goal.invariant-loop-op
-invariant-loop-op l = least (filter_map (fault_of l.schema l.item) l.ops) ≡ least_from l.found (filter_map (fault_of l.schema l.item) (drop l.op-index l.ops))

@@ -1,6 +1,0 @@
-use Rattle.std.proofs.Common.{◌∙◌, sym}
-use Rattle.bt_rowtype.proofs.IntTexts.{plain_short}
-use Rattle.bt_rowtype.proofs.value.int.read_int.Goals as goal
-
-pub returns : goal.returns
-returns c = c.short_number.ensures.number ∙ sym (plain_short c.args.field.now (sym c.begins_with.ensures ∙ c.if-begins_with.false) c.short_number.ensures.small)

@@ -1,9 +1,0 @@
--- What a call answers where memory may be wanting.
-use Rattle.std.specs.Prelude.{◌≡◌, ◌≢◌, Result, Ok, Err}
-use Rattle.bt_rowtype.specs.declared.refusal.Refusal.{Refusal}
-use Rattle.bt_rowtype.specs.declared.refusal.Refusal.TheVariants.{OutOfMemory}
-
--- a result is this answer, or says that memory was wanting
-abbrev pub Answers : {T : Type 0} → Result T Refusal → Result T Refusal → Type 0
-Answers answer (Ok value) = answer ≡ Ok value
-Answers answer (Err refusal) = refusal ≢ OutOfMemory → answer ≡ Err refusal

@@ -1,0 +1,6 @@
+pub mod FieldTexts
+pub mod IntTexts
+pub mod Paddings
+pub mod Quotes
+pub mod Spelling
+pub mod offered

@@ -1,0 +1,16 @@
+use Rattle.std.proofs.Common.{◌≡◌, ◌≤◌, length, take}
+use Rattle.bt_value.specs.Hex.{bytes_of_hex}
+use Rattle.bt_value.specs.Texts.{most_value_bytes}
+use Rattle.bt_value.proofs.Spelling.{after}
+use Rattle.bt_value.proofs.binary.spell.Given as goal
+
+-- the bytes so far, and those that the digits spell that are left, are those that all spell
+abbrev pub invariant-loop-rest : goal.invariant-loop-rest
+invariant-loop-rest l = record {
+  size : length l.room ≡ most_value_bytes;
+  bound : l.len ≤ most_value_bytes;
+  spelled : bytes_of_hex l.digits ≡ after (take l.len l.room) (bytes_of_hex l.rest);
+}
+
+abbrev pub decreases-loop-rest : goal.decreases-loop-rest
+decreases-loop-rest l = length l.rest

@@ -1,0 +1,13 @@
+pub mod Answers
+pub mod Hex
+pub mod Ints
+pub mod Kinds
+pub mod Lists
+pub mod Paddings
+pub mod PlainFields
+pub mod Refusals
+pub mod Results
+pub mod Texts
+pub mod Values
+pub mod Views
+pub mod inside

@@ -1,0 +1,75 @@
+-- The table of refusals: number, name and item of each.
+use Rattle.std.specs.Prelude.{ℕ, ◌==◌, Bool, List, [], ◌∷◌, codes, nat_lt, Option, Some, None, unwrap_or, if◌then◌else◌}
+use Rattle.bt_value.specs.declared.refusal.Refusal.{Refusal}
+use Rattle.bt_value.specs.declared.refusal.Refusal.TheVariants.{Syntax, Unfinished, NoTable, TableExists, BadSchema, BadField, BadLength, NoSuchTree, NameTaken, TooMany, Building, AlreadyComplete, NotEmpty, DuplicateKey, NoSuchColumn, NotInt, OutOfMemory, Failed, BadCrew, BadShape}
+
+-- the number, 1 to 20
+abbrev pub number_of : Refusal → ℕ
+number_of Syntax = 1
+number_of Unfinished = 2
+number_of NoTable = 3
+number_of TableExists = 4
+number_of BadSchema = 5
+number_of (BadField item) = 6
+number_of (BadLength item) = 7
+number_of NoSuchTree = 8
+number_of NameTaken = 9
+number_of TooMany = 10
+number_of Building = 11
+number_of AlreadyComplete = 12
+number_of NotEmpty = 13
+number_of (DuplicateKey item) = 14
+number_of NoSuchColumn = 15
+number_of NotInt = 16
+number_of OutOfMemory = 17
+number_of Failed = 18
+number_of BadCrew = 19
+number_of BadShape = 20
+
+-- the name
+abbrev pub name_of : Refusal → List ℕ
+name_of Syntax = codes "Syntax"
+name_of Unfinished = codes "Unfinished"
+name_of NoTable = codes "NoTable"
+name_of TableExists = codes "TableExists"
+name_of BadSchema = codes "BadSchema"
+name_of (BadField item) = codes "BadField"
+name_of (BadLength item) = codes "BadLength"
+name_of NoSuchTree = codes "NoSuchTree"
+name_of NameTaken = codes "NameTaken"
+name_of TooMany = codes "TooMany"
+name_of Building = codes "Building"
+name_of AlreadyComplete = codes "AlreadyComplete"
+name_of NotEmpty = codes "NotEmpty"
+name_of (DuplicateKey item) = codes "DuplicateKey"
+name_of NoSuchColumn = codes "NoSuchColumn"
+name_of NotInt = codes "NotInt"
+name_of OutOfMemory = codes "OutOfMemory"
+name_of Failed = codes "Failed"
+name_of BadCrew = codes "BadCrew"
+name_of BadShape = codes "BadShape"
+
+-- the item at fault, where the refusal names one
+abbrev pub item_of : Refusal → Option ℕ
+item_of (BadField item) = Some item
+item_of (BadLength item) = Some item
+item_of (DuplicateKey item) = Some item
+item_of other = None
+
+-- whether its number is less than the other's, or of equal numbers its item
+abbrev pub is_lesser : Refusal → Refusal → Bool
+is_lesser a b = if number_of a == number_of b then nat_lt (unwrap_or (item_of a) 0) (unwrap_or (item_of b) 0) else nat_lt (number_of a) (number_of b)
+
+-- which of two is answered, the first where they are equal
+abbrev pub lesser : Refusal → Refusal → Refusal
+lesser a b = if is_lesser b a then b else a
+
+-- the least of one that was found, if one was, and of others
+abbrev pub least_from : Option Refusal → List Refusal → Option Refusal
+least_from found [] = found
+least_from None (refusal ∷ others) = least_from (Some refusal) others
+least_from (Some found) (refusal ∷ others) = least_from (Some (lesser found refusal)) others
+
+-- which of the refusals that apply is answered, if one does: the least number, and of equal numbers the least item
+abbrev pub least : List Refusal → Option Refusal
+least refusals = least_from None refusals

@@ -1,0 +1,18 @@
+-- Bytes that are kept in the value itself where they are few.
+use Rattle.std.specs.Prelude.{ℕ, ◌≡◌, ◌<◌, ◌≤◌, List, length, take}
+use Rattle.bt_value.specs.Paddings.{padded}
+use Rattle.bt_value.specs.declared.bytes.BytesStorage.{BytesStorage}
+use Rattle.bt_value.specs.declared.bytes.BytesStorage.TheVariants.{Short, Long}
+
+-- bytes that are kept in a value itself
+abbrev pub most_short : ℕ
+most_short = 22
+
+abbrev pub bytes_of : BytesStorage → List ℕ
+bytes_of (Short len bytes) = take len bytes
+bytes_of (Long bytes) = bytes.value.items
+
+-- as many bytes as the value has room for, with zeros behind them, or more
+abbrev pub FitsInside : BytesStorage → Type 0
+FitsInside (Short len bytes) = (len ≤ most_short) × (bytes ≡ padded most_short (take len bytes))
+FitsInside (Long bytes) = most_short < length bytes.value.items
