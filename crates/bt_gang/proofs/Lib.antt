@@ -9,3 +9,4 @@ pub mod Working
 pub mod Filling
 pub mod Finishing
 pub mod PieceLists
+pub mod EvenPieces

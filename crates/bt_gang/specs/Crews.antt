@@ -1,7 +1,17 @@
 -- The sizes of a crew.
 use Rattle.std.specs.Prelude.{ℕ, ◌≤◌}
-use Rattle.bt_gang.specs.declared.crew.TheConstants.{DEEPEST_CUT, LARGEST_GRAIN, MOST_WORKERS}
 
--- 1 to 64 workers, a cut of 1 to 6, a grain of 1 to 65,536
+-- the most workers of a crew
+abbrev pub largest_crew : ℕ
+largest_crew = 64
+
+-- the deepest cut of a tree into jobs
+abbrev pub deepest_cut : ℕ
+deepest_cut = 6
+
+-- the largest packet that may be worked without jobs
+abbrev pub largest_grain : ℕ
+largest_grain = 65536
+
 abbrev pub IsCrew : ℕ → ℕ → ℕ → Type 0
-IsCrew workers cut grain = ((1 ≤ workers) × (workers ≤ MOST_WORKERS)) × ((1 ≤ cut) × (cut ≤ DEEPEST_CUT)) × ((1 ≤ grain) × (grain ≤ LARGEST_GRAIN))
+IsCrew workers cut grain = ((1 ≤ workers) × (workers ≤ largest_crew)) × ((1 ≤ cut) × (cut ≤ deepest_cut)) × ((1 ≤ grain) × (grain ≤ largest_grain))

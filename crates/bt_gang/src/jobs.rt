@@ -16,7 +16,7 @@ pub type JobPass<J, D, F> = Pass<NumberedJob<J, AnswerRoom<D, F>>, Known<J>>;
 /// The jobs of a call with their numbers, from 0 on, in one queue, each with room for its answer.
 #[derive(Drop)]
 pub struct Jobs<J: Drop, D: Drop, F: Drop> {
-    pub queue: JobQueue<J, AnswerRoom<D, F>>,
+    pub(crate) queue: JobQueue<J, AnswerRoom<D, F>>,
 }
 
 impl<J: Drop, D: Drop, F: Drop> Jobs<J, D, F> {

@@ -1,7 +1,7 @@
 //! Pieces of a slice, for jobs that are about as long as each other.
 ghost use Rattle.std.specs.List.{flat_map};
-ghost use Rattle.std.specs.Prelude.{◌≡◌, ◌<◌, ◌≤◌, ◌-◌, ◌^◌, IfOk, drop, length, take};
-ghost use Rattle.bt_gang.specs.Pieces.{AreInRow};
+ghost use Rattle.std.specs.Prelude.{◌≡◌, ◌<◌, ◌≤◌, ◌-◌, ◌/◌, ◌^◌, IfOk, drop, length, take, vec_len};
+ghost use Rattle.bt_gang.specs.Pieces.{AreEven, AreInRow};
 
 use crate::piece::Piece;
 use std::alloc::{AllocError, Global};
@@ -20,7 +20,7 @@ fn piece_at<T>(items: &[T], start: usize, end: usize) -> Piece<'_, T>
     }
 }
 
-/// The items in so many pieces, one behind the other. Of two pieces one is at most one item longer.
+/// The items in this many pieces, one after the other. No piece is longer than another by more than one item.
 pub fn pieces_of<T>(
     alloc: Global,
     items: &[T],
@@ -30,6 +30,8 @@ pub fn pieces_of<T>(
     requires few { length items.now < 2 ^ 63 }
     ensures whole { IfOk result (λ pieces. flat_map (λ piece. piece.items.now) pieces.items ≡ items.now) }
     ensures row { IfOk result (λ pieces. AreInRow 0 pieces.items) }
+    ensures count { IfOk result (λ pieces. vec_len pieces ≡ count) }
+    ensures even { IfOk result (λ pieces. AreEven (length items.now / count) pieces.items) }
 {
     let mut pieces = Vec::with_capacity(alloc, count)?;
     let mut start = 0;

@@ -21,7 +21,7 @@ pub fn most_workers<G>(crew: &Crew<G>, count: usize) -> usize
 }
 
 /// The values of jobs, in order. Each job is run once, by a crew that has no more workers than there are jobs. After an `Err` every worker has ended.
-pub fn job_values<W: Work + Sync, G: Gate + Sync, R: Threads + Wait + Sync>(
+pub fn job_values<W: Work<Fault = AllocError> + Sync, G: Gate + Sync, R: Threads + Wait + Sync>(
     rt: &R,
     alloc: Global,
     work: &W,

@@ -1,6 +1,19 @@
-use Rattle.std.proofs.Common.{rules, ◌≤◌, ◌+◌, ◌-◌, ◌/◌, length, refl}
+use Rattle.std.proofs.Common.{rules, ◌≡◌, ◌≤◌, ◌+◌, ◌-◌, ◌/◌, length, refl, arith}
 use Rattle.bt_gang.proofs.PieceLists.{all_items, items_left, next_start, row_more}
+use Rattle.bt_gang.proofs.EvenPieces.{even_more, first_rest, last_part, next_rest}
 use Rattle.bt_gang.proofs.pieces.pieces_of.Goals as goal
+
+pub loop-place-init : goal.loop-place-init
+loop-place-init g c = record {
+  whole = search rules;
+  start = search rules;
+  row = search rules;
+  within = search rules;
+  even = search rules;
+  rest = first_rest (length c.args.items.now) c.args.count _ _ c.requires.some (omega (arith, c.requires.some)) (omega arith);
+  number = search rules;
+  capacity = search rules;
+}
 
 pub loop-place-preserved : goal.loop-place-preserved
 loop-place-preserved g c =
@@ -14,12 +27,16 @@ loop-place-preserved g c =
     let piece = c.piece_at.result in
     let is = c.push_reserved.ensures.items in
     let i = c.loop-place.invariant in
+    let share = length all / c.args.count in
+    let next = next_rest share c.args.count c.loop-place.place start end (length all) (search rules) ordered refl i.rest in
     record {
       whole = items_left all start end pieces more piece is ordered c.piece_at.ensures.items i.whole;
       start = next_start all start end pieces more piece is ordered c.piece_at.ensures.items i.whole within;
       row = row_more all start end pieces more piece is i.row i.start c.piece_at.ensures.before;
       within = within;
-      room = search rules;
+      even = even_more share start end all pieces more piece is c.piece_at.ensures.items within i.even next.0;
+      rest = next.1;
+      number = search rules;
       capacity = search rules;
     }
 
@@ -33,3 +50,11 @@ pub returns-clause-row : goal.returns-clause-row
 returns-clause-row g c =
     let i = c.loop-place.invariant in
     row_more c.args.items.now c.loop-place.start (length c.args.items.now) c.loop-place.pieces.items c.push_reserved-2.new.self.items c.piece_at-2.result c.push_reserved-2.ensures.items i.row i.start c.piece_at-2.ensures.before
+
+pub returns-clause-even : goal.returns-clause-even
+returns-clause-even g c =
+    let all = c.args.items.now in
+    let i = c.loop-place.invariant in
+    let share = length all / c.args.count in
+    let places : c.args.count - c.loop-place.place + 1 ≡ 1 = search rules in
+    even_more share c.loop-place.start (length all) all c.loop-place.pieces.items c.push_reserved-2.new.self.items c.piece_at-2.result c.push_reserved-2.ensures.items c.piece_at-2.ensures.items (omega arith) i.even (last_part share _ _ places i.rest)

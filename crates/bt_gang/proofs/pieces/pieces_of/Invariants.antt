@@ -1,6 +1,7 @@
-use Rattle.std.proofs.Common.{◌≡◌, ◌≤◌, ◌+◌, ◌++◌, drop, length, vec_capacity, vec_len}
-use Rattle.bt_gang.specs.Pieces.{AreInRow}
+use Rattle.std.proofs.Common.{◌≡◌, ◌≤◌, ◌+◌, ◌-◌, ◌/◌, ◌++◌, drop, length, vec_capacity, vec_len}
+use Rattle.bt_gang.specs.Pieces.{AreEven, AreInRow}
 use Rattle.bt_gang.proofs.PieceLists.{items_of}
+use Rattle.bt_gang.proofs.EvenPieces.{IsEvenRest}
 use Rattle.bt_gang.proofs.pieces.pieces_of.Given as goal
 
 -- the pieces so far, and behind them the items that are left
@@ -10,6 +11,8 @@ invariant-loop-place g l = record {
   start : l.start ≡ length (items_of l.pieces.items);
   row : AreInRow 0 l.pieces.items;
   within : l.start ≤ length l.items;
-  room : vec_len l.pieces + 1 ≤ l.place;
+  even : AreEven (length l.items / l.count) l.pieces.items;
+  rest : IsEvenRest (length l.items / l.count) (l.count - l.place + 1) (length l.items - l.start);
+  number : vec_len l.pieces + 1 ≡ l.place;
   capacity : l.count ≤ vec_capacity l.pieces;
 }
