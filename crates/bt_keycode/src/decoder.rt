@@ -10,7 +10,7 @@ use crate::key::prefix_of;
 use crate::zeros::split_at_zero;
 use bt_row::Row;
 use bt_value::{Content, Form, Kind, MOST_VALUE_BYTES, ValueRef};
-use std::alloc::{AllocError, Global};
+use std::alloc::Global;
 
 /// Why bytes are not decoded.
 #[derive(Clone, Copy, Debug, PartialEq, Eq)]
@@ -19,17 +19,6 @@ pub enum DecodeError {
     NotACode,
     /// A request for memory was refused.
     OutOfMemory,
-}
-
-impl From<AllocError> for DecodeError {
-    ghost use Rattle.std.specs.Prelude.{◌≡◌};
-    ghost use Rattle.bt_keycode.specs.declared.decoder.DecodeError.TheVariants.{OutOfMemory};
-
-    ghost from_gives = { λ _ e. e ≡ OutOfMemory };
-
-    fn from(_e: AllocError) -> DecodeError {
-        DecodeError::OutOfMemory
-    }
 }
 
 // The int of a number whose highest bit is its sign bit, inverted.
@@ -190,8 +179,21 @@ fn is_code(kinds: &[Kind], bytes: &[u8]) -> bool
     code.is_empty()
 }
 
+// The error when a request for memory was refused: bytes that are no code are not decoded with memory either.
+fn memory_error(kinds: &[Kind], bytes: &[u8]) -> DecodeError
+    ensures memory { result ≡ DecodeError.OutOfMemory → IsCode kinds.now bytes.now }
+    ensures none { result ≡ DecodeError.NotACode → IsNoCode kinds.now bytes.now }
+{
+    if is_code(kinds, bytes) {
+        DecodeError::OutOfMemory
+    } else {
+        DecodeError::NotACode
+    }
+}
+
 /// Adds the values of these kinds whose code the bytes are to a row, in one pass over the bytes. What the row holds after an
-/// `Err` is not said.
+/// `Err` is not said. `OutOfMemory` is returned only where the bytes are a code: after a failed allocation all bytes are looked at
+/// again.
 pub fn decode_onto(
     alloc: Global,
     kinds: &[Kind],
@@ -200,6 +202,7 @@ pub fn decode_onto(
 ) -> Result<(), DecodeError>
     ensures code { OnOk result ((values : List value) × ((row.new ≡ row.old ++ values) × IsCodeOf kinds.now bytes.now values)) }
     ensures none { IsErrOf result DecodeError.NotACode → IsNoCode kinds.now bytes.now }
+    ensures memory { IsErrOf result DecodeError.OutOfMemory → IsCode kinds.now bytes.now }
 {
     let mut room = [0; MOST_VALUE_BYTES];
     let mut code = bytes;
@@ -207,7 +210,9 @@ pub fn decode_onto(
         let Some((value, rest)) = first_value(*kind, code, &mut room) else {
             return Err(DecodeError::NotACode);
         };
-        row.push(alloc, value)?;
+        let Ok(()) = row.push(alloc, value) else {
+            return Err(memory_error(kinds, bytes));
+        };
         code = rest;
     }
     if code.is_empty() {
@@ -217,17 +222,14 @@ pub fn decode_onto(
     }
 }
 
-/// The values of these kinds whose code the bytes are. No other list of values of these kinds has it. Bytes that are no code
-/// are found out before memory is asked for.
+/// The values of these kinds whose code the bytes are. No other list of values of these kinds has it. `OutOfMemory` is
+/// returned only where the bytes are a code.
 pub fn decode(alloc: Global, kinds: &[Kind], bytes: &[u8]) -> Result<Row, DecodeError>
     ensures code { IfOk result (λ row. IsCodeOf kinds.now bytes.now row) }
     ensures only { IfOk result (λ row. (other : List value) → IsCodeOf kinds.now bytes.now other → other ≡ row) }
     ensures none { IsErrOf result DecodeError.NotACode → IsNoCode kinds.now bytes.now }
     ensures memory { IsErrOf result DecodeError.OutOfMemory → IsCode kinds.now bytes.now }
 {
-    if !is_code(kinds, bytes) {
-        return Err(DecodeError::NotACode);
-    }
     let mut row = Row::new();
     decode_onto(alloc, kinds, bytes, &mut row)?;
     Ok(row)

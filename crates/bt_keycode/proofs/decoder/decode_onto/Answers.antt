@@ -15,7 +15,7 @@ loop-kind-preserved c =
     let value = value_of_ref c.in-Some.value in (
       values ++ value ∷ [],
       (
-        c.in_ok-push.ensures.ok ∙ ap (λ row. row ++ value ∷ []) c.loop-kind.invariant.1.0 ∙ append_assoc c.args.row.now values (value ∷ []),
+        c.in-Ok.ensures.ok ∙ ap (λ row. row ++ value ∷ []) c.loop-kind.invariant.1.0 ∙ append_assoc c.args.row.now values (value ∷ []),
         goes_on c.args.kinds.now c.loop-kind.kind-index kind.Int c.args.bytes.now values (values ++ value ∷ []) value c.loop-kind.code.now c.in-Some.rest.now
             c.loop-kind-test.true refl c.loop-kind.invariant.1.1 c.in-Some.ensures.found,
       ),
