@@ -14,7 +14,7 @@ use Rattle.bt_keycode.proofs.Codes.{has_bits, same_form}
 use Rattle.std.proofs.lemmas.Int.{to_z-of_z}
 use Rattle.std.proofs.Math.Seq.{take-length}
 use Rattle.std.proofs.lemmas.List.{map-append, take-append-drop, take_more}
-use Rattle.bt_keycode.specs.Decodings.{unescaped}
+use Rattle.bt_keycode.specs.inside.Readings.{unescaped}
 use Rattle.bt_keycode.specs.inside.CodeBeginnings.{BeginsWith, BeginsWithAll, BeginsWithContent, BeginsWithNo, BeginsWithNoContent, BeginsWithNone, HasBits}
 use Rattle.bt_keycode.proofs.DecodingInts.{eight_and_others, eight_long, same_int}
 use Rattle.bt_keycode.proofs.DecodingBytes.{both_read, read_again, spelled, split_end}

@@ -3,7 +3,7 @@ use Rattle.std.proofs.Common.{◌≡◌, ℕ, zero, suc, ◌==◌, List, [], ◌
 use Rattle.std.proofs.lemmas.Bool.{cases_Bool, eqb-true}
 use Rattle.std.specs.List.{list_any}
 use Rattle.bt_keycode.specs.Codes.{escaped}
-use Rattle.bt_keycode.specs.Decodings.{after_bytes, unescaped}
+use Rattle.bt_keycode.specs.inside.Readings.{after_bytes, unescaped}
 use Rattle.bt_keycode.proofs.Escapes.{escaped_no_zero}
 
 not_zero : (n : ℕ) → (suc n == 0) ≡ false

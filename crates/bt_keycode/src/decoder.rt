@@ -1,8 +1,9 @@
 //! Values from their key code.
 ghost use Rattle.std.specs.Prelude.{◌≡◌, ◌<◌, ◌≤◌, ◌++◌, ◌∷◌, [], IfOk, IfSome, IfNone, IsErrOf, List, None, OnOk, Some, false, true, length, take, ℕ};
 ghost use Rattle.bt_keycode.specs.Codes.{IsCode, IsCodeOf, IsNoCode, raised};
-ghost use Rattle.bt_keycode.specs.Decodings.{after_bytes, unescaped};
+ghost use Rattle.bt_keycode.specs.Decodings.{decoded};
 ghost use Rattle.bt_keycode.specs.inside.CodeBeginnings.{BeginsWith, BeginsWithContent, BeginsWithNo, BeginsWithNoContent, reading_at_end};
+ghost use Rattle.bt_keycode.specs.inside.Readings.{after_bytes, unescaped};
 ghost use Rattle.bt_value.specs.Views.{content_of_ref, value_of_ref};
 ghost use Rattle.bt_value.specs.declared.value.Value.{Value as value};
 
@@ -52,7 +53,7 @@ fn first_bit(bytes: &[u8]) -> Option<(Content<'_>, &[u8])>
 }
 
 // The first of bytes from their code, unless that ends or breaks off here, and what comes after it.
-#[tactic(auto, unfolding(crate::specs::Decodings::unescaped))]
+#[tactic(auto, unfolding(crate::specs::inside::Readings::unescaped))]
 fn next_byte(code: &[u8]) -> Option<(u8, &[u8])>
     ensures byte { IfSome result (λ read. unescaped code.now ≡ after_bytes (read.0 ∷ []) (unescaped read.1.now)) }
     ensures shorter { IfSome result (λ read. length read.1.now < length code.now) }
@@ -229,6 +230,8 @@ pub fn decode(alloc: Global, kinds: &[Kind], bytes: &[u8]) -> Result<Row, Decode
     ensures only { IfOk result (λ row. (other : List value) → IsCodeOf kinds.now bytes.now other → other ≡ row) }
     ensures none { IsErrOf result DecodeError.NotACode → IsNoCode kinds.now bytes.now }
     ensures memory { IsErrOf result DecodeError.OutOfMemory → IsCode kinds.now bytes.now }
+    ensures decoded { IfOk result (λ row. decoded kinds.now bytes.now ≡ Some row) }
+    ensures undecoded { IsErrOf result DecodeError.NotACode → decoded kinds.now bytes.now ≡ None }
 {
     let mut row = Row::new();
     decode_onto(alloc, kinds, bytes, &mut row)?;

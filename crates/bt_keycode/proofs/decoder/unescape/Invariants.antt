@@ -1,6 +1,6 @@
 use Rattle.std.proofs.Common.{◌≡◌, ◌≤◌, length, take}
 use Rattle.bt_value.specs.Texts.{most_value_bytes}
-use Rattle.bt_keycode.specs.Decodings.{after_bytes, unescaped}
+use Rattle.bt_keycode.specs.inside.Readings.{after_bytes, unescaped}
 use Rattle.bt_keycode.proofs.decoder.unescape.Given as goal
 
 -- the bytes read so far, and what is read of those that are left, are what is read of all
