@@ -2,6 +2,7 @@ pub mod Behind
 pub mod Blanks
 pub mod Cuts
 pub mod Feeds
+pub mod Gets
 pub mod Joined
 pub mod Machine
 pub mod Names

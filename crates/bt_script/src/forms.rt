@@ -176,7 +176,8 @@ pub(crate) fn sums_command<'a>(
     }
 }
 
-fn get_command(head: &[u8]) -> Option<Command<'_>>
+/// The command of a get: one space and a record.
+pub(crate) fn get_command(head: &[u8]) -> Option<Command<'_>>
     ensures { result ≡ spec.get_command head.now }
 {
     record_behind(b"get ", without_spaces(head)).map(Command::Get)

@@ -1,11 +1,13 @@
 //! The parser of commands: what stands at a place of a script.
-ghost use Rattle.std.specs.Prelude.{◌≡◌, ◌∷◌, ◌<◌, ◌≤◌, IfOk, List, drop, length, ℕ};
+ghost use Rattle.std.specs.Prelude.{◌≡◌, ◌∷◌, ◌<◌, ◌≤◌, IfOk, List, drop, length, true, ℕ};
 ghost use Rattle.bt_script.specs.inside.Blocks.{FindsHeaded, NextBehind, block_answer, place_after};
 ghost use Rattle.bt_script.specs.Commands as spec;
 
 use crate::blocks::{Block, BlockEnd, read_bounds, read_items};
 use crate::command::{Command, Parsed};
-use crate::forms::{batch_command, line_command, load_command, scan_command, sums_command};
+use crate::forms::{
+    batch_command, get_command, line_command, load_command, scan_command, sums_command,
+};
 use crate::lines::{begins, is_blank, next_line, without_return, words};
 use crate::load::read_block_text;
 use bt_value::Refusal;
@@ -32,7 +34,14 @@ fn parsed_command(command: Option<Command<'_>>, end: BlockEnd) -> Parsed<'_>
     }
 }
 
-// The command of a head line, behind which its block starts at a place.
+// Whether a head line is the word `get` and a space, followed by a record.
+fn is_get(head: &[u8]) -> bool
+    ensures { result ≡ true → head.now ≡ 103 ∷ 101 ∷ 116 ∷ 32 ∷ drop 4 head.now }
+{
+    matches!(head, [b'g', b'e', b't', b' ', ..])
+}
+
+// The command of a head line, after which its block starts at a place. For a `get`, of which scripts have many, no list of words is made.
 #[tactic(auto, unfolding(crate::specs::Commands::closing_of))]
 fn parse_headed<'a>(
     alloc: Global,
@@ -44,6 +53,9 @@ fn parse_headed<'a>(
     ensures found { IfOk result (λ parsed. FindsHeaded parsed script.now head.now at) }
     ensures past { IfOk result (λ parsed. NextBehind parsed script.now at) }
 {
+    if is_get(head) {
+        return Ok(parsed_command(get_command(head), BlockEnd::Closed(at)));
+    }
     let words = words(alloc, head)?;
     if begins(&words, b"batch") {
         let Block { content, end } = read_items(alloc, script, at)?;

@@ -1,9 +1,18 @@
-use Rattle.std.proofs.Common.{[], ◌≡◌, ◌∙◌, None, Some, codes, ap, rules}
+use Rattle.std.proofs.Common.{[], ◌≡◌, ◌∙◌, ◌∷◌, None, Some, ap, codes, drop, rules, sym}
 use Rattle.bt_script.specs.inside.Blocks.{block_answer}
-use Rattle.bt_script.specs.Commands.{closing_of, command_of, load_command}
+use Rattle.bt_script.specs.Commands.{closing_of, command_of, get_command, load_command}
 use Rattle.bt_script.specs.Lines.{text_of_lines, words}
+use Rattle.bt_script.proofs.Gets.{closes_none, command_of_line}
 use Rattle.bt_script.proofs.Machine.{load-answer, headed-block, headed-line}
 use Rattle.bt_script.proofs.parse.parse_headed.Goals as goal
+
+pub returns-then-is_get-clause-found : goal.returns-then-is_get-clause-found
+returns-then-is_get-clause-found c =
+    let head = c.args.head.now in
+    let is : head ≡ 103 ∷ 101 ∷ 116 ∷ 32 ∷ drop 4 head = c.is_get.ensures c.if-is_get.true in
+    let closes : closing_of (words head) ≡ None = ap (λ h. closing_of (words h)) is ∙ closes_none (drop 4 head) in
+    let same : get_command head ≡ command_of head [] = ap get_command is ∙ sym (command_of_line (drop 4 head)) ∙ ap (λ h. command_of h []) (sym is) in
+    headed-line _ c.args.script.now head c.args.at _ closes (c.get_command.ensures ∙ same) (c.parsed_command.ensures.found _)
 
 pub returns-then-begins-clause-found : goal.returns-then-begins-clause-found
 unfolding closing_of command_of
@@ -12,7 +21,7 @@ returns-then-begins-clause-found c =
     let block = c.in_ok-content.ensures.block in
     let closes : closing_of (words head) ≡ Some (codes "end") = search rules in
     let made : command_of head block.0 ≡ c.batch_command.result = search rules in
-    headed-block _ c.args.script.now head _ c.args.at _ _ _ closes block.2 (ap (block_answer _) made) (c.parsed_command.ensures.found _)
+    headed-block _ c.args.script.now head _ c.args.at _ _ _ closes block.2 (ap (block_answer _) made) (c.parsed_command-then-begins.ensures.found _)
 
 pub returns-then-begins-2-clause-found : goal.returns-then-begins-2-clause-found
 unfolding closing_of command_of
