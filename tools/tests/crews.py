@@ -68,6 +68,15 @@ def pieces_of_a_batch_are_worked_by_two_threads():
         expect((by_two == alone, none, some), (True, 0, started))
 
 
+def a_load_by_one_worker_starts_no_thread():
+    """Records enough for several pieces. Two workers type them in threads, as many as the machine has processors."""
+    script = "\n".join([TABLE, INDEX, "load", "id,qty", *(f"{row * 7919 % 10_007},{row}" for row in range(10_000)), ".", "scan by_qty", "go", ""])
+    alone, none = run_and_threads(script, 1)
+    by_two, some = run_and_threads(script, 2)
+    expect(alone.split("\n")[3], "loaded 10000")
+    expect((by_two == alone, none, some > 0), (True, 0, True))
+
+
 def a_worker_goes_down_a_deep_tree():
     """Rows by falling keys, each in a batch of its own, make a tree of ten levels, and then a message goes down to each row. The started thread takes all
     the jobs, so what a job needs of the stack below the root is on the worker's."""
@@ -83,5 +92,6 @@ TESTS = [
     worked_scripts_have_the_same_replies_by_all_crews,
     every_crew_finds_other_replies,
     pieces_of_a_batch_are_worked_by_two_threads,
+    a_load_by_one_worker_starts_no_thread,
     a_worker_goes_down_a_deep_tree,
 ]

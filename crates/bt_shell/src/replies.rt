@@ -26,11 +26,25 @@ pub(crate) fn write_count(out: &mut Vec<u8>, word: &[u8], count: usize) -> Resul
     Ok(())
 }
 
-/// The reply that is a word, a number and a line end.
-pub(crate) fn count_reply(alloc: Global, word: &[u8], count: usize) -> Result<ReplyText, AllocError>
+// The room of a list, without its bytes.
+fn cleared(room: Vec<u8>) -> Vec<u8>
+    ensures { result.items ≡ [] }
+{
+    let mut text = room;
+    text.clear();
+    text
+}
+
+/// The reply that is a word, a number and a line end. As each reply here, it is written into the room of a list, whose bytes are dropped.
+pub(crate) fn count_reply(
+    alloc: Global,
+    word: &[u8],
+    count: usize,
+    room: Vec<u8>,
+) -> Result<ReplyText, AllocError>
     ensures { IfOk result (λ text. text ≡ count_line word.now count) }
 {
-    let mut text = Vec::new(alloc);
+    let mut text = cleared(room);
     write_count(&mut text, word, count)?;
     Ok(ReplyText::new(alloc, text))
 }
@@ -45,13 +59,14 @@ fn write_row_line(out: &mut Vec<u8>, row: &Row) -> Result<(), AllocError>
 }
 
 // The reply that is the row of a key, where it has one.
-fn row_reply(alloc: Global, row: Option<Row>) -> Result<ReplyText, AllocError>
+fn row_reply(alloc: Global, row: Option<Row>, room: Vec<u8>) -> Result<ReplyText, AllocError>
     ensures { IfOk result (λ text. text ≡ spec.row_reply row) }
 {
+    let mut text = cleared(room);
     let Some(row) = row else {
-        return Ok(ReplyText::new(alloc, Vec::from_slice(alloc, b"none\n")?));
+        text.extend_from_slice(b"none\n")?;
+        return Ok(ReplyText::new(alloc, text));
     };
-    let mut text = Vec::new(alloc);
     write_row_line(&mut text, &row)?;
     Ok(ReplyText::new(alloc, text))
 }
@@ -77,10 +92,16 @@ fn write_each_sent(out: &mut Vec<u8>, sent: &[SentCount]) -> Result<(), AllocErr
 }
 
 // The reply that is the number of messages of a batch, and that of each index.
-fn batch_reply(alloc: Global, count: usize, sent: &[SentCount]) -> Result<ReplyText, AllocError>
+fn batch_reply(
+    alloc: Global,
+    count: usize,
+    sent: &[SentCount],
+    room: Vec<u8>,
+) -> Result<ReplyText, AllocError>
     ensures { IfOk result (λ text. text ≡ spec.batch_reply count sent.now) }
 {
-    let mut text = Vec::from_slice(alloc, b"batch ")?;
+    let mut text = cleared(room);
+    text.extend_from_slice(b"batch ")?;
     write_number(&mut text, count as u64)?;
     write_each_sent(&mut text, sent)?;
     text.push(b'\n')?;
@@ -88,10 +109,16 @@ fn batch_reply(alloc: Global, count: usize, sent: &[SentCount]) -> Result<ReplyT
 }
 
 // The reply that is a word, a name and a line end.
-fn name_reply(alloc: Global, word: &[u8], name: &Text) -> Result<ReplyText, AllocError>
+fn name_reply(
+    alloc: Global,
+    word: &[u8],
+    name: &Text,
+    room: Vec<u8>,
+) -> Result<ReplyText, AllocError>
     ensures { IfOk result (λ text. text ≡ spec.name_line word.now name.now) }
 {
-    let mut text = Vec::from_slice(alloc, word)?;
+    let mut text = cleared(room);
+    text.extend_from_slice(word)?;
     text.extend_from_slice(name.as_bytes())?;
     text.push(b'\n')?;
     Ok(ReplyText::new(alloc, text))
@@ -103,10 +130,12 @@ fn build_reply(
     name: &Text,
     read: usize,
     complete: bool,
+    room: Vec<u8>,
 ) -> Result<ReplyText, AllocError>
     ensures { IfOk result (λ text. text ≡ spec.build_line name.now read complete) }
 {
-    let mut text = Vec::from_slice(alloc, b"build ")?;
+    let mut text = cleared(room);
+    text.extend_from_slice(b"build ")?;
     text.extend_from_slice(name.as_bytes())?;
     text.push(b' ')?;
     write_number(&mut text, read as u64)?;
@@ -119,23 +148,27 @@ fn build_reply(
     Ok(ReplyText::new(alloc, text))
 }
 
-/// The text of what a call on a table answers.
-pub(crate) fn reply_text(alloc: Global, reply: Reply) -> Result<ReplyText, AllocError>
+/// The text of what a call on a table returns.
+pub(crate) fn reply_text(
+    alloc: Global,
+    reply: Reply,
+    room: Vec<u8>,
+) -> Result<ReplyText, AllocError>
     ensures { IfOk result (λ text. text ≡ spec.reply_text reply) }
 {
     match reply {
-        Reply::Batch { count, sent } => batch_reply(alloc, count, sent.as_slice()),
-        Reply::Row(row) => row_reply(alloc, row),
-        Reply::Created(name) => name_reply(alloc, b"index ", &name),
+        Reply::Batch { count, sent } => batch_reply(alloc, count, sent.as_slice(), room),
+        Reply::Row(row) => row_reply(alloc, row, room),
+        Reply::Created(name) => name_reply(alloc, b"index ", &name, room),
         Reply::Built {
             name,
             read,
             complete,
-        } => build_reply(alloc, &name, read, complete),
-        Reply::Dropped(name) => name_reply(alloc, b"dropped ", &name),
-        Reply::Loaded(count) => count_reply(alloc, b"loaded ", count),
-        Reply::Drained(name) => name_reply(alloc, b"drained ", &name),
-        Reply::Rebuilt(name) => name_reply(alloc, b"rebuilt ", &name),
+        } => build_reply(alloc, &name, read, complete, room),
+        Reply::Dropped(name) => name_reply(alloc, b"dropped ", &name, room),
+        Reply::Loaded(count) => count_reply(alloc, b"loaded ", count, room),
+        Reply::Drained(name) => name_reply(alloc, b"drained ", &name, room),
+        Reply::Rebuilt(name) => name_reply(alloc, b"rebuilt ", &name, room),
     }
 }
 
@@ -163,7 +196,7 @@ fn write_sum_lines(out: &mut Vec<u8>, sums: &[Sum]) -> Result<(), AllocError>
     Ok(())
 }
 
-/// The reply that is the lines of groups, and then their number. It is written into the room that a list has, whose bytes are gone.
+/// The reply that is the lines of groups, and then their number.
 pub(crate) fn sums_reply(
     alloc: Global,
     sums: &[Sum],
@@ -171,8 +204,7 @@ pub(crate) fn sums_reply(
 ) -> Result<ReplyText, AllocError>
     ensures { IfOk result (λ text. text ≡ spec.sums_reply sums.now) }
 {
-    let mut text = room;
-    text.clear();
+    let mut text = cleared(room);
     write_sum_lines(&mut text, sums)?;
     write_count(&mut text, b"sums ", sums.len())?;
     Ok(ReplyText::new(alloc, text))
@@ -205,15 +237,13 @@ fn add_count(count: usize, more: usize) -> Result<usize, AllocError>
 }
 
 impl Lines {
-    /// No line, with the room that a list has, whose bytes are gone. Takes no memory.
+    /// No line, with the room of a list, whose bytes are dropped. Takes no memory.
     pub fn in_room(alloc: Global, room: Vec<u8>) -> Self
         ensures { result ≡ ([], 0) }
     {
-        let mut text = room;
-        text.clear();
         Lines {
             pieces: Vec::new(alloc),
-            text,
+            text: cleared(room),
             count: 0,
         }
     }

@@ -36,11 +36,15 @@ fn shape_of(fanout: u32, buffer: Capacity, leaf: u32) -> Result<Shape, Refusal>
 }
 
 // The text of what a call on the table returns.
-fn call_text(alloc: Global, reply: Result<Reply, Refusal>) -> Result<ReplyText, Refusal>
+fn call_text(
+    alloc: Global,
+    reply: Result<Reply, Refusal>,
+    room: Vec<u8>,
+) -> Result<ReplyText, Refusal>
     ensures answer { Answers (map_ok spec.reply_text reply) result }
     ensures refused { IfErr reply (IsErrOf result) }
 {
-    Ok(reply_text(alloc, reply?)?)
+    Ok(reply_text(alloc, reply?, room)?)
 }
 
 // The definition of a new index, or the least refusal of its name and of what it is made of.
@@ -67,7 +71,12 @@ fn index_def(alloc: Global, table: &Table, form: &IndexForm) -> Result<IndexDef,
 }
 
 // Creates an index.
-fn create_index(alloc: Global, table: &mut Table, form: IndexForm) -> Result<ReplyText, Refusal>
+fn create_index(
+    alloc: Global,
+    table: &mut Table,
+    form: IndexForm,
+    room: Vec<u8>,
+) -> Result<ReplyText, Refusal>
     ensures done { CarriesOut (Some table.old) (Some table.new) (command.Index form) result }
     ensures memory { IsErrOf result Refusal.OutOfMemory → IsCutShort (Some table.old) (Some table.new) (command.Index form) }
 {
@@ -79,7 +88,7 @@ fn create_index(alloc: Global, table: &mut Table, form: IndexForm) -> Result<Rep
         filter,
     } = form;
     drop((on, include, filter));
-    call_text(alloc, table.create_index(alloc, name, def?))
+    call_text(alloc, table.create_index(alloc, name, def?), room)
 }
 
 // Writes the rows of a range as lines, into the room of a list.
@@ -119,7 +128,7 @@ fn image(alloc: Global, table: &Table, name: &Text) -> Result<ReplyText, Refusal
     Ok(ReplyText::new(alloc, bt_view::image(alloc, table, name)?))
 }
 
-// The reply to a command where there is a table, or its refusal. Where a reply has many lines, they are written into the room of a list.
+// The reply to a command where there is a table, or its refusal. All replies but an image are written into the room of a list.
 fn reply_of_table<T, C: ScriptWorkforce<T>>(
     context: &Context<'_, T, C>,
     table: &mut Table,
@@ -133,20 +142,27 @@ fn reply_of_table<T, C: ScriptWorkforce<T>>(
     let Context { rt, alloc, crew } = *context;
     match command {
         Command::Table(_form) => Err(Refusal::TableExists),
-        Command::Batch(items) => call_text(alloc, table.apply(rt, alloc, items.as_slice(), crew)),
-        Command::Get(fields) => call_text(alloc, table.get(alloc, &fields)),
+        Command::Batch(items) => call_text(
+            alloc,
+            table.apply(rt, alloc, items.as_slice(), crew),
+            room,
+        ),
+        Command::Get(fields) => call_text(alloc, table.get(alloc, &fields), room),
         Command::Scan(tree, bounds) => scan(context, table, &tree, &bounds, room),
         Command::Sums(form) => sums(context, table, &form, room),
         Command::Image(tree) => image(alloc, table, &tree),
-        Command::Index(form) => create_index(alloc, table, form),
+        Command::Index(form) => create_index(alloc, table, form, room),
         Command::Build(name, count) => call_text(
             alloc,
             table.build_step(rt, alloc, &name, count as usize, crew),
+            room,
         ),
-        Command::Drop(name) => call_text(alloc, table.drop_index(&name)),
-        Command::Load(text) => call_text(alloc, crew.load(rt, alloc, table, text.as_bytes())),
-        Command::Drain(tree) => call_text(alloc, table.drain(rt, alloc, &tree, crew)),
-        Command::Rebuild(tree) => call_text(alloc, table.rebuild(rt, alloc, &tree, crew)),
+        Command::Drop(name) => call_text(alloc, table.drop_index(&name), room),
+        Command::Load(text) => {
+            call_text(alloc, crew.load(rt, alloc, table, text.as_bytes()), room)
+        }
+        Command::Drain(tree) => call_text(alloc, table.drain(rt, alloc, &tree, crew), room),
+        Command::Rebuild(tree) => call_text(alloc, table.rebuild(rt, alloc, &tree, crew), room),
     }
 }
 
@@ -155,6 +171,7 @@ fn create_table(
     alloc: Global,
     table: &mut Option<Table>,
     form: TableForm,
+    room: Vec<u8>,
 ) -> Result<ReplyText, Refusal>
     requires { table.old ≡ None }
     ensures done { CarriesOut table.old table.new (command.Table form) result }
@@ -165,7 +182,7 @@ fn create_table(
         return Err(Refusal::BadSchema);
     };
     let shape = shape_of(form.fanout, form.buffer, form.leaf)?;
-    let text = count_reply(alloc, b"table ", count)?;
+    let text = count_reply(alloc, b"table ", count, room)?;
     *table = Some(Table::new(alloc, schema, shape));
     Ok(text)
 }
@@ -185,7 +202,7 @@ fn command_reply<T, C: ScriptWorkforce<T>>(
         return reply_of_table(context, table, command, room);
     }
     match command {
-        Command::Table(form) => create_table(context.alloc, table, form),
+        Command::Table(form) => create_table(context.alloc, table, form, room),
         _ => Err(Refusal::NoTable),
     }
 }
@@ -234,7 +251,7 @@ fn take_turn<T, C: ScriptWorkforce<T>>(
 /// The reply to the command at a place, with the place after it, or `None` if there is none further. An `Err` is for a refused request for memory: the table is
 /// as it was, as the command leaves it, or lost.
 ///
-/// A reply of many lines takes the room of a list, such as the reply before it, so that scans one after the other ask for it once.
+/// The reply takes the room of a list, such as the reply before it, so that replies one after the other ask for it once.
 pub(crate) fn next_reply<T, C: ScriptWorkforce<T>>(
     context: &Context<'_, T, C>,
     script: &[u8],

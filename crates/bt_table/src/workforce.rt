@@ -19,6 +19,7 @@ use bt_batch::read_packet;
 use bt_fanout::{Cover, Effect, IndexDef, effects, index_packet};
 use bt_gang::{Crew, Gate, NoGate};
 use bt_gather::{MOST_TREES, drain, rebuild, sink};
+use bt_load::InTurn;
 use bt_messages::{Entry, Packet};
 use bt_node::Tree;
 use bt_row::{Row, Schema};
@@ -129,6 +130,28 @@ pub trait Workforce<T> {
         ensures sound { IsSoundUnlessLost table.new };
 }
 
+// Takes the rows of a CSV text into a table, as [`Table::load`] says: one worker in turn, several in threads.
+fn load_by_workers<T: Threads + Sync>(
+    rt: &T,
+    alloc: Global,
+    table: &mut Table,
+    text: &[u8],
+    workers: usize,
+) -> Result<Reply, Refusal>
+    ensures done { IfOk result (IsStep table.old table.new (Load text.now)) }
+    ensures refused { IfErr result (IsRefused table.old table.new (Load text.now)) }
+    ensures unchanged { OnErr result (table.new ≡ table.old) }
+    ensures failed { table.old ≡ Lost → IsErrOf result Refusal.Failed }
+    ensures complete { CompleteIndexesHold table.new }
+    ensures sound { IsSoundUnlessLost table.new }
+{
+    if workers == 1 {
+        table.load_by(&InTurn, alloc, text)
+    } else {
+        table.load(rt, alloc, text)
+    }
+}
+
 impl<T: Threads + Wait + Sync> Workforce<T> for Crew<NoGate> {
     ghost use denote.Param.Send.{IsSync};
 
@@ -214,7 +237,7 @@ impl<T: Threads + Wait + Sync> Workforce<T> for Crew<NoGate> {
         table: &mut Table,
         text: &[u8],
     ) -> Result<Reply, Refusal> {
-        table.load(rt, alloc, text)
+        load_by_workers(rt, alloc, table, text, self.workers)
     }
 }
 
@@ -303,6 +326,6 @@ impl<T: Threads + Wait + Sync> Workforce<T> for Crew<&(dyn Gate + Sync)> {
         table: &mut Table,
         text: &[u8],
     ) -> Result<Reply, Refusal> {
-        table.load(rt, alloc, text)
+        load_by_workers(rt, alloc, table, text, self.workers)
     }
 }

@@ -46,9 +46,9 @@ impl Table {
     /// Takes the rows of a CSV text, under a header with the names of the columns in order, as those of a table that has none, and for each index their
     /// entries.
     ///
-    /// The least refusal that applies is answered, and an `Err` changes nothing: `BadSchema` for another header, `BadField` and `BadLength` with the number of
-    /// the record behind it, `Building` where some index is not complete, `NotEmpty` where the tree of the rows is more than one leaf without rows, `DuplicateKey` with
-    /// the number of the first record whose key an earlier one has. Records are read and sorted in threads.
+    /// The least refusal that applies is returned, and an `Err` changes nothing: `BadSchema` for another header, `BadField` and `BadLength` with the number of
+    /// the record after the header, `Building` if an index is not complete, `NotEmpty` if the tree of the rows is more than one leaf without rows, `DuplicateKey`
+    /// with the number of the first record whose key an earlier one has. Records are typed and sorted in threads.
     pub fn load(
         &mut self,
         rt: &(impl Threads + Sync),
