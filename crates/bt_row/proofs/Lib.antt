@@ -1,4 +1,6 @@
+pub mod Fronts
 pub mod LentValues
+pub mod offered
 pub mod Packing
 pub mod ReadFits
 pub mod RecordTexts
@@ -6,4 +8,3 @@ pub mod Replacements
 pub mod RowFits
 pub mod Walks
 pub mod WorkedOps
-pub mod offered

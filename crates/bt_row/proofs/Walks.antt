@@ -92,12 +92,20 @@ pub record HasValue (bytes : List ℕ) (place at : ℕ) : Type 0 where
   pub value : slice_get (unpacked bytes) place ≡ Some (first_of (drop at bytes))
   pub in_range : IsInRange (first_of (drop at bytes))
 
-pub has_value : (bytes : List ℕ) (place at : ℕ) → IsAt bytes place at → place < length (unpacked bytes) → HasValue bytes place at
-has_value bytes place at here within =
-    let some : at < length bytes = before_end bytes place at within here in
+-- a value begins where bytes are left
+pub value_there : (bytes : List ℕ) (place at : ℕ) → IsAt bytes place at → at < length bytes → HasValue bytes place at
+value_there bytes place at here some =
     let left : 0 < length (drop at bytes) = omega (arith, length-drop at bytes) in
     let first = has_first (drop at bytes) here.rest left in
     record { some = some; left = left; within = first.within; value = first_dropped place (unpacked bytes) _ _ (sym here.values ∙ first.values); in_range = first.in_range }
+
+pub has_value : (bytes : List ℕ) (place at : ℕ) → IsAt bytes place at → place < length (unpacked bytes) → HasValue bytes place at
+has_value bytes place at here within = value_there bytes place at here (before_end bytes place at within here)
+
+pub no_value_there : (bytes : List ℕ) (place at : ℕ) → IsAt bytes place at → length bytes ≤ at → length (unpacked bytes) ≤ place
+no_value_there bytes place at here all =
+    let none : drop place (unpacked bytes) ≡ [] = sym here.values ∙ ap unpacked (drop_all at bytes all) ∙ unpacked_none in
+    omega (arith, ap length none, length-drop place (unpacked bytes))
 
 pub are_first_packed : (bytes : List ℕ) (count end : ℕ) → IsPacked bytes → IsAt bytes count end → IsPacked (take end bytes)
 are_first_packed bytes count end h here = subst IsPacked here.front (are_packed _ (in_range-take count (unpacked bytes) h.in_range))

@@ -7,6 +7,8 @@ ghost use Rattle.bt_value.specs.Values.{BytesFit, IsInRange};
 ghost use Rattle.bt_row.specs.inside.Packing.{IsPacked, int_bytes, packed_values, packed_content, packed_value, unpacked};
 ghost use Rattle.bt_value.specs.Views.{value_of_ref};
 
+mod front;
+
 use crate::growing_bytes::GrowingBytes;
 use crate::op::Arithmetic;
 use crate::packed_values::{count, first_at, offset, width_at};
