@@ -42,6 +42,7 @@ enum ByteAction {
 }
 
 // What a byte does in a field, outside quotes. The state after the end of a record is of no use.
+#[inline(always)]
 fn in_field(byte: u8) -> (State, ByteAction)
     ensures action { csv_action result.1 ≡ (csv_step default_config (csv_state State.Plain) byte).1 }
     ensures state { is_end (csv_action result.1) ≡ false → csv_state result.0 ≡ (csv_step default_config (csv_state State.Plain) byte).0 }
@@ -54,6 +55,7 @@ fn in_field(byte: u8) -> (State, ByteAction)
 }
 
 // What a byte does at the start of a field.
+#[inline(always)]
 fn start_field(byte: u8) -> (State, ByteAction)
     ensures action { csv_action result.1 ≡ (csv_step default_config (csv_state State.Field) byte).1 }
     ensures state { is_end (csv_action result.1) ≡ false → csv_state result.0 ≡ (csv_step default_config (csv_state State.Field) byte).0 }
@@ -66,6 +68,7 @@ fn start_field(byte: u8) -> (State, ByteAction)
 }
 
 // What a byte does in a state, and the state behind it, but for that after the end of a record.
+#[inline(always)]
 fn step(state: State, byte: u8) -> (State, ByteAction)
     ensures action { csv_action result.1 ≡ (csv_step default_config (csv_state state) byte).1 }
     ensures state { is_end (csv_action result.1) ≡ false → csv_state result.0 ≡ (csv_step default_config (csv_state state) byte).0 }
