@@ -3,4 +3,5 @@ pub mod IntTexts
 pub mod Paddings
 pub mod Quotes
 pub mod Spelling
+pub mod Tables
 pub mod offered
