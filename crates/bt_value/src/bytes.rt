@@ -98,7 +98,12 @@ impl Bytes {
     pub fn copy(&self, alloc: Global) -> Result<Self, AllocError>
         ensures { IfOk result (λ copy. copy ≡ self.now) }
     {
-        Bytes::from_slice(alloc, self.as_slice())
+        match &self.storage {
+            BytesStorage::Short(len, bytes) => Ok(Bytes {
+                storage: BytesStorage::Short(*len, *bytes),
+            }),
+            BytesStorage::Long(bytes) => Bytes::from_slice(alloc, bytes.as_slice()),
+        }
     }
 
     /// The bytes, and behind fewer than 22 of them so many zeros.
