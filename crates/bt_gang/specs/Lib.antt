@@ -2,6 +2,7 @@ pub mod inside
 pub mod Numbers
 pub mod Board
 pub mod Crews
+pub mod Jobs
 pub mod Pieces
 pub mod Queue
 pub mod Numbered

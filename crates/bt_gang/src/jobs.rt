@@ -1,6 +1,6 @@
 //! The jobs of one call, in their queue.
 ghost use Rattle.std.specs.Prelude.{◌≡◌, ◌<◌, IfOk, vec_len};
-ghost use Rattle.crossbeam_queue.specs.Passes.{IsPassOf, view};
+ghost use Rattle.crossbeam_queue.specs.Passes.{view};
 ghost use Rattle.bt_gang.specs.declared.crew.TheConstants.{MOST_WORKERS};
 ghost use Rattle.bt_gang.specs.Queue.{known, no_lists};
 
@@ -20,6 +20,8 @@ pub struct Jobs<J: Drop, D: Drop, F: Drop> {
 }
 
 impl<J: Drop, D: Drop, F: Drop> Jobs<J, D, F> {
+    ghost use Rattle.bt_gang.specs.Jobs.{IsJobPass};
+
     /// The queue with every job waiting in it, and the pass that pushed them, which has the lists of all workers. All room, that for the answers too, is made
     /// before the first push.
     pub fn new<R: Wait>(
@@ -28,7 +30,7 @@ impl<J: Drop, D: Drop, F: Drop> Jobs<J, D, F> {
         jobs: Vec<J>,
     ) -> Result<(Jobs<J, D, F>, JobPass<J, D, F>), AllocError>
         requires { 0 < vec_len jobs }
-        ensures { IfOk result (λ q. IsPassOf q.0.queue q.1 × (view q.1 ≡ known jobs.items (no_lists MOST_WORKERS))) }
+        ensures { IfOk result (λ q. IsJobPass q.0 q.1 × (view q.1 ≡ known jobs.items (no_lists MOST_WORKERS))) }
     {
         let rooms = answer_rooms(alloc, jobs.len())?;
         let (queue, mut pass) = JobQueue::<J, AnswerRoom<D, F>>::ruled(alloc, jobs.len())?;

@@ -1,6 +1,7 @@
 //! One worker's loop.
 ghost use Rattle.std.specs.Prelude.{◌+◌, ◌≤◌, All, length};
-ghost use Rattle.crossbeam_queue.specs.Passes.{IsPassOf, view};
+ghost use Rattle.crossbeam_queue.specs.Passes.{view};
+ghost use Rattle.bt_gang.specs.Jobs.{IsJobPass};
 ghost use Rattle.bt_gang.specs.Queue.{HasList, NothingWaits, numbers_of};
 ghost use Rattle.bt_gang.specs.Answers.{FoundNothing, Gains};
 
@@ -23,10 +24,10 @@ pub fn serve<W: Work, G: Gate, R: Wait>(
     crew: &Crew<G>,
     out: &mut Answers<W::Done, W::Fault>,
 )
-    requires pass { IsPassOf jobs.now.queue pass.old × HasList (view pass.old) }
+    requires pass { IsJobPass jobs.now pass.old × HasList (view pass.old) }
     requires accepts { All (λ job. W.accepts work.now job) (view pass.old).jobs }
     requires spare { length (view pass.old).jobs ≤ out.old.spare + length (numbers_of (view pass.old).lists) }
-    ensures pass { IsPassOf jobs.now.queue pass.new }
+    ensures pass { IsJobPass jobs.now pass.new }
     ensures gains { Gains (W.allows work.now) (view pass.old) (view pass.new) out.old out.new }
     ensures settled { NothingWaits (view pass.new) }
     ensures last { FoundNothing (view pass.new) }
