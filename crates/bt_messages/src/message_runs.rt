@@ -65,7 +65,21 @@ pub(crate) fn room_for_one<V: Merge>(
     add_run(runs, full)
 }
 
-/// The runs of sorted messages.
+// Sorted messages as one run, if there are any.
+fn one_run<V: Merge>(
+    alloc: Global,
+    messages: Vec<(Key, Message<V>)>,
+) -> Result<Vec<Buffer<V>>, AllocError>
+    requires { IsSorted messages.items }
+    ensures concatenation { IfOk result (λ runs. concatenation runs.items ≡ messages.items) }
+    ensures some { IfOk result (λ runs. AreSome runs.items) }
+{
+    let mut runs = Vec::new(alloc);
+    add_run(&mut runs, messages)?;
+    Ok(runs)
+}
+
+/// The runs of sorted messages. Few messages are one run as they are, and none of them is moved.
 pub(crate) fn runs_of<V: Merge>(
     alloc: Global,
     messages: Vec<(Key, Message<V>)>,
@@ -74,6 +88,9 @@ pub(crate) fn runs_of<V: Merge>(
     ensures concatenation { IfOk result (λ runs. concatenation runs.items ≡ messages.items) }
     ensures some { IfOk result (λ runs. AreSome runs.items) }
 {
+    if messages.len() <= RUN_LEN {
+        return one_run(alloc, messages);
+    }
     let mut runs = Vec::new(alloc);
     let mut run = Vec::new(alloc);
     for entry in messages {
