@@ -19,7 +19,7 @@ module _ {M : Type 0} where
   from_first k (m ∷ ms) zero d h l = h.0
   from_first k (m ∷ ms) (suc j) d h l = from_first k ms j d h.1 (omega arith)
 
-  in_order : (ms : Messages M) (i j : ℕ) (d : List ℕ × M) → IsSorted ms → i ≤ j → j < length ms → is_before (get_or ms j d).0 (get_or ms i d).0 ≡ false
+  pub in_order : (ms : Messages M) (i j : ℕ) (d : List ℕ × M) → IsSorted ms → i ≤ j → j < length ms → is_before (get_or ms j d).0 (get_or ms i d).0 ≡ false
   in_order [] i j d h l n = absurd (omega arith)
   in_order (m ∷ ms) zero zero d h l n = not_before_itself m.0
   in_order (m ∷ ms) zero (suc j) d h l n = from_first m.0 ms j d h.0 (omega arith)

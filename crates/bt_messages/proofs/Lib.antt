@@ -1,5 +1,7 @@
 pub mod Counts
 pub mod Cuts
+pub mod Errors
+pub mod Insertions
 pub mod Merging
 pub mod PacketMerges
 pub mod RunLists

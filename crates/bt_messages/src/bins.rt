@@ -17,7 +17,7 @@ use crate::iter::Messages;
 use crate::measure::Measure;
 use crate::message::Merge;
 use crate::packet::Packet;
-use crate::share::{Share, move_each, room_for_each};
+use crate::share::{Share, add_shares};
 use crate::stream::Stream;
 use bt_keycode::Key;
 use std::alloc::{AllocError, Global};
@@ -205,9 +205,7 @@ impl<V: Merge> Bins<V> {
         ensures err { OnErr result (self.new ≡ self.old) }
         ensures err_stream { OnErr result (stream.new ≡ stream.old) }
     {
-        let _bound = stream.len();
-        let rooms = room_for_each(alloc, self.bins.as_slice(), shares)?;
-        move_each(alloc, &mut self.bins, rooms, stream, shares);
+        add_shares(alloc, &mut self.bins, stream, shares)?;
         self.count = count_all(self.bins.as_slice());
         Ok(())
     }

@@ -20,6 +20,16 @@ pub(crate) fn count_before<X>(messages: &[(Key, X)], key: &Key) -> usize
     messages.partition_point(|entry| entry.0.compare(key) == Ordering::Less)
 }
 
+/// How many of sorted messages have a key that is not past this one.
+pub(crate) fn count_up_to<X>(messages: &[(Key, X)], key: &Key) -> usize
+    requires { IsSorted messages.now }
+    ensures bound { result ≤ length messages.now }
+    ensures up_to { take result messages.now ≡ messages_up_to key.now messages.now }
+    ensures past { drop result messages.now ≡ messages_past key.now messages.now }
+{
+    messages.partition_point(|entry| key.compare(&entry.0) != Ordering::Less)
+}
+
 /// Moves the first messages, as far as their keys are not past this one.
 pub(crate) fn move_up_to<V: Merge>(
     merged: &mut Vec<(Key, Message<V>)>,

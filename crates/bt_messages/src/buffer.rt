@@ -1,7 +1,7 @@
 //! Buffers: what is pending for a node, one list.
 //!
 //! The trees make no call of `add` and `take_range`: they serve those who call this crate themselves.
-ghost use Rattle.std.specs.Prelude.{◌≡◌, ◌==◌, ◌<◌, ◌≤◌, ◌^◌, [], List, ℕ, IfOk, IfSome, MatchOption, OnOk, Some, OnErr, drop, length, take};
+ghost use Rattle.std.specs.Prelude.{◌≡◌, ◌==◌, ◌+◌, ◌<◌, ◌≤◌, ◌^◌, [], List, ℕ, IfOk, IfSome, MatchOption, OnOk, Some, OnErr, drop, length, take, vec_capacity, vec_len};
 ghost use Rattle.bt_keycode.specs.Keys.{AllFrom, IsSorted};
 ghost use Rattle.bt_messages.specs.Bins.{AllBefore};
 ghost use Rattle.bt_messages.specs.Messages.{messages_between, messages_from, messages_outside, with_messages};
@@ -18,13 +18,16 @@ use crate::iter::Messages;
 use crate::measure::{Measure, weigh_all};
 use crate::message::{Merge, Message};
 use crate::packet::Packet;
-use crate::share::{Share, gain};
+use crate::share::{Share, gain, insert_front};
 use crate::stream::Stream;
 use bt_keycode::Key;
 use std::alloc::{AllocError, Global};
 use std::cmp::Ordering;
 use std::marker::Model;
 use std::mem::replace;
+
+// Up to this many messages are inserted in their places, in the room that a buffer has: that moves less than a merge into new room.
+const FEW: usize = 2;
 
 /// Messages that are pending, sorted by key, those of one key in the order in which they came.
 #[derive(Drop)]
@@ -47,6 +50,20 @@ impl<V: Merge> Model for Buffer<V> {
     ghost use Rattle.bt_messages.specs.Weights.{weigh_of};
 
     ghost invariant = { λ b. IsBuffer (weigh_of V.terms) b.messages.items b.sum };
+}
+
+// Makes room for that many more messages. Where it is missing, the room grows by a quarter of the messages as well, so that small
+// shares do not move all messages to new room each time.
+fn reserve<V: Merge>(messages: &mut Vec<(Key, Message<V>)>, more: usize) -> Result<(), AllocError>
+    requires { more < 2 ^ 63 }
+    ensures room { OnOk result (vec_len messages.new + more ≤ vec_capacity messages.new) }
+    ensures same { messages.new.items ≡ messages.old.items }
+{
+    if messages.capacity() - messages.len() >= more {
+        return Ok(());
+    }
+    messages.reserve_exact(messages.len() / 4 + more)?;
+    Ok(())
 }
 
 impl<V: Merge> Buffer<V> {
@@ -180,8 +197,30 @@ impl<V: Merge> Buffer<V> {
         ensures err_stream { OnErr result (stream.new ≡ stream.old) }
     {
         let _bound = stream.len();
+        if share.count == 0 {
+            return Ok(());
+        }
+        if share.count <= FEW {
+            return self.insert_front(stream, share);
+        }
         let mut room = self.room_with(alloc, share.count)?;
         gain(alloc, self, &mut room, stream, share);
+        Ok(())
+    }
+
+    // Moves the first messages of a stream to their places, one by one.
+    fn insert_front(&mut self, stream: &mut Stream<V>, share: Share) -> Result<(), AllocError>
+        requires { IsShare (weigh_of V.terms) stream.old share }
+        ensures added { OnOk result (self.new ≡ with_messages (take share.count stream.old) self.old) }
+        ensures left { OnOk result (stream.new ≡ drop share.count stream.old) }
+        ensures err { OnErr result (self.new ≡ self.old) }
+        ensures err_stream { OnErr result (stream.new ≡ stream.old) }
+    {
+        let _bound = stream.len();
+        let sum = self.sum_with(share);
+        reserve(&mut self.messages, share.count)?;
+        insert_front(&mut self.messages, stream, share.count);
+        self.sum = sum;
         Ok(())
     }
 

@@ -1,9 +1,9 @@
 //! Shares of a stream, moved to buffers.
-ghost use Rattle.std.specs.Prelude.{◌≡◌, ◌+◌, ◌<◌, ◌≤◌, ◌++◌, ◌^◌, IfOk, None, drop, length, take, vec_len, vec_capacity};
+ghost use Rattle.std.specs.Prelude.{◌≡◌, ◌≢◌, ◌+◌, ◌<◌, ◌≤◌, ◌++◌, ◌^◌, ℕ, IfOk, IfSome, None, OnErr, OnOk, drop, get_or, length, take, vec_len, vec_capacity};
 ghost use Rattle.bt_keycode.specs.Keys.{IsSorted};
 ghost use Rattle.bt_messages.specs.Bins.{each_with};
 ghost use Rattle.bt_messages.specs.Parts.{parted, total};
-ghost use Rattle.bt_messages.specs.Messages.{with_messages};
+ghost use Rattle.bt_messages.specs.Messages.{with_message, with_messages};
 ghost use Rattle.bt_messages.specs.Shares.{AreShares, IsShare, counts, load_of};
 ghost use Rattle.bt_messages.specs.Weights.{weigh_of};
 ghost use Rattle.bt_messages.specs.inside.Rooms.{HasRoom, HaveRoom};
@@ -49,8 +49,8 @@ impl Share {
     }
 }
 
-/// For each buffer, room for what it holds and is to gain.
-pub(crate) fn room_for_each<V: Merge>(
+// For each buffer, room for what it holds and is to gain.
+fn room_for_each<V: Merge>(
     alloc: Global,
     buffers: &[Buffer<V>],
     shares: &[Share],
@@ -80,6 +80,42 @@ fn append_reserved<V: Merge>(
 {
     for entry in messages {
         merged.push_reserved(entry);
+    }
+}
+
+// Moves a message to its place among sorted ones, after those of its key. There is room for it.
+fn insert<V: Merge>(messages: &mut Vec<(Key, Message<V>)>, entry: (Key, Message<V>))
+    requires sorted { IsSorted messages.old.items }
+    requires room { vec_len messages.old < vec_capacity messages.old }
+    ensures inserted { messages.new.items ≡ with_message entry messages.old.items }
+    ensures sorted { IsSorted messages.new.items }
+    ensures len { vec_len messages.new ≡ vec_len messages.old + 1 }
+    ensures capacity { vec_capacity messages.new ≡ vec_capacity messages.old }
+{
+    let place = bounds::count_up_to(messages.as_slice(), &entry.0);
+    let Ok(()) = messages.insert(place, entry) else {
+        unreachable!()
+    };
+}
+
+/// Moves the first messages of a stream to their places among sorted ones, one by one, each after those of its key. There is room for
+/// them.
+pub(crate) fn insert_front<V: Merge>(
+    messages: &mut Vec<(Key, Message<V>)>,
+    stream: &mut Stream<V>,
+    count: usize,
+)
+    requires count { count ≤ length stream.old }
+    requires room { vec_len messages.old + count ≤ vec_capacity messages.old }
+    requires sorted { IsSorted messages.old.items }
+    ensures inserted { messages.new.items ≡ with_messages (take count stream.old) messages.old.items }
+    ensures sorted { IsSorted messages.new.items }
+    ensures left { stream.new ≡ drop count stream.old }
+{
+    for _ in 0..count {
+        if let Some(entry) = stream.pop() {
+            insert(messages, entry);
+        }
     }
 }
 
@@ -136,8 +172,8 @@ pub(crate) fn gain<V: Merge>(
     *buffer = Buffer::with_sum(merged, sum);
 }
 
-/// Moves shares from the front of a stream to the buffers, by way of the rooms.
-pub(crate) fn move_each<V: Merge>(
+// Moves shares from the front of a stream to the buffers, by way of the rooms.
+fn move_each<V: Merge>(
     alloc: Global,
     buffers: &mut Vec<Buffer<V>>,
     rooms: Vec<Vec<(Key, Message<V>)>>,
@@ -161,4 +197,58 @@ pub(crate) fn move_each<V: Merge>(
             shares[place],
         );
     }
+}
+
+// The first place, from a given one on, of a share that has messages, or the number of shares if there is none.
+fn filled_place(shares: &[Share], from: usize) -> usize
+    requires { from ≤ length shares.now }
+    ensures from { from ≤ result }
+    ensures bound { result ≤ length shares.now }
+    ensures empty { (j : ℕ) → from ≤ j → j < result → get_or (counts shares.now) j 0 ≡ 0 }
+{
+    for place in from..shares.len() {
+        if shares[place].count != 0 {
+            return place;
+        }
+    }
+    shares.len()
+}
+
+// The place of the share that has messages, if only one has.
+fn only_place(shares: &[Share]) -> Option<usize>
+    ensures bound { IfSome result (λ place. place < length shares.now) }
+    ensures only { IfSome result (λ place. (j : ℕ) → j ≢ place → get_or (counts shares.now) j 0 ≡ 0) }
+{
+    let place = filled_place(shares, 0);
+    if place == shares.len() {
+        return None;
+    }
+    let next = filled_place(shares, place + 1);
+    if next < shares.len() {
+        return None;
+    }
+    Some(place)
+}
+
+/// Moves shares from the front of a stream to the buffers, each message after those of its key. An `Err` changes nothing.
+pub(crate) fn add_shares<V: Merge>(
+    alloc: Global,
+    buffers: &mut Vec<Buffer<V>>,
+    stream: &mut Stream<V>,
+    shares: &[Share],
+) -> Result<(), AllocError>
+    requires len { length shares.now ≡ length buffers.old.items }
+    requires shares { AreShares (weigh_of V.terms) stream.old shares.now }
+    ensures added { OnOk result (buffers.new.items ≡ each_with (parted (counts shares.now) stream.old) buffers.old.items) }
+    ensures left { OnOk result (stream.new ≡ drop (total (counts shares.now)) stream.old) }
+    ensures err { OnErr result (buffers.new.items ≡ buffers.old.items) }
+    ensures err_stream { OnErr result (stream.new ≡ stream.old) }
+{
+    if let Some(place) = only_place(shares) {
+        return buffers[place].add_front(alloc, stream, shares[place]);
+    }
+    let _bound = stream.len();
+    let rooms = room_for_each(alloc, buffers.as_slice(), shares)?;
+    move_each(alloc, buffers, rooms, stream, shares);
+    Ok(())
 }

@@ -1,0 +1,6 @@
+-- A fact after any result, as what a clause on errors asks.
+use Rattle.std.proofs.Common.{Result, Ok, Err, OnErr}
+
+pub at_error : {X E P : Type 0} (r : Result X E) → P → OnErr r P
+at_error (Ok x) h = tt
+at_error (Err e) h = h
