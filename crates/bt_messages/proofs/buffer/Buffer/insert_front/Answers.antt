@@ -1,4 +1,4 @@
-use Rattle.std.proofs.Common.{◌≡◌, ◌<◌, ◌∙◌, ap, arith, length, subst, sym, take}
+use Rattle.std.proofs.Common.{◌<◌, ◌∙◌, ap, arith, length, subst, sym, take}
 use Rattle.bt_keycode.specs.Keys.{IsSorted}
 use Rattle.bt_messages.specs.Messages.{with_messages}
 use Rattle.bt_messages.specs.Weights.{IsSum, weigh_of}
