@@ -1,15 +1,16 @@
 -- Steps of the cutting of lines into commands. Serves the parser, which goes by places of a script.
-use Rattle.std.proofs.Common.{ℕ, Bool, List, [], ◌∷◌, ◌++◌, ◌≡◌, ◌==◌, ◌∙◌, refl, sym, ap, subst, true, false, not, Option, Some, None, drop, length, map, filter, ◌<◌, ◌≤◌, arith, inl, inr}
-use Rattle.std.proofs.lemmas.Bool.{cases_Bool}
+use Rattle.std.proofs.Common.{ℕ, Bool, List, [], ◌∷◌, ◌++◌, ◌≡◌, ◌==◌, ◌∙◌, refl, sym, ap, subst, true, false, not, Option, Some, None, drop, length, map, filter, ◌<◌, ◌≤◌, arith, inl, inr, codes, true≢false}
+use Rattle.std.proofs.lemmas.Bool.{cases_Bool, eqb-true}
 use Rattle.std.proofs.lemmas.List.{append-nil, drop_all, map-append}
 use Rattle.std.proofs.lemmas.List.Elements.{filter-append}
-use Rattle.std.proofs.lemmas.List.Sums.{fold-append}
-use Rattle.std.specs.Prelude.{option_map}
-use Rattle.bt_script.specs.inside.Blocks.{FindsHeaded, IsBlock, and_line, block_answer, headed, is_closed, place_after, with_last}
-use Rattle.bt_script.specs.Commands.{Answer, Finds, Inside, Outside, all_some, and_bound, bounds_of, closing_of, command_of, commands, commands_from, is_blank_line, is_word, item_of_line, items_of, line_step, load_command, or_syntax, unbounded, unfinished}
+use Rattle.std.specs.Prelude.{◌&&◌, if◌then◌else◌, is_none, is_some, option_map}
+use Rattle.bt_record.specs.Records.{record_of}
+use Rattle.bt_script.specs.inside.Blocks.{FindsHeaded, IsBlock, and_bound, and_line, block_answer, headed, is_closed, place_after, with_bound, with_last}
+use Rattle.bt_script.specs.Commands.{Answer, Finds, Inside, Outside, all_some, behind_prefix, bounds_between, bounds_from, bounds_of, closing_of, command_of, commands, commands_from, filled_lines, if_some, is_blank_line, is_word, item_of_line, items_of, line_step, load_command, lower_bound, or_syntax, text_of_line, unfinished, upper_bound}
 use Rattle.bt_script.specs.Lines.{lines, words, without_return}
 use Rattle.bt_script.specs.declared.blocks.BlockEnd.{BlockEnd}
 use Rattle.bt_script.specs.declared.blocks.BlockEnd.TheVariants.{Closed, CutOff}
+use Rattle.bt_script.specs.declared.command.Bounds.{Bounds}
 use Rattle.bt_script.specs.declared.command.Command.{Command}
 use Rattle.bt_script.specs.declared.command.Parsed.{Parsed}
 
@@ -34,10 +35,70 @@ items-more block line = elim (cases_Bool (is_blank_line line)) [
       (all_some-snoc (map item_of_line (filter (λ l. not (is_blank_line l)) block)) (item_of_line line))
 ]
 
+-- a line that begins with `from` does not begin with `to`
+not_upper : (line : List ℕ) → is_some (behind_prefix (codes "from ") line) ≡ true → behind_prefix (codes "to ") line ≡ None
+not_upper [] lower = absurd (true≢false (sym lower))
+not_upper (b ∷ bs) lower = elim (cases_Bool (b == 116)) [
+  | inl first ↦ absurd (true≢false (sym (subst (λ x. is_some (behind_prefix (codes "from ") (x ∷ bs)) ≡ true) (eqb-true b 116 first) lower)))
+  | inr other ↦ rw other refl
+]
+
+-- after the upper bound comes no other one
+upper_last : (from : Option (List (List ℕ))) (to : List (List ℕ)) (line : List ℕ) → with_bound (bounds_between from (Some to)) line ≡ None
+upper_last from to line = by_test (is_some (behind_prefix (codes "from ") line)) from
+  where
+    by_test : (lower : Bool) (from : Option (List (List ℕ)))
+        → (if lower then (if is_none from && is_none (Some to) then option_map (λ own. bounds_between (Some own) None) (lower_bound line) else None) else None) ≡ None
+    by_test true None = refl
+    by_test true (Some own) = refl
+    by_test false from = refl
+
+-- after the lower bound comes the upper one
+upper_after : (from : List (List ℕ)) (line : List ℕ) → option_map (λ to. bounds_between (Some from) (Some to)) (upper_bound line) ≡ with_bound (bounds_between (Some from) None) line
+upper_after from line = elim (cases_Bool (is_some (behind_prefix (codes "from ") line))) [
+  | inl lower ↦ rw (lower, not_upper line lower) refl
+  | inr other ↦ rw other refl
+]
+
+-- one more line of those that write bounds
+bounds_from-more : (texts : List (List ℕ)) (line : List ℕ) → bounds_from (texts ++ line ∷ []) ≡ if_some (bounds_from texts) (λ own. with_bound own line)
+bounds_from-more [] line = refl
+bounds_from-more (first ∷ []) line = by_first (behind_prefix (codes "from ") first)
+  where
+    by_upper : (to : Option (List (List ℕ))) → ◌≡◌ {A = Option Bounds} None (if_some (option_map (λ own. bounds_between None (Some own)) to) (λ own. with_bound own line))
+    by_upper None = refl
+    by_upper (Some to) = sym (upper_last None to line)
+
+    by_lower : (from : Option (List (List ℕ))) → if_some from (λ own. option_map (λ to. bounds_between (Some own) (Some to)) (upper_bound line))
+        ≡ if_some (option_map (λ own. bounds_between (Some own) None) from) (λ own. with_bound own line)
+    by_lower None = refl
+    by_lower (Some from) = upper_after from line
+
+    by_first : (text : Option (List ℕ)) → if_some (if_some text record_of) (λ own. option_map (λ to. bounds_between (Some own) (Some to)) (upper_bound line))
+        ≡ if_some (if is_some text then option_map (λ own. bounds_between (Some own) None) (if_some text record_of) else option_map (λ to. bounds_between None (Some to)) (upper_bound first))
+        (λ own. with_bound own line)
+    by_first None = by_upper (upper_bound first)
+    by_first (Some text) = by_lower (record_of text)
+bounds_from-more (first ∷ second ∷ []) line = by_lower (lower_bound first)
+  where
+    by_upper : (from : List (List ℕ)) (to : Option (List (List ℕ))) → ◌≡◌ {A = Option Bounds} None (if_some (option_map (λ own. bounds_between (Some from) (Some own)) to) (λ own. with_bound own line))
+    by_upper from None = refl
+    by_upper from (Some to) = sym (upper_last (Some from) to line)
+
+    by_lower : (from : Option (List (List ℕ)))
+        → ◌≡◌ {A = Option Bounds} None (if_some (if_some from (λ own. option_map (λ to. bounds_between (Some own) (Some to)) (upper_bound second))) (λ own. with_bound own line))
+    by_lower None = refl
+    by_lower (Some from) = by_upper from (upper_bound second)
+bounds_from-more (first ∷ second ∷ third ∷ others) line = refl
+
 -- one more line of bounds
 pub bounds-more : (block : List (List ℕ)) (line : List ℕ) → bounds_of (block ++ line ∷ []) ≡ and_bound (bounds_of block) (without_return line)
 unfolding bounds_of
-bounds-more block line = fold-append (λ bounds one. and_bound bounds (without_return one)) (Some unbounded) block (line ∷ [])
+bounds-more block line = elim (cases_Bool (is_blank_line line)) [
+  | inl blank ↦ rw (filter-append (λ l. not (is_blank_line l)) block (line ∷ []), blank, append-nil (filled_lines block)) refl
+  | inr some ↦ rw (filter-append (λ l. not (is_blank_line l)) block (line ∷ []), some, map-append text_of_line (filled_lines block) (line ∷ []))
+      (bounds_from-more (map text_of_line (filled_lines block)) (text_of_line line))
+]
 
 -- a line that does not close the block
 pub inside-more : (head closing : List ℕ) (block : List (List ℕ)) (line : List ℕ) (more : List (List ℕ)) → is_word (without_return line) closing ≡ false

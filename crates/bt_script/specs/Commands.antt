@@ -1,5 +1,5 @@
 -- The commands of a script.
-use Rattle.std.specs.Prelude.{ℕ, ◌≡◌, ◌==◌, ◌&&◌, ◌<◌, ◌≤◌, ◌+◌, ◌-◌, not, Bool, List, [], ◌∷◌, ◌++◌, length, map, filter, take, drop, get_or, nat_le, Option, Some, None, Result, Ok, Err, if◌then◌else◌, codes, option_and_then, option_map, is_some, is_none, fold, unwrap_or, ⊤}
+use Rattle.std.specs.Prelude.{ℕ, ◌≡◌, ◌==◌, ◌&&◌, ◌<◌, ◌≤◌, ◌+◌, ◌-◌, not, Bool, List, [], ◌∷◌, ◌++◌, length, map, filter, take, drop, get_or, nat_le, Option, Some, None, Result, Ok, Err, if◌then◌else◌, codes, option_and_then, option_map, is_some, unwrap_or, ⊤}
 use Rattle.std.specs.List.{slice_split}
 use Rattle.std.specs.Cmp.Lexicographic.{pointwise}
 use Rattle.bt_value.specs.Kinds.{kind_of_word}
@@ -54,15 +54,23 @@ item_from line =
     else (if is_some (behind_prefix (codes "del ") line) then option_map Del (record_behind (codes "del ") line)
     else option_map Ups (record_behind (codes "ups ") line))
 
+-- a line without the carriage return at its end and the spaces before its first word
+abbrev pub text_of_line : List ℕ → List ℕ
+text_of_line line = without_spaces (without_return line)
+
 unfoldable pub item_of_line : List ℕ → Option Item
-item_of_line line = item_from (without_spaces (without_return line))
+item_of_line line = item_from (text_of_line line)
 
 abbrev pub is_blank_line : List ℕ → Bool
 is_blank_line line = is_blank (without_return line)
 
+-- the lines that are not blank
+abbrev pub filled_lines : List (List ℕ) → List (List ℕ)
+filled_lines block = filter (λ line. not (is_blank_line line)) block
+
 -- the messages of a batch: one of each line that is not blank
 unfoldable pub items_of : List (List ℕ) → Option (List Item)
-items_of block = all_some (map item_of_line (filter (λ line. not (is_blank_line line)) block))
+items_of block = all_some (map item_of_line (filled_lines block))
 
 -- a column: its name, a colon and its kind
 abbrev pub column_from : List (List ℕ) → Option Column
@@ -102,24 +110,29 @@ batch_command ws items = if length ws == 1 then option_map Batch items else None
 abbrev pub load_command : List (List ℕ) → List ℕ → Option Command
 load_command ws text = if length ws == 1 then Some (Load text) else None
 
--- no bound
-abbrev pub unbounded : Bounds
-unbounded = record { from = None; to = None }
+-- the bounds with this lower and this upper one, where they are given
+abbrev pub bounds_between : Option (List (List ℕ)) → Option (List (List ℕ)) → Bounds
+bounds_between from to = record { from = from; to = to }
 
--- bounds and that of one line more: from is the first one, and each comes once
-abbrev pub with_bound : Bounds → List ℕ → Option Bounds
-with_bound bounds line =
-    if is_some (behind_prefix (codes "from ") line)
-    then (if is_none bounds.from && is_none bounds.to then option_map (λ from. record { from = Some from; to = None }) (record_behind (codes "from ") line) else None)
-    else (if is_none bounds.to then option_map (λ to. record { from = bounds.from; to = Some to }) (record_behind (codes "to ") line) else None)
+-- the lower bound that a line writes, if it begins with `from`, and the upper one, if it begins with `to`
+abbrev pub lower_bound : List ℕ → Option (List (List ℕ))
+lower_bound line = record_behind (codes "from ") line
 
--- and that of a line, unless it is blank
-abbrev pub and_bound : Option Bounds → List ℕ → Option Bounds
-and_bound bounds line = if is_blank line then bounds else if_some bounds (λ own. with_bound own (without_spaces line))
+abbrev pub upper_bound : List ℕ → Option (List (List ℕ))
+upper_bound line = record_behind (codes "to ") line
 
--- the bounds of a block
+-- the bounds that these lines write: none, the lower one, the upper one, or the lower one and then the upper one
+abbrev pub bounds_from : List (List ℕ) → Option Bounds
+bounds_from [] = Some (bounds_between None None)
+bounds_from (line ∷ []) =
+    if is_some (behind_prefix (codes "from ") line) then option_map (λ from. bounds_between (Some from) None) (lower_bound line)
+    else option_map (λ to. bounds_between None (Some to)) (upper_bound line)
+bounds_from (first ∷ second ∷ []) = if_some (lower_bound first) (λ from. option_map (λ to. bounds_between (Some from) (Some to)) (upper_bound second))
+bounds_from (first ∷ second ∷ third ∷ others) = None
+
+-- the bounds of a block: those of its lines that are not blank
 unfoldable pub bounds_of : List (List ℕ) → Option Bounds
-bounds_of block = fold (λ bounds line. and_bound bounds (without_return line)) (Some unbounded) block
+bounds_of block = bounds_from (map text_of_line (filled_lines block))
 
 -- the name after the first word, if no other word follows
 abbrev pub only_name : List (List ℕ) → Option (List ℕ)

@@ -1,6 +1,6 @@
 //! The blocks of batches, scans and sums.
 ghost use Rattle.std.specs.Prelude.{◌≡◌, ◌≤◌, IfOk, List, codes, length, ℕ};
-ghost use Rattle.bt_script.specs.inside.Blocks.{IsBlock, and_line, place_after};
+ghost use Rattle.bt_script.specs.inside.Blocks.{IsBlock, and_bound, and_line, place_after, with_bound};
 ghost use Rattle.bt_script.specs.Commands as spec;
 
 use crate::command::{Bounds, Items};
@@ -93,7 +93,7 @@ pub(crate) fn read_items<'a>(
 
 // Bounds and that of one line more, which begins with its word.
 fn with_bound<'a>(bounds: Bounds<'a>, text: &'a [u8]) -> Option<Bounds<'a>>
-    ensures { result ≡ spec.with_bound bounds.entry text.now }
+    ensures { result ≡ with_bound bounds.entry text.now }
 {
     let Bounds { from, to } = bounds;
     if let Some(record) = behind_prefix(b"from ", text) {
@@ -115,7 +115,7 @@ fn with_bound<'a>(bounds: Bounds<'a>, text: &'a [u8]) -> Option<Bounds<'a>>
 
 // Bounds and that of one line more, which has no carriage return at its end.
 fn and_bound<'a>(bounds: Option<Bounds<'a>>, line: &'a [u8]) -> Option<Bounds<'a>>
-    ensures { result ≡ spec.and_bound bounds.entry line.now }
+    ensures { result ≡ and_bound bounds.entry line.now }
 {
     if is_blank(line) {
         return bounds;

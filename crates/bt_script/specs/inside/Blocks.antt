@@ -1,9 +1,10 @@
 -- What the parts of the parser find, in the words of the commands.
-use Rattle.std.specs.Prelude.{ℕ, ◌<◌, ◌≡◌, Bool, true, false, List, [], ◌∷◌, ◌++◌, Option, Some, None, if◌then◌else◌, drop}
-use Rattle.bt_script.specs.Commands.{Answer, Finds, Inside, NextPast, closing_of, command_of, commands, commands_from, item_from, opened, or_syntax, unfinished}
+use Rattle.std.specs.Prelude.{ℕ, ◌<◌, ◌≡◌, ◌&&◌, Bool, true, false, List, [], ◌∷◌, ◌++◌, Option, Some, None, if◌then◌else◌, codes, drop, is_none, is_some, option_map}
+use Rattle.bt_script.specs.Commands.{Answer, Finds, Inside, NextPast, behind_prefix, bounds_between, closing_of, command_of, commands, commands_from, if_some, item_from, lower_bound, opened, or_syntax, unfinished, upper_bound}
 use Rattle.bt_script.specs.Lines.{is_blank, lines, without_spaces, words}
 use Rattle.bt_script.specs.declared.blocks.BlockEnd.{BlockEnd}
 use Rattle.bt_script.specs.declared.blocks.BlockEnd.TheVariants.{Closed, CutOff}
+use Rattle.bt_script.specs.declared.command.Bounds.{Bounds}
 use Rattle.bt_script.specs.declared.command.Command.{Command}
 use Rattle.bt_rowtype.specs.declared.item.Item.{Item}
 use Rattle.bt_script.specs.declared.command.Parsed.{Parsed}
@@ -17,6 +18,17 @@ with_last (Some xs) (Some x) = Some (xs ++ x ∷ [])
 -- the messages of some lines, and that of one more, which has no carriage return at its end
 abbrev pub and_line : Option (List Item) → List ℕ → Option (List Item)
 and_line items line = if is_blank line then items else with_last items (item_from (without_spaces line))
+
+-- bounds and that of one line more: the lower one is the first one, and each comes once
+abbrev pub with_bound : Bounds → List ℕ → Option Bounds
+with_bound bounds line =
+    if is_some (behind_prefix (codes "from ") line)
+    then (if is_none bounds.from && is_none bounds.to then option_map (λ from. bounds_between (Some from) None) (lower_bound line) else None)
+    else (if is_none bounds.to then option_map (λ to. bounds_between bounds.from (Some to)) (upper_bound line) else None)
+
+-- bounds and that of one line more, which has no carriage return at its end
+abbrev pub and_bound : Option Bounds → List ℕ → Option Bounds
+and_bound bounds line = if is_blank line then bounds else if_some bounds (λ own. with_bound own (without_spaces line))
 
 -- whether a block has its closing line
 abbrev pub is_closed : BlockEnd → Bool

@@ -1,11 +1,12 @@
-use Rattle.std.proofs.Common.{Option, Some, [], ◌≡◌, refl, ◌∙◌, sym, ap, rules, codes}
-use Rattle.bt_script.specs.Commands.{and_bound, bounds_of, unbounded}
+use Rattle.std.proofs.Common.{Option, Some, None, [], ◌≡◌, refl, ◌∙◌, sym, ap, rules, codes}
+use Rattle.bt_script.specs.inside.Blocks.{and_bound}
+use Rattle.bt_script.specs.Commands.{bounds_between, bounds_of}
 use Rattle.bt_script.specs.Lines.{without_return}
 use Rattle.bt_script.specs.declared.command.Bounds.{Bounds}
 use Rattle.bt_script.proofs.Machine.{bounds-more, read-closed, read-cut, read-more}
 use Rattle.bt_script.proofs.blocks.read_bounds.Goals as goal
 
-no_bounds : bounds_of [] ≡ Some unbounded
+no_bounds : bounds_of [] ≡ Some (bounds_between None None)
 unfolding bounds_of
 no_bounds = refl
 
