@@ -68,7 +68,7 @@ spaces_in_constant = refl
 
 -- no columns to include, no filter, and spaces at the end
 pub spaces_at_end : command_of (codes "index c on city,qty  ") [] ≡ Some (index_from (codes "c") (codes "city" ∷ codes "qty" ∷ []) [] None)
-unfolding command_of index_command names_of values_on_literals
+unfolding command_of index_command names_of behind_words values_on_literals
 spaces_at_end = refl
 
 -- two fields behind the test, no space, and no field
@@ -95,11 +95,11 @@ other_test = refl
 
 -- a list of names with a space, and with an empty name
 pub spaced_names : command_of (codes "index c on city, qty") [] ≡ None
-unfolding command_of index_command names_of values_on_literals
+unfolding command_of index_command names_of behind_words values_on_literals
 spaced_names = refl
 
 pub empty_name : command_of (codes "index c on city include qty,") [] ≡ None
-unfolding command_of index_command names_of values_on_literals
+unfolding command_of index_command names_of behind_words values_on_literals
 empty_name = refl
 
 -- an index no more, and more names than one

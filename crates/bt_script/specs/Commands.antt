@@ -1,5 +1,5 @@
 -- The commands of a script.
-use Rattle.std.specs.Prelude.{ℕ, ◌≡◌, ◌==◌, ◌&&◌, ◌<◌, ◌≤◌, ◌+◌, ◌-◌, not, Bool, List, [], ◌∷◌, ◌++◌, length, map, filter, take, drop, get_or, nat_le, Option, Some, None, Result, Ok, Err, if◌then◌else◌, codes, option_and_then, option_map, is_some, unwrap_or, ⊤}
+use Rattle.std.specs.Prelude.{ℕ, ◌≡◌, ◌==◌, ◌&&◌, ◌<◌, ◌≤◌, ◌-◌, not, Bool, List, [], ◌∷◌, ◌++◌, length, map, filter, take, drop, get_or, nat_le, Option, Some, None, Result, Ok, Err, if◌then◌else◌, codes, option_and_then, option_map, is_some, unwrap_or, ⊤}
 use Rattle.std.specs.List.{slice_split}
 use Rattle.std.specs.Cmp.Lexicographic.{pointwise}
 use Rattle.bt_value.specs.Kinds.{kind_of_word}
@@ -28,6 +28,10 @@ is_word text word = pointwise ◌==◌ text word
 -- the word at a place, counted from 0
 abbrev pub word_at : List (List ℕ) → ℕ → List ℕ
 word_at ws place = get_or ws place []
+
+-- whether the first of the words is this one
+abbrev pub begins : List (List ℕ) → List ℕ → Bool
+begins ws word = is_word (word_at ws 0) word
 
 -- all of them, if each exists
 abbrev pub all_some : {A : Type 0} → List (Option A) → Option (List A)
@@ -179,42 +183,45 @@ only_field (field ∷ other ∷ fields) = None
 abbrev pub constant_of : List ℕ → Option (List ℕ)
 constant_of rest = if_some (record_behind (codes " ") rest) only_field
 
--- the filter after the word at a place: a column, a test and a constant
-unfoldable pub filter_of : List ℕ → List (List ℕ) → ℕ → Option Filter
-filter_of head ws at =
-    if_some (name_of_word (word_at ws (at + 1))) (λ column.
-    if_some (test_of (word_at ws (at + 2))) (λ t.
-    option_map (λ constant. record { column = column; test = t; constant = constant }) (constant_of (behind_words (at + 3) head))))
+-- the filter that a text of these words writes: `where`, a column, a test and a constant
+unfoldable pub filter_of : List ℕ → List (List ℕ) → Option Filter
+filter_of text ws =
+    if begins ws (codes "where") then
+    if_some (name_of_word (word_at ws 1)) (λ column.
+    if_some (test_of (word_at ws 2)) (λ t.
+    option_map (λ constant. record { column = column; test = t; constant = constant }) (constant_of (behind_words 3 text))))
+    else None
 
--- the filter of an index, which begins with the word at a place, or none if the line ends before it
-abbrev pub filter_from : List ℕ → List (List ℕ) → ℕ → Option (Option Filter)
-filter_from head ws at =
-    if length ws == at then Some None
-    else (if is_word (word_at ws at) (codes "where") then option_map Some (filter_of head ws at) else None)
+-- the filter of an index, or none if the text has no word
+abbrev pub filter_from : List ℕ → Option (Option Filter)
+filter_from text = if length (words text) == 0 then Some None else option_map Some (filter_of text (words text))
 
--- whether columns to include are named
+-- whether the words after the columns of an index name columns to include
 abbrev pub includes : List (List ℕ) → Bool
-includes ws = is_word (word_at ws 4) (codes "include")
+includes ws = begins ws (codes "include")
 
--- the names of the columns to include
+-- the columns to include, if the text of these words names them, and the text after them
 abbrev pub included_of : List (List ℕ) → Option (List (List ℕ))
-included_of ws = if includes ws then names_of (word_at ws 5) else Some []
+included_of ws = if includes ws then names_of (word_at ws 1) else Some []
 
--- the filter of an index, which follows the columns
-abbrev pub index_filter : List ℕ → List (List ℕ) → Option (Option Filter)
-index_filter head ws = filter_from head ws (if includes ws then 6 else 4)
+abbrev pub after_included : List ℕ → List (List ℕ) → List ℕ
+after_included text ws = if includes ws then behind_words 2 text else text
 
 abbrev pub index_from : List ℕ → List (List ℕ) → List (List ℕ) → Option Filter → Command
 index_from name on include filter = Index (record { name = name; on = on; include = include; filter = filter })
 
--- index, its name, `on` and the names of columns, and then the columns to include and the filter, if it has them
+-- the index of a name and columns, and of the text after these: the columns to include and then the filter, if it has them
+abbrev pub index_with : List ℕ → List (List ℕ) → List ℕ → Option Command
+index_with name on text =
+    if_some (included_of (words text)) (λ include.
+    option_map (index_from name on include) (filter_from (after_included text (words text))))
+
+-- index, its name, `on` and the names of columns, and the text after these
 unfoldable pub index_command : List ℕ → List (List ℕ) → Option Command
 index_command head ws =
     if is_word (word_at ws 2) (codes "on") then
     if_some (name_of_word (word_at ws 1)) (λ name.
-    if_some (names_of (word_at ws 3)) (λ on.
-    if_some (included_of ws) (λ include.
-    option_map (index_from name on include) (index_filter head ws))))
+    if_some (names_of (word_at ws 3)) (λ on. index_with name on (behind_words 4 head)))
     else None
 
 -- build, the name of an index and a number
@@ -224,10 +231,6 @@ build_command ws =
     if_some (name_of_word (word_at ws 1)) (λ name.
     option_map (Build name) (number_of_word (word_at ws 2)))
     else None
-
--- whether the first of the words is this one
-abbrev pub begins : List (List ℕ) → List ℕ → Bool
-begins ws word = is_word (word_at ws 0) word
 
 -- the command that a name makes with the word before it
 abbrev pub command_on : List (List ℕ) → List ℕ → Option Command

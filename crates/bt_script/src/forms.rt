@@ -1,12 +1,12 @@
 //! The forms of commands: what the words of a head line make.
-ghost use Rattle.std.specs.Prelude.{◌≡◌, ◌≤◌, [], IfOk, None, map};
+ghost use Rattle.std.specs.Prelude.{◌≡◌, [], IfOk, None, map};
 ghost use Rattle.bt_script.specs.Commands as spec;
 ghost use Rattle.bt_script.specs.inside.Forms as forms;
 
 use crate::command::{Bounds, Capacity, Command, IndexForm, Items, SumsForm, TableForm};
 use crate::lines::{
     begins, behind_words, is_word, parse_name, parse_names, parse_number, parts, record_behind,
-    without_spaces, word_at,
+    without_spaces, word_at, words,
 };
 use crate::load::BlockText;
 use bt_row::{Column, Columns, Filter, Test};
@@ -241,24 +241,21 @@ fn parse_constant(alloc: Global, rest: &[u8]) -> Result<Option<Bytes>, AllocErro
     Ok(Some(Bytes::from_slice(alloc, fields.get(0))?))
 }
 
-// The filter behind the word at a place.
+// The filter that a text of these words writes.
 #[tactic(auto, unfolding(crate::specs::Commands::filter_of))]
-fn parse_filter(
-    alloc: Global,
-    head: &[u8],
-    words: &[&[u8]],
-    at: usize,
-) -> Result<Option<Filter>, AllocError>
-    requires { at ≤ 6 }
-    ensures { IfOk result (λ filter. filter ≡ spec.filter_of head.now (map (λ w. w.now) words.now) at) }
+fn parse_filter(alloc: Global, text: &[u8], words: &[&[u8]]) -> Result<Option<Filter>, AllocError>
+    ensures { IfOk result (λ filter. filter ≡ spec.filter_of text.now (map (λ w. w.now) words.now)) }
 {
-    let Some(test) = parse_test(word_at(words, at + 2)) else {
+    if !begins(words, b"where") {
+        return Ok(None);
+    }
+    let Some(test) = parse_test(word_at(words, 2)) else {
         return Ok(None);
     };
-    let Some(column) = parse_name(alloc, word_at(words, at + 1))? else {
+    let Some(column) = parse_name(alloc, word_at(words, 1))? else {
         return Ok(None);
     };
-    match parse_constant(alloc, behind_words(head, at + 3))? {
+    match parse_constant(alloc, behind_words(text, 3))? {
         Some(constant) => Ok(Some(Filter {
             column,
             test,
@@ -268,23 +265,15 @@ fn parse_filter(
     }
 }
 
-// The filter that begins with the word at a place; none, where the line ends before it.
-fn parse_filter_from(
-    alloc: Global,
-    head: &[u8],
-    words: &[&[u8]],
-    at: usize,
-) -> Result<Option<Option<Filter>>, AllocError>
-    requires { at ≤ 6 }
-    ensures { IfOk result (λ filter. filter ≡ spec.filter_from head.now (map (λ w. w.now) words.now) at) }
+// The filter of an index, or none if the text has no word.
+fn parse_filter_from(alloc: Global, text: &[u8]) -> Result<Option<Option<Filter>>, AllocError>
+    ensures { IfOk result (λ filter. filter ≡ spec.filter_from text.now) }
 {
-    if words.len() == at {
+    let words = words(alloc, text)?;
+    if words.is_empty() {
         return Ok(Some(None));
     }
-    if !is_word(word_at(words, at), b"where") {
-        return Ok(None);
-    }
-    match parse_filter(alloc, head, words, at)? {
+    match parse_filter(alloc, text, &words)? {
         Some(filter) => Ok(Some(Some(filter))),
         None => Ok(None),
     }
@@ -293,7 +282,7 @@ fn parse_filter_from(
 fn includes(words: &[&[u8]]) -> bool
     ensures { result ≡ spec.includes (map (λ w. w.now) words.now) }
 {
-    is_word(word_at(words, 4), b"include")
+    begins(words, b"include")
 }
 
 // The names of the columns to include.
@@ -303,35 +292,34 @@ fn parse_included(alloc: Global, words: &[&[u8]]) -> Result<Option<Texts>, Alloc
     if !includes(words) {
         return Ok(Some(Texts::new(alloc)));
     }
-    parse_names(alloc, word_at(words, 5))
+    parse_names(alloc, word_at(words, 1))
 }
 
-// The filter behind the columns.
-fn parse_condition(
-    alloc: Global,
-    head: &[u8],
-    words: &[&[u8]],
-) -> Result<Option<Option<Filter>>, AllocError>
-    ensures { IfOk result (λ filter. filter ≡ spec.index_filter head.now (map (λ w. w.now) words.now)) }
+// The text after the columns to include.
+fn after_included<'a>(text: &'a [u8], words: &[&[u8]]) -> &'a [u8]
+    ensures { result.now ≡ spec.after_included text.now (map (λ w. w.now) words.now) }
 {
-    let at = if includes(words) { 6 } else { 4 };
-    parse_filter_from(alloc, head, words, at)
+    if includes(words) {
+        behind_words(text, 2)
+    } else {
+        text
+    }
 }
 
-// The index of a name and of the columns that it is ordered by, with what the words say behind them.
-fn index_on<'a>(
+// The index of a name and of the columns that it is ordered by, with what the text after these says.
+fn index_with<'a>(
     alloc: Global,
-    head: &[u8],
-    words: &[&[u8]],
     name: Text,
     on: Texts,
+    text: &[u8],
 ) -> Result<Option<Command<'a>>, AllocError>
-    ensures { IfOk result (λ command. command ≡ forms.index_on head.now (map (λ w. w.now) words.now) name on) }
+    ensures { IfOk result (λ command. command ≡ spec.index_with name on text.now) }
 {
-    let Some(include) = parse_included(alloc, words)? else {
+    let words = words(alloc, text)?;
+    let Some(include) = parse_included(alloc, &words)? else {
         return Ok(None);
     };
-    match parse_condition(alloc, head, words)? {
+    match parse_filter_from(alloc, after_included(text, &words))? {
         Some(filter) => Ok(Some(Command::Index(IndexForm {
             name,
             on,
@@ -357,7 +345,7 @@ fn index_command<'a>(
         return Ok(None);
     };
     match parse_names(alloc, word_at(words, 3))? {
-        Some(on) => index_on(alloc, head, words, name, on),
+        Some(on) => index_with(alloc, name, on, behind_words(head, 4)),
         None => Ok(None),
     }
 }

@@ -1,8 +1,7 @@
 -- What single forms of commands read at once.
 use Rattle.std.specs.Prelude.{ℕ, ◌==◌, List, length, Option, None, if◌then◌else◌, option_map}
-use Rattle.bt_script.specs.Commands.{if_some, included_of, index_filter, index_from, word_at}
+use Rattle.bt_script.specs.Commands.{if_some, word_at}
 use Rattle.bt_script.specs.Lines.{name_of_word, number_of_word}
-use Rattle.bt_script.specs.declared.command.Command.{Command}
 
 -- the tree, the number of columns and the column of sums
 abbrev pub summed_of : List (List ℕ) → Option (List ℕ × ℕ × List ℕ)
@@ -12,7 +11,3 @@ summed_of ws =
     if_some (number_of_word (word_at ws 2)) (λ columns.
     option_map (λ column. (tree, columns, column)) (name_of_word (word_at ws 3))))
     else None
-
--- the index of a name and of the columns that it is ordered by, with what the words after them say
-abbrev pub index_on : List ℕ → List (List ℕ) → List ℕ → List (List ℕ) → Option Command
-index_on head ws name on = if_some (included_of ws) (λ include. option_map (index_from name on include) (index_filter head ws))
