@@ -1,14 +1,11 @@
 -- The rows of a dump are those that it was made of.
-use Rattle.std.proofs.Common.{ℕ, zero, suc, ◌≡◌, ◌∙◌, ◌+◌, ◌≤◌, ◌==◌, ◌&&◌, ◌++◌, Bool, true, false, List, [], ◌∷◌, length, map, Option, Some, None, Result, Ok, Err, ap, sym, subst, refl, arith, append_assoc, append-nil, length-append, if◌then◌else◌, codes, T, eq-eqb, is_some, cond}
+use Rattle.std.proofs.Common.{ℕ, zero, suc, ◌≡◌, ◌∙◌, ◌+◌, ◌≤◌, ◌==◌, ◌&&◌, ◌++◌, Bool, true, false, List, [], ◌∷◌, length, map, None, Result, Ok, Err, ap, sym, subst, refl, arith, append_assoc, append-nil, length-append, if◌then◌else◌, codes, T, eq-eqb}
 use Rattle.std.proofs.lemmas.List.{length-map}
 use Rattle.std.specs.Cmp.Lexicographic.{pointwise}
-use Rattle.std.specs.FinMap.{find, is_sorted, put}
-use Rattle.std.specs.FinMap.Entries.{below_all, by_order}
+use Rattle.std.specs.FinMap.{is_sorted}
 use Rattle.std.specs.List.{AllByRecursion, filter_map}
-use Rattle.std.specs.Ordering.{is_eq, ordering_reverse}
 use Rattle.std.specs.Prelude.{flat_map, fold}
 use Rattle.std.specs.Result.{result_err, result_ok}
-use Rattle.std.specs.declared.cmp.Ordering.TheVariants.{Less, Greater}
 use Rattle.csv.specs.Machine.{next_record}
 use Rattle.csv.specs.Reading.{default_config, records, records_from, records_next, strip_bom}
 use Rattle.csv.specs.Writing.{default_writer, is_blank, read_back, row_body, row_text}
@@ -22,15 +19,14 @@ use Rattle.bt_value.specs.Refusals.{least}
 use Rattle.bt_row.specs.Schemas.{Schema, fit_columns, is_schema, read_as, values_of}
 use Rattle.bt_value.specs.Values.{fits_kind, text_of}
 use Rattle.bt_value.specs.declared.refusal.Refusal.{Refusal}
-use Rattle.bt_value.specs.declared.refusal.Refusal.TheVariants.{BadField, BadLength, BadSchema, DuplicateKey}
+use Rattle.bt_value.specs.declared.refusal.Refusal.TheVariants.{BadField, BadLength, BadSchema}
 use Rattle.bt_row.specs.declared.schema.Column.{Column}
 use Rattle.bt_value.specs.declared.value.Value.{Value}
-use Rattle.bt_keycode.specs.Keys.{Key, key_cmp}
-use Rattle.bt_keycode.specs.Standing.{AllStand, AreOf, IsOf, RowMap, row_key}
-use Rattle.bt_keycode.proofs.offered.Order.{is_less, total_keys}
-use Rattle.bt_keycode.proofs.offered.Truths.{t_first, t_second, true_t}
+use Rattle.bt_keycode.specs.Keys.{key_cmp}
+use Rattle.bt_keycode.specs.Standing.{AllAreUnder, AllStand, AreOf, IsOf, RowMap}
 use Rattle.bt_load.specs.Loads.{text_rows, typed_from, under_header}
-use Rattle.bt_load.specs.Maps.{map_of, map_with_rows}
+use Rattle.bt_load.specs.Maps.{map_of}
+use Rattle.bt_load.proofs.offered.Loaded.{map_of-rows}
 use Rattle.bt_view.specs.RecordTexts.{record_line}
 use Rattle.bt_node.specs.Messages.{between}
 use Rattle.bt_node.proofs.offered.Portions.{between-all}
@@ -182,47 +178,12 @@ dumped_rows columns rows some plain of bytes =
 
 -- ---- the rows as a map
 
--- each key is before this one
-abbrev AllLess : Key → RowMap → Type 0
-AllLess k [] = Unit {0}
-AllLess k (r ∷ rows) = (key_cmp r.0 k ≡ Less) × AllLess k rows
-
-past : (a b : Key) → key_cmp a b ≡ Less → key_cmp b a ≡ Greater
-past a b less = total_keys.antisymm b a ∙ ap ordering_reverse less
-
-put_last : (k : Key) (row : List Value) (rows : RowMap) → AllLess k rows → put key_cmp k row rows ≡ rows ++ (k, row) ∷ []
-put_last k row [] less = refl
-put_last k row (r ∷ rows) less =
-    ap (λ o. by_order o ((k, row) ∷ r ∷ rows) ((r.0, row) ∷ rows) (r ∷ put key_cmp k row rows)) (past r.0 k less.0) ∙ ap (λ (rest : RowMap). r ∷ rest) (put_last k row rows less.1)
-
-find_none : (k : Key) (rows : RowMap) → AllLess k rows → find key_cmp k rows ≡ None
-find_none k [] less = refl
-find_none k (r ∷ rows) less = ap (λ o. cond (is_eq o) (Some r.1) (find key_cmp k rows)) (past r.0 k less.0) ∙ find_none k rows less.1
-
--- the keys before one in a sorted list are less
-below_less : (k x : Key) (done : RowMap) (row : List Value) (rest : RowMap) → T (below_all key_cmp x (done ++ (k, row) ∷ rest)) → key_cmp x k ≡ Less
-below_less k x [] row rest below = is_less (key_cmp x k) (true_t _ (t_first _ _ below))
-below_less k x (r ∷ done) row rest below = below_less k x done row rest (t_second _ _ below)
-
-sorted_less : (k : Key) (done : RowMap) (row : List Value) (rest : RowMap) → T (is_sorted key_cmp (done ++ (k, row) ∷ rest)) → AllLess k done
-sorted_less k [] row rest sorted = tt
-sorted_less k (r ∷ done) row rest sorted = (below_less k r.0 done row rest (t_first _ _ sorted), sorted_less k done row rest (t_second _ _ sorted))
-
--- rows that are put one after the other by rising key stand in this order
-put_all : (schema : Schema) (item : ℕ) (done rows : RowMap) → T (is_sorted key_cmp (done ++ rows)) → AllStand schema rows → map_with_rows schema.keys item done (map (λ r. r.1) rows) ≡ Ok (done ++ rows)
-put_all schema item done [] sorted stand = ap (λ (m : RowMap). Ok m) (sym (append-nil done))
-put_all schema item done (r ∷ rows) sorted stand =
-    let key : row_key schema.keys r.1 ≡ r.0 = sym stand.0.placed in
-    let less = sorted_less r.0 done r.1 rows sorted in
-    let joined : (done ++ r ∷ []) ++ rows ≡ done ++ r ∷ rows = append_assoc done (r ∷ []) rows in
-    ap (λ (k : Key). if is_some (find key_cmp k done) then Err (DuplicateKey item) else map_with_rows schema.keys (item + 1) (put key_cmp k r.1 done) (map (λ x. x.1) rows)) key
-    ∙ ap (λ (o : Option (List Value)). if is_some o then Err (DuplicateKey item) else map_with_rows schema.keys (item + 1) (put key_cmp r.0 r.1 done) (map (λ x. x.1) rows)) (find_none r.0 done less)
-    ∙ ap (λ (m : RowMap). map_with_rows schema.keys (item + 1) m (map (λ x. x.1) rows)) (put_last r.0 r.1 done less)
-    ∙ put_all schema (item + 1) (done ++ r ∷ []) rows (subst (λ (m : RowMap). T (is_sorted key_cmp m)) (sym joined) sorted) stand.1
-    ∙ ap (λ (m : RowMap). Ok m) joined
+all_under : (schema : Schema) (rows : RowMap) → AllStand schema rows → AllAreUnder schema.keys rows
+all_under schema [] stand = tt
+all_under schema (r ∷ rows) stand = (stand.0.placed, all_under schema rows stand.1)
 
 mapped_again : (schema : Schema) (rows : RowMap) → T (is_sorted key_cmp rows) → AllStand schema rows → map_of schema.keys (map (λ r. r.1) rows) ≡ Ok rows
-mapped_again schema rows sorted stand = put_all schema 1 [] rows sorted stand
+mapped_again schema rows sorted stand = map_of-rows schema.keys rows (all_under schema rows stand) sorted
 
 stand_of : (schema : Schema) (rows : RowMap) → AllStand schema rows → AreOf schema.columns (map (λ r. r.1) rows)
 stand_of schema [] stand = tt

@@ -1,23 +1,25 @@
--- Rows put into a map one after the other: the pairs in the order of their keys where no key stands twice, else the first row whose key an earlier one has.
-use Rattle.std.proofs.Common.{◌≡◌, ℕ, zero, suc, ◌+◌, ◌<◌, ◌≤◌, Bool, true, false, cond, T, List, [], ◌∷◌, get_or, length, map, refl, sym, ap, ◌∙◌, ◌⊎◌, inl, inr, true≢false, arith, Option, Some, None, Result, Ok, Err, if◌then◌else◌}
-use Rattle.std.specs.Prelude.{is_some}
+-- The map of rows: the pairs in the order of their keys if no key is there twice, else the first row whose key an earlier one has.
+use Rattle.std.proofs.Common.{◌≡◌, ℕ, zero, suc, ◌+◌, ◌<◌, ◌≤◌, Bool, true, false, cond, T, List, [], ◌∷◌, get_or, length, refl, sym, ap, ◌∙◌, inl, inr, true≢false, arith, Option, Some, None, Ok, Err}
+use Rattle.std.specs.Prelude.{drop, is_some, option_map, take}
+use Rattle.std.proofs.lemmas.Bool.Decides.{eqb_tells}
+use Rattle.std.proofs.lemmas.List.{get_or-drop, get_or-take, length-drop, length-take}
 use Rattle.std.proofs.lemmas.List.Sorted.{Contains-permutation, IsPermutation-sym, sum_by-IsPermutation}
-use Rattle.std.proofs.lemmas.List.Sums.{sum_by-cons}
+use Rattle.std.proofs.lemmas.List.Sums.{sum_by-cons, sum_by-take-drop}
 use Rattle.std.specs.Cmp.{tied_itself}
-use Rattle.std.specs.FinMap.{find, is_sorted, nat_cmp-IsAntisymmetric, put, slice_cmp-IsAntisymmetric}
-use Rattle.std.specs.FinMap.Entries.{below_all, by_order, find-put, is_sorted-put, same_entries}
-use Rattle.std.specs.List.{Contains, sum_by}
+use Rattle.std.specs.FinMap.{find, is_sorted, nat_cmp-IsAntisymmetric, slice_cmp-IsAntisymmetric}
+use Rattle.std.specs.FinMap.Entries.{below_all, find-put, is_sorted-put, same_entries}
+use Rattle.std.specs.List as list
+use Rattle.std.specs.List.{Contains, range_with_len, sum_by}
 use Rattle.std.specs.List.Sorted.{IsPermutation}
 use Rattle.std.specs.Ordering.{eq_by_cmp, is_eq, is_lt}
-use Rattle.std.specs.declared.cmp.Ordering.TheVariants.{Less, Equal, Greater}
-use Rattle.bt_value.specs.declared.refusal.Refusal.{Refusal}
+use Rattle.bt_value.specs.Results.{unless}
 use Rattle.bt_value.specs.declared.refusal.Refusal.TheVariants.{DuplicateKey}
 use Rattle.bt_value.specs.declared.value.Value.{Value}
 use Rattle.bt_keycode.specs.Keys.{Key, key_cmp}
 use Rattle.bt_keycode.proofs.offered.Order.{is_less, same_key, total_keys}
 use Rattle.bt_keycode.proofs.offered.Truths.{not_true, t_first, t_second, true_t}
-use Rattle.bt_keycode.specs.Standing.{RowMap, row_key}
-use Rattle.bt_load.specs.Maps.{map_of, map_with_rows}
+use Rattle.bt_keycode.specs.Standing.{RowMap}
+use Rattle.bt_load.specs.Maps.{first_repeat, is_repeated, key_at, keyed_rows, map_by_key, map_of}
 
 -- whether two keys are one
 abbrev pub is_key : Key → Key → Bool
@@ -25,20 +27,6 @@ is_key = eq_by_cmp key_cmp
 
 pub is_itself : (k : Key) → is_key k k ≡ true
 is_itself k = ap is_eq (tied_itself total_keys k)
-
--- ---- rows behind their keys
-
-abbrev pub keyed : ℕ → List (List Value) → RowMap
-keyed keys rows = map (λ row. (row_key keys row, row)) rows
-
-abbrev pub with_pairs : ℕ → RowMap → RowMap → Result RowMap Refusal
-with_pairs item m [] = Ok m
-with_pairs item m (p ∷ ps) = if is_some (find key_cmp p.0 m) then Err (DuplicateKey item) else with_pairs (item + 1) (put key_cmp p.0 p.1 m) ps
-
-pub by_pairs : (keys item : ℕ) (m : RowMap) (rows : List (List Value)) → map_with_rows keys item m rows ≡ with_pairs item m (keyed keys rows)
-by_pairs keys item m [] = refl
-by_pairs keys item m (row ∷ rows) =
-    ap (λ r. if is_some (find key_cmp (row_key keys row) m) then Err (DuplicateKey item) else r) (by_pairs keys (item + 1) (put key_cmp (row_key keys row) row m) rows)
 
 -- ---- how many times a key is there
 
@@ -62,65 +50,16 @@ find-absent k (p ∷ ps) e =
     let none = none_left (is_key k p.0) (count k ps) (sym (count-cons k p ps) ∙ e) in
     ap (λ b. cond b (Some p.1) (find key_cmp k ps)) none.0 ∙ find-absent k ps none.1
 
--- a new key is there once more
-count-put : (q k : Key) (row : List Value) (m : RowMap) → count k m ≡ 0 → count q (put key_cmp k row m) ≡ cond (is_key q k) 1 0 + count q m
-count-put q k row [] e = count-cons q (k, row) []
-count-put q k row (p ∷ ps) e =
-    elim (key_cmp k p.0) as (λ o. is_eq o ≡ false → count q (by_order o ((k, row) ∷ p ∷ ps) ((p.0, row) ∷ ps) (p ∷ put key_cmp k row ps)) ≡ cond (is_key q k) 1 0 + count q (p ∷ ps)) [
-      | Less ↦ λ other. count-cons q (k, row) (p ∷ ps)
-      | Equal ↦ λ other. absurd (true≢false other)
-      | Greater ↦ λ other.
-          let rest = count-put q k row ps none.1 in
-          let one = count-cons q p (put key_cmp k row ps) in
-          let all = count-cons q p ps in
-          omega (arith, rest, one, all)
-    ] none.0
-  where
-    none : (is_key k p.0 ≡ false) × (count k ps ≡ 0)
-    none = none_left (is_key k p.0) (count k ps) (sym (count-cons k p ps) ∙ e)
+-- ---- the map
 
--- ---- no key stands twice
+pub map_by_key-sorted : (ps : RowMap) → T (is_sorted key_cmp (map_by_key ps))
+map_by_key-sorted [] = tt
+map_by_key-sorted (p ∷ ps) = is_sorted-put key_cmp total_keys p.0 p.1 (map_by_key ps) (map_by_key-sorted ps)
 
--- what is found first
-abbrev first_of : Option (List Value) → Option (List Value) → Option (List Value)
-first_of None other = other
-first_of (Some row) other = Some row
-
--- the map that is made, in which one finds what is in the pairs or was there before
-record Made (item : ℕ) (m ps : RowMap) : Type 0 where
-  rows : RowMap
-  is : with_pairs item m ps ≡ Ok rows
-  sorted : T (is_sorted key_cmp rows)
-  found : (q : Key) → find key_cmp q rows ≡ first_of (find key_cmp q ps) (find key_cmp q m)
-
--- the first pair is found before the others, or behind them
-found_either : (q : Key) (p : Key × List Value) (ps m : RowMap) → count q (p ∷ ps) ≤ 1 →
-    first_of (find key_cmp q ps) (cond (is_key q p.0) (Some p.1) (find key_cmp q m)) ≡ first_of (cond (is_key q p.0) (Some p.1) (find key_cmp q ps)) (find key_cmp q m)
-found_either q p ps m few = by_cases (is_key q p.0) refl
-  where
-    by_cases : (b : Bool) → is_key q p.0 ≡ b → first_of (find key_cmp q ps) (cond b (Some p.1) (find key_cmp q m)) ≡ first_of (cond b (Some p.1) (find key_cmp q ps)) (find key_cmp q m)
-    by_cases true e =
-        let one = count-here q p ps e in
-        ap (λ found. first_of found (Some p.1)) (find-absent q ps (omega (arith, one, few)))
-    by_cases false e = refl
-
-made : (item : ℕ) (m ps : RowMap) → ((q : Key) → count q m + count q ps ≤ 1) → T (is_sorted key_cmp m) → Made item m ps
-made item m [] few sorted = record { rows = m; is = refl; sorted = sorted; found = λ q. refl }
-made item m (p ∷ ps) few sorted =
-    let here = few p.0 in
-    let one = count-here p.0 p ps (is_itself p.0) in
-    let absent : count p.0 m ≡ 0 = omega (arith, here, one) in
-    let rest = made (item + 1) (put key_cmp p.0 p.1 m) ps
-    (λ q. let all = few q in let front = count-cons q p ps in let more = count-put q p.0 p.1 m absent in omega (arith, all, front, more))
-    (is_sorted-put key_cmp total_keys p.0 p.1 m sorted) in
-    record {
-      rows = rest.rows;
-      is = ap (λ found. if is_some found then Err (DuplicateKey item) else with_pairs (item + 1) (put key_cmp p.0 p.1 m) ps) (find-absent p.0 m absent) ∙ rest.is;
-      sorted = rest.sorted;
-      found = λ q.
-          rest.found q ∙ ap (first_of (find key_cmp q ps)) (find-put key_cmp total_keys q p.0 p.1 m)
-          ∙ found_either q p ps m (let all = few q in omega (arith, all));
-    }
+-- one finds in the map what one finds in the pairs
+find-map_by_key : (q : Key) (ps : RowMap) → find key_cmp q (map_by_key ps) ≡ find key_cmp q ps
+find-map_by_key q [] = refl
+find-map_by_key q (p ∷ ps) = find-put key_cmp total_keys q p.0 p.1 (map_by_key ps) ∙ ap (cond (is_key q p.0) (Some p.1)) (find-map_by_key q ps)
 
 -- ---- pairs in the order of their keys
 
@@ -206,84 +145,87 @@ count-sorted q (p ∷ ps) sorted = by_test (is_key q p.0) refl (count-sorted q p
         let all = count-cons q p ps ∙ ap (λ b. cond b 1 0 + count q ps) same in
         omega (arith, all, few)
 
--- the rows, each behind its key, in the order of strictly rising keys, are their map
-pub sorted_is_map : (keys : ℕ) (rows : List (List Value)) (pairs : RowMap) → IsPermutation (keyed keys rows) pairs → T (is_sorted key_cmp pairs) → map_of keys rows ≡ Ok pairs
-sorted_is_map keys rows pairs moved sorted =
-    by_pairs keys 1 [] rows ∙ all.is ∙ ap Ok (same_entries key_cmp total_keys (slice_cmp-IsAntisymmetric nat_cmp-IsAntisymmetric) all.rows pairs all.sorted sorted found)
+-- ---- the first of some numbers that passes a test
+
+none_passes : (test : ℕ → Bool) (start n : ℕ) → ((k : ℕ) → start ≤ k → k < start + n → test k ≡ false) → list.find test (range_with_len start n) ≡ None
+none_passes test start zero fails = refl
+none_passes test start (suc n) fails =
+    ap (λ b. cond b (Some start) (list.find test (range_with_len (start + 1) n))) (fails start (omega arith) (omega arith))
+    ∙ none_passes test (start + 1) n (λ k from below. fails k (omega (arith, from)) (omega (arith, below)))
+
+first_passes : (test : ℕ → Bool) (start n place : ℕ) → start ≤ place → place < start + n → test place ≡ true → ((k : ℕ) → k < place → test k ≡ false)
+    → list.find test (range_with_len start n) ≡ Some place
+first_passes test start zero place from below passes fails = absurd (omega (arith, from, below))
+first_passes test start (suc n) place from below passes fails = elim (eqb_tells start place) [
+  | inl here ↦ ap (λ b. cond b (Some start) (list.find test (range_with_len (start + 1) n))) (ap test here.1 ∙ passes) ∙ ap Some here.1
+  | inr other ↦
+      (let later : start < place = (let apart = other.1 in omega (arith, from, apart)) in
+      ap (λ b. cond b (Some start) (list.find test (range_with_len (start + 1) n))) (fails start later)
+      ∙ first_passes test (start + 1) n place (omega (arith, later)) (omega (arith, below)) passes fails)
+]
+
+-- ---- no key is there twice
+
+none_repeated : (ps : RowMap) → ((q : Key) → count q ps ≤ 1) → first_repeat ps ≡ None
+none_repeated ps few = none_passes (is_repeated ps) 0 (length ps) (λ k from below. ap is_some (find-absent (key_at ps k) (take k ps) (absent k (omega (arith, below)))))
   where
-    few : (q : Key) → count q (keyed keys rows) ≤ 1
+    absent : (k : ℕ) → k < length ps → count (key_at ps k) (take k ps) ≡ 0
+    absent k within =
+        let q = key_at ps k in
+        let all = few q in
+        let parts = sum_by-take-drop (λ (p : Key × List Value). cond (is_key q p.0) 1 0) ps k in
+        let place : k + 0 ≡ k = omega arith in
+        let here = contained_count q (drop k ps) 0 ([], []) (omega (arith, within, length-drop k ps)) (ap (λ (p : Key × List Value). p.0) (get_or-drop k ps 0 ([], [])) ∙ ap (key_at ps) place) in
+        omega (arith, all, parts, here)
+
+-- the rows with their keys, in the order of strictly rising keys, are their map
+pub sorted_is_map : (keys : ℕ) (rows : List (List Value)) (pairs : RowMap) → IsPermutation (keyed_rows keys rows) pairs → T (is_sorted key_cmp pairs) → map_of keys rows ≡ Ok pairs
+sorted_is_map keys rows pairs moved sorted =
+    ap (λ (place : Option ℕ). unless (option_map (λ n. DuplicateKey (n + 1)) place) (map_by_key (keyed_rows keys rows))) (none_repeated (keyed_rows keys rows) few)
+    ∙ ap Ok (same_entries key_cmp total_keys (slice_cmp-IsAntisymmetric nat_cmp-IsAntisymmetric) (map_by_key (keyed_rows keys rows)) pairs (map_by_key-sorted (keyed_rows keys rows)) sorted
+    (λ q. find-map_by_key q (keyed_rows keys rows) ∙ find_moved q (keyed_rows keys rows) pairs moved (few q)))
+  where
+    few : (q : Key) → count q (keyed_rows keys rows) ≤ 1
     few q =
-        let same = sum_by-IsPermutation (λ (p : Key × List Value). cond (is_key q p.0) 1 0) (keyed keys rows) pairs moved in
+        let same = sum_by-IsPermutation (λ (p : Key × List Value). cond (is_key q p.0) 1 0) (keyed_rows keys rows) pairs moved in
         let once = count-sorted q pairs sorted in
         omega (arith, same, once)
 
-    all : Made 1 [] (keyed keys rows)
-    all = made 1 [] (keyed keys rows) (λ q. let once = few q in omega (arith, once)) tt
+-- ---- a key is there twice
 
-    only : (found : Option (List Value)) → first_of found None ≡ found
-    only None = refl
-    only (Some row) = refl
+found_for : (q : Key) (ps : RowMap) (j : ℕ) (d : Key × List Value) → j < length ps → (get_or ps j d).0 ≡ q → is_some (find key_cmp q ps) ≡ true
+found_for q [] j d within is = absurd (omega (arith, within))
+found_for q (p ∷ ps) zero d within is = ap (λ b. is_some (cond b (Some p.1) (find key_cmp q ps))) (ap (is_key q) is ∙ is_itself q)
+found_for q (p ∷ ps) (suc j) d within is = by_test (is_key q p.0) (found_for q ps j d (omega (arith, within)) is)
+  where
+    by_test : (b : Bool) → is_some (find key_cmp q ps) ≡ true → is_some (cond b (Some p.1) (find key_cmp q ps)) ≡ true
+    by_test true found = refl
+    by_test false found = found
 
-    found : (q : Key) → find key_cmp q all.rows ≡ find key_cmp q pairs
-    found q = all.found q ∙ only (find key_cmp q (keyed keys rows)) ∙ find_moved q (keyed keys rows) pairs moved (few q)
+-- the place at which a key is found
+place_of : (q : Key) (ps : RowMap) → is_some (find key_cmp q ps) ≡ true → (j : ℕ) × (j < length ps) × (key_at ps j ≡ q)
+place_of q [] found = absurd (true≢false (sym found))
+place_of q (p ∷ ps) found = by_test (is_key q p.0) refl (place_of q ps) found
+  where
+    by_test : (b : Bool) → is_key q p.0 ≡ b → (is_some (find key_cmp q ps) ≡ true → (j : ℕ) × (j < length ps) × (key_at ps j ≡ q))
+        → is_some (cond b (Some p.1) (find key_cmp q ps)) ≡ true → (j : ℕ) × (j < length (p ∷ ps)) × (key_at (p ∷ ps) j ≡ q)
+    by_test true same later found = (0, omega arith, sym (same_key q p.0 same))
+    by_test false same later found = let rest = later found in (suc rest.0, omega (arith, rest.1), rest.2)
 
--- ---- a key stands twice
+not_repeated : (ps : RowMap) (k : ℕ) → k < length ps → ((j : ℕ) → j < k → key_at ps j ≡ key_at ps k → ⊥) → is_repeated ps k ≡ false
+not_repeated ps k within other = not_true (is_repeated ps k) (λ found.
+    let at = place_of (key_at ps k) (take k ps) found in
+    let below : at.0 < k = omega (arith, at.1, length-take k ps) in
+    other at.0 below (ap (λ (p : Key × List Value). p.0) (sym (get_or-take k ps at.0 ([], []) below)) ∙ at.2))
 
--- the key of the pair at a place
-abbrev pub key_at : RowMap → ℕ → Key
-key_at ps n = (get_or ps n ([], [])).0
-
--- an earlier pair, or the map, has the key of the pair at a place
-abbrev IsKnown : RowMap → RowMap → ℕ → Type 0
-IsKnown m ps n = (is_some (find key_cmp (key_at ps n) m) ≡ true) ⊎ ((j : ℕ) × (j < n) × (key_at ps j ≡ key_at ps n))
-
-module _ (m : RowMap) (p : Key × List Value) (ps : RowMap) where
-  find_put : (q : Key) → find key_cmp q (put key_cmp p.0 p.1 m) ≡ cond (is_key q p.0) (Some p.1) (find key_cmp q m)
-  find_put q = find-put key_cmp total_keys q p.0 p.1 m
-
-  -- with the first pair in the map
-  known_rest : (n : ℕ) → IsKnown m (p ∷ ps) (suc n) → IsKnown (put key_cmp p.0 p.1 m) ps n
-  known_rest n (inl found) = inl (ap is_some (find_put (key_at ps n)) ∙ by_test (is_key (key_at ps n) p.0))
-    where
-      by_test : (b : Bool) → is_some (cond b (Some p.1) (find key_cmp (key_at ps n) m)) ≡ true
-      by_test true = refl
-      by_test false = found
-  known_rest n (inr (zero, below, same)) =
-      inl (ap is_some (find_put (key_at ps n) ∙ ap (λ k. cond (is_key k p.0) (Some p.1) (find key_cmp k m)) (sym same) ∙ ap (λ b. cond b (Some p.1) (find key_cmp p.0 m)) (is_itself p.0)))
-  known_rest n (inr (suc j, below, same)) = inr (j, omega (arith, below), same)
-
-  -- and back
-  known_all : (n : ℕ) → IsKnown (put key_cmp p.0 p.1 m) ps n → IsKnown m (p ∷ ps) (suc n)
-  known_all n (inl found) = by_test (is_key (key_at ps n) p.0) refl (ap is_some (sym (find_put (key_at ps n))) ∙ found)
-    where
-      by_test : (b : Bool) → is_key (key_at ps n) p.0 ≡ b → is_some (cond b (Some p.1) (find key_cmp (key_at ps n) m)) ≡ true → IsKnown m (p ∷ ps) (suc n)
-      by_test true same e = inr (0, omega arith, sym (same_key (key_at ps n) p.0 same))
-      by_test false same e = inl e
-  known_all n (inr (j, below, same)) = inr (suc j, omega (arith, below), same)
-
-no_earlier : {A : Type 0} (m ps : RowMap) → IsKnown m ps 0 → (is_some (find key_cmp (key_at ps 0) m) ≡ true → A) → A
-no_earlier m ps (inl found) f = f found
-no_earlier m ps (inr (j, below, same)) f = absurd (omega (arith, below))
-
--- the first pair whose key is known is refused
-refused_first : (item : ℕ) (m ps : RowMap) (n : ℕ) → n < length ps → IsKnown m ps n → ((k : ℕ) → k < n → IsKnown m ps k → ⊥) → with_pairs item m ps ≡ Err (DuplicateKey (item + n))
-refused_first item m [] n within known first = absurd (omega (arith, within))
-refused_first item m (p ∷ ps) zero within known first =
-    let here : item ≡ item + 0 = omega arith in
-    no_earlier m (p ∷ ps) known (λ found. ap (λ b. if b then Err (DuplicateKey item) else with_pairs (item + 1) (put key_cmp p.0 p.1 m) ps) found ∙ ap (λ n. Err (DuplicateKey n)) here)
-refused_first item m (p ∷ ps) (suc n) within known first =
-    let next : item + 1 + n ≡ item + suc n = omega arith in
-    let new = not_true (is_some (find key_cmp p.0 m)) (λ found. first 0 (omega arith) (inl found)) in
-    ap (λ b. if b then Err (DuplicateKey item) else with_pairs (item + 1) (put key_cmp p.0 p.1 m) ps) new
-    ∙ refused_first (item + 1) (put key_cmp p.0 p.1 m) ps n (omega (arith, within)) (known_rest m p ps n known) (λ k below again. first (suc k) (omega (arith, below)) (known_all m p ps k again))
-    ∙ ap (λ n. Err (DuplicateKey n)) next
+repeated : (ps : RowMap) (j k : ℕ) → k < length ps → j < k → key_at ps j ≡ key_at ps k → is_repeated ps k ≡ true
+repeated ps j k within below same =
+    found_for (key_at ps k) (take k ps) j ([], []) (omega (arith, within, below, length-take k ps)) (ap (λ (p : Key × List Value). p.0) (get_or-take k ps j ([], []) below) ∙ same)
 
 -- the first row whose key an earlier one has is refused
-pub refused_is_first : (keys : ℕ) (rows : List (List Value)) (j n : ℕ) → n < length (keyed keys rows) → j < n → key_at (keyed keys rows) j ≡ key_at (keyed keys rows) n
-    → ((k i : ℕ) → k < n → i < k → key_at (keyed keys rows) i ≡ key_at (keyed keys rows) k → ⊥) → map_of keys rows ≡ Err (DuplicateKey (1 + n))
+pub refused_is_first : (keys : ℕ) (rows : List (List Value)) (j n : ℕ) → n < length (keyed_rows keys rows) → j < n → key_at (keyed_rows keys rows) j ≡ key_at (keyed_rows keys rows) n
+    → ((k i : ℕ) → k < n → i < k → key_at (keyed_rows keys rows) i ≡ key_at (keyed_rows keys rows) k → ⊥) → map_of keys rows ≡ Err (DuplicateKey (n + 1))
 refused_is_first keys rows j n within below same first =
-    by_pairs keys 1 [] rows ∙ refused_first 1 [] (keyed keys rows) n within (inr (j, below, same)) none_known
-  where
-    none_known : (k : ℕ) → k < n → IsKnown [] (keyed keys rows) k → ⊥
-    none_known k low (inl found) = true≢false (sym found)
-    none_known k low (inr (i, under, e)) = first k i low under e
+    let pairs = keyed_rows keys rows in
+    ap (λ (place : Option ℕ). unless (option_map (λ n. DuplicateKey (n + 1)) place) (map_by_key pairs)) (first_passes (is_repeated pairs) 0 (length pairs) n (omega arith) (omega (arith, within))
+    (repeated pairs j n within below same) (λ k low. not_repeated pairs k (omega (arith, low, within)) (λ i under e. first k i low under e)))

@@ -1,5 +1,5 @@
 -- Keys in order: where none repeats the one before it they strictly rise, and the least place of one that does is the first whose key an earlier place has.
-use Rattle.std.proofs.Common.{◌≡◌, ◌≢◌, ℕ, zero, suc, ◌+◌, ◌-◌, ◌<◌, ◌≤◌, true, false, T, List, [], ◌∷◌, get_or, length, map, refl, sym, ap, ◌∙◌, subst, ◌⊎◌, inl, inr, min, ⊎_elim, true≢false, arith, Option, Some, None, Err}
+use Rattle.std.proofs.Common.{◌≡◌, ◌≢◌, ℕ, zero, suc, ◌+◌, ◌-◌, ◌<◌, ◌≤◌, false, T, List, [], ◌∷◌, get_or, length, map, refl, sym, ap, ◌∙◌, subst, ◌⊎◌, inl, inr, min, ⊎_elim, true≢false, arith, Option, Some, None, Err}
 use Rattle.std.proofs.lemmas.Bool.{cases_lt, lt-ltb}
 use Rattle.std.proofs.lemmas.Bool.Decides.{eqb_tells}
 use Rattle.std.proofs.Math.Nat.{min-eq_left, min-eq_right, min-le_left, min-le_right}
@@ -20,11 +20,11 @@ use Rattle.bt_keycode.specs.Keys.{Key, is_before, key_cmp}
 use Rattle.bt_keycode.proofs.offered.Order.{neither_before, same_key, total_keys}
 use Rattle.bt_keycode.proofs.offered.Truths.{not_true, t_both}
 use Rattle.bt_keycode.specs.Standing.{RowMap, row_key}
-use Rattle.bt_load.specs.Maps.{map_of}
+use Rattle.bt_load.specs.Maps.{key_at, keyed_rows, map_of}
 use Rattle.bt_load.specs.Steps.{placed_cmp}
 use Rattle.bt_load.specs.inside.Sorts.{IsFirstRepeat, IsKeyBelow, Repeats, at, lesser_of, pair_at, placed_from}
 use Rattle.bt_load.specs.declared.placed.Placed.{Placed}
-use Rattle.bt_load.proofs.Maps.{key_at, keyed, refused_is_first}
+use Rattle.bt_load.proofs.Maps.{refused_is_first}
 use Rattle.bt_load.proofs.Orders.{placed_before, placed_ranks}
 use Rattle.bt_load.proofs.Places.{distinct_placed, occurs_twice}
 
@@ -44,13 +44,13 @@ placed_at keys place (row ∷ rows) (suc n) d within =
     let next : place + 1 + n ≡ place + suc n = omega arith in
     placed_at keys (place + 1) rows n d (omega (arith, within)) ∙ same_placed (row_key keys (get_or rows n [])) (place + 1 + n) (place + suc n) next
 
-key-at : (keys : ℕ) (rows : List (List Value)) (n : ℕ) → n < length rows → key_at (keyed keys rows) n ≡ row_key keys (get_or rows n [])
+key-at : (keys : ℕ) (rows : List (List Value)) (n : ℕ) → n < length rows → key_at (keyed_rows keys rows) n ≡ row_key keys (get_or rows n [])
 key-at keys rows n within =
     let f : List Value → Key × List Value = λ row. (row_key keys row, row) in
     ap (λ (p : Key × List Value). p.0) (get_or-map f rows n [] ([], []) within)
 
 -- the keys with the rows at their places are the rows behind their keys
-pairs_from : (keys place : ℕ) (all rest : List (List Value)) → ((n : ℕ) → n < length rest → get_or all (place + n) [] ≡ get_or rest n []) → map (pair_at all) (placed_from keys place rest) ≡ keyed keys rest
+pairs_from : (keys place : ℕ) (all rest : List (List Value)) → ((n : ℕ) → n < length rest → get_or all (place + n) [] ≡ get_or rest n []) → map (pair_at all) (placed_from keys place rest) ≡ keyed_rows keys rest
 pairs_from keys place all [] same = refl
 pairs_from keys place all (row ∷ rest) same =
     let here : place + 0 ≡ place = omega arith in
@@ -61,7 +61,7 @@ pairs_from keys place all (row ∷ rest) same =
     in
     λ i. (row_key keys row, first i) ∷ others i
 
-pairs_moved : (keys : ℕ) (rows : List (List Value)) (placed : List Placed) → IsPermutation (placed_from keys 0 rows) placed → IsPermutation (keyed keys rows) (map (pair_at rows) placed)
+pairs_moved : (keys : ℕ) (rows : List (List Value)) (placed : List Placed) → IsPermutation (placed_from keys 0 rows) placed → IsPermutation (keyed_rows keys rows) (map (pair_at rows) placed)
 pairs_moved keys rows placed moved =
     let same = pairs_from keys 0 rows rows (λ n within. let here : 0 + n ≡ n = omega arith in ap (λ k. get_or rows k []) here) in
     subst (λ ps. IsPermutation ps (map (pair_at rows) placed)) same (IsPermutation-map (pair_at rows) (placed_from keys 0 rows) placed moved)
@@ -104,7 +104,7 @@ rising_sorted f (p ∷ placed) up = t_both _ _ (first_below f p placed up) (risi
 
 -- the rows behind their keys, in the order of the keys
 pub record AreSortedPairs (keys : ℕ) (rows : List (List Value)) (pairs : RowMap) : Type 0 where
-  pub moved : IsPermutation (keyed keys rows) pairs
+  pub moved : IsPermutation (keyed_rows keys rows) pairs
   pub rising : T (is_sorted key_cmp pairs)
 
 pub sorted_pairs : (keys : ℕ) (rows : List (List Value)) (placed : List Placed) (pairs : RowMap) → pairs ≡ map (pair_at rows) placed → IsPermutation (placed_from keys 0 rows) placed
@@ -247,16 +247,14 @@ module _ (keys : ℕ) (rows : List (List Value)) (placed : List Placed) (moved :
       let within = repeat_within place found in
       let before = earlier_of n found.0.1 in
       let below : before.0 < place = subst (λ k. before.0 < k) is before.1 in
-      let long : length (keyed keys rows) ≡ length rows = length-map rows (λ row. (row_key keys row, row)) in
-      let same : key_at (keyed keys rows) before.0 ≡ key_at (keyed keys rows) place =
+      let long : length (keyed_rows keys rows) ≡ length rows = length-map rows (λ row. (row_key keys row, row)) in
+      let same : key_at (keyed_rows keys rows) before.0 ≡ key_at (keyed_rows keys rows) place =
       key-at keys rows before.0 (omega (arith, below, within)) ∙ before.2 ∙ ap (λ k. row_key keys (get_or rows k [])) is ∙ sym (key-at keys rows place within) in
-      let next : 1 + place ≡ place + 1 = omega arith in
       refused_is_first keys rows before.0 place (omega (arith, within, long)) below same (λ k i low under e.
       let in_k : k < length rows = omega (arith, low, within) in
       let again = repeats_for k i in_k under (sym (key-at keys rows i (omega (arith, under, in_k))) ∙ e ∙ key-at keys rows k in_k) in
       let least = found.1 again.0 again.1.within again.1 in
       omega (arith, least, again.2, low))
-      ∙ ap (λ k. Err (DuplicateKey k)) next
 
 -- ---- one more place in order is looked at
 

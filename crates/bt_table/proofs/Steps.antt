@@ -13,8 +13,8 @@ use Rattle.bt_value.specs.declared.value.Value.{Value}
 use Rattle.bt_keycode.specs.Keys.{key_cmp}
 use Rattle.bt_load.specs.Loads.{text_rows}
 use Rattle.bt_load.specs.Maps.{map_of}
-use Rattle.bt_load.proofs.offered.Loaded.{text_rows-of}
-use Rattle.bt_table.proofs.Loads.{map_of-sorted, map_of-stand}
+use Rattle.bt_load.proofs.offered.Loaded.{map_of-sorted, text_rows-of}
+use Rattle.bt_table.proofs.Loads.{map_of-stand}
 use Rattle.bt_messages.specs.Effects.{Rows, rows_after}
 use Rattle.bt_messages.specs.Messages.{Messages, sorted_batch}
 use Rattle.bt_node.specs.Drains.{packed}

@@ -17,9 +17,9 @@ use Rattle.bt_node.specs.Shapes.{is_shape}
 use Rattle.bt_node.specs.Trees.{Shape}
 use Rattle.bt_load.specs.Loads.{text_rows}
 use Rattle.bt_load.specs.Maps.{map_of}
-use Rattle.bt_load.proofs.offered.Loaded.{text_rows-of}
+use Rattle.bt_load.proofs.offered.Loaded.{map_of-sorted, text_rows-of}
 use Rattle.bt_keycode.specs.Standing.{AreOf}
-use Rattle.bt_table.proofs.Loads.{map_of-sorted, map_of-stand}
+use Rattle.bt_table.proofs.Loads.{map_of-stand}
 use Rattle.bt_batch.specs.Batches.{batch_refusals, messages_of, read_key}
 use Rattle.bt_table.specs.Calls.{after_build, after_load, built, Call, Apply, BuildStep, CreateIndex, Drain, DropIndex, Get, Load, Rebuild, Upkeep, Draining, Rebuilding, dropped, is_bare, is_primary, load_refusals, name_refusals, sent_counts, step, unless_any, with_index, with_renewed, with_renewed_index, with_renewed_rows}
 use Rattle.bt_table.specs.Indexes.{Index, index_named, is_complete}
