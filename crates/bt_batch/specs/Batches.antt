@@ -3,7 +3,6 @@ use Rattle.std.specs.Prelude.{ℕ, ◌+◌, nat_lt, List, [], ◌∷◌, ◌++�
 use Rattle.std.specs.List.{filter_map}
 use Rattle.std.specs.Result.{result_err, result_ok}
 use Rattle.bt_value.specs.Results.{map_ok, one_if}
-use Rattle.bt_batch.specs.declared.line_messages.TheConstants.{MOST_MESSAGES}
 use Rattle.bt_row.specs.Ops.{Change, default_row, upsert_as}
 use Rattle.bt_row.specs.Schemas.{Schema, read_as}
 use Rattle.bt_row.specs.declared.op.Op.{Op}
@@ -55,6 +54,10 @@ read_batch schema item (line ∷ lines) = read_message schema item line ∷ read
 abbrev pub messages_of : Schema → List Item → RowMessages
 messages_of schema items = filter_map result_ok (read_batch schema 1 items)
 
+-- the most messages of a batch
+abbrev pub most_messages : ℕ
+most_messages = 65536
+
 -- the refusals that apply to a batch: those of its records, and that of too many
 abbrev pub batch_refusals : Schema → List Item → List Refusal
-batch_refusals schema items = filter_map result_err (read_batch schema 1 items) ++ one_if (nat_lt MOST_MESSAGES (length items)) TooMany
+batch_refusals schema items = filter_map result_err (read_batch schema 1 items) ++ one_if (nat_lt most_messages (length items)) TooMany

@@ -1,12 +1,14 @@
 //! Batches: the records of a batch are typed and sorted in pieces by a crew, and the pieces are merged by ranges of keys.
 //!
-//! Each line of a batch spells a message: a put of a row, or a del or an upsert of the row of a key. [`read_packet`] gives the packet of a batch, which
-//! is what the trees take. The lines are cut into as many pieces as there are workers. A worker types the lines of its piece and sorts their messages
-//! by key, so that each piece is a packet. Then the keys are divided in ranges, and a worker merges what the packets have in its range. The
-//! results lie one behind the other. [`read_packet_alone`] is the same without threads: the whole batch is one piece.
+//! Each line of a batch encodes a message: a put of a row, or a del or an upsert of the row of a key. [`read_packet`] gives the packet of a batch, which
+//! is what the trees take. The lines are cut into pieces, at most one for each worker and at most one for each four grains of lines. A worker types the
+//! lines of its piece and sorts their messages by key, so that each piece is a packet. Then [`merged_pieces`], which serves indexes too, divides the keys into ranges, and a worker
+//! merges what the packets have in its range. The results follow each other in one packet. [`read_packet_alone`] is the same without threads: the
+//! whole batch is one piece.
 //!
-//! Wherever the lines are cut and whoever works, the answer is one: the messages sorted by key, those of one key in the order of their lines; or the
-//! least refusal of all lines, each of which is counted by its place in the batch.
+//! However the lines are cut and whoever works, the result is the same: the messages sorted by key, those of one key in the order of their lines; or
+//! the least refusal that applies. Those of lines are counted by the place of the line in the batch, and `TooMany` is that of more than
+//! [`MOST_MESSAGES`] lines.
 //!
 //! ```text
 //! let crew = Crew::new(4, 2, 64, NoGate)?;
@@ -14,7 +16,7 @@
 //! for (key, message) in packet.iter() { .. }                                  // by rising key
 //! ```
 //!
-//! `specs` has the definitions: `Batches` which messages records spell, and why they are refused.
+//! `specs` has the definitions: `Batches` says which messages records encode, and why they are refused.
 #![tactic(auto)]
 
 mod batch_packet;
