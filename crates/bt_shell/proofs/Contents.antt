@@ -28,13 +28,12 @@ use Rattle.bt_script.specs.declared.command.Command.TheVariants as command
 use Rattle.bt_script.specs.declared.command.Command.TheVariants.{Batch, Build, Drain, Drop, Get, Image, Load, Rebuild, Scan, Sums, Table}
 use Rattle.bt_script.specs.declared.command.TableForm.{TableForm}
 use Rattle.bt_table.specs.Calls as call
-use Rattle.bt_table.specs.Calls.{NamedTree, Primary, Secondary, Upkeep, Draining, Rebuilding, after_build, built, dropped, is_primary, name_refusals, renewed_index, secondary, sent_counts, step, tree_named, unless_any, with_index, with_index_at, with_renewed, with_renewed_index, with_renewed_rows}
+use Rattle.bt_table.specs.Calls.{NamedTree, Primary, Secondary, Upkeep, Draining, Rebuilding, after_build, built, dropped, is_primary, most_indexes, name_refusals, renewed_index, secondary, sent_counts, step, tree_named, unless_any, with_index, with_index_at, with_renewed, with_renewed_index, with_renewed_rows}
 use Rattle.bt_table.specs.Indexes.{Index, built_index, empty_index, index_named, index_named_from, index_with, indexes_after, is_complete, is_name_of, packet_of, sent_count}
 use Rattle.bt_table.specs.Tables.{PlainTable, TableState, Intact, Lost, after_batch}
 use Rattle.bt_table.specs.declared.index.IndexHead.{IndexHead}
 use Rattle.bt_table.specs.declared.reply.Reply.{Reply}
 use Rattle.bt_table.specs.declared.reply.Reply.TheVariants as reply
-use Rattle.bt_table.specs.declared.table.TheConstants.{MOST_INDEXES}
 use Rattle.bt_view.specs.Groups.{sums_of}
 use Rattle.bt_view.specs.Ranges.{scan_with_keys_of}
 use Rattle.bt_shell.proofs.Records.{messages_of-append}
@@ -164,9 +163,9 @@ length-bare is = length-map (map head_of is) bare_index ∙ length-map is head_o
 
 same_names : (table : PlainTable) (name : List ℕ) → name_refusals (bared table) name ≡ name_refusals table name
 same_names table name =
-    ap (λ (b : Bool). one_if (is_primary name || b) NameTaken ++ one_if (nat_le MOST_INDEXES (length (all_bare table.indexes))) TooMany)
+    ap (λ (b : Bool). one_if (is_primary name || b) NameTaken ++ one_if (nat_le most_indexes (length (all_bare table.indexes))) TooMany)
     (ap is_some (found-bare 0 name table.indexes) ∙ is_some-bare (index_named name table.indexes))
-    ∙ ap (λ (n : ℕ). one_if (is_primary name || is_some (index_named name table.indexes)) NameTaken ++ one_if (nat_le MOST_INDEXES n) TooMany) (length-bare table.indexes)
+    ∙ ap (λ (n : ℕ). one_if (is_primary name || is_some (index_named name table.indexes)) NameTaken ++ one_if (nat_le most_indexes n) TooMany) (length-bare table.indexes)
 
 -- ---- building, dropping, upkeep
 

@@ -28,7 +28,7 @@ use Rattle.bt_batch.specs.Batches.{RowMessages, batch_refusals, messages_of}
 use Rattle.bt_fanout.specs.Entries.{Definition, IsWithin}
 use Rattle.bt_fanout.specs.Promises.{SuitsRows, own_puts}
 use Rattle.bt_fanout.specs.declared.cover.Cover.{Cover}
-use Rattle.bt_table.specs.Calls.{Apply, BuildStep, Call, CreateIndex, Drain, Draining, DropIndex, IsStep, Load, Primary, Rebuild, Rebuilding, Secondary, ShowsIndex, ShowsRows, Upkeep, after_build, after_load, built, dropped, index_refusals, is_bare, is_primary, load_refusals, renewed_tree, renewed_index, secondary, step, tree_named, unless_any, with_index, with_index_at, with_renewed, with_renewed_index, with_renewed_rows, with_rows, without_index}
+use Rattle.bt_table.specs.Calls.{Apply, BuildStep, Call, CreateIndex, Drain, Draining, DropIndex, IsStep, Load, Primary, Rebuild, Rebuilding, Secondary, ShowsIndex, ShowsRows, Upkeep, after_build, after_load, built, dropped, index_refusals, is_bare, is_primary, load_refusals, most_indexes, renewed_tree, renewed_index, secondary, step, tree_named, unless_any, with_index, with_index_at, with_renewed, with_renewed_index, with_renewed_rows, with_rows, without_index}
 use Rattle.bt_table.specs.Indexes.{EntryTree, Index, advanced, built_index, index_named, index_of_ref, index_with, indexes_of, is_complete, packet_of, sent_count}
 use Rattle.bt_table.specs.inside.IndexTrees.{empty_head, entry_tree, packet_for, count_for, sunk_tree, sunk_trees, with_cover}
 use Rattle.bt_table.specs.inside.Parts.{AreSoundParts}
@@ -39,7 +39,6 @@ use Rattle.bt_table.specs.declared.index.IndexRef.{IndexRef}
 use Rattle.bt_table.specs.declared.reply.Reply.{Reply}
 use Rattle.bt_table.specs.declared.reply.Reply.TheVariants.{Batch, Built, Created, Drained, Dropped, Loaded, Rebuilt}
 use Rattle.bt_table.specs.declared.reply.SentCount.{SentCount}
-use Rattle.bt_table.specs.declared.table.TheConstants.{MOST_INDEXES}
 use Rattle.bt_table.specs.declared.trees.Trees.{Trees}
 use Rattle.bt_table.proofs.Indexes.{building_packet-is, counts_are, each_suits, holds_selection, indexes_of-append, indexes_of-remove, indexes_of-set, indexes_suit, length-indexes_of, length-remove_same, length-sunk, put_again, rows_within, set_same, sunk_is, with_entry_trees}
 use Rattle.bt_table.proofs.offered.KeyOrder.{keys_rise}
@@ -65,11 +64,11 @@ same : {A : Type 0} {found : Option A} {stood taken : A} → found ≡ Some stoo
 same is took = cc
 
 -- where a name is not refused, there may be one index more
-below_most : (taken : Bool) (count : ℕ) → least (one_if taken NameTaken ++ one_if (nat_le MOST_INDEXES count) TooMany) ≡ None → count < MOST_INDEXES
-below_most taken count free = go taken (nat_le MOST_INDEXES count) refl free
+below_most : (taken : Bool) (count : ℕ) → least (one_if taken NameTaken ++ one_if (nat_le most_indexes count) TooMany) ≡ None → count < most_indexes
+below_most taken count free = go taken (nat_le most_indexes count) refl free
   where
-    go : (taken full : Bool) → nat_le MOST_INDEXES count ≡ full → least (one_if taken NameTaken ++ one_if full TooMany) ≡ None → count < MOST_INDEXES
-    go false false is free = leb-false MOST_INDEXES count is
+    go : (taken full : Bool) → nat_le most_indexes count ≡ full → least (one_if taken NameTaken ++ one_if full TooMany) ≡ None → count < most_indexes
+    go false false is free = leb-false most_indexes count is
     go false true is free = absurd cc
     go true false is free = absurd cc
     go true true is free = absurd cc
@@ -87,7 +86,7 @@ has_trees schema heads (Some trees) name free = refl
 
 -- trees that were put back beside what the indexes are then
 module _ (schema : Schema) (heads : List IndexHead) (after : Option Trees) (new : Trees) (put : after ≡ Some new) where
-  put_is_sound : IsSoundTable (held_by schema new.rows (indexes_of heads new.entries.items)) → length new.entries.items ≡ length heads → length heads ≤ MOST_INDEXES → AreSoundParts schema heads after
+  put_is_sound : IsSoundTable (held_by schema new.rows (indexes_of heads new.entries.items)) → length new.entries.items ≡ length heads → length heads ≤ most_indexes → AreSoundParts schema heads after
   put_is_sound sound many few = subst (AreSoundParts schema heads) (sym put) (sound, (many, few))
 
   state_is_put : (table : PlainTable) → held_by schema new.rows (indexes_of heads new.entries.items) ≡ table → state_of schema heads after ≡ Intact table
@@ -107,7 +106,7 @@ module _ (schema : Schema) (heads : List IndexHead) (kept : Option Trees) (trees
   pub each_has_tree : length trees.entries.items ≡ length heads
   each_has_tree = (subst (AreSoundParts schema heads) is sound).1.0
 
-  few_indexes : length heads ≤ MOST_INDEXES
+  few_indexes : length heads ≤ most_indexes
   few_indexes = (subst (AreSoundParts schema heads) is sound).1.1
 
   module _ (items : List Item) where
@@ -159,10 +158,10 @@ module _ (schema : Schema) (heads : List IndexHead) (kept : Option Trees) (trees
     -- ---- indexes
 
     -- a name that is free is refused by the number of indexes alone
-    pub refused_by_number : (name : List ℕ) → is_primary name ≡ false → is_some (index_named name indexes) ≡ false → least (index_refusals state name) ≡ least (one_if (nat_le MOST_INDEXES (length heads)) TooMany)
+    pub refused_by_number : (name : List ℕ) → is_primary name ≡ false → is_some (index_named name indexes) ≡ false → least (index_refusals state name) ≡ least (one_if (nat_le most_indexes (length heads)) TooMany)
     refused_by_number name other free =
         ap (λ s. least (index_refusals s name)) state_is
-        ∙ (λ i. least (one_if (other i || free i) NameTaken ++ one_if (nat_le MOST_INDEXES (length-indexes_of heads trees.entries.items each_has_tree i)) TooMany))
+        ∙ (λ i. least (one_if (other i || free i) NameTaken ++ one_if (nat_le most_indexes (length-indexes_of heads trees.entries.items each_has_tree i)) TooMany))
 
     module _ (taken : Trees) (took : kept ≡ Some taken) (others : List IndexHead) (new : Trees) (after : Option Trees) (put : after ≡ Some new) (rows_are : new.rows ≡ taken.rows) where
       others_to : (entries : List (Shape × EntryTree)) → new.entries.items ≡ entries → held_by schema new.rows (indexes_of others new.entries.items) ≡ held_by schema trees.rows (indexes_of others entries)
@@ -184,7 +183,7 @@ module _ (schema : Schema) (heads : List IndexHead) (kept : Option Trees) (trees
         not_added_to heads_are entries_are =
             others_to trees.entries.items (entries_are ∙ ap (λ (t : Trees). t.entries.items) (same is took)) ∙ ap (λ hs. held_by schema trees.rows (indexes_of hs trees.entries.items)) heads_are
 
-        one_more : least (index_refusals state name) ≡ None → others ≡ heads ++ empty_head name def ∷ [] → length others ≤ MOST_INDEXES
+        one_more : least (index_refusals state name) ≡ None → others ≡ heads ++ empty_head name def ∷ [] → length others ≤ most_indexes
         one_more free heads_are =
             let number : length others ≡ length heads + 1 = ap length heads_are ∙ length_push heads _ in
             let indexes_number = length-indexes_of heads trees.entries.items each_has_tree in
@@ -201,7 +200,7 @@ module _ (schema : Schema) (heads : List IndexHead) (kept : Option Trees) (trees
         added_is_sound suits free false heads_are entries_are =
             put_is_sound schema others after new put (subst IsSoundTable (sym (not_added_to heads_are entries_are)) was_sound)
             (ap length entries_are ∙ ap (λ (t : Trees). length t.entries.items) (same is took) ∙ each_has_tree ∙ sym (ap length heads_are))
-            (subst (λ n. n ≤ MOST_INDEXES) (sym (ap length heads_are)) few_indexes)
+            (subst (λ n. n ≤ most_indexes) (sym (ap length heads_are)) few_indexes)
 
         pub not_added_is : others ≡ heads → new.entries.items ≡ taken.entries.items → state_of schema others after ≡ state
         not_added_is heads_are entries_are = state_is_put schema others after new put before (not_added_to heads_are entries_are) ∙ sym state_is
@@ -334,8 +333,8 @@ module _ (schema : Schema) (heads : List IndexHead) (kept : Option Trees) (trees
         one_each : length new.entries.items ≡ length others
         one_each = ap length tree_put ∙ length-set trees.entries.items place tree ∙ each_has_tree ∙ sym (ap length heads_are ∙ length-set heads place head)
 
-        few_still : length others ≤ MOST_INDEXES
-        few_still = subst (λ n. n ≤ MOST_INDEXES) (sym (ap length heads_are ∙ length-set heads place head)) few_indexes
+        few_still : length others ≤ most_indexes
+        few_still = subst (λ n. n ≤ most_indexes) (sym (ap length heads_are ∙ length-set heads place head)) few_indexes
 
         module _ (upkeep : Upkeep) (change_is : index_with head tree ≡ renewed_index upkeep shown) where
           renewed_to : held_by schema new.rows (indexes_of others new.entries.items) ≡ with_renewed_index upkeep before (place, shown)

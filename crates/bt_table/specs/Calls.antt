@@ -28,7 +28,6 @@ use Rattle.bt_batch.specs.Batches.{RowMessages, batch_refusals, messages_of, rea
 use Rattle.bt_table.specs.Indexes.{Index, built_index, empty_index, index_named, index_of_ref, is_complete, packed_index, packet_of, sent_count, with_tree}
 use Rattle.bt_table.specs.Standing.{AllStand, HoldsSelection, KeysRise}
 use Rattle.bt_table.specs.Tables.{PlainTable, RowTree, TableState, Intact, Lost, after_batch}
-use Rattle.bt_table.specs.declared.table.TheConstants.{MOST_INDEXES}
 use Rattle.bt_table.specs.declared.table.TreeRef.{TreeRef}
 use Rattle.bt_table.specs.declared.table.TreeRef.TheVariants as shown
 use Rattle.bt_table.specs.declared.reply.Reply.{Reply}
@@ -62,10 +61,14 @@ unless_any refusals value = unless (least refusals) value
 abbrev pub is_primary : List ℕ → Bool
 is_primary name = pointwise ◌==◌ name (codes "primary")
 
+-- the most indexes of a table
+abbrev pub most_indexes : ℕ
+most_indexes = 16
+
 -- the refusals that apply to a new index of this name: it is taken, or there are too many
 abbrev pub name_refusals : PlainTable → List ℕ → List Refusal
 name_refusals table name =
-    one_if (is_primary name || is_some (index_named name table.indexes)) NameTaken ++ one_if (nat_le MOST_INDEXES (length table.indexes)) TooMany
+    one_if (is_primary name || is_some (index_named name table.indexes)) NameTaken ++ one_if (nat_le most_indexes (length table.indexes)) TooMany
 
 -- those that apply to it in a state
 abbrev pub index_refusals : TableState → List ℕ → List Refusal

@@ -3,9 +3,9 @@ ghost use Rattle.std.specs.Prelude.{◌≡◌, ◌≤◌, [], IfOk, IsSome, None
 ghost use Rattle.std.specs.List.{zip};
 ghost use Rattle.bt_node.specs.Flushes.{sunk};
 ghost use Rattle.bt_fanout.specs.Effects.{row_meaning};
+ghost use Rattle.bt_table.specs.Calls.{most_indexes};
 ghost use Rattle.bt_table.specs.inside.IndexTrees.{sunk_tree, sunk_trees};
 
-use crate::table::MOST_INDEXES;
 use crate::workforce::Workforce;
 use bt_messages::{Entry, Packet};
 use bt_node::Tree;
@@ -86,7 +86,7 @@ pub(crate) fn sunk_all<T, W: Workforce<T>>(
 ) -> Result<Trees, AllocError>
     requires ready { W.accepts workforce.now }
     requires same { length packets.items ≡ length trees.entries.items }
-    requires few { length trees.entries.items ≤ MOST_INDEXES }
+    requires few { length trees.entries.items ≤ most_indexes }
     requires rows_room { (room.rows.items ≡ []) × (1 ≤ vec_capacity room.rows) }
     requires room { (room.entries.items ≡ []) × (length trees.entries.items ≤ vec_capacity room.entries) }
     ensures rows { IfOk result (λ after. after.rows ≡ (trees.rows.0, sunk row_meaning trees.rows.0 trees.rows.1 packet)) }

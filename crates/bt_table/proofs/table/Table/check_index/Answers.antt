@@ -3,8 +3,8 @@ use Rattle.std.proofs.lemmas.Bool.Decides.{nat_tests}
 use Rattle.bt_value.specs.Refusals.{least}
 use Rattle.bt_value.specs.declared.refusal.Refusal.TheVariants.{TooMany}
 use Rattle.bt_value.specs.Results.{one_if}
+use Rattle.bt_table.specs.Calls.{most_indexes}
 use Rattle.bt_table.specs.Indexes.{index_named, indexes_of}
-use Rattle.bt_table.specs.declared.table.TheConstants.{MOST_INDEXES}
 use Rattle.bt_table.proofs.Steps.{refused_by_number}
 use Rattle.bt_table.proofs.table.Table.check_index.Goals as goal
 
@@ -15,7 +15,7 @@ is_some-map f (Some x) = refl
 pub returns-then-is_full-clause-refused : goal.returns-then-is_full-clause-refused
 returns-then-is_full-clause-refused c =
     let long : c.len-is_full.result ≡ length c.self.inside.heads.items = search rules in
-    let many : nat_le MOST_INDEXES (length c.self.inside.heads.items) ≡ true = grind (arith, nat_tests) in
+    let many : nat_le most_indexes (length c.self.inside.heads.items) ≡ true = grind (arith, nat_tests) in
     let free : is_some (index_named c.args.name.now (indexes_of c.self.inside.heads.items c.in-Some.trees.entries.items)) ≡ false =
     rw (c.as_slice.ensures.value, c.as_slice-2.ensures.value) at (sym (ap is_some c.find_index-found.ensures.found) ∙ is_some-map _ c.find_index-found.result ∙ sym c.if-is_some.ensures) in
     refused_by_number c.self.inside.schema c.self.inside.heads.items c.self.inside.trees c.in-Some.trees c.in-Some.is c.self.invariant c.args.self.now c.self.view_is c.args.name.now (sym c.if-is_name_of_rows.ensures) free ∙ ap (λ b. least (one_if b TooMany)) many
@@ -23,7 +23,7 @@ returns-then-is_full-clause-refused c =
 pub returns-clause-free : goal.returns-clause-free
 returns-clause-free c =
     let long : c.len-is_full.result ≡ length c.self.inside.heads.items = search rules in
-    let few : nat_le MOST_INDEXES (length c.self.inside.heads.items) ≡ false = grind (arith, nat_tests) in
+    let few : nat_le most_indexes (length c.self.inside.heads.items) ≡ false = grind (arith, nat_tests) in
     let free : is_some (index_named c.args.name.now (indexes_of c.self.inside.heads.items c.in-Some.trees.entries.items)) ≡ false =
     rw (c.as_slice.ensures.value, c.as_slice-2.ensures.value) at (sym (ap is_some c.find_index-found.ensures.found) ∙ is_some-map _ c.find_index-found.result ∙ sym c.if-is_some.ensures) in
     refused_by_number c.self.inside.schema c.self.inside.heads.items c.self.inside.trees c.in-Some.trees c.in-Some.is c.self.invariant c.args.self.now c.self.view_is c.args.name.now (sym c.if-is_name_of_rows.ensures) free ∙ ap (λ b. least (one_if b TooMany)) few
