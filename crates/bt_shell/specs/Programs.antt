@@ -1,10 +1,9 @@
 -- What the program does by its words, for streams of which calls may fail.
 use Rattle.std.specs.Prelude.{◌≡◌, [], false, true, List, Option, None, ℕ}
 use Rattle.bt_script.specs.Options.{IsFaulty, IsToReadInput, kinds_of_words}
-use Rattle.bt_script.specs.Streams.{FailsToGive, GivesWithin, Took, has_failed, source_of}
+use Rattle.bt_script.specs.Streams.{FailsToGive, GivesWithin, Took, has_failed, script_limit, source_of}
 use Rattle.bt_script.specs.declared.counted.Counted.{Counted}
 use Rattle.bt_script.specs.declared.streams.RunFault.TheVariants.{OutOfMemory, Read, Write}
-use Rattle.bt_script.specs.declared.streams.TheConstants.{SCRIPT_LIMIT}
 use Rattle.bt_shell.specs.Runs.{WritesPrefix, WritesReplies, WritesRun}
 use Rattle.bt_shell.specs.declared.program_run.ProgramFault.{ProgramFault}
 use Rattle.bt_shell.specs.declared.program_run.ProgramFault.TheVariants.{Run, Words}
@@ -41,6 +40,6 @@ module _ {I W : Type 0} (remaining : I → Option (List ℕ)) (contents : W → 
   -- what each fault comes of and leaves; a failed read may also be one of a file, whose reader no contract knows
   abbrev pub HasCause : ProgramFault → Type 0
   HasCause Words = IsFaulty words
-  HasCause (Run Read) = IsToRun words × (IsToReadInput words → FailsToGive remaining input read SCRIPT_LIMIT) × Took contents output written []
-  HasCause (Run Write) = (has_failed written ≡ true) × GivesWithin remaining input read SCRIPT_LIMIT
-  HasCause (Run OutOfMemory) = GivesWithin remaining input read SCRIPT_LIMIT × AnswersReplies remaining contents words input output written
+  HasCause (Run Read) = IsToRun words × (IsToReadInput words → FailsToGive remaining input read script_limit) × Took contents output written []
+  HasCause (Run Write) = (has_failed written ≡ true) × GivesWithin remaining input read script_limit
+  HasCause (Run OutOfMemory) = GivesWithin remaining input read script_limit × AnswersReplies remaining contents words input output written

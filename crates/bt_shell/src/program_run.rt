@@ -1,7 +1,7 @@
 //! The program over any runtime and streams.
 ghost use Rattle.std.specs.Prelude.{◌≡◌, ◌≤◌, ◌+◌, ◌≢◌, ◌⊎◌, [], false, true, IfSome, OnOk, OnErr, IsErrOf, ℕ, List};
 ghost use Rattle.bt_script.specs.Options.{AreWithinLimits, AsksHelp, IsFaulty, IsToReadInput, MustBeRefused};
-ghost use Rattle.bt_script.specs.Streams.{FailsToGive, GaveAtMost, GivesWithin, Took, count_of, has_failed, has_unflushed, source_of};
+ghost use Rattle.bt_script.specs.Streams.{FailsToGive, GaveAtMost, GivesWithin, Took, count_of, has_failed, has_unflushed, script_limit, source_of};
 ghost use Rattle.bt_shell.specs.Programs.{AnswersPrefix, AnswersReplies, AnswersScript, AreHealthy, HasCause, IsToRun, LeavesInput};
 ghost use Rattle.bt_shell.specs.Runs.{IsWholeRun, WritesPrefix, WritesReplies, WritesRun, state_after_commands};
 ghost use Rattle.bt_shell.specs.Statuses.{TookLine, line_of, status_of};
@@ -12,7 +12,7 @@ ghost use Rattle.std.specs.declared.option.Option.TheVariants.{None};
 use crate::context::Context;
 use crate::script_run::{RunMemory, flush_output};
 use bt_gang::{Crew, NoGate};
-use bt_script::{Counted, RunFault, SCRIPT_LIMIT, Words, WordsError, read_words, write_text};
+use bt_script::{Counted, RunFault, Words, WordsError, read_words, write_text};
 use bt_value::Texts;
 use std::alloc::AllocError;
 use std::io::{Read, Write};
@@ -132,24 +132,24 @@ fn run_words<R: Files + AllocGlobal + Threads + Wait + Sync, I: Read, W: Write>(
     ensures err { OnErr result (AnswersPrefix I.remaining W.contents words.now input.old output.old output.new) }
     ensures healthy { OnOk result (AreHealthy input.new output.new) }
     ensures words { OnOk result (IsToRun words.now ⊎ AsksHelp words.now) }
-    ensures short { OnOk result (GaveAtMost I.remaining input.old input.new SCRIPT_LIMIT) }
+    ensures short { OnOk result (GaveAtMost I.remaining input.old input.new script_limit) }
 
     // Which fault it is, and what it leaves.
     ensures faulty { IsErrOf result ProgramFault.Words → IsFaulty words.now }
     ensures refused { MustBeRefused words.now → IsErrOf result ProgramFault.Words ⊎ IsErrOf result (ProgramFault.Run RunFault.OutOfMemory) }
     ensures unwritten { MustBeRefused words.now → output.new ≡ output.old }
     ensures asked { IsErrOf result (ProgramFault.Run RunFault.Read) → IsToRun words.now }
-    ensures read { IsErrOf result (ProgramFault.Run RunFault.Read) → IsToReadInput words.now → FailsToGive I.remaining input.old input.new SCRIPT_LIMIT }
+    ensures read { IsErrOf result (ProgramFault.Run RunFault.Read) → IsToReadInput words.now → FailsToGive I.remaining input.old input.new script_limit }
     ensures unread { IsErrOf result (ProgramFault.Run RunFault.Read) → output.new ≡ output.old }
     ensures write { IsErrOf result (ProgramFault.Run RunFault.Write) → has_failed output.new ≡ true }
-    ensures given { IsErrOf result (ProgramFault.Run RunFault.Write) → GivesWithin I.remaining input.old input.new SCRIPT_LIMIT }
+    ensures given { IsErrOf result (ProgramFault.Run RunFault.Write) → GivesWithin I.remaining input.old input.new script_limit }
     ensures memory { IsErrOf result (ProgramFault.Run RunFault.OutOfMemory) → AreHealthy input.new output.new }
-    ensures within { IsErrOf result (ProgramFault.Run RunFault.OutOfMemory) → GaveAtMost I.remaining input.old input.new SCRIPT_LIMIT }
+    ensures within { IsErrOf result (ProgramFault.Run RunFault.OutOfMemory) → GaveAtMost I.remaining input.old input.new script_limit }
     ensures replies { IsErrOf result (ProgramFault.Run RunFault.OutOfMemory) → AnswersReplies I.remaining W.contents words.now input.old output.old output.new }
 
     // What is read.
     ensures untouched { LeavesInput words.now input.old input.new }
-    ensures at_most { GaveAtMost I.remaining input.old input.new (SCRIPT_LIMIT + 1) }
+    ensures at_most { GaveAtMost I.remaining input.old input.new (script_limit + 1) }
 {
     let said = match read_words(rt.alloc(), words) {
         Ok(said) => said,
@@ -188,23 +188,23 @@ fn run_and_flush<R: Files + AllocGlobal + Threads + Wait + Sync, I: Read, W: Wri
     ensures healthy { OnOk result (AreHealthy input.new output.new) }
     ensures flushed { OnOk result (has_unflushed output.new ≡ false) }
     ensures words { OnOk result (IsToRun words.now ⊎ AsksHelp words.now) }
-    ensures short { OnOk result (GaveAtMost I.remaining input.old input.new SCRIPT_LIMIT) }
+    ensures short { OnOk result (GaveAtMost I.remaining input.old input.new script_limit) }
 
     // Which fault it is, and what it leaves.
     ensures faulty { IsErrOf result ProgramFault.Words → IsFaulty words.now }
     ensures refused { MustBeRefused words.now → IsErrOf result ProgramFault.Words ⊎ IsErrOf result (ProgramFault.Run RunFault.OutOfMemory) }
     ensures unwritten { MustBeRefused words.now → Took W.contents output.old output.new [] }
     ensures asked { IsErrOf result (ProgramFault.Run RunFault.Read) → IsToRun words.now }
-    ensures read { IsErrOf result (ProgramFault.Run RunFault.Read) → IsToReadInput words.now → FailsToGive I.remaining input.old input.new SCRIPT_LIMIT }
+    ensures read { IsErrOf result (ProgramFault.Run RunFault.Read) → IsToReadInput words.now → FailsToGive I.remaining input.old input.new script_limit }
     ensures unread { IsErrOf result (ProgramFault.Run RunFault.Read) → Took W.contents output.old output.new [] }
     ensures write { IsErrOf result (ProgramFault.Run RunFault.Write) → has_failed output.new ≡ true }
-    ensures given { IsErrOf result (ProgramFault.Run RunFault.Write) → GivesWithin I.remaining input.old input.new SCRIPT_LIMIT }
-    ensures memory { IsErrOf result (ProgramFault.Run RunFault.OutOfMemory) → GivesWithin I.remaining input.old input.new SCRIPT_LIMIT }
+    ensures given { IsErrOf result (ProgramFault.Run RunFault.Write) → GivesWithin I.remaining input.old input.new script_limit }
+    ensures memory { IsErrOf result (ProgramFault.Run RunFault.OutOfMemory) → GivesWithin I.remaining input.old input.new script_limit }
     ensures replies { IsErrOf result (ProgramFault.Run RunFault.OutOfMemory) → AnswersReplies I.remaining W.contents words.now input.old output.old output.new }
 
     // What is read.
     ensures untouched { LeavesInput words.now input.old input.new }
-    ensures at_most { GaveAtMost I.remaining input.old input.new (SCRIPT_LIMIT + 1) }
+    ensures at_most { GaveAtMost I.remaining input.old input.new (script_limit + 1) }
 {
     let ended = run_words(rt, words, memory, input, output);
     let flushed = flush_output(output);
@@ -237,7 +237,7 @@ pub fn program<R: Files + AllocGlobal + Threads + Wait + Sync, I: Read, W: Write
     // What each status says.
     ensures words { result ≡ 0 → IsToRun words.now ⊎ AsksHelp words.now }
     ensures healthy { result ≡ 0 → AreHealthy input.new output.new }
-    ensures short { result ≡ 0 → GaveAtMost I.remaining input.old input.new SCRIPT_LIMIT }
+    ensures short { result ≡ 0 → GaveAtMost I.remaining input.old input.new script_limit }
     ensures flushed { result ≡ 0 → has_unflushed output.new ≡ false }
     ensures quiet { result ≡ 0 → errors.new ≡ errors.old }
     ensures told { result ≢ 0 → (fault : ProgramFault) × (result ≡ status_of fault) × HasCause I.remaining W.contents words.now input.old input.new output.old output.new fault
@@ -252,7 +252,7 @@ pub fn program<R: Files + AllocGlobal + Threads + Wait + Sync, I: Read, W: Write
 
     // What is read.
     ensures untouched { LeavesInput words.now input.old input.new }
-    ensures at_most { GaveAtMost I.remaining input.old input.new (SCRIPT_LIMIT + 1) }
+    ensures at_most { GaveAtMost I.remaining input.old input.new (script_limit + 1) }
 {
     let mut memory = RunMemory::new(rt.alloc());
     let ended = run_and_flush(rt, words, &mut memory, input, output);

@@ -2,7 +2,7 @@
 ghost use Rattle.std.specs.Prelude.{◌≡◌, ◌+◌, ◌<◌, ◌^◌, false, true, flat_map, IfOk, IfSome, IsErrOf, OnErr, OnOk, ℕ, List, Some};
 ghost use Rattle.std.specs.Io.KnownBytes.{Keeps};
 ghost use Rattle.bt_script.specs.Commands.{commands};
-ghost use Rattle.bt_script.specs.Streams.{FailsToGive, GaveAtMost, GivesWithin, Took, TookPrefix, count_of, has_failed, has_unflushed, source_of};
+ghost use Rattle.bt_script.specs.Streams.{FailsToGive, GaveAtMost, GivesWithin, Took, TookPrefix, count_of, has_failed, has_unflushed, script_limit, source_of};
 ghost use Rattle.bt_shell.specs.Contents.{BatchesAreFolded, CutsDoNotShow, NoTreeShows, ShapeIsNoContent, UpkeepKeepsContents};
 ghost use Rattle.bt_shell.specs.Faults.{StopsBetweenReplies, StopsWithinReply, lost_reply};
 ghost use Rattle.bt_shell.specs.Runs.{AreOneRun, EndsBetweenCommands, IsWholeRun, WritesPrefix, WritesReplies, after_commands, one_where, refused_count, replies, run, state_after_commands};
@@ -13,7 +13,7 @@ ghost use Rattle.bt_table.specs.Tables.{Lost};
 use crate::context::Context;
 use crate::turn::next_reply;
 use crate::workforce::ScriptWorkforce;
-use bt_script::{Counted, RunFault, SCRIPT_LIMIT, read_script};
+use bt_script::{Counted, RunFault, read_script};
 use bt_table::Table;
 use std::alloc::Global;
 use std::io::{Read, Write};
@@ -167,16 +167,16 @@ impl RunMemory {
         ensures ok { OnOk result (IsWholeRun R.remaining W.contents reader.old reader.new writer.old writer.new) }
         ensures err { OnErr result (WritesPrefix W.contents (R.remaining (source_of reader.old)) writer.old writer.new) }
         ensures healthy { OnOk result ((has_failed reader.new ≡ false) × (has_failed writer.new ≡ false)) }
-        ensures short { OnOk result (GaveAtMost R.remaining reader.old reader.new SCRIPT_LIMIT) }
+        ensures short { OnOk result (GaveAtMost R.remaining reader.old reader.new script_limit) }
         ensures flushed { OnOk result (has_unflushed writer.new ≡ false) }
-        ensures read { IsErrOf result RunFault.Read → FailsToGive R.remaining reader.old reader.new SCRIPT_LIMIT }
+        ensures read { IsErrOf result RunFault.Read → FailsToGive R.remaining reader.old reader.new script_limit }
         ensures unread { IsErrOf result RunFault.Read → writer.new ≡ writer.old }
         ensures write { IsErrOf result RunFault.Write → has_failed writer.new ≡ true }
-        ensures given { IsErrOf result RunFault.Write → GivesWithin R.remaining reader.old reader.new SCRIPT_LIMIT }
+        ensures given { IsErrOf result RunFault.Write → GivesWithin R.remaining reader.old reader.new script_limit }
         ensures memory { IsErrOf result RunFault.OutOfMemory → (has_failed reader.new ≡ false) × (has_failed writer.new ≡ false) }
-        ensures within { IsErrOf result RunFault.OutOfMemory → GaveAtMost R.remaining reader.old reader.new SCRIPT_LIMIT }
+        ensures within { IsErrOf result RunFault.OutOfMemory → GaveAtMost R.remaining reader.old reader.new script_limit }
         ensures replies { IsErrOf result RunFault.OutOfMemory → WritesReplies W.contents (R.remaining (source_of reader.old)) writer.old writer.new }
-        ensures at_most { GaveAtMost R.remaining reader.old reader.new (SCRIPT_LIMIT + 1) }
+        ensures at_most { GaveAtMost R.remaining reader.old reader.new (script_limit + 1) }
     {
         let Context { rt, alloc, crew } = *context;
         self.script = read_script(alloc, reader)?;
@@ -196,7 +196,7 @@ impl RunMemory {
 /// Runs a script: reads it whole, and then writes the reply to each of its commands and flushes them.
 ///
 /// What is written are the replies that the script has by the definition `run` for the bytes that the reader had, and after
-/// a fault a prefix of them. `Read`: the reader failed, or gave a byte over [`SCRIPT_LIMIT`], and nothing is written.
+/// a fault a prefix of them. `Read`: the reader failed, or gave a byte over [`SCRIPT_LIMIT`](crate::SCRIPT_LIMIT), and nothing is written.
 /// `Write`: the writer failed. `OutOfMemory`: a request for memory was refused; the command at hand has written nothing.
 ///
 /// Whoever works, a crew of any number of workers or the caller alone, in whatever order they take their jobs, the replies are the same.
@@ -213,16 +213,16 @@ pub fn run_script<R: Read, W: Write, T, C: ScriptWorkforce<T>>(
     ensures ok { OnOk result (IsWholeRun R.remaining W.contents reader.old reader.new writer.old writer.new) }
     ensures err { OnErr result (WritesPrefix W.contents (R.remaining (source_of reader.old)) writer.old writer.new) }
     ensures healthy { OnOk result ((has_failed reader.new ≡ false) × (has_failed writer.new ≡ false)) }
-    ensures short { OnOk result (GaveAtMost R.remaining reader.old reader.new SCRIPT_LIMIT) }
+    ensures short { OnOk result (GaveAtMost R.remaining reader.old reader.new script_limit) }
     ensures flushed { OnOk result (has_unflushed writer.new ≡ false) }
 
     // Which fault it is, and what it leaves.
-    ensures read { IsErrOf result RunFault.Read → FailsToGive R.remaining reader.old reader.new SCRIPT_LIMIT }
+    ensures read { IsErrOf result RunFault.Read → FailsToGive R.remaining reader.old reader.new script_limit }
     ensures unread { IsErrOf result RunFault.Read → writer.new ≡ writer.old }
     ensures write { IsErrOf result RunFault.Write → has_failed writer.new ≡ true }
-    ensures given { IsErrOf result RunFault.Write → GivesWithin R.remaining reader.old reader.new SCRIPT_LIMIT }
+    ensures given { IsErrOf result RunFault.Write → GivesWithin R.remaining reader.old reader.new script_limit }
     ensures memory { IsErrOf result RunFault.OutOfMemory → (has_failed reader.new ≡ false) × (has_failed writer.new ≡ false) }
-    ensures within { IsErrOf result RunFault.OutOfMemory → GaveAtMost R.remaining reader.old reader.new SCRIPT_LIMIT }
+    ensures within { IsErrOf result RunFault.OutOfMemory → GaveAtMost R.remaining reader.old reader.new script_limit }
     ensures replies { IsErrOf result RunFault.OutOfMemory → WritesReplies W.contents (R.remaining (source_of reader.old)) writer.old writer.new }
 
     // Between any two commands of any script the table, where there is one, is sound.
@@ -232,7 +232,7 @@ pub fn run_script<R: Read, W: Write, T, C: ScriptWorkforce<T>>(
     ensures complete { (script : List ℕ) (n : ℕ) → IfSome (state_after_commands script n) CompleteIndexesHold }
 
     // No more than one byte over the limit is read.
-    ensures at_most { GaveAtMost R.remaining reader.old reader.new (SCRIPT_LIMIT + 1) }
+    ensures at_most { GaveAtMost R.remaining reader.old reader.new (script_limit + 1) }
 {
     RunMemory::new(alloc).run(&Context { rt, alloc, crew }, reader, writer)
 }

@@ -1,10 +1,9 @@
 use Rattle.std.proofs.Common.{◌≡◌, ◌∙◌, arith, refl, sym, take, [], true, ℕ, List, None, Option, Err, IsErrOf}
 use Rattle.bt_script.specs.Commands.{commands}
 use Rattle.bt_script.specs.Options.{IsFaulty, IsToReadInput}
-use Rattle.bt_script.specs.Streams.{FailsToGive, GivesWithin, Took, has_failed, source_of}
+use Rattle.bt_script.specs.Streams.{FailsToGive, GivesWithin, Took, has_failed, script_limit, source_of}
 use Rattle.bt_script.specs.declared.counted.Counted.{Counted}
 use Rattle.bt_script.specs.declared.streams.RunFault.TheVariants.{OutOfMemory, Read, Write}
-use Rattle.bt_script.specs.declared.streams.TheConstants.{SCRIPT_LIMIT}
 use Rattle.bt_shell.specs.Programs.{AnswersReplies, HasCause, IsToRun}
 use Rattle.bt_shell.specs.Statuses.{status_of}
 use Rattle.bt_shell.specs.declared.program_run.ProgramFault.{ProgramFault}
@@ -22,11 +21,11 @@ has_status (Run fault) none = omega (arith, none)
 cause_of : {T I W : Type 0} (remaining : I → Option (List ℕ)) (contents : W → Option (List ℕ)) (words : List (List ℕ)) (input read : Counted I) (output written : Counted W) (fault : ProgramFault)
     → (IsErrOf {T = T} (Err fault) Words → IsFaulty words)
     → (IsErrOf {T = T} (Err fault) (Run Read) → IsToRun words)
-    → (IsErrOf {T = T} (Err fault) (Run Read) → IsToReadInput words → FailsToGive remaining input read SCRIPT_LIMIT)
+    → (IsErrOf {T = T} (Err fault) (Run Read) → IsToReadInput words → FailsToGive remaining input read script_limit)
     → (IsErrOf {T = T} (Err fault) (Run Read) → Took contents output written [])
     → (IsErrOf {T = T} (Err fault) (Run Write) → has_failed written ≡ true)
-    → (IsErrOf {T = T} (Err fault) (Run Write) → GivesWithin remaining input read SCRIPT_LIMIT)
-    → (IsErrOf {T = T} (Err fault) (Run OutOfMemory) → GivesWithin remaining input read SCRIPT_LIMIT)
+    → (IsErrOf {T = T} (Err fault) (Run Write) → GivesWithin remaining input read script_limit)
+    → (IsErrOf {T = T} (Err fault) (Run OutOfMemory) → GivesWithin remaining input read script_limit)
     → (IsErrOf {T = T} (Err fault) (Run OutOfMemory) → AnswersReplies remaining contents words input output written)
     → HasCause remaining contents words input read output written fault
 cause_of remaining contents words input read output written Words faulty asked failed unread write given within replies = faulty refl
