@@ -11,10 +11,10 @@ use Rattle.bt_value.proofs.offered.SameValues.{same_values-sound}
 use Rattle.bt_keycode.specs.Codes.{IsCodeOf, code_of, kind_of}
 use Rattle.bt_keycode.specs.Keys.{Key}
 use Rattle.bt_keycode.proofs.offered.Ranges.{take_in_range}
-use Rattle.bt_view.specs.Groups.{group_of, most_rows, number_in, number_of_value, with_more}
+use Rattle.bt_view.specs.Groups.{most_rows, number_in, number_of_value}
 use Rattle.bt_view.specs.inside.Entries.{row_of_entry, values_coded}
 use Rattle.bt_view.specs.inside.Fronts.{IsFront, IsFrontWhereKept, IsLastOf}
-use Rattle.bt_view.specs.inside.Neighbours.{Groups, grouped, groups_then}
+use Rattle.bt_view.specs.inside.Neighbours.{Groups, group_of, grouped, groups_then, with_more}
 use Rattle.bt_view.specs.declared.groups.Sum.{Sum}
 use Rattle.bt_view.proofs.CodedKeys.{code_of_values, or_values, values_of_code}
 use Rattle.bt_view.proofs.IndexRows.{code-append, in_range-append}

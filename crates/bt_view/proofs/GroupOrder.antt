@@ -17,9 +17,10 @@ use Rattle.bt_keycode.specs.Keys.{Key, is_before, key_cmp}
 use Rattle.bt_keycode.proofs.offered.Codes.{same_code}
 use Rattle.bt_keycode.proofs.offered.Order.{before_chain, is_less, neither_before, sides, total_keys}
 use Rattle.bt_node.specs.Messages.{Rows}
-use Rattle.bt_view.specs.Groups.{added_to, and_row, group_of, groups_of, most_rows, number_in}
-use Rattle.bt_view.specs.inside.Neighbours.{Ascend, Groups, NoneBefore, grouped, groups_then}
+use Rattle.bt_view.specs.Groups.{groups_of, most_rows, number_in}
+use Rattle.bt_view.specs.inside.Neighbours.{Ascend, Groups, NoneBefore, group_of, grouped, groups_then}
 use Rattle.bt_view.specs.declared.groups.Sum.{Sum}
+use Rattle.bt_view.proofs.GroupRows.{added_to, and_row, groups_by_rows}
 use Rattle.bt_view.proofs.LastGroup.{last_then}
 
 -- a group at the end of a list
@@ -167,3 +168,4 @@ module _ (columns place : ℕ) (kinds : List Kind) where
   pub by_neighbours : (rows : List (List Value)) → Ascend columns kinds rows → or_refused TooMany (fold (grouped columns place) (Some []) rows) ≡ groups_of columns place rows
   by_neighbours rows ascend =
       ap (or_refused TooMany) (all_values (fold (grouped columns place) (Some []) rows) ∙ ap (option_map (map (λ group. group.1))) (sym (from_first rows ascend)))
+      ∙ groups_by_rows columns place rows

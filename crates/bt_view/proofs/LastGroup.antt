@@ -1,8 +1,7 @@
 -- Groups behind others: the last of these and the first of those behind. Serves what groups rows.
 use Rattle.std.proofs.Common.{◌≡◌, ◌<◌, Bool, true, false, if◌then◌else◌, List, [], ◌∷◌, ◌++◌, Some, None, option_map, get_or, set, length, append_assoc, refl, sym, subst, ap, ◌∙◌, arith}
 use Rattle.bt_value.specs.Values.{same_values}
-use Rattle.bt_view.specs.Groups.{with_more}
-use Rattle.bt_view.specs.inside.Neighbours.{AreBounded, Groups, IsBounded, groups_then}
+use Rattle.bt_view.specs.inside.Neighbours.{AreBounded, Groups, IsBounded, groups_then, with_more}
 use Rattle.bt_view.specs.declared.groups.Sum.{Sum}
 
 -- those before the last stay

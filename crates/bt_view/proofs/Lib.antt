@@ -3,6 +3,7 @@ pub mod Drawings
 pub mod EntryRows
 pub mod Fronts
 pub mod GroupOrder
+pub mod GroupRows
 pub mod IndexColumns
 pub mod IndexRows
 pub mod IndexViews

@@ -1,8 +1,9 @@
 -- Groups of rows: how many rows each has, and the sum of a column.
-use Rattle.std.specs.Prelude.{ℕ, ◌+◌, ◌&&◌, false, List, [], fold, get_or, map, nat_le, take, Option, Some, None, option_map, Result, Ok, Err, if◌then◌else◌, ℤ, pos, ◌+ℤ◌}
-use Rattle.std.specs.FinMap.{find, put}
+use Rattle.std.specs.Prelude.{ℕ, ◌&&◌, false, List, [], ◌∷◌, filter, fold, get_or, length, map, nat_le, take, Option, Result, Ok, Err, if◌then◌else◌, ℤ, pos, ◌+ℤ◌}
+use Rattle.std.specs.FinMap.{put}
+use Rattle.std.specs.List.{list_all}
+use Rattle.std.specs.Ordering.{eq_by_cmp}
 use Rattle.bt_row.specs.Ops.{at_column, named_from}
-use Rattle.bt_value.specs.Results.{or_refused, and_then}
 use Rattle.bt_value.specs.declared.refusal.Refusal.{Refusal}
 use Rattle.bt_value.specs.declared.refusal.Refusal.TheVariants.{NoSuchColumn, NotInt, TooMany}
 use Rattle.bt_row.specs.declared.schema.Column.{Column}
@@ -11,10 +12,11 @@ use Rattle.bt_value.specs.declared.value.Kind.TheVariants as kind
 use Rattle.bt_value.specs.declared.value.Value.{Value}
 use Rattle.bt_value.specs.declared.value.Value.TheVariants as value
 use Rattle.bt_keycode.specs.Codes.{code_of}
-use Rattle.bt_keycode.specs.Keys.{key_cmp}
+use Rattle.bt_keycode.specs.Keys.{Key, key_cmp}
 use Rattle.bt_node.specs.Messages.{Rows}
 use Rattle.bt_table.specs.Calls.{NamedTree, tree_named}
 use Rattle.bt_table.specs.Tables.{TableState}
+use Rattle.bt_value.specs.Results.{and_then}
 use Rattle.bt_view.specs.Ranges.{range_of, rows_of_tree, rows_within, schema_of}
 use Rattle.bt_view.specs.declared.groups.Sum.{Sum}
 
@@ -27,32 +29,35 @@ number_of_value other = pos 0
 abbrev pub number_in : List Value → ℕ → ℤ
 number_in row place = number_of_value (get_or row place (value.Flag false))
 
--- the group of one row: its first columns
-abbrev pub group_of : ℕ → ℕ → List Value → Sum
-group_of columns place row = record { group = take columns row; count = 1; total = number_in row place }
-
 -- the most rows of a group
 abbrev pub most_rows : ℕ
 most_rows = 18446744073709551615
 
--- a group with so many more rows that have this total, where they are not too many
-abbrev pub with_more : Sum → ℕ → ℤ → Option Sum
-with_more sum count total = if nat_le (sum.count + count) most_rows then Some (record sum { count = sum.count + count; total = sum.total +ℤ total }) else None
+-- the first values of rows, each under its code
+abbrev pub first_values : ℕ → List (List Value) → Rows (List Value)
+first_values columns [] = []
+first_values columns (row ∷ rows) = put key_cmp (code_of (take columns row)) (take columns row) (first_values columns rows)
 
--- Groups are those of rows with the same first columns, and stand under the code of these, in the order of codes. A row is added to its group, or is the first
--- of it; there are none, once a group has more rows than are counted.
-abbrev pub added_to : ℕ → ℕ → Rows Sum → List Value → Option Sum → Option (Rows Sum)
-added_to columns place groups row None = Some (put key_cmp (code_of (take columns row)) (group_of columns place row) groups)
-added_to columns place groups row (Some sum) =
-    option_map (λ sum. put key_cmp (code_of (take columns row)) sum groups) (with_more sum 1 (number_in row place))
+-- the rows whose first values have this code
+abbrev pub rows_in_group : ℕ → Key → List (List Value) → List (List Value)
+rows_in_group columns key rows = filter (λ row. eq_by_cmp key_cmp key (code_of (take columns row))) rows
 
-abbrev pub and_row : ℕ → ℕ → Option (Rows Sum) → List Value → Option (Rows Sum)
-and_row columns place None row = None
-and_row columns place (Some groups) row = added_to columns place groups row (find key_cmp (code_of (take columns row)) groups)
+-- the sum of the numbers at a place of rows
+abbrev pub total_of : ℕ → List (List Value) → ℤ
+total_of place rows = fold (λ total row. total +ℤ number_in row place) (pos 0) rows
+
+-- of the rows with the same first values, how many there are, and the sum of the numbers at a place
+abbrev pub sum_of : ℕ → ℕ → List (List Value) → Key × List Value → Sum
+sum_of columns place rows group =
+    record { group = group.1; count = length (rows_in_group columns group.0 rows); total = total_of place (rows_in_group columns group.0 rows) }
+
+-- these groups, unless one has more rows than are counted
+abbrev pub unless_too_many : List Sum → Result (List Sum) Refusal
+unless_too_many groups = if list_all (λ group. nat_le group.count most_rows) groups then Ok groups else Err TooMany
 
 -- the groups of rows by so many first columns with the sum of the column at a place, in order, or that one has too many rows
 abbrev pub groups_of : ℕ → ℕ → List (List Value) → Result (List Sum) Refusal
-groups_of columns place rows = or_refused TooMany (option_map (map (λ group. group.1)) (fold (and_row columns place) (Some []) rows))
+groups_of columns place rows = unless_too_many (map (sum_of columns place rows) (first_values columns rows))
 
 -- the place of a column that is summed: it is int
 abbrev pub int_place : ℕ × Kind → Result ℕ Refusal

@@ -7,7 +7,7 @@ ghost use Rattle.bt_view.specs.Groups as spec;
 ghost use Rattle.bt_value.specs.declared.value.Value.{Value as value};
 ghost use Rattle.bt_view.specs.inside.Fronts.{IsLastOf};
 ghost use Rattle.bt_view.specs.inside.GroupParts.{groups_as_one};
-ghost use Rattle.bt_view.specs.inside.Neighbours.{AreBounded, IsBounded, grouped, groups_then, joined_with, after_row};
+ghost use Rattle.bt_view.specs.inside.Neighbours.{AreBounded, IsBounded, after_row, group_of, grouped, groups_then, joined_with, with_more};
 
 use bt_keycode::Key;
 use bt_node::{ForkVisitor, Visitor};
@@ -59,7 +59,7 @@ fn first_of(alloc: Global, row: &Row, count: usize) -> Result<Row, AllocError>
 
 // The group of one row.
 fn group_of(alloc: Global, columns: usize, place: usize, row: &Row) -> Result<Sum, AllocError>
-    ensures sum { IfOk result (λ sum. sum ≡ spec.group_of columns place row.now) }
+    ensures sum { IfOk result (λ sum. sum ≡ group_of columns place row.now) }
     ensures bounded { IfOk result (λ sum. IsBounded sum.count sum.total) }
 {
     Ok(Sum {
@@ -73,8 +73,8 @@ fn group_of(alloc: Global, columns: usize, place: usize, row: &Row) -> Result<Su
 fn count_rows(sum: &mut Sum, count: u64, total: i128) -> bool
     requires own { IsBounded sum.old.count sum.old.total }
     requires more { IsBounded count total }
-    ensures over { result ≡ false → spec.with_more sum.old count total ≡ None }
-    ensures counted { result ≡ true → spec.with_more sum.old count total ≡ Some sum.new }
+    ensures over { result ≡ false → with_more sum.old count total ≡ None }
+    ensures counted { result ≡ true → with_more sum.old count total ≡ Some sum.new }
     ensures bounded { IsBounded sum.new.count sum.new.total }
 {
     let Some(count) = sum.count.checked_add(count) else {
@@ -94,7 +94,7 @@ fn add_row(
     row: &Row,
 ) -> Result<bool, AllocError>
     requires { AreBounded groups.old.items }
-    ensures groups { IfOk result (λ fits. groups_then groups.old.items (spec.group_of columns place row.now ∷ []) ≡ (if fits then Some groups.new.items else None)) }
+    ensures groups { IfOk result (λ fits. groups_then groups.old.items (group_of columns place row.now ∷ []) ≡ (if fits then Some groups.new.items else None)) }
     ensures bounded { AreBounded groups.new.items }
 {
     let Some(mut last) = groups.pop() else {

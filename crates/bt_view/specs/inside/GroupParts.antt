@@ -8,8 +8,8 @@ use Rattle.bt_value.specs.declared.value.Value.{Value}
 use Rattle.bt_value.proofs.offered.SameValues.{same_values-sound}
 use Rattle.bt_keycode.specs.Keys.{Key}
 use Rattle.bt_node.specs.Folds.{joined_as_one}
-use Rattle.bt_view.specs.Groups.{group_of, most_rows, with_more}
-use Rattle.bt_view.specs.inside.Neighbours.{Groups, grouped, groups_then, joined_groups, joined_with, after_row}
+use Rattle.bt_view.specs.Groups.{most_rows}
+use Rattle.bt_view.specs.inside.Neighbours.{Groups, after_row, group_of, grouped, groups_then, joined_groups, joined_with, with_more}
 use Rattle.bt_view.specs.declared.groups.Sum.{Sum}
 
 -- ---- joining groups

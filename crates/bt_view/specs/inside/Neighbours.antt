@@ -1,11 +1,11 @@
 -- Groups of rows that come one after the other.
-use Rattle.std.specs.Prelude.{ℕ, ◌≡◌, ◌*◌, false, List, [], ◌∷◌, map, take, Option, Some, None, option_map, if◌then◌else◌, ℤ, pos, neg_ℤ, ◌≤ℤ◌}
+use Rattle.std.specs.Prelude.{ℕ, ◌≡◌, ◌+◌, ◌*◌, false, List, [], ◌∷◌, map, nat_le, take, Option, Some, None, option_map, if◌then◌else◌, ℤ, pos, neg_ℤ, ◌+ℤ◌, ◌≤ℤ◌}
 use Rattle.bt_value.specs.Values.{AreInRange, same_values}
 use Rattle.bt_value.specs.declared.value.Kind.{Kind}
 use Rattle.bt_value.specs.declared.value.Value.{Value}
 use Rattle.bt_keycode.specs.Codes.{code_of, kind_of}
 use Rattle.bt_keycode.specs.Keys.{Key, is_before}
-use Rattle.bt_view.specs.Groups.{group_of, with_more}
+use Rattle.bt_view.specs.Groups.{most_rows, number_in}
 use Rattle.bt_view.specs.declared.groups.Sum.{Sum}
 
 -- the total of so many numbers of 64 bits
@@ -17,6 +17,14 @@ pub record IsBounded (count : ℕ) (total : ℤ) : Type 0 where
 abbrev pub AreBounded : List Sum → Type 0
 AreBounded [] = Unit {0}
 AreBounded (sum ∷ sums) = IsBounded sum.count sum.total × AreBounded sums
+
+-- the group of one row: its first columns
+abbrev pub group_of : ℕ → ℕ → List Value → Sum
+group_of columns place row = record { group = take columns row; count = 1; total = number_in row place }
+
+-- a group with so many more rows that have this total, where they are not too many
+abbrev pub with_more : Sum → ℕ → ℤ → Option Sum
+with_more sum count total = if nat_le (sum.count + count) most_rows then Some (record sum { count = sum.count + count; total = sum.total +ℤ total }) else None
 
 -- groups, or nothing, once one has more rows than are counted
 abbrev pub Groups : Type 0

@@ -1,9 +1,8 @@
 use Rattle.std.proofs.Common.{rules, ◌≡◌, ◌∙◌, ◌<◌, ◌==◌, ◌++◌, ◌∷◌, [], Bool, List, None, Some, ap, arith, false, length, set, subst, sym, true, ℕ}
 use Rattle.std.proofs.lemmas.Bool.Decides.{nat_tests}
 use Rattle.bt_value.specs.Values.{same_values}
-use Rattle.bt_view.specs.Groups.{with_more}
 use Rattle.bt_view.specs.inside.GroupParts.{none_then}
-use Rattle.bt_view.specs.inside.Neighbours.{AreBounded, groups_then}
+use Rattle.bt_view.specs.inside.Neighbours.{AreBounded, groups_then, with_more}
 use Rattle.bt_view.specs.declared.groups.Sum.{Sum}
 use Rattle.bt_view.proofs.LastGroup.{bounded-append, bounded-set, last-bounded, last_other, last_over, last_same}
 use Rattle.bt_view.proofs.groups.add_groups.Goals as goal

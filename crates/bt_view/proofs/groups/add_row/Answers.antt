@@ -1,7 +1,7 @@
 use Rattle.std.proofs.Common.{rules, ◌≡◌, ◌∙◌, ◌++◌, ◌∷◌, [], None, Some, ap, arith, false, refl, subst, sym, take, true}
 use Rattle.bt_value.specs.Values.{same_values}
-use Rattle.bt_view.specs.Groups.{group_of, number_in, with_more}
-use Rattle.bt_view.specs.inside.Neighbours.{AreBounded}
+use Rattle.bt_view.specs.Groups.{number_in}
+use Rattle.bt_view.specs.inside.Neighbours.{AreBounded, group_of, with_more}
 use Rattle.bt_view.proofs.LastGroup.{bounded-append, last-bounded, last_other, last_over, last_same}
 use Rattle.bt_view.proofs.groups.add_row.Goals as goal
 

@@ -1,7 +1,6 @@
 use Rattle.std.proofs.Common.{rules, ◌≡◌, ◌∙◌, ◌∷◌, [], None, Some, ap, arith, refl, subst, sym}
 use Rattle.bt_value.proofs.offered.SameValues.{same_values-complete}
-use Rattle.bt_view.specs.Groups.{with_more}
-use Rattle.bt_view.specs.inside.Neighbours.{AreBounded}
+use Rattle.bt_view.specs.inside.Neighbours.{AreBounded, with_more}
 use Rattle.bt_view.specs.declared.groups.Sum.{Sum}
 use Rattle.bt_view.proofs.Fronts.{same_last}
 use Rattle.bt_view.proofs.LastGroup.{bounded-append, last-bounded, last_over, last_same}
