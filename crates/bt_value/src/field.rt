@@ -56,12 +56,7 @@ fn read_spelled(alloc: Global, kind: Kind, item: u64, field: &[u8]) -> Result<Va
 }
 
 /// The value that a field spells in a column of a kind, or its refusal as this item.
-pub fn read_value(
-    alloc: Global,
-    kind: Kind,
-    item: u64,
-    field: &[u8],
-) -> Result<Value, Refusal>
+pub fn read_value(alloc: Global, kind: Kind, item: u64, field: &[u8]) -> Result<Value, Refusal>
     ensures answer { Answers (or_refused (Refusal.BadField item) (value_of kind field.now)) result }
     ensures certain { value_of kind field.now ≡ None → result ≡ Err (Refusal.BadField item) }
 {
