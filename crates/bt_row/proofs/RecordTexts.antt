@@ -1,12 +1,16 @@
 -- The text of a record, field by field. Serves writing a record.
-use Rattle.std.proofs.Common.{ℕ, List, [], ◌∷◌, ◌++◌, ◌+◌, ◌<◌, ◌≤◌, ◌≡◌, ◌∙◌, refl, sym, ap, ◌==◌, length, length-drop, take, take_all, drop, get_or, map, arith, zero, suc, ◌≢◌, length-append, append_assoc}
+use Rattle.std.proofs.Common.{ℕ, List, [], ◌∷◌, ◌++◌, ◌+◌, ◌*◌, ◌<◌, ◌≤◌, ◌≡◌, ◌∙◌, refl, sym, ap, ◌==◌, length, length-drop, take, take_all, drop, get_or, map, arith, zero, suc, ◌≢◌, length-append, append_assoc}
 use Rattle.std.proofs.lemmas.Bool.{ne_eqb}
 use Rattle.std.proofs.lemmas.List.{append-nil, get_or_default, length-map}
 use Rattle.std.proofs.Math.ListN.{get_or-map}
 use Rattle.csv.specs.Writing.{default_writer, field_text, fields_text, is_blank, next_sep, row_body}
 use Rattle.csv.proofs.WriteFacts.{row-step}
+use Rattle.bt_value.specs.Kinds.{Content, Number, Bytes, Bit, content_of, kind_of, tag_of}
+use Rattle.bt_value.specs.Room.{room_in, room_of}
 use Rattle.bt_value.specs.Values.{text_of}
 use Rattle.bt_value.specs.declared.value.Value.{Value}
+use Rattle.bt_row.specs.inside.Packing.{packed_content, packed_value}
+use Rattle.bt_row.proofs.Packing.{length_int_bytes}
 
 -- one more field
 pub one_more : (values : List Value) (i : ℕ) (v : Value) → i < length values → v ≡ get_or values i v
@@ -77,3 +81,12 @@ blank_is_empty (field ∷ []) = rw (append-nil (field_text default_writer field)
 blank_is_empty (field ∷ next ∷ rest) =
     let shown : length (field_text default_writer field ++ (44 ∷ (field_text default_writer next ++ fields_text default_writer rest))) ≢ 0 = simp length-append (omega arith) in
     sym (ne_eqb _ 0 shown)
+
+-- six bytes of a record for each byte of a row are enough for a value and the comma before it; a flag needs them all
+content_room : (tag : ℕ) (c : Content) → room_in c + 1 ≤ 6 * length (packed_content tag c)
+content_room tag (Number n) = omega (arith, length_int_bytes n)
+content_room tag (Bytes bytes) = omega arith
+content_room tag (Bit bit) = omega arith
+
+pub room_enough : (v : Value) → room_of v + 1 ≤ 6 * length (packed_value v)
+room_enough v = content_room (tag_of (kind_of v)) (content_of v)

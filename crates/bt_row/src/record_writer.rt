@@ -1,70 +1,79 @@
-//! Writing the text of a record. After an `Err` a function `write_..` has changed nothing; one `add_..` may have added a part of the text.
-ghost use Rattle.std.specs.Prelude.{◌≡◌, ◌++◌, OnOk, OnErr, map};
+//! Writing the text of a record, in room that is made for all of it first, so that nothing fails once a part of it is written.
+ghost use Rattle.std.specs.Prelude.{◌≡◌, ◌++◌, ◌+◌, ◌*◌, OnOk, OnErr, length, map};
 ghost use Rattle.csv.specs.Writing.{default_writer, field_text, next_sep};
 ghost use Rattle.bt_row.specs.RecordTexts.{record_text};
-ghost use Rattle.bt_value.specs.Lists.{Grows};
+ghost use Rattle.bt_row.specs.inside.Packing.{packed_value, packed_values};
+ghost use Rattle.bt_value.specs.Room.{HasRoom, TakesRoom};
 ghost use Rattle.bt_value.specs.Values.{text_of};
 ghost use Rattle.bt_value.specs.Views.{value_of_ref};
 
-use crate::row::Row;
+use crate::row::{Row, room_for_values};
 use crate::values::Values;
-use bt_value::{Value, ValueRef, truncate_on_err};
+use bt_value::{Value, ValueRef};
 use std::alloc::AllocError;
 
+// A value that takes n bytes in a row takes at most this many times n in a record, with a comma before it: a flag takes 1, and `,false` is 6.
+const MOST_TEXT_PER_BYTE: usize = 6;
+
 // Adds the comma before the value at a place, unless it is the first.
-fn write_separator(out: &mut Vec<u8>, place: usize) -> Result<(), AllocError>
-    ensures ok { OnOk result (out.new.items ≡ out.old.items ++ next_sep default_writer place) }
-    ensures err { OnErr result (out.new.items ≡ out.old.items) }
+#[inline(always)]
+fn write_separator(out: &mut Vec<u8>, place: usize)
+    requires room { HasRoom out.old 1 }
+    ensures text { out.new.items ≡ out.old.items ++ next_sep default_writer place }
+    ensures room { TakesRoom out.old out.new 1 }
 {
     if place > 0 {
-        out.push(b',')?;
+        out.push_reserved(b',');
     }
-    Ok(())
 }
 
-// Adds the value at a place of a record, or only the comma before it.
-fn add_field(out: &mut Vec<u8>, place: usize, value: ValueRef<'_>) -> Result<(), AllocError>
-    ensures ok { OnOk result (out.new.items ≡ out.old.items ++ (next_sep default_writer place ++ field_text default_writer (text_of (value_of_ref value.entry)))) }
-    ensures err { OnErr result (Grows out.old.items out.new.items) }
+// Adds the value at a place of a record, with the comma before it.
+#[inline(always)]
+fn write_field(out: &mut Vec<u8>, place: usize, value: ValueRef<'_>)
+    requires room { HasRoom out.old (6 * length (packed_value (value_of_ref value))) }
+    ensures text { out.new.items ≡ out.old.items ++ (next_sep default_writer place ++ field_text default_writer (text_of (value_of_ref value.entry))) }
+    ensures room { TakesRoom out.old out.new (6 * length (packed_value (value_of_ref value.entry))) }
 {
-    write_separator(out, place)?;
+    write_separator(out, place);
     value.write(out)
 }
 
-// Adds the text of a record, or a part of it.
-fn add_fields(out: &mut Vec<u8>, values: Values<'_>) -> Result<(), AllocError>
-    ensures ok { OnOk result (out.new.items ≡ out.old.items ++ record_text (map text_of values.entry)) }
-    ensures err { OnErr result (Grows out.old.items out.new.items) }
+// Adds the text of a record.
+fn write_fields(out: &mut Vec<u8>, values: Values<'_>)
+    requires room { HasRoom out.old (6 * length (packed_values values) + 2) }
+    ensures { out.new.items ≡ out.old.items ++ record_text (map text_of values.entry) }
 {
     let start = out.len();
     let mut rest = values;
     let mut place = 0;
     while let Some(value) = rest.next() {
-        add_field(out, place, value)?;
+        write_field(out, place, value);
         place = 1;
     }
     if out.len() == start {
-        out.extend_from_slice(b"\"\"")?;
+        out.push_reserved(b'"');
+        out.push_reserved(b'"');
     }
-    Ok(())
 }
 
-// Adds the text of a record.
-fn write_fields(out: &mut Vec<u8>, values: Values<'_>) -> Result<(), AllocError>
-    ensures ok { OnOk result (out.new.items ≡ out.old.items ++ record_text (map text_of values.entry)) }
-    ensures err { OnErr result (out.new.items ≡ out.old.items) }
+// Makes room for the text of a record whose values take this many bytes in a row. An `Err` changes nothing.
+fn reserve_text(out: &mut Vec<u8>, bytes: usize) -> Result<(), AllocError>
+    ensures text { out.new.items ≡ out.old.items }
+    ensures room { OnOk result (HasRoom out.new (6 * bytes + 2)) }
 {
-    let start = out.len();
-    truncate_on_err(add_fields(out, values), out, start)
+    let most = bytes.saturating_mul(MOST_TEXT_PER_BYTE).saturating_add(2);
+    out.reserve(most)
 }
 
-/// Adds the text of a record: its fields joined by commas, with quotes where a field needs them. After an `Err`, for want of
-/// memory, `out` is as it was.
+/// Adds the text of a record: its fields joined by commas, with quotes if a field needs them. After an `Err`, which means
+/// out of memory, `out` is as it was.
 pub fn write_record(out: &mut Vec<u8>, values: &[Value]) -> Result<(), AllocError>
     ensures ok { OnOk result (out.new.items ≡ out.old.items ++ record_text (map text_of values.now)) }
     ensures err { OnErr result (out.new.items ≡ out.old.items) }
 {
-    write_fields(out, Values::of(values))
+    reserve_text(out, room_for_values(values))?;
+    write_fields(out, Values::of(values));
+    Ok(())
 }
 
 /// Adds the record of a row, as [`write_record`] does that of its values.
@@ -72,5 +81,7 @@ pub fn write_row(out: &mut Vec<u8>, row: &Row) -> Result<(), AllocError>
     ensures ok { OnOk result (out.new.items ≡ out.old.items ++ record_text (map text_of row.now)) }
     ensures err { OnErr result (out.new.items ≡ out.old.items) }
 {
-    write_fields(out, row.values())
+    reserve_text(out, row.as_bytes().len())?;
+    write_fields(out, row.values());
+    Ok(())
 }

@@ -1,5 +1,5 @@
 //! Rows.
-ghost use Rattle.std.specs.Prelude.{◌≡◌, ◌≤◌, ◌<◌, ◌+◌, ◌++◌, ◌∷◌, [], IfOk, OnOk, OnErr, Some, drop, length, slice_get, take, true};
+ghost use Rattle.std.specs.Prelude.{◌≡◌, ◌≤◌, ◌<◌, ◌+◌, ◌-◌, ◌^◌, ◌++◌, ◌∷◌, [], IfOk, OnOk, OnErr, Some, drop, length, min, slice_get, take, true};
 ghost use Rattle.bt_row.specs.Arithmetic.{Makes, Sets};
 ghost use Rattle.bt_value.specs.Kinds.{Number, Bytes, Bit};
 ghost use Rattle.bt_row.specs.Ops.{after_action};
@@ -288,10 +288,10 @@ impl Row {
     }
 }
 
-// The bytes that values take.
+/// The bytes that values take, or the largest number if they are more.
 #[tactic(auto, using(crate::proofs::Packing::length_packed))]
-fn room_for_values(values: &[Value]) -> usize
-    ensures { result ≤ length (packed_values values.now) }
+pub(crate) fn room_for_values(values: &[Value]) -> usize
+    ensures { result ≡ min (length (packed_values values.now)) (2 ^ 64 - 1) }
 {
     let mut room: usize = 0;
     for value in values {

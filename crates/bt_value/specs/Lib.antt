@@ -7,6 +7,7 @@ pub mod Paddings
 pub mod PlainFields
 pub mod Refusals
 pub mod Results
+pub mod Room
 pub mod Texts
 pub mod Values
 pub mod Views

@@ -1,24 +1,34 @@
-//! Writing one field of a record. After an `Err` a function `write_..` has changed nothing; one `add_..` may have added a part of the field.
-ghost use Rattle.std.specs.Prelude.{◌≡◌, ◌++◌, ◌∷◌, [], OnOk, OnErr, codes, if◌then◌else◌};
+//! Writing one field of a record. Room for the longest text of it is made before, so that nothing here can fail.
+ghost use Rattle.std.specs.Prelude.{◌≡◌, ◌++◌, ◌∷◌, ◌+◌, ◌*◌, [], codes, if◌then◌else◌, length};
 ghost use Rattle.std.specs.Fmt.{signed_decimal};
 ghost use Rattle.csv.specs.Writing.{default_writer, escaped, field_text, needs_quotes as text_needs_quotes, quoted};
 ghost use Rattle.bt_value.specs.Hex.{hex_text};
-ghost use Rattle.bt_value.specs.Lists.{Grows};
+ghost use Rattle.bt_value.specs.Room.{HasRoom, TakesRoom};
 
-use crate::hex::write_hex;
-use crate::truncation::truncate_on_err;
+use crate::hex::append_hex;
 use itoa::Buffer;
-use std::alloc::AllocError;
 
-/// Adds the digits of a number as a field.
-pub(crate) fn write_int(out: &mut Vec<u8>, number: i64) -> Result<(), AllocError>
-    ensures ok { OnOk result (out.new.items ≡ out.old.items ++ field_text default_writer (signed_decimal number)) }
-    ensures err { OnErr result (out.new.items ≡ out.old.items) }
+// Adds bytes.
+#[inline(always)]
+fn append(out: &mut Vec<u8>, bytes: &[u8])
+    requires room { HasRoom out.old (length bytes.now) }
+    ensures text { out.new.items ≡ out.old.items ++ bytes.now }
+    ensures room { TakesRoom out.old out.new (length bytes.now) }
 {
-    out.extend_from_slice(Buffer::new().format(number).as_bytes())
+    out.extend_from_slice(bytes).unwrap()
 }
 
-// Whether a field stands between quotes: one with a comma, a quote or a line end.
+/// Adds the digits of a number as a field.
+#[inline(always)]
+pub(crate) fn write_int(out: &mut Vec<u8>, number: i64)
+    requires room { HasRoom out.old 20 }
+    ensures text { out.new.items ≡ out.old.items ++ field_text default_writer (signed_decimal number) }
+    ensures room { TakesRoom out.old out.new 20 }
+{
+    append(out, Buffer::new().format(number).as_bytes())
+}
+
+// Whether a field is written between quotes: one with a comma, a quote or a line end is.
 fn needs_quotes(text: &[u8]) -> bool
     ensures { result ≡ text_needs_quotes default_writer text.now }
 {
@@ -26,67 +36,68 @@ fn needs_quotes(text: &[u8]) -> bool
         .any(|byte| matches!(*byte, b',' | b'"' | b'\r' | b'\n'))
 }
 
-// Adds a byte of a text between quotes, twice where it is a quote.
+// Adds a byte of a text between quotes, twice if it is a quote.
+#[inline(always)]
 #[tactic(auto, using(crate::proofs::Quotes::quote_escaped, crate::proofs::Quotes::other_escaped))]
-fn add_escaped(out: &mut Vec<u8>, byte: u8) -> Result<(), AllocError>
-    ensures ok { OnOk result (out.new.items ≡ out.old.items ++ escaped default_writer (byte ∷ [])) }
-    ensures err { OnErr result (out.new.items ≡ out.old.items) }
+fn add_escaped(out: &mut Vec<u8>, byte: u8)
+    requires room { HasRoom out.old 2 }
+    ensures text { out.new.items ≡ out.old.items ++ escaped default_writer (byte ∷ []) }
+    ensures room { TakesRoom out.old out.new 2 }
 {
     if byte == b'"' {
-        return out.extend_from_slice(b"\"\"");
+        append(out, b"\"\"")
+    } else {
+        out.push_reserved(byte)
     }
-    out.push(byte)?;
-    Ok(())
-}
-
-// Adds a text between quotes, with each quote in it doubled, or a part of that.
-fn add_quoted(out: &mut Vec<u8>, text: &[u8]) -> Result<(), AllocError>
-    ensures ok { OnOk result (out.new.items ≡ out.old.items ++ quoted default_writer text.now) }
-    ensures err { OnErr result (Grows out.old.items out.new.items) }
-{
-    out.push(b'"')?;
-    for byte in text {
-        add_escaped(out, *byte)?;
-    }
-    out.push(b'"')?;
-    Ok(())
 }
 
 // Adds a text between quotes, with each quote in it doubled.
-fn write_quoted(out: &mut Vec<u8>, text: &[u8]) -> Result<(), AllocError>
-    ensures ok { OnOk result (out.new.items ≡ out.old.items ++ quoted default_writer text.now) }
-    ensures err { OnErr result (out.new.items ≡ out.old.items) }
+fn write_quoted(out: &mut Vec<u8>, text: &[u8])
+    requires room { HasRoom out.old (2 * length text.now + 2) }
+    ensures text { out.new.items ≡ out.old.items ++ quoted default_writer text.now }
+    ensures room { TakesRoom out.old out.new (2 * length text.now + 2) }
 {
-    let start = out.len();
-    truncate_on_err(add_quoted(out, text), out, start)
+    out.push_reserved(b'"');
+    for byte in text {
+        add_escaped(out, *byte);
+    }
+    out.push_reserved(b'"');
 }
 
-/// Adds a text as a field, between quotes where it needs them.
-pub(crate) fn write_text(out: &mut Vec<u8>, text: &[u8]) -> Result<(), AllocError>
-    ensures ok { OnOk result (out.new.items ≡ out.old.items ++ field_text default_writer text.now) }
-    ensures err { OnErr result (out.new.items ≡ out.old.items) }
+/// Adds a text as a field, between quotes if it needs them.
+#[inline(always)]
+pub(crate) fn write_text(out: &mut Vec<u8>, text: &[u8])
+    requires room { HasRoom out.old (2 * length text.now + 2) }
+    ensures text { out.new.items ≡ out.old.items ++ field_text default_writer text.now }
+    ensures room { TakesRoom out.old out.new (2 * length text.now + 2) }
 {
     if needs_quotes(text) {
         write_quoted(out, text)
     } else {
-        out.extend_from_slice(text)
+        append(out, text)
     }
 }
 
 /// Adds `true` or `false` as a field.
-pub(crate) fn write_flag(out: &mut Vec<u8>, flag: bool) -> Result<(), AllocError>
-    ensures ok { OnOk result (out.new.items ≡ out.old.items ++ field_text default_writer (if flag then codes "true" else codes "false")) }
-    ensures err { OnErr result (out.new.items ≡ out.old.items) }
+#[inline(always)]
+pub(crate) fn write_flag(out: &mut Vec<u8>, flag: bool)
+    requires room { HasRoom out.old 5 }
+    ensures text { out.new.items ≡ out.old.items ++ field_text default_writer (if flag then codes "true" else codes "false") }
+    ensures room { TakesRoom out.old out.new 5 }
 {
-    let text: &[u8] = if flag { b"true" } else { b"false" };
-    out.extend_from_slice(text)
+    if flag {
+        append(out, b"true")
+    } else {
+        append(out, b"false")
+    }
 }
 
 /// Adds the hexadecimal digits of bytes, which need no quotes.
 #[tactic(auto, using(crate::proofs::FieldTexts::hex_field))]
-pub(crate) fn write_binary(out: &mut Vec<u8>, bytes: &[u8]) -> Result<(), AllocError>
-    ensures ok { OnOk result (out.new.items ≡ out.old.items ++ field_text default_writer (hex_text bytes.now)) }
-    ensures err { OnErr result (out.new.items ≡ out.old.items) }
+pub(crate) fn write_binary(out: &mut Vec<u8>, bytes: &[u8])
+    requires room { HasRoom out.old (2 * length bytes.now) }
+    ensures text { out.new.items ≡ out.old.items ++ field_text default_writer (hex_text bytes.now) }
+    ensures room { TakesRoom out.old out.new (2 * length bytes.now) }
 {
-    write_hex(out, bytes)
+    append_hex(out, bytes)
 }

@@ -1,8 +1,8 @@
 //! Bytes as hexadecimal text.
-ghost use Rattle.std.specs.Prelude.{◌≡◌, ◌++◌, ◌∷◌, ◌<◌, [], OnOk, OnErr, length, take};
+ghost use Rattle.std.specs.Prelude.{◌≡◌, ◌++◌, ◌∷◌, ◌*◌, ◌<◌, [], OnOk, OnErr, length};
 ghost use Rattle.bt_value.specs.Hex.{hex_digit, hex_text};
+ghost use Rattle.bt_value.specs.Room.{HasRoom, TakesRoom};
 
-use crate::truncation::truncate_on_err;
 use std::alloc::AllocError;
 
 // The lower-case digit of a number.
@@ -17,23 +17,26 @@ fn lower_digit(number: u8) -> u8
     }
 }
 
-// Adds the two digits of a byte. An `Err` changes nothing.
-fn add_two_digits(out: &mut Vec<u8>, byte: u8) -> Result<(), AllocError>
-    ensures ok { OnOk result (out.new.items ≡ out.old.items ++ hex_text (byte ∷ [])) }
-    ensures err { OnErr result (out.new.items ≡ out.old.items) }
+// Adds the two digits of a byte, for which there is room.
+#[inline(always)]
+fn add_two_digits(out: &mut Vec<u8>, byte: u8)
+    requires room { HasRoom out.old 2 }
+    ensures text { out.new.items ≡ out.old.items ++ hex_text (byte ∷ []) }
+    ensures room { TakesRoom out.old out.new 2 }
 {
-    out.extend_from_slice(&[lower_digit(byte / 16), lower_digit(byte % 16)])
+    out.push_reserved(lower_digit(byte / 16));
+    out.push_reserved(lower_digit(byte % 16));
 }
 
-// Adds two digits for each byte, or for some of them before an `Err`.
-fn add_digits(out: &mut Vec<u8>, bytes: &[u8]) -> Result<(), AllocError>
-    ensures ok { OnOk result (out.new.items ≡ out.old.items ++ hex_text bytes.now) }
-    ensures err { OnErr result (take (length out.old.items) out.new.items ≡ out.old.items) }
+/// Adds two digits for each byte, for which there is room.
+pub(crate) fn append_hex(out: &mut Vec<u8>, bytes: &[u8])
+    requires room { HasRoom out.old (2 * length bytes.now) }
+    ensures text { out.new.items ≡ out.old.items ++ hex_text bytes.now }
+    ensures room { TakesRoom out.old out.new (2 * length bytes.now) }
 {
     for byte in bytes {
-        add_two_digits(out, *byte)?;
+        add_two_digits(out, *byte);
     }
-    Ok(())
 }
 
 /// Adds two lower-case hexadecimal digits for each byte. An `Err` changes nothing.
@@ -41,6 +44,7 @@ pub fn write_hex(out: &mut Vec<u8>, bytes: &[u8]) -> Result<(), AllocError>
     ensures ok { OnOk result (out.new.items ≡ out.old.items ++ hex_text bytes.now) }
     ensures err { OnErr result (out.new.items ≡ out.old.items) }
 {
-    let start = out.len();
-    truncate_on_err(add_digits(out, bytes), out, start)
+    out.reserve(bytes.len().saturating_mul(2))?;
+    append_hex(out, bytes);
+    Ok(())
 }

@@ -9,7 +9,8 @@
 //!
 //! ```text
 //! let value = read_field(alloc, Kind::Int, b"007")?;          // Value::Int(7)
-//! value.as_ref().write(&mut out)?;                            // adds 7
+//! out.reserve(20)?;                                           // the most bytes that an int takes
+//! value.as_ref().write(&mut out);                             // adds 7
 //! ```
 #![tactic(auto)]
 
@@ -18,7 +19,6 @@ mod bytes;
 mod sequence;
 mod slices;
 mod text;
-mod truncation;
 mod try_clone;
 
 // Values, and the fields that encode them.
@@ -47,6 +47,5 @@ pub use refusal::{Refusal, least_with};
 pub use sequence::Sequence;
 pub use slices::{front, tail};
 pub use text::{MOST_VALUE_BYTES, Text, Texts};
-pub use truncation::truncate_on_err;
 pub use try_clone::{TryClone, clone_all};
 pub use value::{Content, Form, Kind, Value, ValueRef};

@@ -1,12 +1,13 @@
 //! Kinds and values. All that is done for single kinds is done here: their forms, their words, the bytes that they take, how a
 //! field of each is read and printed, and their defaults. Everything else goes by the form of a value, but that operations which make
 //! a number, and sums, ask whether a value is an int.
-ghost use Rattle.std.specs.Prelude.{◌≡◌, ◌≢◌, ◌++◌, IfOk, IfSome, OnOk, OnErr, Some, false, option_map, take, true};
+ghost use Rattle.std.specs.Prelude.{◌≡◌, ◌≢◌, ◌++◌, IfOk, IfSome, Some, false, option_map, take, true};
 ghost use Rattle.csv.specs.Writing.{default_writer, field_text};
 ghost use Rattle.bt_value.specs.Kinds.{content_of, default_of, form_of, kind_of_word, kind_of, kind_of_tag, needs_room, tag_of, takes, text_of, value_of, value_with};
 ghost use Rattle.bt_value.specs.Values.{BytesFit, IsInRange, takes_content};
 ghost use Rattle.bt_value.specs.Views.{content_of_ref, value_of_ref};
 ghost use Rattle.bt_value.specs.PlainFields.{EndsPlain};
+ghost use Rattle.bt_value.specs.Room.{HasRoom, TakesRoom, room_of};
 
 use crate::binary::{Binary, is_binary, read_binary};
 use crate::field::{read_flag, read_text};
@@ -312,10 +313,12 @@ impl<'a> ValueRef<'a> {
         }
     }
 
-    /// Adds the text of the value, as a field of a record.
-    pub fn write(self, out: &mut Vec<u8>) -> Result<(), AllocError>
-        ensures ok { OnOk result (out.new.items ≡ out.old.items ++ field_text default_writer (text_of (value_of_ref self.entry))) }
-        ensures err { OnErr result (out.new.items ≡ out.old.items) }
+    /// Adds the text of the value, as a field of a record, for which there is room.
+    #[inline(always)]
+    pub fn write(self, out: &mut Vec<u8>)
+        requires room { HasRoom out.old (room_of (value_of_ref self)) }
+        ensures text { out.new.items ≡ out.old.items ++ field_text default_writer (text_of (value_of_ref self.entry)) }
+        ensures room { TakesRoom out.old out.new (room_of (value_of_ref self.entry)) }
     {
         match self {
             ValueRef::Int(number) => write_int(out, number),

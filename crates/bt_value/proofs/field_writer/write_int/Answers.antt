@@ -4,7 +4,7 @@ use Rattle.csv.specs.Writing.{default_writer, field_text}
 use Rattle.bt_value.proofs.FieldTexts.{int_field}
 use Rattle.bt_value.proofs.field_writer.write_int.Goals as goal
 
-pub returns-clause-ok : goal.returns-clause-ok
-returns-clause-ok c =
+pub returns-clause-text : goal.returns-clause-text
+returns-clause-text c =
     let plain : field_text default_writer (signed_decimal c.args.number) ≡ signed_decimal c.args.number = int_field c.args.number c.ranges.number.sfits in
     rw plain (search rules)

@@ -1,7 +1,0 @@
-use Rattle.std.proofs.Common.{◌≡◌, ◌++◌, ◌∷◌, take}
-use Rattle.csv.specs.Writing.{default_writer, escaped}
-use Rattle.bt_value.proofs.field_writer.add_quoted.Given as goal
-
--- the quote before the text and its bytes so far were added
-abbrev pub invariant-loop-byte : goal.invariant-loop-byte
-invariant-loop-byte l = l.out.items ≡ l.fn.out.items ++ (34 ∷ escaped default_writer (take l.byte-index l.text))
