@@ -33,6 +33,7 @@ fn width_in(form: Form, behind: &[u8]) -> usize
 }
 
 /// How many bytes the first value takes.
+#[inline(always)]
 pub(crate) fn width(bytes: &[u8]) -> usize
     ensures { result ≡ width_of bytes.now }
 {
@@ -57,6 +58,7 @@ fn content_at<'a>(form: Form, is_set: bool, bytes: &'a [u8]) -> Content<'a>
 }
 
 /// The first value.
+#[inline(always)]
 pub(crate) fn first<'a>(bytes: &'a [u8]) -> ValueRef<'a>
     requires some { 0 < length bytes.now }
     requires within { width_of bytes.now ≤ length bytes.now }

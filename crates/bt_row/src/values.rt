@@ -39,6 +39,7 @@ impl<'a> Model for Values<'a> {
 }
 
 // The first value of bytes, and the bytes behind it.
+#[inline(always)]
 fn next_packed(bytes: &[u8]) -> Option<(ValueRef<'_>, &[u8])>
     requires { IsPacked bytes.now }
     ensures some { IfSome result (λ read. unpacked bytes.now ≡ value_of_ref read.0 ∷ unpacked read.1.now) }
@@ -156,6 +157,7 @@ impl<'a> Values<'a> {
     }
 
     /// The next value, if one is left.
+    #[inline(always)]
     pub fn next(&mut self) -> Option<ValueRef<'a>>
         ensures some { IfSome result (λ value. self.old ≡ value_of_ref value ∷ self.new) }
         ensures bytes { IfSome result (λ value. BytesFit (value_of_ref value)) }
