@@ -41,20 +41,10 @@ fn number_of(value: ValueRef<'_>) -> i64
 pub(crate) fn number_in(row: &Row, place: usize) -> i64
     ensures { result ≡ spec.number_in row.now place }
 {
-    if place < row.len() {
-        number_of(row.get(place))
-    } else {
-        0
+    match row.find(place) {
+        Some(value) => number_of(value),
+        None => 0,
     }
-}
-
-// The row of the first values of a row.
-fn first_of(alloc: Global, row: &Row, count: usize) -> Result<Row, AllocError>
-    ensures { IfOk result (λ first. first ≡ take count row.now) }
-{
-    let mut first = Row::new();
-    first.push_first(alloc, row, count)?;
-    Ok(first)
 }
 
 // The group of one row.
@@ -63,7 +53,7 @@ fn group_of(alloc: Global, columns: usize, place: usize, row: &Row) -> Result<Su
     ensures bounded { IfOk result (λ sum. IsBounded sum.count sum.total) }
 {
     Ok(Sum {
-        group: first_of(alloc, row, columns)?,
+        group: row.first(alloc, columns)?,
         count: 1,
         total: i128::from(number_in(row, place)),
     })
@@ -101,11 +91,11 @@ fn add_row(
         groups.push(group_of(alloc, columns, place, row)?)?;
         return Ok(true);
     };
-    if same_values(last.group.values(), row.first_values(columns)) {
+    if row.starts_with(columns, &last.group) {
         if !count_rows(&mut last, 1, i128::from(number_in(row, place))) {
             return Ok(false);
         }
-        groups.push(last)?;
+        groups.push_reserved(last);
         return Ok(true);
     }
     groups.push(last)?;

@@ -20,20 +20,20 @@ returns-then-not-count_rows-clause-groups c =
     let over : with_more last 1 (number_in row c.args.place) ≡ None = search rules in
     last_over c.args.groups.now.items c.pop.new.self.items last (own ∷ []) own (record { begin = c.in-Some.ensures.items; some = omega arith; one = refl }) is over
 
-pub returns-then-same_values-clause-groups : goal.returns-then-same_values-clause-groups
-returns-then-same_values-clause-groups c =
+pub returns-then-starts_with-clause-groups : goal.returns-then-starts_with-clause-groups
+returns-then-starts_with-clause-groups c =
     let last = c.in-Some.last in
     let row = c.args.row.now in
     let own = group_of c.args.columns c.args.place row in
     let is : same_values last.group (take c.args.columns row) ≡ true = search rules in
     let fits : with_more last 1 (number_in row c.args.place) ≡ Some c.count_rows.new.sum = search rules in
     last_same c.args.groups.now.items c.pop.new.self.items last (own ∷ []) own c.count_rows.new.sum (record { begin = c.in-Some.ensures.items; some = omega arith; one = refl }) is fits
-    ∙ ap Some (sym c.in_ok-push-2.ensures.items)
+    ∙ ap Some (sym c.push_reserved.ensures.items)
 
-pub returns-then-same_values-clause-bounded : goal.returns-then-same_values-clause-bounded
-returns-then-same_values-clause-bounded c =
+pub returns-then-starts_with-clause-bounded : goal.returns-then-starts_with-clause-bounded
+returns-then-starts_with-clause-bounded c =
     let before = (last-bounded c.args.groups.now.items c.pop.new.self.items c.in-Some.last c.in-Some.ensures.items c.requires).0 in
-    subst AreBounded (sym c.in_ok-push-2.ensures.items) (bounded-append c.pop.new.self.items (c.count_rows.new.sum ∷ []) before (c.count_rows.ensures.bounded, tt))
+    subst AreBounded (sym c.push_reserved.ensures.items) (bounded-append c.pop.new.self.items (c.count_rows.new.sum ∷ []) before (c.count_rows.ensures.bounded, tt))
 
 pub returns-clause-groups : goal.returns-clause-groups
 returns-clause-groups c =
@@ -42,11 +42,11 @@ returns-clause-groups c =
     let own = group_of c.args.columns c.args.place row in
     let is : same_values last.group (take c.args.columns row) ≡ false = search rules in
     last_other c.args.groups.now.items c.pop.new.self.items last (own ∷ []) own (record { begin = c.in-Some.ensures.items; some = omega arith; one = refl }) is
-    ∙ ap (λ groups. Some (groups ++ own ∷ [])) (sym c.in_ok-push-3.ensures.items)
+    ∙ ap (λ groups. Some (groups ++ own ∷ [])) (sym c.in_ok-push-2.ensures.items)
     ∙ ap (λ one. Some (c.push-2.new.self.items ++ one ∷ [])) (sym c.in_ok-group_of-2.ensures.sum)
-    ∙ ap Some (sym c.in_ok-push-4.ensures.items)
+    ∙ ap Some (sym c.in_ok-push-3.ensures.items)
 
 pub returns-clause-bounded : goal.returns-clause-bounded
 returns-clause-bounded c =
-    let all : AreBounded c.push-2.new.self.items = subst AreBounded (c.in-Some.ensures.items ∙ sym c.in_ok-push-3.ensures.items) c.requires in
-    subst AreBounded (sym c.in_ok-push-4.ensures.items) (bounded-append c.push-2.new.self.items (c.in_ok-group_of-2.field-0 ∷ []) all (c.in_ok-group_of-2.ensures.bounded, tt))
+    let all : AreBounded c.push-2.new.self.items = subst AreBounded (c.in-Some.ensures.items ∙ sym c.in_ok-push-2.ensures.items) c.requires in
+    subst AreBounded (sym c.in_ok-push-3.ensures.items) (bounded-append c.push-2.new.self.items (c.in_ok-group_of-2.field-0 ∷ []) all (c.in_ok-group_of-2.ensures.bounded, tt))
