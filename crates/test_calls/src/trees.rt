@@ -304,6 +304,11 @@ fn portions_of_a_tree(rt: HostRuntime) {
             ["a", "z"],
             "a1 b0 c11 d20 e30 f44 | g50 h60 i70 j80 here j80 | ",
         ),
+        (
+            2,
+            ["a", "z"],
+            "a1 b0 | c11 d20 | e30 f44 | g50 h60 | i70 j80 here j80 | ",
+        ),
         (1, ["c", "f"], "c11 d20 e30 | "),
         (0, ["b", "h"], "b0 c11 d20 e30 f44 g50 | "),
         (1, ["h", "c"], ""),
