@@ -2,16 +2,29 @@
 use Rattle.std.specs.Prelude.{ℕ, ◌&&◌, nat_le, Bool}
 use Rattle.bt_node.specs.Messages.{Measure}
 use Rattle.bt_messages.specs.declared.measure.Measure.TheVariants.{Bytes, Messages}
-use Rattle.bt_node.specs.declared.form.shape.TheConstants.{SMALLEST_FANOUT, LARGEST_FANOUT, SMALLEST_BUFFER, LARGEST_BUFFER, LARGEST_WEIGHED_BUFFER, SMALLEST_LEAF, LARGEST_LEAF}
 
--- the largest buffer: 4,096 messages, or 1,048,576 bytes
+abbrev pub smallest_fanout : ℕ
+smallest_fanout = 4
+
+abbrev pub largest_fanout : ℕ
+largest_fanout = 64
+
+abbrev pub smallest_buffer : ℕ
+smallest_buffer = 1
+
+-- in messages, or in bytes
 abbrev pub largest_buffer : Measure → ℕ
-largest_buffer Messages = LARGEST_BUFFER
-largest_buffer Bytes = LARGEST_WEIGHED_BUFFER
+largest_buffer Messages = 4096
+largest_buffer Bytes = 1048576
 
--- a fanout of 4 to 64, a buffer of 1 or more and no more than the largest, and leaves of 2 to 1,024
+abbrev pub smallest_leaf : ℕ
+smallest_leaf = 2
+
+abbrev pub largest_leaf : ℕ
+largest_leaf = 1024
+
 abbrev pub is_shape : Measure → ℕ → ℕ → ℕ → Bool
 is_shape measure fanout buffer leaf =
-    (nat_le SMALLEST_FANOUT fanout && nat_le fanout LARGEST_FANOUT)
-    && (nat_le SMALLEST_BUFFER buffer && nat_le buffer (largest_buffer measure))
-    && (nat_le SMALLEST_LEAF leaf && nat_le leaf LARGEST_LEAF)
+    (nat_le smallest_fanout fanout && nat_le fanout largest_fanout)
+    && (nat_le smallest_buffer buffer && nat_le buffer (largest_buffer measure))
+    && (nat_le smallest_leaf leaf && nat_le leaf largest_leaf)

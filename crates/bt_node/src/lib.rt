@@ -1,8 +1,9 @@
 //! Bε-trees: search trees whose inner nodes keep a buffer of messages on the way to their rows.
 //!
-//! A message enters at the root. Where a buffer holds more messages than it may, the child for which the most of them are pending
-//! is flushed: its messages go down together, and the parts into which it splits take its place. A tree is the map that it
-//! holds when all messages have had their effect, those nearer to a leaf first.
+//! A message enters at the root. If a buffer holds more than it may, the child with the largest load is flushed: the messages that are pending
+//! for it go down together, and the parts into which it splits take its place. The load of a child is the number of its messages, or their
+//! weight in bytes, as the [`Shape`] of the tree says. A tree is the map that it holds when all messages have had their effect, those nearer to
+//! a leaf first.
 //!
 //! ```text
 //! use bt_keycode::encode;
@@ -36,8 +37,11 @@
 //! `specs` has the definitions. `Trees` are the nodes, `Flushes` says what becomes of a node and a packet of messages in each mode, `Drains` what
 //! becomes of a tree when no message is to be left on the way, and which trees are made of rows alone, and `Fits` which trees are in order. `Plans`
 //! and `Loops` say which children are flushed, `Marks` says it of each child, and when a node has room. `Children` are children beside their bins,
-//! and `Steps` says what [`open`] gives. `Laws` are the facts that calls promise beside these definitions; `Passes` and
-//! `Stored` are for the crates above, one pass over marked items and the codes of trees. What private code cites stands in `inside`. `proofs` has small trees worked out, in `WorkedRows`.
+//! and `Steps` says what [`open`] gives. `Shapes` are the sizes that a tree may have, `Deals` how items are dealt into parts, as even as can be, `Parts`
+//! what a node comes apart into, and `Messages` the rows of a map and the messages that change them. `Walks`, `Portions` and `Folds` say what is read: of one
+//! node, of subtrees with the messages above them, and by a visitor that takes rows in parts. `Laws` are the facts that calls promise beside these definitions. `Passes`, one
+//! pass over marked items, is cited by private clauses and by the proofs of the crate of pieces; `Stored` has the codes by which values of the ghost tree are
+//! kept. Other definitions that only private clauses cite are in `inside`. `proofs` has small trees worked out, in `WorkedRows`.
 #![tactic(auto)]
 
 mod flush;

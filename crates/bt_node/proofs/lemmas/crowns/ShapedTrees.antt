@@ -7,8 +7,7 @@ use Rattle.bt_messages.specs.declared.message.Message.{Message}
 use Rattle.bt_node.specs.Trees.{Shape, Tree, Siblings}
 use Rattle.bt_node.specs.Flushes.{crown, holds, all_hold}
 use Rattle.bt_node.specs.Fits.{AreFit, HasShape, IsRoomy}
-use Rattle.bt_node.specs.Shapes.{is_shape, largest_buffer}
-use Rattle.bt_node.specs.declared.form.shape.TheConstants.{SMALLEST_FANOUT, LARGEST_FANOUT, SMALLEST_BUFFER, SMALLEST_LEAF, LARGEST_LEAF}
+use Rattle.bt_node.specs.Shapes.{is_shape, largest_buffer, largest_fanout, largest_leaf, smallest_buffer, smallest_fanout, smallest_leaf}
 use Rattle.bt_node.proofs.lemmas.crowns.CrownedRows.{crown-fits, crown-holds}
 
 both : (a b : Bool) → a && b ≡ true → (a ≡ true) × (b ≡ true)
@@ -27,12 +26,12 @@ has_room shape e =
     let f = shape.fanout in
     let b = shape.buffer in
     let l = shape.leaf in
-    let fanout = is_between SMALLEST_FANOUT f LARGEST_FANOUT in
-    let buffer = is_between SMALLEST_BUFFER b (largest_buffer shape.measure) in
-    let leaf = is_between SMALLEST_LEAF l LARGEST_LEAF in
+    let fanout = is_between smallest_fanout f largest_fanout in
+    let buffer = is_between smallest_buffer b (largest_buffer shape.measure) in
+    let leaf = is_between smallest_leaf l largest_leaf in
     let parts = both (fanout && buffer) leaf e in
-    let four = up_to SMALLEST_FANOUT f (both (nat_le SMALLEST_FANOUT f) (nat_le f LARGEST_FANOUT) (both fanout buffer parts.0).0).0 in
-    let two = up_to SMALLEST_LEAF l (both (nat_le SMALLEST_LEAF l) (nat_le l LARGEST_LEAF) parts.1).0 in
+    let four = up_to smallest_fanout f (both (nat_le smallest_fanout f) (nat_le f largest_fanout) (both fanout buffer parts.0).0).0 in
+    let two = up_to smallest_leaf l (both (nat_le smallest_leaf l) (nat_le l largest_leaf) parts.1).0 in
     record { fanout = omega (arith, four); leaf = omega (arith, two) }
 
 module _ {V D : Type 0} (weigh : Key × Message V D → ℕ) (shape : Shape) where
