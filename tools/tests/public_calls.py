@@ -54,6 +54,9 @@ pub fn used(list: &List<u8>) -> usize
         (requires known { true }) }
 { list.count() }
 pub fn unused() {} // unused()
+const MARK: u8 = b'"';
+const TEXT: &str = "\\
+unused()";
 fn hidden() {}
 pub struct List<T> { items: Vec<T> }
 impl<T: Into<Vec<T>>> List<T> {
@@ -81,7 +84,9 @@ impl Shown for List<u8> {
 """
 LAWS = "pub use self::law;\npub fn law()\n    ensures law { true }\n{}\n"
 PROGRAM = "use lists::{List, used};\nfn main() { used(&List::new()); List::new().show() }\n"
-DOCUMENT = "Before.\n\n<!-- public functions -->\nold\n<!-- end of the public functions -->\n\nAfter.\n"
+DEFINITIONS = {"Lib.antt": "-- None.\n", "inside.antt": "-- None.\n", "Sizes.antt": "use Lists\n-- None.\n",
+               "Lists.antt": "-- Lists of one kind,\n-- and what they hold. More.\nuse Sizes\n-- None.\n"}  # fmt: skip
+DOCUMENT = "Before.\n\n<!-- promises -->\nold\n<!-- end of the promises -->\n\nAfter.\n"
 
 
 def repository(folder: str) -> Path:
@@ -92,6 +97,9 @@ def repository(folder: str) -> Path:
         source = top / "crates" / crate / "src"
         source.mkdir(parents=True)
         (source / file).write_text(code)
+    for name, text in DEFINITIONS.items():
+        (top / "crates/lists/specs" / name).parent.mkdir(exist_ok=True)
+        (top / "crates/lists/specs" / name).write_text(text)
     (top / "docs").mkdir()
     (top / "docs/PROOFS.md").write_text(DOCUMENT)
     return top
@@ -103,16 +111,22 @@ def functions_without_a_call_are_found() -> None:
         expect(uncalled(repository(folder)), ["lists::unused", "lists::List::first"])
 
 
-LINES = """8 functions in 2 files, as `tools/promises` finds them:
+LINES = """8 functions in 2 files, as `tools/promises` finds them.
 
-- `lists/src/lib.rt`: `used` (requires, 2 ensures), `unused`, `List::new`, `List::count` (requires within, requires whole, value, ensures), `List::first`,
+### lists
+
+- `specs`: `Lists` (Lists of one kind, and what they hold), `Sizes`
+- `src/lib.rt`: `used` (requires, 2 ensures), `unused`, `List::new`, `List::count` (requires within, requires whole, value, ensures), `List::first`,
   `Shown::show` (shown), `Shown::hide`
-- `laws/src/lib.rt`: `law` (law)
+
+### laws
+
+- `src/lib.rt`: `law` (law)
 """
 
 
 def each_public_function_is_listed_with_its_clauses() -> None:
-    """Methods and those of a public trait too; no clause of a body, and nothing of a crate that is no library."""
+    """Methods and those of a public trait too; no clause of a body, no file of definitions inside, and nothing of a crate that is no library."""
     with tempfile.TemporaryDirectory() as folder:
         expect(run("tools/promises", "--top", repository(folder)), (0, LINES, ""))
 
@@ -125,12 +139,26 @@ def promises_are_put_between_their_two_lines() -> None:
         (top / "docs/PROOFS.md").write_text(DOCUMENT.replace("<!-- end", "<!-- the end"))
         status, _, errors = run("tools/promises", "--write", "--top", top)
         expect(status, 1)
-        expect_within("docs/PROOFS.md has no lines <!-- public functions --> and", errors)
+        expect_within("docs/PROOFS.md has no lines <!-- promises --> and", errors)
+
+
+def promises_of_the_document() -> str:
+    return (TOP / "docs/PROOFS.md").read_text().split("<!-- promises -->\n")[1].split("<!-- end of the promises -->")[0]
 
 
 def promises_of_the_document_are_those_of_the_sources() -> None:
-    text = (TOP / "docs/PROOFS.md").read_text().split("<!-- public functions -->\n")[1].split("<!-- end of the public functions -->")[0]
-    expect(text.strip().splitlines(), list(promises.lines_of(promises.functions_of(TOP))))
+    expect(promises_of_the_document().strip().splitlines(), list(promises.lines_of(TOP)))
+
+
+def the_document_names_each_file_of_definitions_and_each_public_function() -> None:
+    """In the section of its crate, whatever tools/promises finds."""
+    sections = {title: text for title, _, text in (part.partition("\n") for part in promises_of_the_document().split("\n### ")[1:])}
+    files = {(path.parents[1].name, path.stem) for path in TOP.glob("crates/bt_*/specs/*.antt") if path.stem not in ("Lib", "inside")}
+    expect(sorted((crate, name) for crate, name in files if f"`{name}`" not in sections[crate].split("\n- `src/")[0]), [])
+    found = {(path.relative_to(TOP).parts[1], name) for path in TOP.glob("crates/bt_*/src/**/*.rt")
+             for name in re.findall(r'^ *pub (?:unsafe |extern "C" )*fn (\w+)', path.read_text(), re.MULTILINE)}  # fmt: skip
+    expect(sorted((crate, name) for crate, name in found if not re.search(rf"[`:]{name}`", sections[crate])), [])
+    expect((len(files) > 100, len(found) > 250), (True, True))
 
 
 # Those that ask for no program.
@@ -140,6 +168,7 @@ TESTS_OF_TEXTS = [
     each_public_function_is_listed_with_its_clauses,
     promises_are_put_between_their_two_lines,
     promises_of_the_document_are_those_of_the_sources,
+    the_document_names_each_file_of_definitions_and_each_public_function,
 ]
 
 TESTS: list[object] = []
