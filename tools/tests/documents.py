@@ -163,7 +163,7 @@ def functions_stand_in_the_files_that_are_named_behind_them():
     expect((faults, found > 40), ([], True))
 
 
-# ---- ARCHITECTURE ----
+# ---- CHANGING, ARCHITECTURE and WALKS ----
 
 
 def file_of(crate, name):
@@ -173,7 +173,7 @@ def file_of(crate, name):
 
 def what_to_change_stands_in_its_files():
     """Each file of a row has a name of the row, each name stands in a file of it, and a row has at most three files."""
-    table = rows(section("docs/ARCHITECTURE.md", "## Where to change what"))
+    table = rows(section("docs/CHANGING.md", "## Where to change what"))
     expect(len(table) > 40, True)
     for crate, change, files in table:
         names = [name for part in re.findall(r"\(([^)]*)\)", change) for name in quoted(part)]
@@ -186,12 +186,50 @@ def what_to_change_stands_in_its_files():
 
 def the_newest_kind_and_operation_stand_in_the_files_of_their_rows():
     """And beside these in worked rows alone."""
-    table = rows(section("docs/ARCHITECTURE.md", "## Where to change what"))
+    table = rows(section("docs/CHANGING.md", "## Where to change what"))
     sources = [path for folder in ("src", "specs", "proofs") for path in (TOP / "crates").glob(f"bt_*/{folder}/**/*") if path.suffix in (".rt", ".antt")]
     for change, pattern in (("a kind of values", r"\b(?:Kind|Value|ValueRef|kind|value)(?:::|\.)Bytes\b"), ("what is done with a number", r"\bMin\b")):
         files = {file_of(crate, name) for crate, about, files in table if about.startswith(change) for name in quoted(files)}
         named = {path for path in sources if not path.name.startswith("Worked") and re.search(pattern, path.read_text())}
         expect((change, sorted(map(str, named))), (change, sorted(map(str, files))))
+
+
+def files_named(title):
+    """The files in the table of a section of docs/CHANGING.md, as paths from the top. A file without a folder is in that of the one before it."""
+    found, folder = set(), None
+    for cell, _ in rows(section("docs/CHANGING.md", title)):
+        for name in quoted(cell):
+            path = TOP / ("crates/" + name if name.startswith("bt_") else name)
+            if "/" not in name:
+                path = folder / name
+            path = path.with_name(path.name + ".antt") if path.parent.name == "specs" else path
+            folder = path.parent
+            found.add(path)
+    return found
+
+
+def files_that_name_the_newest_command_and_kind_are_those_of_the_recipes():
+    """In the crates by the command, in Python by the words of the language."""
+    sources = [path for folder in ("src", "specs") for path in (TOP / "crates").glob(f"bt_*/{folder}/**/*") if path.suffix in (".rt", ".antt")]
+    scripts = [*(TOP / "clients/python/betable").glob("*.py"), *(TOP / "tools").glob("*.py"), *(TOP / "tools/fuzz").glob("*.py"), *(TOP / "tools/drawing").glob("*.py")]
+    command = {path for path in sources if re.search(r"\bRebuil[dt]\b", path.read_text())} | {path for path in scripts if 'b"rebuild"' in path.read_text()}
+    kind = {path for path in scripts if re.search(r'"flag"', path.read_text())}
+    for title, named in (("## How to add a command", command), ("## How to add a kind of values", kind)):
+        listed = files_named(title)
+        expect((title, sorted(map(str, named - listed))), (title, []))
+        expect((title, [str(path) for path in sorted(listed) if not path.exists()]), (title, []))
+        expect(len(named) > 6, True)
+
+
+def walks_follow_calls_that_are_made():
+    """Each function that docs/WALKS.md names with its file is called in code of the engine, or is one at which tools/reading_list begins."""
+    codes = "\n".join(re.sub(r"//[^\n]*|\bfn \w+|^ *(?:pub |ghost )?use [^;]*;", "", path.read_text(), flags=re.MULTILINE)
+                      for crate in ("bt_*", "betable") for path in (TOP / "crates").glob(f"{crate}/src/**/*.rt"))  # fmt: skip
+    names = {name.split("::")[-1] for name, _ in re.findall(r"`([\w:]+)`\s\((?:bt_\w+,\s)?([\w/]+\.rt)\)", prose_of("docs/WALKS.md"))}
+    roots = {root.partition(":")[2] for root in imported("tools/reading_list").ROOTS}
+    functions = sorted(name for name in names - roots if name[0].islower())
+    expect([name for name in functions if not re.search(rf"\b{name}\b", codes)], [])
+    expect(len(functions) > 40, True)
 
 
 def crates_below():
@@ -418,6 +456,8 @@ TESTS_OF_TEXTS = [
     functions_stand_in_the_files_that_are_named_behind_them,
     what_to_change_stands_in_its_files,
     the_newest_kind_and_operation_stand_in_the_files_of_their_rows,
+    files_that_name_the_newest_command_and_kind_are_those_of_the_recipes,
+    walks_follow_calls_that_are_made,
     crates_stand_as_the_architecture_says,
     the_sentence_is_the_same_on_both_pages,
     the_measures_of_the_readme_are_those_of_the_results,
