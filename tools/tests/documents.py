@@ -229,7 +229,7 @@ def walks_follow_calls_that_are_made():
     roots = {root.partition(":")[2] for root in imported("tools/reading_list").ROOTS}
     functions = sorted(name for name in names - roots if name[0].islower())
     expect([name for name in functions if not re.search(rf"\b{name}\b", codes)], [])
-    expect(len(functions) > 40, True)
+    expect(len(functions) > 30, True)
 
 
 def crates_below():
