@@ -222,14 +222,14 @@ def files_that_name_the_newest_command_and_kind_are_those_of_the_recipes():
 
 
 def walks_follow_calls_that_are_made():
-    """Each function that docs/WALKS.md names with its file is called in code of the engine, or is one at which tools/reading_list begins."""
-    codes = "\n".join(re.sub(r"//[^\n]*|\bfn \w+|^ *(?:pub |ghost )?use [^;]*;", "", path.read_text(), flags=re.MULTILINE)
-                      for crate in ("bt_*", "betable") for path in (TOP / "crates").glob(f"{crate}/src/**/*.rt"))  # fmt: skip
-    names = {name.split("::")[-1] for name, _ in re.findall(r"`([\w:]+)`\s\((?:bt_\w+,\s)?([\w/]+\.rt)\)", prose_of("docs/WALKS.md"))}
+    """Each function of the engine that docs/WALKS.md names is called in code of the engine, or is one at which tools/reading_list begins."""
+    sources = [path.read_text() for crate in ("bt_*", "betable") for path in (TOP / "crates").glob(f"{crate}/src/**/*.rt")]
+    code = re.sub(r"//[^\n]*|^ *(?:pub |ghost )?use [^;]*;", "", "\n".join(sources), flags=re.MULTILINE)
+    defined, calls = set(re.findall(r"\bfn (\w+)", code)), re.sub(r"\bfn \w+", "", code)
     roots = {root.partition(":")[2] for root in imported("tools/reading_list").ROOTS}
-    functions = sorted(name for name in names - roots if name[0].islower())
-    expect([name for name in functions if not re.search(rf"\b{name}\b", codes)], [])
-    expect(len(functions) > 30, True)
+    named = {name.split("::")[-1] for name in quoted(prose_of("docs/WALKS.md"))} & defined - roots
+    expect([name for name in sorted(named) if not re.search(rf"\b{name}\b", calls)], [])
+    expect(len(named) > 60, True)
 
 
 def crates_below():
