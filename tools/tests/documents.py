@@ -285,15 +285,30 @@ def limits_of_the_document_are_those_of_the_model():
     found = {row[0]: (number(row[1]), number(row[2])) for row in table if len(row) == 3 and re.match(r"-?\d", row[1])}
     ranges = {
         "columns of a table": model.COLUMNS, "key columns, K": model.KEY_COLUMNS, "fanout of a tree, F": model.FANOUTS, "buffer, C, in messages": model.BUFFERS,
-        "buffer, C with a `b` behind it, in bytes": model.BUFFERS_IN_BYTES, "leaf of a tree, L, in rows": model.LEAVES,
+        "buffer, C with a `b` after it, in bytes": model.BUFFERS_IN_BYTES, "leaf of a tree, L, in rows": model.LEAVES,
         "an `int`, which has 64 bits with a sign": range(model.LEAST_INT, model.GREATEST_INT + 1),
         "bytes of a `text`, which is UTF-8": range(model.MOST_TEXT_BYTES + 1), "bytes of a `bytes`": range(model.MOST_TEXT_BYTES + 1),
         "messages of a batch": range(model.MOST_MESSAGES + 1), "operations of an upsert": range(1, model.MOST_OPERATIONS + 1),
-        "indexes of a table": range(model.MOST_INDEXES + 1), "columns of an index behind `on`": range(1, model.MOST_ON + 1),
-        "columns of an index behind `include`": range(1, model.MOST_INCLUDED + 1),
+        "indexes of a table": range(model.MOST_INDEXES + 1), "columns of an index after `on`": range(1, model.MOST_ON + 1),
+        "columns of an index after `include`": range(1, model.MOST_INCLUDED + 1),
     }  # fmt: skip
     expect({name: found.get(name) for name in ranges}, {name: (values[0], values[-1]) for name, values in ranges.items()})
     expect(found["bytes of a script"], (0, imported("tools/explain_words").MOST_BYTES))
+
+
+def words_of_the_grammar_are_those_of_the_language():
+    """Of the definitions and of the tools. Each command has a rule, and each rule is used."""
+    grammar = text_of("docs/SCRIPT.md").split("```ebnf\n")[1].split("```")[0]
+    words = {word for word in re.findall(r'"([^"\s]+)"', grammar) if word not in (",", ":", "_", "b")}
+    language = import_module("betable.language")
+    told = [*language.FORMS, *language.CLOSING.values(), *sum(language.BLOCK_WORDS.values(), ()), *language.OPERATORS, *language.OPERATIONS, *language.KINDS]
+    expect(sorted(words), sorted({word.decode() for word in told} | {"on", "include", "where"}))
+    defined = set(re.findall(r'codes "(\S+?) ?"', text_of("crates/bt_script/specs/Commands.antt")))
+    expect(sorted(defined - words), [])
+    rules = re.findall(r"^(\w+) +=", grammar, re.MULTILINE)
+    expect(sorted(language.FORMS), sorted(name.encode() for name in rules if name.encode() in language.FORMS))
+    bodies = re.sub(r"^\w+ +=", "", grammar, flags=re.MULTILINE)
+    expect([name for name in rules[1:] if not re.search(rf"\b{name}\b", re.sub(r'"[^"]*"', " ", bodies))], [])
 
 
 def workloads_of_the_benchmark_are_told():
@@ -463,6 +478,7 @@ TESTS_OF_TEXTS = [
     the_measures_of_the_readme_are_those_of_the_results,
     recipes_are_listed,
     limits_of_the_document_are_those_of_the_model,
+    words_of_the_grammar_are_those_of_the_language,
     workloads_of_the_benchmark_are_told,
     limits_of_the_command_line_are_those_of_the_code,
 ]
