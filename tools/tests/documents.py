@@ -77,6 +77,54 @@ def a_paragraph_ends_where_the_next_one_begins():
     expect(list(paragraphs(given)), [["a", "b"], ["- c", "  d"], ["- e"], ["1. f"], ["i"]])
 
 
+def sentences(text):
+    """The sentences of a text, with each piece of code as one word: no tables, blocks or quotations. Parts of a list that semicolons divide are apart."""
+    for lines in paragraphs(re.sub(r"^>.*$", "", text, flags=re.MULTILINE)):
+        plain = re.sub(r"`[^`]*`", "`", " ".join(lines)).replace("*", "")
+        yield from re.split(r"(?<=[^.][.!?])\s+|;\s", plain)
+
+
+def sentences_of_the_documents_have_at_most_40_words():
+    expect([f"{page}: {sentence}" for page in PAGES for sentence in sentences(written_of(page)) if len(sentence.split()) > 40], [])
+
+
+def a_sentence_ends_where_the_next_one_begins():
+    given = "A *b*.* C `d. E` f; g. h? I.\n\n> J. K\n\n- L\n  m. N\n"
+    expect(list(sentences(given)), ["A b.", "C ` f", "g.", "h?", "I.", "- L   m.", "N"])
+
+
+# Words that a page says otherwise, each with what it says. As a word of the language or of the code a name stands in backticks.
+OTHER_WORDS = {
+    r"wants? of (?:memory|room)|memory (?:is|was|were) wanting": "out of memory", r"so (?:many|much)": "that many, or the number",
+    r"becom(?:es?|ing) of|became of": "the result of", r"anew": "again", r"dear(?:er|est)?": "slow, or expensive", r"great(?:est)?": "large, largest",
+    r"behind(?! (?:a|the) (?:pointer|reverse proxy))": "after", r"stands?(?! for|-)|stood": "is", r"len[dt]s?": "borrowed",
+    r"spell(?:s|ed)?|spelt": "written as, encodes", r"of one's own": "your own", r"(?:but|save) for": "except for",
+    r"answers (?:an?|the|Ok|Err|None|what)": "returns", r"wherever": "if, where", r"house": "repository", r"thereof|whence|wherein": "of it",
+}  # fmt: skip
+
+
+def other_words(text):
+    """The words of a text that the list above has, outside of code."""
+    plain = re.sub(r"`[^`]*`", "`", "".join(text.split("```")[::2]))
+    return [(found[0], instead) for pattern, instead in OTHER_WORDS.items() for found in re.finditer(rf"\b(?:{pattern})\b", plain, re.IGNORECASE)]
+
+
+def words_of_the_documents_are_plain():
+    expect([f"{page}: {found}: {instead}" for page in PAGES for found, instead in other_words(written_of(page))], [])
+
+
+def other_words_are_found():
+    given = "So many words stand behind the others, at want of memory, but for those that `stands` and\n```sh\nanew\n```\nthat stand for more."
+    expect(sorted(found for found, _ in other_words(given)), ["So many", "behind", "but for", "stand", "want of memory"])
+
+
+def first_lines_of_the_documents_say_whom_they_are_for():
+    def is_told(page):
+        return re.search(r"\bfor (?:readers|whoever|programs that)\b", " ".join(next(lines for lines in paragraphs(text_of(page)))), re.IGNORECASE)
+
+    expect([str(page) for page in PAGES if not is_told(page)], [])
+
+
 def decisions_are_numbered():
     parts = list(paragraphs(text_of("docs/DECISIONS.md")))[1:]
     numbers = [re.match(r"\*\*(\d+)\. \S", lines[0]) for lines in parts]
@@ -463,6 +511,11 @@ TESTS_OF_TEXTS = [
     lines_of_the_documents_are_at_most_160_letters_long,
     paragraphs_of_the_documents_have_at_most_eight_lines,
     a_paragraph_ends_where_the_next_one_begins,
+    sentences_of_the_documents_have_at_most_40_words,
+    a_sentence_ends_where_the_next_one_begins,
+    words_of_the_documents_are_plain,
+    other_words_are_found,
+    first_lines_of_the_documents_say_whom_they_are_for,
     decisions_are_numbered,
     links_of_the_documents_lead_to_what_is_there,
     faulty_links_are_found,
