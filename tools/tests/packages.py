@@ -2,8 +2,6 @@
 program and the library that are built. Where something that a test needs is not installed a line says so, and the test passes without a look."""
 
 import os
-import pty
-import re
 import shlex
 import shutil
 import subprocess
@@ -19,11 +17,8 @@ from pathlib import Path
 from clients import is_installed, library
 from common import expect, expect_within, imported, PROGRAM, TOP
 
-import betable
-
 LONG = 900  # seconds for what packs, or makes a Debian
 NEEDED = {"git": "packages are", "dpkg-deb": "packages are", "objdump": "packages are"}
-TOOLS = ["shell", "serve", "explain", "from_csv", "to_csv", "draw"]
 COMMIT_TIME = "1750000000 +0000"
 RECORD = "rattle-kit-13f logic dac8208d650f15bf", "7 passed, 0 failed"
 
@@ -33,7 +28,7 @@ def can_pack() -> bool:
     if not (TOP / ".git").exists():
         print("this is no git checkout: packages are not tested")
         return False
-    modules = subprocess.run(["/usr/bin/python3", "-c", "import pip, setuptools, wheel"], capture_output=True)
+    modules = subprocess.run(["/usr/bin/python3", "-c", "import setuptools, wheel, pip"], capture_output=True)
     if modules.returncode:
         print("pip, setuptools and wheel are not installed for /usr/bin/python3: packages are not tested")
     return modules.returncode == 0 and all(is_installed(tool, what) for tool, what in NEEDED.items())
@@ -192,52 +187,6 @@ def proved_and_sums_are_those_of_the_packages() -> None:
         expect_within(f" {sums}  {path.name}\n", proved)
 
 
-def the_version_is_told_once() -> None:
-    """And Cargo.toml, which cannot read a file, has the same."""
-    version = (TOP / "VERSION").read_text().strip()
-    expect(re.fullmatch(r"\d+\.\d+\.\d+", version) is not None, True)
-    expect((TOP / "clients/python/betable/VERSION").resolve(), TOP / "VERSION")
-    expect(betable.__version__, version)
-    expect(re.findall(r'^version = "(.*)"$', (TOP / "clients/rust/Cargo.toml").read_text(), re.MULTILINE), [version])
-    expect(re.findall(r"^## (\S+)", (TOP / "CHANGELOG.md").read_text(), re.MULTILINE)[:1], [version])
-
-
-def the_manual_page_and_completions_have_the_options_of_the_program() -> None:
-    limits = {**imported("tools/explain_words").OPTIONS, "--help": None, "--version": None}
-    page = (TOP / "man/betable.1.in").read_text()
-    expect(set(re.findall(r"^\.It Fl -(\w+)", page, re.MULTILINE)), {name[2:] for name in limits})
-    expect(re.findall(r"^\.Cm (.*)$", page, re.MULTILINE), [" | ".join(TOOLS)])
-    expect(re.findall(r"^\.It Cm (\w+)", page, re.MULTILINE), TOOLS)
-    texts = {name: (TOP / "packaging/completions" / name).read_text() for name in ("betable.bash", "_betable", "betable.fish")}
-    expect(set(re.findall(r"--\w+", texts["betable.bash"])), set(limits))
-    expect(set(re.findall(r"--\w+", texts["_betable"])), set(limits))
-    expect({f"--{name}" for name in re.findall(r" -l (\w+)", texts["betable.fish"])}, set(limits))
-    expect(re.findall(r'"(shell [^"]*)"', texts["betable.bash"]), [" ".join(TOOLS)])
-    expect(re.findall(r"^    '(\w+):", texts["_betable"], re.MULTILINE), TOOLS)
-    expect(re.findall(r" -a (\w+)", texts["betable.fish"]), TOOLS)
-    for name, most in limits.items():
-        if most is not None:
-            expect_within(f"1 to {most} (default", page.split(f".It Fl -{name[2:]} ")[1].split(".It")[0].replace("\n", " "))
-            for text in (texts["_betable"], texts["betable.fish"]):
-                expect([line for line in text.splitlines() if name[2:] in line and f"1 to {most}" not in line], [])
-
-
-def the_manual_page_says_of_numbers_what_help_says() -> None:
-    page = (TOP / "man/betable.1.in").read_text()
-    text = subprocess.run([PROGRAM, "--help"], capture_output=True, text=True, check=True).stdout
-    told = re.findall(r"--(\w+).*?(1 to \d+ \(default \d+\))", text)
-    expect(len(told), 3)
-    for name, limits in told:
-        expect_within(limits, page.split(f".It Fl -{name} ")[1].split(".It")[0].replace("\n", " "))
-
-
-def the_manual_page_has_no_faults() -> None:
-    if is_installed("mandoc", "the manual page is"):
-        words = ["mandoc", "-Tlint", "-Wwarning", TOP / "man/betable.1.in"]
-        lines = subprocess.run(words, capture_output=True, text=True).stdout.splitlines()
-        expect([line for line in lines if "@DATE@" not in line and "mandoc.db" not in line], [])
-
-
 def the_debian_package_is_root_s_and_without_errors() -> None:
     dist = packages()
     if dist is None:
@@ -310,52 +259,6 @@ def the_wheel_works_in_a_new_environment() -> None:
         imported("tools/package_test").the_wheel(Folder(folder), wheel, (TOP / "docs/C.md").read_text(), (TOP / "VERSION").read_text())
 
 
-def completion_in_fish() -> None:
-    if is_installed("fish", "completion in it is"):
-        file = shlex.quote(str(TOP / "packaging/completions/betable.fish"))
-        for words, wanted in (("betable --w", ["--workers"]), ("betable se", ["serve"]), ("betable --workers 2 --c", ["--cut"])):
-            with tempfile.TemporaryDirectory() as folder:
-                environment = {**os.environ, "HOME": folder}
-                lines = f"source {file}; complete --do-complete {shlex.quote(words)}"
-                told = subprocess.run(["fish", "--no-config", "--command", lines], capture_output=True, text=True, cwd=folder, env=environment).stdout
-            expect((words, [line.split("\t")[0] for line in told.splitlines()]), (words, wanted))
-
-
-def completion_in_zsh() -> None:
-    """At a terminal, by the tab key: the command is a function that prints its words."""
-    if is_installed("zsh", "completion in it is"):
-        for typed, wanted in (("--wor", "--workers"), ("fro", "from_csv"), ("--vers", "--version")):
-            expect_within(f"words:{wanted}:", typed_in_zsh(typed))
-
-
-def typed_in_zsh(typed: str) -> str:
-    """What is seen after `betable TYPED`, the tab key and return."""
-    with tempfile.TemporaryDirectory() as folder:
-        shutil.copy(TOP / "packaging/completions/_betable", folder)
-        start = f"fpath=({folder} $fpath); autoload -U compinit; compinit -u -D; betable() {{ print words:${{(j:,:)@}}: }}; print rea''dy"
-        ours, theirs = pty.openpty()
-        environment = {**os.environ, "TERM": "dumb", "HOME": folder, "ZDOTDIR": folder}
-        shell = subprocess.Popen(["zsh", "-f", "-i"], stdin=theirs, stdout=theirs, stderr=theirs, cwd=folder, env=environment, start_new_session=True)
-        os.close(theirs)
-        try:
-            os.write(ours, f"{start}\n".encode())
-            seen_until(ours, "ready")
-            os.write(ours, f"betable {typed}\t\n".encode())
-            return seen_until(ours, "words:")
-        finally:
-            shell.kill()
-            shell.wait()
-            os.close(ours)
-
-
-def seen_until(terminal: int, mark: str) -> str:
-    """What is read up to the end of the line with the mark. The process of the test ends it if the mark does not come."""
-    seen = ""
-    while not re.search(f"{mark}.*\r?\n", seen):
-        seen += os.read(terminal, 4_096).decode(errors="replace")
-    return seen
-
-
 def packages_work_in_a_clean_debian() -> None:
     """By debootstrap, as root, and with an archive of Debian."""
     dist = packages()
@@ -377,15 +280,6 @@ def is_reachable(url: str) -> bool:
         return False
 
 
-# Those that ask for no program.
-TESTS_OF_TEXTS = [
-    the_version_is_told_once,
-    the_manual_page_and_completions_have_the_options_of_the_program,
-    the_manual_page_has_no_faults,
-    completion_in_fish,
-    completion_in_zsh,
-]
-
 # Before tests run side by side.
 BUILDS = [packages]
 
@@ -394,7 +288,6 @@ TESTS = [
     nothing_is_packed_without_its_proof,
     packages_are_the_same_if_they_are_made_again,
     proved_and_sums_are_those_of_the_packages,
-    the_manual_page_says_of_numbers_what_help_says,
     the_debian_package_is_root_s_and_without_errors,
     the_tarball_works_in_any_folder,
     the_wheel_works_in_a_new_environment,
