@@ -35,7 +35,8 @@ def can_pack() -> bool:
 
 
 def git(folder: Path, *words: str) -> str:
-    names = {f"GIT_{who}_{what}": value for who in ("AUTHOR", "COMMITTER") for what, value in (("NAME", "a"), ("EMAIL", "a@example.org"), ("DATE", COMMIT_TIME))}
+    values = {"NAME": "a", "EMAIL": "a@example.org", "DATE": COMMIT_TIME}
+    names = {f"GIT_{who}_{what}": value for who in ("AUTHOR", "COMMITTER") for what, value in values.items()}
     environment = {**os.environ, **names, "GIT_CONFIG_GLOBAL": os.devnull}
     return subprocess.run(["git", *words], cwd=folder, check=True, capture_output=True, text=True, env=environment).stdout.strip()
 
@@ -94,7 +95,8 @@ def bin_test_records_the_commit_that_it_tested() -> None:
     """With a gate and tests of tools that only print their last line."""
     if not can_pack():
         return
-    for last_line, changed, wanted in (("2 passed, 0 failed", False, "5 passed, 0 failed"), ("1 passed, 1 failed", False, "4 passed, 1 failed"), ("2 passed, 0 failed", True, None)):
+    cases = [("2 passed, 0 failed", False, "5 passed, 0 failed"), ("1 passed, 1 failed", False, "4 passed, 1 failed"), ("2 passed, 0 failed", True, None)]
+    for last_line, changed, wanted in cases:
         with tempfile.TemporaryDirectory() as folder:
             top = copy_of_the_repository(Path(folder), {"tools/test": f"#!/bin/sh\necho {last_line}\n"})
             (Path(folder) / "rt").write_text('#!/bin/sh\n[ "$1" = ci ] && echo 3 passed, 0 failed || echo a kit\n')
@@ -137,16 +139,18 @@ def nothing_is_packed_without_its_proof() -> None:
         refused("the checkout has changes, as of VERSION")
         git(top, "checkout", "VERSION")
         source = next((top / "crates/bt_node/src").rglob("*.rt"))
+        program = top / "crates/betable/out/betable"
         for changed in (source, source.parent, top / "crates.txt"):
-            before = changed.stat()
+            before, built = changed.stat().st_mtime, program.stat().st_mtime
             os.utime(changed, (new, new))
             refused(f"crates/betable/out/betable is older than {changed.relative_to(top)}: bin/betable builds it again")
-            os.utime(top / "crates/betable/out/betable", (new, new))
+            os.utime(program, (new, new))
             refused(f"out/libbt_c.a is older than {changed.relative_to(top)}: bin/build_c builds it again")
-            os.utime(changed, (before.st_mtime, before.st_mtime))
+            os.utime(changed, (before, before))
+            os.utime(program, (built, built))
         (top / "out/libbt_c.so").unlink()
         refused("there is no out/libbt_c.so: bin/build_c builds it")
-        (top / "crates/betable/out/betable").unlink()
+        program.unlink()
         refused("there is no crates/betable/out/betable: bin/betable builds it")
 
 
