@@ -26,7 +26,7 @@ struct Handle {
 }
 
 #[link(name = "bt_c", kind = "static")]
-unsafe extern "C" {
+extern "C" {
     fn betable_open(session: *mut Handle) -> u32;
     fn betable_run(session: *mut Handle, script: *const u8, length: usize) -> u32;
     fn betable_replies_length(session: *mut Handle) -> usize;

@@ -11,7 +11,7 @@ from pathlib import Path
 
 from common import expect, expect_within, imported, replies, run_forked, SECONDS, structure, TOP
 
-PAGES = [Path("README.md"), *sorted(path.relative_to(TOP) for folder in ("docs", "bench") for path in (TOP / folder).glob("*.md")), Path("examples/README.md")]
+PAGES = sorted(path.relative_to(TOP) for folder in (".", "docs", "bench", "examples") for path in (TOP / folder).glob("*.md"))
 MEASURES = Path("bench/RESULTS.md")
 
 
@@ -169,7 +169,7 @@ def each_page_is_linked_from_the_readme():
 
 
 # Folders of the repository, and those of a crate.
-FOLDERS = ("bench", "bin", "clients", "crates", "docs", "examples", "include", "tools")
+FOLDERS = ("bench", "bin", "clients", "crates", "docs", "examples", "include", "man", "packaging", "tools")
 PARTS = ("src", "specs", "proofs", "must-fail")
 # Of what is in these folders the repository has nothing.
 MADE = ("out", "out/betable", "c_calls")
