@@ -83,7 +83,7 @@ impl Session {
         Ok(replies)
     }
 
-    /// Whether the table was lost for want of memory.
+    /// Whether the table was lost when memory ran out.
     pub fn is_lost(&mut self) -> bool {
         unsafe { betable_is_lost(&mut self.0) }
     }
@@ -164,7 +164,7 @@ impl fmt::Display for Refusal {
 
 impl Error for Refusal {}
 
-// A text with line breaks stands in quotes, so that a line goes on while its quotes are odd.
+// A text with line breaks is in quotes, so a line goes on while its quotes are odd.
 fn lines(text: &str) -> Vec<String> {
     let mut lines: Vec<String> = Vec::new();
     let mut is_open = false;
@@ -179,7 +179,7 @@ fn lines(text: &str) -> Vec<String> {
     lines
 }
 
-// The number of rows stands behind them, so a row that it does not count is the reply to a get.
+// The number of rows follows them, so a row that it does not count is the reply to a get.
 fn replies_of(lines: &[String]) -> Vec<Reply> {
     let mut replies = Vec::new();
     let mut image: Option<Vec<String>> = None;

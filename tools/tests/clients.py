@@ -180,11 +180,11 @@ def sessions_of_two_threads_do_not_meet():
 
 
 def programs_of_the_document_print_what_they_say():
-    """Those of docs/C.md, by the lines that stand behind them."""
+    """Those of docs/C.md, by the lines that follow them."""
     page = (TOP / "docs/C.md").read_text()
     for language, ending in (("c", ".c"), ("python", ".py"), ("rust", ".rs")):
-        code, behind = page.split(f"```{language}\n")[1].split("```\n", 1)
-        source, wanted = Path(programs().name) / f"ten_lines{ending}", behind.split("```text\n")[1].split("```")[0]
+        code, after = page.split(f"```{language}\n")[1].split("```\n", 1)
+        source, wanted = Path(programs().name) / f"ten_lines{ending}", after.split("```text\n")[1].split("```")[0]
         source.write_text(code)
         if language == "rust" and not is_installed("rustc", "clients/rust is"):
             continue
@@ -291,7 +291,7 @@ def rust_sessions_stay_on_their_thread():
 
 
 def refused_memory_is_answered():
-    """Each request, alone and with those behind it: what is answered, what state is left, and that all memory is given back."""
+    """Each request, alone and with those after it: what is returned, what state is left, and that all memory is freed."""
     program = c_program(HERE / "c/refused_memory.c", "-Wl,--wrap=malloc,--wrap=realloc,--wrap=free")
     for script in (TOP / "tools/refused_allocations/all_commands.script", WORKED / "building_index"):
         text = script.read_bytes()

@@ -30,10 +30,10 @@ def prose_of(page):
 
 
 def section(page, title):
-    """What stands below a heading, up to the next one of its level or a higher one."""
+    """What follows a heading, up to the next one of its level or a higher one."""
     level = title.split(" ")[0]
-    behind = text_of(page).split(f"\n{title}\n", 1)[1]
-    return re.split(rf"^#{{1,{len(level)}}} ", behind, maxsplit=1, flags=re.MULTILINE)[0]
+    after = text_of(page).split(f"\n{title}\n", 1)[1]
+    return re.split(rf"^#{{1,{len(level)}}} ", after, maxsplit=1, flags=re.MULTILINE)[0]
 
 
 def rows(text):
@@ -47,7 +47,7 @@ def rows(text):
 
 
 def quoted(text):
-    """What stands in backticks, also over the end of a line."""
+    """What is in backticks, also over the end of a line."""
     return [" ".join(name.split()) for name in re.findall(r"`([^`]+)`", text)]
 
 
@@ -177,7 +177,7 @@ MADE = ("out", "out/betable", "c_calls")
 
 @cache
 def is_there(path):
-    """A path from the top, or one of a crate, whose files may stand without their endings. NAME is any name."""
+    """A path from the top, or one of a crate, whose files may be without their endings. NAME is any name."""
     if path.split("/", 2)[-1] in MADE:
         return True
     pattern = path.replace("NAME", "*").rstrip("/")
@@ -186,7 +186,7 @@ def is_there(path):
 
 
 def paths(text):
-    """The words in backticks that begin as a path of the repository or of a crate, and paths of crates that stand without backticks."""
+    """The words in backticks that begin as a path of the repository or of a crate, and paths of crates without backticks."""
     words = [word.strip("'\",;:()") for name in quoted(text) for word in name.split()]
     begin = tuple(f"{folder}/" for folder in (*FOLDERS, *PARTS)) + ("bt_",)
     marked = [word for word in words if "/" in word and word.startswith(begin)]
@@ -199,7 +199,7 @@ def paths_in_the_documents_are_there():
     expect(len([path for page in PAGES for path in paths(prose_of(page))]) > 200, True)
 
 
-def functions_stand_in_the_files_that_are_named_behind_them():
+def functions_are_in_the_files_that_are_named_after_them():
     """As `name` (crate, file.rt), or `name` (file.rt) of some crate."""
     found, faults = 0, []
     for page in PAGES:
@@ -219,8 +219,8 @@ def file_of(crate, name):
     return TOP / name if crate == "none" else TOP / "crates" / crate.strip("`") / (name + ending)
 
 
-def what_to_change_stands_in_its_files():
-    """Each file of a row has a name of the row, each name stands in a file of it, and a row has at most three files."""
+def what_to_change_is_in_its_files():
+    """Each file of a row has a name of the row, each name is in a file of it, and a row has at most three files."""
     table = rows(section("docs/CHANGING.md", "## Where to change what"))
     expect(len(table) > 40, True)
     for crate, change, files in table:
@@ -232,7 +232,7 @@ def what_to_change_stands_in_its_files():
         expect((change, [any(column) for column in zip(*found)]), (change, [True] * len(names)))
 
 
-def the_newest_kind_and_operation_stand_in_the_files_of_their_rows():
+def the_newest_kind_and_operation_are_in_the_files_of_their_rows():
     """And beside these in worked rows alone."""
     table = rows(section("docs/CHANGING.md", "## Where to change what"))
     sources = [path for folder in ("src", "specs", "proofs") for path in (TOP / "crates").glob(f"bt_*/{folder}/**/*") if path.suffix in (".rt", ".antt")]
@@ -281,9 +281,9 @@ def walks_follow_calls_that_are_made():
 
 
 def crates_below():
-    """Of each crate of the program those right below it: on which it stands, and none of the others of these does."""
+    """Of each crate of the program those right below it: on which it depends, and none of the others of these does."""
     lines = [line for line in (TOP / "crates.txt").read_text().splitlines() if not line.startswith("#")]
-    # Behind the name of a crate may stand what it is built as.
+    # What a crate is built as may follow its name.
     below = {crate.split()[0]: {name for name in names.split() if name.startswith("bt_")} for crate, names in (line.split(":") for line in lines)}
     below = {crate: names for crate, names in below.items() if crate.startswith("bt_") or crate == "betable"}
 
@@ -293,7 +293,7 @@ def crates_below():
     return {crate: {name for name in names if not any(name in reached(other) for other in names)} for crate, names in below.items()}
 
 
-def crates_stand_as_the_architecture_says():
+def crates_depend_on_each_other_as_the_architecture_says():
     text, below = text_of("docs/ARCHITECTURE.md"), crates_below()
     table = rows(text.split("\n## ")[0])
     expect({quoted(crate)[0]: set(quoted(over)) for crate, over, _ in table}, below)
@@ -303,7 +303,7 @@ def crates_stand_as_the_architecture_says():
     expect([pair for pair in arrows if pair[1] not in below[pair[0]]], [])
 
 
-# ---- what stands on two pages, or in a page and in the repository ----
+# ---- what is on two pages, or in a page and in the repository ----
 
 
 def the_sentence_is_the_same_on_both_pages():
@@ -391,7 +391,7 @@ def blocks(text):
 
 
 def scripts(text):
-    """The scripts of a text, each with its replies in the block behind it."""
+    """The scripts of a text, each with its replies in the block after it."""
     found = blocks(text)
     return [(block, found[place + 1]) for place, block in enumerate(found) if re.match(r"table .*\w+:\w+\n", block)]
 
@@ -416,7 +416,7 @@ def steps_of_the_tour():
 
 
 def the_tour_gives_its_replies():
-    """All steps in one run, with the images of both trees behind each: a tree is shown behind each step that changes it."""
+    """All steps in one run, with the images of both trees after each: a tree is shown after each step that changes it."""
     steps = list(steps_of_the_tour())
     text = replies("".join(lines + "".join(f"image {name}\n" for name in TREES_OF_THE_TOUR) for lines, *_ in steps))
     before = dict.fromkeys(TREES_OF_THE_TOUR)
@@ -455,13 +455,13 @@ def linked_repository(folder):
 
 
 def shell_lines(page):
-    """The shell lines of a page, each with the replies that stand behind it before the next heading, if some do."""
-    for lines, behind in [part.split("```", 1) for part in text_of(page).split("```sh\n")[1:]]:
-        yield lines, next(iter(blocks(behind.split("\n## ")[0].split("```sh\n")[0])), None)
+    """The shell lines of a page, each with the replies that follow it before the next heading, if some do."""
+    for lines, after in [part.split("```", 1) for part in text_of(page).split("```sh\n")[1:]]:
+        yield lines, next(iter(blocks(after.split("\n## ")[0].split("```sh\n")[0])), None)
 
 
 def shell_lines_of_the_documents_do_what_they_say():
-    """Lines with replies behind them give these; those of the CSV file give its rows again, and the two commands of the README are not run."""
+    """Lines followed by replies give these; those of the CSV file give its rows again, and the two commands of the README are not run."""
     with_replies = 0
     for page in ("README.md", "docs/HOW_TO.md"):
         for lines, answer in shell_lines(page):
@@ -521,12 +521,12 @@ TESTS_OF_TEXTS = [
     faulty_links_are_found,
     each_page_is_linked_from_the_readme,
     paths_in_the_documents_are_there,
-    functions_stand_in_the_files_that_are_named_behind_them,
-    what_to_change_stands_in_its_files,
-    the_newest_kind_and_operation_stand_in_the_files_of_their_rows,
+    functions_are_in_the_files_that_are_named_after_them,
+    what_to_change_is_in_its_files,
+    the_newest_kind_and_operation_are_in_the_files_of_their_rows,
     files_that_name_the_newest_command_and_kind_are_those_of_the_recipes,
     walks_follow_calls_that_are_made,
-    crates_stand_as_the_architecture_says,
+    crates_depend_on_each_other_as_the_architecture_says,
     the_sentence_is_the_same_on_both_pages,
     the_measures_of_the_readme_are_those_of_the_results,
     recipes_are_listed,

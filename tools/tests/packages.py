@@ -42,7 +42,7 @@ def git(folder: Path, *words: str) -> str:
 
 
 def copy_of_the_repository(folder: Path, changes: dict[str, str] | None = None) -> Path:
-    """This repository as it is now, but for the texts of `changes`, as a commit, with the program and the library."""
+    """This repository as it is now, except for the texts of `changes`, as a commit, with the program and the library."""
     top = folder / "betable"
     for name in git(TOP, "ls-files", "-z", "--cached", "--others", "--exclude-standard").split("\0"):
         if name and (TOP / name).exists():

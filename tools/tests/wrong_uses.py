@@ -8,7 +8,7 @@ DECIMALS = "id,price\n1,0.25\n2,\n3,n/a\n"
 WIDE = ",".join(f"c{place}" for place in range(17)) + "\n"
 INT = "decimals are stored as ints of a fixed unit, as 1250 for 12.50"
 
-# Of tools/from_csv: the contents of its file, the words behind its name, and the end of what it says, or a part of a refusal.
+# Of tools/from_csv: the contents of its file, the words after its name, and the end of what it says, or a part of a refusal.
 OF_FROM_CSV = [
     # The key.
     (CITIES, [], "--key COLUMNS names the column, or up to four columns, by which each record is found; the columns are: id, city_name, qty, open"),

@@ -7,7 +7,7 @@ import sys
 def main() -> int:
     parser = argparse.ArgumentParser(prog="python3 -m betable", description="A table engine for heavy ingest.")
     commands = parser.add_subparsers(dest="command", required=True)
-    words = commands.add_parser("serve", help="a durable table behind HTTP", description="Serves a durable table by HTTP. docs/SERVICE.md has its endpoints.")
+    words = commands.add_parser("serve", help="a durable table by HTTP", description="Serves a durable table by HTTP. docs/SERVICE.md has its endpoints.")
     try:
         from . import serve
     except ModuleNotFoundError as fault:

@@ -1,4 +1,4 @@
-"""A durable table behind HTTP: `python3 -m betable serve PATH --port N`. docs/SERVICE.md has its endpoints, and what is promised.
+"""A durable table by HTTP: `python3 -m betable serve PATH --port N`. docs/SERVICE.md has its endpoints, and what is promised.
 
 This process speaks HTTP, and hands scripts to the engine's process (engine.py). The handlers of the endpoints are methods of `Service`; an answer that is no
 success is a `Problem`.
@@ -399,7 +399,7 @@ def abort(request: web.Request) -> None:
 
 
 async def in_thread_if_large(size: int, function: Callable[..., Any], *arguments: Any) -> Any:
-    """The result of a function on so many bytes: if they are many it runs in a thread, so that other requests get their turn."""
+    """The result of a function on that many bytes: if they are many it runs in a thread, so that other requests get their turn."""
     return await asyncio.to_thread(function, *arguments) if size > BLOCK_BYTES else function(*arguments)
 
 

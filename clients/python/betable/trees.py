@@ -41,7 +41,7 @@ class Node:
 
 
 class KeyColumns:
-    """The columns of a tree's key: their names and kinds, and where in the key each name stands first.
+    """The columns of a tree's key: their names and kinds, and where in the key each name is first.
 
     The names are None where only the kinds are known.
     """
@@ -175,7 +175,7 @@ def add_item(node, item):
     """Adds a row, a message or a pivot to the node above its line."""
     sign = item[1] or item[4] or item[6]
     if (sign == "=") != node.is_leaf:
-        raise Broken(f"below its line '{node.line}' stands '{item[0][:80]}', which belongs to {'an inner node' if node.is_leaf else 'a leaf'}")
+        raise Broken(f"below its line '{node.line}' is '{item[0][:80]}', which belongs to {'an inner node' if node.is_leaf else 'a leaf'}")
     if sign == "|":
         node.pivots.append(item[7])
     else:
@@ -196,9 +196,9 @@ def expect_counts(node):
 
 
 def expect_height(node, height, depth):
-    """That each leaf stands as deep as the height says."""
+    """That each leaf is as deep as the height says."""
     if node.is_leaf and depth != height:
-        raise Broken(f"its height is {height}, and a leaf of it, '{node.line}', stands at height {depth}")
+        raise Broken(f"its height is {height}, and a leaf of it, '{node.line}', is at height {depth}")
     for child in node.children:
         expect_height(child, height, depth + 1)
 
