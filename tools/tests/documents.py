@@ -93,7 +93,7 @@ def a_sentence_ends_where_the_next_one_begins():
     expect(list(sentences(given)), ["A b.", "C ` f", "g.", "h?", "I.", "- L   m.", "N"])
 
 
-# Words that a page says otherwise, each with what it says. As a word of the language or of the code a name stands in backticks.
+# Words that a page says otherwise, each with what it says. A word of the language or of the code is in backticks.
 OTHER_WORDS = {
     r"wants? of (?:memory|room)|memory (?:is|was|were) wanting": "out of memory", r"so (?:many|much)": "that many, or the number",
     r"becom(?:es?|ing) of|became of": "the result of", r"anew": "again", r"dear(?:er|est)?": "slow, or expensive", r"great(?:est)?": "large, largest",
@@ -116,6 +116,18 @@ def words_of_the_documents_are_plain():
 def other_words_are_found():
     given = "So many words stand behind the others, at want of memory, but for those that `stands` and\n```sh\nanew\n```\nthat stand for more."
     expect(sorted(found for found, _ in other_words(given)), ["So many", "behind", "but for", "stand", "want of memory"])
+
+
+# Words of ours that codespell takes for others.
+OUR_WORDS = ("crate", "crates", "ot")
+
+
+def words_of_the_documents_are_spelled_right():
+    if not shutil.which("codespell"):
+        print("not tested: codespell is not installed")
+        return
+    ended = subprocess.run(["codespell", "-L", ",".join(OUR_WORDS), *PAGES], cwd=TOP, capture_output=True, text=True, timeout=SECONDS)
+    expect((ended.returncode, ended.stdout), (0, ""))
 
 
 def first_lines_of_the_documents_say_whom_they_are_for():
@@ -515,6 +527,7 @@ TESTS_OF_TEXTS = [
     a_sentence_ends_where_the_next_one_begins,
     words_of_the_documents_are_plain,
     other_words_are_found,
+    words_of_the_documents_are_spelled_right,
     first_lines_of_the_documents_say_whom_they_are_for,
     decisions_are_numbered,
     links_of_the_documents_lead_to_what_is_there,
