@@ -289,4 +289,4 @@ TESTS_OF_TEXTS = [
     names_of_the_theorem_are_defined_in_their_files,
 ]
 
-TESTS = []
+TESTS: list[object] = []
