@@ -13,7 +13,7 @@
 //! ```
 //!
 //! A session is used by one call at a time, since a call takes it by `&mut`, and by the thread that has it, since it is not `Send`. It is closed when it is
-//! dropped. clients/rust/build compiles this crate, by rustc alone, with the libbt_c.a of the folder that BETABLE_LIBRARY names.
+//! dropped. Cargo builds this crate by Cargo.toml, and clients/rust/build by rustc alone, with the libbt_c.a of the folder that BETABLE_LIBRARY names.
 
 use std::error::Error;
 use std::fmt;
