@@ -209,7 +209,7 @@ class Shell:
             refusal.lines[0] = f"'{word}' is not a command: write {meant}"
         self.refusal, self.status = (refusal, command.head.text), 1
         print(f"refused {refusal.label}")
-        print(f"  {refusal.lines[0]}")
+        print(f"  {refusal.lines[0].removeprefix(f'{refusal.label}: ')}")
         if len(refusal.lines) > 1 and self.lines.is_terminal:
             print("  (.explain says more)")
         self.is_ended = self.is_ended or self.stops
@@ -331,8 +331,8 @@ class Shell:
         if done.refused:
             self.status = 1
             self.is_ended = self.is_ended or self.stops
-        if is_interrupted():
-            raise Interrupted("interrupted: these rows stay, and those after them were not read")
+        if not done.is_end:
+            raise Interrupted("interrupted: these rows stay, and the records after them were not read")
 
     most_script_bytes = MOST_SCRIPT_BYTES
 

@@ -11,9 +11,9 @@ from pathlib import Path
 from typing import BinaryIO, NamedTuple
 
 from .calls import Calls, ends_load
-from .faults import MEANINGS, batch_faults, header_faults
+from .faults import MEANINGS, header_faults, load_faults
 from .language import (
-    CLOSING, KINDS, MARK, MOST_MESSAGES, MOST_SCRIPT_BYTES, NAME, RECORD, Command, Line, Table, commands, counted, fields, printed_record, records,
+    CLOSING, KINDS, MARK, MOST_MESSAGES, MOST_SCRIPT_BYTES, NAME, RECORD, Command, Line, Table, counted, fields, printed_record, records,
 )  # fmt: skip
 from .replies import line_blocks
 
@@ -42,12 +42,14 @@ class Refusal(NamedTuple):
 
 
 class Imported(NamedTuple):
-    """What an import has done so far: the rows that are in, the batches it took, or 0 of a load, how many records were refused, and the first of them."""
+    """What an import has done so far: the rows that are in, the batches it took, or 0 of a load, how many records were refused, the first of them, and whether
+    it has come to the end of the file."""
 
     rows: int = 0
     batches: int = 0
     refused: int = 0
     refusals: tuple[Refusal, ...] = ()
+    is_end: bool = False
 
 
 # ---- CSV in ----
@@ -61,13 +63,13 @@ def import_csv(table: Calls, there: Table, path: str, progress: Progress, most_b
     try:
         with open(path, "rb") as stream:
             size = os.fstat(stream.fileno()).st_size
-            first = stream.read(READ_BYTES)
+            first = stream.read(MOST_RECORD_BYTES)
             _expect_header(first, there, path)
             if size <= most_bytes - sum(map(len, LOAD_ENDS)):
                 loaded = _loaded(table, first + stream.read())
                 if loaded is not None:
                     progress(1, loaded)
-                    yield Imported(loaded)
+                    yield Imported(loaded, is_end=True)
                     return
             stream.seek(0)
             yield from _Batches(table, there, progress, size, most_bytes).put_all(stream)
@@ -114,8 +116,8 @@ class _Batches:
                 some, left = [], self.room
             some.append(record)
             left -= need
-        # The last batch, and what the end of the file has told.
-        yield self.put(some)
+        self.done = self.size
+        yield self.put(some)._replace(is_end=True)
 
     def records(self, stream: BinaryIO) -> Iterator[Record]:
         """The records of a file with their lines. What is read of it at once is cut after its last whole record."""
@@ -161,7 +163,8 @@ class _Batches:
         if reply.startswith(b"batch "):
             return {}
         found: dict[int, str] = {}
-        for fault in batch_faults(next(commands(script)), self.there):
+        text = b"\n".join([b",".join(self.there.names), *(raw for _, raw in some)])
+        for fault in load_faults(Command(Line(0, b"load"), CLOSING[b"load"], text, True), self.there):
             if fault.line is not None:
                 found.setdefault(fault.line - 2, ": ".join(part for part in (fault.place, fault.what()) if part))
         if found:
@@ -235,7 +238,7 @@ class ProgressBar:
 
     def __call__(self, part: float, rows: int) -> None:
         now = time.monotonic()
-        if self.is_shown and (now - self.last > 0.2 or part == 1):
+        if self.is_shown and now - self.last > 0.2:
             self.last = now
             full = round(BAR * part)
             left = f", {(now - self.start) * (1 - part) / part:.0f} s left" if 0 < part < 1 else ""
