@@ -23,7 +23,8 @@ HARD_TEXTS = ["", ".", "..", '"', 'a"b', '""', ",", "\ufeffx", '\ufeff"', " ", "
 
 
 def environment(**more):
-    return {**os.environ, "BETABLE_LIBRARY": library(), "PYTHONPATH": str(TOP / "clients/python"), "PYTHONDONTWRITEBYTECODE": "1", "INPUTRC": "/dev/null", **more}
+    package = {"BETABLE_LIBRARY": library(), "PYTHONPATH": str(TOP / "clients/python"), "PYTHONDONTWRITEBYTECODE": "1"}
+    return {**os.environ, **package, "INPUTRC": "/dev/null", **more}
 
 
 def prompt(lines, *words, folder=TOP):
@@ -207,9 +208,10 @@ def words_of_other_programs_lead_to_the_right_ones():
 
 
 def a_pipe_goes_on_after_a_refusal_unless_it_is_to_end():
-    expect(prompt(f"get 1\n.quti\n{TABLE}")[:2], (1, "refused 3 NoTable\n  There is no table yet. A 'table' command has to come first, and has to be answered itself.\ntable 3\n"))
-    for first in ("get 1\n", ".quti\n", ".import /nowhere/x\n"):
-        expect((first, "table" in prompt(f"{first}{TABLE}", "--bail")[1].replace("no table", "").replace("'table'", "")), (first, False))
+    refused = "refused 3 NoTable\n  There is no table yet. A 'table' command has to come first, and has to be answered itself.\n"
+    for first, text in (("get 1\n", refused), (".quti\n", ""), (".import /nowhere/x\n", ""), (".read /nowhere/x\n", "")):
+        expect((first, prompt(f"{first}{TABLE}")[:2]), (first, (1, f"{text}table 3\n")))
+        expect((first, prompt(f"{first}{TABLE}", "--bail")[:2]), (first, (1, text)))
     expect(printed(f"{TABLE}.quit\nget x\n"), "table 3\n")
     # A block that the end leaves open is not carried out, and a last line needs no line break.
     expect_within("refused 2 Unfinished", prompt(f"{TABLE}batch\nput 1,a,1")[1])
@@ -226,7 +228,8 @@ def scripts_are_read():
         # Of several pieces, with the lines of the file.
         script.write_text(TABLE + "".join(f"batch\nput {key},{'x' * 200},1\nend\n" for key in range(9_000)) + "get y\nscan primary\nfrom 8999\ngo\n")
         status, text, _ = prompt(f".read '{script}'\n.explain\n")
-        expect((status, text.count("batch 1\n"), text.splitlines()[9001:9003]), (1, 9_000, ["refused 6 BadField 1", "  column 1 'id' (int): 'y' is no whole number"]))
+        wanted = ["refused 6 BadField 1", "  column 1 'id' (int): 'y' is no whole number"]
+        expect((status, text.count("batch 1\n"), text.splitlines()[9001:9003]), (1, 9_000, wanted))
         with open(script, "wb") as stream:
             stream.truncate(67_108_865)
         expect_within("has more than 67,108,864 bytes, the most of a script: divide it, or put a CSV file in by .import", prompt(f".read '{script}'\n")[2])
@@ -276,7 +279,8 @@ def records_that_are_refused_are_told_and_the_others_put():
             (102, "'a' is no whole number"), (103, "7"), (104, "a text has a line break"), (106, f"'{'z' * 40}…'"), (208, "1"),
         ])  # fmt: skip
     # Rows that are in are replaced by those of the file, and the others stay.
-    expect(imported("id,city\n1,a\n2,b\n", 1 << 20, "batch\nput 2,x\nput 3,y\nend\n"), (betable_module("shell_files").Imported(2, 1, is_end=True), [(1, "a"), (2, "b"), (3, "y")]))
+    done, there = imported("id,city\n1,a\n2,b\n", 1 << 20, "batch\nput 2,x\nput 3,y\nend\n")
+    expect((done.rows, done.batches, done.refused, there), (2, 1, 0, [(1, "a"), (2, "b"), (3, "y")]))
     # Of many faults the first ones are told; a quote that is never closed ends the import.
     done, there = imported("id,city\n" + "x,y\n" * 1_000 + "1,a\n", 1 << 20)
     expect((done.rows, done.refused, len(done.refusals), there), (1, 1_000, 10, [(1, "a")]))

@@ -12,7 +12,7 @@ import shlex
 import signal
 import sys
 import time
-from collections.abc import Callable, Iterable, Iterator
+from collections.abc import Callable, Iterator
 from contextlib import contextmanager
 from difflib import get_close_matches
 from io import TextIOWrapper
@@ -295,7 +295,8 @@ class Shell:
         rows = []
         for name, index in table.indexes.items():
             condition = b" ".join(index.condition).decode(errors="replace") if index.condition else ""
-            rows.append([name.decode(), b",".join(index.on).decode(), b",".join(index.included).decode(), condition, "yes" if index.is_complete else "building"])
+            lists = [b",".join(names).decode() for names in (index.on, index.included)]
+            rows.append([name.decode(), *lists, condition, "yes" if index.is_complete else "building"])
         for line in aligned(["name", "on", "include", "where", "complete"], ["text"] * 5, rows) if rows else ():
             print(line)
         print(counted(len(rows), "index", "indexes"))
