@@ -201,7 +201,7 @@ def words_of_other_programs_lead_to_the_right_ones():
         (".timer maybe", "the form: .timer on|off"),
         (".limit 0", "the form: .limit N|off"),
         (".read 'a", "No closing quotation"),
-        (".read /nowhere/x", "[Errno 2] No such file or directory: '/nowhere/x'"),
+        (".read /nowhere/x", "/nowhere/x: No such file or directory"),
         (".schema", "there is no table yet: make one by 'table', as 'table 16 1024 256 1 id:int city:text qty:int'"),
     ):
         expect((line, prompt(f"{line}\n")), (line, (1, "", f"error: {said}\n")))
@@ -324,6 +324,19 @@ def exported_rows_are_those_that_are_imported():
         expect_within("refused 11 Building", prompt(f"{TABLE}index c on city\nbatch\nput 1,a,1\nend\n.export {folder}/x c\n")[2])
 
 
+def the_example_of_the_document_is_what_is_shown():
+    """The lines that are typed in docs/HOW_TO.md, with what follows each but for what only a terminal shows, and its table of commands."""
+    text = (TOP / "docs/HOW_TO.md").read_text().split("\n## A prompt\n")[1].split("\n## ")[0]
+    lines = text.split("```text\n")[1].split("```")[0].splitlines()
+    given = [line.partition("> ")[2] for line in lines if re.match(r"betable> | +\(\w+\)> ", line)]
+    shown = [line for line in lines if not re.match(r"betable> | +\(\w+\)> | +\(\.explain", line)]
+    expect(prompt("\n".join(given) + "\n"), (1, "\n".join(shown) + "\n", ""))
+    expect(len(given) > 10, True)
+    told = [name for row in re.findall(r"^\| (`\..*?) \|", text, re.MULTILINE) for name in re.findall(r"`(\.\w+[^`]*)`", row)]
+    forms = [f"{name} {command.form}".strip() for name, command in betable_module("shell").DOT_COMMANDS.items()]
+    expect(sorted(name.replace("\\|", "|") for name in told), sorted(forms))
+
+
 # ---- a durable table ----
 
 
@@ -440,8 +453,8 @@ def lines_come_back_from_the_history():
             expect_within("get 7\n0 rows", keys.type("\x1b[A\n"))
             expect(keys.end(), 0)
         with typed(folder=folder) as keys:
-            expect((Path(folder) / "history").read_text(), f"{TABLE}get 7\nget 7\n")
-            expect_within(f"{TABLE}table 3", keys.type("\x1b[A\x1b[A\x1b[A\n"))
+            expect((Path(folder) / "history").read_text(), f"{TABLE}get 7\n")
+            expect_within(f"{TABLE}table 3", keys.type("\x1b[A\x1b[A\n"))
             expect(keys.end(), 0)
 
 
@@ -469,6 +482,18 @@ def ctrl_c_gives_up_a_block_and_not_the_session():
         expect_within("the block is given up, and nothing of it was carried out", keys.type("put 2,\x03"))
         expect_within(".quit or Ctrl-D ends", keys.type("get\x03"))
         expect_within("0 rows", keys.type("get 1\n"))
+        expect(keys.end(), 0)
+
+
+def ctrl_c_ends_a_script_that_is_read():
+    """While its replies are printed, or between two pieces of it."""
+    with typed() as keys:
+        path = Path(f"/proc/{keys.child}/cwd").resolve() / "script"
+        path.write_text(TABLE + "get 1\n" * 1_000_000)
+        keys.type(".read script\n", "0 rows")
+        keys.type("\x03")
+        expect_within("0 rows", keys.type("get 1\n"))
+        expect(keys.shown.count("0 rows") < 1_000_000, True)
         expect(keys.end(), 0)
 
 
@@ -509,12 +534,14 @@ TESTS_OF_TEXTS = [
     records_that_are_refused_are_told_and_the_others_put,
     imports_say_what_they_did,
     exported_rows_are_those_that_are_imported,
+    the_example_of_the_document_is_what_is_shown,
     a_durable_table_is_there_again,
     a_terminal_has_prompts_and_times,
     tab_completes_commands_trees_columns_and_files,
     lines_come_back_from_the_history,
     what_is_wrong_in_a_block_is_told_at_once,
     ctrl_c_gives_up_a_block_and_not_the_session,
+    ctrl_c_ends_a_script_that_is_read,
     ctrl_c_ends_an_import_between_two_batches,
 ]
 TESTS: list = []

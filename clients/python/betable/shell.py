@@ -161,8 +161,8 @@ class Shell:
         self.block = []
         self.execute(list(commands(script)))
 
-    def execute(self, some: list[Command]) -> None:
-        """Runs commands, and shows their replies."""
+    def execute(self, some: list[Command]) -> bool:
+        """Runs commands, and shows their replies. Whether Ctrl-C came meanwhile: the commands are carried out all the same."""
         script, fault = b"".join(map(bytes_of, some)), None
         begin = time.perf_counter()
         try:
@@ -174,10 +174,10 @@ class Shell:
                     replies, fault = found.replies, found
         except FAULTS as found:
             self.fail(found)
-            return
+            return False
         seconds = time.perf_counter() - begin
         if is_interrupted():
-            print("interrupted: the command was carried out, and its reply is left out")
+            print(f"interrupted: {'the command was' if len(some) == 1 else f'{len(some):,} commands were'} carried out, and no reply is shown")
         for command, reply in answered(some, replies):
             if reply.startswith(b"refused "):
                 self.show_refusal(command, reply, state)
@@ -186,6 +186,7 @@ class Shell:
             note(state, command, reply)
         if fault:
             self.fail(fault)
+        return is_interrupted()
 
     def show(self, command: Command, reply: bytes, state: State, time_taken: str) -> None:
         """Shows a reply: rows as a table, and others as they are."""
@@ -217,7 +218,8 @@ class Shell:
     def fail(self, fault: Exception | str) -> None:
         """Says why something was not carried out."""
         sys.stdout.flush()
-        print(f"error: {fault}", file=sys.stderr)
+        said = f"{fault.filename}: {fault.strerror}" if isinstance(fault, OSError) and fault.filename else fault
+        print(f"error: {said}", file=sys.stderr)
         self.status = 1
         self.is_ended = self.is_ended or self.stops
 
@@ -302,7 +304,10 @@ class Shell:
         print(counted(len(rows), "index", "indexes"))
 
     def draw(self, name: str = "primary") -> None:
-        reply = self.table.replies(f"image {self.tree(name)}\n")
+        with noticed_interrupts() as is_interrupted:
+            reply = self.table.replies(f"image {self.tree(name)}\n")
+        if is_interrupted():
+            raise Interrupted("interrupted: the tree is not drawn")
         if len(reply) > MOST_TREE_BYTES:
             raise Wrong(f"the image of {name} has {len(reply) >> 20} MiB, and at most {MOST_TREE_BYTES >> 20} are drawn")
         for line in drawn_tree(reply, name, self.table.state):
@@ -364,7 +369,8 @@ class Shell:
             some.append(command)
             size += len(command.head.raw) + len(command.block)
             if size > PIECE_BYTES:
-                self.execute(some)
+                if self.execute(some):
+                    raise Interrupted(f"the commands after line {command.head.number} are not carried out")
                 some, size = [], 0
             if self.is_ended:
                 return
