@@ -12,7 +12,7 @@ import threading
 from functools import cache
 from pathlib import Path
 
-from common import expect, expect_within, SECONDS, TOP
+from common import Failure, expect, expect_within, SECONDS, TOP
 
 from betable import language
 
@@ -30,7 +30,8 @@ def library():
     if folder is None:
         folder = str(TOP / "out")
         built = subprocess.run([TOP / "bin/build_c", folder], capture_output=True)
-        expect((built.returncode, built.stderr), (0, b""))
+        if built.returncode != 0:
+            raise Failure(f"bin/build_c: {built.stderr.decode()}")
     os.environ["BETABLE_LIBRARY"] = folder
     return folder
 

@@ -387,8 +387,6 @@ def limits_of_the_command_line_are_those_of_the_code():
     names = {"--workers": "MOST_WORKERS", "--cut": "DEEPEST_CUT", "--grain": "LARGEST_GRAIN"}
     expect(found, {option: constant("crates/bt_gang/src/crew.rt", name) for option, name in names.items()})
     expect(found, {option: most for option, most in imported("tools/explain_words").OPTIONS.items() if most})
-    checked = re.findall(r"^ +(--\w+)\) is_number_up_to (\d+) ", text_of("bin/betable"), re.MULTILINE)
-    expect(found, {option: int(most) for option, most in checked})
     expect(int(re.search(r"^DEEPEST_CUT = (\d+)$", text_of("tools/fuzz/run"), re.MULTILINE)[1]), found["--cut"])
     indexes = constant("crates/bt_table/src/table.rt", "MOST_INDEXES")
     modules = [import_module("betable.language"), imported("tools/fuzz/model.py"), imported("tools/fuzz/scripts.py")]

@@ -132,7 +132,7 @@ OF_OTHERS = [
     ("explain", "--program nofile FILE", SCRIPT, 2, "explain: error: nofile is no program"),
     ("explain", "--what FILE", SCRIPT, 2, "explain: error: unrecognized arguments: --what"),
     ("explain", "FILE FILE", SCRIPT, 2, "explain: error: unrecognized arguments: FILE"),
-    ("explain_words", "FILE", SCRIPT, 0, "  'FILE' is no option: did you mean --script FILE?"),
+    ("explain_words", "FILE --script FILE", SCRIPT, 0, "  --script is given twice"),
     ("explain_words", "--file FILE", SCRIPT, 0, "  '--file' is no option: did you mean --script FILE?"),
     ("explain_words", "-V", "", 0, "  '-V' is no option: did you mean --version?"),
     ("explain_words", "-v", "", 0, "  '-v' is no option: did you mean --version?"),

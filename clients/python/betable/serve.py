@@ -27,12 +27,13 @@ from .durable import FAULTS
 from .engine import ALL_ROWS, Answer, Closed, Engine, Lost, Result, Work
 from .errors import Refused
 from .http_answers import (
-    BLOCK_BYTES, content_policy, csv_rows, event_of, json_rows, picture_of, refusal_of_rows, refused_count, replies_with_commands, start_event, trees_of,
+    content_policy, csv_rows, event_of, json_rows, picture_of, refusal_of_rows, refused_count, replies_with_commands, start_event, trees_of,
 )  # fmt: skip
 from .http_requests import (
     Problem, batch_of, bounds_of, changing_word, checked_name, host_name, is_json, is_loopback, number_of, problem_of, query_of, record_of, request_id, tree_of,
 )  # fmt: skip
 from .language import MOST_SCRIPT_BYTES, State, commands
+from .replies import BLOCK_BYTES
 
 Handler = Callable[[web.Request], Awaitable[web.StreamResponse]]
 MOST_IMAGE_BYTES = 1 << 20  # of a tree that is drawn

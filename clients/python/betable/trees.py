@@ -123,6 +123,15 @@ def images_of(text):
         before = ""
 
 
+def image_of_reply(reply, tree, table):
+    """The image that the text of a reply prints. Its keys are shown as their values if the columns of the tree are known."""
+    key_columns = None
+    if table is not None and table.has_tree(tree.encode()):
+        names, kinds = zip(*table.key_of(tree.encode()))
+        key_columns = KeyColumns([kind.decode() for kind in kinds], [name.decode() for name in names])
+    return image_of(logical_lines(reply), 1, "", key_columns)
+
+
 def image_of(lines, number, before="", key_columns=None):
     """The image whose first line is the next one. It takes the lines up to its last one, and its number names it where it is broken."""
     head = HEAD.fullmatch(next(lines))
