@@ -235,6 +235,18 @@ def scripts_are_read():
         expect_within("has more than 67,108,864 bytes, the most of a script: divide it, or put a CSV file in by .import", prompt(f".read '{script}'\n")[2])
 
 
+def a_reader_that_goes_ends_the_prompt_without_a_word():
+    words = [PYTHON, "-m", "betable", "shell"]
+    for lines in ("get 1\n" * 20_000, ".help\n" * 20_000):
+        pipes = dict.fromkeys(("stdin", "stdout", "stderr"), subprocess.PIPE)
+        with tempfile.TemporaryFile() as script, subprocess.Popen(words, **{**pipes, "stdin": script}, env=environment(), cwd=TOP) as running:
+            script.write((TABLE + lines).encode())
+            script.seek(0)
+            expect(running.stdout.read(8), b"table 3\n")
+            running.stdout.close()
+            expect((running.stderr.read(), running.wait(SECONDS)), (b"", 1))
+
+
 # ---- files in and out ----
 
 
@@ -530,6 +542,7 @@ TESTS_OF_TEXTS = [
     words_of_other_programs_lead_to_the_right_ones,
     a_pipe_goes_on_after_a_refusal_unless_it_is_to_end,
     scripts_are_read,
+    a_reader_that_goes_ends_the_prompt_without_a_word,
     a_file_over_the_limit_is_imported_in_batches,
     records_that_are_refused_are_told_and_the_others_put,
     imports_say_what_they_did,

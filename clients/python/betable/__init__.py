@@ -15,7 +15,8 @@ The library is libbt_c.so, in the folder that BETABLE_LIBRARY names, or else bes
 where the Debian package has it. docs/SCRIPT.md has the language, and docs/C.md the calls and their errors.
 
 Layers over sessions have the same calls: `open` gives a table that is kept on disk (docs/DURABLE.md), `Replicas` and `Sharded` one on several machines
-(docs/CLUSTER.md), and `python3 -m betable serve` serves one by HTTP (docs/SERVICE.md). They are imported when they are first used.
+(docs/CLUSTER.md), and `python3 -m betable serve` serves one by HTTP (docs/SERVICE.md). They are imported when they are first used. `python3 -m betable shell`
+is a prompt (docs/HOW_TO.md).
 """
 
 from importlib import import_module

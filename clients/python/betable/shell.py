@@ -49,7 +49,7 @@ MEANT = {
 }  # fmt: skip
 
 
-class Wrong(Exception):
+class PromptFault(Exception):
     """Why a command of the prompt is not carried out."""
 
 
@@ -231,28 +231,30 @@ class Shell:
             words = shlex.split(text)
             command = DOT_COMMANDS.get(words[0])
             if command is None:
-                raise Wrong(reason_for_no_command(words[0]))
+                raise PromptFault(reason_for_no_command(words[0]))
             if not command.least <= len(words) - 1 <= command.most:
-                raise Wrong(f"the form: {words[0]} {command.form}".rstrip())
+                raise PromptFault(f"the form: {words[0]} {command.form}".rstrip())
             command.method(self, *words[1:])
-        except Wrong as wrong:
-            self.fail(str(wrong))
+        except PromptFault as fault:
+            self.fail(fault)
         except Interrupted as interrupted:
             print(interrupted)
+        except BrokenPipeError:
+            raise
         except FAULTS as fault:
             self.fail(fault)
 
     def the_table(self) -> Table:
         table: Table | None = self.table.state.table
         if table is None:
-            raise Wrong("there is no table yet: make one by 'table', as 'table 16 1024 256 1 id:int city:text qty:int'")
+            raise PromptFault("there is no table yet: make one by 'table', as 'table 16 1024 256 1 id:int city:text qty:int'")
         return table
 
     def tree(self, name: str) -> str:
         """The name of a tree that is there."""
         table = self.the_table()
         if not table.has_tree(name.encode()):
-            raise Wrong(f"no tree is named '{name}': there {'are' if table.indexes else 'is'} {', '.join(one.decode() for one in (PRIMARY, *table.indexes))}")
+            raise PromptFault(f"no tree is named '{name}': there {'are' if table.indexes else 'is'} {', '.join(one.decode() for one in (PRIMARY, *table.indexes))}")
         return name
 
     def help(self, word: str | None = None) -> None:
@@ -272,7 +274,7 @@ class Shell:
             print(f"{name} {DOT_COMMANDS[name].form}".rstrip() + f"\n  {DOT_COMMANDS[name].help}")
         else:
             near = get_close_matches(word, [one.decode() for one in FORMS] + list(DOT_COMMANDS), 1)
-            raise Wrong(f"'{word}' is not a command" + (f": did you mean '{near[0]}'?" if near else "; .help lists them"))
+            raise PromptFault(f"'{word}' is not a command" + (f": did you mean '{near[0]}'?" if near else "; .help lists them"))
 
     def explain(self) -> None:
         if self.refusal is None:
@@ -309,7 +311,7 @@ class Shell:
         if is_interrupted():
             raise Interrupted("interrupted: the tree is not drawn")
         if len(reply) > MOST_TREE_BYTES:
-            raise Wrong(f"the image of {name} has {len(reply) >> 20} MiB, and at most {MOST_TREE_BYTES >> 20} are drawn")
+            raise PromptFault(f"the image of {name} has {len(reply) >> 20} MiB, and at most {MOST_TREE_BYTES >> 20} are drawn")
         for line in drawn_tree(reply, name, self.table.state):
             print(line)
 
@@ -317,7 +319,7 @@ class Shell:
         path = os.path.expanduser(path)
         if self.table.state.table is None:
             line = suggested_table(path)
-            raise Wrong(f"there is no table yet. Make one that has the columns of the file, as\n  {line}\nwith the kinds that its first records show")
+            raise PromptFault(f"there is no table yet. Make one that has the columns of the file, as\n  {line}\nwith the kinds that its first records show")
         done, bar = Imported(), ProgressBar()
         with noticed_interrupts() as is_interrupted:
             try:
@@ -326,7 +328,7 @@ class Shell:
                         break
             except FAULTS as fault:
                 bar.end()
-                raise Wrong(str(fault) + (f"; {counted(done.rows, 'row')} before it stay" if done.rows else "")) from None
+                raise PromptFault(str(fault) + (f"; {counted(done.rows, 'row')} before it stay" if done.rows else "")) from None
         bar.end()
         for refusal in done.refusals:
             print(f"line {refusal.line}: {refusal.reason}")
@@ -362,7 +364,7 @@ class Shell:
         with open(path, "rb") as stream:
             script = stream.read(MOST_SCRIPT_BYTES + 1)
         if len(script) > MOST_SCRIPT_BYTES:
-            raise Wrong(f"{path} has more than {MOST_SCRIPT_BYTES:,} bytes, the most of a script: divide it, or put a CSV file in by .import")
+            raise PromptFault(f"{path} has more than {MOST_SCRIPT_BYTES:,} bytes, the most of a script: divide it, or put a CSV file in by .import")
         some: list[Command] = []
         size = 0
         for command in commands(script):
@@ -379,12 +381,12 @@ class Shell:
 
     def timer(self, word: str) -> None:
         if word not in ("on", "off"):
-            raise Wrong("the form: .timer on|off")
+            raise PromptFault("the form: .timer on|off")
         self.has_times = word == "on"
 
     def limit(self, word: str) -> None:
         if word != "off" and not (word.isascii() and word.isdigit() and 0 < int(word) <= 10**9):
-            raise Wrong("the form: .limit N|off")
+            raise PromptFault("the form: .limit N|off")
         self.most_rows = None if word == "off" else int(word)
 
     def quit(self) -> None:
@@ -461,6 +463,11 @@ def run(words: argparse.Namespace) -> int:
             print(f"betable: {kept}. .help lists the commands.")
         try:
             status = shell.run()
+            sys.stdout.flush()
+        except BrokenPipeError:
+            # Nobody reads, also what Python has left to write at its end.
+            os.dup2(os.open(os.devnull, os.O_WRONLY), sys.stdout.fileno())
+            status = 1
         finally:
             lines.close()
     return 0 if is_terminal else status

@@ -34,7 +34,7 @@ class FileFault(Exception):
     """Why a file cannot be imported, or not be written."""
 
 
-class Refusal(NamedTuple):
+class RefusedRecord(NamedTuple):
     """A record that was refused: the line of the file in which it begins, and why."""
 
     line: int
@@ -48,7 +48,7 @@ class Imported(NamedTuple):
     rows: int = 0
     batches: int = 0
     refused: int = 0
-    refusals: tuple[Refusal, ...] = ()
+    refusals: tuple[RefusedRecord, ...] = ()
     is_end: bool = False
 
 
@@ -134,17 +134,17 @@ class _Batches:
                 number += text.count(b"\n", at)
                 at = len(text)
             if len(text) - at > MOST_RECORD_BYTES:
-                self.refuse([Refusal(number, "a quoted field of this record is not closed: was a quote forgotten? The rest of the file is not read")])
+                self.refuse([RefusedRecord(number, "a quoted field of this record is not closed: was a quote forgotten? The rest of the file is not read")])
                 return
             self.done += at
             text = text[at:] + more
 
     def put(self, some: list[Record]) -> Imported:
         """Puts records by one batch, without those that are refused."""
-        refused = [Refusal(line, "a text has a line break, and only a load takes such") for line, raw in some if b"\n" in raw or b"\r" in raw]
+        refused = [RefusedRecord(line, "a text has a line break, and only a load takes such") for line, raw in some if b"\n" in raw or b"\r" in raw]
         some = [(line, raw) for line, raw in some if not (b"\n" in raw or b"\r" in raw)] if refused else some
         while some and (wrong := self.tried(some)):
-            refused += [Refusal(some[place][0], reason) for place, reason in wrong.items()]
+            refused += [RefusedRecord(some[place][0], reason) for place, reason in wrong.items()]
             some = [record for place, record in enumerate(some) if place not in wrong]
         self.refuse(sorted(refused))
         if some:
@@ -152,7 +152,7 @@ class _Batches:
         self.progress(self.done / self.size, self.so_far.rows)
         return self.so_far
 
-    def refuse(self, some: list[Refusal]) -> None:
+    def refuse(self, some: list[RefusedRecord]) -> None:
         refusals = (self.so_far.refusals + tuple(some))[:MOST_REFUSALS]
         self.so_far = self.so_far._replace(refused=self.so_far.refused + len(some), refusals=refusals)
 

@@ -8,6 +8,7 @@ import sys
 from collections.abc import Callable, Iterable
 from contextlib import suppress
 from glob import glob
+from io import TextIOWrapper
 from pathlib import Path
 from typing import BinaryIO, Protocol
 
@@ -55,6 +56,9 @@ class Terminal:
     def __init__(self, words: Callable[[str], Iterable[str]]) -> None:
         import readline
 
+        # Bytes that are no letters of the terminal's encoding go to the table as they are, which says why it does not take them.
+        if isinstance(sys.stdin, TextIOWrapper):
+            sys.stdin.reconfigure(errors="surrogateescape")
         self._readline, self._words = readline, words
         self._history = os.environ.get("BETABLE_HISTORY") or str(Path.home() / ".betable_history")
         self._found: list[str] = []
