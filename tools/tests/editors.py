@@ -88,7 +88,8 @@ def vim_takes_the_words_of_a_script_for_what_they_are() -> None:
         script, groups = Path(folder) / "a.betable", Path(folder) / "groups"
         script.write_text(SCRIPT)
         ask = "synIDattr(synID(v:val, 1, 1), 'name') . ' ' . synIDattr(synID(v:val, col([v:val, '$']) - 1, 1), 'name')"
-        commands = [f"set runtimepath^={VIM}", "filetype on", "syntax on", f"edit {script}", f"call writefile(map(range(1, line('$')), \"{ask}\"), '{groups}')", "qall!"]
+        write = f"call writefile(map(range(1, line('$')), \"{ask}\"), '{groups}')"
+        commands = [f"set runtimepath^={VIM}", "filetype on", "syntax on", f"edit {script}", write, "qall!"]
         words = [part for command in commands for part in ("-c", command)]
         subprocess.run(["vim", "-es", "-N", "-u", "NONE", "-i", "NONE", *words], stdin=subprocess.DEVNULL, capture_output=True, timeout=SECONDS)
         expect([line.replace("betable", "") for line in groups.read_text().splitlines()], [

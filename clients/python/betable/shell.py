@@ -254,7 +254,8 @@ class Shell:
         """The name of a tree that is there."""
         table = self.the_table()
         if not table.has_tree(name.encode()):
-            raise PromptFault(f"no tree is named '{name}': there {'are' if table.indexes else 'is'} {', '.join(one.decode() for one in (PRIMARY, *table.indexes))}")
+            names = ", ".join(one.decode() for one in (PRIMARY, *table.indexes))
+            raise PromptFault(f"no tree is named '{name}': there {'are' if table.indexes else 'is'} {names}")
         return name
 
     def help(self, word: str | None = None) -> None:
