@@ -1,5 +1,5 @@
 // c_calls [ROWS [ROUNDS]]: what one call takes from C, of betable through include/betable.h, of SQLite and of LMDB through their own interfaces: puts of one
-// row, batches of a hundred, gets of a row, and sums of the rows of a city. The rows are an int, a city and a quantity, and stand in C variables before a
+// row, batches of a hundred, gets of a row, and sums of the rows of a city. The rows are an int, a city and a quantity, and are in C variables before a
 // call and after it: so a call of betable has the making of its script in it and the reading of its reply, one of SQLite its bindings and columns, one of
 // LMDB the packing of key and value. Each round gives each engine new, empty tables, and begins with another one; all are compared by what they answer.
 // Printed is the processor time of a call of betable, and that of the others over it in the same round, the middle one of all rounds.

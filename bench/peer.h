@@ -10,7 +10,7 @@
 //   bool get(const Value *key, Value *row);   whether there is a row
 //   void scan(size_t tree, const Range &, each);   calls each(const Value *row) by rising key
 //   void sums(size_t tree, const Range &, const Grouping &, each);   calls each(int64_t count, int64_t total, const Value *group)
-// Tree 0 is that of the rows; those behind it are the indexes. The script is one that the workloads make: it has no refusals, and of
+// Tree 0 is that of the rows; those after it are the indexes. The script is one that the workloads make: it has no refusals, and of
 // a table a single line.
 #pragma once
 #include <fcntl.h>
@@ -98,7 +98,7 @@ struct Range {
   std::vector<Value> from, to;
 };
 
-// The first columns, so many, by which rows are grouped, and the column that is summed. No total of the workloads leaves 64 bits.
+// How many of the first columns group the rows, and the column that is summed. No total of the workloads leaves 64 bits.
 struct Grouping {
   size_t columns, summed;
 };
@@ -240,7 +240,7 @@ class Changes {
 //   explicit Store(const Table &);  void create();   one more tree
 //   void begin();  void commit();
 //   bool get(size_t tree, View key, View &value);   void put(size_t tree, View key, View value);   void del(size_t tree, View key);
-//   void append(size_t tree, View key, View value);   a key behind all others
+//   void append(size_t tree, View key, View value);   a key after all others
 //   void scan(size_t tree, View from, View to, each);   calls each(View key, View value), which says whether to go on; an empty bound is none
 // What a batch means for an index is worked out here: the row before and after it of each key that it names.
 template <class Store>
@@ -359,7 +359,7 @@ class OverStore {
 
   void create(size_t) { store.create(), covers.emplace_back(), changes.emplace_back(); }
 
-  // Rows are read from behind the last one that was read.
+  // Rows are read from the last one that was read on, without it.
   size_t build(size_t tree, size_t count) {
     const Index &index = table.indexes[tree - 1];
     Covered &covered = covers[tree - 1];
@@ -559,7 +559,7 @@ inline size_t column_of(const Tree &tree, View name) {
   return c;
 }
 
-// Cuts off what stands before a byte, which is cut off too, or all where the byte is not there.
+// Cuts off what is before a byte, and the byte, or all if the byte is not there.
 inline View cut_off(View &text, char byte) {
   size_t length = std::min(text.find(byte), text.size());
   View first = text.substr(0, length);
@@ -638,7 +638,7 @@ inline void read_batch(Script &script, const Table &table, std::vector<View> &fi
   }
 }
 
-// The records of a load behind its header, up to its closing line, as puts. A field in quotes may hold line breaks; the workloads
+// The records of a load after its header, up to its closing line, as puts. A field in quotes may hold line breaks; the workloads
 // have no other quotes, no blank line and no carriage return.
 inline void read_load(Script &script, const Table &table, std::vector<View> &fields, Batch &batch) {
   View line, more;
@@ -666,7 +666,7 @@ inline void read_range(Script &script, const Tree &tree, std::vector<View> &fiel
   }
 }
 
-// Answers the commands of `--script FILE`.
+// Replies to the commands of `--script FILE`.
 template <class Engine>
 int run(int count, char **words) {
   if (count != 3 || strcmp(words[1], "--script")) fail("usage: --script FILE");

@@ -138,7 +138,7 @@ class Sqlite {
     find = prepare("SELECT * FROM t" + is_key);
   }
   void create(size_t) { built.emplace_back(); }
-  // The key of the table ends an entry by itself, so it is named only where included columns come behind it.
+  // The key of the table ends an entry by itself, so it is named only if included columns follow it.
   size_t build(size_t tree, size_t count) {
     const Index &index = table.indexes[tree - 1];
     Built &at = built[tree - 1];

@@ -45,7 +45,7 @@ class Sqlite:
     PUT = "INSERT OR REPLACE INTO t VALUES(?,?,?)"
 
     def __init__(self):
-        # Each statement that stands outside of BEGIN and COMMIT is a transaction.
+        # Each statement outside of BEGIN and COMMIT is a transaction.
         self.db = sqlite3.connect(":memory:", isolation_level=None)
         self.db.executescript("PRAGMA journal_mode=OFF; PRAGMA synchronous=OFF;")
         self.db.execute("CREATE TABLE t(id INTEGER PRIMARY KEY, city TEXT NOT NULL, qty INTEGER NOT NULL)")

@@ -255,7 +255,7 @@ class Column:
         return bool(self.nulls) or self.empty > 0 and self.filling is None
 
     def notes(self, place: Place) -> Iterator[str]:
-        """What became of the column, in sentences."""
+        """What the column is now, in sentences."""
         if self.taken:
             taken = listed([f"{shown(word)} ({count:,})" for word, count in self.taken.items()])
             yield f"{self.name}: {counted(self.taken.total(), 'field is', 'fields are')} taken as empty: {taken}"

@@ -43,7 +43,7 @@ static unsigned char *file_bytes(const char *path, size_t *length) {
     return bytes;
 }
 
-/* Runs one script, prints its replies, and answers the exit status. */
+/* Runs one script, prints its replies, and returns the exit status. */
 static int run(betable_session *session, const unsigned char *script, size_t length) {
     unsigned char piece[4096];
     betable_status status = betable_run(session, script, length);

@@ -13,7 +13,7 @@
 //! ```
 //!
 //! A session is used by one call at a time, since a call takes it by `&mut`, and by the thread that has it, since it is not `Send`. It is closed when it is
-//! dropped. clients/rust/build compiles this crate, by rustc alone, with the libbt_c.a of the folder that BETABLE_LIBRARY names.
+//! dropped. Cargo builds this crate by Cargo.toml, and clients/rust/build by rustc alone, with the libbt_c.a of the folder that BETABLE_LIBRARY names.
 
 use std::error::Error;
 use std::fmt;
@@ -26,7 +26,7 @@ struct Handle {
 }
 
 #[link(name = "bt_c", kind = "static")]
-unsafe extern "C" {
+extern "C" {
     fn betable_open(session: *mut Handle) -> u32;
     fn betable_run(session: *mut Handle, script: *const u8, length: usize) -> u32;
     fn betable_replies_length(session: *mut Handle) -> usize;
@@ -83,7 +83,7 @@ impl Session {
         Ok(replies)
     }
 
-    /// Whether the table was lost for want of memory.
+    /// Whether the table was lost when memory ran out.
     pub fn is_lost(&mut self) -> bool {
         unsafe { betable_is_lost(&mut self.0) }
     }
@@ -164,7 +164,7 @@ impl fmt::Display for Refusal {
 
 impl Error for Refusal {}
 
-// A text with line breaks stands in quotes, so that a line goes on while its quotes are odd.
+// A text with line breaks is in quotes, so a line goes on while its quotes are odd.
 fn lines(text: &str) -> Vec<String> {
     let mut lines: Vec<String> = Vec::new();
     let mut is_open = false;
@@ -179,7 +179,7 @@ fn lines(text: &str) -> Vec<String> {
     lines
 }
 
-// The number of rows stands behind them, so a row that it does not count is the reply to a get.
+// The number of rows follows them, so a row that it does not count is the reply to a get.
 fn replies_of(lines: &[String]) -> Vec<Reply> {
     let mut replies = Vec::new();
     let mut image: Option<Vec<String>> = None;

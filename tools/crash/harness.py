@@ -29,7 +29,7 @@ NOTHING, HALF, ALL_BUT_A_BYTE, WHOLE = range(4)
 SECTOR = 512
 IN_DOUBT, FAILED = -1, -2  # notes that a step may be kept or not, and that a call failed
 MOST_FAILURES = 100  # of the calls of a client that goes on
-MOST_SUBSETS = 10  # up to so many writes that are not synced all subsets of them are looked at
+MOST_SUBSETS = 10  # up to that many writes that are not synced, all subsets of them are looked at
 
 
 class Operation(NamedTuple):

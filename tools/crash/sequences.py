@@ -70,7 +70,7 @@ class Pair:
                 self.run(part)
 
     def roll_back(self, parts: list[bytes]) -> None:
-        """A group that ends by an exception leaves nothing behind."""
+        """A group that ends by an exception leaves no trace."""
         number = self.table.number
         try:
             with self.table.group():

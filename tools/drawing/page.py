@@ -21,7 +21,7 @@ FOLDER = Path(__file__).resolve().parent
 
 
 class Figure:
-    """A tree as it was printed: its drawing, what stands over it, and how many of its nodes were changed."""
+    """A tree as it was printed: its drawing, what is above it, and how many of its nodes were changed."""
 
     def __init__(self, image, before, number):
         if before:
@@ -83,7 +83,7 @@ class Trees:
         return list(self.shown.values())
 
     def drawing(self, image):
-        """The drawing of an image, in so many columns as a screen has room for where no number was given."""
+        """The drawing of an image, in as many columns as a screen has room for if no number was given."""
         drawing = Drawing(image, self.columns or MOST_COLUMNS, self.lines)
         letters = self.letters[image.name] = max(drawing.letters(), self.letters.get(image.name, 0))
         columns = max(LEAST_COLUMNS, WIDTH // (box_width(letters) + GAP))
@@ -100,7 +100,7 @@ class Trees:
 
 
 def first_lines(lines, count, most):
-    """The first lines of a text that has so many, and how many are left out. Where that would be one it is shown too."""
+    """The first lines of a long text, and how many are left out. If that would be one, it is shown too."""
     most = count if count == most + 1 else most
     more = [f"<i>… {counted(count - most, 'more line')}</i>"] if count > most else []
     return "\n".join([*(escape(text_of_line(line)) for line in lines[:most]), *more])

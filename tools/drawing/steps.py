@@ -18,7 +18,7 @@ class Failed(Exception):
 
 
 class Step:
-    """A command with its reply, of which the first lines are kept, and the images that it printed or that were added behind it."""
+    """A command with its reply, of which the first lines are kept, and the images that it printed or that were added after it."""
 
     def __init__(self, command, answer):
         self.command = command
@@ -38,7 +38,7 @@ def text_of(line):
 
 
 class Run:
-    """A script whose first `most` commands, or all, are run, with the images that are added behind them where `is_every` wants them."""
+    """A script whose first `most` commands, or all, are run, with the images that are added after them if `is_every` is true."""
 
     def __init__(self, script, is_every=False, most=None):
         found, names = list(commands(script)), [PRIMARY]
@@ -47,7 +47,7 @@ class Run:
         self.images_behind = [trees_that_change(command, names) if is_every else [] for command in self.commands]
 
     def script(self):
-        """The script that is run. Its replies are those of the commands, and behind each those of the images that were added."""
+        """The script that is run. Its replies are those of the commands, and after each those of the images that were added."""
         parts = []
         for command, names in zip(self.commands, self.images_behind):
             parts += [command.head.raw, b"\n", command.block]

@@ -66,7 +66,7 @@ def all_or_least(calls):
 def csv_records(text):
     """The records of a CSV text, each as the list of its fields.
 
-    A quote opens a field only as its first byte. What stands behind a closing quote joins the field as it is, and a field
+    A quote opens a field only as its first byte. What follows a closing quote joins the field as it is, and a field
     that is never closed goes up to the end of the text.
     """
     if b'"' not in text:
@@ -76,12 +76,12 @@ def csv_records(text):
     for byte in text:
         if state == "quoted":
             if byte == QUOTE:
-                state = "behind quote"
+                state = "after quote"
             else:
                 field.append(byte)
         elif byte == QUOTE and state == "start":
             state = "quoted"
-        elif byte == QUOTE and state == "behind quote":
+        elif byte == QUOTE and state == "after quote":
             field.append(byte)
             state = "quoted"
         elif byte == COMMA:
@@ -242,14 +242,14 @@ class Inner:
 
 
 class Child:
-    """A node below another, behind its pivot; that of a first child is the one of the node above, and is never printed."""
+    """A node below another, with the pivot before it; that of a first child is the one of the node above, and is never printed."""
 
     def __init__(self, pivot, node, pending):
         self.pivot, self.node, self.pending = pivot, node, pending
 
 
 class Tree:
-    """A tree of a shape. `kinds` are those of the values of its rows, which an image prints behind the keys."""
+    """A tree of a shape. `kinds` are those of the values of its rows, which an image prints after the keys."""
 
     def __init__(self, shape, kinds):
         (self.fanout, self.buffer, self.is_in_bytes, self.leaf), self.kinds = shape, kinds
@@ -273,11 +273,11 @@ class Tree:
         return isinstance(self.root, Leaf) and not self.root.rows
 
     def pack(self, rows):
-        """Builds the tree anew of rows by rising key."""
+        """Builds the tree again of rows by rising key."""
         self.crown(self.leaves(b"", rows))
 
     def sink(self, messages):
-        """Takes messages, of which those of one key stand in order, the older first."""
+        """Takes messages, of which those of one key are in order, the older first."""
         self.crown(self.absorbed(b"", self.root, sorted(messages, key=by_key)))
 
     def drain(self):
@@ -373,7 +373,7 @@ def rows_after(rows, messages):
 
 
 def with_messages(children, messages):
-    """Children like these, where each has the messages that belong to it behind its older ones of the same key."""
+    """Children like these, where each has the messages that belong to it after its older ones of the same key."""
     pivots = [child.pivot for child in children]
     shares = [[] for _ in children]
     for message in messages:
@@ -437,7 +437,7 @@ class Index:
         return [*self.on, *range(self.table.key_length), *self.included]
 
     def rows_shown(self):
-        """Its rows as a scan prints them, each behind its key."""
+        """Its rows as a scan prints them, each after its key."""
         columns = self.columns_shown()
         found = [(self.entry(key, row), row) for key, row in self.table.rows.items()]
         shown = [(entry[0], tuple([row[column] for column in columns])) for entry, row in found if entry]
@@ -569,8 +569,8 @@ def form(pattern):
     return re.compile(b" *" + pattern.replace(b" ", b" +") + b" *", re.DOTALL)
 
 
-# How the line of each command is spelled; a space stands for one or more, and \x20 for exactly one. The record of a `get` and
-# the constant of an `index` stand behind exactly one, and go up to the end of the line.
+# How the line of each command is written; a space stands for one or more, and \x20 for exactly one. The record of a `get` and
+# the constant of an `index` follow exactly one, and go up to the end of the line.
 FORMS = {
     b"table": form(rb"table (%b) (%b)(b?) (%b) (%b)((?: %b:(?:%b))+)" % (NUMBER, NUMBER, NUMBER, NUMBER, NAME, b"|".join(READ))),
     b"load": form(b"load"),
@@ -596,7 +596,7 @@ def first_word(line):
 
 
 def block_lines(block, words):
-    """The word and the record's fields of each line of a block that is not blank; refused where another word stands there."""
+    """The word and the record's fields of each line of a block that is not blank; refused if another word is there."""
     for piece in block:
         line = piece.removesuffix(b"\r")
         if first_word(line):
@@ -672,7 +672,7 @@ class Commands:
         return [*parts, said]
 
     def block(self, closing_line):
-        """The lines of a block up to its closing line, as they stand, and whether there is one."""
+        """The lines of a block up to its closing line, unchanged, and whether there is one."""
         start = self.at
         while self.at < len(self.pieces):
             self.at += 1

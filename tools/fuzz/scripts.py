@@ -90,8 +90,8 @@ class Maker:
             return self.dice.choice(BROKEN_TEXTS)
         return self.dice.choice(TEXTS[: 3 + self.span])
 
-    def spelled(self, field):
-        """A field as it may stand in a record, in quotes where it has to and sometimes where it need not."""
+    def written(self, field):
+        """A field as it may be in a record, in quotes if it has to be and sometimes if not."""
         needs = any(byte in field for byte in (b",", b"\r", b"\n")) or field.startswith(b'"')
         if self.is_faulty(0.3):
             return b'"' + field + b'"' + self.dice.choice([b"x", b'"', b" ", b"y\"z"])
@@ -104,7 +104,7 @@ class Maker:
         fields = list(fields)
         if self.is_faulty():
             self.dice.choice([lambda: fields.append(b"1"), lambda: fields.pop() if fields else None])()
-        text = b",".join([self.spelled(field) for field in fields])
+        text = b",".join([self.written(field) for field in fields])
         if self.is_faulty(0.5):
             text = self.dice.choice([MARK, MARK + MARK, b" "]) + text
         return text or b'""'
@@ -140,7 +140,7 @@ class Maker:
     # Commands
 
     def table(self, shape):
-        """Makes the table, mostly. Where faults come, a faulty line may stand before it, or in its place."""
+        """Makes the table, mostly. If there are to be faults, a faulty line may be before it, or in its place."""
         count = self.dice.choice([1, 2, 3, 3, 4, 5, 8, 16])
         names = self.dice.sample(NAMES, min(count, len(NAMES))) + [b"more%d" % place for place in range(count - len(NAMES))]
         self.columns = [(name, self.dice.choice([*KINDS, b"int"])) for name in names]
@@ -166,7 +166,7 @@ class Maker:
         return with_token(self.dice, line) if self.happens(0.3) else line
 
     def load(self, count):
-        header = b",".join([self.spelled(name) if self.happens(0.1) else name for name, _ in self.columns])
+        header = b",".join([self.written(name) if self.happens(0.1) else name for name, _ in self.columns])
         if self.is_faulty():
             header = self.dice.choice([b"", header + b",x", header.upper(), MARK + MARK + header])
         records, known = [], set()
@@ -175,7 +175,7 @@ class Maker:
             key = tuple(fields[: self.key_length])
             if key not in known or self.is_faulty():
                 records.append(self.record(fields))
-                # No line of a batch can spell a key with a line break.
+                # No line of a batch can have a key with a line break.
                 if not any(byte in b"".join(key) for byte in b"\r\n"):
                     self.keys.append(list(key))
             known.add(key)
@@ -218,7 +218,7 @@ class Maker:
         """Deletes all keys that were named, packs the tree, and loads again."""
         self.add(b"batch")
         for key in self.keys:
-            self.add(b"del " + (b",".join([self.spelled(field) for field in key]) or b'""'))
+            self.add(b"del " + (b",".join([self.written(field) for field in key]) or b'""'))
         self.add(b"end")
         if self.happens(0.8):
             self.add(b"rebuild primary")
@@ -402,7 +402,7 @@ def deep(dice):
 
 
 def deep_batch(maker, span, count):
-    """A batch whose keys lie at random, behind one another, or in one narrow part of the keys."""
+    """A batch whose keys are random, or one after another, or in one narrow part of the keys."""
     dice = maker.dice
     start, width = dice.choice([(0, span), (0, span), (dice.randrange(span), 8), (dice.randrange(span), 40)])
     rises, deletes = maker.happens(0.2), dice.choice([0.05, 0.2, 0.7])

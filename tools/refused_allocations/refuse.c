@@ -13,7 +13,7 @@
  *   COUNT_FILE         the file that gets the number of requests and that of starts, each as an unsigned long in the order of
  *                      bytes of the machine; they are kept in memory that the file shares, so that they are there however the
  *                      program ends
- *   NOTE_FILE          the file that gets a line wherever the program sets a mark for it: the bytes in use, and the numbers of
+ *   NOTE_FILE          the file that gets a line where the program sets a mark for it: the bytes in use, and the numbers of
  *                      requests and starts so far; with this variable those are counted and refused only where the program
  *                      says so
  *   ORDER_FILES        the numbers of two open files: at mark 0 orders are read from the first, and answered on the second
@@ -22,13 +22,13 @@
  *
  *   0   from here on requests and starts are counted, on from those of earlier such stretches, and refused as said above
  *   1   from here on none is counted or refused; once one was refused, no later stretch has one refused
- *   2   from here on each request is refused, and counted apart: COUNT_FILE gets their number behind that of the starts
+ *   2   from here on each request is refused, and counted apart: COUNT_FILE gets their number after that of the starts
  *   3   a line is noted
  *
  * An order is three unsigned longs: a way to refuse (0 to 3, of the first four variables in their order), the number of what
  * is refused, counted from the mark, and seconds. A program that has come to mark 0 writes an int, 0. For each order it forks a
  * child, which goes on with that refused and is ended when the seconds are over, and writes the status of the child, an int. At
- * an order of number 0, or where no more come, it goes on itself. So what stands before a mark is run once for all orders at it.
+ * an order of number 0, or where no more come, it goes on itself. So what is before a mark is run once for all orders at it.
  */
 #define _GNU_SOURCE
 #include <dlfcn.h>
@@ -66,7 +66,7 @@ struct counts {
     atomic_ulong apart;
 };
 
-/* What becomes of requests and starts. */
+/* What happens to requests and starts. */
 enum stretch { COUNTED, LET_GO, REFUSED };
 
 /* What a child has refused: in which way, which, and within how many seconds it has to end. */

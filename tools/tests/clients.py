@@ -12,7 +12,7 @@ import threading
 from functools import cache
 from pathlib import Path
 
-from common import expect, expect_within, SECONDS, TOP
+from common import Failure, expect, expect_within, SECONDS, TOP
 
 from betable import language
 
@@ -30,7 +30,8 @@ def library():
     if folder is None:
         folder = str(TOP / "out")
         built = subprocess.run([TOP / "bin/build_c", folder], capture_output=True)
-        expect((built.returncode, built.stderr), (0, b""))
+        if built.returncode != 0:
+            raise Failure(f"bin/build_c: {built.stderr.decode()}")
     os.environ["BETABLE_LIBRARY"] = folder
     return folder
 
@@ -180,11 +181,11 @@ def sessions_of_two_threads_do_not_meet():
 
 
 def programs_of_the_document_print_what_they_say():
-    """Those of docs/C.md, by the lines that stand behind them."""
+    """Those of docs/C.md, by the lines that follow them."""
     page = (TOP / "docs/C.md").read_text()
     for language, ending in (("c", ".c"), ("python", ".py"), ("rust", ".rs")):
-        code, behind = page.split(f"```{language}\n")[1].split("```\n", 1)
-        source, wanted = Path(programs().name) / f"ten_lines{ending}", behind.split("```text\n")[1].split("```")[0]
+        code, after = page.split(f"```{language}\n")[1].split("```\n", 1)
+        source, wanted = Path(programs().name) / f"ten_lines{ending}", after.split("```text\n")[1].split("```")[0]
         source.write_text(code)
         if language == "rust" and not is_installed("rustc", "clients/rust is"):
             continue
@@ -291,7 +292,7 @@ def rust_sessions_stay_on_their_thread():
 
 
 def refused_memory_is_answered():
-    """Each request, alone and with those behind it: what is answered, what state is left, and that all memory is given back."""
+    """Each request, alone and with those after it: what is returned, what state is left, and that all memory is freed."""
     program = c_program(HERE / "c/refused_memory.c", "-Wl,--wrap=malloc,--wrap=realloc,--wrap=free")
     for script in (TOP / "tools/refused_allocations/all_commands.script", WORKED / "building_index"):
         text = script.read_bytes()

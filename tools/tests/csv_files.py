@@ -572,7 +572,7 @@ def to_csv_wants_right_words():
     expect(run("tools/to_csv", "examples/ranges_and_sums", "--program", "/bin/false")[0], 3)
 
 
-# Behind it the program runs.
+# After it the program runs.
 
 
 def csv_comes_back_as_it_was():

@@ -11,12 +11,17 @@ from pathlib import Path
 
 from common import expect, expect_within, imported, replies, run_forked, SECONDS, structure, TOP
 
-PAGES = [Path("README.md"), *sorted(path.relative_to(TOP) for folder in ("docs", "bench") for path in (TOP / folder).glob("*.md")), Path("examples/README.md")]
+PAGES = sorted(path.relative_to(TOP) for folder in (".", "docs", "bench", "examples") for path in (TOP / folder).glob("*.md"))
 MEASURES = Path("bench/RESULTS.md")
 
 
 def text_of(page):
     return (TOP / page).read_text()
+
+
+def written_of(page):
+    """A page without the lists that tools make from the sources."""
+    return re.sub(r"<!-- (?!end)[^>]* -->.*?<!-- end [^>]* -->", "", text_of(page), flags=re.DOTALL)
 
 
 def prose_of(page):
@@ -25,10 +30,10 @@ def prose_of(page):
 
 
 def section(page, title):
-    """What stands below a heading, up to the next one of its level or a higher one."""
+    """What follows a heading, up to the next one of its level or a higher one."""
     level = title.split(" ")[0]
-    behind = text_of(page).split(f"\n{title}\n", 1)[1]
-    return re.split(rf"^#{{1,{len(level)}}} ", behind, maxsplit=1, flags=re.MULTILINE)[0]
+    after = text_of(page).split(f"\n{title}\n", 1)[1]
+    return re.split(rf"^#{{1,{len(level)}}} ", after, maxsplit=1, flags=re.MULTILINE)[0]
 
 
 def rows(text):
@@ -42,7 +47,7 @@ def rows(text):
 
 
 def quoted(text):
-    """What stands in backticks, also over the end of a line."""
+    """What is in backticks, also over the end of a line."""
     return [" ".join(name.split()) for name in re.findall(r"`([^`]+)`", text)]
 
 
@@ -63,13 +68,73 @@ def paragraphs(text):
 
 
 def paragraphs_of_the_documents_have_at_most_eight_lines():
-    """But those of the measures, which are as they were told."""
-    expect([f"{page}: {lines[0]}" for page in PAGES if page != MEASURES for lines in paragraphs(text_of(page)) if len(lines) > 8], [])
+    """But for the lists that tools make."""
+    expect([f"{page}: {lines[0]}" for page in PAGES for lines in paragraphs(written_of(page)) if len(lines) > 8], [])
 
 
 def a_paragraph_ends_where_the_next_one_begins():
     given = "# Title\na\nb\n\n- c\n  d\n- e\n1. f\n| g |\n```text\nh\n```\ni\n"
     expect(list(paragraphs(given)), [["a", "b"], ["- c", "  d"], ["- e"], ["1. f"], ["i"]])
+
+
+def sentences(text):
+    """The sentences of a text, with each piece of code as one word: no tables, blocks or quotations. Parts of a list that semicolons divide are apart."""
+    for lines in paragraphs(re.sub(r"^>.*$", "", text, flags=re.MULTILINE)):
+        plain = re.sub(r"`[^`]*`", "`", " ".join(lines)).replace("*", "")
+        yield from re.split(r"(?<=[^.][.!?])\s+|;\s", plain)
+
+
+def sentences_of_the_documents_have_at_most_40_words():
+    expect([f"{page}: {sentence}" for page in PAGES for sentence in sentences(written_of(page)) if len(sentence.split()) > 40], [])
+
+
+def a_sentence_ends_where_the_next_one_begins():
+    given = "A *b*.* C `d. E` f; g. h? I.\n\n> J. K\n\n- L\n  m. N\n"
+    expect(list(sentences(given)), ["A b.", "C ` f", "g.", "h?", "I.", "- L   m.", "N"])
+
+
+# Words that a page says otherwise, each with what it says. A word of the language or of the code is in backticks.
+OTHER_WORDS = {
+    r"wants? of (?:memory|room)|memory (?:is|was|were) wanting": "out of memory", r"so (?:many|much)": "that many, or the number",
+    r"becom(?:es?|ing) of|became of": "the result of", r"anew": "again", r"dear(?:er|est)?": "slow, or expensive", r"great(?:est)?": "large, largest",
+    r"behind(?! (?:a|the) (?:pointer|reverse proxy))": "after", r"stands?(?! for|-)|stood": "is", r"len[dt]s?": "borrowed",
+    r"spell(?:s|ed)?|spelt": "written as, encodes", r"of one's own": "your own", r"(?:but|save) for": "except for",
+    r"answers (?:an?|the|Ok|Err|None|what)": "returns", r"wherever": "if, where", r"house": "repository", r"thereof|whence|wherein": "of it",
+}  # fmt: skip
+
+
+def other_words(text):
+    """The words of a text that the list above has, outside of code."""
+    plain = re.sub(r"`[^`]*`", "`", "".join(text.split("```")[::2]))
+    return [(found[0], instead) for pattern, instead in OTHER_WORDS.items() for found in re.finditer(rf"\b(?:{pattern})\b", plain, re.IGNORECASE)]
+
+
+def words_of_the_documents_are_plain():
+    expect([f"{page}: {found}: {instead}" for page in PAGES for found, instead in other_words(written_of(page))], [])
+
+
+def other_words_are_found():
+    given = "So many words stand behind the others, at want of memory, but for those that `stands` and\n```sh\nanew\n```\nthat stand for more."
+    expect(sorted(found for found, _ in other_words(given)), ["So many", "behind", "but for", "stand", "want of memory"])
+
+
+# Words of ours that codespell takes for others.
+OUR_WORDS = ("crate", "crates", "ot")
+
+
+def words_of_the_documents_are_spelled_right():
+    if not shutil.which("codespell"):
+        print("not tested: codespell is not installed")
+        return
+    ended = subprocess.run(["codespell", "-L", ",".join(OUR_WORDS), *PAGES], cwd=TOP, capture_output=True, text=True, timeout=SECONDS)
+    expect((ended.returncode, ended.stdout), (0, ""))
+
+
+def first_lines_of_the_documents_say_whom_they_are_for():
+    def is_told(page):
+        return re.search(r"\bfor (?:readers|whoever|programs that)\b", " ".join(next(lines for lines in paragraphs(text_of(page)))), re.IGNORECASE)
+
+    expect([str(page) for page in PAGES if not is_told(page)], [])
 
 
 def decisions_are_numbered():
@@ -116,7 +181,7 @@ def each_page_is_linked_from_the_readme():
 
 
 # Folders of the repository, and those of a crate.
-FOLDERS = ("bench", "bin", "clients", "crates", "docs", "examples", "include", "tools")
+FOLDERS = ("bench", "bin", "clients", "crates", "docs", "examples", "include", "man", "packaging", "tools")
 PARTS = ("src", "specs", "proofs", "must-fail")
 # Of what is in these folders the repository has nothing.
 MADE = ("out", "out/betable", "c_calls")
@@ -124,7 +189,7 @@ MADE = ("out", "out/betable", "c_calls")
 
 @cache
 def is_there(path):
-    """A path from the top, or one of a crate, whose files may stand without their endings. NAME is any name."""
+    """A path from the top, or one of a crate, whose files may be without their endings. NAME is any name."""
     if path.split("/", 2)[-1] in MADE:
         return True
     pattern = path.replace("NAME", "*").rstrip("/")
@@ -133,7 +198,7 @@ def is_there(path):
 
 
 def paths(text):
-    """The words in backticks that begin as a path of the repository or of a crate, and paths of crates that stand without backticks."""
+    """The words in backticks that begin as a path of the repository or of a crate, and paths of crates without backticks."""
     words = [word.strip("'\",;:()") for name in quoted(text) for word in name.split()]
     begin = tuple(f"{folder}/" for folder in (*FOLDERS, *PARTS)) + ("bt_",)
     marked = [word for word in words if "/" in word and word.startswith(begin)]
@@ -146,7 +211,7 @@ def paths_in_the_documents_are_there():
     expect(len([path for page in PAGES for path in paths(prose_of(page))]) > 200, True)
 
 
-def functions_stand_in_the_files_that_are_named_behind_them():
+def functions_are_in_the_files_that_are_named_after_them():
     """As `name` (crate, file.rt), or `name` (file.rt) of some crate."""
     found, faults = 0, []
     for page in PAGES:
@@ -158,7 +223,7 @@ def functions_stand_in_the_files_that_are_named_behind_them():
     expect((faults, found > 40), ([], True))
 
 
-# ---- ARCHITECTURE ----
+# ---- CHANGING, ARCHITECTURE and WALKS ----
 
 
 def file_of(crate, name):
@@ -166,9 +231,9 @@ def file_of(crate, name):
     return TOP / name if crate == "none" else TOP / "crates" / crate.strip("`") / (name + ending)
 
 
-def what_to_change_stands_in_its_files():
-    """Each file of a row has a name of the row, each name stands in a file of it, and a row has at most three files."""
-    table = rows(section("docs/ARCHITECTURE.md", "## Where to change what"))
+def what_to_change_is_in_its_files():
+    """Each file of a row has a name of the row, each name is in a file of it, and a row has at most three files."""
+    table = rows(section("docs/CHANGING.md", "## Where to change what"))
     expect(len(table) > 40, True)
     for crate, change, files in table:
         names = [name for part in re.findall(r"\(([^)]*)\)", change) for name in quoted(part)]
@@ -179,9 +244,9 @@ def what_to_change_stands_in_its_files():
         expect((change, [any(column) for column in zip(*found)]), (change, [True] * len(names)))
 
 
-def the_newest_kind_and_operation_stand_in_the_files_of_their_rows():
+def the_newest_kind_and_operation_are_in_the_files_of_their_rows():
     """And beside these in worked rows alone."""
-    table = rows(section("docs/ARCHITECTURE.md", "## Where to change what"))
+    table = rows(section("docs/CHANGING.md", "## Where to change what"))
     sources = [path for folder in ("src", "specs", "proofs") for path in (TOP / "crates").glob(f"bt_*/{folder}/**/*") if path.suffix in (".rt", ".antt")]
     for change, pattern in (("a kind of values", r"\b(?:Kind|Value|ValueRef|kind|value)(?:::|\.)Bytes\b"), ("what is done with a number", r"\bMin\b")):
         files = {file_of(crate, name) for crate, about, files in table if about.startswith(change) for name in quoted(files)}
@@ -189,10 +254,48 @@ def the_newest_kind_and_operation_stand_in_the_files_of_their_rows():
         expect((change, sorted(map(str, named))), (change, sorted(map(str, files))))
 
 
+def files_named(title):
+    """The files in the table of a section of docs/CHANGING.md, as paths from the top. A file without a folder is in that of the one before it."""
+    found, folder = set(), None
+    for cell, _ in rows(section("docs/CHANGING.md", title)):
+        for name in quoted(cell):
+            path = TOP / ("crates/" + name if name.startswith("bt_") else name)
+            if "/" not in name:
+                path = folder / name
+            path = path.with_name(path.name + ".antt") if path.parent.name == "specs" else path
+            folder = path.parent
+            found.add(path)
+    return found
+
+
+def files_that_name_the_newest_command_and_kind_are_those_of_the_recipes():
+    """In the crates by the command, in Python by the words of the language."""
+    sources = [path for folder in ("src", "specs") for path in (TOP / "crates").glob(f"bt_*/{folder}/**/*") if path.suffix in (".rt", ".antt")]
+    scripts = [*(TOP / "clients/python/betable").glob("*.py"), *(TOP / "tools").glob("*.py"), *(TOP / "tools/fuzz").glob("*.py"), *(TOP / "tools/drawing").glob("*.py")]
+    command = {path for path in sources if re.search(r"\bRebuil[dt]\b", path.read_text())} | {path for path in scripts if 'b"rebuild"' in path.read_text()}
+    kind = {path for path in scripts if re.search(r'"flag"', path.read_text())}
+    for title, named in (("## How to add a command", command), ("## How to add a kind of values", kind)):
+        listed = files_named(title)
+        expect((title, sorted(map(str, named - listed))), (title, []))
+        expect((title, [str(path) for path in sorted(listed) if not path.exists()]), (title, []))
+        expect(len(named) > 6, True)
+
+
+def walks_follow_calls_that_are_made():
+    """Each function of the engine that docs/WALKS.md names is called in code of the engine, or is one at which tools/reading_list begins."""
+    sources = [path.read_text() for crate in ("bt_*", "betable") for path in (TOP / "crates").glob(f"{crate}/src/**/*.rt")]
+    code = re.sub(r"//[^\n]*|^ *(?:pub |ghost )?use [^;]*;", "", "\n".join(sources), flags=re.MULTILINE)
+    defined, calls = set(re.findall(r"\bfn (\w+)", code)), re.sub(r"\bfn \w+", "", code)
+    roots = {root.partition(":")[2] for root in imported("tools/reading_list").ROOTS}
+    named = {name.split("::")[-1] for name in quoted(prose_of("docs/WALKS.md"))} & defined - roots
+    expect([name for name in sorted(named) if not re.search(rf"\b{name}\b", calls)], [])
+    expect(len(named) > 60, True)
+
+
 def crates_below():
-    """Of each crate of the program those right below it: on which it stands, and none of the others of these does."""
+    """Of each crate of the program those right below it: on which it depends, and none of the others of these does."""
     lines = [line for line in (TOP / "crates.txt").read_text().splitlines() if not line.startswith("#")]
-    # Behind the name of a crate may stand what it is built as.
+    # What a crate is built as may follow its name.
     below = {crate.split()[0]: {name for name in names.split() if name.startswith("bt_")} for crate, names in (line.split(":") for line in lines)}
     below = {crate: names for crate, names in below.items() if crate.startswith("bt_") or crate == "betable"}
 
@@ -202,7 +305,7 @@ def crates_below():
     return {crate: {name for name in names if not any(name in reached(other) for other in names)} for crate, names in below.items()}
 
 
-def crates_stand_as_the_architecture_says():
+def crates_depend_on_each_other_as_the_architecture_says():
     text, below = text_of("docs/ARCHITECTURE.md"), crates_below()
     table = rows(text.split("\n## ")[0])
     expect({quoted(crate)[0]: set(quoted(over)) for crate, over, _ in table}, below)
@@ -212,7 +315,7 @@ def crates_stand_as_the_architecture_says():
     expect([pair for pair in arrows if pair[1] not in below[pair[0]]], [])
 
 
-# ---- what stands on two pages, or in a page and in the repository ----
+# ---- what is on two pages, or in a page and in the repository ----
 
 
 def the_sentence_is_the_same_on_both_pages():
@@ -230,19 +333,6 @@ def the_measures_of_the_readme_are_those_of_the_results():
     expect(len(told) >= 6, True)
 
 
-def definitions_are_where_the_page_says():
-    """The page names each file of definitions of the crates that it lists, and no others."""
-    named = set()
-    for lines in paragraphs(section("docs/PROOFS.md", "## Where the definitions are")):
-        crate, *names = quoted(" ".join(lines))
-        named |= {(crate, name) for name in names if crate.startswith("bt_")}
-    paths = [(crate, path) for crate in {crate for crate, _ in named} for path in TOP.glob(f"crates/{crate}/specs/*.antt")]
-    files = {(crate, path.stem) for crate, path in paths if path.stem not in ("Lib", "inside")}
-    expect(sorted(files - named), [])
-    expect(sorted((crate, name) for crate, name in named - files if re.fullmatch(r"[A-Z][a-z]+", name)), [])
-    expect(len(files) > 40, True)
-
-
 def recipes_are_listed():
     text = text_of("docs/HOW_TO.md")
     expect(re.findall(r"^\| .*\]\((#.*)\) \|$", text.split("## ")[0], re.MULTILINE), anchors("docs/HOW_TO.md")[1:])
@@ -255,15 +345,30 @@ def limits_of_the_document_are_those_of_the_model():
     found = {row[0]: (number(row[1]), number(row[2])) for row in table if len(row) == 3 and re.match(r"-?\d", row[1])}
     ranges = {
         "columns of a table": model.COLUMNS, "key columns, K": model.KEY_COLUMNS, "fanout of a tree, F": model.FANOUTS, "buffer, C, in messages": model.BUFFERS,
-        "buffer, C with a `b` behind it, in bytes": model.BUFFERS_IN_BYTES, "leaf of a tree, L, in rows": model.LEAVES,
+        "buffer, C with a `b` after it, in bytes": model.BUFFERS_IN_BYTES, "leaf of a tree, L, in rows": model.LEAVES,
         "an `int`, which has 64 bits with a sign": range(model.LEAST_INT, model.GREATEST_INT + 1),
         "bytes of a `text`, which is UTF-8": range(model.MOST_TEXT_BYTES + 1), "bytes of a `bytes`": range(model.MOST_TEXT_BYTES + 1),
         "messages of a batch": range(model.MOST_MESSAGES + 1), "operations of an upsert": range(1, model.MOST_OPERATIONS + 1),
-        "indexes of a table": range(model.MOST_INDEXES + 1), "columns of an index behind `on`": range(1, model.MOST_ON + 1),
-        "columns of an index behind `include`": range(1, model.MOST_INCLUDED + 1),
+        "indexes of a table": range(model.MOST_INDEXES + 1), "columns of an index after `on`": range(1, model.MOST_ON + 1),
+        "columns of an index after `include`": range(1, model.MOST_INCLUDED + 1),
     }  # fmt: skip
     expect({name: found.get(name) for name in ranges}, {name: (values[0], values[-1]) for name, values in ranges.items()})
     expect(found["bytes of a script"], (0, imported("tools/explain_words").MOST_BYTES))
+
+
+def words_of_the_grammar_are_those_of_the_language():
+    """Of the definitions and of the tools. Each command has a rule, and each rule is used."""
+    grammar = text_of("docs/SCRIPT.md").split("```ebnf\n")[1].split("```")[0]
+    words = {word for word in re.findall(r'"([^"\s]+)"', grammar) if word not in (",", ":", "_", "b")}
+    language = import_module("betable.language")
+    told = [*language.FORMS, *language.CLOSING.values(), *sum(language.BLOCK_WORDS.values(), ()), *language.OPERATORS, *language.OPERATIONS, *language.KINDS]
+    expect(sorted(words), sorted({word.decode() for word in told} | {"on", "include", "where"}))
+    defined = set(re.findall(r'codes "(\S+?) ?"', text_of("crates/bt_script/specs/Commands.antt")))
+    expect(sorted(defined - words), [])
+    rules = re.findall(r"^(\w+) +=", grammar, re.MULTILINE)
+    expect(sorted(language.FORMS), sorted(name.encode() for name in rules if name.encode() in language.FORMS))
+    bodies = re.sub(r"^\w+ +=", "", grammar, flags=re.MULTILINE)
+    expect([name for name in rules[1:] if not re.search(rf"\b{name}\b", re.sub(r'"[^"]*"', " ", bodies))], [])
 
 
 def workloads_of_the_benchmark_are_told():
@@ -282,8 +387,6 @@ def limits_of_the_command_line_are_those_of_the_code():
     names = {"--workers": "MOST_WORKERS", "--cut": "DEEPEST_CUT", "--grain": "LARGEST_GRAIN"}
     expect(found, {option: constant("crates/bt_gang/src/crew.rt", name) for option, name in names.items()})
     expect(found, {option: most for option, most in imported("tools/explain_words").OPTIONS.items() if most})
-    checked = re.findall(r"^ +(--\w+)\) is_number_up_to (\d+) ", text_of("bin/betable"), re.MULTILINE)
-    expect(found, {option: int(most) for option, most in checked})
     expect(int(re.search(r"^DEEPEST_CUT = (\d+)$", text_of("tools/fuzz/run"), re.MULTILINE)[1]), found["--cut"])
     indexes = constant("crates/bt_table/src/table.rt", "MOST_INDEXES")
     modules = [import_module("betable.language"), imported("tools/fuzz/model.py"), imported("tools/fuzz/scripts.py")]
@@ -298,7 +401,7 @@ def blocks(text):
 
 
 def scripts(text):
-    """The scripts of a text, each with its replies in the block behind it."""
+    """The scripts of a text, each with its replies in the block after it."""
     found = blocks(text)
     return [(block, found[place + 1]) for place, block in enumerate(found) if re.match(r"table .*\w+:\w+\n", block)]
 
@@ -323,7 +426,7 @@ def steps_of_the_tour():
 
 
 def the_tour_gives_its_replies():
-    """All steps in one run, with the images of both trees behind each: a tree is shown behind each step that changes it."""
+    """All steps in one run, with the images of both trees after each: a tree is shown after each step that changes it."""
     steps = list(steps_of_the_tour())
     text = replies("".join(lines + "".join(f"image {name}\n" for name in TREES_OF_THE_TOUR) for lines, *_ in steps))
     before = dict.fromkeys(TREES_OF_THE_TOUR)
@@ -362,13 +465,13 @@ def linked_repository(folder):
 
 
 def shell_lines(page):
-    """The shell lines of a page, each with the replies that stand behind it before the next heading, if some do."""
-    for lines, behind in [part.split("```", 1) for part in text_of(page).split("```sh\n")[1:]]:
-        yield lines, next(iter(blocks(behind.split("\n## ")[0].split("```sh\n")[0])), None)
+    """The shell lines of a page, each with the replies that follow it before the next heading, if some do."""
+    for lines, after in [part.split("```", 1) for part in text_of(page).split("```sh\n")[1:]]:
+        yield lines, next(iter(blocks(after.split("\n## ")[0].split("```sh\n")[0])), None)
 
 
 def shell_lines_of_the_documents_do_what_they_say():
-    """Lines with replies behind them give these; those of the CSV file give its rows again, and the two commands of the README are not run."""
+    """Lines followed by replies give these; those of the CSV file give its rows again, and the two commands of the README are not run."""
     with_replies = 0
     for page in ("README.md", "docs/HOW_TO.md"):
         for lines, answer in shell_lines(page):
@@ -418,23 +521,29 @@ TESTS_OF_TEXTS = [
     lines_of_the_documents_are_at_most_160_letters_long,
     paragraphs_of_the_documents_have_at_most_eight_lines,
     a_paragraph_ends_where_the_next_one_begins,
+    sentences_of_the_documents_have_at_most_40_words,
+    a_sentence_ends_where_the_next_one_begins,
+    words_of_the_documents_are_plain,
+    other_words_are_found,
+    words_of_the_documents_are_spelled_right,
+    first_lines_of_the_documents_say_whom_they_are_for,
     decisions_are_numbered,
     links_of_the_documents_lead_to_what_is_there,
     faulty_links_are_found,
     each_page_is_linked_from_the_readme,
     paths_in_the_documents_are_there,
-    functions_stand_in_the_files_that_are_named_behind_them,
-    what_to_change_stands_in_its_files,
-    the_newest_kind_and_operation_stand_in_the_files_of_their_rows,
-    crates_stand_as_the_architecture_says,
+    functions_are_in_the_files_that_are_named_after_them,
+    what_to_change_is_in_its_files,
+    the_newest_kind_and_operation_are_in_the_files_of_their_rows,
+    files_that_name_the_newest_command_and_kind_are_those_of_the_recipes,
+    walks_follow_calls_that_are_made,
+    crates_depend_on_each_other_as_the_architecture_says,
     the_sentence_is_the_same_on_both_pages,
     the_measures_of_the_readme_are_those_of_the_results,
-    definitions_are_where_the_page_says,
     recipes_are_listed,
     limits_of_the_document_are_those_of_the_model,
+    words_of_the_grammar_are_those_of_the_language,
     workloads_of_the_benchmark_are_told,
-
-
     limits_of_the_command_line_are_those_of_the_code,
 ]
 

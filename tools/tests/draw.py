@@ -84,8 +84,8 @@ BROKEN = [
     ("image a height 1\nleaf 2\n  = 80 x\nend\n", "its line 'leaf 2' has 1 row or entry below it, and has to have 2"),
     ("image a height 2\ninner 1 1\n  leaf 0\nend\n", "its line 'inner 1 1' has 0 messages below it, and has to have 1"),
     ("image a height 2\ninner 2 0\n  leaf 0\n  leaf 0\nend\n", "its line 'inner 2 0' has 0 pivots below it, and has to have 1"),
-    ("image a height 1\nleaf 1\n  + 80 x\nend\n", "below its line 'leaf 1' stands '+ 80 x', which belongs to an inner node"),
-    ("image a height 3\nleaf 0\nend\n", "its height is 3, and a leaf of it, 'leaf 0', stands at height 1"),
+    ("image a height 1\nleaf 1\n  + 80 x\nend\n", "below its line 'leaf 1' is '+ 80 x', which belongs to an inner node"),
+    ("image a height 3\nleaf 0\nend\n", "its height is 3, and a leaf of it, 'leaf 0', is at height 1"),
     ("image a height 1\nleaf 1\n  = xy 1\nend\n", "'  = xy 1' is none of its lines"),
     ("image a height 1\nleaf 0\nleaf 0\nend\n", "'leaf 0' is none of its lines"),
     ("image a height 1\nend\n", "it has no node"),
@@ -158,7 +158,7 @@ def picture_of_script(script, *words):
 
 
 def draw_reads_the_keys_of_an_index():
-    """From the lines of the script: a column that stands in the key twice is shown once, and a name may get another index."""
+    """From the lines of the script: a column that is in the key twice is shown once, and a name may get another index."""
     picture = picture_of_script(METRICS)
     expect(texts(picture, "title"), [
         "1. primary (metric, minute), height 2, after the reply 'batch 2 by_errors:2'",

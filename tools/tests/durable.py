@@ -626,7 +626,7 @@ durable.open(sys.argv[1])"""
 
 
 def scripts_over_a_layer_are_run_by_it():
-    """Of what it stands on a durable table needs `replies` and `close` alone."""
+    """A durable table needs only `replies` and `close` of what it is over."""
     class Layer:
         scripts = []
         closed = 0

@@ -144,7 +144,7 @@ def explain_finds_200_refusals_of_60000_lines():
 
 
 def explain_groups_more_than_20_refusals():
-    """Those that are alike are groups; of the others the first 20 stand where they do else."""
+    """Those that are alike are groups; of the others the first 20 are where they are without groups."""
     alike = "".join(f"get {number}.5\nget 1,{number}\n" for number in range(10))
     status, lines = explained(f"{TABLE}\n{alike}")
     expect((status, len(lines), lines[-3:]), (1, 43, ["21 commands: 1 answered, 20 refused", "  10 times 6 BadField", "  10 times 7 BadLength"]))
@@ -188,7 +188,7 @@ def explain_takes_any_bytes():
 
 
 def explain_finds_the_record_of_a_load():
-    """Records behind the header count, in whatever lines they are: with blank lines, and line breaks in quotes."""
+    """Records after the header count, in whatever lines they are: with blank lines, and line breaks in quotes."""
     records = '1,"two\r\nlines, ""here""",5\r\n\r\n2,5" nail,x\n3,c\n'
     status, lines = explained(f"{TABLE}\nload\r\n\ufeffid,city,qty\n{records}.\r\nget 1\n", "--replies")
     expect((status, lines[2:4]), (1, ["line 2: load", "  line 7, column 3 'qty' (int): 'x' is no whole number"]))
@@ -276,7 +276,7 @@ def explain_prints_rows_with_line_breaks():
 
 
 def explain_warns_of_broken_quotes():
-    """Of quoted fields that go on behind their closing quotes, or end with the block or the line; also where they were answered."""
+    """Of quoted fields that go on after their closing quotes, or end with the block or the line; also where they were answered."""
     records = '1,"a ""b"", c",1\n2,"city,5\n3,city"x,7\n4,5" nail,1\n'
     script = f'{TABLE}\nload\nid,city,qty\n{records}.\nbatch\nput 5,a,"5\nput 6,"a"b,6\nput 7,"a,b",7\nend\n'
     status, lines = explained(script)
@@ -490,7 +490,7 @@ def records_are_those_of_the_model():
 
 
 def requoted(raw, language):
-    """A record with each field, that stands in quotes, put into quotes anew."""
+    """A record with each field that is in quotes put into quotes again."""
     parts = [raw[start:end] for start, end in language.spans(raw)]
     return b",".join(
         b'"' + value.replace(b'"', b'""') + b'"' if part.startswith(b'"') else part for part, value in zip(parts, language.fields(raw))

@@ -125,7 +125,7 @@ def bounds_are_keys_of_the_table():
     for bounds, part in [
         ([("a",)], "bound 1 has 'a', which is no value of column 'id' (int)"),
         ([(True,)], "bound 1 has True"),
-        ([(2**63,)], "over the greatest int"),
+        ([(2**63,)], "over the largest int"),
         ([(1, 2)], "bound 1 has 2 values, and the key has 1 column"),
         ([()], "bound 1 has 0 values"),
         ([(2,), (2,)], "bound 2, (2,), is not after bound 1, (2,)"),
@@ -253,7 +253,7 @@ def replicas_reply_as_one_session_does():
                 expect(replica.replies(images), session.replies(images))
             expect(three.put([(7, "Bergen", 1)]), 1)
         session.put([(7, "Bergen", 1)])
-        # One that is behind what was trimmed begins with the checkpoint too.
+        # One that has not come to what was trimmed begins with the checkpoint too.
         one.checkpoint()
         one.trim()
         session.replies("rebuild primary\nrebuild c\n")

@@ -25,7 +25,7 @@ ORDER = "rows come by rising key, and an index on another column has them in its
 BY_CITY = "get finds a row by its key, id. By city: an index on it, and a scan (docs/HOW_TO.md, The rows of one value)"
 OF_PRIMARY = "The table itself is 'primary', which is not built or dropped."
 
-# Mistakes of a command, each with what is said below its line. A number behind @ is that of a line behind the head line.
+# Mistakes of a command, each with what is said below its line. A number after @ is that of a line after the head line.
 MISTAKES = [
     ("table 4 4 4 1 id:int price:float", "'price:float': a kind is int, text, flag or bytes", FORM["table"]),
     ("table 4 4 4 1 ID:int", "'ID' is no name: names are in small letters, as 'id'", FORM["table"]),
@@ -128,9 +128,9 @@ MISTAKES = [
     ("batch\nput 1,a,\nend", "line @1, column 3 'qty' (int): the field is empty, and there is no null: write a number for it, as 0 or -1: put 1,a,¶"),
     ("batch\nput ,a,1\nend", "line @1, column 1 'id' (int): the field is empty, and there is no null: write a number for it, as 0 or -1: put ,a,1"),
     ("batch\nput 9223372036854775808,a,1\nend",
-     "line @1, column 1 'id' (int): '9223372036854775808' is over the greatest int, 9223372036854775807"),
+     "line @1, column 1 'id' (int): '9223372036854775808' is over the largest int, 9223372036854775807"),
     ("batch\nput -9223372036854775809,a,1\nend",
-     "line @1, column 1 'id' (int): '-9223372036854775809' is below the least int, -9223372036854775808"),
+     "line @1, column 1 'id' (int): '-9223372036854775809' is below the smallest int, -9223372036854775808"),
     (f"batch\nput 1,{'x' * 256},1\nend", f"line @1, column 2 'city' (text): 256 bytes, and a text has at most 255: '{'x' * 40}…'"),
     (f"batch\nput 1,{LONG},5x\nend", "line @1, column 3 'qty' (int): '5x' is no whole number"),
     (f"batch\nput 1,{LONG},\nend",

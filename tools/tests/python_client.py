@@ -97,8 +97,8 @@ VALUES = [
     (lambda c, s: s.put([(n, "a" if n < 19 else "a\rb", True, b"") for n in range(10, 20)]), "RowValueError", "row 10, column 'city': 'a\\rb' has a line break"),
     (lambda c, s: s.put([(n, "a" if n < 19 else "\udfff", True, b"") for n in range(10, 20)]), "RowValueError", "row 10, column 'city': '\\udfff' has half of a"),
     (lambda c, s: s.put([(n, "a", True, b"" if n < 19 else "") for n in range(10, 20)]), "RowTypeError", "row 10, column 'raw': '' is of type str"),
-    (lambda c, s: s.put([(2**63, "a", True, b"")]), "Refused", "refused 6 BadField 1: row 1: column 1 'id' (int): '9223372036854775808' is over the greatest int"),
-    (lambda c, s: s.put([(-(2**63) - 1, "a", True, b"")]), "Refused", "is below the least int"),
+    (lambda c, s: s.put([(2**63, "a", True, b"")]), "Refused", "refused 6 BadField 1: row 1: column 1 'id' (int): '9223372036854775808' is over the largest int"),
+    (lambda c, s: s.put([(-(2**63) - 1, "a", True, b"")]), "Refused", "is below the smallest int"),
     (lambda c, s: s.put([(10**5000, "a", True, b"")]), "RowValueError", "row 1, column 'id'"),
     (lambda c, s: s.put([(n, "a", True, b"") for n in [*range(10, 20), 10**5000]]), "RowValueError", "row 11, column 'id': an int has at most 64 bits, and not 16,610"),
     (lambda c, s: s.put([(4, LONG, True, b"")]), "Refused", "column 2 'city' (text): 256 bytes, and a text has at most 255"),
@@ -502,7 +502,7 @@ def refusals_say_what_to_do():
         fault = fault_of(lambda: session.put(((n, "a", 1 if n != 25 else 2**63) for n in range(40)), most=10))
         found = fault.row, fault.column, fault.value, fault.taken, fault.line, fault.number, fault.name, fault.item
         expect(found, (26, "qty", 2**63, 20, 1, 6, "BadField", 6))
-        expect_within("row 26: column 3 'qty' (int): '9223372036854775808' is over the greatest int", str(fault))
+        expect_within("row 26: column 3 'qty' (int): '9223372036854775808' is over the largest int", str(fault))
         expect_within("(20 rows of this call were applied before it, in earlier batches)", str(fault))
         expect(len(session.scan()), 20)
         fault = fault_of(lambda: session.put(((n, "a", 1 if n != 125 else "x") for n in range(100, 140)), most=10))
@@ -678,7 +678,7 @@ def integers_of_numpy_are_ints():
 
 
 def the_page_loads_a_large_file_as_it_says():
-    """The lines of docs/HOW_TO.md on a file that is too large for a script, as they stand, on a small one."""
+    """The lines of docs/HOW_TO.md on a file that is too large for a script, unchanged, on a small one."""
     shell, python = (TOP / "docs/HOW_TO.md").read_text().split("## A large CSV file\n")[1].split("\n## ")[0].split("```sh\n")[1].split("```python\n")
     betable()
     with tempfile.TemporaryDirectory() as folder:

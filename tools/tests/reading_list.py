@@ -173,7 +173,7 @@ def lines_of_the_reading_list_are_at_most_160_letters_long():
 
 
 def reading_list_follows_each_form_of_a_name():
-    """Fields, constructors, blocks, helpers, names passed on, renamed or behind a module, ghost members, models; and no bound name."""
+    """Fields, constructors, blocks, helpers, names passed on, renamed or after a module, ghost members, models; and no bound name."""
     status, text, errors, _ = reading_list()
     expect((status, errors), (0, ""))
     expect(text.strip().splitlines(), LIST.strip().splitlines())
@@ -289,4 +289,4 @@ TESTS_OF_TEXTS = [
     names_of_the_theorem_are_defined_in_their_files,
 ]
 
-TESTS = []
+TESTS: list[object] = []

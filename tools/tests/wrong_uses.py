@@ -8,7 +8,7 @@ DECIMALS = "id,price\n1,0.25\n2,\n3,n/a\n"
 WIDE = ",".join(f"c{place}" for place in range(17)) + "\n"
 INT = "decimals are stored as ints of a fixed unit, as 1250 for 12.50"
 
-# Of tools/from_csv: the contents of its file, the words behind its name, and the end of what it says, or a part of a refusal.
+# Of tools/from_csv: the contents of its file, the words after its name, and the end of what it says, or a part of a refusal.
 OF_FROM_CSV = [
     # The key.
     (CITIES, [], "--key COLUMNS names the column, or up to four columns, by which each record is found; the columns are: id, city_name, qty, open"),
@@ -132,7 +132,7 @@ OF_OTHERS = [
     ("explain", "--program nofile FILE", SCRIPT, 2, "explain: error: nofile is no program"),
     ("explain", "--what FILE", SCRIPT, 2, "explain: error: unrecognized arguments: --what"),
     ("explain", "FILE FILE", SCRIPT, 2, "explain: error: unrecognized arguments: FILE"),
-    ("explain_words", "FILE", SCRIPT, 0, "  'FILE' is no option: did you mean --script FILE?"),
+    ("explain_words", "FILE --script FILE", SCRIPT, 0, "  --script is given twice"),
     ("explain_words", "--file FILE", SCRIPT, 0, "  '--file' is no option: did you mean --script FILE?"),
     ("explain_words", "-V", "", 0, "  '-V' is no option: did you mean --version?"),
     ("explain_words", "-v", "", 0, "  '-v' is no option: did you mean --version?"),

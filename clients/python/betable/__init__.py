@@ -11,16 +11,17 @@
         session.run("index by_city on city include qty\\nbuild by_city 200000\\n")
         session.sums("by_city", 1, "qty")       # [(99999, 999995, 'Bergen, west')]
 
-The library is libbt_c.so, in the folder that BETABLE_LIBRARY names, beside this package, or in out/ of the repository, where bin/build_c builds it.
-docs/SCRIPT.md has the language, and docs/C.md the calls and their errors.
+The library is libbt_c.so, in the folder that BETABLE_LIBRARY names, or else beside this package, in out/ of the repository, where bin/build_c builds it, or
+where the Debian package has it. docs/SCRIPT.md has the language, and docs/C.md the calls and their errors.
 
 Layers over sessions have the same calls: `open` gives a table that is kept on disk (docs/DURABLE.md), `Replicas` and `Sharded` one on several machines
-(docs/CLUSTER.md), and `python3 -m betable serve` serves one by HTTP (docs/SERVICE.md). They are imported when they are first used.
+(docs/CLUSTER.md), and `python3 -m betable serve` serves one by HTTP (docs/SERVICE.md). They are imported when they are first used. `python3 -m betable shell`
+is a prompt (docs/HOW_TO.md).
 """
 
 from importlib import import_module
+from pathlib import Path
 from typing import TYPE_CHECKING, Any
-
 
 from .calls import MOST_MESSAGES, Calls
 from .errors import OutOfMemory, Refused, RowError, RowTypeError, RowValueError
@@ -34,6 +35,8 @@ if TYPE_CHECKING:
     from .replicas import Diverged, Replicas, ReplyForgotten, Unanswered
     from .sharded import NotSharded, Sharded, ShardLost
     from .shards import DaskShard, LocalShard, ProcessShard, ShardEnded
+
+__version__ = (Path(__file__).parent / "VERSION").read_text().strip()
 
 # The names of the layers, by their modules.
 _LAYERS = {
@@ -78,6 +81,7 @@ __all__ = [
     "Sharded",
     "Unanswered",
     "Unreachable",
+    "__version__",
     "delete",
     "field",
     "put",

@@ -1,13 +1,18 @@
-"""The commands of the package: `python3 -m betable serve PATH --port N`."""
+"""The commands of the package: `python3 -m betable shell [PATH]` and `python3 -m betable serve PATH --port N`."""
 
 import argparse
 import sys
+
+from . import shell
 
 
 def main() -> int:
     parser = argparse.ArgumentParser(prog="python3 -m betable", description="A table engine for heavy ingest.")
     commands = parser.add_subparsers(dest="command", required=True)
-    words = commands.add_parser("serve", help="a durable table behind HTTP", description="Serves a durable table by HTTP. docs/SERVICE.md has its endpoints.")
+    shell.add_words(commands.add_parser("shell", help="a prompt over a table", description=shell.DESCRIPTION))
+    words = commands.add_parser("serve", help="a durable table by HTTP", description="Serves a durable table by HTTP. docs/SERVICE.md has its endpoints.")
+    if sys.argv[1:2] != ["serve"]:
+        return shell.run(parser.parse_args())
     try:
         from . import serve
     except ModuleNotFoundError as fault:

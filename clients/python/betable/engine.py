@@ -78,7 +78,7 @@ class Closed(Exception):
 
 
 def main() -> int:
-    """Runs groups of works until the server closes its pipe. Signals to end are the server's, which then answers what waits."""
+    """Runs groups of works until the server closes its pipe. Signals to end are the server's, which then replies to what waits."""
     for number in (signal.SIGINT, signal.SIGTERM):
         signal.signal(number, signal.SIG_IGN)
     path, parent = sys.argv[1:]
@@ -233,7 +233,7 @@ class Engine:
             await self._process_end()
 
     def end(self) -> None:
-        """Ends `serve`. The process answers the works that were sent to it before; one that is still opening the table is killed."""
+        """Ends `serve`. The process replies to the works that were sent to it before; one that is still opening the table is killed."""
         is_open, self.is_open, self._is_ending = self.is_open, False, True
         if self._process is not None and is_open:
             self._stdin.close()

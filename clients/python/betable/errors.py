@@ -75,7 +75,7 @@ class RowError(Exception):
 
 
 class RowTypeError(RowError, TypeError):
-    """A value, or a row, of a type that cannot stand there."""
+    """A value, or a row, of a type that cannot be there."""
 
 
 class RowValueError(RowError, ValueError):

@@ -112,7 +112,7 @@ class Box:
 
 
 class Drawing:
-    """The boxes of one image, within so many columns, each with so many lines."""
+    """The boxes of one image, within that many columns, each with that many lines."""
 
     def __init__(self, image, columns, lines):
         self.key_columns, self.lines = image.key_columns, lines
@@ -171,7 +171,7 @@ class Drawing:
         return Box("left-out", [Line("more", line) for line in lines], is_changed=any(node.changed_nodes() for node in nodes))
 
     def box(self, node, columns):
-        """The box of a node with what is below it, in at most so many columns, or what these levels need at least."""
+        """The box of a node with what is below it, in at most that many columns, or as many as these levels need."""
         if node.is_leaf:
             return Box("leaf", self.own_lines(node), is_changed=node.is_changed)
         first, last = self.window(node, columns)
@@ -223,7 +223,7 @@ def box_width(letters):
 
 
 class Svg:
-    """The elements of a picture whose boxes have room for so many letters, and how much room they take."""
+    """The elements of a picture whose boxes have room for that many letters, and how much room they take."""
 
     def __init__(self, letters, margin=GAP):
         self.elements, self.width, self.bottom = [], 0, 0

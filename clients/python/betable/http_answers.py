@@ -16,11 +16,10 @@ from .engine import Answer
 from .figures import picture
 from .http_requests import Problem, problem_of, refusal_fields
 from .language import PRIMARY, State, commands
-from .replies import answered, whole_lines
+from .replies import answered, line_blocks, whole_lines
 from .rows import rows_of
-from .trees import KeyColumns, image_of
+from .trees import image_of_reply
 
-BLOCK_BYTES = 65_536  # of a reply that are written at once
 MOST_CHANGES = 100  # replies in an event
 
 
@@ -76,17 +75,6 @@ def event_of(script: bytes, answer: Answer) -> str:
     return f"id: {answer.number}\ndata: {json.dumps(said)}\n\n"
 
 
-def line_blocks(replies: bytes) -> Iterator[list[str]]:
-    """The lines of a reply to a `scan` or to `sums` that have rows or groups, in blocks, without the words before the records."""
-    at, last = 0, replies.rfind(b"\n", 0, -1) + 1
-    while at < last:
-        end = replies.find(b"\n", min(at + BLOCK_BYTES, last - 1), last) + 1 or last
-        while end < last and replies.count(b'"', at, end) % 2:
-            end = replies.find(b"\n", end, last) + 1 or last
-        yield [line[4:] for line in whole_lines(replies[at : end - 1].decode(), "\n")]
-        at = end
-
-
 def csv_rows(answer: Answer, is_sums: bool) -> Iterator[bytes]:
     """Rows as CSV. A group is its count, its sum, and the values that it is of."""
     for lines in line_blocks(answer.replies):
@@ -130,9 +118,5 @@ def trees_of(state: State) -> dict[str, Any]:
 
 def picture_of(replies: bytes, tree: str, state: State, columns: int, lines: int) -> str:
     """The picture of the image of a tree. Its keys are shown as their values."""
-    key_columns, table = None, state.table
-    if table is not None and table.has_tree(tree.encode()):
-        key = table.key_of(tree.encode())
-        key_columns = KeyColumns([kind.decode() for _, kind in key], [name.decode() for name, _ in key])
-    image = image_of(iter(whole_lines(replies[:-1].decode(), "\n")), 1, "", key_columns)
+    image = image_of_reply(replies.decode(), tree, state.table)
     return picture([image], columns, lines, [image.title()])

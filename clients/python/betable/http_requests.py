@@ -140,6 +140,6 @@ def batch_of(body: bytes) -> bytes:
 
 
 def changing_word(script: bytes) -> str | None:
-    """The word of the first line that may begin a command which changes the table, wherever the line is, or None."""
+    """The word of the first line that may begin a command that changes the table, on any line, or None."""
     found = CHANGING_LINE.search(script)
     return found[0].strip().decode() if found else None

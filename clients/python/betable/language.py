@@ -127,7 +127,7 @@ def fault_of_int(field: bytes) -> str | None:
     size = int(digits.lstrip(b"0")[:30] or b"0")
     if size <= (-LEAST_INT if is_negative else GREATEST_INT):
         return None
-    limit = f"below the least int, {LEAST_INT}" if is_negative else f"over the greatest int, {GREATEST_INT}"
+    limit = f"below the smallest int, {LEAST_INT}" if is_negative else f"over the largest int, {GREATEST_INT}"
     return f"'{visible(field, 40)}' is {limit}"
 
 

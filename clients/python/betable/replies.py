@@ -10,6 +10,7 @@ from .rows import Value, rows_of
 
 # The word of a line that has a row or a group, by the command.
 ROW_WORDS = {b"get": "row ", b"scan": "row ", b"sums": "sum "}
+BLOCK_BYTES = 65_536  # of a reply that are taken at once
 
 
 def reply_end(word: bytes, replies: bytes, at: int) -> int:
@@ -59,6 +60,17 @@ def whole_lines(text: str, separator: str) -> list[str]:
             found.append(separator.join(begun))
             begun = []
     return found + ([separator.join(begun)] if begun else [])
+
+
+def line_blocks(replies: bytes) -> Iterator[list[str]]:
+    """The lines of a reply to a `scan` or to `sums` that have rows or groups, in blocks, without the words before the records."""
+    at, last = 0, replies.rfind(b"\n", 0, -1) + 1
+    while at < last:
+        end = replies.find(b"\n", min(at + BLOCK_BYTES, last - 1), last) + 1 or last
+        while end < last and replies.count(b'"', at, end) % 2:
+            end = replies.find(b"\n", end, last) + 1 or last
+        yield [line[4:] for line in whole_lines(replies[at : end - 1].decode(), "\n")]
+        at = end
 
 
 class Reply(list[str]):

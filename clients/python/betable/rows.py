@@ -234,7 +234,7 @@ def records(rows: list[Any], columns: Sequence[Column], word: str = "", row: int
 
 
 def line_fault(value: Any, field: Any, is_load: bool = False) -> str | None:
-    """Why the field of a value cannot stand in a line, or None."""
+    """Why the field of a value cannot be in a line, or None."""
     try:
         text = str(field)
         text.encode()

@@ -1,4 +1,4 @@
-"""A durable table behind HTTP: `python3 -m betable serve PATH --port N`. docs/SERVICE.md has its endpoints, and what is promised.
+"""A durable table by HTTP: `python3 -m betable serve PATH --port N`. docs/SERVICE.md has its endpoints, and what is promised.
 
 This process speaks HTTP, and hands scripts to the engine's process (engine.py). The handlers of the endpoints are methods of `Service`; an answer that is no
 success is a `Problem`.
@@ -27,12 +27,13 @@ from .durable import FAULTS
 from .engine import ALL_ROWS, Answer, Closed, Engine, Lost, Result, Work
 from .errors import Refused
 from .http_answers import (
-    BLOCK_BYTES, content_policy, csv_rows, event_of, json_rows, picture_of, refusal_of_rows, refused_count, replies_with_commands, start_event, trees_of,
+    content_policy, csv_rows, event_of, json_rows, picture_of, refusal_of_rows, refused_count, replies_with_commands, start_event, trees_of,
 )  # fmt: skip
 from .http_requests import (
     Problem, batch_of, bounds_of, changing_word, checked_name, host_name, is_json, is_loopback, number_of, problem_of, query_of, record_of, request_id, tree_of,
 )  # fmt: skip
 from .language import MOST_SCRIPT_BYTES, State, commands
+from .replies import BLOCK_BYTES
 
 Handler = Callable[[web.Request], Awaitable[web.StreamResponse]]
 MOST_IMAGE_BYTES = 1 << 20  # of a tree that is drawn
@@ -399,7 +400,7 @@ def abort(request: web.Request) -> None:
 
 
 async def in_thread_if_large(size: int, function: Callable[..., Any], *arguments: Any) -> Any:
-    """The result of a function on so many bytes: if they are many it runs in a thread, so that other requests get their turn."""
+    """The result of a function on that many bytes: if they are many it runs in a thread, so that other requests get their turn."""
     return await asyncio.to_thread(function, *arguments) if size > BLOCK_BYTES else function(*arguments)
 
 

@@ -20,6 +20,8 @@ DONE, OUT_OF_MEMORY, REPLY_CUT, NOT_OPEN, ALREADY_OPEN = range(5)
 # Replies of fewer bytes are copied by one call.
 SHORT_REPLIES = 4_096
 LIBRARY = "libbt_c.so"
+# Where the Debian package has it.
+SYSTEM_FOLDER = Path("/usr/lib/betable")
 
 
 class _Handle(ctypes.Structure):
@@ -27,18 +29,19 @@ class _Handle(ctypes.Structure):
 
 
 def _library_path() -> Path:
-    """The library of the folder that BETABLE_LIBRARY names, or the one beside this file, or that of out/ of the repository."""
+    """The library of the folder that BETABLE_LIBRARY names, or the first that there is: beside this file, as in a wheel, in out/ of the repository, or where
+    the Debian package has it."""
     if folder := os.environ.get("BETABLE_LIBRARY"):
         folders = [Path(folder)]
     else:
         here = Path(__file__).resolve().parent
-        folders = [here, here.parents[2] / "out"]
+        folders = [here, here.parents[2] / "out", SYSTEM_FOLDER]
     for one in folders:
         if (one / LIBRARY).is_file():
             return one / LIBRARY
     where = " or ".join(str(one) for one in folders)
     raise FileNotFoundError(
-        f"{LIBRARY} is not in {where}: bin/build_c of the repository builds it, and BETABLE_LIBRARY is to name the folder that has it"
+        f"{LIBRARY} is not in {where}: a package of betable has it, bin/build_c of the repository builds it, and BETABLE_LIBRARY names the folder that has it"
     )
 
 

@@ -41,7 +41,7 @@ class Node:
 
 
 class KeyColumns:
-    """The columns of a tree's key: their names and kinds, and where in the key each name stands first.
+    """The columns of a tree's key: their names and kinds, and where in the key each name is first.
 
     The names are None where only the kinds are known.
     """
@@ -123,6 +123,15 @@ def images_of(text):
         before = ""
 
 
+def image_of_reply(reply, tree, table):
+    """The image that the text of a reply prints. Its keys are shown as their values if the columns of the tree are known."""
+    key_columns = None
+    if table is not None and table.has_tree(tree.encode()):
+        names, kinds = zip(*table.key_of(tree.encode()))
+        key_columns = KeyColumns([kind.decode() for kind in kinds], [name.decode() for name in names])
+    return image_of(logical_lines(reply), 1, "", key_columns)
+
+
 def image_of(lines, number, before="", key_columns=None):
     """The image whose first line is the next one. It takes the lines up to its last one, and its number names it where it is broken."""
     head = HEAD.fullmatch(next(lines))
@@ -175,7 +184,7 @@ def add_item(node, item):
     """Adds a row, a message or a pivot to the node above its line."""
     sign = item[1] or item[4] or item[6]
     if (sign == "=") != node.is_leaf:
-        raise Broken(f"below its line '{node.line}' stands '{item[0][:80]}', which belongs to {'an inner node' if node.is_leaf else 'a leaf'}")
+        raise Broken(f"below its line '{node.line}' is '{item[0][:80]}', which belongs to {'an inner node' if node.is_leaf else 'a leaf'}")
     if sign == "|":
         node.pivots.append(item[7])
     else:
@@ -196,9 +205,9 @@ def expect_counts(node):
 
 
 def expect_height(node, height, depth):
-    """That each leaf stands as deep as the height says."""
+    """That each leaf is as deep as the height says."""
     if node.is_leaf and depth != height:
-        raise Broken(f"its height is {height}, and a leaf of it, '{node.line}', stands at height {depth}")
+        raise Broken(f"its height is {height}, and a leaf of it, '{node.line}', is at height {depth}")
     for child in node.children:
         expect_height(child, height, depth + 1)
 

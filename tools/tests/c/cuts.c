@@ -10,7 +10,7 @@
 #include <stdlib.h>
 #include <string.h>
 
-/* Runs a part, and puts its replies behind those that there are. */
+/* Runs a part, and puts its replies after those that there are. */
 static void run(betable_session *session, bytes script, size_t from, size_t to, bytes *replies, size_t room) {
     if (betable_run(session, script.at + from, to - from) != BETABLE_DONE) {
         exit(4);

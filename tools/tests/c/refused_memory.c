@@ -3,8 +3,8 @@
  *     refused_memory SCRIPT PROBE PLACE ..
  *
  * Linked with -Wl,--wrap=malloc,--wrap=realloc,--wrap=free. PLACE .. are where the commands of SCRIPT begin, and its end; replies to PROBE tell the state of
- * a table. A run of SCRIPT ends with DONE, all replies and the state behind it; with OUT_OF_MEMORY, the replies of the first commands, and the state behind
- * these, or behind one more, or a lost table; or with REPLY_CUT, those of the first commands and a part of one more, and the state behind that one. Then the
+ * a table. A run of SCRIPT ends with DONE, all replies and the state after it; with OUT_OF_MEMORY, the replies of the first commands, and the state after
+ * these, or after one more, or a lost table; or with REPLY_CUT, those of the first commands and a part of one more, and the state after that one. Then the
  * session is closed, and has given all memory back. Prints how many requests were refused, and how the runs ended. */
 #include "betable.h"
 #include "files.h"
@@ -17,7 +17,7 @@ void *__real_malloc(size_t size);
 void *__real_realloc(void *block, size_t size);
 void __real_free(void *block);
 
-/* How many requests are to be granted first: none is refused where it is negative. Whether those behind the one that is refused are granted. */
+/* How many requests are to be granted first: none is refused if it is negative. Whether those after the one that is refused are granted. */
 static long granted = -1;
 static int is_one = 0;
 static long blocks = 0;
@@ -112,7 +112,7 @@ static int is_lost_by_reply(betable_session *session) {
     return is_lost;
 }
 
-/* Whether the session has the state behind so many commands. */
+/* Whether the session has the state after that many commands. */
 static int has_state(betable_session *session, size_t count) {
     bytes state = replies(session, probe.at, probe.length);
     int has = count <= command_count && is_same(state, moments[count].state);
@@ -120,7 +120,7 @@ static int has_state(betable_session *session, size_t count) {
     return has;
 }
 
-/* What a run left that ended so with so many bytes of replies. */
+/* What a run left that ended so with that many bytes of replies. */
 static int check(betable_session *session, betable_status status, size_t length, long request) {
     size_t whole = 0;
     while (whole < command_count && moments[whole + 1].length <= length) {

@@ -44,7 +44,7 @@ int main(void) {
     CHECK(24, betable_run(&session, (const unsigned char *)"get 1\n", 6) == BETABLE_DONE);
     CHECK(25, betable_copy_replies(&session, 0, out, sizeof out) > 8 && memcmp(out, "refused ", 8) == 0);
     CHECK(26, betable_close(&session) == BETABLE_DONE);
-    /* Of one that is not open the address is not read, wherever it leads. */
+    /* Of one that is not open the address is not read. */
     session.at = (void *)1;
     CHECK(27, is_closed(&session) == 0);
     CHECK(28, betable_open(&session) == BETABLE_DONE && betable_close(&session) == BETABLE_DONE);

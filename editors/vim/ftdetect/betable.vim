@@ -1,0 +1,1 @@
+autocmd BufRead,BufNewFile *.betable,*.script setfiletype betable

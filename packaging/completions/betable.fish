@@ -1,0 +1,13 @@
+# Completion of betable for fish.
+complete -c betable -l script -r -F -d 'Read the script from a file'
+complete -c betable -l workers -x -d 'Number of threads, 1 to 64'
+complete -c betable -l cut -x -d 'Depth at which trees are cut into jobs, 1 to 6'
+complete -c betable -l grain -x -d 'Messages from which a packet is divided into jobs, 1 to 65536'
+complete -c betable -l help -d 'Print help'
+complete -c betable -l version -d 'Print the version and what was proved'
+complete -c betable -n __fish_use_subcommand -a shell -d 'A prompt for commands'
+complete -c betable -n __fish_use_subcommand -a serve -d 'Serve a durable table by HTTP'
+complete -c betable -n __fish_use_subcommand -a explain -d 'Say why commands of a script are refused'
+complete -c betable -n __fish_use_subcommand -a from_csv -d 'Write the script that loads a CSV file'
+complete -c betable -n __fish_use_subcommand -a to_csv -d 'Print the rows of a reply as CSV'
+complete -c betable -n __fish_use_subcommand -a draw -d 'Draw the trees that a script prints'
