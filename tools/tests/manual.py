@@ -22,13 +22,14 @@ COMPLETIONS = TOP / "packaging/completions"
 
 
 def the_version_is_told_once() -> None:
-    """And Cargo.toml, which cannot read a file, has the same."""
+    """And Cargo.toml, which cannot read a file, has the same. What is not released yet may be above it in the changelog."""
     version = (TOP / "VERSION").read_text().strip()
     expect(re.fullmatch(r"\d+\.\d+\.\d+", version) is not None, True)
     expect((TOP / "clients/python/betable/VERSION").resolve(), TOP / "VERSION")
     expect(betable.__version__, version)
     expect(re.findall(r'^version = "(.*)"$', (TOP / "clients/rust/Cargo.toml").read_text(), re.MULTILINE), [version])
-    expect(re.findall(r"^## (\S+)", (TOP / "CHANGELOG.md").read_text(), re.MULTILINE)[:1], [version])
+    titles = re.findall(r"^## (\S+)", (TOP / "CHANGELOG.md").read_text(), re.MULTILINE)
+    expect([title for title in titles if title != "Unreleased"][:1], [version])
 
 
 def the_manual_page_and_completions_have_the_options_of_the_program() -> None:
