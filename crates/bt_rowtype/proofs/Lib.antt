@@ -1,3 +1,4 @@
 pub mod Columnwise
 pub mod Groups
 pub mod PlainRows
+pub mod TwoRefusals

@@ -31,6 +31,7 @@
 //! ```
 #![tactic(auto)]
 
+mod both;
 mod header;
 mod item;
 mod plain_row;
@@ -38,6 +39,7 @@ mod record_reader;
 mod row_reader;
 mod upsert;
 
+pub use both::both_read;
 pub use bt_record::{Fields, RecordLine, Records, read_record};
 pub use bt_row::{
     Action, Arguments, Arithmetic, Change, Column, Columns, Filter, GrowingBytes, MOST_COLUMNS,

@@ -10,6 +10,7 @@ ghost use Rattle.bt_value.specs.Refusals.{least};
 ghost use Rattle.bt_value.specs.Results.{both_read, or_refused};
 ghost use Rattle.bt_value.specs.declared.value.Value.{Value};
 
+use crate::both::both_read;
 use crate::plain_row::read_plain_columns;
 use crate::row_reader::read_fields;
 use bt_record::{Fields, FieldsRef};
@@ -168,23 +169,6 @@ pub fn read_ops(alloc: Global, schema: &Schema, item: u64, fields: &Fields) -> R
     read_ops_record(alloc, schema, item, &fields.as_ref())
 }
 
-// The lesser of the key's refusal and that of the operations, if they have one.
-fn refusal_with_ops(
-    alloc: Global,
-    schema: &Schema,
-    item: u64,
-    fields: &FieldsRef<'_>,
-    refusal: Refusal,
-) -> Refusal
-    ensures { result ≢ Refusal.OutOfMemory → both_read {S = List Value} (Err refusal) (spec.ops_as schema.now item fields.now) ≡ Err result }
-{
-    match read_ops_record(alloc, schema, item, fields) {
-        Ok(_) => refusal,
-        Err(Refusal::OutOfMemory) => Refusal::OutOfMemory,
-        Err(other) => refusal.lesser(other),
-    }
-}
-
 /// The key and the operation that a text spells, where all its fields are plain, its key is a row that keeps its values in itself, and the operation is
 /// the only one.
 pub(crate) fn read_plain_upsert(
@@ -222,14 +206,10 @@ pub(crate) fn read_upsert_record(
     if !is_upsert(schema.keys(), fields.len()) {
         return Err(Refusal::BadLength(item));
     }
-    match read_fields(alloc, schema.key_columns(), item, fields) {
-        Ok(key) => {
-            let ops = read_ops_record(alloc, schema, item, fields)?;
-            Ok(Upsert { key, ops })
-        }
-        Err(Refusal::OutOfMemory) => Err(Refusal::OutOfMemory),
-        Err(refusal) => Err(refusal_with_ops(alloc, schema, item, fields, refusal)),
-    }
+    let key = read_fields(alloc, schema.key_columns(), item, fields);
+    let ops = read_ops_record(alloc, schema, item, fields);
+    let (key, ops) = both_read(key, ops)?;
+    Ok(Upsert { key, ops })
 }
 
 /// The key and the operations that the record of an upsert spells, refused as in [`read_ops`], or as `BadField` for a field of

@@ -7,8 +7,8 @@ ghost use Rattle.bt_view.specs.Ranges as spec;
 use bt_keycode::{Key, encode_row};
 use bt_record::RecordLine;
 use bt_row::Column;
-use bt_rowtype::RecordReader;
-use bt_value::{Refusal, least_with};
+use bt_rowtype::{RecordReader, both_read};
+use bt_value::Refusal;
 use std::alloc::Global;
 
 /// The keys at or past `from` and before `to`. A bound that is absent does not limit.
@@ -59,25 +59,6 @@ pub(crate) fn read_range(
 {
     let from = read_bound(alloc, columns, 1, from);
     let to = read_bound(alloc, columns, 2, to);
-    match from {
-        Ok(from) => match to {
-            Ok(to) => Ok(KeyRange { from, to }),
-            Err(refusal) => {
-                drop(from);
-                Err(refusal)
-            }
-        },
-        Err(Refusal::OutOfMemory) => {
-            drop(to);
-            Err(Refusal::OutOfMemory)
-        }
-        Err(refusal) => match to {
-            Ok(to) => {
-                drop(to);
-                Err(refusal)
-            }
-            Err(Refusal::OutOfMemory) => Err(Refusal::OutOfMemory),
-            Err(other) => Err(least_with(Some(refusal), other)),
-        },
-    }
+    let (from, to) = both_read(from, to)?;
+    Ok(KeyRange { from, to })
 }
