@@ -1,6 +1,6 @@
 -- What a command does to the table, what it is answered, and why it is refused.
 use Rattle.std.specs.Prelude.{ℕ, not, Bool, true, List, ◌++◌, length, Option, Some, None, is_err, is_some, Result, Ok, Err, codes}
-use Rattle.bt_value.specs.Refusals.{least, lesser}
+use Rattle.bt_value.specs.Refusals.{least}
 use Rattle.bt_row.specs.Schemas.{is_schema}
 use Rattle.bt_value.specs.declared.refusal.Refusal.{Refusal}
 use Rattle.bt_value.specs.declared.refusal.Refusal.TheVariants.{BadSchema, BadShape, Failed, NoTable, TableExists}
@@ -20,7 +20,7 @@ use Rattle.bt_view.specs.Groups.{sums}
 use Rattle.bt_view.specs.Images.{image}
 use Rattle.bt_view.specs.Ranges.{scan}
 use Rattle.bt_shell.specs.Replies.{count_line, refused_text, reply_text, scan_reply, sums_reply}
-use Rattle.bt_value.specs.Results.{map_ok, one_if}
+use Rattle.bt_value.specs.Results.{both_read, map_ok, one_if, unless}
 use Rattle.bt_table.specs.Calls as call
 use Rattle.bt_table.specs.Calls.{name_refusals, step, unless_any}
 use Rattle.bt_table.specs.Tables.{TableState, Intact, Lost, empty_table}
@@ -61,12 +61,9 @@ call_outcome after = map_ok (λ step. (Some step.0, reply_text step.1)) after
 abbrev pub read_outcome : TableState → Result (List ℕ) Refusal → Result Done Refusal
 read_outcome state text = map_ok (λ text. (Some state, text)) text
 
--- a definition that no refusal applies to, or the least
+-- a definition, or the least refusal of it and of its name
 abbrev pub definition_or_least : Result Definition Refusal → Option Refusal → Result Definition Refusal
-definition_or_least (Ok def) None = Ok def
-definition_or_least (Ok def) (Some other) = Err other
-definition_or_least (Err refusal) None = Err refusal
-definition_or_least (Err refusal) (Some other) = Err (lesser other refusal)
+definition_or_least def refusal = map_ok (λ both. both.1) (both_read {S = Unit {0}} (unless refusal tt) def)
 
 -- the definition of a new index of a table, or the least refusal of its name and of what it is made of
 abbrev pub definition_of : TableState → IndexForm → Result Definition Refusal

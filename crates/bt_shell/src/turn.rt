@@ -18,9 +18,10 @@ use crate::workforce::ScriptWorkforce;
 use bt_fanout::IndexDef;
 use bt_node::Shape;
 use bt_row::Schema;
+use bt_rowtype::both_read;
 use bt_script::{Bounds, Capacity, Command, IndexForm, Parsed, SumsForm, TableForm, parse_command};
 use bt_table::{Reply, Table};
-use bt_value::{Refusal, Text, least_with};
+use bt_value::{Refusal, Text};
 use std::alloc::{AllocError, Global};
 
 // A shape whose buffers have this capacity, within the limits.
@@ -54,20 +55,9 @@ fn index_def(alloc: Global, table: &Table, form: &IndexForm) -> Result<IndexDef,
 {
     let schema = table.schema()?;
     let free = table.check_index(&form.name);
-    match IndexDef::new(alloc, schema, &form.on, &form.include, form.filter.as_ref()) {
-        Err(Refusal::OutOfMemory) => Err(Refusal::OutOfMemory),
-        Err(refusal) => match free {
-            Ok(()) => Err(refusal),
-            Err(other) => Err(least_with(Some(other), refusal)),
-        },
-        Ok(def) => match free {
-            Ok(()) => Ok(def),
-            Err(other) => {
-                drop(def);
-                Err(other)
-            }
-        },
-    }
+    let def = IndexDef::new(alloc, schema, &form.on, &form.include, form.filter.as_ref());
+    let (_, def) = both_read(free, def)?;
+    Ok(def)
 }
 
 // Creates an index.

@@ -1,19 +1,36 @@
-use Rattle.std.proofs.Common.{rules, ◌≡◌, ◌≢◌, Err, Some}
-use Rattle.bt_value.specs.Refusals.{least}
-use Rattle.bt_value.specs.declared.refusal.Refusal.TheVariants.{OutOfMemory}
-use Rattle.bt_fanout.specs.Definitions.{definition_as}
-use Rattle.bt_table.specs.Calls.{index_refusals}
+use Rattle.std.proofs.Common.{rules, ◌≡◌, Ok, Err, IfOk, subst}
+use Rattle.std.specs.Option.{option_copied}
+use Rattle.bt_value.specs.Answers.{Answers}
+use Rattle.bt_value.proofs.offered.Exits.{answers_on_err}
+use Rattle.bt_fanout.specs.Definitions.{definition_as, kinds_of}
+use Rattle.bt_fanout.specs.Entries.{SuitsKinds}
 use Rattle.bt_table.specs.Standing.{HasSchema}
-use Rattle.bt_shell.proofs.Definitions.{both_refused}
+use Rattle.bt_shell.proofs.Definitions.{as_itself, defined, second_read, suits_table}
 use Rattle.bt_shell.proofs.turn.index_def.Goals as goal
 
-pub returns-in-Err-free : goal.returns-in-Err-free
-returns-in-Err-free c =
-    let state = c.args.table.now in
+pub returns-in_err-def-clause-answer : goal.returns-in_err-def-clause-answer
+returns-in_err-def-clause-answer c =
     let schema = c.in_ok-schema.schema.now in
     let form = c.args.form.now in
-    let has : HasSchema state schema = c.in_ok-schema.ensures.schema in
-    let some : c.in-Err.refusal ≢ OutOfMemory = search rules in
-    let made : definition_as schema form.on form.include form.filter ≡ Err c.in-Err.refusal = search rules in
-    let taken : least (index_refusals state form.name) ≡ Some c.in-Err-free.other = c.in-Err-free.ensures.refused in
-    record { answer = λ _. both_refused state schema form c.in-Err.refusal c.in-Err-free.other c.least_with.result has made taken c.least_with.ensures; suits = tt }
+    let refusal = c.in_err-def.field-0.0 in
+    let filter : option_copied c.as_ref.result ≡ form.filter = search rules in
+    let made = subst (λ f. Answers (definition_as schema form.on form.include f) c.new-def.result) filter c.new-def.ensures.answer in
+    answers_on_err _ c.from_residual-in_err-def.result refusal c.from_residual-in_err-def.ensures.1
+    (defined c.args.table.now schema form c.check_index-free.result c.new-def.result (Err refusal) c.in_ok-schema.ensures.schema c.check_index-free.ensures.free c.check_index-free.ensures.refused made c.in_err-def.ensures.answer)
+
+pub returns-clause-answer : goal.returns-clause-answer
+returns-clause-answer c =
+    let schema = c.in_ok-schema.schema.now in
+    let form = c.args.form.now in
+    let filter : option_copied c.as_ref.result ≡ form.filter = search rules in
+    let made = subst (λ f. Answers (definition_as schema form.on form.include f) c.new-def.result) filter c.new-def.ensures.answer in
+    defined c.args.table.now schema form c.check_index-free.result c.new-def.result (Ok (c.in_ok-def.field-0-0, c.in_ok-def.def)) c.in_ok-schema.ensures.schema c.check_index-free.ensures.free c.check_index-free.ensures.refused made c.in_ok-def.ensures.answer
+
+pub returns-clause-suits : goal.returns-clause-suits
+returns-clause-suits c =
+    let schema = c.in_ok-schema.schema.now in
+    let def = c.in_ok-def.def in
+    let free = c.check_index-free.result in
+    let made = second_read free c.new-def.result (c.in_ok-def.field-0-0, def) (c.in_ok-def.ensures.answer free c.new-def.result (as_itself free) (as_itself c.new-def.result)) in
+    suits_table c.args.table.now schema def c.in_ok-schema.ensures.schema
+    (subst (λ r. IfOk r (λ def. SuitsKinds def (kinds_of schema.columns))) made c.new-def.ensures.suits) (subst (λ r. IfOk r (λ def. def.keys ≡ schema.keys)) made c.new-def.ensures.keys)
