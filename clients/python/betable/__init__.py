@@ -36,7 +36,9 @@ if TYPE_CHECKING:
     from .sharded import NotSharded, Sharded, ShardLost
     from .shards import DaskShard, LocalShard, ProcessShard, ShardEnded
 
-__version__ = (Path(__file__).parent / "VERSION").read_text().strip()
+# A packed package has the file beside this one, and a checkout at its top.
+_VERSION = Path(__file__).parent / "VERSION"
+__version__ = (_VERSION if _VERSION.exists() else Path(__file__).parents[3] / "VERSION").read_text().strip()
 
 # The names of the layers, by their modules.
 _LAYERS = {
