@@ -9,14 +9,15 @@ use Rattle.bt_value.specs.declared.value.Value.{Value}
 use Rattle.bt_value.specs.declared.value.Value.TheVariants as value
 use Rattle.bt_value.proofs.offered.SameValues.{same_values-sound}
 use Rattle.bt_keycode.specs.Codes.{IsCodeOf, code_of, kind_of}
+use Rattle.bt_keycode.specs.Decodings.{decoded}
 use Rattle.bt_keycode.specs.Keys.{Key}
+use Rattle.bt_keycode.proofs.offered.Decoded.{code_decoded, decoded_code}
 use Rattle.bt_keycode.proofs.offered.Ranges.{take_in_range}
 use Rattle.bt_view.specs.Groups.{most_rows, number_in, number_of_value}
-use Rattle.bt_view.specs.inside.Entries.{row_of_entry, values_coded}
+use Rattle.bt_view.specs.inside.Entries.{row_of_entry}
 use Rattle.bt_view.specs.inside.Fronts.{IsFront, IsFrontWhereKept, IsLastOf}
 use Rattle.bt_view.specs.inside.Neighbours.{Groups, group_of, grouped, groups_then, with_more}
 use Rattle.bt_view.specs.declared.groups.Sum.{Sum}
-use Rattle.bt_view.proofs.CodedKeys.{code_of_values, or_values, values_of_code}
 use Rattle.bt_view.proofs.IndexRows.{code-append, in_range-append}
 
 -- ---- codes in two parts
@@ -36,13 +37,18 @@ first_code n kinds key values is = record {
   code = refl;
 }
 
+-- the values that there are, or these
+abbrev or_values : List Value → Option (List Value) → List Value
+or_values values None = values
+or_values values (Some found) = found
+
 -- the row of an entry is the values of its key, and then the included ones
 pub row_values : (kinds : List Kind) (key : Key) (included row : List Value) → row_of_entry kinds (key, included) ≡ Some row → (values : List Value) × (IsCodeOf kinds key values × (row ≡ values ++ included))
-row_values kinds key included row = of_read (values_coded kinds key) refl
+row_values kinds key included row = of_read (decoded kinds key) refl
   where
-    of_read : (read : Option (List Value)) → values_coded kinds key ≡ read → option_map (λ values. values ++ included) read ≡ Some row → (values : List Value) × (IsCodeOf kinds key values × (row ≡ values ++ included))
+    of_read : (read : Option (List Value)) → decoded kinds key ≡ read → option_map (λ values. values ++ included) read ≡ Some row → (values : List Value) × (IsCodeOf kinds key values × (row ≡ values ++ included))
     of_read None same is = absurd (none-some row is)
-    of_read (Some values) same is = (values, (code_of_values kinds key values same, sym (ap (or_values row) is)))
+    of_read (Some values) same is = (values, (decoded_code kinds key values same, sym (ap (or_values row) is)))
 
 module _ (kinds : List Kind) (g : ℕ × ℕ × Groups) (front : Key) (values : List Value) (is : IsFront kinds g front values) where
   as_many : length values ≡ g.0
@@ -54,7 +60,7 @@ module _ (kinds : List Kind) (g : ℕ × ℕ × Groups) (front : Key) (values : 
       let read = row_values (drop g.0 kinds) rest included others shows in
       let both : IsCodeOf (take g.0 kinds ++ drop g.0 kinds) (front ++ rest) (values ++ read.0) = code_in_parts (take g.0 kinds) (drop g.0 kinds) front rest values read.0 is.code read.1.0 in
       let whole : IsCodeOf kinds key (values ++ read.0) = subst (λ k. IsCodeOf kinds k (values ++ read.0)) (sym begins) (subst (λ ks. IsCodeOf ks (front ++ rest) (values ++ read.0)) (take-append-drop g.0 kinds) both) in
-      ap (option_map (λ all. all ++ included)) (values_of_code kinds key (values ++ read.0) whole)
+      ap (option_map (λ all. all ++ included)) (code_decoded kinds key (values ++ read.0) whole)
       ∙ ap Some (append_assoc values read.0 included ∙ ap (λ row. values ++ row) (sym read.1.1))
 
   -- that row is of the last group

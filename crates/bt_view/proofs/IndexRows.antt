@@ -16,6 +16,7 @@ use Rattle.bt_value.specs.declared.value.Kind.{Kind}
 use Rattle.bt_value.specs.declared.value.Value.{Value}
 use Rattle.bt_keycode.specs.Codes.{code_of, code_of_value, kind_of}
 use Rattle.bt_keycode.specs.Keys.{Key, key_cmp}
+use Rattle.bt_keycode.proofs.offered.Decoded.{code_decoded}
 use Rattle.bt_keycode.proofs.offered.Order.{same_key, total_keys}
 use Rattle.bt_keycode.proofs.offered.Ranges.{take_in_range}
 use Rattle.bt_node.specs.Messages.{Rows}
@@ -25,10 +26,13 @@ use Rattle.bt_table.specs.Standing.{AllStand, Stands}
 use Rattle.bt_table.proofs.offered.Kinds.{key_kinds}
 use Rattle.bt_view.specs.inside.Entries.{index_kinds, row_of_entry}
 use Rattle.bt_view.specs.Ranges.{column_in, index_row, index_schema}
-use Rattle.bt_view.proofs.CodedKeys.{both_true, values_of_code}
 use Rattle.bt_view.proofs.EntryRows.{AreShown, IsShown, shown-with}
 
 -- ---- lists of values and columns side by side
+
+both_true : (a b : Bool) → (a && b) ≡ true → (a ≡ true) × (b ≡ true)
+both_true true b is = (refl, is)
+both_true false b is = absurd (true≢false (sym is))
 
 fit-append : (cs ds : List Column) (vs ws : List Value) → fit_columns cs vs ≡ true → fit_columns ds ws ≡ true → fit_columns (cs ++ ds) (vs ++ ws) ≡ true
 fit-append [] ds [] ws f g = g
@@ -135,7 +139,7 @@ module _ (schema : Schema) (def : Definition) (on : All (λ place. place < lengt
       read : row_of_entry kinds (code_of (picked def.on row) ++ key, picked def.include row) ≡ Some (own_key row ++ picked def.include row)
       read =
           ap (option_map (λ values. values ++ picked def.include row))
-          (values_of_code kinds (code_of (picked def.on row) ++ key) (own_key row) (record {
+          (code_decoded kinds (code_of (picked def.on row) ++ key) (own_key row) (record {
             of_kinds = ap (map kind_of) (sym first) ∙ key_kinds of_index.keys of_index.columns (own_key row ++ picked def.include row) of.fits;
             in_range = subst AreInRange first (take_in_range of_index.keys (own_key row ++ picked def.include row) of.in_range);
             code = ap code_of (sym first) ∙ sym of.placed;

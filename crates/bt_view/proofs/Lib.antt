@@ -1,4 +1,3 @@
-pub mod CodedKeys
 pub mod Drawings
 pub mod EntryRows
 pub mod Fronts
