@@ -25,7 +25,6 @@ def the_version_is_told_once() -> None:
     """And Cargo.toml, which cannot read a file, has the same. What is not released yet may be above it in the changelog."""
     version = (TOP / "VERSION").read_text().strip()
     expect(re.fullmatch(r"\d+\.\d+\.\d+", version) is not None, True)
-    expect((TOP / "clients/python/betable/VERSION").resolve(), TOP / "VERSION")
     expect(betable.__version__, version)
     expect(re.findall(r'^version = "(.*)"$', (TOP / "clients/rust/Cargo.toml").read_text(), re.MULTILINE), [version])
     titles = re.findall(r"^## (\S+)", (TOP / "CHANGELOG.md").read_text(), re.MULTILINE)
