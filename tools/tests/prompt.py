@@ -373,6 +373,8 @@ class Typed:
         child, self.terminal = pty.fork()
         if child == 0:
             os.chdir(folder)
+            # A shell that starts the tests in the background has them ignore it.
+            signal.signal(signal.SIGINT, signal.SIG_DFL)
             os.execve(PYTHON, [PYTHON, "-m", "betable", "shell", *words], environment(BETABLE_HISTORY=f"{folder}/history", TERM="xterm"))
         self.child, self.raw, self.at = child, b"", 0
 

@@ -266,6 +266,10 @@ class Engine:
             self._take(await self._receive())
         except asyncio.IncompleteReadError:
             raise Lost(f"the engine's process ended with status {await self._process_end()} before the table was open") from None
+        except Exception:
+            # The process ends after a fault. It has to have ended before the loop of events is closed.
+            await self._process_end()
+            raise
         self.is_open = not self._is_ending
 
     async def _process_end(self) -> int:
