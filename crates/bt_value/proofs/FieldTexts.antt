@@ -27,7 +27,7 @@ int_plain (negsuc n) small = digits_plain (decimal (suc n)) (decimal_is_IsNumera
 pub int_field : (n : ℤ) → mag n < 2 ^ 63 → field_text default_writer (signed_decimal n) ≡ signed_decimal n
 int_field n small = rw (int_plain n small) refl
 
--- nor do hexadecimal digits
+-- hexadecimal digits need none either
 large_plain : (d : ℕ) → 48 ≤ d → needs_byte default_writer d ≡ false
 large_plain d low = grind (arith, nat_tests)
 

@@ -1,4 +1,4 @@
--- The ints that std's `parse` reads, and those of a few digits, are those that fields spell. Serves reading an int.
+-- The ints that std's `parse` reads, and those of a few digits, are those that fields encode. Serves reading an int.
 use Rattle.std.proofs.Common.{◌-◌, ℕ, ℤ, List, [], ◌∷◌, ◌<◌, ◌≤◌, ◌^◌, ◌≡◌, ◌≢◌, ◌∙◌, refl, sym, true, false, ◌==◌, ◌&&◌, length, drop, get_or, pos, neg_ℤ, Some, None, Result, Ok, Err, arith, rules, inl, inr, nat_le, eq-eqb, ap, if◌then◌else◌}
 use Rattle.std.proofs.lemmas.Bool.{cases_Bool, eqb-true}
 use Rattle.std.proofs.lemmas.Bool.Decides.{nat_tests}
@@ -18,11 +18,11 @@ use mathlib.Core.Bool.{true≢false}
 use Rattle.std.specs.Str.Parse.{ParsesSigned}
 use Rattle.bt_value.specs.Ints.{digits_after, int_of, is_digit, is_numeral, number_up_to, number_written}
 
--- the words of this crate for digits and their number are std's
+-- this crate's definitions of digits and of their number are those of std
 pub own : IsNumeralModel (λ ds. list_all is_digit ds ≡ true) number_written
 own = numerals_by_fold _ (search rules) digits_after (search rules)
 
--- the tests of `number_up_to` are the facts that `parse` speaks of
+-- the tests of `number_up_to` are the facts that `parse` states
 test_true : (ds : List ℕ) (most : ℕ) → list_all is_digit ds ≡ true → 0 < length ds → number_written ds ≤ most → (is_numeral ds && nat_le (number_written ds) most) ≡ true
 test_true ds most all some small = grind (arith, nat_tests)
 
@@ -41,7 +41,7 @@ number_some ds most test = rw test refl
 number_none : (ds : List ℕ) (most : ℕ) → (is_numeral ds && nat_le (number_written ds) most) ≡ false → number_up_to most ds ≡ None
 number_none ds most test = rw test refl
 
--- an answer of `parse` by those facts is that of `number_up_to`
+-- by those facts the result of `parse` is that of `number_up_to`
 read : {E : Type 0} (r : Result ℤ E) (ds : List ℕ) (most : ℕ) (signed : ℕ → ℤ)
     → OkIff r ((list_all is_digit ds ≡ true) × (0 < length ds) × (number_written ds ≤ most)) (signed (number_written ds))
     → result_ok r ≡ option_map signed (number_up_to most ds)
@@ -75,7 +75,7 @@ read_plain field r parsed plus other =
     let minus : get_or field 0 0 ≢ 45 = grind (arith, nat_tests) in
     rw other (read r field (2 ^ 63 - 1) pos (below r _ _ (pos (number_written field)) (λ h. (h.0, h.1, omega (arith, h.2))) (λ h. (h.0, h.1, omega (arith, h.2))) (parse_signed_plain own w64 field r parsed plus minus)))
 
--- what `parse` reads where no plus comes first
+-- what `parse` reads if there is no plus first
 pub read_signed : {E : Type 0} (field : List ℕ) (r : Result ℤ E) → ParsesSigned w64 10 field r → get_or field 0 0 ≢ 43 → result_ok r ≡ int_of field
 read_signed field r parsed plus = elim (cases_Bool (get_or field 0 0 == 45)) [
   | inl minus ↦ read_minus field r parsed (eqb-true (get_or field 0 0) 45 minus)
@@ -85,7 +85,7 @@ read_signed field r parsed plus = elim (cases_Bool (get_or field 0 0 == 45)) [
 no_first : (b : ℕ) (bs : List ℕ) → is_digit b ≡ false → (is_numeral (b ∷ bs) && nat_le (number_written (b ∷ bs)) (2 ^ 63 - 1)) ≡ false
 no_first b bs no_digit = rw no_digit (grind (arith, nat_tests))
 
--- a field that begins with a plus spells none
+-- a field that begins with a plus encodes no int
 pub plus_none : (field : List ℕ) → get_or field 0 0 ≡ 43 → int_of field ≡ None
 unfolding int_of
 plus_none [] plus = absurd (omega arith)
@@ -95,7 +95,7 @@ plus_none (b ∷ bs) plus =
     let no_number : (is_numeral (b ∷ bs) && nat_le (number_written (b ∷ bs)) (2 ^ 63 - 1)) ≡ false = no_first b bs no_digit in
     rw other (ap (option_map pos) (number_none (b ∷ bs) (2 ^ 63 - 1) no_number))
 
--- a field that spells an int is ASCII
+-- a field that encodes an int is ASCII
 pub int_utf8 : (field : List ℕ) → ¬ (IsUtf8 field) → int_of field ≡ None
 unfolding int_of
 int_utf8 [] broken = refl
@@ -112,14 +112,14 @@ int_utf8 (b ∷ bs) broken = elim (cases_Bool (b == 45)) [
   ]
 ]
 
--- where digits write a number that fits, the limit says nothing
+-- if digits write a number that fits, the limit makes no difference
 number_fits : (ds : List ℕ) (most : ℕ) → (is_numeral ds ≡ true → number_written ds ≤ most) → number_up_to most ds ≡ (if is_numeral ds then Some (number_written ds) else None)
 number_fits ds most fits = elim (cases_Bool (is_numeral ds)) [
   | inl numeral ↦ let small : nat_le (number_written ds) most ≡ true = let within = fits numeral in grind (arith, nat_tests) in rw (numeral, small) refl
   | inr other ↦ rw other refl
 ]
 
--- the int that is found where digits follow a minus
+-- the int that is found if digits follow a minus
 pub minus_short : (field digits : List ℕ) → field ≡ 45 ∷ digits → (is_numeral digits ≡ true → number_written digits ≤ 2 ^ 63 - 1)
     → int_of field ≡ (if is_numeral digits then Some (neg_ℤ (pos (number_written digits))) else None)
 unfolding int_of
@@ -127,7 +127,7 @@ minus_short field digits is fits =
     rw (is, number_fits digits (2 ^ 63) (λ n. omega (arith, fits n)))
     (elim (is_numeral digits) as (λ b. option_map (λ n. neg_ℤ (pos n)) (if b then Some (number_written digits) else None) ≡ (if b then Some (neg_ℤ (pos (number_written digits))) else None)) [ true ↦ refl | false ↦ refl ])
 
--- the int that is found where no minus comes first
+-- the int that is found if there is no minus first
 pub plain_short : (field : List ℕ) → (get_or field 0 0 == 45) ≡ false → (is_numeral field ≡ true → number_written field ≤ 2 ^ 63 - 1)
     → int_of field ≡ (if is_numeral field then Some (pos (number_written field)) else None)
 unfolding int_of
@@ -137,7 +137,7 @@ plain_short field other fits =
 
 -- ---- a few digits
 
--- so many digits at most: below this power of ten
+-- a number of at most this many digits is below this power of ten
 pub below_power : (number i most : ℕ) → number < 10 ^ i → i ≤ most → number < 10 ^ most
 below_power number i most small few =
     let more : 10 ^ i ≤ 10 ^ most = pow-le-pow_right (omega arith) few in

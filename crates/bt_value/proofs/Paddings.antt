@@ -1,8 +1,8 @@
--- Bytes with zeros behind them.
+-- Bytes followed by zeros.
 use Rattle.std.proofs.Common.{ℕ, zero, suc, ◌≡◌, ◌≤◌, ◌++◌, List, [], ◌∷◌, arith, drop, length, refl, replicate, take, ap}
 use Rattle.bt_value.specs.Paddings.{padded}
 
--- as many as there are
+-- as long as the bytes: no zeros
 pub padded-all : (bytes : List ℕ) → padded (length bytes) bytes ≡ bytes
 padded-all [] = refl
 padded-all (b ∷ bs) = ap (λ rest. b ∷ rest) (padded-all bs)
@@ -22,7 +22,7 @@ zeros : (n : ℕ) → replicate n 0 ≡ padded n []
 zeros zero = refl
 zeros (suc n) = ap (λ rest. 0 ∷ rest) (zeros n)
 
--- written over the first of so many zeros
+-- the bytes written over the first zeros of a list of zeros
 pub written-over : (n : ℕ) (bytes : List ℕ) → length bytes ≤ n → bytes ++ drop (length bytes) (replicate n 0) ≡ padded n bytes
 written-over n [] few = zeros n
 written-over zero (b ∷ bs) few = absurd (omega (arith, few))

@@ -4,11 +4,11 @@ use Rattle.std.proofs.lemmas.List.{take_all}
 use Rattle.csv.specs.Writing.{default_writer, escaped, quoted}
 use Rattle.csv.proofs.WriteFacts.{escaped-double, escaped-other, quoted-step}
 
--- a quote stands there twice
+-- a quote is written twice
 pub quote_escaped : (b : ℕ) → b ≡ 34 → escaped default_writer (b ∷ []) ≡ 34 ∷ 34 ∷ []
 quote_escaped b quote = escaped-double default_writer b quote refl ∙ ap (λ (x : ℕ). x ∷ x ∷ []) quote
 
--- any other byte once
+-- any other byte is written once
 pub other_escaped : (b : ℕ) → b ≢ 34 → escaped default_writer (b ∷ []) ≡ b ∷ []
 other_escaped b other = escaped-other default_writer b other
 
@@ -24,7 +24,7 @@ more_escaped old out new text i within so_far added =
     let byte = escaped default_writer (get_or text i 0 ∷ []) in
     added ∙ ap (λ (t : List ℕ). t ++ byte) so_far ∙ append_assoc old first byte ∙ ap (λ (t : List ℕ). old ++ t) (quoted-step default_writer 34 text i within)
 
--- all bytes, and the quote behind them
+-- all bytes, and the quote after them
 pub all_quoted : (old out new text : List ℕ) (i : ℕ) → length text ≤ i → out ≡ old ++ (34 ∷ escaped default_writer (take i text)) → new ≡ out ++ 34 ∷ []
     → new ≡ old ++ quoted default_writer text
 all_quoted old out new text i past so_far added =

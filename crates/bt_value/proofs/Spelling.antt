@@ -1,4 +1,4 @@
--- The bytes that digits spell, two by two. Serves reading a field of bytes.
+-- The bytes that digits encode, two by two. Serves reading a field of bytes.
 use Rattle.std.proofs.Common.{◌≡◌, ℕ, ◌+◌, ◌-◌, ◌<◌, ◌≤◌, Bool, true, List, [], ◌∷◌, ◌++◌, append_assoc, append-nil, arith, drop, get_or, length, length-append, length-drop, length-take, set, take, Option, Some, None, refl, sym, ap, ◌∙◌, if◌then◌else◌}
 use Rattle.std.proofs.lemmas.Bool.{le-leb, lt-leb}
 use Rattle.std.proofs.lemmas.List.{take_all, take_more_set}
@@ -7,7 +7,7 @@ use Rattle.bt_value.specs.Hex.{byte_of, bytes_of_hex}
 use Rattle.bt_value.specs.Kinds.{binary_of}
 use Rattle.bt_value.specs.Texts.{is_binary}
 
--- bytes before others, where those are there
+-- bytes followed by others, if there are others
 abbrev pub after : List ℕ → Option (List ℕ) → Option (List ℕ)
 after prefix rest = option_map (λ bs. prefix ++ bs) rest
 
@@ -19,7 +19,7 @@ after_more : (prefix : List ℕ) (b : ℕ) (rest : Option (List ℕ)) → after 
 after_more prefix b None = refl
 after_more prefix b (Some bs) = ap Some (sym (append_assoc prefix (b ∷ []) bs))
 
--- the next two digits, which spell a byte or none
+-- the next two digits, which encode a byte or none
 next : (rest : List ℕ) (o : Option ℕ) → 2 ≤ length rest → o ≡ byte_of (get_or rest 0 0) (get_or rest 1 0) → bytes_of_hex rest ≡ option_and_then (λ b. option_map (λ bs. b ∷ bs) (bytes_of_hex (drop 2 rest))) o
 unfolding bytes_of_hex
 next [] o some is = absurd (omega (arith, some))
@@ -33,16 +33,16 @@ one_more digits room rest len b some is within so_far =
     so_far ∙ ap (after (take len room)) (next rest (Some b) some is) ∙ after_more (take len room) b (bytes_of_hex (drop 2 rest))
     ∙ ap (λ prefix. after prefix (bytes_of_hex (drop 2 rest))) (sym (take_more_set room len b within)) ∙ ap (λ z. after (take (len + 1) (set room len b)) (bytes_of_hex z)) (sym others)
 
--- what is spelled, and not too long
+-- what is encoded, if it is not too long
 kept : Option (List ℕ) → Option (List ℕ)
 kept o = option_and_then (λ bytes. if is_binary bytes then Some bytes else None) o
 
--- two bytes of which one is no digit
+-- two bytes, one of which is not a digit
 pub no_byte : (digits prefix rest : List ℕ) → 2 ≤ length rest → None ≡ byte_of (get_or rest 0 0) (get_or rest 1 0) → bytes_of_hex digits ≡ after prefix (bytes_of_hex rest) → binary_of digits ≡ None
 unfolding kept
 no_byte digits prefix rest some is so_far = ap kept (so_far ∙ ap (after prefix) (next rest None some is))
 
--- more than there may be
+-- more bytes than a value may have
 long_kept : (prefix : List ℕ) (o : Option (List ℕ)) → 255 < length prefix → kept (after prefix o) ≡ None
 unfolding kept
 long_kept prefix None long = refl
@@ -66,12 +66,12 @@ short_kept : (bytes : List ℕ) → length bytes ≤ 255 → kept (Some bytes) �
 unfolding kept
 short_kept bytes short = ap (λ (b : Bool). if b then Some bytes else None) (le-leb (length bytes) 255 short)
 
--- none is left
+-- no digit is left
 pub all_spelled : (digits prefix rest : List ℕ) → length rest ≡ 0 → length prefix ≤ 255 → bytes_of_hex digits ≡ after prefix (bytes_of_hex rest) → binary_of digits ≡ Some prefix
 unfolding kept bytes_of_hex
 all_spelled digits prefix [] none short so_far = ap kept (so_far ∙ ap Some (append-nil prefix)) ∙ short_kept prefix short
 all_spelled digits prefix (x ∷ rest) none short so_far = absurd (omega (arith, none))
 
--- so many of the places
+-- at most this many of the bytes are taken
 pub short_take : (len : ℕ) (room : List ℕ) → len ≤ 255 → is_binary (take len room) ≡ true
 short_take len room few = le-leb (length (take len room)) 255 (omega (arith, few, length-take len room))

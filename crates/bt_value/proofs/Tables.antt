@@ -1,9 +1,9 @@
--- Tables of a mark for each byte, compared with the tests that they stand for by computing. Serves tests that read such a table.
+-- Tables of a mark for each byte. Computing compares them with the tests that they represent. Serves tests that read such a table.
 use Rattle.std.proofs.Common.{◌≡◌, ℕ, zero, suc, ◌<◌, Bool, true, false, ◌&&◌, refl, arith, inl, inr}
 use Rattle.std.specs.Bool.{beq}
 use Rattle.std.proofs.lemmas.Bool.{cases_eq}
 
--- whether two tests agree at each number below another
+-- whether two tests agree on each number below a bound
 unfoldable pub agree_below : (ℕ → Bool) → (ℕ → Bool) → ℕ → Bool
 agree_below f g zero = true
 agree_below f g (suc n) = beq (f n) (g n) && agree_below f g n

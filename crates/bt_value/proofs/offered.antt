@@ -1,4 +1,4 @@
--- What crates above cite of the lemmas of this crate.
+-- The lemmas of this crate that crates above cite.
 pub mod Exits
 pub mod IntRanges
 pub mod Kinds

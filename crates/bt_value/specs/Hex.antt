@@ -14,21 +14,21 @@ hex_text (b ∷ bs) = hex_digit (b / 16) ∷ hex_digit (b % 16) ∷ hex_text bs
 
 -- ---- read
 
--- whether a byte lies between two
+-- whether a byte is within two bounds
 abbrev lies_in : ℕ → ℕ → ℕ → Bool
 lies_in low high b = nat_le low b && nat_le b high
 
--- the number of a hexadecimal digit of either case
+-- the number of a hexadecimal digit, in upper or lower case
 abbrev pub digit_of : ℕ → Option ℕ
 digit_of b =
     if lies_in 48 57 b then Some (b - 48)
     else (if lies_in 97 102 b then Some (b - 87) else (if lies_in 65 70 b then Some (b - 55) else None))
 
--- the byte of two digits
+-- the byte that two digits encode
 abbrev pub byte_of : ℕ → ℕ → Option ℕ
 byte_of high low = option_and_then (λ h. option_map (λ l. h * 16 + l) (digit_of low)) (digit_of high)
 
--- the bytes that hexadecimal digits of either case spell, two for each; an odd number of digits spells none
+-- the bytes that hexadecimal digits encode, in upper or lower case, two digits for each byte; an odd number of digits encodes none
 unfoldable pub bytes_of_hex : List ℕ → Option (List ℕ)
 bytes_of_hex [] = Some []
 bytes_of_hex (high ∷ []) = None

@@ -1,7 +1,7 @@
--- Bytes with zeros behind them.
+-- Bytes followed by zeros.
 use Rattle.std.specs.Prelude.{ℕ, zero, suc, List, [], ◌∷◌}
 
--- the first n bytes of a list, with zeros in place of those that it hasn't
+-- the first n bytes of a list, with zeros in place of missing ones
 abbrev pub padded : ℕ → List ℕ → List ℕ
 padded zero bytes = []
 padded (suc n) [] = 0 ∷ padded n []

@@ -56,20 +56,20 @@ item_of (BadLength item) = Some item
 item_of (DuplicateKey item) = Some item
 item_of other = None
 
--- whether its number is less than the other's, or of equal numbers its item
+-- whether this number is smaller than the other or, if the numbers are equal, this item
 abbrev pub is_lesser : Refusal → Refusal → Bool
 is_lesser a b = if number_of a == number_of b then nat_lt (unwrap_or (item_of a) 0) (unwrap_or (item_of b) 0) else nat_lt (number_of a) (number_of b)
 
--- which of two is answered, the first where they are equal
+-- which of two refusals is returned: the smaller, or the first if they are equal
 abbrev pub lesser : Refusal → Refusal → Refusal
 lesser a b = if is_lesser b a then b else a
 
--- the least of one that was found, if one was, and of others
+-- the least of a refusal found before, if there was one, and of others
 abbrev pub least_from : Option Refusal → List Refusal → Option Refusal
 least_from found [] = found
 least_from None (refusal ∷ others) = least_from (Some refusal) others
 least_from (Some found) (refusal ∷ others) = least_from (Some (lesser found refusal)) others
 
--- which of the refusals that apply is answered, if one does: the least number, and of equal numbers the least item
+-- which of the refusals that apply is returned, if any: the one with the smallest number and, of equal numbers, the smallest item
 abbrev pub least : List Refusal → Option Refusal
 least refusals = least_from None refusals

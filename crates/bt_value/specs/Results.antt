@@ -33,7 +33,7 @@ unless (Some refusal) value = Err refusal
 abbrev pub all_read : {T : Type 0} → List (Result T Refusal) → Result (List T) Refusal
 all_read results = unless (least (filter_map result_err results)) (filter_map result_ok results)
 
--- two that were read, or the lesser of their refusals
+-- two that were read, or the smaller of their refusals
 abbrev pub both_read : {S T : Type 0} → Result S Refusal → Result T Refusal → Result (S × T) Refusal
 both_read (Ok first) (Ok second) = Ok (first, second)
 both_read (Ok first) (Err refusal) = Err refusal

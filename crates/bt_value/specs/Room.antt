@@ -1,4 +1,4 @@
--- Room in a list of bytes, which is made before they are written.
+-- Room in a list of bytes. It is reserved before the bytes are written.
 use Rattle.std.specs.Prelude.{ℕ, ◌+◌, ◌*◌, ◌≤◌, length, Vec, vec_capacity, vec_len}
 use Rattle.bt_value.specs.Kinds.{Content, Number, Bytes, Bit, content_of}
 use Rattle.bt_value.specs.declared.value.Value.{Value}
@@ -12,7 +12,7 @@ module _ {X Z : Type 0} where
   abbrev pub TakesRoom : Vec X Z → Vec X Z → ℕ → Type 0
   TakesRoom old new most = vec_capacity old + vec_len new ≤ vec_capacity new + (vec_len old + most)
 
--- the bytes that the text of a value takes at most: 20 of a number, two for each byte with the quotes around them, 5 of a bit
+-- the most bytes that the text of a value takes: 20 for a number, two for each byte and two quotes, 5 for a bit
 abbrev pub room_in : Content → ℕ
 room_in (Number n) = 20
 room_in (Bytes bytes) = 2 * length bytes + 2

@@ -13,7 +13,7 @@ use Rattle.bt_value.specs.declared.value.Value.{Value}
 
 -- ---- order and range, by the form of a value
 
--- the order of what two values of a kind hold: numbers by size, bytes byte by byte, false before true; what two forms hold is taken as equal
+-- the order of what two values of a kind hold: numbers by size, bytes byte by byte, false before true; contents of different forms count as equal
 abbrev pub content_cmp : Content → Content → Ordering
 content_cmp (Number a) (Number b) = int_cmp a b
 content_cmp (Bytes a) (Bytes b) = slice_cmp nat_cmp a b
@@ -39,11 +39,11 @@ same_content a b = false
 abbrev pub same_value : Value → Value → Bool
 same_value a b = same_kind (kind_of a) (kind_of b) && same_content (content_of a) (content_of b)
 
--- whether two lists of values are
+-- whether two lists of values are the same
 abbrev pub same_values : List Value → List Value → Bool
 same_values = pointwise same_value
 
--- whether a kind takes what a value of its form holds
+-- whether what a value of the same form holds is a value of the kind
 abbrev pub takes_content : Kind → Content → Bool
 takes_content kind (Number n) = true
 takes_content kind (Bytes bytes) = takes kind bytes
@@ -53,17 +53,17 @@ takes_content kind (Bit bit) = true
 abbrev pub fits_kind : Kind → Value → Bool
 fits_kind kind value = same_kind (kind_of value) kind && takes_content kind (content_of value)
 
--- bytes are ones that the kind takes; a number and a bit have none
+-- bytes are a value of the kind; for a number and a bit there is nothing to say
 abbrev pub BytesFitKind : Kind → Content → Type 0
 BytesFitKind kind (Number n) = Unit {0}
 BytesFitKind kind (Bytes bytes) = takes kind bytes ≡ true
 BytesFitKind kind (Bit bit) = Unit {0}
 
--- the bytes of a value, if it has any, are ones that its kind takes
+-- the bytes of a value, if it has any, are a value of its kind
 abbrev pub BytesFit : Value → Type 0
 BytesFit v = BytesFitKind (kind_of v) (content_of v)
 
--- what a value holds is within range: a number has 64 bits, bytes are ones that the kind takes
+-- what a value holds is within range: a number has 64 bits, and bytes are a value of the kind
 abbrev pub LiesInRange : Kind → Content → Type 0
 LiesInRange kind (Number n) = FitsSigned w64 n
 LiesInRange kind (Bytes bytes) = takes kind bytes ≡ true
@@ -73,7 +73,7 @@ LiesInRange kind (Bit bit) = Unit {0}
 abbrev pub IsInRange : Value → Type 0
 IsInRange v = LiesInRange (kind_of v) (content_of v)
 
--- each of them
+-- each of them is
 abbrev pub AreInRange : List Value → Type 0
 AreInRange [] = Unit {0}
 AreInRange (v ∷ vs) = IsInRange v × AreInRange vs

@@ -1,4 +1,4 @@
-//! Binary strings that contracts see as their bytes, and the hexadecimal digits that spell them.
+//! Binary strings, which contracts see as their bytes, and the hexadecimal digits that encode them.
 ghost use Rattle.std.specs.Prelude.{◌≡◌, ◌≤◌, ◌<◌, IfOk, IfSome, None, Some, option_map, take, true};
 ghost use Rattle.bt_value.specs.Hex.{byte_of, digit_of};
 ghost use Rattle.bt_value.specs.Kinds.{binary_of};
@@ -62,7 +62,7 @@ pub(crate) fn is_binary(bytes: &[u8]) -> bool
     bytes.len() <= MOST_VALUE_BYTES
 }
 
-// The number of a hexadecimal digit of either case.
+// The number of a hexadecimal digit, in upper or lower case.
 fn digit_number(byte: u8) -> Option<u8>
     ensures number { result ≡ digit_of byte }
     ensures low { IfSome result (λ number. number < 16) }
@@ -75,7 +75,7 @@ fn digit_number(byte: u8) -> Option<u8>
     }
 }
 
-// The byte of two digits.
+// The byte that two digits encode.
 fn byte_from(high: u8, low: u8) -> Option<u8>
     ensures { result ≡ byte_of high low }
 {
@@ -84,8 +84,8 @@ fn byte_from(high: u8, low: u8) -> Option<u8>
     Some(high * 16 + low)
 }
 
-// The bytes that digits spell: how many they are. They are written into `room`. There are none where a byte is no digit, where
-// the number of digits is odd, or where they are too many.
+// Writes the bytes that the digits encode into `room`, and returns their number. It returns `None` if a byte is not a digit, if the
+// number of digits is odd, or if there are more bytes than a value may have.
 fn spell(digits: &[u8], room: &mut [u8; MOST_VALUE_BYTES]) -> Option<usize>
     ensures bound { IfSome result (λ len. len ≤ MOST_VALUE_BYTES) }
     ensures bytes { option_map (λ len. take len room.new) result ≡ binary_of digits.now }
@@ -104,7 +104,7 @@ fn spell(digits: &[u8], room: &mut [u8; MOST_VALUE_BYTES]) -> Option<usize>
     if rest.is_empty() { Some(len) } else { None }
 }
 
-/// The bytes that a field spells, two digits for each, lent from `room`.
+/// The bytes that a field encodes, two digits for each, borrowed from `room`.
 pub(crate) fn read_binary<'a>(
     field: &[u8],
     room: &'a mut [u8; MOST_VALUE_BYTES],

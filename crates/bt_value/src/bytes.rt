@@ -1,4 +1,4 @@
-//! Bytes, of which a few take no memory of their own.
+//! Lists of bytes. Short ones take no memory of their own.
 ghost use Rattle.std.specs.Prelude.{◌≡◌, ◌≤◌, [], IfOk, IsOk, length, take};
 ghost use Rattle.bt_value.specs.Paddings.{padded as padded_to};
 ghost use Rattle.bt_value.specs.inside.Shorts.{FitsInside, bytes_of};
@@ -6,19 +6,19 @@ ghost use Rattle.bt_value.specs.inside.Shorts.{FitsInside, bytes_of};
 use std::alloc::{AllocError, Global};
 use std::marker::Model;
 
-/// So many bytes are kept in the value itself.
+/// The most bytes that are kept in the value itself.
 pub const SHORT_BYTES: usize = 22;
 
 #[derive(Debug, Drop)]
 enum BytesStorage {
-    // how many of the places are used, and all places
+    // how many bytes of the array are used, and the array
     Short(u8, [u8; SHORT_BYTES]),
     Long(Box<Vec<u8>>),
 }
 
-/// Bytes in order, as those of a text or of a key. A contract sees the list of them.
+/// Bytes in order, such as those of a text or of a key. A contract sees the list of them.
 ///
-/// Up to 22 bytes are kept in the value itself, and take no memory of their own; a value has the size of three words.
+/// Up to 22 bytes are kept in the value itself and take no memory of their own. A `Bytes` has the size of three words.
 #[derive(Debug, Drop)]
 pub struct Bytes {
     storage: BytesStorage,
@@ -35,7 +35,7 @@ impl Model for Bytes {
     ghost invariant = { λ b. FitsInside b.storage };
 }
 
-// The bytes, with zeros behind them.
+// The bytes, followed by zeros.
 fn padded(bytes: &[u8]) -> [u8; SHORT_BYTES]
     requires { length bytes.now ≤ SHORT_BYTES }
     ensures { result ≡ padded_to SHORT_BYTES bytes.now }
@@ -55,7 +55,7 @@ fn short(bytes: &[u8]) -> BytesStorage
 }
 
 impl Bytes {
-    /// No byte.
+    /// No bytes.
     pub fn new() -> Self
         ensures { result ≡ [] }
     {
@@ -106,7 +106,7 @@ impl Bytes {
         }
     }
 
-    /// The bytes, and behind fewer than 22 of them so many zeros.
+    /// The bytes, followed by zeros up to a length of 22 if there are fewer.
     pub fn padded(&self) -> &[u8]
         ensures bytes { result.now ≡ padded_to (length result.now) self.now }
         ensures room { SHORT_BYTES ≤ length result.now }

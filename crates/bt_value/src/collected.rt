@@ -1,4 +1,4 @@
-//! Reading one thing after another: all of them, or the least refusal.
+//! Reading several things in order: all their values, or the least refusal.
 ghost use Rattle.std.specs.Prelude.{◌≡◌, ◌≢◌, ◌++◌, [], Err, IfOk, None, OnOk};
 ghost use Rattle.std.specs.Option.{option_to_list};
 ghost use Rattle.std.specs.Result.{result_err, result_ok};
@@ -30,7 +30,7 @@ impl<T> Collected<T> {
         }
     }
 
-    /// Nothing was read, and there is room for so many values.
+    /// Nothing was read, and there is room for this many values.
     pub fn with_capacity(alloc: Global, capacity: usize) -> Result<Self, AllocError>
         ensures values { IfOk result (λ new. new.values ≡ []) }
         ensures refusal { IfOk result (λ new. new.refusal ≡ None) }
@@ -43,7 +43,7 @@ impl<T> Collected<T> {
 }
 
 impl<T: Drop> Collected<T> {
-    /// Adds what one more thing was read as. That memory was wanting for it is passed on.
+    /// Adds the result of one more reading. If it ran out of memory, the error is passed on.
     pub fn add(&mut self, read: Result<T, Refusal>) -> Result<(), AllocError>
         ensures values { OnOk result (self.new.values ≡ self.old.values ++ option_to_list (result_ok read)) }
         ensures refusal { OnOk result (self.new.refusal ≡ least_from self.old.refusal (option_to_list (result_err read))) }

@@ -12,7 +12,7 @@ use crate::text::{MOST_VALUE_BYTES, is_text};
 use crate::value::{Kind, Value, ValueRef};
 use std::alloc::Global;
 
-/// The flag that a field spells.
+/// The flag that a field encodes.
 pub(crate) fn read_flag(field: &[u8]) -> Option<bool>
     ensures { result ≡ flag_of field.now }
 {
@@ -25,7 +25,7 @@ pub(crate) fn read_flag(field: &[u8]) -> Option<bool>
     None
 }
 
-/// The text that a field is.
+/// The field itself, if it is a text.
 pub(crate) fn read_text(field: &[u8]) -> Option<&[u8]>
     ensures value { option_map (λ text. text.now) result ≡ text_read field.now }
     ensures text { IfSome result (λ text. is_text_of text.now ≡ true) }
@@ -33,7 +33,7 @@ pub(crate) fn read_text(field: &[u8]) -> Option<&[u8]>
     if is_text(field) { Some(field) } else { None }
 }
 
-// A copy of a value that was read, or the refusal of its field as this item where there is none.
+// A copy of a value that was read. If there is none, the field is refused as this item.
 fn copy_read(alloc: Global, item: u64, read: Option<ValueRef<'_>>) -> Result<Value, Refusal>
     requires { IfSome read (λ value. BytesFit (value_of_ref value)) }
     ensures answer { Answers (or_refused (Refusal.BadField item) (option_map value_of_ref read.entry)) result }
@@ -45,7 +45,7 @@ fn copy_read(alloc: Global, item: u64, read: Option<ValueRef<'_>>) -> Result<Val
     }
 }
 
-// The value that a field spells, in room that is made for its bytes, or its refusal as this item.
+// The value that a field encodes, read through an array for its bytes, or the refusal of the field as this item.
 #[inline(never)]
 fn read_spelled(alloc: Global, kind: Kind, item: u64, field: &[u8]) -> Result<Value, Refusal>
     ensures answer { Answers (or_refused (Refusal.BadField item) (value_of kind field.now)) result }
@@ -55,7 +55,7 @@ fn read_spelled(alloc: Global, kind: Kind, item: u64, field: &[u8]) -> Result<Va
     copy_read(alloc, item, kind.read(field, &mut room))
 }
 
-/// The value that a field spells in a column of a kind, or its refusal as this item.
+/// The value that a field encodes in a column of a kind, or the refusal of the field as this item.
 pub fn read_value(alloc: Global, kind: Kind, item: u64, field: &[u8]) -> Result<Value, Refusal>
     ensures answer { Answers (or_refused (Refusal.BadField item) (value_of kind field.now)) result }
     ensures certain { value_of kind field.now ≡ None → result ≡ Err (Refusal.BadField item) }
@@ -66,11 +66,11 @@ pub fn read_value(alloc: Global, kind: Kind, item: u64, field: &[u8]) -> Result<
     copy_read(alloc, item, kind.read_lent(field))
 }
 
-/// The value that a field spells in a column of a kind, or `BadField` of item 1.
+/// The value that a field encodes in a column of a kind, or `BadField` of item 1.
 ///
-/// An int is an optional `-` and one or more digits, leading zeros included, whose number has 64 bits. A text is UTF-8 of at
-/// most 255 bytes. A flag is `true` or `false`, in letters of either case. Bytes, at most 255, are two hexadecimal digits of
-/// either case each.
+/// An int is an optional `-` and one or more digits, and its number has 64 bits. Leading zeros are allowed. A text is UTF-8 of at
+/// most 255 bytes. A flag is `true` or `false`, in upper or lower case. Bytes are two hexadecimal digits each, in upper or lower case,
+/// and there are at most 255 of them.
 pub fn read_field(alloc: Global, kind: Kind, field: &[u8]) -> Result<Value, Refusal>
     ensures answer { Answers (or_refused (Refusal.BadField 1) (value_of kind field.now)) result }
     ensures certain { value_of kind field.now ≡ None → result ≡ Err (Refusal.BadField 1) }

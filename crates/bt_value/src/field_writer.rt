@@ -1,4 +1,4 @@
-//! Writing one field of a record. Room for the longest text of it is made before, so that nothing here can fail.
+//! Writing one field of a record. The caller reserves room for its longest text first, so nothing here can fail.
 ghost use Rattle.std.specs.Prelude.{◌≡◌, ◌++◌, ◌∷◌, ◌+◌, ◌*◌, [], codes, if◌then◌else◌, length};
 ghost use Rattle.std.specs.Fmt.{signed_decimal};
 ghost use Rattle.csv.specs.Writing.{default_writer, escaped, field_text, needs_quotes as text_needs_quotes, quoted};
@@ -28,7 +28,7 @@ pub(crate) fn write_int(out: &mut Vec<u8>, number: i64)
     append(out, Buffer::new().format(number).as_bytes())
 }
 
-// Whether a field is written between quotes: one with a comma, a quote or a line end is.
+// Whether a field is written between quotes. It is if it has a comma, a quote or a line end.
 fn needs_quotes(text: &[u8]) -> bool
     ensures { result ≡ text_needs_quotes default_writer text.now }
 {
@@ -36,7 +36,7 @@ fn needs_quotes(text: &[u8]) -> bool
         .any(|byte| matches!(*byte, b',' | b'"' | b'\r' | b'\n'))
 }
 
-// Adds a byte of a text between quotes, twice if it is a quote.
+// Adds a byte of a quoted text. A quote is written twice.
 #[inline(always)]
 #[tactic(auto, using(crate::proofs::Quotes::quote_escaped, crate::proofs::Quotes::other_escaped))]
 fn add_escaped(out: &mut Vec<u8>, byte: u8)
@@ -92,7 +92,7 @@ pub(crate) fn write_flag(out: &mut Vec<u8>, flag: bool)
     }
 }
 
-/// Adds the hexadecimal digits of bytes, which need no quotes.
+/// Adds bytes as hexadecimal digits, which need no quotes.
 #[tactic(auto, using(crate::proofs::FieldTexts::hex_field))]
 pub(crate) fn write_binary(out: &mut Vec<u8>, bytes: &[u8])
     requires room { HasRoom out.old (2 * length bytes.now) }

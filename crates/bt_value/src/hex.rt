@@ -5,7 +5,7 @@ ghost use Rattle.bt_value.specs.Room.{HasRoom, TakesRoom};
 
 use std::alloc::AllocError;
 
-// The lower-case digit of a number.
+// The lower-case hexadecimal digit of a number.
 fn lower_digit(number: u8) -> u8
     requires { number < 16 }
     ensures { result ≡ hex_digit number }
@@ -17,7 +17,7 @@ fn lower_digit(number: u8) -> u8
     }
 }
 
-// Adds the two digits of a byte, for which there is room.
+// Adds the two digits of a byte. The caller has reserved room for them.
 #[inline(always)]
 fn add_two_digits(out: &mut Vec<u8>, byte: u8)
     requires room { HasRoom out.old 2 }
@@ -28,7 +28,7 @@ fn add_two_digits(out: &mut Vec<u8>, byte: u8)
     out.push_reserved(lower_digit(byte % 16));
 }
 
-/// Adds two digits for each byte, for which there is room.
+/// Adds two digits for each byte. The caller has reserved room for them.
 pub(crate) fn append_hex(out: &mut Vec<u8>, bytes: &[u8])
     requires room { HasRoom out.old (2 * length bytes.now) }
     ensures text { out.new.items ≡ out.old.items ++ hex_text bytes.now }

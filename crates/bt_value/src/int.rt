@@ -4,7 +4,7 @@ ghost use Rattle.bt_value.specs.Ints.{int_of, is_numeral, number_written};
 
 use std::str;
 
-/// So many digits write a number of 64 bits, whatever they are.
+/// Any number of at most this many digits has 64 bits.
 pub(crate) const SAFE_DIGITS: usize = 18;
 
 /// Whether a field begins with this byte, which is not zero.
@@ -19,7 +19,7 @@ pub(crate) fn begins_with(field: &[u8], byte: u8) -> bool
     }
 }
 
-// The whole number that a field of any length spells.
+// The whole number that a field of any length encodes.
 fn read_long_int(field: &[u8]) -> Option<i64>
     ensures { result ≡ int_of field.now }
 {
@@ -32,7 +32,7 @@ fn read_long_int(field: &[u8]) -> Option<i64>
     }
 }
 
-// The number that a few digits write, where there are digits and nothing else.
+// The number that a few digits write, or `None` if there are no digits or there is another byte.
 fn short_number(digits: &[u8]) -> Option<i64>
     requires { length digits.now ≤ SAFE_DIGITS }
     ensures number { result ≡ (if is_numeral digits.now then Some (pos (number_written digits.now)) else None) }
@@ -51,7 +51,7 @@ fn short_number(digits: &[u8]) -> Option<i64>
     Some(number as i64)
 }
 
-// The whole number that digits behind a minus spell.
+// The whole number that digits encode after a minus sign.
 fn read_negative(digits: &[u8]) -> Option<i64>
     requires { length digits.now ≤ SAFE_DIGITS }
     ensures { result ≡ int_of (45 ∷ digits.now) }
@@ -62,7 +62,7 @@ fn read_negative(digits: &[u8]) -> Option<i64>
     }
 }
 
-/// The whole number of 64 bits that a field spells: one or more digits, behind a `-` or nothing.
+/// The whole number of 64 bits that a field encodes: an optional `-`, then one or more digits.
 pub fn read_int(field: &[u8]) -> Option<i64>
     ensures { result ≡ int_of field.now }
 {

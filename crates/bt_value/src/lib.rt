@@ -1,11 +1,11 @@
 //! Values: their kinds, how a field of a record encodes them, and the refusals of calls.
 //!
-//! A value is an int, a text, a flag or bytes ([`Value`], or [`ValueRef`] where its bytes are borrowed), and is of a [`Kind`]. A kind has
-//! a [`Form`]: its values are kept, ordered and coded as a number, as bytes or as a bit ([`Content`]). What is said of single kinds is
-//! in one file, `value.rt`.
+//! A value is an int, a text, a flag or bytes ([`Value`], or [`ValueRef`] if its bytes are borrowed), and has a [`Kind`]. A kind has
+//! a [`Form`]: its values are kept, ordered and encoded as a number, as bytes or as a bit ([`Content`]). The code that depends on the
+//! kind is in one file, `value.rt`.
 //!
-//! A call is refused with a [`Refusal`]: a number, a name and for some the item at fault. [`Collected`] gathers what several reads
-//! return: all values, or the least refusal.
+//! A call is refused with a [`Refusal`]: a number, a name and, for some, the item at fault. [`Collected`] gathers the results of
+//! several reads: all values, or the least refusal.
 //!
 //! ```text
 //! let value = read_field(alloc, Kind::Int, b"007")?;          // Value::Int(7)

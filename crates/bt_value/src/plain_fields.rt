@@ -1,4 +1,4 @@
-//! Reading the first field of a text where it is plain, in one pass over its bytes.
+//! Reading the first field of a text, if it is plain, in one pass over its bytes.
 ghost use Rattle.std.specs.Prelude.{◌≡◌, ◌==◌, ◌≤◌, ◌^◌, ◌-◌, ◌∷◌, [], IfSome, Some, drop, false, get_or, pos, take, true};
 ghost use Rattle.bt_value.specs.Ints.{int_of, is_digit as is_decimal, is_numeral, number_written};
 ghost use Rattle.bt_value.specs.Texts.{is_text as is_text_of};
@@ -9,7 +9,7 @@ use crate::int::{SAFE_DIGITS, begins_with};
 use crate::slices::{front, tail};
 use crate::text::MOST_VALUE_BYTES;
 
-/// Whether csv reads a byte in a way of its own.
+/// Whether a byte has a special meaning in a record: a quote or a line end.
 #[inline(always)]
 pub fn is_special(byte: u8) -> bool
     ensures { result ≡ is_quote_or_line_end byte }
@@ -17,7 +17,7 @@ pub fn is_special(byte: u8) -> bool
     matches!(byte, b'"' | b'\r' | b'\n')
 }
 
-// A mark for each byte, 32 in a line: a dot if it is one of ASCII that stands for itself in a record.
+// One mark for each byte, 32 in a line. A dot marks an ASCII byte that stands for itself in a record.
 static PLAIN_BYTES: [u8; 256] = *b"\
     ..........#..#..................\
     ..#.........#...................\
@@ -28,7 +28,7 @@ static PLAIN_BYTES: [u8; 256] = *b"\
     ################################\
     ################################";
 
-// Whether a byte is one of ASCII that stands for itself in a record.
+// Whether a byte is an ASCII byte that stands for itself in a record.
 #[inline(always)]
 fn is_plain(byte: u8) -> bool
     ensures { result ≡ stands_for_itself byte }
@@ -44,7 +44,7 @@ fn is_digit(byte: u8) -> bool
     b'0' <= byte && byte <= b'9'
 }
 
-// Whether a comma stands at a place, or the text ends there.
+// Whether there is a comma at a place, or the text ends there.
 #[inline(always)]
 fn has_end(text: &[u8], place: usize) -> bool
     ensures { result ≡ (get_or text.now place 44 == 44) }
@@ -77,7 +77,7 @@ pub(crate) fn plain_text_end(text: &[u8]) -> Option<usize>
     Some(end)
 }
 
-// The number that the first field of a text writes, and where the field ends, if it has 1 to 18 digits and nothing else.
+// The number that the first field of a text writes, and where the field ends. The field must have 1 to 18 digits and nothing else.
 #[inline(always)]
 fn plain_number(text: &[u8]) -> Option<(i64, usize)>
     ensures number { IfSome result (λ found. pos (number_written (take found.1 text.now)) ≡ found.0) }
@@ -97,7 +97,7 @@ fn plain_number(text: &[u8]) -> Option<(i64, usize)>
     Some((number as i64, end))
 }
 
-/// The whole number that the first field of a text spells, and where the field ends, if it has 1 to 18 digits, behind a `-` or nothing.
+/// The whole number that the first field of a text encodes, and where the field ends. It must have an optional `-` and 1 to 18 digits.
 #[inline(always)]
 pub(crate) fn plain_int(text: &[u8]) -> Option<(i64, usize)>
     ensures number { IfSome result (λ found. int_of (take found.1 text.now) ≡ Some found.0) }
@@ -110,7 +110,7 @@ pub(crate) fn plain_int(text: &[u8]) -> Option<(i64, usize)>
     plain_number(text)
 }
 
-/// The field of a text from a place on, and the place behind its comma, or one past the end, if it is plain.
+/// The field that begins at a place of a text, if it is plain, and the place after its comma. After the last field that is one past the end.
 #[tactic(auto, using(crate::proofs::offered::PlainFields::next_cut, crate::proofs::offered::PlainFields::next_plain))]
 pub(crate) fn plain_field(text: &[u8], at: usize) -> Option<(&[u8], usize)>
     ensures field { IfSome result (λ read. fields_from at text.now ≡ read.0.now ∷ fields_from read.1 text.now) }
@@ -124,7 +124,7 @@ pub(crate) fn plain_field(text: &[u8], at: usize) -> Option<(&[u8], usize)>
     Some((front(rest, end), at + (end + 1)))
 }
 
-/// The fields of a text from a place on, if they are three that are plain.
+/// The fields of a text from a place on, if they are three plain fields.
 pub fn plain_group(text: &[u8], at: usize) -> Option<(&[u8], &[u8], &[u8])>
     ensures fields { IfSome result (λ read. fields_from at text.now ≡ read.0.now ∷ read.1.now ∷ read.2.now ∷ []) }
     ensures plain { IfSome result (λ _. list_any is_quote_or_line_end (drop at text.now) ≡ false) }

@@ -4,42 +4,42 @@ ghost use Rattle.bt_value.specs.Refusals.{least_from};
 
 use std::alloc::{AllocError, AllocFailed};
 
-/// Why a call is refused: a number and a name that are part of the script language, and for some the item at fault,
-/// counted from 1. Of several that apply the one with the least number is answered, and of equal numbers the least item.
+/// Why a call is refused: a number and a name that are part of the script language and, for some, the item at fault. Items are
+/// counted from 1. If several refusals apply, a call returns the one with the smallest number and, of equal numbers, the smallest item.
 #[derive(Clone, Copy, Debug, PartialEq, Eq)]
 pub enum Refusal {
     /// Not a command of the script language.
     Syntax,
     /// A block without its closing line.
     Unfinished,
-    /// No table so far.
+    /// There is no table yet.
     NoTable,
-    /// A second table.
+    /// There is a table already.
     TableExists,
-    /// A number of columns or of key columns out of range, a name twice, or a header that differs.
+    /// A number of columns or of key columns out of range, a name that occurs twice, or a header that differs.
     BadSchema,
-    /// A field that is no value of its column, or an unknown operation.
+    /// A field that is not a value of its column, or an unknown operation.
     BadField(u64),
     /// A wrong number of fields.
     BadLength(u64),
-    /// No tree, or no index, of this name.
+    /// No tree, or no index, has this name.
     NoSuchTree,
-    /// A name that a tree has.
+    /// A tree already has this name.
     NameTaken,
     /// Over a limit of messages, columns of an index or indexes, or a group of more than 2^64 - 1 rows.
     TooMany,
-    /// The index, or for a load some index, is building.
+    /// The index is building or, for a load, some index is.
     Building,
-    /// A building step of a complete index.
+    /// A building step of an index that is complete.
     AlreadyComplete,
-    /// A load where the primary tree is not one leaf without rows.
+    /// A load into a table whose primary tree is not an empty leaf.
     NotEmpty,
-    /// The first record whose key an earlier record has.
+    /// The first record with the same key as an earlier record.
     DuplicateKey(u64),
     /// An unknown column, a key column in an operation, a column that the index does not hold, or a number of group columns out of
     /// range.
     NoSuchColumn,
-    /// An operation that makes a number at a column that is not int, or a sum of such a column.
+    /// An operation that makes a number, or a sum, at a column that is not an int.
     NotInt,
     /// A request for memory was refused.
     OutOfMemory,
@@ -110,7 +110,7 @@ impl Refusal {
         }
     }
 
-    /// The item at fault, counted from 1, where the refusal names one.
+    /// The item at fault, counted from 1, if the refusal names one.
     pub fn item(&self) -> Option<u64>
         ensures { result ≡ item_of self.now }
     {
@@ -126,7 +126,7 @@ impl Refusal {
 impl Refusal {
     ghost use Rattle.bt_value.specs.Refusals.{is_lesser, lesser};
 
-    // Whether its number is less, or of equal numbers its item.
+    // Whether this number is smaller than the other or, if the numbers are equal, this item.
     fn is_before(&self, other: &Refusal) -> bool
         ensures { result ≡ is_lesser self.now other.now }
     {
@@ -137,7 +137,7 @@ impl Refusal {
         self.item().unwrap_or(0) < other.item().unwrap_or(0)
     }
 
-    /// Which of two refusals that apply is answered: the one with the less number, or of equal numbers with the less item.
+    /// The refusal that is returned if both apply: the one with the smaller number or, of equal numbers, with the smaller item.
     pub fn lesser(self, other: Refusal) -> Refusal
         ensures { result ≡ lesser self other }
     {
@@ -145,7 +145,7 @@ impl Refusal {
     }
 }
 
-/// The lesser of a refusal that was found, if one was, and one more.
+/// The smaller of a refusal found before, if there was one, and one more.
 pub fn least_with(found: Option<Refusal>, refusal: Refusal) -> Refusal
     ensures { least_from found (refusal ∷ []) ≡ Some result }
 {

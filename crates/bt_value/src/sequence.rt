@@ -4,7 +4,7 @@ ghost use Rattle.std.specs.Prelude.{◌≡◌, ◌++◌, ◌∷◌, [], length, 
 use std::alloc::{AllocError, Global};
 use std::marker::Model;
 
-/// A list, in order. A contract sees its items and not the room that it has.
+/// A list, in order. A contract sees its items and not its capacity.
 #[derive(Debug, Drop)]
 pub struct Sequence<T> {
     items: Vec<T>,
@@ -19,7 +19,7 @@ impl<T> Model for Sequence<T> {
 }
 
 impl<T> Sequence<T> {
-    /// No item.
+    /// No items.
     pub fn new(alloc: Global) -> Self
         ensures { result ≡ [] }
     {
@@ -28,7 +28,7 @@ impl<T> Sequence<T> {
         }
     }
 
-    /// No item, with room for so many.
+    /// No items, with room for this many.
     pub fn with_capacity(alloc: Global, capacity: usize) -> Result<Self, AllocError>
         ensures { IfOk result (λ new. new ≡ []) }
     {
@@ -51,7 +51,7 @@ impl<T> Sequence<T> {
         self.items.len()
     }
 
-    /// The items, lent.
+    /// The items, borrowed.
     pub fn as_slice(&self) -> &[T]
         ensures { result.now ≡ self.now }
     {
@@ -68,7 +68,7 @@ impl<T> Sequence<T> {
 }
 
 impl<T: Drop> Sequence<T> {
-    /// Adds an item at the end. An `Err` changes nothing, and the item is gone.
+    /// Adds an item at the end. An `Err` changes nothing, and the item is dropped.
     pub fn push(&mut self, item: T) -> Result<(), AllocError>
         ensures ok { OnOk result (self.new ≡ self.old ++ item ∷ []) }
         ensures err { OnErr result (self.new ≡ self.old) }

@@ -1,4 +1,4 @@
-//! The parts of bytes before a place and from it on.
+//! The bytes before a place, and those from it on.
 ghost use Rattle.std.specs.Prelude.{◌≡◌, ◌≤◌, drop, length, take};
 
 /// The bytes from a place on.

@@ -1,4 +1,4 @@
-//! Texts that contracts see as their bytes, and lists of them.
+//! Texts, which contracts see as their bytes, and lists of texts.
 ghost use Rattle.std.specs.Prelude.{◌≡◌, ◌≤◌, ◌++◌, ◌∷◌, [], IfOk, OnOk, OnErr, length, map, string_bytes, true};
 ghost use Rattle.bt_value.specs.Texts.{is_text as is_text_of};
 
@@ -7,10 +7,10 @@ use std::alloc::{AllocError, Global};
 use std::marker::Model;
 use std::str;
 
-/// The most bytes of a value, and of a name.
+/// The most bytes of a value or of a name.
 pub const MOST_VALUE_BYTES: usize = 255;
 
-/// A text of at most 255 bytes, as a value, or the name of a column or of a tree. A contract sees its bytes, which are UTF-8.
+/// A text of at most 255 bytes: a value, or the name of a column or of a tree. A contract sees its bytes, which are UTF-8.
 #[derive(Debug, Drop)]
 pub struct Text {
     bytes: Bytes,
@@ -47,7 +47,7 @@ impl Text {
         })
     }
 
-    /// The text of no bytes.
+    /// The empty text.
     pub fn empty() -> Self
         ensures { result ≡ [] }
     {
@@ -84,7 +84,7 @@ pub(crate) fn is_text(bytes: &[u8]) -> bool
     }
 }
 
-/// A list of texts, as the words of a command line. A contract sees the bytes of each.
+/// A list of texts, such as the words of a command line. A contract sees the bytes of each.
 #[derive(Debug, Drop)]
 pub struct Texts {
     alloc: Global,
@@ -100,7 +100,7 @@ impl Model for Texts {
 }
 
 impl Texts {
-    /// No text. The allocator is kept for `push`.
+    /// No texts. The allocator is kept for `push`.
     pub fn new(alloc: Global) -> Self
         ensures { result ≡ [] }
     {
@@ -120,7 +120,7 @@ impl Texts {
         Ok(())
     }
 
-    /// The texts, lent.
+    /// The texts, borrowed.
     pub fn as_slice(&self) -> &[String]
         ensures { map string_bytes result.now ≡ self.now }
     {

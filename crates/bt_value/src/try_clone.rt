@@ -1,9 +1,9 @@
-//! Copies that may want memory.
+//! Copies that can run out of memory.
 ghost use Rattle.std.specs.Prelude.{◌≡◌, IfOk};
 
 use std::alloc::{AllocError, Global};
 
-/// A type of which copies are made, where there is memory for them.
+/// A type with copies that can run out of memory.
 pub trait TryClone: Sized {
     /// A copy of the value.
     fn try_clone(&self, alloc: Global) -> Result<Self, AllocError>

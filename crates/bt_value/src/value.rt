@@ -1,6 +1,6 @@
-//! Kinds and values. All that is done for single kinds is done here: their forms, their words, the bytes that they take, how a
-//! field of each is read and printed, and their defaults. Everything else goes by the form of a value, but that operations which make
-//! a number, and sums, ask whether a value is an int.
+//! Kinds and values. All code that depends on the kind is here: forms, words, the bytes that a kind takes, how its fields are read and
+//! printed, and its default. Everything else depends only on the form of a value, with one exception: sums and the operations that make
+//! a number check that a value is an int.
 ghost use Rattle.std.specs.Prelude.{◌≡◌, ◌≢◌, ◌++◌, IfOk, IfSome, Some, false, option_map, take, true};
 ghost use Rattle.csv.specs.Writing.{default_writer, field_text};
 ghost use Rattle.bt_value.specs.Kinds.{content_of, default_of, form_of, kind_of_word, kind_of, kind_of_tag, needs_room, tag_of, takes, text_of, value_of, value_with};
@@ -19,25 +19,25 @@ use crate::text::{MOST_VALUE_BYTES, Text, is_text};
 use crate::try_clone::TryClone;
 use std::alloc::{AllocError, Global};
 
-/// What the values of a column are.
+/// The kind of the values of a column.
 #[derive(Clone, Copy, Debug, PartialEq, Eq)]
 pub enum Kind {
-    /// A whole number of 64 bits with a sign.
+    /// A signed whole number of 64 bits.
     Int,
     /// A text: UTF-8 of at most 255 bytes.
     Text,
     /// `true` or `false`.
     Flag,
-    /// At most 255 bytes, which a field spells in hexadecimal digits.
+    /// At most 255 bytes. A field encodes them in hexadecimal digits.
     Bytes,
 }
 
-/// How values of a kind are kept, ordered and coded.
+/// How values of a kind are kept, ordered and encoded.
 #[derive(Clone, Copy, Debug, PartialEq, Eq)]
 pub enum Form {
     /// As a number of 64 bits.
     Number,
-    /// As bytes, of which there are at most 255.
+    /// As bytes, at most 255.
     Bytes,
     /// As a bit.
     Bit,
@@ -46,7 +46,7 @@ pub enum Form {
 /// A value of a column.
 #[derive(Debug, Drop)]
 pub enum Value {
-    /// A whole number of 64 bits with a sign.
+    /// A signed whole number of 64 bits.
     Int(i64),
     /// A text: UTF-8 of at most 255 bytes.
     Text(Text),
@@ -56,10 +56,10 @@ pub enum Value {
     Bytes(Binary),
 }
 
-/// A value, whose bytes stay where they are.
+/// A value whose bytes are borrowed.
 #[derive(Clone, Copy, Debug, Drop)]
 pub enum ValueRef<'a> {
-    /// A whole number of 64 bits with a sign.
+    /// A signed whole number of 64 bits.
     Int(i64),
     /// A text: UTF-8 of at most 255 bytes.
     Text(&'a [u8]),
@@ -69,7 +69,7 @@ pub enum ValueRef<'a> {
     Bytes(&'a [u8]),
 }
 
-/// What a value holds, in the form of its kind. Its bytes stay where they are.
+/// What a value holds, in the form of its kind. Its bytes are borrowed.
 #[derive(Clone, Copy, Debug, Drop)]
 pub enum Content<'a> {
     /// A number of 64 bits.
@@ -81,7 +81,7 @@ pub enum Content<'a> {
 }
 
 impl Kind {
-    /// The kind of a word of the language.
+    /// The kind that a word of the script language names.
     pub fn from_word(word: &[u8]) -> Option<Self>
         ensures { result ≡ kind_of_word word.now }
     {
@@ -94,7 +94,7 @@ impl Kind {
         }
     }
 
-    /// The form of its values.
+    /// The form of the values of this kind.
     #[inline(always)]
     pub fn form(self) -> Form
         ensures { result ≡ form_of self }
@@ -107,7 +107,7 @@ impl Kind {
         }
     }
 
-    /// The number by which a row keeps it.
+    /// The number that a row stores for this kind.
     #[inline(always)]
     pub fn tag(self) -> u8
         ensures { result ≡ tag_of self }
@@ -120,7 +120,7 @@ impl Kind {
         }
     }
 
-    /// The kind of such a number.
+    /// The kind that has this number.
     #[inline(always)]
     pub fn from_tag(tag: u8) -> Self
         ensures { result ≡ kind_of_tag tag }
@@ -133,7 +133,7 @@ impl Kind {
         }
     }
 
-    // Whether it takes these bytes.
+    // Whether bytes are a value of this kind.
     fn takes_bytes(self, bytes: &[u8]) -> bool
         ensures { result ≡ takes self bytes.now }
     {
@@ -144,7 +144,7 @@ impl Kind {
         }
     }
 
-    /// Whether it takes what a value of its form holds: any number, any bit, and of bytes those that are a value of it.
+    /// Whether what a value of the same form holds is a value of this kind. Numbers and bits always are, and bytes must be checked.
     pub fn takes(self, content: Content<'_>) -> bool
         ensures { result ≡ takes_content self (content_of_ref content.entry) }
     {
@@ -154,7 +154,7 @@ impl Kind {
         }
     }
 
-    /// The value of a column in which nothing was set.
+    /// The value of a column that was not set.
     #[tactic(auto, using(crate::proofs::offered::Texts::no_bytes))]
     pub fn default_value<'a>(self) -> ValueRef<'a>
         ensures value { value_of_ref result ≡ default_of self }
@@ -168,7 +168,7 @@ impl Kind {
         }
     }
 
-    /// Whether a field spells other bytes than its own, so that a value is read into room.
+    /// Whether a field encodes bytes other than its own, so that reading it needs an array to write them into.
     #[inline(always)]
     pub fn needs_room(self) -> bool
         ensures { result ≡ needs_room self }
@@ -176,7 +176,7 @@ impl Kind {
         matches!(self, Kind::Bytes)
     }
 
-    /// The value that a field spells in a column of this kind, which needs no room. Its bytes are lent from the field.
+    /// The value that a field encodes in a column of this kind, which needs no array. Its bytes are borrowed from the field.
     pub fn read_lent(self, field: &[u8]) -> Option<ValueRef<'_>>
         requires { needs_room self ≡ false }
         ensures value { option_map value_of_ref result ≡ value_of self field.now }
@@ -190,8 +190,8 @@ impl Kind {
         }
     }
 
-    /// The value that a field spells in a column of this kind. Its bytes are lent from the field, or from `room` where the field
-    /// spells them.
+    /// The value that a field encodes in a column of this kind. Its bytes are borrowed from the field, or from `room` if they are not
+    /// the field's own.
     pub fn read<'a: 'b, 'b>(
         self,
         field: &'a [u8],
@@ -206,8 +206,8 @@ impl Kind {
         }
     }
 
-    /// The value that the first field of a text spells in a column of this kind, and where the field ends, if it is plain. Its bytes are
-    /// lent from the text; a field that spells bytes has none to lend.
+    /// The value that the first field of a text encodes in a column of this kind, and where the field ends, if it is plain. Its bytes are
+    /// borrowed from the text, so there is no value for a kind whose fields encode other bytes than their own.
     #[inline(always)]
     pub fn read_plain<'a>(self, text: &'a [u8]) -> Option<(ValueRef<'a>, usize)>
         ensures value { IfSome result (λ found. value_of self (take found.1 text.now) ≡ Some (value_of_ref found.0)) }
@@ -233,7 +233,7 @@ impl Kind {
 }
 
 impl Value {
-    /// The value where it lies.
+    /// The value, with its bytes borrowed.
     pub fn as_ref(&self) -> ValueRef<'_>
         ensures value { value_of_ref result ≡ self.now }
         ensures bytes { BytesFit self.now }
@@ -260,7 +260,7 @@ impl TryClone for Value {
 }
 
 impl<'a> ValueRef<'a> {
-    /// The value of a kind that holds this, or its default where the kind has another form.
+    /// The value of a kind that holds this, or the kind's default if the kind has another form.
     #[inline(always)]
     pub fn with(kind: Kind, content: Content<'a>) -> Self
         ensures { value_of_ref result ≡ value_with kind (content_of_ref content.entry) }
@@ -274,7 +274,7 @@ impl<'a> ValueRef<'a> {
         }
     }
 
-    /// The kind that it is of.
+    /// The kind of the value.
     #[inline(always)]
     pub fn kind(self) -> Kind
         ensures { result ≡ kind_of (value_of_ref self.entry) }
@@ -287,7 +287,7 @@ impl<'a> ValueRef<'a> {
         }
     }
 
-    /// What it holds.
+    /// What the value holds.
     #[inline(always)]
     pub fn content(self) -> Content<'a>
         ensures { content_of_ref result ≡ content_of (value_of_ref self.entry) }
@@ -313,7 +313,7 @@ impl<'a> ValueRef<'a> {
         }
     }
 
-    /// Adds the text of the value, as a field of a record, for which there is room.
+    /// Adds the text of the value as a field of a record. The caller has reserved room for it.
     #[inline(always)]
     pub fn write(self, out: &mut Vec<u8>)
         requires room { HasRoom out.old (room_of (value_of_ref self)) }

@@ -1,4 +1,4 @@
--- The ints that fields spell have 64 bits. Serves the ranges of values.
+-- The ints that fields encode have 64 bits. Serves the ranges of values.
 use Rattle.std.proofs.Common.{ℕ, zero, suc, ◌-◌, ◌^◌, ◌≤◌, ◌≡◌, ◌==◌, ◌&&◌, true, false, List, arith, drop, get_or, nat_le, Option, Some, None, IfSome, pos, neg_ℤ, refl, if◌then◌else◌}
 use Rattle.std.proofs.lemmas.Bool.Decides.{nat_tests}
 use Rattle.std.specs.Int.{w64}

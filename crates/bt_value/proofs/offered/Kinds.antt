@@ -1,4 +1,5 @@
--- The laws of single kinds: their values and what these hold, their tags, what they take and what fields spell. Everything above goes by them, and by forms.
+-- The laws that depend on the kind: its values and what they hold, its tag, the bytes that it takes and what its fields encode.
+-- All other proofs use these laws and the laws of forms.
 use Rattle.std.proofs.Common.{◌≡◌, ℕ, ◌+◌, ◌<◌, ◌≤◌, ◌==◌, Bool, true, false, List, refl, sym, subst, arith, length, Option, Some, None, ℤ, w64, IfSome, if◌then◌else◌}
 use Rattle.std.proofs.lemmas.Bool.{leb-true}
 use Rattle.std.proofs.lemmas.Bool.Decides.{nat_tests}
@@ -49,7 +50,7 @@ tagged kind.Text = refl
 tagged kind.Flag = refl
 tagged kind.Bytes = refl
 
--- the next tag stands for a bit that is set
+-- the next tag is that of a bit that is set
 pub tagged_next : (k : Kind) → form_of k ≡ form.Bit → kind_of_tag (tag_of k + 1) ≡ k
 tagged_next kind.Flag is = refl
 tagged_next k is = absurd cc
@@ -70,7 +71,7 @@ int_tag tag is = by_tests (tag == 0) (tag == 1) (tag == 4) refl is
     by_tests false false true test e = absurd cc
     by_tests false false false test e = absurd cc
 
--- two kinds are the same if their tags are
+-- two kinds are the same if their tags are equal
 pub tags_agree : (a b : Kind) → (tag_of a == tag_of b) ≡ same_kind a b
 tags_agree kind.Int kind.Int = refl
 tags_agree kind.Text kind.Text = refl
@@ -101,7 +102,7 @@ taken_length kind.Text bytes is = text_length bytes is
 taken_length kind.Bytes bytes is = leb-true (length bytes) most_value_bytes is
 taken_length k bytes is = absurd cc
 
--- so many has a value, if it has any
+-- a value has at most that many bytes, if it has any
 pub bytes_length : (v : Value) (bytes : List ℕ) → BytesFit v → Bytes bytes ≡ content_of v → length bytes ≤ most_value_bytes
 bytes_length v bytes taken is = taken_length (kind_of v) bytes (subst (BytesFitKind (kind_of v)) (sym is) taken)
 
@@ -110,13 +111,13 @@ in_range_taken k (Number n) is = tt
 in_range_taken k (Bytes bytes) is = is
 in_range_taken k (Bit bit) is = tt
 
--- a value within its range has bytes that its kind takes, if it has any
+-- the bytes of a value within its range, if it has any, are a value of its kind
 pub bytes_fit : (v : Value) → IsInRange v → BytesFit v
 bytes_fit v is = in_range_taken (kind_of v) (content_of v) is
 
 -- ---- values of a kind
 
--- a value of a kind has it
+-- a value that fits a kind is of this kind
 pub fits_kind_of : (k : Kind) (v : Value) → fits_kind k v ≡ true → kind_of v ≡ k
 fits_kind_of k v is = same_kind-sound (kind_of v) k (first_true (same_kind (kind_of v) k) (takes_content k (content_of v)) is)
 
@@ -126,7 +127,7 @@ default_fits kind.Text = no_bytes
 default_fits kind.Flag = refl
 default_fits kind.Bytes = refl
 
--- ---- what fields spell
+-- ---- what fields encode
 
 int_fits : (o : Option ℤ) (v : Value) → option_map value.Int o ≡ Some v → fits_kind kind.Int v ≡ true
 int_fits None v is = absurd cc
@@ -162,7 +163,7 @@ bytes_fits : (o : Option (List ℕ)) (v : Value) → IfSome o (λ bytes. is_bina
 bytes_fits None v taken is = absurd cc
 bytes_fits (Some bytes) v taken is = let e : value.Bytes bytes ≡ v = cc in rw (← e) taken
 
--- the value that a field spells is one of the kind
+-- the value that a field encodes fits the kind
 pub value_fits : (k : Kind) (field : List ℕ) (v : Value) → value_of k field ≡ Some v → fits_kind k v ≡ true
 value_fits kind.Int field v is = int_fits (int_of field) v is
 value_fits kind.Text field v is = text_fits (text_read field) v (text_taken field) is
@@ -187,7 +188,7 @@ bytes_ranges : (o : Option (List ℕ)) → IfSome o (λ bytes. is_binary bytes �
 bytes_ranges None taken = tt
 bytes_ranges (Some bytes) taken = taken
 
--- the value that a field spells is within the range of the kind
+-- the value that a field encodes is within the range of the kind
 pub value_in_range : (k : Kind) (field : List ℕ) → IfSome (value_of k field) IsInRange
 value_in_range kind.Int field = int_ranges (int_of field) (int_in_range field)
 value_in_range kind.Text field = text_ranges (text_read field) (text_taken field)

@@ -1,4 +1,4 @@
--- What lets the definitions of fields and records compute on literals.
+-- Lets the definitions of fields and records compute on literals.
 use Rattle.std.specs.Prelude.{⊤}
 use Rattle.std.specs.Fmt.{digits}
 use Rattle.csv.proofs.OnLiterals.{csv_on_literals}

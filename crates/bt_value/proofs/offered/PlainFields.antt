@@ -1,4 +1,4 @@
--- Texts that begin with a plain field: what it spells, and how the rest is cut. Serves reading a line in one pass.
+-- Texts that begin with a plain field: what it encodes, and how the rest is cut. Serves reading a line in one pass.
 use Rattle.std.proofs.Common.{ℕ, zero, suc, Bool, List, [], ◌∷◌, ◌++◌, ◌≡◌, ◌<◌, ◌≤◌, ◌+◌, ◌-◌, ◌*◌, ◌^◌, ◌==◌, ◌-ℤ◌, to_z, of_z, slice_index, IfSome, ◌∙◌, not, subst, refl, ap, sym, arith, true, false, drop, get_or, inl, inr, length, length-take, nat_le, take, Option, Some, None, pos, neg_ℤ, ℤ}
 use mathlib.Core.Bool.{true≢false}
 use Rattle.std.proofs.Math.Nat.{pow-suc}
@@ -50,7 +50,7 @@ written_more text end within = ap number_written (take_more text end 0 within) �
 pub all_more : (p : ℕ → Bool) (text : List ℕ) (end : ℕ) → end < length text → list_all p (take end text) ≡ true → p (get_or text end 0) ≡ true → list_all p (take (end + 1) text) ≡ true
 all_more p text end within all is = list_all_more p text end 0 within ∙ rw (all, is) refl
 
--- a digit more leaves the number below a power of ten
+-- one more digit leaves the number below a power of ten
 pub small_more : (number end b : ℕ) → number < 10 ^ end → is_digit b ≡ true → number * 10 + (b - 48) < 10 ^ (end + 1)
 small_more number end b small digit =
     let e : end + 1 ≡ suc end = omega arith in
@@ -62,9 +62,9 @@ small_more number end b small digit =
 pub digits_end : (text : List ℕ) (end : ℕ) → end ≤ length text → list_all is_digit (take end text) ≡ true → get_or text end 44 ≡ 44 → EndsPlain text end
 digits_end text end within digits ends = record { within = within; plain = digits_plain (take end text) digits; ends = ends }
 
--- ---- what the first field spells
+-- ---- what the first field encodes
 
--- digits begin with no minus
+-- digits do not begin with a minus
 no_minus : (field : List ℕ) → is_numeral field ≡ true → (get_or field 0 0 == 45) ≡ false
 no_minus [] numeral = absurd cc
 no_minus (b ∷ bs) numeral =
@@ -81,11 +81,11 @@ pub spelled_plain : (text : List ℕ) (found : Option (ℤ × ℕ)) → IfSome f
 spelled_plain text None number numeral small = tt
 spelled_plain text (Some f) number numeral small = spelled (take f.1 text) f.0 number numeral small
 
--- the negation of a number of 63 bits has 64
+-- the negation of a number of 63 bits has 64 bits
 pub negated : (n : ℕ) → n ≤ 2 ^ 63 - 1 → to_z w64 (of_z w64 (pos 0 -ℤ to_z w64 (of_z w64 (pos n)))) ≡ neg_ℤ (pos n)
 negated n small = omega (arith, ints)
 
--- the byte at the front goes before those that are taken behind it
+-- the bytes taken, if one more is taken: the first byte, then the others
 taken_behind : (text : List ℕ) (end b : ℕ) → (slice_index text 0 == b) ≡ true → (b == 0) ≡ false → take (end + 1) text ≡ b ∷ take end (drop 1 text)
 taken_behind [] end b first some = absurd (true≢false (sym first ∙ some_zero b some))
   where
@@ -95,7 +95,7 @@ taken_behind (x ∷ xs) end b first some =
     let e : end + 1 ≡ suc end = omega arith in
     ap (λ n. take n (x ∷ xs)) e ∙ ap (λ (y : ℕ). y ∷ take end xs) (eqb-true x b first)
 
--- an int behind a minus
+-- an int with a minus
 pub spelled_minus : (text digits : List ℕ) (end : ℕ) (n : ℤ) → (slice_index text 0 == 45) ≡ true → digits ≡ drop 1 text → pos (number_written (take end digits)) ≡ n → is_numeral (take end digits) ≡ true
     → number_written (take end digits) ≤ 2 ^ 63 - 1 → int_of (take (end + 1) text) ≡ Some (to_z w64 (of_z w64 (pos 0 -ℤ to_z w64 (of_z w64 n))))
 spelled_minus text digits end n minus is number numeral small =
@@ -103,7 +103,7 @@ spelled_minus text digits end n minus is number numeral small =
     let behind_minus : take (end + 1) text ≡ 45 ∷ field = taken_behind text end 45 minus refl ∙ ap (λ (l : List ℕ). 45 ∷ take end l) (sym is) in
     minus_short (take (end + 1) text) field behind_minus (λ _. small) ∙ rw (numeral, ← number, negated (number_written field) small) refl
 
--- which ends where the digits do
+-- it ends where the digits do
 minus_before : (text : List ℕ) (end : ℕ) → (slice_index text 0 == 45) ≡ true → EndsPlain (drop 1 text) end → EndsPlain text (end + 1)
 minus_before [] end minus ends = absurd cc
 minus_before (b ∷ bs) end minus ends =
@@ -128,9 +128,9 @@ pub plain_is_text : (text : List ℕ) (end : ℕ) → EndsPlain text end → end
 plain_is_text text end ends short =
     short_text (take end text) (omega (arith, short, length-take end text)) (IsUtf8-from_ascii (take end text) (plain_ascii (take end text) ends.plain))
 
--- ---- how a text is cut behind its first field
+-- ---- how a text is cut after its first field
 
--- the fields behind a comma or the end
+-- the fields after a comma or the end
 abbrev fields_behind : List ℕ → List (List ℕ)
 fields_behind [] = []
 fields_behind (b ∷ bs) = parts_of bs
@@ -143,7 +143,7 @@ first_part (b ∷ bs) (suc end) plain ends =
     let rest = list_all is_plain (take end bs) in
     rw (plain_comma b (first_true (is_plain b) rest plain), first_part bs end (second_true (is_plain b) rest plain) ends) refl
 
--- no byte of the field is special, nor is the comma
+-- neither the bytes of the field nor the comma are special
 plain_part : (text : List ℕ) (end : ℕ) → list_all is_plain (take end text) ≡ true → get_or text end 44 ≡ 44 → list_any is_special text ≡ list_any is_special (drop (suc end) text)
 plain_part [] end plain ends = refl
 plain_part (b ∷ bs) zero plain ends = rw ends refl
@@ -161,7 +161,7 @@ from_behind text end = elim (cases_Bool (nat_le (end + 1) (length text))) [
       rw none (ap fields_behind (drop_all end text past))
 ]
 
--- what is left from a place on, by the plain field there
+-- what is left from a place on, if there is a plain field at the place
 pub cut_here : (text : List ℕ) (at end : ℕ) → at ≤ length text → EndsPlain (drop at text) end → fields_from at text ≡ take end (drop at text) ∷ fields_from (at + (end + 1)) text
 cut_here text at end within ends =
     let here : nat_le at (length text) ≡ true = le-leb at (length text) within in
@@ -170,13 +170,13 @@ cut_here text at end within ends =
     ∙ ap (λ (rest : List ℕ). take end (drop at text) ∷ fields_behind rest) (drop-drop end at text)
     ∙ ap (λ (rest : List (List ℕ)). take end (drop at text) ∷ rest) (from_behind text (at + end) ∙ ap (λ n. fields_from n text) there)
 
--- whether a special byte is left doesn't change
+-- a cut does not change whether a special byte is left
 pub plain_here : (text : List ℕ) (at end : ℕ) → EndsPlain (drop at text) end → list_any is_special (drop at text) ≡ list_any is_special (drop (at + (end + 1)) text)
 plain_here text at end ends =
     let there : at + suc end ≡ at + (end + 1) = omega arith in
     plain_part (drop at text) end ends.plain ends.ends ∙ ap (list_any is_special) (drop-drop (suc end) at text ∙ ap (λ n. drop n text) there)
 
--- the same, by what is left as the code has it
+-- the same, stated for the rest as the code has it
 pub next_cut : (text rest : List ℕ) (at end : ℕ) → at ≤ length text → rest ≡ drop at text → EndsPlain rest end → fields_from at text ≡ take end rest ∷ fields_from (at + (end + 1)) text
 next_cut text rest at end within is ends =
     cut_here text at end within (subst (λ (l : List ℕ). EndsPlain l end) is ends) ∙ ap (λ (l : List ℕ). take end l ∷ fields_from (at + (end + 1)) text) (sym is)
@@ -184,7 +184,7 @@ next_cut text rest at end within is ends =
 pub next_plain : (text rest : List ℕ) (at end : ℕ) → rest ≡ drop at text → EndsPlain rest end → list_any is_special (drop at text) ≡ list_any is_special (drop (at + (end + 1)) text)
 next_plain text rest at end is ends = plain_here text at end (subst (λ (l : List ℕ). EndsPlain l end) is ends)
 
--- nothing is left behind the end
+-- nothing is left after the end
 pub none_from : (text : List ℕ) (at : ℕ) → length text < at → (fields_from at text ≡ []) × (list_any is_special (drop at text) ≡ false)
 none_from text at past =
     let behind_end : nat_le at (length text) ≡ false = lt-leb at (length text) past in

@@ -1,4 +1,4 @@
--- Values that were read, or refusals: what each outcome says of its parts.
+-- Values that were read, or refusals: what each result says of its parts.
 use Rattle.std.proofs.Common.{◌≡◌, refl, ap, Option, Some, None, Result, Ok, Err}
 use Rattle.std.specs.Prelude.{option_map}
 use Rattle.bt_value.specs.Results.{both_read, or_refused, unless}

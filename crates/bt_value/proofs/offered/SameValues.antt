@@ -1,4 +1,4 @@
--- The test of two lists of values says whether they are one. Serves the messages of an index, and groups.
+-- The comparison of two lists of values is true if the lists are equal. Serves the messages of an index, and groups.
 use Rattle.std.proofs.Common.{◌≡◌, true, ◌&&◌, List, [], ◌∷◌, refl, sym, ap, ◌∙◌, true≢false}
 use Rattle.std.specs.Cmp.{booleans_Decides, signed_Decides}
 use Rattle.std.specs.Cmp.Lexicographic.{bytes_decides, same_text}

@@ -1,4 +1,4 @@
--- Two tests, of which both hold.
+-- Two tests that are both true.
 use Rattle.std.proofs.Common.{Bool, true, false, ◌≡◌, ◌&&◌, refl}
 
 pub both_true : (a b : Bool) → a ≡ true → b ≡ true → (a && b) ≡ true

@@ -4,7 +4,7 @@ use Rattle.bt_value.specs.Texts.{most_value_bytes}
 use Rattle.bt_value.proofs.Spelling.{after}
 use Rattle.bt_value.proofs.binary.spell.Given as goal
 
--- the bytes so far, and those that the digits spell that are left, are those that all spell
+-- the bytes so far, followed by those that the remaining digits encode, are the bytes that all digits encode
 abbrev pub invariant-loop-rest : goal.invariant-loop-rest
 invariant-loop-rest l = record {
   size : length l.room ≡ most_value_bytes;

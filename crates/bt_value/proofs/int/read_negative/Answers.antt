@@ -5,7 +5,7 @@ use Rattle.bt_value.specs.Ints.{is_numeral, number_written}
 use Rattle.bt_value.proofs.IntTexts.{minus_short}
 use Rattle.bt_value.proofs.int.read_negative.Goals as goal
 
--- something was found: the test held, and this is it
+-- if a value was found, the test was true and this is the value
 found : {X : Type 0} (b : Bool) (x value : X) → Some x ≡ (if b then Some value else None) → (b ≡ true) × (x ≡ value)
 found true x value is = (refl, cc)
 found false x value is = cc
@@ -14,7 +14,7 @@ missed : {X : Type 0} (b : Bool) (value : X) → None ≡ (if b then Some value 
 missed true value is = cc
 missed false value is = refl
 
--- the negation of a number of 63 bits has 64
+-- the negation of a number of 63 bits has 64 bits
 negated : (n : ℕ) → n ≤ 2 ^ 63 - 1 → to_z w64 (of_z w64 (pos 0 -ℤ to_z w64 (of_z w64 (pos n)))) ≡ neg_ℤ (pos n)
 negated n small = omega (arith, ints)
 

@@ -7,7 +7,7 @@ use Rattle.bt_value.specs.declared.bytes.BytesStorage.TheVariants.{Short, Long}
 use Rattle.bt_value.proofs.Paddings.{length-padded, padded-all}
 use Rattle.bt_value.proofs.bytes.Bytes.padded.Goals as goal
 
--- all places of a value that keeps its bytes in itself
+-- the whole array of a value that keeps its bytes in itself
 all_places : (storage : BytesStorage) (len : ℕ) (places seen bytes : List ℕ) → storage ≡ Short len places → FitsInside storage → bytes_of storage ≡ bytes → seen ≡ places → (length seen ≡ most_short) × (seen ≡ padded most_short bytes)
 all_places storage len places seen bytes is fits shown same =
     let inside : FitsInside (Short len places) = subst FitsInside is fits in
@@ -15,7 +15,7 @@ all_places storage len places seen bytes is fits shown same =
     let whole : seen ≡ padded most_short bytes = same ∙ inside.1 ∙ ap (λ (bs : List ℕ). padded most_short bs) front in
     (ap length whole ∙ length-padded most_short bytes, whole)
 
--- the bytes are no more than the places
+-- there are no more bytes than places in the array
 fewer : (storage : BytesStorage) (len : ℕ) (places seen bytes : List ℕ) → storage ≡ Short len places → bytes_of storage ≡ bytes → seen ≡ places → length bytes ≤ length seen
 fewer storage len places seen bytes is shown same =
     omega (arith, ap length (sym (ap bytes_of is) ∙ shown), length-take len places, ap length same)
@@ -34,7 +34,7 @@ pub returns-in-Short-clause-whole : goal.returns-in-Short-clause-whole
 returns-in-Short-clause-whole c =
     fewer c.self.inside.storage c.in-Short.field-0 c.in-Short.bytes c.as_slice.result.now c.args.self.now c.in-Short.is c.self.view_is c.as_slice.ensures
 
--- the bytes of a value that keeps them elsewhere, which are more
+-- the bytes of a value that keeps them elsewhere, which are more than the array has
 all_bytes : (storage : BytesStorage) (long : Box (Vec ℕ Global) Global) (seen bytes : List ℕ) → storage ≡ Long long → FitsInside storage → bytes_of storage ≡ bytes → seen ≡ long.value.items → (most_short < length seen) × (seen ≡ bytes)
 all_bytes storage long seen bytes is fits shown same =
     let inside : FitsInside (Long long) = subst FitsInside is fits in
