@@ -1,4 +1,4 @@
--- In which texts csv's reader finds a record, and how many fields it has at least. Serves lines and their reader.
+-- Which texts csv's reader finds a record in, and at least how many fields it has. Serves lines and their reader.
 use Rattle.std.proofs.Common.{ℕ, Bool, List, [], ◌∷◌, ◌++◌, ◌≡◌, ◌==◌, ◌||◌, ◌<◌, ◌≤◌, ◌∙◌, refl, ap, sym, arith, true, false, inl, inr, length, length-append, Option, Some, None}
 use Rattle.std.proofs.lemmas.Bool.{cases_Bool, false≢true, true≢false}
 use Rattle.std.proofs.Math.Dec.{eqb-suc-zero}
@@ -13,7 +13,7 @@ use Rattle.csv.specs.declared.parser.State.TheVariants as st
 use Rattle.csv.proofs.RoundTrip.{record-same}
 use Rattle.bt_record.specs.Records.{csv_record, has_mark, is_refused, record_of, fields_in}
 
--- ---- how many fields
+-- ---- the number of fields
 
 fewer : (a : Action) (fields : List (List ℕ)) (field : List ℕ) → length fields ≤ length (fields_after a fields field)
 fewer act.Skip fields field = omega arith
@@ -59,7 +59,7 @@ more_fields : (found : Option Read) (n : ℕ) → is_some (option_map (λ p. p.0
 more_fields None n some more = absurd cc
 more_fields (Some r) n some more = more
 
--- where so many fields were read and the text goes on, it has more
+-- if this many fields were read and the text goes on, the record has more
 pub many_fields : (text rest : List ℕ) (s : State) (fields : List (List ℕ)) (field : List ℕ) → is_some (csv_record text) ≡ true
     → next_record default_config st.StartRecord [] [] text ≡ next_record default_config s fields field rest → length fields < length (fields_in text)
 many_fields text rest s fields field some same =
@@ -70,7 +70,7 @@ many_fields text rest s fields field some same =
 
 -- ---- whether there is a record
 
--- the states in a record
+-- the states inside a record
 abbrev pub is_inside : State → Bool
 is_inside st.StartField = true
 is_inside st.InField = true
@@ -97,7 +97,7 @@ in_field_inside c more = elim (cases_Bool (c == 44)) [
   ]
 ]
 
--- one byte inside a record leaves the reader there, or ends it
+-- a byte inside a record leaves the reader inside it, or ends the record
 pub step_inside : (s : State) (c : ℕ) → is_inside s ≡ true → is_end (step default_config s c).1 ≡ false → is_inside (step default_config s c).0 ≡ true
 step_inside st.StartRecord c inside more = absurd cc
 step_inside st.AfterCr c inside more = absurd cc
@@ -117,7 +117,7 @@ step_inside st.AfterQuote c inside more = elim (cases_Bool (c == 34)) [
   | inr other ↦ rw other (in_field_inside c (rw other at more))
 ]
 
--- inside a record there is one
+-- inside a record, a record is found
 found_inside : (s : State) (fields : List (List ℕ)) (field text : List ℕ) → is_inside s ≡ true → is_some (next_record default_config s fields field text) ≡ true
 unfolding next_record
 found_inside s fields field [] inside = rw (ends_inside s inside) refl
@@ -142,7 +142,7 @@ pub or-right : (a b : Bool) → (a || b) ≡ false → b ≡ false
 or-right false b e = e
 or-right true b e = absurd cc
 
--- line feeds alone are no record
+-- line feeds alone have no record
 pub feeds_alone : (text : List ℕ) → list_all (λ b. b == 10) text ≡ true → csv_record text ≡ None
 unfolding next_record
 feeds_alone [] all = refl
@@ -154,7 +154,7 @@ feeds_alone (b ∷ bs) all = elim (cases_Bool (b == 10)) [
   | inr other ↦ absurd (false≢true (rw other at all))
 ]
 
--- a text without carriage returns that has another byte is one
+-- a text without carriage returns has a record if it has any byte but line feeds
 pub some_record : (text : List ℕ) → list_all (λ b. b == 10) text ≡ false → list_any (λ b. b == 13) text ≡ false → is_some (csv_record text) ≡ true
 unfolding next_record
 some_record [] all none = absurd cc
@@ -201,7 +201,7 @@ none_with_return line text cut return = none_there line text cut (none_if_refuse
     refused_by_return false false true is = refl
     refused_by_return empty mark false is = absurd cc
 
--- a text that is none of these is not empty, and the record of its line
+-- the line of a text that none of these tests refuses is not empty, and its record is that of the text
 pub record_there : (line text : List ℕ) → text ≡ strip_bom line → list_all (λ b. b == 10) text ≡ false → has_mark text ≡ false → list_any (λ b. b == 13) text ≡ false
     → Some (fields_in text) ≡ record_of line
 record_there line text cut other mark return =

@@ -19,12 +19,12 @@ in_bounds size [] i d within l = absurd (omega (arith, l))
 in_bounds size (p ∷ ps) zero d within l = (within.0, within.1)
 in_bounds size (p ∷ ps) (suc i) d within l = in_bounds size ps i d within.2 (omega (arith, l))
 
--- spans within a size lie within a greater one
+-- spans within a size are within a larger one
 pub wider : (size more : ℕ) (spans : List FieldSpan) → size ≤ more → LieWithin size spans → LieWithin more spans
 wider size more [] le within = tt
 wider size more (p ∷ ps) le within = (within.0, omega (arith, le, within.1), wider size more ps le within.2)
 
--- one more place
+-- one more span
 pub more_spans : (size : ℕ) (spans : List FieldSpan) (p : FieldSpan) → LieWithin size spans → p.start ≤ p.end → p.end ≤ size → LieWithin size (spans ++ p ∷ [])
 more_spans size [] p within s e = (s, e, tt)
 more_spans size (q ∷ qs) p within s e = (within.0, within.1, more_spans size qs p within.2 s e)
@@ -33,7 +33,7 @@ pub more_pieces : (bytes : List ℕ) (spans : List FieldSpan) (p : FieldSpan) �
 more_pieces bytes [] p = refl
 more_pieces bytes (q ∷ qs) p = ap (λ (l : List (List ℕ)). part bytes q ∷ l) (more_pieces bytes qs p)
 
--- more bytes behind spans leave the parts as they are
+-- more bytes after the spans leave the parts unchanged
 pub more_bytes : (bytes more : List ℕ) (spans : List FieldSpan) → LieWithin (length bytes) spans → pieces (bytes ++ more) spans ≡ pieces bytes spans
 more_bytes bytes more [] within = refl
 more_bytes bytes more (p ∷ ps) within =
@@ -46,7 +46,7 @@ more_bytes bytes more (p ∷ ps) within =
 pub last_part : (bytes : List ℕ) (start : ℕ) → take (length bytes - start) (drop start bytes) ≡ drop start bytes
 last_part bytes start = ap (λ n. take n (drop start bytes)) (sym (length-drop start bytes)) ∙ take-length (drop start bytes)
 
--- one more part, behind bytes that are added for it
+-- one more part, after the bytes that are added for it
 pub pushed : (bytes more : List ℕ) (spans : List FieldSpan) (p : FieldSpan) → LieWithin (length bytes) spans → p.start ≡ length bytes → p.end ≡ length (bytes ++ more)
     → pieces (bytes ++ more) (spans ++ p ∷ []) ≡ pieces bytes spans ++ more ∷ []
 pushed bytes more spans p within starts ends =
@@ -61,7 +61,7 @@ pushed_within bytes more spans p within starts ends =
     let grown : length bytes ≤ length (bytes ++ more) = omega (arith, length-append bytes more) in
     more_spans (length (bytes ++ more)) spans p (wider (length bytes) (length (bytes ++ more)) spans grown within) (omega (arith, starts, ends, grown)) (omega (arith, ends))
 
--- ---- the bytes of fields one after the other, and those of the field at hand behind them
+-- ---- the bytes of the fields so far, followed by those of the current field
 
 pub same_fields : (bytes new : List ℕ) (spans spans_new : List FieldSpan) → new ≡ bytes → spans_new ≡ spans → pieces new spans_new ≡ pieces bytes spans
 same_fields bytes new spans spans_new b p = rw (b, p) refl
@@ -69,7 +69,7 @@ same_fields bytes new spans spans_new b p = rw (b, p) refl
 pub same_field : (bytes new : List ℕ) (start start_new : ℕ) → new ≡ bytes → start_new ≡ start → drop start_new new ≡ drop start bytes
 same_field bytes new start start_new b s = rw (b, s) refl
 
--- one more byte of the field at hand
+-- one more byte of the current field
 pub copied_fields : (bytes new : List ℕ) (spans spans_new : List FieldSpan) (start byte : ℕ) → LieWithin start spans → start ≤ length bytes → new ≡ bytes ++ byte ∷ [] → spans_new ≡ spans
     → pieces new spans_new ≡ pieces bytes spans
 copied_fields bytes new spans spans_new start byte within starts b p = rw (b, p) (more_bytes bytes (byte ∷ []) spans (wider start (length bytes) spans starts within))
@@ -77,7 +77,7 @@ copied_fields bytes new spans spans_new start byte within starts b p = rw (b, p)
 pub copied_field : (bytes new : List ℕ) (start start_new byte : ℕ) → start ≤ length bytes → new ≡ bytes ++ byte ∷ [] → start_new ≡ start → drop start_new new ≡ drop start bytes ++ byte ∷ []
 copied_field bytes new start start_new byte starts b s = rw (b, s) (drop-append-le start bytes (byte ∷ []) starts)
 
--- the end of the field at hand
+-- the end of the current field
 pub ended_fields : (bytes new : List ℕ) (spans spans_new : List FieldSpan) (start end : ℕ) → new ≡ bytes → spans_new ≡ spans ++ record { start = start; end = end } ∷ [] → end ≡ length bytes
     → pieces new spans_new ≡ pieces bytes spans ++ drop start bytes ∷ []
 ended_fields bytes new spans spans_new start end b p e =

@@ -8,7 +8,7 @@ use Rattle.bt_record.specs.declared.fields.FieldSpan.{FieldSpan}
 use Rattle.bt_record.proofs.Pieces.{more_pieces}
 use Rattle.bt_record.proofs.offered.PlainTexts.{before_first_part, more-first, nil-first, parts-some}
 
--- what stands from a place on, by the byte there
+-- the parts from a place on, by the byte at the place
 parts_here : (text : List ℕ) (place : ℕ) → place < length text → parts_of (drop place text) ≡ parts_of (get_or text place 0 ∷ drop (place + 1) text)
 parts_here text place within = ap parts_of (drop_more text place 0 within)
 
@@ -24,7 +24,7 @@ part_more text start place le within =
 part_none : (text : List ℕ) (place : ℕ) → part text (record { start = place; end = place }) ≡ []
 part_none text place = let none : place - place ≡ 0 = omega arith in ap (λ n. take n (drop place text)) none
 
--- the parts so far, the part at hand, and those of what is left
+-- the parts so far, the current part, and the parts of the rest
 abbrev pub Cut : List ℕ → List FieldSpan → ℕ → ℕ → Type 0
 Cut text spans start place = parts_of text ≡ pieces text spans ++ before_first_part (part text (record { start = start; end = place })) (parts_of (drop place text))
 
@@ -66,7 +66,7 @@ cut_end text spans start place end so_far =
     ∙ ap (λ (f : List ℕ). pieces text spans ++ f ∷ []) (append-nil (part text p))
     ∙ sym (more_pieces text spans p) ∙ ap (λ n. pieces text (spans ++ record { start = start; end = n } ∷ [])) end
 
--- a byte that is none of the special ones
+-- a byte that is not special
 pub plain_more : (text : List ℕ) (place : ℕ) → place < length text → is_special (get_or text place 0) ≡ false → list_any is_special (drop place text) ≡ list_any is_special (drop (place + 1) text)
 plain_more text place within plain = ap (list_any is_special) (drop_more text place 0 within) ∙ rw plain refl
 

@@ -1,4 +1,4 @@
--- Where the first record of a text ends. Serves finding the next one.
+-- The end of the first record of a text. Serves finding the next one.
 use Rattle.std.proofs.Common.{ℕ, zero, suc, Bool, List, [], ◌∷◌, ◌++◌, ◌≡◌, ◌≢◌, ◌==◌, ◌<◌, ◌≤◌, ◌+◌, ◌∙◌, ◌⊎◌, refl, ap, sym, arith, true, false, not, inl, inr, append_assoc, drop, get_or, get_or-take, length, length-take, take, Option, Some}
 use Rattle.std.proofs.lemmas.Bool.{cases_Bool, eqb-true, false≢true, ne_eqb}
 use Rattle.std.proofs.lemmas.List.{append-nil, drop_all, take-append-drop, take_all, take_more}
@@ -23,18 +23,18 @@ use Rattle.bt_record.proofs.RecordsOf.{first_record}
 
 -- ---- bytes in a record
 
--- no record ends in these bytes: what is behind them is read from this state
+-- no record ends in these bytes: what follows them is read from this state
 abbrev pub Goes : List ℕ → State → List (List ℕ) → List ℕ → Type 0
 Goes bytes s fields field = (rest : List ℕ) → next_record default_config st.StartField [] [] (bytes ++ rest) ≡ next_record default_config s fields field rest
 
--- no record ends before this place of a text, and the reader stands there in a record
+-- no record ends before this place of a text, and at this place the reader is inside a record
 abbrev pub Inside : List ℕ → ℕ → State → Type 0
 Inside text place s = (is_inside s ≡ true) × (fields : List (List ℕ)) × (field : List ℕ) × Goes (take place text) s fields field
 
 pub inside_start : (text : List ℕ) → Inside text 0 st.StartField
 inside_start text = (refl, [], [], λ rest. refl)
 
--- one more byte, which has the action x of csv's, and leaves the state t
+-- one more byte, with the action x of csv's reader, which leaves it in the state t
 pub inside_more : (text : List ℕ) (place : ℕ) (s t : State) (x : Action) → place < length text → x ≡ (step default_config s (get_or text place 0)).1
     → (is_end x ≡ false → t ≡ (step default_config s (get_or text place 0)).0) → is_end x ≡ false → Inside text place s → Inside text (place + 1) t
 inside_more text place s t x within action state more so_far =
@@ -54,7 +54,7 @@ inside_more text place s t x within action state more so_far =
 
 -- ---- the byte that ends a record
 
--- a byte that is no line end ends none
+-- a byte that is not a line end does not end a record
 ends_none : (s : State) (b : ℕ) → is_inside s ≡ true → is_line_end b ≡ false → is_end (step default_config s b).1 ≡ false
 ends_none st.StartRecord b inside other = absurd cc
 ends_none st.AfterCr b inside other = absurd cc
@@ -91,7 +91,7 @@ first_of : (text : List ℕ) (r : Read) → begins_record text ≡ true → next
 first_of [] r begins read = absurd cc
 first_of (b ∷ bs) r begins read = first_record b bs r read
 
--- the bytes before the place where a record ends begin with it too
+-- the bytes before the place where a record ends begin with this record, as the text does
 begins_before : (text : List ℕ) (place : ℕ) (s : State) → begins_record text ≡ true → is_inside s ≡ true → is_end (step default_config s (get_or text place 0)).1 ≡ true → begins_record (take place text) ≡ true
 begins_before [] place s begins inside is = absurd cc
 begins_before (b ∷ bs) zero s begins inside is = absurd (false≢true (sym (ends_none s b inside (not-true (is_line_end b) begins)) ∙ is))
@@ -106,14 +106,14 @@ fields_before text place s so_far begins =
     let read = from_field bytes begins ∙ ap (next_record default_config st.StartField [] []) (sym (append-nil bytes)) ∙ so_far.3 [] ∙ end in
     ap (option_map (λ p. p.0)) read
 
--- the same fields, and what is behind the byte there
+-- the same fields, and the text after the byte at the place
 ends_with : (text : List ℕ) (place : ℕ) (fields : List (List ℕ)) (t : State) → begins_record text ≡ true → csv_record (take place text) ≡ Some fields
     → next_record default_config st.StartRecord [] [] text ≡ Some (fields, t, drop (place + 1) text) → EndsAt text place
 ends_with text place fields t begins alone read =
     let same : fields_in (take place text) ≡ fields = ap (λ (o : Option (List (List ℕ))). unwrap_or o []) alone in
     (ap is_some alone, rw same (first_of text (fields, t, drop (place + 1) text) begins read))
 
--- a text by the bytes before a place
+-- a text, by the bytes before a place
 from_place : (text : List ℕ) (place : ℕ) (s : State) (so_far : Inside text place s) → next_record default_config st.StartField [] [] text ≡ next_record default_config s so_far.1 so_far.2 (drop place text)
 from_place text place s so_far = ap (next_record default_config st.StartField [] []) (sym (take-append-drop place text)) ∙ so_far.3 (drop place text)
 
@@ -212,7 +212,7 @@ plain_ends text place begins within plain line_end =
     let r = runs (take place text) st.StartField [] [] refl plain in
     ends_here text place r.0 act.EndRecord begins within (ends_outside r.0 (get_or text place 0) r.1 line_end) refl (plain_inside text place r)
 
--- or with the text
+-- or at the end of the text
 pub plain_last : (text : List ℕ) → begins_record text ≡ true → IsPlainTo text (length text) → EndsAt text (length text)
 plain_last text begins plain =
     let r = runs (take (length text) text) st.StartField [] [] refl plain in
@@ -228,7 +228,7 @@ plain_before text place within nowhere = list_any_none is_special (take place te
       | inr other ↦ other
     ])
 
--- a byte that is special and no quote
+-- a special byte other than a quote is a line end
 pub is_end_byte : (b : ℕ) → is_special b ≡ true → b ≢ 34 → (b ≡ 13) ⊎ (b ≡ 10)
 is_end_byte b is other = elim (cases_Bool (b == 13)) [
   | inl return ↦ inl (eqb-true b 13 return)

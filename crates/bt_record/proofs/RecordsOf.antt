@@ -1,4 +1,4 @@
--- The records of a text: its first one, and those of what stands behind it. Serves going through them.
+-- The records of a text: the first record, then those of the text after it. Serves iterating over them.
 use Rattle.std.proofs.Common.{ℕ, zero, suc, Bool, List, [], ◌∷◌, ◌≡◌, ◌==◌, ◌<◌, ◌≤◌, ◌+◌, ◌-◌, ◌++◌, ◌∙◌, refl, ap, sym, arith, true, false, inl, inr, drop, get_or, length, take, Option, Some, None}
 use Rattle.std.proofs.lemmas.Bool.{cases_Bool, false≢true}
 use Rattle.std.proofs.lemmas.List.{take_all}
@@ -12,7 +12,7 @@ use Rattle.bt_record.specs.inside.RecordParts.{is_line_end}
 
 -- ---- the state between two records
 
--- behind a CR a text reads as at its start
+-- after a CR a text is read as at its start
 after_return : (text : List ℕ) → next_record default_config st.AfterCr [] [] text ≡ next_record default_config st.StartRecord [] [] text
 unfolding next_record
 after_return [] = refl
@@ -50,7 +50,7 @@ like_field c other = rw other refl
 like_record : (c : ℕ) → (c == 10) ≡ false → step default_config st.AfterCr c ≡ step default_config st.StartRecord c
 like_record c other = rw other refl
 
--- the same of a state that a byte does the same in
+-- the same for two states in which a byte does the same
 ends_alike : (p q : State × Action) → p ≡ q → (is_end q.1 ≡ true → is_between q.0 ≡ true) → is_end p.1 ≡ true → is_between p.0 ≡ true
 ends_alike p q same is ends = ap (λ (r : State × Action). is_between r.0) same ∙ is (ap (λ (r : State × Action). is_end r.1) (sym same) ∙ ends)
 
@@ -60,7 +60,7 @@ record_starts c ends = elim (cases_Bool (is_line_end c)) [
   | inr other ↦ ends_alike (step default_config st.StartRecord c) (step default_config st.StartField c) (like_field c other) (start_ends c) ends
 ]
 
--- behind a record the reader stands between two
+-- after a record the reader is between two records
 step_ends : (s : State) (c : ℕ) → is_end (step default_config s c).1 ≡ true → is_between (step default_config s c).0 ≡ true
 step_ends st.StartRecord c ends = record_starts c ends
 step_ends st.StartField c ends = start_ends c ends
@@ -83,9 +83,9 @@ step_ends st.AfterCr c ends = elim (cases_Bool (c == 10)) [
   | inr other ↦ ends_alike (step default_config st.AfterCr c) (step default_config st.StartRecord c) (like_record c other) (record_starts c) ends
 ]
 
--- ---- what a record leaves
+-- ---- what is left after a record
 
--- a record that was read from so many bytes leaves fewer, and the reader between two
+-- a record read from this many bytes leaves fewer bytes, and the reader between two records
 abbrev Leaves : ℕ → Read → Type 0
 Leaves n r = (is_between r.1 ≡ true) × (length r.2 ≤ n - 1)
 
@@ -111,7 +111,7 @@ leaves s fields field (c ∷ rest) =
 
 -- ---- one record after the other
 
--- between two records it makes no difference whether a CR was before
+-- between two records it makes no difference whether there was a CR
 from_between : (n : ℕ) (s : State) (text : List ℕ) → is_between s ≡ true → records_from default_config n s text ≡ records_from default_config n st.StartRecord text
 unfolding records_from
 from_between zero s text is = refl
@@ -132,7 +132,7 @@ none_of_nothing : next_record default_config st.StartRecord [] [] [] ≡ None
 unfolding next_record
 none_of_nothing = refl
 
--- the records behind one that was read from so many bytes, with more turns than those
+-- the records after one that was read from this many bytes, with more iterations than bytes
 turns_behind : (n m size : ℕ) (found : Option Read) → ((text : List ℕ) → length text < n → length text < m → records_from default_config n st.StartRecord text ≡ records_from default_config m st.StartRecord text)
     → size < n → size < m → IfSome found (Leaves (suc size)) → records_next (records_from default_config n) found ≡ records_next (records_from default_config m) found
 turns_behind n m size None same more_n more_m left = refl
@@ -141,7 +141,7 @@ turns_behind n m size (Some r) same more_n more_m left =
     from_between n r.1 r.2 left.0 ∙ same r.2 (omega (arith, left.1, more_n)) (omega (arith, left.1, more_m)) ∙ sym (from_between m r.1 r.2 left.0) in
     ap (λ (others : List (List (List ℕ))). r.0 ∷ others) rest
 
--- more turns than bytes are turns enough
+-- more iterations than bytes are enough
 turns : (n m : ℕ) (text : List ℕ) → length text < n → length text < m → records_from default_config n st.StartRecord text ≡ records_from default_config m st.StartRecord text
 turns zero m text more_n more_m = absurd (omega (arith, more_n))
 turns (suc n) zero text more_n more_m = absurd (omega (arith, more_m))
@@ -150,7 +150,7 @@ turns (suc n) (suc m) (b ∷ bs) more_n more_m =
     let behind = turns_behind n m (length bs) (next_record default_config st.StartRecord [] [] (b ∷ bs)) (turns n m) (omega (arith, more_n)) (omega (arith, more_m)) (leaves st.StartRecord [] [] (b ∷ bs)) in
     one_turn n (b ∷ bs) ∙ behind ∙ sym (one_turn m (b ∷ bs))
 
--- a text with nothing left has no record
+-- a text with nothing left has no records
 pub no_more : records default_config [] ≡ []
 unfolding records_from
 no_more = rw none_of_nothing refl
@@ -160,7 +160,7 @@ opened text =
     let one_more : length text + 1 ≡ suc (length text) = omega arith in
     ap (λ (n : ℕ). records_from default_config n st.StartRecord text) one_more ∙ one_turn (length text) text
 
--- a record that was read is the first, before those of what is left
+-- the record that was read is the first, and those of the rest follow
 pub first_record : (b : ℕ) (bs : List ℕ) (r : Read) → next_record default_config st.StartRecord [] [] (b ∷ bs) ≡ Some r → records default_config (b ∷ bs) ≡ r.0 ∷ records default_config r.2
 first_record b bs r read =
     let size = suc (length bs) in
@@ -172,20 +172,20 @@ reads_over : (b : ℕ) (bs : List ℕ) → is_line_end b ≡ true → next_recor
 unfolding next_record
 reads_over b bs is = rw is refl
 
--- a line end before a record is read over
+-- a line end before a record is skipped
 pub line_end_more : (b : ℕ) (bs : List ℕ) → is_line_end b ≡ true → records default_config (b ∷ bs) ≡ records default_config bs
 line_end_more b bs is =
     let size = suc (length bs) in
     opened (b ∷ bs) ∙ ap (records_next (records_from default_config size)) (reads_over b bs is) ∙ sym (one_turn size bs) ∙ turns (suc size) (length bs + 1) bs (omega arith) (omega arith)
 
--- the same by the first byte of a text and the bytes behind it
+-- the same, by the first byte of a text and the bytes after it
 pub line_end_first : (text : List ℕ) → 1 ≤ length text → true ≡ is_line_end (get_or text 0 0) → records default_config (take (length text - 1) (drop 1 text)) ≡ records default_config text
 line_end_first [] some is = absurd (omega (arith, some))
 line_end_first (b ∷ bs) some is =
     let rest : take (length (b ∷ bs) - 1) bs ≡ bs = take_all (length (b ∷ bs) - 1) bs (omega arith) in
     ap (records default_config) rest ∙ sym (line_end_more b bs (sym is))
 
--- where no byte is left there is no record
+-- if no byte is left, there are no records
 pub none_left : (text : List ℕ) → length text < 1 → records default_config text ≡ []
 unfolding records_from
 none_left [] none = rw none_of_nothing refl

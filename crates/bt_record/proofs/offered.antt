@@ -1,2 +1,2 @@
--- What crates above cite of the lemmas of this crate.
+-- The lemmas of this crate that crates above cite.
 pub mod PlainTexts

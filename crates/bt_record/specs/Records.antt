@@ -9,7 +9,7 @@ use Rattle.csv.specs.declared.parser.State.TheVariants as state
 abbrev pub csv_record : List ℕ → Option (List (List ℕ))
 csv_record text = option_map (λ p. p.0) (next_record default_config state.StartRecord [] [] text)
 
--- the fields of the first record of a text, as csv reads it; of a text that has line ends alone none
+-- the fields of the first record of a text, as csv reads it; no fields if the text has only line ends
 abbrev pub fields_in : List ℕ → List (List ℕ)
 fields_in text = unwrap_or (csv_record text) []
 
@@ -20,10 +20,10 @@ has_mark (a ∷ []) = false
 has_mark (a ∷ b ∷ []) = false
 has_mark (a ∷ b ∷ c ∷ rest) = is_bom a b c
 
--- a text that is no record: empty, behind a byte order mark, or with a CR in it
+-- a text that is not a record: it is empty, begins with a byte order mark, or has a CR
 abbrev pub is_refused : List ℕ → Bool
 is_refused text = (length text == 0) || has_mark text || list_any (λ b. b == 13) text
 
--- the fields of the record that stands in a line, where one does: one byte order mark before it is dropped
+-- the fields of the record in a line, if it has one; one byte order mark is dropped first
 abbrev pub record_of : List ℕ → Option (List (List ℕ))
 record_of line = if is_refused (strip_bom line) then None else csv_record (strip_bom line)

@@ -8,8 +8,8 @@ use crate::fields::FieldSpan;
 use bt_value::is_special;
 use std::alloc::AllocError;
 
-/// Finds the spans of the fields of a text, which stand between its commas, or answers `false` where they are too many or the text has a byte that csv
-/// reads in a way of its own.
+/// Finds the spans of the fields of a text, which are the parts between its commas. Returns `false` if there are too many fields, or if
+/// the text has a byte with a special meaning in a record.
 pub(crate) fn cut_plain(
     spans: &mut Vec<FieldSpan>,
     text: &[u8],

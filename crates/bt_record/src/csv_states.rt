@@ -1,6 +1,6 @@
-//! The first record of a text, read byte by byte by the states that `csv` defines.
+//! Reading the first record of a text byte by byte, by the states that `csv` defines.
 //!
-//! The library's own reader has a buffer of 8 KiB, which makes it dear for one line; these are its states with its default
+//! The library's own reader has a buffer of 8 KiB, which makes it expensive for a single line. These are its states with its default
 //! settings, without the buffer.
 ghost use Rattle.std.specs.Prelude.{◌≡◌, ◌<◌, ◌≤◌, false, is_some, length, true, IfOk};
 ghost use Rattle.csv.specs.Machine.{is_end, step as csv_step};
@@ -13,25 +13,25 @@ ghost use Rattle.bt_record.specs.inside.RecordParts.{EndsAt, begins_record};
 use crate::fields::FieldSpan;
 use std::alloc::AllocError;
 
-// Where the reader stands in a record.
+// The place of the reader in a record.
 #[derive(Clone, Copy)]
 enum State {
     // before its first byte
     Record,
     // before the first byte of a field
     Field,
-    // in a field, behind a byte that is no quote
+    // in a field, after a byte that is not a quote
     Plain,
     // between quotes
     Quoted,
-    // behind a quote that ends the quoted part, or is the first of two
+    // after a quote that ends the quoted part, or is the first of two
     Quote,
 }
 
 // What is done with a byte.
 #[derive(Clone, Copy)]
 enum ByteAction {
-    // it is passed over
+    // it is skipped
     Skip,
     // it belongs to the field
     Copy,
@@ -41,7 +41,7 @@ enum ByteAction {
     EndRecord,
 }
 
-// What a byte does in a field, outside quotes. The state after the end of a record is of no use.
+// The action of a byte in a field, outside quotes, and the next state. After the end of a record nothing reads the state.
 #[inline(always)]
 fn in_field(byte: u8) -> (State, ByteAction)
     ensures action { csv_action result.1 ≡ (csv_step default_config (csv_state State.Plain) byte).1 }
@@ -54,7 +54,7 @@ fn in_field(byte: u8) -> (State, ByteAction)
     }
 }
 
-// What a byte does at the start of a field.
+// The action of a byte at the start of a field, and the next state.
 #[inline(always)]
 fn start_field(byte: u8) -> (State, ByteAction)
     ensures action { csv_action result.1 ≡ (csv_step default_config (csv_state State.Field) byte).1 }
@@ -67,7 +67,7 @@ fn start_field(byte: u8) -> (State, ByteAction)
     }
 }
 
-// What a byte does in a state, and the state behind it, but for that after the end of a record.
+// The action of a byte in a state, and the next state. After the end of a record nothing reads the state.
 #[inline(always)]
 fn step(state: State, byte: u8) -> (State, ByteAction)
     ensures action { csv_action result.1 ≡ (csv_step default_config (csv_state state) byte).1 }
@@ -84,8 +84,8 @@ fn step(state: State, byte: u8) -> (State, ByteAction)
     }
 }
 
-/// Unescapes the first record of a text into bytes, each field at a place, as `csv` reads it, or answers `false` where its
-/// fields are more than these.
+/// Unescapes the first record of a text, as `csv` reads it, into bytes and the spans of its fields. Returns `false` if it has more
+/// fields than the limit.
 pub(crate) fn cut_quoted(
     bytes: &mut Vec<u8>,
     spans: &mut Vec<FieldSpan>,
@@ -131,7 +131,7 @@ pub(crate) fn cut_quoted(
     Ok(true)
 }
 
-/// Where the first record of a text ends, with which the text begins: at its line end, or with the text.
+/// The end of the first record of a text that begins with it: at its line end, or at the end of the text.
 pub(crate) fn record_end(text: &[u8]) -> usize
     requires { begins_record text.now ≡ true }
     ensures within { result ≤ length text.now }

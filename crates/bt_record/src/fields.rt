@@ -1,11 +1,11 @@
-//! The fields of one record, lent or owned.
+//! The fields of one record, borrowed or owned.
 ghost use Rattle.bt_record.specs.inside.Pieces.{LieWithin, part, pieces};
 ghost use Rattle.std.specs.Prelude.{◌≡◌, ◌==◌, ◌++◌, ◌∷◌, ◌<◌, ◌≤◌, [], Some, length, slice_get, OnOk, OnErr};
 
 use std::alloc::{AllocError, Global};
 use std::marker::Model;
 
-/// Where a field stands in bytes: from its start up to its end.
+/// The place of a field in bytes: from its start up to its end.
 #[derive(Debug, Clone, Copy)]
 pub(crate) struct FieldSpan {
     pub start: usize,
@@ -21,7 +21,7 @@ fn part_in(bytes: &[u8], span: FieldSpan) -> &[u8]
     &bytes[span.start..span.end]
 }
 
-// One of the parts of bytes in spans.
+// The part of bytes in one of the spans.
 #[tactic(auto, using(crate::proofs::Pieces::piece_at, crate::proofs::Pieces::in_bounds))]
 fn piece<'a>(bytes: &'a [u8], spans: &[FieldSpan], place: usize) -> &'a [u8]
     requires place { place < length spans.now }
@@ -31,7 +31,7 @@ fn piece<'a>(bytes: &'a [u8], spans: &[FieldSpan], place: usize) -> &'a [u8]
     part_in(bytes, spans[place])
 }
 
-/// The fields of one record, in order, lent. A contract sees the bytes of each.
+/// The fields of one record, in order, borrowed. A contract sees the bytes of each.
 #[derive(Debug, Drop)]
 pub struct FieldsRef<'a> {
     bytes: &'a [u8],
@@ -50,7 +50,7 @@ impl<'a> Model for FieldsRef<'a> {
 }
 
 impl<'a> FieldsRef<'a> {
-    /// The parts of bytes in spans.
+    /// The parts of bytes in these spans.
     pub(crate) fn new(bytes: &'a [u8], spans: &'a [FieldSpan]) -> Self
         requires { LieWithin (length bytes.now) spans.now }
         ensures { result ≡ pieces bytes.now spans.now }
@@ -58,7 +58,7 @@ impl<'a> FieldsRef<'a> {
         FieldsRef { bytes, spans }
     }
 
-    /// How many fields there are.
+    /// The number of fields.
     #[tactic(auto, using(crate::proofs::Pieces::length_pieces))]
     pub fn len(&self) -> usize
         ensures { result ≡ length self.now }
@@ -78,7 +78,7 @@ impl<'a> FieldsRef<'a> {
 
 /// The fields of one record, in order. A contract sees the bytes of each.
 ///
-/// The bytes of all fields lie in one list, so that a record takes two requests for memory however many fields it has.
+/// The bytes of all fields are in one list, so a record takes two allocations for any number of fields.
 #[derive(Debug, Drop)]
 pub struct Fields {
     bytes: Vec<u8>,
@@ -97,7 +97,7 @@ impl Model for Fields {
 }
 
 impl Fields {
-    /// No field.
+    /// No fields.
     pub fn new(alloc: Global) -> Self
         ensures { result ≡ [] }
     {
@@ -107,7 +107,7 @@ impl Fields {
         }
     }
 
-    /// The parts of bytes in spans.
+    /// The parts of bytes in these spans.
     pub(crate) fn from_parts(bytes: Vec<u8>, spans: Vec<FieldSpan>) -> Self
         requires { LieWithin (length bytes.items) spans.items }
         ensures { result ≡ pieces bytes.items spans.items }
@@ -115,21 +115,21 @@ impl Fields {
         Fields { bytes, spans }
     }
 
-    /// The fields, lent.
+    /// The fields, borrowed.
     pub fn as_ref(&self) -> FieldsRef<'_>
         ensures { result ≡ self.now }
     {
         FieldsRef::new(self.bytes.as_slice(), self.spans.as_slice())
     }
 
-    /// How many fields there are.
+    /// The number of fields.
     pub fn len(&self) -> usize
         ensures { result ≡ length self.now }
     {
         self.as_ref().len()
     }
 
-    /// Whether there is no field.
+    /// Whether there are no fields.
     pub fn is_empty(&self) -> bool
         ensures { result ≡ (length self.now == 0) }
     {

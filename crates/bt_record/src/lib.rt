@@ -1,8 +1,8 @@
 //! Records, as `csv` reads them: a text is cut into records, and a record into its fields.
 //!
 //! The records of a CSV text are borrowed one after the other ([`Records`]), and so is the record of one line ([`RecordLine`]). A line
-//! is cut when its fields are asked for: into owned ones ([`Fields`]), or by a [`RecordCutter`], which takes memory for the longest line
-//! alone. Nothing here knows of kinds or columns: a field is bytes.
+//! is cut when its fields are asked for: into owned fields ([`Fields`]), or by a [`RecordCutter`], which keeps its memory from one line to
+//! the next. This crate has no kinds and no columns: a field is bytes.
 //!
 //! ```text
 //! let mut records = Records::new(b"7,\"Oslo, west\"\n8,Lima\n")?;   // None after a second byte order mark

@@ -1,4 +1,4 @@
-//! A line in which a record stands.
+//! Lines that have a record.
 ghost use Rattle.std.specs.Prelude.{◌≡◌, ◌==◌, is_some, true, IfOk};
 ghost use Rattle.std.specs.List.{list_all, list_any};
 ghost use Rattle.csv.specs.Reading.{strip_bom};
@@ -11,11 +11,11 @@ use memchr::memchr;
 use std::alloc::{AllocError, Global};
 use std::marker::Model;
 
-/// A line in which a record stands, or the lines of a record with line ends between its quotes, not cut yet. A contract sees its
-/// fields.
+/// A line with a record that is not cut yet. It is more than one line of text if there are line ends between quotes. A contract sees
+/// the fields of the record.
 #[derive(Debug, Drop)]
 pub struct RecordLine<'a> {
-    // the line behind its byte order mark, if it has one
+    // the line after its byte order mark, if it has one
     text: &'a [u8],
 }
 
@@ -37,7 +37,7 @@ pub(crate) fn has_mark(text: &[u8]) -> bool
     matches!(text, [0xEF, 0xBB, 0xBF, ..])
 }
 
-/// A text behind its byte order mark, if it has one.
+/// A text without its byte order mark, if it has one.
 #[tactic(auto, using(crate::proofs::Marks::strip_by_test))]
 pub(crate) fn without_mark(text: &[u8]) -> &[u8]
     ensures { result.now ≡ strip_bom text.now }
@@ -52,7 +52,7 @@ fn has_return(text: &[u8]) -> bool
     memchr(b'\r', text).is_some()
 }
 
-// Whether a text has line feeds alone, or nothing.
+// Whether a text has only line feeds, or nothing.
 fn has_only_feeds(text: &[u8]) -> bool
     ensures { result ≡ list_all (λ b. b == 10) text.now }
 {
@@ -60,8 +60,8 @@ fn has_only_feeds(text: &[u8]) -> bool
 }
 
 impl<'a> RecordLine<'a> {
-    /// The line, where a record stands in it. None does where the line is empty, holds a CR or line feeds alone, or begins with
-    /// a byte order mark after one that is dropped.
+    /// The line, if it has a record. It has none if it is empty, has a CR, has only line feeds, or begins with a second byte order mark
+    /// after the first one, which is dropped.
     pub fn new(line: &'a [u8]) -> Option<Self>
         ensures { result ≡ record_of line.now }
     {
@@ -80,7 +80,7 @@ impl<'a> RecordLine<'a> {
         RecordLine { text }
     }
 
-    /// The text whose first record it is.
+    /// The text that begins with this record.
     pub fn text(&self) -> &'a [u8]
         ensures found { is_some (csv_record result.now) ≡ true }
         ensures fields { self.now ≡ fields_in result.now }
@@ -97,14 +97,14 @@ impl<'a> RecordLine<'a> {
         if cut_plain(&mut spans, self.text, usize::MAX)? {
             bytes.extend_from_slice(self.text)?;
         } else {
-            // so many fields no text has
+            // no text has this many fields
             cut_quoted(&mut bytes, &mut spans, self.text, usize::MAX)?;
         }
         Ok(Fields::from_parts(bytes, spans))
     }
 }
 
-/// The fields of the record that stands in a line, or `None` where none does, as [`RecordLine::new`] says.
+/// The fields of the record in a line, or `None` if the line has no record, as in [`RecordLine::new`].
 pub fn read_record(alloc: Global, line: &[u8]) -> Result<Option<Fields>, AllocError>
     ensures { IfOk result (λ fields. fields ≡ record_of line.now) }
 {

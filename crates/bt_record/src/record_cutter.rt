@@ -7,8 +7,8 @@ use crate::fields::{FieldSpan, FieldsRef};
 use crate::line::RecordLine;
 use std::alloc::{AllocError, Global};
 
-/// What lines are cut into, one after the other: the spans of the fields, and the bytes of the fields where the line has
-/// quotes. A line takes no memory that one before it has taken, and one of too many fields no more than one of the most.
+/// Memory for cutting lines, one after the other: the spans of the fields, and the bytes of the fields if the line has quotes. Lines
+/// share this memory, and a line of too many fields takes no more than one of as many as are allowed.
 #[derive(Drop)]
 pub struct RecordCutter {
     bytes: Vec<u8>,
@@ -24,10 +24,10 @@ impl RecordCutter {
         }
     }
 
-    /// The fields of a line, unless they are more than these.
+    /// The fields of a line, or `None` if it has more than the limit.
     ///
-    /// A text without quotes is cut at its commas, and its fields are borrowed from it. Any other, which is more expensive, is read
-    /// byte by byte, by the states of csv's reader.
+    /// A text without quotes is cut at its commas, and its fields are borrowed from it. Any other text is read byte by byte, by the states
+    /// of csv's reader, which is slower.
     pub fn fields<'a>(
         &'a mut self,
         line: &'a RecordLine<'_>,

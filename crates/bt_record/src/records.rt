@@ -9,7 +9,7 @@ use crate::line::{RecordLine, has_mark, without_mark};
 use memchr::memchr3;
 use std::marker::Model;
 
-/// The records of a text that are left, as `csv` reads them, lent. A contract sees the fields of each.
+/// The rest of the records of a text, as `csv` reads them, borrowed. A contract sees the fields of each.
 #[derive(Drop)]
 pub struct Records<'a> {
     rest: &'a [u8],
@@ -31,7 +31,7 @@ fn is_line_end(byte: u8) -> bool
     matches!(byte, b'\r' | b'\n')
 }
 
-// A text from its first record on, if it has one: csv reads over the line ends before it.
+// A text from its first record on, if it has one. Line ends before the record are skipped, as in csv.
 fn skip_line_ends(text: &[u8]) -> Option<&[u8]>
     ensures { MatchOption result (records default_config text.now ≡ []) (λ rest. (begins_record rest.now ≡ true) × (records default_config rest.now ≡ records default_config text.now)) }
 {
@@ -45,8 +45,8 @@ fn skip_line_ends(text: &[u8]) -> Option<&[u8]>
     None
 }
 
-// Where the first record of a text ends, with which the text begins. Only one with a quote before its first line end is read byte
-// by byte.
+// The end of the first record of a text that begins with it. The record is read byte by byte only if it has a quote before its first
+// line end.
 fn find_record_end(text: &[u8]) -> usize
     requires { begins_record text.now ≡ true }
     ensures within { result ≤ length text.now }
@@ -62,7 +62,7 @@ fn find_record_end(text: &[u8]) -> usize
     }
 }
 
-// What stands behind the byte at a place.
+// The text after the byte at a place.
 fn rest_behind(text: &[u8], place: usize) -> &[u8]
     requires { place ≤ length text.now }
     ensures { result.now ≡ drop (place + 1) text.now }
@@ -74,7 +74,7 @@ fn rest_behind(text: &[u8], place: usize) -> &[u8]
 }
 
 impl<'a> Records<'a> {
-    /// The records of a text, from which one byte order mark is dropped. None where another stands behind it.
+    /// The records of a text without its byte order mark, or `None` if a second one follows.
     pub fn new(text: &'a [u8]) -> Option<Self>
         ensures some { IfSome result (λ found. found ≡ records default_config (strip_bom text.now)) }
         ensures unmarked { IfSome result (λ _. is_behind_mark (strip_bom text.now) ≡ false) }
@@ -87,7 +87,7 @@ impl<'a> Records<'a> {
         Some(Records { rest })
     }
 
-    /// The next record, if one is left.
+    /// The next record, if there is one.
     pub fn next(&mut self) -> Option<RecordLine<'a>>
         ensures some { IfSome result (λ line. self.old ≡ line ∷ self.new) }
         ensures none { IfNone result ((self.old ≡ []) × (self.new ≡ [])) }

@@ -1,4 +1,4 @@
--- A line with no quote and no line end is read as its parts between commas. Serves reading a record.
+-- A line without quotes and line ends is read as its parts between commas. Serves reading a record.
 use Rattle.std.proofs.Common.{ℕ, Bool, List, [], ◌∷◌, ◌++◌, ◌≡◌, ◌∙◌, refl, ap, true, false, ◌||◌, ◌==◌, append_assoc, inl, inr, Option, Some}
 use Rattle.std.proofs.lemmas.List.{append-nil}
 use Rattle.std.proofs.lemmas.Bool.{cases_Bool}
@@ -20,7 +20,7 @@ or-right : (a b : Bool) → (a || b) ≡ false → b ≡ false
 or-right false b e = e
 or-right true b e = cc e
 
--- the field at hand goes before the first part
+-- the current field comes before the first part
 abbrev pub before_first_part : List ℕ → List (List ℕ) → List (List ℕ)
 before_first_part field [] = []
 before_first_part field (part ∷ parts) = (field ++ part) ∷ parts
@@ -40,7 +40,7 @@ pub nil-first : (parts : List (List ℕ)) → before_first_part [] parts ≡ par
 nil-first [] = refl
 nil-first (part ∷ parts) = refl
 
--- at the start of a field a plain text reads as inside one
+-- at the start of a field, a plain text is read as inside one
 start-plain : (fields : List (List ℕ)) (text : List ℕ) → list_any is_special text ≡ false
     → next_record default_config st.StartField fields [] text ≡ next_record default_config st.InField fields [] text
 unfolding next_record
@@ -64,7 +64,7 @@ in-plain (b ∷ bs) fields field plain = elim (cases_Bool (b == 44)) [
       rw (other, return, feed) (rest ∙ rw (more-first field b (parts_of bs) parts.0 parts.1 parts.2) refl)
 ]
 
--- a line with no quote and no line end, and some byte, is read as its parts between commas
+-- a line that has a byte, but no quote and no line end, is read as its parts between commas
 plain_record : (b : ℕ) (bs : List ℕ) → list_any is_special (b ∷ bs) ≡ false → csv_record (b ∷ bs) ≡ Some (parts_of (b ∷ bs))
 plain_record b bs plain =
     let return = or-right _ _ (or-left _ _ (or-left _ _ plain)) in
@@ -72,7 +72,7 @@ plain_record b bs plain =
     let start = record-same [] [] b bs return feed ∙ start-plain [] (b ∷ bs) plain ∙ in-plain (b ∷ bs) [] [] plain in
     ap (option_map (λ p. p.0)) start ∙ ap Some (nil-first (parts_of (b ∷ bs)))
 
--- the same of a text that has a record
+-- the same for a text that has a record
 pub plain_text : (text : List ℕ) → is_some (csv_record text) ≡ true → list_any is_special text ≡ false → fields_in text ≡ parts_of text
 unfolding next_record
 plain_text [] found plain = absurd cc

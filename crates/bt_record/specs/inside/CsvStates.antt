@@ -1,4 +1,4 @@
--- The states and actions of the reader of a record, as those that csv defines.
+-- The states and actions of the record reader, compared with those that csv defines.
 use Rattle.csv.specs.declared.parser.State as csv
 use Rattle.csv.specs.declared.parser.State.TheVariants as st
 use Rattle.csv.specs.declared.parser.Action as csv_act
@@ -8,7 +8,7 @@ use Rattle.bt_record.specs.declared.csv_states.State.TheVariants as state
 use Rattle.bt_record.specs.declared.csv_states.ByteAction.{ByteAction}
 use Rattle.bt_record.specs.declared.csv_states.ByteAction.TheVariants as action
 
--- the state of csv's reader
+-- the same state of csv's reader
 abbrev pub csv_state : State → csv.State
 csv_state state.Record = st.StartRecord
 csv_state state.Field = st.StartField
@@ -16,7 +16,7 @@ csv_state state.Plain = st.InField
 csv_state state.Quoted = st.InQuoted
 csv_state state.Quote = st.AfterQuote
 
--- the action of csv's reader
+-- the same action of csv's reader
 abbrev pub csv_action : ByteAction → csv_act.Action
 csv_action action.Skip = act.Skip
 csv_action action.Copy = act.Copy

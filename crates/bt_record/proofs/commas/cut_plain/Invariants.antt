@@ -5,7 +5,7 @@ use Rattle.bt_value.specs.PlainFields.{is_special}
 use Rattle.bt_record.proofs.Plain.{Cut}
 use Rattle.bt_record.proofs.commas.cut_plain.Given as goal
 
--- the parts before this place are found, and no byte before it is special
+-- the parts before this place were found, and no byte before it is special
 abbrev pub invariant-loop-place : goal.invariant-loop-place
 invariant-loop-place l = record {
   starts : l.start ≤ l.place;

@@ -13,7 +13,7 @@ use Rattle.bt_record.proofs.ReaderSteps.{one_more, record_ends, text_ends, nothi
 use Rattle.bt_record.proofs.csv_states.cut_quoted.Goals.{in-Skip, in-Copy+in_ok-push-in-Copy, in-EndField+in_ok-push-in-EndField}
 use Rattle.bt_record.proofs.csv_states.cut_quoted.Goals as goal
 
--- the end of a text in which there is a record
+-- the end of a text that has a record
 last_field : (s : State) (text : List ℕ) (i : ℕ) (fields fields_new : List (List ℕ)) (field : List ℕ) → length text ≤ i
     → is_some (option_map (λ p. p.0) (next_record default_config (csv_state s) fields field (drop i text))) ≡ true → fields_new ≡ fields ++ field ∷ []
     → Some fields_new ≡ option_map (λ p. p.0) (next_record default_config (csv_state s) fields field (drop i text))

@@ -6,7 +6,7 @@ use Rattle.bt_record.specs.inside.Pieces.{LieWithin, pieces}
 use Rattle.bt_record.specs.inside.CsvStates.{csv_state}
 use Rattle.bt_record.proofs.csv_states.cut_quoted.Given as goal
 
--- from here on the reader reads what is left of the text; the bytes from the start on are those of the field at hand
+-- the reader goes on with the rest of the text; the bytes from the start on are those of the current field
 abbrev pub invariant-loop-byte : goal.invariant-loop-byte
 invariant-loop-byte l = record {
   starts : l.start ≤ length l.bytes.items;

@@ -19,7 +19,7 @@ returns-then-matches-clause-ends c =
       | in_default w ↦ absurd (false≢true (sym w.matches-is ∙ c.if-matches.true))
     ]
 
--- any other action ends none
+-- no other action ends a record
 no_end : (a : ByteAction) → a ≢ action.EndRecord → is_end (csv_action a) ≡ false
 no_end action.Skip other = refl
 no_end action.Copy other = refl
