@@ -21,6 +21,6 @@ same_front bytes first count at h f here = by_bytes (pointwise ◌==◌ (take at
             let bytes_same : take at bytes ≡ first = sym here.front ∙ ap packed_values (sym (same_values-sound _ _ g)) ∙ f.same in
             absurd (true≢false (sym ((bytes_decides (take at bytes) first).1 bytes_same) ∙ e))
 
--- bytes that were added to none
+-- bytes that were added to no bytes
 pub copied : (none bytes old new : List ℕ) → new ≡ none ++ (bytes ++ []) → none ≡ [] → bytes ≡ old → new ≡ old
 copied none bytes old new is no_byte same = is ∙ ap (λ (z : List ℕ). z ++ (bytes ++ [])) no_byte ∙ append-nil bytes ∙ same

@@ -26,7 +26,7 @@ low_bits (negsuc n) fits = let f = fits.sfits in omega arith
 same_int : (n : ℤ) → SFits w64 n → cast_signed w64 (cast_unsigned w64 n) ≡ n
 same_int n fits = omega (arith, ints)
 
--- the int of the bytes of an int is that int, whatever comes after them
+-- the int that the bytes of an int encode is that int, with any bytes after it
 pub int_from-int_bytes : (n : ℤ) (more : List ℕ) → SFits w64 n → int_from (int_bytes n ++ more) ≡ n
 unfolding int_bytes int_from
 int_from-int_bytes n more fits = ap (cast_signed w64) (from_le_bytes-to_le_bytes_8 (cast_unsigned w64 n) (low_bits n fits)) ∙ same_int n fits
@@ -93,7 +93,7 @@ unpacked_by-packed zero (v ∷ vs) fits enough = absurd (omega (arith, length-ap
 unpacked_by-packed (suc most) (v ∷ vs) fits enough =
     step most v (packed_values vs) fits.0 ∙ ap (λ z. v ∷ z) (unpacked_by-packed most vs fits.1 (omega (arith, length-append (packed_value v) (packed_values vs), some_width v)))
 
--- values come back from their bytes
+-- reading the bytes of values gives these values
 pub unpacked-packed : (vs : List Value) → AreInRange vs → unpacked (packed_values vs) ≡ vs
 unfolding unpacked
 unpacked-packed vs fits = unpacked_by-packed (length (packed_values vs)) vs fits (omega arith)

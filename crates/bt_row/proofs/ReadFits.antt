@@ -1,4 +1,4 @@
--- What fields spell fits its column: values, and operations one by one. Serves offered/Fits.
+-- The values that fields encode fit their columns, and so do operations one by one. Serves offered/Fits.
 use Rattle.std.proofs.Common.{ℕ, zero, suc, ◌+◌, ◌≤◌, Bool, List, [], ◌∷◌, ◌≡◌, ◌==◌, ◌∙◌, refl, sym, ap, subst, true, false, arith, codes, drop, slice_get, Option, Some, None, Result, Ok, Err, if◌then◌else◌}
 use Rattle.std.proofs.lemmas.Bool.{le-leb}
 use Rattle.std.specs.Cmp.Lexicographic.{pointwise}
@@ -35,7 +35,7 @@ with_first_fits column columns (Some v) (Some vs) row one others is =
 
 -- ---- operations that are read
 
--- the column with a name stands some places on
+-- the column with a name is at a place from here on
 abbrev StandsAt : ℕ → List Column → ℕ × Kind → Type 0
 StandsAt start columns found = (i : ℕ) × (found.0 ≡ start + i) × (option_map (λ c. c.kind) (slice_get columns i) ≡ Some found.1)
 
@@ -60,7 +60,7 @@ get_dropped zero i xs = ap (slice_get xs) (omega arith)
 get_dropped (suc n) i [] = refl
 get_dropped (suc n) i (x ∷ xs) = get_dropped n i xs ∙ ap (slice_get (x ∷ xs)) (let e : suc (n + i) ≡ suc n + i = omega arith in e)
 
--- the column with a name that operations may change stands behind the key
+-- the column with a name that operations may change is after the key
 pub open_kind_at : (schema : Schema) (name : List ℕ) (found : ℕ × Kind) → open_column schema name ≡ Some found → open_kind schema found.0 ≡ Some found.1
 open_kind_at schema name found is =
     let at = named_at schema.keys name (drop schema.keys schema.columns) found is in

@@ -20,18 +20,18 @@ one_more values i v within at =
     let here : get_or texts i [] ≡ text_of v = get_or_default texts i [] (text_of v) (omega (arith, length-map values text_of)) ∙ get_or-map text_of values i v ∙ ap text_of (sym at) in
     row-step default_writer texts i (omega (arith, length-map values text_of)) ∙ ap (λ (f : List ℕ). row_body default_writer (take i texts) ++ (next_sep default_writer i ++ field_text default_writer f)) here
 
--- the text of the first values was added, and these are left
+-- the text of the first values was added, and these values are left
 pub record Wrote (values rest : List Value) (place : ℕ) (old out : List ℕ) : Type 0 where
   pub count : ℕ
   pub left : rest ≡ drop count values
   pub text : out ≡ old ++ row_body default_writer (take count (map text_of values))
   pub separator : next_sep default_writer place ≡ next_sep default_writer count
 
--- before the first
+-- before the first value
 pub wrote_none : (values : List Value) (old : List ℕ) → Wrote values values 0 old old
 wrote_none values old = record { count = 0; left = refl; text = sym (append-nil old); separator = refl }
 
--- the first of what is left
+-- the first value of those that are left
 pub record First (values : List Value) (count : ℕ) (v : Value) (rest : List Value) : Type 0 where
   pub within : count < length values
   pub at : v ≡ get_or values count v
@@ -67,13 +67,13 @@ wrote_more values rest others place old out new v so_far is added =
     sep_behind : (n : ℕ) → next_sep default_writer 1 ≡ next_sep default_writer (n + 1)
     sep_behind n = let other : n + 1 ≢ 0 = omega arith in rw (ne_eqb (n + 1) 0 other) refl
 
--- all were written
+-- all values were written
 pub wrote_all : (values rest : List Value) (place : ℕ) (old out : List ℕ) → Wrote values rest place old out → rest ≡ [] → out ≡ old ++ row_body default_writer (map text_of values)
 wrote_all values rest place old out so_far none =
     let past : length values ≤ so_far.count = omega (arith, ap length (sym so_far.left ∙ none), length-drop so_far.count values) in
     so_far.text ∙ ap (λ (ts : List (List ℕ)). old ++ row_body default_writer ts) (take_all so_far.count (map text_of values) (omega (arith, past, length-map values text_of)))
 
--- a record shows no byte just where its text has none
+-- a record shows no byte exactly if its text is empty
 pub blank_is_empty : (fields : List (List ℕ)) → is_blank default_writer fields ≡ (length (row_body default_writer fields) == 0)
 unfolding is_blank fields_text
 blank_is_empty [] = refl
@@ -82,7 +82,7 @@ blank_is_empty (field ∷ next ∷ rest) =
     let shown : length (field_text default_writer field ++ (44 ∷ (field_text default_writer next ++ fields_text default_writer rest))) ≢ 0 = simp length-append (omega arith) in
     sym (ne_eqb _ 0 shown)
 
--- six bytes of a record for each byte of a row are enough for a value and the comma before it; a flag needs them all
+-- six bytes of a record for each byte of a row are enough for a value and the comma before it; a flag needs all of them
 content_room : (tag : ℕ) (c : Content) → room_in c + 1 ≤ 6 * length (packed_content tag c)
 content_room tag (Number n) = omega (arith, length_int_bytes n)
 content_room tag (Bytes bytes) = omega arith

@@ -1,4 +1,4 @@
--- One value of the bytes of values is replaced by another.
+-- Replacing one value in the bytes of values.
 use Rattle.std.proofs.Common.{◌≡◌, ℕ, zero, suc, ◌+◌, ◌-◌, ◌<◌, ◌≤◌, ◌==◌, List, [], ◌∷◌, ◌++◌, length, length-drop, append_assoc, take, drop, get_or, set, Option, Some, None, refl, sym, ap, subst, ◌∙◌, ℤ, pos, SFits, w64, arith}
 use Rattle.std.proofs.lemmas.List.{drop-drop, drop_all}
 use Rattle.bt_row.specs.Arithmetic.{Makes, new_number, new_value}
@@ -19,7 +19,7 @@ number_kind : (v : Value) (n : ℤ) → int_number v ≡ Some n → v ≡ value.
 number_kind (value.Int m) n e = cc
 number_kind v n e = absurd cc
 
--- new bytes are old ones with the value that begins at a byte replaced
+-- new bytes are the old ones with the value that begins at a byte replaced
 pub record Replaces (old new : List ℕ) (at : ℕ) (v : Value) : Type 0 where
   pub bytes : new ≡ take at old ++ (packed_value v ++ drop (at + width_of (drop at old)) old)
 
@@ -66,9 +66,9 @@ set_past_end bytes place at v here past =
     past_last zero (u ∷ vs) w e = absurd cc
     past_last (suc n) (u ∷ vs) w e = ap (λ z. u ∷ z) (past_last n vs w e)
 
--- ---- an int and a number make another
+-- ---- an int combined with a number
 
--- bytes from a place on begin with no more than there is
+-- the first value takes no more bytes than there are
 pub width_fits : (bytes : List ℕ) → IsPacked bytes → width_of bytes ≤ length bytes
 width_fits [] h = omega arith
 width_fits (b ∷ bs) h = (has_first (b ∷ bs) h (omega arith)).within
@@ -84,14 +84,14 @@ int_first (tag ∷ bs) n e =
     let k = tag_of_int tag bs n e in
     (number_kind (first_of (tag ∷ bs)) n e, ap (λ j. width_in (form_of j) bs) k, ap (λ t. t ∷ bs) (int_tag tag k))
 
--- what begins with the tag of an int takes nine bytes, and is one
+-- bytes that begin with the tag of an int have an int of nine bytes
 pub int_width : (tag : ℕ) (bs : List ℕ) → kind_of_tag tag ≡ kind.Int → width_of (tag ∷ bs) ≡ 9
 int_width tag bs is = ap (λ k. width_in (form_of k) bs) is
 
 pub is_number : (tag : ℕ) (bs : List ℕ) → kind_of_tag tag ≡ kind.Int → Some (int_from bs) ≡ int_number (first_of (tag ∷ bs))
 is_number tag bs is = sym (ap (λ k. int_number (value_tagged k tag bs)) is)
 
--- what begins with another tag is no int
+-- bytes that begin with another tag have no int
 pub no_number : (tag : ℕ) (bs : List ℕ) → (kind_of_tag tag ≡ kind.Int → ⊥) → None ≡ int_number (first_of (tag ∷ bs))
 no_number tag bs other = by_number (int_number (first_of (tag ∷ bs))) refl
   where

@@ -1,4 +1,4 @@
--- What an operation makes of a row that fits, and the defaults of columns. Serves offered/Fits.
+-- A row that fits its columns, after an operation, and the defaults of columns. Serves offered/Fits.
 use Rattle.std.proofs.Common.{ℕ, zero, suc, ◌≤◌, Bool, List, [], ◌∷◌, ◌++◌, ◌≡◌, refl, true, false, arith, nat_le, take, drop, get_or, set, slice_get, Option, Some, None, ℤ, pos, if◌then◌else◌}
 use Rattle.std.proofs.lemmas.Bool.Decides.{nat_tests}
 use Rattle.std.proofs.lemmas.List.{take-set-le}
@@ -19,7 +19,7 @@ use Rattle.bt_value.specs.declared.value.Value.TheVariants as value
 use Rattle.bt_value.proofs.offered.Tests.{both_true, first_true, second_true}
 use Rattle.bt_value.proofs.offered.Kinds.{default_fits}
 
--- ---- what operations make of a row
+-- ---- a row after operations
 
 set_value_fits : (columns : List Column) (row : List Value) (place : ℕ) (k : Kind) (v : Value) → fit_columns columns row ≡ true → option_map (λ c. c.kind) (slice_get columns place) ≡ Some k → fits_kind k v ≡ true
     → fit_columns columns (set row place v) ≡ true
@@ -63,7 +63,7 @@ number_kind None is = absurd cc
 number_kind (Some kind.Int) is = refl
 number_kind (Some other) is = absurd cc
 
--- a row after what an operation does that fits still fits, and its key stays
+-- a row that fits still fits after an action that fits, and its key is unchanged
 action_keeps : (schema : Schema) (action : Action) (row : List Value) → ((item : ℕ) → action_fault schema item action ≡ None) → fit_columns schema.columns row ≡ true
     → (fit_columns schema.columns (after_action row action) ≡ true) × (take schema.keys (after_action row action) ≡ take schema.keys row)
 action_keeps schema (Sets place v) row fits fit =
@@ -81,7 +81,7 @@ action_keeps schema (Makes arithmetic place n) row fits fit =
 pub op_keeps : (schema : Schema) (op : Op) (row : List Value) → OpFits schema op → fit_columns schema.columns row ≡ true → (fit_columns schema.columns (after_op row op) ≡ true) × (take schema.keys (after_op row op) ≡ take schema.keys row)
 op_keeps schema op row fits fit = action_keeps schema (action_of op) row fits fit
 
--- ---- the row of a key where there is none
+-- ---- the first row of a key
 
 pub defaults_fit : (columns : List Column) → fit_columns columns (map (λ c. default_of c.kind) columns) ≡ true
 defaults_fit [] = refl

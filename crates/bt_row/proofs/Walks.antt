@@ -12,7 +12,7 @@ pub unpacked_none : unpacked [] ≡ []
 unfolding unpacked unpacked_by
 unpacked_none = refl
 
--- so many values lie before this byte
+-- this many values are before this byte
 pub record Walk (bytes : List ℕ) (passed at : ℕ) : Type 0 where
   pub offset : at ≡ offset_of passed (unpacked bytes)
   pub count : passed ≤ length (unpacked bytes)
@@ -28,7 +28,7 @@ take_one_more zero (w ∷ vs) v rest e = (cc)
 take_one_more (suc n) [] v rest e = (cc)
 take_one_more (suc n) (w ∷ vs) v rest e = let k : suc n + 1 ≡ suc (n + 1) = omega arith in rw k (ap (λ z. w ∷ z) (take_one_more n vs v rest e))
 
--- one value more lies before the byte behind it
+-- the byte after the next value has one more value before it
 pub next_offset : (bytes : List ℕ) (passed : ℕ) → IsPacked bytes → offset_of passed (unpacked bytes) < length bytes →
     (offset_of (passed + 1) (unpacked bytes) ≡ offset_of passed (unpacked bytes) + width_of (drop (offset_of passed (unpacked bytes)) bytes)) × (passed < length (unpacked bytes))
 next_offset bytes passed h more =
@@ -92,7 +92,7 @@ pub record HasValue (bytes : List ℕ) (place at : ℕ) : Type 0 where
   pub value : slice_get (unpacked bytes) place ≡ Some (first_of (drop at bytes))
   pub in_range : IsInRange (first_of (drop at bytes))
 
--- a value begins where bytes are left
+-- if bytes are left, a value begins there
 pub value_there : (bytes : List ℕ) (place at : ℕ) → IsAt bytes place at → at < length bytes → HasValue bytes place at
 value_there bytes place at here some =
     let left : 0 < length (drop at bytes) = omega (arith, length-drop at bytes) in
@@ -121,7 +121,7 @@ pub some_byte : (bytes : List ℕ) → (length bytes == 0) ≡ false → 0 < len
 some_byte [] e = absurd cc
 some_byte (b ∷ bs) e = omega arith
 
--- there is no value just where there is no byte
+-- there is no value exactly if there is no byte
 pub none_left : (bytes : List ℕ) → IsPacked bytes → (length bytes == 0) ≡ (length (unpacked bytes) == 0)
 none_left [] h = ap (λ vs. length vs == 0) (sym unpacked_none)
 none_left (b ∷ bs) h =
@@ -153,7 +153,7 @@ set_around (suc n) (w ∷ vs) v within = let k : suc n + 1 ≡ suc (n + 1) = ome
 pub set_parts : (n : ℕ) (vs : List Value) (v : Value) → n < length vs → (take n vs ++ v ∷ []) ++ drop (n + 1) (take (length vs) vs) ≡ set vs n v
 set_parts n vs v within = ap (λ z. (take n vs ++ v ∷ []) ++ drop (n + 1) z) (take_all (length vs) vs (omega arith)) ∙ set_around n vs v within
 
--- bytes of values behind bytes of values
+-- bytes of values after bytes of values
 join : (first second : List ℕ) → IsPacked first → IsPacked second → packed_values (unpacked first ++ unpacked second) ≡ first ++ second
 join first second f g = packed-append (unpacked first) (unpacked second) ∙ ap (λ z. z ++ packed_values (unpacked second)) f.same ∙ ap (λ z. first ++ z) g.same
 

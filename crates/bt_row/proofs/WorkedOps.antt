@@ -1,4 +1,4 @@
--- Operations, computed. Serves whoever reads their definitions.
+-- Examples of operations, computed. Serves readers of their definitions.
 use Rattle.std.proofs.Common.{◌≡◌, List, ℕ, [], ◌∷◌, pos, negsuc, refl, codes, true, false, Ok, Err, Some, None}
 use Rattle.bt_value.proofs.offered.OnLiterals.{values_on_literals}
 use Rattle.bt_value.specs.Kinds.{text_of, value_of}
@@ -15,11 +15,11 @@ use Rattle.bt_value.specs.declared.value.Value.TheVariants as value
 abbrev column : List ℕ → Kind → Column
 column name of = record { name = name; kind = of }
 
--- id:int qty:int, of which the first is the key
+-- id:int qty:int, with the first as the key
 abbrev stock : Schema
 stock = record { columns = column (codes "id") kind.Int ∷ column (codes "qty") kind.Int ∷ []; keys = 1 }
 
--- id:int qty:int city:text open:flag, of which the first is the key
+-- id:int qty:int city:text open:flag, with the first as the key
 abbrev shops : Schema
 shops = record { columns = column (codes "id") kind.Int ∷ column (codes "qty") kind.Int ∷ column (codes "city") kind.Text ∷ column (codes "open") kind.Flag ∷ []; keys = 1 }
 
@@ -37,11 +37,11 @@ greatest = refl
 least : after_ops (Add 0 (negsuc 0) ∷ []) (value.Int (negsuc 9223372036854775807) ∷ []) ≡ value.Int (negsuc 9223372036854775807) ∷ []
 least = refl
 
--- the sum that is held is what the next one is added to
+-- the next number is added to the sum that stopped at the largest int
 held_between : after_ops (Add 0 (pos 2) ∷ Add 0 (negsuc 2) ∷ []) (value.Int (pos 9223372036854775806) ∷ []) ≡ value.Int (pos 9223372036854775804) ∷ []
 held_between = refl
 
--- the greater and the less, of the default too
+-- the larger and the smaller, of the default too
 greater : after_ops (Max 1 (pos 8) ∷ Max 1 (negsuc 8) ∷ []) (value.Int (pos 9) ∷ value.Int (pos 5) ∷ []) ≡ value.Int (pos 9) ∷ value.Int (pos 8) ∷ []
 greater = refl
 
@@ -61,14 +61,14 @@ texts_and_bytes_stay = refl
 nothing_done : after_ops (Add 0 (pos 1) ∷ Set 2 (value.Int (pos 7)) ∷ Add 2 (pos 7) ∷ []) (value.Flag true ∷ value.Int (pos 1) ∷ []) ≡ value.Flag true ∷ value.Int (pos 1) ∷ []
 nothing_done = refl
 
--- where there is a row, the base is not looked at
+-- if there is a row, the base is not used
 on_a_row : merged (Some (value.Int (pos 9) ∷ value.Int (pos 4) ∷ [])) (record { base = value.Int (pos 9) ∷ value.Int (pos 0) ∷ []; ops = Add 1 (pos 1) ∷ [] }) ≡ value.Int (pos 9) ∷ value.Int (pos 5) ∷ []
 on_a_row = refl
 
 on_no_row : merged None (record { base = value.Int (pos 9) ∷ value.Int (pos 0) ∷ []; ops = Add 1 (pos 1) ∷ [] }) ≡ value.Int (pos 9) ∷ value.Int (pos 1) ∷ []
 on_no_row = refl
 
--- ---- how fields spell bytes, and how these are printed
+-- ---- how fields encode bytes, and how bytes are printed
 
 two_digits_each : value_of kind.Bytes (codes "00fFA0") ≡ Some (value.Bytes (0 ∷ 255 ∷ 160 ∷ []))
 unfolding values_on_literals
@@ -89,7 +89,7 @@ no_digit = refl
 in_lower_case : text_of (value.Bytes (0 ∷ 255 ∷ 160 ∷ [])) ≡ codes "00ffa0"
 in_lower_case = refl
 
--- ---- how records spell operations
+-- ---- how records encode operations
 
 two_operations : upsert_as stock 4 (codes "9" ∷ codes "set" ∷ codes "qty" ∷ codes "5" ∷ codes "add" ∷ codes "qty" ∷ codes "-2" ∷ [])
     ≡ Ok (value.Int (pos 9) ∷ [], Set 1 (value.Int (pos 5)) ∷ Add 1 (negsuc 1) ∷ [])
@@ -117,7 +117,7 @@ key_column : ops_as shops 4 (codes "1" ∷ codes "set" ∷ codes "id" ∷ codes 
 unfolding values_on_literals
 key_column = refl
 
--- of two faults the least
+-- the least of two faults
 unknown_word : ops_as shops 4 (codes "1" ∷ codes "set" ∷ codes "nope" ∷ codes "1" ∷ codes "mul" ∷ codes "qty" ∷ codes "1" ∷ []) ≡ Err (BadField 4)
 unfolding values_on_literals
 unknown_word = refl
@@ -126,12 +126,12 @@ no_operation : ops_as shops 4 (codes "1" ∷ []) ≡ Err (BadLength 4)
 unfolding values_on_literals
 no_operation = refl
 
--- a fault of the key is less than one of the operations
+-- the fault of the key is smaller than that of the operations
 bad_key : upsert_as shops 4 (codes "x" ∷ codes "add" ∷ codes "city" ∷ codes "1" ∷ []) ≡ Err (BadField 4)
 unfolding values_on_literals
 bad_key = refl
 
--- ---- whether they are operations of a schema
+-- ---- whether operations fit a schema
 
 add_to_key : checked_ops stock 2 (Add 0 (pos 1) ∷ []) ≡ Err NoSuchColumn
 add_to_key = refl

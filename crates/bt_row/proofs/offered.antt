@@ -1,3 +1,3 @@
--- What crates above cite of the lemmas of this crate.
+-- The lemmas of this crate that crates above cite.
 pub mod Actions
 pub mod Fits

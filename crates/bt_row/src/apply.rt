@@ -1,4 +1,4 @@
-//! What operations make of a row, and the row to begin with.
+//! The row after operations, and the row that a key begins with.
 ghost use Rattle.std.specs.Prelude.{◌≡◌, IfOk, OnOk, drop};
 ghost use Rattle.bt_row.specs.Ops as spec;
 
@@ -8,14 +8,14 @@ use crate::row::{Row, width_of_value};
 use crate::schema::{Column, Schema};
 use std::alloc::{AllocError, Global};
 
-// The columns behind the key.
+// The columns after the key.
 fn open_columns(schema: &Schema) -> &[Column]
     ensures { result.now ≡ drop schema.now.keys schema.now.columns }
 {
     &schema.columns()[schema.keys()..]
 }
 
-// The bytes that the defaults of these columns take.
+// The number of bytes that the defaults of these columns take.
 fn room_for_defaults(columns: &[Column]) -> usize {
     let mut room: usize = 0;
     for column in columns {
@@ -24,7 +24,7 @@ fn room_for_defaults(columns: &[Column]) -> usize {
     room
 }
 
-/// The row of a key where there is none: the key's values, then 0, the empty text, `false` or no byte in each other column.
+/// The first row of a key: the key's values, then 0, the empty text, `false` or no bytes in each other column.
 pub fn default_row(alloc: Global, schema: &Schema, key: Row) -> Result<Row, AllocError>
     ensures { IfOk result (λ row. row ≡ spec.default_row schema.now key) }
 {
@@ -36,7 +36,7 @@ pub fn default_row(alloc: Global, schema: &Schema, key: Row) -> Result<Row, Allo
     Ok(row)
 }
 
-// Does one operation to a row.
+// Applies one operation to a row.
 fn apply_op(alloc: Global, row: &mut Row, op: &Op) -> Result<(), AllocError>
     ensures { OnOk result (row.new ≡ spec.after_op row.old op.now) }
 {
@@ -49,7 +49,7 @@ fn apply_op(alloc: Global, row: &mut Row, op: &Op) -> Result<(), AllocError>
     }
 }
 
-// The row after operations in turn, each of which writes it.
+// The row after the operations, in order. Each of them writes the row.
 fn after_each(alloc: Global, row: Row, ops: &[Op]) -> Result<Row, AllocError>
     ensures { IfOk result (λ after. after ≡ spec.after_ops ops.now row) }
 {
@@ -60,7 +60,7 @@ fn after_each(alloc: Global, row: Row, ops: &[Op]) -> Result<Row, AllocError>
     Ok(after)
 }
 
-// The row after operations in turn, which is written once.
+// The row after the operations, in order. The row is written once, at the end.
 fn after_all(alloc: Global, row: &Row, ops: &[Op]) -> Result<Row, AllocError>
     ensures { IfOk result (λ after. after ≡ spec.after_ops ops.now row.now) }
 {
@@ -71,7 +71,7 @@ fn after_all(alloc: Global, row: &Row, ops: &[Op]) -> Result<Row, AllocError>
     values.pack(alloc)
 }
 
-// How many operations set a value.
+// The number of operations that set a value.
 fn set_count(ops: &[Op]) -> usize {
     let mut sets: usize = 0;
     for op in ops {
@@ -82,16 +82,16 @@ fn set_count(ops: &[Op]) -> usize {
     sets
 }
 
-// Whether so many values are set that it takes less time to go through all values and to write the row once.
+// Whether the operations set enough values that it is faster to read all values first and to write the row once.
 fn sets_many(row: &Row, ops: &[Op]) -> bool {
     let sets = set_count(ops);
     sets > 1 && sets > row.len() / 4
 }
 
-/// The row after operations in turn. An operation on a place that the row hasn't, or one that makes a number of what is no int,
-/// does nothing.
+/// The row after the operations, in order. An operation does nothing if the row does not have its place, or if it is arithmetic and the
+/// value is not an int.
 ///
-/// Numbers that are made are written in place, and take no memory.
+/// Arithmetic writes its result in place and takes no memory.
 pub fn apply_ops(alloc: Global, row: Row, ops: &[Op]) -> Result<Row, AllocError>
     ensures { IfOk result (λ after. after ≡ spec.after_ops ops.now row) }
 {

@@ -1,4 +1,4 @@
-//! Going through the arguments of the operations of a change.
+//! Iterating over the arguments of the operations of a change.
 ghost use Rattle.std.specs.Prelude.{◌≡◌, ◌∷◌, [], IfSome, IfNone, map};
 ghost use Rattle.bt_row.specs.Ops.{argument_of};
 ghost use Rattle.bt_value.specs.Values.{BytesFit};
@@ -9,8 +9,7 @@ use crate::op::Op;
 use bt_value::ValueRef;
 use std::marker::Model;
 
-/// The arguments of operations that are left: of each the value that it sets, or its number. A contract sees the
-/// list of them.
+/// The remaining arguments of operations: the value that each sets, or its number. A contract sees the list of them.
 #[derive(Drop)]
 pub struct Arguments<'a> {
     // the number of one operation, before the operations
@@ -29,7 +28,7 @@ impl<'a> Model for Arguments<'a> {
 }
 
 impl<'a> Arguments<'a> {
-    /// The argument of one operation that makes a number.
+    /// The argument of one arithmetic operation.
     pub(crate) fn of_number(number: i64) -> Self
         ensures { result ≡ value.Int number ∷ [] }
     {
@@ -46,7 +45,7 @@ impl<'a> Arguments<'a> {
         Arguments { number: None, ops }
     }
 
-    /// The next argument, if one is left.
+    /// The next argument, if there is one.
     pub fn next(&mut self) -> Option<ValueRef<'a>>
         ensures some { IfSome result (λ argument. self.old ≡ value_of_ref argument ∷ self.new) }
         ensures bytes { IfSome result (λ argument. BytesFit (value_of_ref argument)) }

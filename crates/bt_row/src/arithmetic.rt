@@ -1,4 +1,4 @@
-//! Making another int of one in a string of bytes.
+//! Replacing an int in a string of bytes.
 ghost use Rattle.std.specs.Prelude.{◌≡◌, ◌≤◌, ◌+◌, ◌++◌, drop, length, take};
 ghost use Rattle.bt_row.specs.Arithmetic.{Makes};
 ghost use Rattle.bt_row.specs.Ops.{after_action};
@@ -9,7 +9,7 @@ use crate::op::Arithmetic;
 use crate::packed_values::{int_at, offset};
 use bt_value::{Kind, tail};
 
-// The int that the first value is, if it is one.
+// The first value, if it is an int.
 #[tactic(auto, using(crate::proofs::Replacements::int_width, crate::proofs::Replacements::is_number, crate::proofs::Replacements::no_number))]
 fn first_int(bytes: &[u8]) -> Option<i64>
     requires { width_of bytes.now ≤ length bytes.now }
@@ -24,7 +24,7 @@ fn first_int(bytes: &[u8]) -> Option<i64>
     Some(int_at(bytes))
 }
 
-// The int that begins here, if it is one.
+// The int that begins here, if the value here is one.
 fn int_here(bytes: &[u8], at: usize) -> Option<i64>
     requires at { at ≤ length bytes.now }
     requires within { width_of (drop at bytes.now) ≤ length (drop at bytes.now) }
@@ -42,7 +42,7 @@ fn overwrite_int(bytes: &mut [u8], at: usize, number: i64)
     bytes[at + 1..at + 9].copy_from_slice(&number.cast_unsigned().to_le_bytes());
 }
 
-/// Writes what the int at a place and a number make over it. Any other value stays.
+/// Combines the int at a place with a number, and writes the result over it. Any other value is unchanged.
 pub(crate) fn make_at(bytes: &mut [u8], arithmetic: Arithmetic, place: usize, number: i64)
     requires { IsPacked bytes.old }
     ensures packed { IsPacked bytes.new }

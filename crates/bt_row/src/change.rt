@@ -1,4 +1,4 @@
-//! What an upsert does to the row of its key.
+//! Changes: what an upsert does to the row of its key.
 ghost use Rattle.std.specs.Prelude.{◌≡◌, ◌∷◌, [], IfOk, IfSome, map};
 ghost use Rattle.bt_row.specs.inside.Changes.{ops_in};
 ghost use Rattle.bt_row.specs.Ops as spec;
@@ -11,19 +11,19 @@ use bt_value::{Sequence, clone_all};
 use std::alloc::{AllocError, Global};
 use std::marker::Model;
 
-// The operations of a change, as it keeps them.
+// The operations of a change, as the change stores them.
 #[derive(Debug, Drop)]
 enum ChangeOps {
-    // one operation that makes a number
+    // a single arithmetic operation
     One(Arithmetic, u16, i64),
     // any other operations
     List(Box<Ops>),
 }
 
-/// What an upsert does to the row of its key: operations in turn, and the row to begin with where the key has none, which is
-/// the key's values and the default of each other column. A contract sees `base` and `ops`.
+/// What an upsert does to the row of its key. A change has operations, which are applied in order, and the row to begin with if the
+/// key has none: the key's values and the default of each other column. A contract sees `base` and `ops`.
 ///
-/// One operation that makes a number stands in the change itself, and takes no memory of its own.
+/// A single arithmetic operation is stored in the change itself and takes no memory of its own.
 #[derive(Debug, Drop)]
 pub struct Change {
     base: Row,
@@ -41,7 +41,7 @@ impl Model for Change {
     ghost view = { λ a. record { base = a.base; ops = ops_in a.ops } };
 }
 
-// The operation as a change keeps it in itself, where it makes a number.
+// The operation as a change stores it in itself, if it is arithmetic.
 #[tactic(auto, using(crate::proofs::offered::Actions::making_action))]
 fn one_making(op: &Op) -> Option<ChangeOps>
     ensures { IfSome result (λ kept. ops_in kept ≡ op.now ∷ []) }
@@ -54,7 +54,7 @@ fn one_making(op: &Op) -> Option<ChangeOps>
     }
 }
 
-// The operations as a change keeps them.
+// The operations as a change stores them.
 fn change_ops(alloc: Global, ops: Ops) -> Result<ChangeOps, AllocError>
     ensures { IfOk result (λ kept. ops_in kept ≡ ops) }
 {
@@ -66,7 +66,7 @@ fn change_ops(alloc: Global, ops: Ops) -> Result<ChangeOps, AllocError>
     Ok(ChangeOps::List(Box::new(alloc, ops)?))
 }
 
-// The one operation as a change keeps it. No list is made of one that makes a number.
+// A single operation as a change stores it. An arithmetic one needs no list.
 fn change_ops_of_one(alloc: Global, op: Op) -> Result<ChangeOps, AllocError>
     ensures { IfOk result (λ kept. ops_in kept ≡ op ∷ []) }
 {
@@ -113,7 +113,7 @@ fn after(alloc: Global, row: Row, kept: &ChangeOps) -> Result<Row, AllocError>
 }
 
 impl Change {
-    /// The change with this row to begin with and these operations.
+    /// The change with this first row and these operations.
     pub fn new(alloc: Global, base: Row, ops: Ops) -> Result<Self, AllocError>
         ensures base { IfOk result (λ change. change.base ≡ base) }
         ensures ops { IfOk result (λ change. change.ops ≡ ops) }
@@ -124,7 +124,7 @@ impl Change {
         })
     }
 
-    /// The change with this row to begin with and this one operation.
+    /// The change with this first row and this one operation.
     pub fn of_one(alloc: Global, base: Row, op: Op) -> Result<Self, AllocError>
         ensures base { IfOk result (λ change. change.base ≡ base) }
         ensures ops { IfOk result (λ change. change.ops ≡ op ∷ []) }
@@ -135,7 +135,7 @@ impl Change {
         })
     }
 
-    /// The row to begin with where the key has none.
+    /// The row to begin with if the key has none.
     pub fn base(&self) -> &Row
         ensures { result.now ≡ self.now.base }
     {
@@ -154,7 +154,7 @@ impl Change {
         }
     }
 
-    /// The arguments of the operations, to go through.
+    /// An iterator over the arguments of the operations.
     pub fn arguments(&self) -> Arguments<'_>
         ensures { result ≡ map spec.argument_of self.now.ops }
     {
@@ -164,8 +164,8 @@ impl Change {
         }
     }
 
-    /// The row after the change, or what it makes of the row to begin with where there is none. One number that is made is
-    /// written in place.
+    /// The row after the change. If there is no old row, the change applies to the row to begin with. The result of a single arithmetic
+    /// operation is written in place.
     pub fn apply(&self, alloc: Global, old: Option<Row>) -> Result<Row, AllocError>
         ensures { IfOk result (λ new. new ≡ spec.merged old self.now) }
     {

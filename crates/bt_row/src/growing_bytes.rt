@@ -1,4 +1,4 @@
-//! Bytes that grow at their end, of which a few take no memory of their own.
+//! Bytes that grow at their end. Short ones take no memory of their own.
 ghost use Rattle.std.specs.Prelude.{◌≡◌, ◌≤◌, ◌+◌, ◌++◌, [], IfOk, OnOk, OnErr, length, nat_le, take, true};
 ghost use Rattle.bt_row.specs.Arithmetic.{Makes};
 ghost use Rattle.bt_row.specs.Ops.{after_action};
@@ -11,12 +11,12 @@ use bt_value::Bytes;
 use std::alloc::{AllocError, Global};
 use std::marker::Model;
 
-// So many bytes are kept in the value itself.
+// The most bytes that are kept in the value itself.
 const MOST_INLINE: usize = 30;
 
 #[derive(Debug, Drop)]
 struct Inline {
-    // how many of the places are used
+    // how many bytes of the array are used
     len: u8,
     bytes: [u8; MOST_INLINE],
 }
@@ -27,11 +27,10 @@ enum GrowingStorage {
     Long(Vec<u8>),
 }
 
-/// Bytes in order, to which more are added at the end: those of a row, or of the code of a key. A contract sees the list of
-/// them.
+/// Bytes in order that can be appended to: those of a row, or of the code of a key. A contract sees the list of them.
 ///
-/// Up to 30 bytes are kept in the value itself, and take no memory of their own; more take one list. A value has the size of
-/// four words.
+/// Up to 30 bytes are kept in the value itself and take no memory of their own. More bytes take one list. A `GrowingBytes` has the size
+/// of four words.
 #[derive(Debug, Drop)]
 pub struct GrowingBytes {
     storage: GrowingStorage,
@@ -57,7 +56,7 @@ fn write_at(bytes: &mut [u8; MOST_INLINE], at: usize, more: &[u8])
     bytes[at..at + more.len()].copy_from_slice(more);
 }
 
-// Whether there is room for the bytes of both.
+// Whether there is room for both byte strings.
 #[inline(always)]
 fn has_room(short: &Inline, first: &[u8], second: &[u8]) -> bool
     requires { short.now.len ≤ MOST_INLINE }
@@ -67,7 +66,7 @@ fn has_room(short: &Inline, first: &[u8], second: &[u8]) -> bool
     first.len() <= room && second.len() <= room - first.len()
 }
 
-// Writes the bytes of both behind those that are there.
+// Writes both byte strings after the bytes that are there.
 #[inline(always)]
 fn write_behind(short: &mut Inline, first: &[u8], second: &[u8])
     requires { short.old.len + (length first.now + length second.now) ≤ MOST_INLINE }
@@ -80,7 +79,7 @@ fn write_behind(short: &mut Inline, first: &[u8], second: &[u8])
     short.len = (len + first.len() + second.len()) as u8;
 }
 
-// The bytes of all three, in a list of exactly their number.
+// All three byte strings, in a list of exactly their length.
 fn list_of_three(
     alloc: Global,
     bytes: &[u8],
@@ -97,7 +96,7 @@ fn list_of_three(
     Ok(list)
 }
 
-// Adds the bytes of both at the end. An `Err` changes nothing.
+// Adds both byte strings at the end. An `Err` changes nothing.
 fn append(list: &mut Vec<u8>, first: &[u8], second: &[u8]) -> Result<(), AllocError>
     ensures ok { OnOk result (list.new.items ≡ list.old.items ++ (first.now ++ second.now)) }
     ensures err { OnErr result (list.new.items ≡ list.old.items) }
@@ -108,7 +107,7 @@ fn append(list: &mut Vec<u8>, first: &[u8], second: &[u8]) -> Result<(), AllocEr
 }
 
 impl GrowingBytes {
-    /// No byte.
+    /// No bytes.
     pub fn new() -> Self
         ensures { result ≡ [] }
     {
@@ -120,7 +119,7 @@ impl GrowingBytes {
         }
     }
 
-    /// No byte, with room for so many.
+    /// No bytes, with room for this many.
     pub(crate) fn with_room(alloc: Global, room: usize) -> Result<Self, AllocError>
         ensures { IfOk result (λ new. new ≡ []) }
     {
@@ -158,7 +157,7 @@ impl GrowingBytes {
         }
     }
 
-    /// Whether so many more bytes are kept in the value itself.
+    /// Whether this many more bytes fit in the value itself.
     #[inline(always)]
     pub(crate) fn has_room(&self, more: usize) -> bool {
         match &self.storage {
@@ -167,9 +166,9 @@ impl GrowingBytes {
         }
     }
 
-    /// Adds the bytes of both at the end. An `Err` changes nothing.
+    /// Adds both byte strings at the end. An `Err` changes nothing.
     ///
-    /// The two are mostly of a length that is known where the call stands, and so they are written there.
+    /// Inlined, because most callers know the lengths of both at compile time.
     #[inline(always)]
     pub fn push(&mut self, alloc: Global, first: &[u8], second: &[u8]) -> Result<(), AllocError>
         ensures ok { OnOk result (self.new ≡ self.old ++ (first.now ++ second.now)) }
@@ -190,7 +189,7 @@ impl GrowingBytes {
         }
     }
 
-    /// The bytes, with no room for more.
+    /// The bytes, without spare capacity.
     pub fn into_bytes(self, alloc: Global) -> Result<Bytes, AllocError>
         ensures { IfOk result (λ bytes. bytes ≡ self) }
     {
@@ -206,8 +205,8 @@ impl GrowingBytes {
         }
     }
 
-    /// Writes what the int at a place of the values that the bytes are and a number make over it. Any other value stays, and so
-    /// do values that have no such place.
+    /// The bytes encode values. Combines the int at a place with a number, and writes the result over it. Any other value is unchanged,
+    /// and so are values without this place.
     pub(crate) fn make_at(&mut self, arithmetic: Arithmetic, place: usize, number: i64)
         requires { IsPacked self.old }
         ensures packed { IsPacked self.new }

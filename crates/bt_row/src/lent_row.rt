@@ -12,7 +12,7 @@ use bt_value::ValueRef;
 use std::alloc::{AllocError, Global};
 use std::marker::Model;
 
-/// The values of a row, each lent by the row or by the operation that set it. A contract sees the list of them.
+/// The values of a row, each borrowed from the row or from the operation that set it. A contract sees the list of them.
 #[derive(Drop)]
 pub(crate) struct LentRow<'a> {
     values: Vec<ValueRef<'a>>,
@@ -32,7 +32,7 @@ impl<'a> Model for LentRow<'a> {
     ghost invariant = { λ a. All BytesFit (map value_of_ref a.values.items) };
 }
 
-// What an int and a number make. Any other value stays.
+// An int combined with a number. Any other value is unchanged.
 fn made_value(arithmetic: Arithmetic, number: i64, value: ValueRef<'_>) -> ValueRef<'_>
     ensures value { value_of_ref result ≡ new_value arithmetic number (value_of_ref value.entry) }
     ensures bytes { BytesFit (value_of_ref value.entry) → BytesFit (value_of_ref result) }
@@ -56,7 +56,7 @@ impl<'a> LentRow<'a> {
         Ok(LentRow { values })
     }
 
-    // Sets the value at a place, where there is one.
+    // Sets the value at a place, if there is one.
     fn set(&mut self, place: usize, value: ValueRef<'a>)
         requires { BytesFit (value_of_ref value) }
         ensures { self.new ≡ set self.old place (value_of_ref value.entry) }
@@ -66,7 +66,7 @@ impl<'a> LentRow<'a> {
         }
     }
 
-    /// Does one operation to the values.
+    /// Applies one operation to the values.
     pub(crate) fn apply(&mut self, op: &'a Op)
         ensures { self.new ≡ after_op self.old op.now }
     {
@@ -81,7 +81,7 @@ impl<'a> LentRow<'a> {
         }
     }
 
-    /// The row of the values.
+    /// The row with these values.
     pub(crate) fn pack(&self, alloc: Global) -> Result<Row, AllocError>
         ensures { IfOk result (λ row. row ≡ self.now) }
     {
@@ -94,7 +94,7 @@ impl<'a> LentRow<'a> {
     }
 }
 
-// The bytes that values take.
+// The number of bytes that the values take.
 fn room_for_lent(values: &[ValueRef<'_>]) -> usize {
     let mut room: usize = 0;
     for value in values {

@@ -1,11 +1,11 @@
 //! Rows: values by columns, and the operations that change them.
 //!
-//! A [`Row`] keeps its values in one string of bytes. A [`Schema`] has the columns of a table, of which the first are the key. An
-//! operation ([`Op`]) sets one value of a row or makes a number of an int; a [`Change`] is operations with the row to begin with where a
-//! key has none. What is said of single operations is in one file, `op.rt`. A row is printed as one record.
+//! A [`Row`] stores its values in one string of bytes. A [`Schema`] has the columns of a table, and the first of them are the key. An
+//! operation ([`Op`]) sets one value of a row, or does arithmetic on an int. A [`Change`] has operations, and the row to begin with if a
+//! key has none. The code that depends on the operation is in one file, `op.rt`. A row is printed as one record.
 //!
-//! Here is also what rows and operations are read as ([`Schemas`](../specs/Schemas.antt), [`Ops`](../specs/Ops.antt)), by definitions
-//! on the fields of a record; how a text is cut into fields is not known here.
+//! The crate also defines what rows and operations the fields of a record encode ([`Schemas`](../specs/Schemas.antt),
+//! [`Ops`](../specs/Ops.antt)). It does not cut text into fields.
 //!
 //! ```text
 //! let mut row = Row::new();
@@ -23,7 +23,7 @@ mod record_writer;
 mod row;
 mod values;
 
-// Columns, and which rows of a table are asked for.
+// Columns, and filters on rows.
 mod filter;
 mod schema;
 

@@ -1,5 +1,5 @@
-//! Operations on single columns. All that is said of single ones is said here, down to what each makes of an int; everything else goes by
-//! what an operation does, sets a value or makes a number of an int.
+//! Operations on single columns. All code that depends on the operation is here, including how each changes an int. Everything else only
+//! distinguishes whether an operation sets a value or does arithmetic on an int.
 ghost use Rattle.std.specs.Prelude.{◌≡◌, ◌≤◌, ◌∷◌, [], IfOk, length};
 ghost use Rattle.bt_row.specs.Arithmetic.{action_of, arithmetic_of_word, new_number, op_making, word_of};
 ghost use Rattle.bt_row.specs.Ops as spec;
@@ -19,29 +19,29 @@ pub const MOST_OPS: usize = 16;
 /// An operation on the value of one column, counted from 0.
 #[derive(Debug, Drop)]
 pub enum Op {
-    /// The column has this value from now on.
+    /// Sets the column to this value.
     Set(usize, Value),
-    /// The number is added to an int, which holds at the least and the greatest of 64 bits.
+    /// Adds the number to an int. The sum stops at the smallest and the largest int of 64 bits.
     Add(usize, i64),
-    /// An int becomes the number, where that is greater.
+    /// Sets an int to the number if the number is larger.
     Max(usize, i64),
-    /// An int becomes the number, where that is less.
+    /// Sets an int to the number if the number is smaller.
     Min(usize, i64),
 }
 
 /// What an operation does at a place.
 #[derive(Clone, Copy, Debug)]
 pub enum Action<'a> {
-    /// It sets this value.
+    /// Sets this value.
     Set(usize, &'a Value),
-    /// It makes a number of the one that is there and of this one.
+    /// Combines the int that is there with this number.
     Make(Arithmetic, usize, i64),
 }
 
 /// Operations in order.
 pub type Ops = Sequence<Op>;
 
-/// The operations that are this one.
+/// The list of this one operation.
 pub fn one_op(alloc: Global, op: Op) -> Result<Ops, AllocError>
     ensures { IfOk result (λ ops. ops ≡ op ∷ []) }
 {
@@ -50,19 +50,19 @@ pub fn one_op(alloc: Global, op: Op) -> Result<Ops, AllocError>
     Ok(ops)
 }
 
-/// What an operation does with an int and its number.
+/// How an operation changes an int, given its number.
 #[derive(Clone, Copy, Debug, PartialEq, Eq)]
 pub enum Arithmetic {
-    /// Their sum, held at the least and the greatest of 64 bits.
+    /// Their sum, which stops at the smallest and the largest int of 64 bits.
     Add,
-    /// The greater of them.
+    /// The larger of the two.
     Max,
-    /// The less of them.
+    /// The smaller of the two.
     Min,
 }
 
 impl Arithmetic {
-    /// The one of a word of the language.
+    /// The arithmetic that a word of the script language names.
     pub fn from_word(word: &[u8]) -> Option<Self>
         ensures { result ≡ arithmetic_of_word word.now }
     {
@@ -74,7 +74,7 @@ impl Arithmetic {
         }
     }
 
-    /// The word.
+    /// Its word in the script language.
     pub fn word(self) -> &'static str
         ensures value { result.now ≡ word_of self }
         ensures short { length result.now ≤ 3 }
@@ -86,7 +86,7 @@ impl Arithmetic {
         }
     }
 
-    /// The number that an old one and this one make.
+    /// An old number combined with this one.
     pub(crate) fn make(self, old: i64, number: i64) -> i64
         ensures { result ≡ new_number self old number }
     {
@@ -99,7 +99,7 @@ impl Arithmetic {
 }
 
 impl Op {
-    /// What it does.
+    /// What the operation does.
     #[inline(always)]
     pub fn action(&self) -> Action<'_>
         ensures { action_of_ref result ≡ action_of self.now }
@@ -112,7 +112,7 @@ impl Op {
         }
     }
 
-    /// The operation that makes a number at a place.
+    /// The arithmetic operation with these parts.
     pub fn making(arithmetic: Arithmetic, place: usize, number: i64) -> Self
         ensures { result ≡ op_making arithmetic place number }
     {
@@ -123,7 +123,7 @@ impl Op {
         }
     }
 
-    /// The place of its column.
+    /// The place of the operation's column.
     pub fn place(&self) -> usize
         ensures { result ≡ spec.place_in (action_of self.now) }
     {
@@ -133,7 +133,7 @@ impl Op {
         }
     }
 
-    /// Its word.
+    /// The operation's word in the script language.
     pub fn word(&self) -> &'static str
         ensures value { result.now ≡ spec.word_in (action_of self.now) }
         ensures short { length result.now ≤ 3 }
@@ -144,7 +144,7 @@ impl Op {
         }
     }
 
-    /// The value that it sets, or its number.
+    /// The value that the operation sets, or its number.
     pub fn argument(&self) -> ValueRef<'_>
         ensures value { value_of_ref result ≡ spec.argument_of self.now }
         ensures bytes { BytesFit (value_of_ref result) }

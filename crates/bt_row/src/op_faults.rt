@@ -1,4 +1,4 @@
-//! Whether operations are ones of a schema.
+//! Whether operations fit a schema.
 ghost use Rattle.std.specs.Prelude.{◌≡◌};
 ghost use Rattle.std.specs.List.{filter_map};
 ghost use Rattle.std.specs.Option.{option_to_list};
@@ -9,7 +9,7 @@ use crate::op::{Action, MOST_OPS, Op};
 use crate::schema::{Schema, is_of_kind};
 use bt_value::{Kind, Refusal, Value, least_with};
 
-// The kind of the column at a place, where operations may change it.
+// The kind of the column at a place, if operations may change it.
 fn open_kind(schema: &Schema, place: usize) -> Option<Kind>
     ensures { result ≡ spec.open_kind schema.now place }
 {
@@ -20,7 +20,7 @@ fn open_kind(schema: &Schema, place: usize) -> Option<Kind>
     Some(column.kind)
 }
 
-// The fault of an operation that sets a value in a column of this kind; no kind stands for no column that it may change.
+// The fault of an operation that sets a value in a column of this kind. `None` means that there is no column which it may change.
 fn set_fault(item: u64, value: &Value, kind: Option<Kind>) -> Option<Refusal>
     ensures { result ≡ spec.set_fault item value.now kind }
 {
@@ -33,7 +33,7 @@ fn set_fault(item: u64, value: &Value, kind: Option<Kind>) -> Option<Refusal>
     Some(Refusal::BadField(item))
 }
 
-// The fault of an operation that makes a number in a column of this kind, or where there is none.
+// The fault of an arithmetic operation on a column of this kind. `None` means that there is no column which it may change.
 fn number_fault(kind: Option<Kind>) -> Option<Refusal>
     ensures { result ≡ spec.number_fault kind }
 {
@@ -54,7 +54,7 @@ fn fault_of(schema: &Schema, item: u64, op: &Op) -> Option<Refusal>
     }
 }
 
-// The least of the refusal that was found, if one was, and of a fault, if there is one.
+// The smaller of a refusal found before, if there was one, and of a fault, if there is one.
 fn with_fault(found: Option<Refusal>, fault: Option<Refusal>) -> Option<Refusal>
     ensures { result ≡ least_from found (option_to_list fault) }
 {
@@ -64,7 +64,7 @@ fn with_fault(found: Option<Refusal>, fault: Option<Refusal>) -> Option<Refusal>
     }
 }
 
-// The least fault of operations, if they have one.
+// The least fault of the operations, if they have one.
 fn least_fault(schema: &Schema, item: u64, ops: &[Op]) -> Option<Refusal>
     ensures { result ≡ least (filter_map (spec.fault_of schema.now item) ops.now) }
 {
@@ -75,8 +75,8 @@ fn least_fault(schema: &Schema, item: u64, ops: &[Op]) -> Option<Refusal>
     found
 }
 
-/// Whether these are 1 to 16 operations on columns behind the key of this schema, each with a value of its column, or on an
-/// int where it makes a number. They are refused as in [`read_ops`]. Takes no memory.
+/// Whether these are 1 to 16 operations on columns after the key of this schema. Each must have a value of its column or, if it is
+/// arithmetic, an int column. They are refused as in `read_ops` of `bt_rowtype`. Takes no memory.
 pub fn check_ops(schema: &Schema, item: u64, ops: &[Op]) -> Result<(), Refusal>
     ensures { result ≡ spec.checked_ops schema.now item ops.now }
 {

@@ -1,11 +1,11 @@
-//! Reading values in a string of bytes.
+//! Reading values from a string of bytes.
 ghost use Rattle.std.specs.Prelude.{◌≡◌, ◌≤◌, ◌<◌, drop, length};
 ghost use Rattle.bt_row.specs.inside.Packing.{IsAt, IsPacked, content_at as content_of_form, first_of, int_from, unpacked, width_in as width_of_form, width_of};
 ghost use Rattle.bt_value.specs.Views.{content_of_ref, value_of_ref};
 
 use bt_value::{Content, Form, Kind, ValueRef, tail};
 
-/// The int of the eight bytes behind a tag.
+/// The int that the eight bytes after a tag encode.
 #[tactic(auto, unfolding(crate::specs::inside::Packing::int_from))]
 pub(crate) fn int_at(bytes: &[u8]) -> i64
     requires { 9 ≤ length bytes.now }
@@ -17,7 +17,7 @@ pub(crate) fn int_at(bytes: &[u8]) -> i64
     .cast_signed()
 }
 
-// How many bytes a value of a form takes, of which these stand behind the tag.
+// The number of bytes that a value of a form takes. These are the bytes after its tag.
 #[inline(always)]
 fn width_in(form: Form, behind: &[u8]) -> usize
     ensures { result ≡ width_of_form form behind.now }
@@ -32,7 +32,7 @@ fn width_in(form: Form, behind: &[u8]) -> usize
     }
 }
 
-/// How many bytes the first value takes.
+/// The number of bytes that the first value takes.
 #[inline(always)]
 pub(crate) fn width(bytes: &[u8]) -> usize
     ensures { result ≡ width_of bytes.now }
@@ -43,7 +43,7 @@ pub(crate) fn width(bytes: &[u8]) -> usize
     }
 }
 
-// What a value of a form holds, with whose tag the bytes begin; a bit is set or not.
+// What a value of a form holds. The bytes begin with its tag, and a bit is set or not.
 #[inline(always)]
 fn content_at<'a>(form: Form, is_set: bool, bytes: &'a [u8]) -> Content<'a>
     requires some { 0 < length bytes.now }
@@ -69,7 +69,7 @@ pub(crate) fn first<'a>(bytes: &'a [u8]) -> ValueRef<'a>
     ValueRef::with(kind, content_at(kind.form(), tag == kind.tag() + 1, bytes))
 }
 
-/// How many bytes the value takes that begins here.
+/// The number of bytes that the value here takes.
 pub(crate) fn width_at(bytes: &[u8], at: usize) -> usize
     requires { at ≤ length bytes.now }
     ensures { result ≡ width_of (drop at bytes.now) }
@@ -87,7 +87,7 @@ pub(crate) fn first_at<'a>(bytes: &'a [u8], at: usize) -> ValueRef<'a>
     first(tail(bytes, at))
 }
 
-/// Where the value at a place begins, or the end where there are fewer.
+/// The start of the value at a place, or the end if there are fewer values.
 pub(crate) fn offset(bytes: &[u8], place: usize) -> usize
     requires { IsPacked bytes.now }
     ensures { IsAt bytes.now place result }
@@ -101,7 +101,7 @@ pub(crate) fn offset(bytes: &[u8], place: usize) -> usize
     at
 }
 
-/// How many values there are.
+/// The number of values.
 #[tactic(auto, using(crate::proofs::Walks::walked_all, crate::proofs::Walks::walk_begins))]
 pub(crate) fn count(bytes: &[u8]) -> usize
     requires { IsPacked bytes.now }

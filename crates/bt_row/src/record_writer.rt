@@ -1,4 +1,4 @@
-//! Writing the text of a record, in room that is made for all of it first, so that nothing fails once a part of it is written.
+//! Writing the text of a record. Room for all of it is reserved first, so nothing can fail after a part of it was written.
 ghost use Rattle.std.specs.Prelude.{◌≡◌, ◌++◌, ◌+◌, ◌*◌, OnOk, OnErr, length, map};
 ghost use Rattle.csv.specs.Writing.{default_writer, field_text, next_sep};
 ghost use Rattle.bt_row.specs.RecordTexts.{record_text};
@@ -12,7 +12,7 @@ use crate::values::Values;
 use bt_value::{Value, ValueRef};
 use std::alloc::AllocError;
 
-// A value that takes n bytes in a row takes at most this many times n in a record, with a comma before it: a flag takes 1, and `,false` is 6.
+// A value of n bytes in a row takes at most this many times n in a record, with a comma before it. A flag takes 1 byte, and `,false` is 6.
 const MOST_TEXT_PER_BYTE: usize = 6;
 
 // Adds the comma before the value at a place, unless it is the first.
@@ -56,7 +56,7 @@ fn write_fields(out: &mut Vec<u8>, values: Values<'_>)
     }
 }
 
-// Makes room for the text of a record whose values take this many bytes in a row. An `Err` changes nothing.
+// Reserves room for the text of a record whose values take this many bytes in a row. An `Err` changes nothing.
 fn reserve_text(out: &mut Vec<u8>, bytes: usize) -> Result<(), AllocError>
     ensures text { out.new.items ≡ out.old.items }
     ensures room { OnOk result (HasRoom out.new (6 * bytes + 2)) }
@@ -65,8 +65,8 @@ fn reserve_text(out: &mut Vec<u8>, bytes: usize) -> Result<(), AllocError>
     out.reserve(most)
 }
 
-/// Adds the text of a record: its fields joined by commas, with quotes if a field needs them. After an `Err`, which means
-/// out of memory, `out` is as it was.
+/// Adds the text of a record: its fields joined by commas, with quotes if a field needs them. An `Err` means out of memory, and leaves
+/// `out` unchanged.
 pub fn write_record(out: &mut Vec<u8>, values: &[Value]) -> Result<(), AllocError>
     ensures ok { OnOk result (out.new.items ≡ out.old.items ++ record_text (map text_of values.now)) }
     ensures err { OnErr result (out.new.items ≡ out.old.items) }
@@ -76,7 +76,7 @@ pub fn write_record(out: &mut Vec<u8>, values: &[Value]) -> Result<(), AllocErro
     Ok(())
 }
 
-/// Adds the record of a row, as [`write_record`] does that of its values.
+/// Adds the record of a row, as [`write_record`] does for a list of values.
 pub fn write_row(out: &mut Vec<u8>, row: &Row) -> Result<(), AllocError>
     ensures ok { OnOk result (out.new.items ≡ out.old.items ++ record_text (map text_of row.now)) }
     ensures err { OnErr result (out.new.items ≡ out.old.items) }

@@ -19,9 +19,9 @@ use std::marker::Model;
 
 /// The values of a row, column by column. A contract sees the list of them.
 ///
-/// They lie one after another in one string of bytes: of each the tag of its kind, and behind it the eight bytes of a number, or
-/// the length of bytes and these; a bit is added to the tag. Up to 30 bytes are kept in the row itself, and take no memory of their
-/// own. A row has the size of four words.
+/// The values are stored one after another in one string of bytes. Each begins with the tag of its kind. A number follows in eight bytes,
+/// and bytes follow after their length; a bit is added to the tag. Up to 30 bytes are kept in the row itself and take no memory of their
+/// own. A `Row` has the size of four words.
 #[derive(Debug, Drop)]
 pub struct Row {
     bytes: GrowingBytes,
@@ -51,7 +51,7 @@ fn bytes_of_int(number: i64) -> [u8; 8]
     number.cast_unsigned().to_le_bytes()
 }
 
-// Adds the bytes of a number behind a tag. An `Err` changes nothing.
+// Adds a tag and the bytes of a number. An `Err` changes nothing.
 #[inline(always)]
 fn add_number(
     bytes: &mut GrowingBytes,
@@ -65,7 +65,7 @@ fn add_number(
     bytes.push(alloc, &[tag], &bytes_of_int(number))
 }
 
-// Adds bytes behind a tag and their length. An `Err` changes nothing.
+// Adds a tag, the length of bytes, and the bytes. An `Err` changes nothing.
 #[inline(always)]
 fn add_bytes(
     bytes: &mut GrowingBytes,
@@ -108,7 +108,7 @@ fn add_value(bytes: &mut GrowingBytes, alloc: Global, value: ValueRef<'_>) -> Re
     }
 }
 
-/// How many bytes a value takes.
+/// The number of bytes that a value takes.
 #[tactic(auto, using(crate::proofs::Packing::length_int_bytes))]
 pub(crate) fn width_of_value(value: ValueRef<'_>) -> usize
     ensures { result ≡ length (packed_value (value_of_ref value.entry)) }
@@ -120,7 +120,7 @@ pub(crate) fn width_of_value(value: ValueRef<'_>) -> usize
     }
 }
 
-// The bytes with those of a value in place of what stands between two places.
+// The bytes, with those of a value instead of the part between two places.
 fn replacement(
     alloc: Global,
     bytes: &[u8],
@@ -146,7 +146,7 @@ fn replacement(
 }
 
 impl Row {
-    /// The row of no value.
+    /// The row without values.
     #[tactic(auto, using(crate::proofs::Walks::unpacked_none, crate::proofs::Walks::none_packed))]
     pub fn new() -> Self
         ensures { result ≡ [] }
@@ -156,7 +156,7 @@ impl Row {
         }
     }
 
-    /// The row of no value, with room for so many bytes.
+    /// The row without values, with room for this many bytes.
     #[tactic(auto, using(crate::proofs::Walks::unpacked_none, crate::proofs::Walks::none_packed))]
     pub fn with_room(alloc: Global, room: usize) -> Result<Self, AllocError>
         ensures { IfOk result (λ row. row ≡ []) }
@@ -177,7 +177,7 @@ impl Row {
         Ok(row)
     }
 
-    /// Whether the row keeps in itself one more value at the end. That only chooses how values are read, and no promise hangs on it.
+    /// Whether one more value at the end fits in the row itself. This only chooses how values are read, and no contract depends on it.
     #[inline(always)]
     pub fn has_room(&self, value: ValueRef<'_>) -> bool {
         self.bytes.has_room(width_of_value(value))
@@ -194,7 +194,7 @@ impl Row {
         Ok(())
     }
 
-    /// Adds the first values of another row at the end, or all where there are fewer. After an `Err` some of them may have been added.
+    /// Adds the first values of another row at the end, or all if there are fewer. After an `Err` some of them may have been added.
     pub fn push_first(&mut self, alloc: Global, row: &Row, count: usize) -> Result<(), AllocError>
         ensures { OnOk result (self.new ≡ self.old ++ take count row.now) }
     {
@@ -205,7 +205,7 @@ impl Row {
         Ok(())
     }
 
-    /// The same row, with room for so many bytes more.
+    /// The same row, with room for this many more bytes.
     pub(crate) fn with_more_room(self, alloc: Global, room: usize) -> Result<Self, AllocError>
         ensures { IfOk result (λ row. row ≡ self) }
     {
@@ -223,7 +223,7 @@ impl Row {
         self.bytes.as_slice()
     }
 
-    /// How many values the row has.
+    /// The number of values in the row.
     pub fn len(&self) -> usize
         ensures { result ≡ length self.now }
     {
@@ -241,14 +241,14 @@ impl Row {
         first_at(bytes, at)
     }
 
-    /// The values, to go through.
+    /// An iterator over the values.
     pub fn values(&self) -> Values<'_>
         ensures { result ≡ self.now }
     {
         Values::of_bytes(self.as_bytes())
     }
 
-    /// The first values, or all where there are fewer, to go through.
+    /// An iterator over the first values, or over all if there are fewer.
     #[tactic(auto, using(crate::proofs::Walks::are_first, crate::proofs::Walks::are_first_packed))]
     pub fn first_values(&self, count: usize) -> Values<'_>
         ensures { result ≡ take count self.now }
@@ -258,7 +258,7 @@ impl Row {
         Values::of_bytes(front(bytes, end))
     }
 
-    /// Sets the value at a place, where the row has it. An `Err` changes nothing.
+    /// Sets the value at a place, if the row has it. An `Err` changes nothing.
     pub(crate) fn set(
         &mut self,
         alloc: Global,
@@ -280,7 +280,7 @@ impl Row {
         Ok(())
     }
 
-    /// Writes what the int at a place and a number make over it. Any other value stays, and so does a row without that place.
+    /// Combines the int at a place with a number, and writes the result over it. Any other value is unchanged, and so is a row without that place.
     pub(crate) fn make(&mut self, arithmetic: Arithmetic, place: usize, number: i64)
         ensures { self.new ≡ after_action self.old (Makes arithmetic place number) }
     {
@@ -288,7 +288,7 @@ impl Row {
     }
 }
 
-/// The bytes that values take, or the largest number if they are more.
+/// The number of bytes that the values take, or the largest `usize` if that is more.
 #[tactic(auto, using(crate::proofs::Packing::length_packed))]
 pub(crate) fn room_for_values(values: &[Value]) -> usize
     ensures { result ≡ min (length (packed_values values.now)) (2 ^ 64 - 1) }

@@ -16,19 +16,19 @@ pub const MOST_COLUMNS: usize = 16;
 /// The most columns of a key.
 pub const MOST_KEYS: usize = 4;
 
-/// A column: its name, and what its values are.
+/// A column: its name and its kind.
 #[derive(Debug, Drop)]
 pub struct Column {
-    /// Its name, which no other column of a schema has.
+    /// Its name. No other column of a schema has the same.
     pub name: Text,
-    /// What its values are.
+    /// The kind of its values.
     pub kind: Kind,
 }
 
 /// Columns in order.
 pub type Columns = Sequence<Column>;
 
-/// The columns of a table, of which the first are its key.
+/// The columns of a table. The first of them are its key.
 #[derive(Debug, Drop)]
 pub struct Schema {
     columns: Columns,
@@ -47,8 +47,8 @@ impl Model for Schema {
 }
 
 impl Schema {
-    /// The schema of these columns, of which the first `keys` are the key. It is refused as `BadSchema` unless it has 1 to
-    /// 16 columns with different names, and 1 to 4 of them are key columns.
+    /// The schema of these columns, with the first `keys` as the key. It is refused as `BadSchema` unless it has 1 to 16 columns with
+    /// different names, and 1 to 4 of them are key columns.
     pub fn new(columns: Columns, keys: usize) -> Result<Self, Refusal>
         ensures { result ≡ (if is_schema columns keys then Ok (record { columns = columns; keys = keys }) else Err Refusal.BadSchema) }
     {
@@ -74,7 +74,7 @@ impl Schema {
         &self.columns.as_slice()[..self.keys]
     }
 
-    /// How many columns are the key.
+    /// The number of key columns.
     pub fn keys(&self) -> usize
         ensures value { result ≡ self.now.keys }
         ensures within { self.now.keys ≤ length self.now.columns }
@@ -82,7 +82,7 @@ impl Schema {
         self.keys
     }
 
-    /// Whether a row is one of this schema. `BadLength` where its length differs, `BadField` where a value is not of its column.
+    /// Whether a row fits this schema. `BadLength` if its length differs, `BadField` if a value is not of its column.
     pub fn check_row(&self, item: u64, row: &Row) -> Result<(), Refusal>
         ensures { result ≡ checked_as self.now.columns item row.now }
     {
@@ -111,7 +111,7 @@ pub fn find_column(columns: &[Column], start: usize, name: &[u8]) -> Option<(usi
     None
 }
 
-// Whether values are of the kinds of their columns, one for each.
+// Whether values are of the kinds of their columns, one value for each column.
 fn are_of_columns(columns: &[Column], values: Values<'_>) -> bool
     ensures { result ≡ fit_columns columns.now values.entry }
 {
@@ -127,7 +127,7 @@ fn are_of_columns(columns: &[Column], values: Values<'_>) -> bool
     rest.is_empty()
 }
 
-/// Whether a value is one of a kind.
+/// Whether a value is of a kind.
 #[tactic(auto, using(bt_value::proofs::offered::Kinds::tags_agree))]
 pub(crate) fn is_of_kind(kind: Kind, value: ValueRef<'_>) -> bool
     ensures { result ≡ fits_kind kind (value_of_ref value.entry) }
@@ -135,7 +135,7 @@ pub(crate) fn is_of_kind(kind: Kind, value: ValueRef<'_>) -> bool
     value.kind().tag() == kind.tag() && kind.takes(value.content())
 }
 
-// Whether these columns, of which the first `keys` are the key, are a schema.
+// Whether these columns, with the first `keys` as the key, are a schema.
 fn is_schema_of(columns: &[Column], keys: usize) -> bool
     ensures { result ≡ is_schema columns.now keys }
 {

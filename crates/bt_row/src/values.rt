@@ -1,4 +1,4 @@
-//! Going through values, in a list of them or in a row.
+//! Iterating over values, in a list of them or in a row.
 ghost use Rattle.std.specs.Prelude.{◌≡◌, ◌∷◌, ◌==◌, [], Some, IfSome, IfNone, length};
 ghost use Rattle.bt_value.specs.Values.{BytesFit, IsInRange};
 ghost use Rattle.bt_row.specs.inside.Packing.{IsPacked, unpacked};
@@ -11,7 +11,7 @@ use bt_value::{Content, Value, ValueRef, tail};
 use std::cmp::Ordering;
 use std::marker::Model;
 
-// Where the values lie.
+// The source of the values.
 #[derive(Clone, Copy, Drop)]
 enum Source<'a> {
     // a list of values
@@ -20,7 +20,7 @@ enum Source<'a> {
     Packed(&'a [u8]),
 }
 
-/// The values that are left. A contract sees the list of them.
+/// The remaining values. A contract sees the list of them.
 #[derive(Drop)]
 pub struct Values<'a> {
     source: Source<'a>,
@@ -38,7 +38,7 @@ impl<'a> Model for Values<'a> {
     ghost invariant = { λ a. IsSource a.source };
 }
 
-// The first value of bytes, and the bytes behind it.
+// The first value of bytes, and the bytes after it.
 #[inline(always)]
 fn next_packed(bytes: &[u8]) -> Option<(ValueRef<'_>, &[u8])>
     requires { IsPacked bytes.now }
@@ -53,7 +53,7 @@ fn next_packed(bytes: &[u8]) -> Option<(ValueRef<'_>, &[u8])>
     Some((first(bytes), tail(bytes, width(bytes))))
 }
 
-// Whether bytes are those of no value.
+// Whether bytes have no value.
 fn holds_none(bytes: &[u8]) -> bool
     requires { IsPacked bytes.now }
     ensures { result ≡ (length (unpacked bytes.now) == 0) }
@@ -100,7 +100,7 @@ pub fn compare_values(left: ValueRef<'_>, right: ValueRef<'_>) -> Ordering
     compare_contents(left.content(), right.content())
 }
 
-/// Whether values are the same, one by one.
+/// Whether two lists of values are the same, value by value.
 pub fn same_values(left: Values<'_>, right: Values<'_>) -> bool
     ensures { result ≡ spec.same_values left.entry right.entry }
 {
@@ -137,7 +137,7 @@ impl<'a> Values<'a> {
         }
     }
 
-    /// The same values, to go through once more.
+    /// Another iterator over the same values.
     pub fn copy(&self) -> Self
         ensures { result ≡ self.now }
     {
@@ -156,7 +156,7 @@ impl<'a> Values<'a> {
         }
     }
 
-    /// The next value, if one is left.
+    /// The next value, if there is one.
     #[inline(always)]
     pub fn next(&mut self) -> Option<ValueRef<'a>>
         ensures some { IfSome result (λ value. self.old ≡ value_of_ref value ∷ self.new) }

@@ -1,4 +1,4 @@
--- What is read fits its columns, and operations keep it so. Serves the invariant of a table.
+-- What is read fits its columns, and still fits after operations. Serves the invariant of a table.
 use Rattle.std.proofs.Common.{ℕ, zero, suc, Bool, List, [], ◌∷◌, ◌++◌, ◌≡◌, ◌==◌, ◌∙◌, refl, ap, subst, true, false, length, take, drop, Option, Some, None, Ok, Err, if◌then◌else◌}
 use Rattle.std.specs.List.{filter_map}
 use Rattle.std.specs.Prelude.{map}
@@ -21,7 +21,7 @@ use Rattle.bt_row.proofs.RowFits.{defaults_fit, joined_fit, op_keeps}
 
 -- ---- what is read
 
--- the values that fields spell fit the columns
+-- the values that fields encode fit the columns
 pub values_fit : (columns : List Column) (fields : List (List ℕ)) (row : List Value) → values_of columns fields ≡ Some row → fit_columns columns row ≡ true
 values_fit [] [] row is = let e : [] ≡ row = cc in rw (← e) refl
 values_fit [] (field ∷ fields) row is = absurd cc
@@ -38,14 +38,14 @@ read_fits columns item fields row is = by_length (length fields == length column
     by_length true None here is = absurd cc
     by_length true (Some vs) here is = let e : vs ≡ row = cc in values_fit columns fields row (here ∙ ap Some e)
 
--- the key that the record of an upsert spells
+-- the key that the record of an upsert encodes
 pub key_fits : (schema : Schema) (item : ℕ) (fields : List (List ℕ)) (key : List Value) → key_as schema item fields ≡ Ok key → fit_columns (take schema.keys schema.columns) key ≡ true
 key_fits schema item fields key is =
     let columns = take schema.keys schema.columns in
     let key_fields = take schema.keys fields in
     values_fit columns key_fields key (some_read (BadField item) (values_of columns key_fields) key is)
 
--- its operations
+-- the operations that it encodes
 pub ops_fit : (schema : Schema) (item : ℕ) (fields : List (List ℕ)) (ops : List Op) → ops_as schema item fields ≡ Ok ops → OpsFit schema ops
 ops_fit schema item fields ops is = by_length (is_upsert schema.keys (length fields)) is
   where
@@ -66,14 +66,14 @@ upsert_fits schema item fields key ops is = by_length (is_upsert schema.keys (le
         let both = both_ok (key_as schema item fields) (ops_as schema item fields) key ops is in
         (key_fits schema item fields key both.0, ops_fit schema item fields ops both.1)
 
--- ---- what operations make of a row
+-- ---- a row after operations
 
--- a row that fits still does
+-- a row that fits still fits
 pub after_ops_fits : (schema : Schema) (ops : List Op) (row : List Value) → OpsFit schema ops → fit_columns schema.columns row ≡ true → fit_columns schema.columns (after_ops ops row) ≡ true
 after_ops_fits schema [] row fits fit = fit
 after_ops_fits schema (op ∷ ops) row fits fit = after_ops_fits schema ops (after_op row op) fits.1 (op_keeps schema op row fits.0 fit).0
 
--- its key stays
+-- its key is unchanged
 pub after_ops_key : (schema : Schema) (ops : List Op) (row : List Value) → OpsFit schema ops → fit_columns schema.columns row ≡ true → take schema.keys (after_ops ops row) ≡ take schema.keys row
 after_ops_key schema [] row fits fit = refl
 after_ops_key schema (op ∷ ops) row fits fit =
@@ -82,7 +82,7 @@ after_ops_key schema (op ∷ ops) row fits fit =
 
 -- ---- keys
 
--- the row of a key where there is none
+-- the first row of a key
 pub default_row_fits : (schema : Schema) (key : List Value) → fit_columns (take schema.keys schema.columns) key ≡ true → fit_columns schema.columns (default_row schema key) ≡ true
 default_row_fits schema key fit = joined_fit schema.keys schema.columns key (map (λ c. default_of c.kind) (drop schema.keys schema.columns)) fit (defaults_fit (drop schema.keys schema.columns))
 
@@ -99,12 +99,12 @@ defaults_behind (suc n) (c ∷ columns) (v ∷ key) fit =
 pub default_row_key : (schema : Schema) (key : List Value) → fit_columns (take schema.keys schema.columns) key ≡ true → take schema.keys (default_row schema key) ≡ key
 default_row_key schema key fit = defaults_behind schema.keys schema.columns key fit
 
--- so does that of the key that the record of an upsert spells
+-- the first row of the key that the record of an upsert encodes begins with the key
 pub upsert_begins : (schema : Schema) (item : ℕ) (fields : List (List ℕ)) (key : List Value) (ops : List Op) → upsert_as schema item fields ≡ Ok (key, ops)
     → take schema.keys (default_row schema key) ≡ key
 upsert_begins schema item fields key ops is = default_row_key schema key (upsert_fits schema item fields key ops is).0
 
--- the key of a row that fits fits the key's columns
+-- the key of a row that fits its columns fits the key's columns
 pub prefix_fits : (n : ℕ) (columns : List Column) (row : List Value) → fit_columns columns row ≡ true → fit_columns (take n columns) (take n row) ≡ true
 prefix_fits zero columns row fit = refl
 prefix_fits (suc n) [] [] fit = refl

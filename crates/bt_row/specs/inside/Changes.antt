@@ -1,11 +1,11 @@
--- The operations that a change keeps.
+-- The operations that a change stores.
 use Rattle.std.specs.Prelude.{List, [], ◌∷◌}
 use Rattle.bt_row.specs.Arithmetic.{op_making}
 use Rattle.bt_row.specs.declared.change.ChangeOps.{ChangeOps}
 use Rattle.bt_row.specs.declared.change.ChangeOps.TheVariants as kept
 use Rattle.bt_row.specs.declared.op.Op.{Op}
 
--- one that makes a number, or those of a list
+-- a single arithmetic operation, or a list of operations
 abbrev pub ops_in : ChangeOps → List Op
 ops_in (kept.One arithmetic place number) = op_making arithmetic place number ∷ []
 ops_in (kept.List ops) = ops.value

@@ -15,11 +15,11 @@ use Rattle.bt_value.specs.declared.value.Value.{Value}
 unfoldable pub int_bytes : ℤ → List ℕ
 int_bytes n = to_le_bytes w64 (cast_unsigned w64 n)
 
--- the int of eight bytes
+-- the int that eight bytes encode
 unfoldable pub int_from : List ℕ → ℤ
 int_from bytes = cast_signed w64 (from_le_bytes w64 bytes)
 
--- the bytes of what a value holds, behind the number of its kind: the eight bytes of a number, the length of bytes and these; a bit is added to the number
+-- a kind's tag and the bytes of what a value holds: eight bytes for a number; for bytes, their length and the bytes; a bit is added to the tag
 abbrev pub packed_content : ℕ → Content → List ℕ
 packed_content tag (Number n) = tag ∷ int_bytes n
 packed_content tag (Bytes bytes) = tag ∷ length bytes ∷ bytes
@@ -36,7 +36,7 @@ packed_values (v ∷ vs) = packed_value v ++ packed_values vs
 
 -- ---- from bytes to values
 
--- how many bytes a value of a form takes, of which these stand behind the first
+-- how many bytes a value of a form takes; these are the bytes after the first
 abbrev pub width_in : Form → List ℕ → ℕ
 width_in form.Number bytes = 9
 width_in form.Bytes bytes = get_or bytes 0 0 + 2
@@ -47,13 +47,13 @@ abbrev pub width_of : List ℕ → ℕ
 width_of [] = 0
 width_of (tag ∷ bytes) = width_in (form_of (kind_of_tag tag)) bytes
 
--- what a value of a form holds, of which these stand behind the first byte; a bit is set or not
+-- what a value of a form holds; these are the bytes after the first, and a bit is set or not
 abbrev pub content_at : Form → Bool → List ℕ → Content
 content_at form.Number is_set bytes = Number (int_from bytes)
 content_at form.Bytes is_set bytes = Bytes (take (get_or bytes 0 0) (drop 1 bytes))
 content_at form.Bit is_set bytes = Bit is_set
 
--- the value of a kind, whose bytes begin with this one
+-- the value of a kind whose bytes begin with this tag
 abbrev pub value_tagged : Kind → ℕ → List ℕ → Value
 value_tagged kind tag bytes = value_with kind (content_at (form_of kind) (tag == tag_of kind + 1) bytes)
 
@@ -62,7 +62,7 @@ abbrev pub first_of : List ℕ → Value
 first_of [] = default_of kind.Flag
 first_of (tag ∷ bytes) = value_tagged (kind_of_tag tag) tag bytes
 
--- the first values, up to a number of them
+-- the first values, at most this many
 unfoldable pub unpacked_by : ℕ → List ℕ → List Value
 unpacked_by zero bytes = []
 unpacked_by (suc most) [] = []
@@ -77,11 +77,11 @@ pub record IsPacked (bytes : List ℕ) : Type 0 where
   pub in_range : AreInRange (unpacked bytes)
   pub same : packed_values (unpacked bytes) ≡ bytes
 
--- where a value begins, or the end where there are fewer
+-- where a value begins, or the end if there are fewer values
 abbrev pub offset_of : ℕ → List Value → ℕ
 offset_of place vs = length (packed_values (take place vs))
 
--- what bytes of values begin with
+-- the first value of bytes that have one
 pub record HasFirst (bytes : List ℕ) : Type 0 where
   pub within : width_of bytes ≤ length bytes
   pub some : 0 < width_of bytes

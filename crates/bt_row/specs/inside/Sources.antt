@@ -1,11 +1,11 @@
--- Values that are gone through, from a list of them or from the bytes of a row.
+-- The values of an iterator, from a list of them or from the bytes of a row.
 use Rattle.std.specs.Prelude.{List}
 use Rattle.bt_row.specs.inside.Packing.{IsPacked, unpacked}
 use Rattle.bt_value.specs.declared.value.Value.{Value}
 use Rattle.bt_row.specs.declared.values.Source.{Source}
 use Rattle.bt_row.specs.declared.values.Source.TheVariants.{Listed, Packed}
 
--- the values that are left
+-- the remaining values
 abbrev pub values_left : Source → List Value
 values_left (Listed values) = values.now
 values_left (Packed bytes) = unpacked bytes.now

@@ -1,4 +1,4 @@
-//! The first values of a row, by its bytes, and single values of it.
+//! The first values of a row, compared and copied as bytes, and single values of a row.
 ghost use Rattle.std.specs.Prelude.{◌≡◌, ◌≤◌, IfOk, MatchOption, Some, length, slice_get, take};
 ghost use Rattle.bt_value.specs.Values.{same_values};
 ghost use Rattle.bt_value.specs.Views.{value_of_ref};
@@ -10,7 +10,7 @@ use bt_value::{ValueRef, front};
 use std::alloc::{AllocError, Global};
 
 impl Row {
-    /// Whether the first values, or all if there are fewer, are those of another row.
+    /// Whether the first values, or all if there are fewer, are the values of another row.
     pub fn starts_with(&self, count: usize, first: &Row) -> bool
         ensures { result ≡ same_values first.now (take count self.now) }
     {

@@ -33,7 +33,7 @@ loop-value-preserved c = record {
 pub loop-value-smaller : goal.loop-value-smaller
 loop-value-smaller c = omega (arith, ap length c.in-Some.ensures.some)
 
--- no byte was shown
+-- nothing was printed
 blank : (old out : List ℕ) (values : List Value) → out ≡ old ++ row_body default_writer (map text_of values) → length out ≡ length old
     → out ++ (34 ∷ 34 ∷ []) ≡ old ++ record_text (map text_of values)
 blank old out values wrote same =
@@ -43,7 +43,7 @@ blank old out values wrote same =
     let is = blank_is_empty texts ∙ none in
     rw is (ap (λ (t : List ℕ). t ++ (34 ∷ 34 ∷ [])) wrote ∙ append_assoc old body (34 ∷ 34 ∷ []))
 
--- some byte was
+-- something was printed
 something : (old out : List ℕ) (values : List Value) → out ≡ old ++ row_body default_writer (map text_of values) → length out ≢ length old
     → out ≡ old ++ record_text (map text_of values)
 something old out values wrote other =

@@ -2,6 +2,6 @@ use Rattle.std.proofs.Common.{◌≡◌, drop}
 use Rattle.bt_row.specs.Schemas.{fit_columns}
 use Rattle.bt_row.proofs.schema.are_of_columns.Given as goal
 
--- the values from here on decide
+-- the result depends only on the values from here on
 abbrev pub invariant-loop-column : goal.invariant-loop-column
 invariant-loop-column l = fit_columns l.columns l.fn.values ≡ fit_columns (drop l.column-index l.columns) l.rest

@@ -10,7 +10,7 @@ here : (columns : List Column) (place : ℕ) (name : List ℕ) (column : Column)
     → Some (place, column.kind) ≡ named_from place name (drop place columns)
 here columns place name column within is same = rw (drop_more columns place column within, ← is, same) refl
 
--- or another one
+-- or another column does
 behind : (columns : List Column) (place : ℕ) (name : List ℕ) (column : Column) → place < length columns → column ≡ get_or columns place column → pointwise ◌==◌ column.name name ≡ false
     → named_from place name (drop place columns) ≡ named_from (place + 1) name (drop (place + 1) columns)
 behind columns place name column within is other = rw (drop_more columns place column within, ← is, other, add-one) refl

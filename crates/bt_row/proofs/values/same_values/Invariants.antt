@@ -2,7 +2,7 @@ use Rattle.std.proofs.Common.{◌≡◌, length}
 use Rattle.bt_value.specs.Values.{same_values}
 use Rattle.bt_row.proofs.values.same_values.Given as goal
 
--- the values that are left decide
+-- the result depends only on the remaining values
 abbrev pub invariant-loop-a : goal.invariant-loop-a
 invariant-loop-a l = same_values l.fn.left l.fn.right ≡ same_values l.lefts l.rights
 

@@ -24,7 +24,7 @@ overflow_add-end c =
 pub replacement-requires-clause-within : goal.replacement-requires-clause-within
 replacement-requires-clause-within c = ends_within c.as_slice-bytes.result.now c.offset-at.result c.width_at.result c.offset-at.ensures.within c.offset-at.ensures.rest c.width_at.ensures
 
--- how the new bytes come from the old ones
+-- how the new bytes are made from the old ones
 replaces_value : (bytes new : List ℕ) (at width : ℕ) (v : Value) → new ≡ take at bytes ++ (packed_value v ++ drop (at + width) bytes) → width ≡ width_of (drop at bytes) → Replaces bytes new at v
 replaces_value bytes new at width v is wide = record { bytes = is ∙ ap (λ w. take at bytes ++ (packed_value v ++ drop (at + w) bytes)) wide }
 
