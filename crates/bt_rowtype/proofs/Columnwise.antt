@@ -1,4 +1,4 @@
--- Going over columns and the fields under each, one by one. Serves the loop that reads values.
+-- Iterating over columns and their fields. Serves the loop that reads values.
 use Rattle.std.proofs.Common.{ℕ, suc, eq-eqb, List, [], ◌∷◌, ◌++◌, ◌+◌, ◌<◌, ◌≤◌, ◌≡◌, ◌∙◌, refl, sym, ap, arith, length, length-take, take, drop, get_or, Option, Some, None, Ok, append_assoc}
 use Rattle.std.proofs.lemmas.List.{drop_more, get_or-take}
 use Rattle.std.proofs.lemmas.Option.{get_or_from_slice_get}
@@ -8,7 +8,7 @@ use Rattle.bt_value.specs.Values.{value_of}
 use Rattle.bt_row.specs.declared.schema.Column.{Column}
 use Rattle.bt_value.specs.declared.value.Value.{Value}
 
--- values before others, where those are there
+-- values followed by others, if there are others
 abbrev pub behind : List Value → Option (List Value) → Option (List Value)
 behind prefix rest = option_map (λ vs. prefix ++ vs) rest
 
@@ -16,14 +16,14 @@ behind-first : (prefix : List Value) (v : Value) (rest : Option (List Value)) �
 behind-first prefix v None = refl
 behind-first prefix v (Some vs) = ap Some (sym (append_assoc prefix (v ∷ []) vs))
 
--- one more field that spells a value
+-- one more field that encodes a value
 pub values-drop-some : (columns : List Column) (fields : List (List ℕ)) (i : ℕ) (c : Column) (prefix : List Value) (v : Value) → i < length columns → i < length fields
     → value_of (get_or columns i c).kind (get_or fields i []) ≡ Some v
     → behind prefix (values_of (drop i columns) (drop i fields)) ≡ behind (prefix ++ v ∷ []) (values_of (drop (i + 1) columns) (drop (i + 1) fields))
 values-drop-some columns fields i c prefix v in_columns in_fields spelled =
     rw (drop_more columns i c in_columns, drop_more fields i [] in_fields, spelled) (behind-first prefix v (values_of (drop (i + 1) columns) (drop (i + 1) fields)))
 
--- a field that spells none
+-- a field that encodes no value
 pub values-drop-none : (columns : List Column) (fields : List (List ℕ)) (i : ℕ) (c : Column) (prefix : List Value) → i < length columns → i < length fields
     → value_of (get_or columns i c).kind (get_or fields i []) ≡ None
     → behind prefix (values_of (drop i columns) (drop i fields)) ≡ None
@@ -40,7 +40,7 @@ first_value : (columns : List Column) (fields : List (List ℕ)) (place : ℕ) (
     → slice_get fields place ≡ Some field → value_of column.kind field ≡ found → value_of (get_or columns place column).kind (get_or (take (length columns) fields) place []) ≡ found
 first_value columns fields place column field found within at_column at_field is = rw (at_column, get_or-take (length columns) fields place [] within, at_place fields place field at_field) is
 
--- one more field that spells a value
+-- one more field that encodes a value
 pub first_more : (columns : List Column) (fields : List (List ℕ)) (place : ℕ) (column : Column) (prefix : List Value) (v : Value) (field : List ℕ) → place < length columns → length columns ≤ length fields
     → get_or columns place column ≡ column → slice_get fields place ≡ Some field → value_of column.kind field ≡ Some v
     → behind prefix (values_of (drop place columns) (drop place (take (length columns) fields))) ≡ behind (prefix ++ v ∷ []) (values_of (drop (place + 1) columns) (drop (place + 1) (take (length columns) fields)))
@@ -48,7 +48,7 @@ first_more columns fields place column prefix v field within long at_column at_f
     let here : place < length (take (length columns) fields) = omega (arith, within, long, length-take (length columns) fields) in
     values-drop-some columns (take (length columns) fields) place column prefix v within here (first_value columns fields place column field (Some v) within at_column at_field is)
 
--- a field that spells none
+-- a field that encodes no value
 pub first_none : (columns : List Column) (fields : List (List ℕ)) (place : ℕ) (column : Column) (prefix : List Value) (field : List ℕ) → place < length columns → length columns ≤ length fields
     → get_or columns place column ≡ column → slice_get fields place ≡ Some field → value_of column.kind field ≡ None
     → behind prefix (values_of (drop place columns) (drop place (take (length columns) fields))) ≡ None
@@ -79,7 +79,7 @@ values_more (d ∷ columns) (f ∷ fields) row c field v is value =
     ap (λ (o : Option Value). with_first o others) found.2 ∙ ap (λ (o : Option (List Value)). with_first (Some found.0) o) later
     ∙ ap (λ (l : List Value). Some (l ++ v ∷ [])) (sym found.4)
 
--- where there are values, there are fields for all columns
+-- if there are values, there are values of the other columns too
 with_others : (first : Option Value) (others : Option (List Value)) (row : List Value) (P : Type 0) → ((vs : List Value) → others ≡ Some vs → P) → with_first first others ≡ Some row → P
 with_others None others row P rest is = absurd cc
 with_others (Some v) None row P rest is = absurd cc
@@ -92,6 +92,6 @@ values_length (c ∷ columns) [] row is = absurd cc
 values_length (c ∷ columns) (field ∷ fields) row is =
     ap suc (with_others (value_of c.kind field) (values_of columns fields) row (length fields ≡ length columns) (λ vs others. values_length columns fields vs others) is)
 
--- values that fields spell are what the record is read as
+-- the values that fields encode are those that the record is read as
 pub values_read : (columns : List Column) (item : ℕ) (fields : List (List ℕ)) (row : List Value) → values_of columns fields ≡ Some row → read_as columns item fields ≡ Ok row
 values_read columns item fields row is = rw (eq-eqb (length fields) (length columns) (values_length columns fields row is), is) refl

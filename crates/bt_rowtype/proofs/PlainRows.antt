@@ -21,14 +21,14 @@ use Rattle.bt_rowtype.proofs.Columnwise.{values_more}
 use Rattle.bt_record.proofs.offered.PlainTexts.{plain_text}
 use Rattle.bt_value.proofs.offered.PlainFields.{next_cut, next_plain, none_from}
 
--- what is dropped at an item stands behind it
+-- if a list from a place on begins with an item, then one more place takes this item, and drops it
 item_at : {A : Type 0} (xs : List A) (i : ℕ) (x : A) (ys : List A) → drop i xs ≡ x ∷ ys → (take (suc i) xs ≡ take i xs ++ x ∷ []) × (drop (suc i) xs ≡ ys)
 item_at [] zero x ys is = absurd cc
 item_at [] (suc i) x ys is = absurd cc
 item_at (z ∷ zs) zero x ys is = let first : z ≡ x = cc in let rest : zs ≡ ys = cc in (rw first refl, rest)
 item_at (z ∷ zs) (suc i) x ys is = let later = item_at zs i x ys is in (ap (λ l. z ∷ l) later.0, later.1)
 
--- the first fields have spelled a row, and the others stand from this place on
+-- the first fields encode a row, and the other fields begin at this place
 pub record ReadTo (columns : List Column) (text : List ℕ) (row : List Value) (i at : ℕ) : Type 0 where
   pub values : values_of (take i columns) (take i (parts_of text)) ≡ Some row
   pub others : drop i (parts_of text) ≡ fields_from at text
@@ -40,7 +40,7 @@ read_none columns text row none =
     let some : nat_le 0 (length text) ≡ true = le-leb 0 (length text) (omega arith) in
     record { values = ap Some (sym none); others = sym (ap (λ (b : Bool). if b then parts_of text else []) some); plain = refl }
 
--- one more field that spells a value
+-- one more field that encodes a value
 pub read_more : (columns : List Column) (text rest : List ℕ) (row : List Value) (i at end : ℕ) (column : Column) (v : Value) → ReadTo columns text row i at → i < length columns → get_or columns i column ≡ column
     → at ≤ length text → rest ≡ drop at text → EndsPlain rest end → value_of column.kind (take end rest) ≡ Some v → ReadTo columns text (row ++ v ∷ []) (i + 1) (at + (end + 1))
 read_more columns text rest row i at end column v so_far inside is_column within is ends value =
@@ -62,7 +62,7 @@ read_columns columns text row i at so_far all = record {
   plain = so_far.plain;
 }
 
--- and all fields
+-- all fields were read
 pub row_read : (columns : List Column) (text : List ℕ) (row : List Value) (at : ℕ) → HasRead columns text row at → length text < at → is_some (csv_record text) ≡ true → values_of columns (fields_in text) ≡ Some row
 row_read columns text row at read past found =
     let none = none_from text at past in

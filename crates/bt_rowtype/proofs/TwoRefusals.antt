@@ -1,4 +1,4 @@
--- Two refusals, and what both results are then.
+-- Two refusals: both results are then the smaller one.
 use Rattle.std.proofs.Common.{◌≡◌, ◌≢◌, ◌∙◌, Result, Err, ap, subst, sym}
 use Rattle.bt_value.specs.Answers.{Answers}
 use Rattle.bt_value.specs.Refusals.{lesser}

@@ -1,4 +1,4 @@
-//! Two results as one.
+//! Combining two results.
 ghost use Rattle.std.specs.Prelude.{◌≡◌, Ok, Result, IfOk};
 ghost use Rattle.bt_value.specs.Answers.{Answers};
 ghost use Rattle.bt_value.specs.Results as results;
@@ -6,8 +6,8 @@ ghost use Rattle.bt_value.specs.declared.refusal.Refusal.{Refusal as refusal};
 
 use bt_value::Refusal;
 
-/// Both values, or the least of the refusals. If memory runs out for one of the two, that is the refusal, since what could not be read might have been
-/// refused too.
+/// Both values, or the smaller of the refusals. If either call runs out of memory, the refusal is `OutOfMemory`, because the value
+/// that was not read might have been refused too.
 pub fn both_read<S: Drop, T: Drop>(
     first: Result<S, Refusal>,
     second: Result<T, Refusal>,

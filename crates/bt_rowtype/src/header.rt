@@ -1,4 +1,4 @@
-//! The names of columns as a record.
+//! Records that have the names of columns.
 ghost use Rattle.std.specs.Prelude.{◌≡◌, ◌==◌};
 ghost use Rattle.std.specs.Cmp.Lexicographic.{pointwise};
 ghost use Rattle.bt_rowtype.specs.Loads.{is_header};

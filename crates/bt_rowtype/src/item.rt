@@ -1,7 +1,7 @@
-//! The messages of a batch as records spell them.
+//! The messages of a batch, as records encode them.
 use bt_record::RecordLine;
 
-/// A message of a batch. Its record lies in the script, and is cut when it is read.
+/// A message of a batch. Its record is borrowed from the script, and is cut when it is read.
 #[derive(Drop)]
 pub enum Item<'a> {
     /// The fields of a row, one for each column.

@@ -1,13 +1,15 @@
-//! Typed rows: reading records by the columns of a table. All of rows, values and records is named here too.
+//! Typed rows: reading records by the columns of a table.
 //!
-//! A field of a record is read by the kind of its column and becomes a [`Value`]: an int, a text, a flag or bytes. A record
-//! becomes a [`Row`], or is refused with a number, a name and the item at fault. A row is printed as one record. The record of
-//! an upsert becomes a key and operations ([`Op`]), which change single columns of a row, or with the row to begin with a [`Change`].
-//! The records of a CSV text are borrowed one after the other ([`Records`]). A [`RecordReader`] reads lines without owned fields between;
-//! [`read_row`], [`read_key`], [`read_ops`] and [`read_upsert`] return the same of [`Fields`] that a caller has.
+//! A field of a record is read by the kind of its column and becomes a [`Value`]: an int, a text, a flag or bytes. A record becomes a
+//! [`Row`], or is refused with a number, a name and the item at fault. The record of an upsert becomes a key and operations ([`Op`]) that
+//! change single columns of a row. Together with the row to begin with, they are a [`Change`].
 //!
-//! The crates below: `bt_value` has kinds, values and refusals, `bt_record` cuts texts into records and fields, `bt_row` has rows, schemas and
-//! operations. A crate that needs only one of them stands on that one.
+//! The records of a CSV text are borrowed one after the other ([`Records`]). A [`RecordReader`] reads rows, keys and upserts directly from
+//! lines. If you already have owned [`Fields`], then [`read_row`], [`read_key`], [`read_ops`] and [`read_upsert`] return the same.
+//!
+//! The crate depends on three crates: `bt_value` has kinds, values and refusals, `bt_record` cuts texts into records and fields, and
+//! `bt_row` has rows, schemas and operations. This crate re-exports the parts of them that most callers need. A crate that needs only
+//! one of the three can depend on that one.
 //!
 //! ```text
 //! let mut columns = Columns::new(alloc);

@@ -1,4 +1,4 @@
-//! Reading a plain line as a row, in one pass over its bytes.
+//! Reading a plain line as a row in one pass over its bytes.
 ghost use Rattle.std.specs.Prelude.{◌≡◌, IfOk, IfSome, Some, is_some, true};
 ghost use Rattle.bt_record.specs.Records.{csv_record, fields_in};
 ghost use Rattle.bt_row.specs.Schemas.{values_of};
@@ -8,12 +8,12 @@ use bt_row::{Column, Row};
 use bt_value::tail;
 use std::alloc::{AllocError, Global};
 
-// A row keeps 30 bytes in itself. Three ints fill them, with at most 59 bytes of a line: 19 each, and two commas; this is rounded up. A
-// longer line seldom spells such a row, and is cut into fields at once.
+// A row keeps up to 30 bytes in itself. Three ints fill these, and take at most 59 bytes of a line: 19 each, and two commas. The limit is
+// that number, rounded up. A longer line seldom encodes such a row, and is cut into fields at once.
 const LONGEST_SHORT_LINE: usize = 64;
 
-/// The values that the first fields of a text spell, one for each column, and the place behind the last one's comma, or one past the end,
-/// where all are plain and a row keeps the values in itself.
+/// The values that the first fields of a text encode, one for each column, and the place after the last one's comma. After the last field
+/// that is one past the end. Returns `None` unless all fields are plain and the row keeps the values in itself.
 pub(crate) fn read_plain_columns(
     alloc: Global,
     columns: &[Column],
@@ -42,7 +42,7 @@ pub(crate) fn read_plain_columns(
     Ok(Some((row, at)))
 }
 
-/// The values that the fields of a text spell, one for each column, where all fields are plain and the row keeps the values in itself.
+/// The values that the fields of a text encode, one for each column, if all fields are plain and the row keeps the values in itself.
 #[tactic(auto, using(crate::proofs::PlainRows::row_read))]
 pub(crate) fn read_plain_row(
     alloc: Global,

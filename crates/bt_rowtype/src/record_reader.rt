@@ -15,8 +15,8 @@ use bt_row::{Change, Column, MOST_OPS, Row, Schema, default_row, one_op};
 use bt_value::Refusal;
 use std::alloc::{AllocError, Global};
 
-/// Reads lines, one after the other. A line takes no memory that one before it has taken, and one of too many fields no more than
-/// one of the most.
+/// Reads lines, one after the other. Lines share the reader's memory, and a line of too many fields takes no more than one of as many as
+/// are allowed.
 #[derive(Drop)]
 pub struct RecordReader {
     cutter: RecordCutter,
@@ -30,7 +30,7 @@ impl RecordReader {
         }
     }
 
-    // The fields of a line, or `BadLength` of this item where they are more than these.
+    // The fields of a line, or `BadLength` of this item if there are more than the limit.
     fn bounded_fields<'b>(
         &'b mut self,
         item: u64,
@@ -47,7 +47,7 @@ impl RecordReader {
         }
     }
 
-    /// Whether a line spells the names of these columns, in order.
+    /// Whether a line encodes the names of these columns, in order.
     pub fn is_header(
         &mut self,
         columns: &[Column],
@@ -61,9 +61,9 @@ impl RecordReader {
         }
     }
 
-    // The values that a line spells, one for each column.
+    // The values that a line encodes, one for each column.
     //
-    // A plain line is read in one pass over its bytes; any other, which is dearer, is cut into fields, and these are read.
+    // A plain line is read in one pass over its bytes. Any other line is cut into fields before they are read, which is slower.
     #[tactic(auto, using(crate::proofs::Columnwise::values_read))]
     fn read_values(
         &mut self,
@@ -81,7 +81,7 @@ impl RecordReader {
         read_values(alloc, columns, item, &fields)
     }
 
-    /// The row that a line spells, as `read_row` reads it of the line's fields.
+    /// The row that a line encodes. The result is the same as that of `read_row` for the line's fields.
     pub fn read_row(
         &mut self,
         alloc: Global,
@@ -94,7 +94,7 @@ impl RecordReader {
         self.read_values(alloc, schema.columns(), item, line)
     }
 
-    /// The values of the key that a line spells, as `read_key` reads them of the line's fields.
+    /// The values of the key that a line encodes. The result is the same as that of `read_key` for the line's fields.
     pub fn read_key(
         &mut self,
         alloc: Global,
@@ -107,8 +107,8 @@ impl RecordReader {
         self.read_values(alloc, schema.key_columns(), item, line)
     }
 
-    /// The values of the first of these columns that a line spells, one for each field. `BadLength` where there is no field, or more than
-    /// columns, else `BadField` where a field is no value of its column, both with this item.
+    /// The values that a line encodes in the first of these columns, one for each field. `BadLength` if there are no fields, or more than
+    /// columns. Otherwise `BadField` if a field is not a value of its column. Both have this item.
     pub fn read_prefix(
         &mut self,
         alloc: Global,
@@ -125,7 +125,7 @@ impl RecordReader {
         read_fields(alloc, &columns[..fields.len()], item, &fields)
     }
 
-    /// The key and the operations that a line spells, as `read_upsert` reads them of the line's fields.
+    /// The key and the operations that a line encodes. The result is the same as that of `read_upsert` for the line's fields.
     pub fn read_upsert(
         &mut self,
         alloc: Global,
@@ -142,10 +142,10 @@ impl RecordReader {
         self.read_cut_upsert(alloc, schema, item, line)
     }
 
-    /// What the upsert that a line spells does to the row of its key, refused as in `read_upsert`. The row to begin with has the key's values
-    /// first.
+    /// What the upsert that a line encodes does to the row of its key, refused as in `read_upsert`. The row to begin with starts with the
+    /// key's values.
     ///
-    /// No list is made of one operation that makes a number, where the line is plain.
+    /// If the line is plain, a single arithmetic operation needs no list.
     #[tactic(auto, using(bt_row::proofs::offered::Fits::upsert_begins))]
     pub fn read_change(
         &mut self,
@@ -166,7 +166,7 @@ impl RecordReader {
         Ok(Change::new(alloc, base, ops)?)
     }
 
-    // The key and the operations that a line spells, of which the fields are cut.
+    // The key and the operations that a line encodes. The line is cut into fields first.
     fn read_cut_upsert(
         &mut self,
         alloc: Global,

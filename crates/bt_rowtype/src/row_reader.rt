@@ -13,7 +13,7 @@ use bt_row::{Column, Row, Schema};
 use bt_value::{Form, Kind, MOST_VALUE_BYTES, Refusal, ValueRef};
 use std::alloc::Global;
 
-// Adds a value that was read, or answers the refusal of its field as this item where there is none.
+// Adds a value that was read. If there is none, returns the refusal of its field as this item.
 #[inline(always)]
 fn push_read(
     alloc: Global,
@@ -31,8 +31,8 @@ fn push_read(
     }
 }
 
-// Adds the value that a field spells, in room that is made for its bytes, or answers its refusal as this item. It stands apart, so that
-// only such fields have that room on the stack.
+// Adds the value that a field encodes, read through an array for its bytes, or returns the field's refusal as this item. It is a function
+// that is never inlined, so that only such fields have the array on the stack.
 #[inline(never)]
 fn push_spelled(
     alloc: Global,
@@ -47,7 +47,7 @@ fn push_spelled(
     push_read(alloc, row, item, kind.read(field, &mut room))
 }
 
-// Adds the value that a field spells, or answers its refusal as this item.
+// Adds the value that a field encodes, or returns the field's refusal as this item.
 #[inline(always)]
 fn push_field(
     alloc: Global,
@@ -64,7 +64,7 @@ fn push_field(
     push_read(alloc, row, item, kind.read_lent(field))
 }
 
-// The bytes that a value takes at most, of which one in the form of bytes has no more than its field.
+// The most bytes that a value takes. A value in the form of bytes has no more than its field.
 fn room_of(form: Form, field: &[u8]) -> usize {
     match form {
         Form::Number => 9,
@@ -73,7 +73,7 @@ fn room_of(form: Form, field: &[u8]) -> usize {
     }
 }
 
-// The bytes that values of these columns take.
+// The number of bytes that values of these columns take.
 fn room_for_fields(columns: &[Column], fields: &FieldsRef<'_>) -> usize
     requires { length columns.now ≤ length fields.now }
 {
@@ -84,7 +84,7 @@ fn room_for_fields(columns: &[Column], fields: &FieldsRef<'_>) -> usize
     room
 }
 
-/// The values that the first fields spell, one for each column.
+/// The values that the first fields encode, one for each column.
 pub(crate) fn read_fields(
     alloc: Global,
     columns: &[Column],
@@ -101,7 +101,7 @@ pub(crate) fn read_fields(
     Ok(row)
 }
 
-/// The values that fields spell, one for each column.
+/// The values that fields encode, one for each column.
 pub(crate) fn read_values(
     alloc: Global,
     columns: &[Column],
@@ -117,8 +117,8 @@ pub(crate) fn read_values(
     read_fields(alloc, columns, item, fields)
 }
 
-/// The row that a record spells, one field for each column. `BadLength` where their number differs, else `BadField` where a
-/// field is no value of its column, both with this item.
+/// The row that a record encodes, one field for each column. `BadLength` if the number of fields differs. Otherwise `BadField` if a field
+/// is not a value of its column. Both have this item.
 pub fn read_row(alloc: Global, schema: &Schema, item: u64, fields: &Fields) -> Result<Row, Refusal>
     ensures answer { Answers (read_as schema.now.columns item fields.now) result }
     ensures certain { length fields.now ≢ length schema.now.columns → result ≡ Err (Refusal.BadLength item) }
@@ -126,7 +126,7 @@ pub fn read_row(alloc: Global, schema: &Schema, item: u64, fields: &Fields) -> R
     read_values(alloc, schema.columns(), item, &fields.as_ref())
 }
 
-/// The values of the key that a record spells, one field for each key column, refused as in [`read_row`].
+/// The values of the key that a record encodes, one field for each key column, refused as in [`read_row`].
 pub fn read_key(alloc: Global, schema: &Schema, item: u64, fields: &Fields) -> Result<Row, Refusal>
     ensures answer { Answers (read_as (take schema.now.keys schema.now.columns) item fields.now) result }
     ensures certain { length fields.now ≢ schema.now.keys → result ≡ Err (Refusal.BadLength item) }

@@ -23,7 +23,7 @@ use std::alloc::{AllocError, Global};
 pub struct Upsert {
     /// The values of the key.
     pub key: Row,
-    /// What is done to its row.
+    /// The operations on its row.
     pub ops: Ops,
 }
 
@@ -34,7 +34,7 @@ fn find_open_column(schema: &Schema, name: &[u8]) -> Option<(usize, Kind)>
     find_column(schema.columns(), schema.keys(), name)
 }
 
-// The number that a field spells, or its refusal as this item.
+// The number that a field encodes, or its refusal as this item.
 fn read_number(item: u64, field: &[u8]) -> Result<i64, Refusal>
     ensures { result ≡ or_refused (Refusal.BadField item) (int_of field.now) }
 {
@@ -61,7 +61,7 @@ fn read_set(
     Ok(Op::Set(place, read_value(alloc, kind, item, argument)?))
 }
 
-// The operation that makes a number, with a column's name and an argument, or its refusal.
+// The arithmetic operation with a column's name and an argument, or its refusal.
 fn read_making(
     arithmetic: Arithmetic,
     schema: &Schema,
@@ -112,7 +112,7 @@ fn is_upsert(keys: usize, fields: usize) -> bool
     rest >= 3 && rest <= 3 * MOST_OPS && rest % 3 == 0
 }
 
-// What the fields behind the key spell, in groups of three.
+// The operations that the fields after the key encode, in groups of three.
 fn read_groups(
     alloc: Global,
     schema: &Schema,
@@ -139,7 +139,7 @@ fn read_groups(
     Ok(reading)
 }
 
-// The operations that the record of an upsert spells.
+// The operations that the record of an upsert encodes.
 fn read_ops_record(
     alloc: Global,
     schema: &Schema,
@@ -156,12 +156,12 @@ fn read_ops_record(
     reading.finish()
 }
 
-/// The operations that the record of an upsert spells: the fields of the key, then 1 to 16 groups of a word, the name of a column
-/// and an argument. The words are `set`, and `add`, `max` and `min`.
+/// The operations that the record of an upsert encodes: the fields of the key, then 1 to 16 groups of a word, the name of a column
+/// and an argument. The words are `set`, `add`, `max` and `min`.
 ///
-/// `BadLength` where the number of fields is another. An operation's one fault is the first of: the word (`BadField`), a column
-/// that is not there or is one of the key (`NoSuchColumn`), a word of a number at a column that is not int (`NotInt`), the
-/// argument (`BadField`). Of several operations the least is answered.
+/// `BadLength` if the number of fields is different. An operation has one fault, the first of: the word (`BadField`), a column that does
+/// not exist or is a key column (`NoSuchColumn`), an arithmetic word at a column that is not int (`NotInt`), the argument (`BadField`).
+/// If several operations have faults, the least is returned.
 pub fn read_ops(alloc: Global, schema: &Schema, item: u64, fields: &Fields) -> Result<Ops, Refusal>
     ensures answer { Answers (spec.ops_as schema.now item fields.now) result }
     ensures certain { spec.is_upsert schema.now.keys (length fields.now) ≡ false → result ≡ Err (Refusal.BadLength item) }
@@ -169,8 +169,8 @@ pub fn read_ops(alloc: Global, schema: &Schema, item: u64, fields: &Fields) -> R
     read_ops_record(alloc, schema, item, &fields.as_ref())
 }
 
-/// The key and the operation that a text spells, where all its fields are plain, its key is a row that keeps its values in itself, and the operation is
-/// the only one.
+/// The key and the operation that a text encodes, if all fields are plain, the key is a row that keeps its values in itself, and there is
+/// exactly one operation.
 pub(crate) fn read_plain_upsert(
     alloc: Global,
     schema: &Schema,
@@ -193,7 +193,7 @@ pub(crate) fn read_plain_upsert(
     }
 }
 
-/// The key and the operations that the record of an upsert spells.
+/// The key and the operations that the record of an upsert encodes.
 pub(crate) fn read_upsert_record(
     alloc: Global,
     schema: &Schema,
@@ -212,8 +212,8 @@ pub(crate) fn read_upsert_record(
     Ok(Upsert { key, ops })
 }
 
-/// The key and the operations that the record of an upsert spells, refused as in [`read_ops`], or as `BadField` for a field of
-/// the key, whichever is less.
+/// The key and the operations that the record of an upsert encodes. They are refused as in [`read_ops`], or as `BadField` for a field of
+/// the key. If both are at fault, the smaller refusal is returned.
 pub fn read_upsert(
     alloc: Global,
     schema: &Schema,

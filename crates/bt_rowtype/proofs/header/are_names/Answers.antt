@@ -6,7 +6,7 @@ use Rattle.bt_row.specs.declared.schema.Column.{Column}
 use Rattle.bt_rowtype.proofs.Columnwise.{at_place}
 use Rattle.bt_rowtype.proofs.header.are_names.Goals as goal
 
--- the name at a place, and those behind it
+-- the name at a place, and those after it
 one_more : (columns : List Column) (names : List (List ℕ)) (place : ℕ) (column : Column) (name : List ℕ) → place < length columns → place < length names → column ≡ get_or columns place column
     → slice_get names place ≡ Some name → is_header (drop place columns) (drop place names) ≡ (pointwise ◌==◌ column.name name && is_header (drop (place + 1) columns) (drop (place + 1) names))
 one_more columns names place column name in_columns in_names at_column at_name =
