@@ -14,7 +14,8 @@ piece_at bytes [] i d within = absurd (omega (arith, within))
 piece_at bytes (p ∷ ps) zero d within = refl
 piece_at bytes (p ∷ ps) (suc i) d within = piece_at bytes ps i d (omega (arith, within))
 
-pub in_bounds : (size : ℕ) (spans : List FieldSpan) (i : ℕ) (d : FieldSpan) → LieWithin size spans → i < length spans → ((get_or spans i d).start ≤ (get_or spans i d).end) × ((get_or spans i d).end ≤ size)
+pub in_bounds : (size : ℕ) (spans : List FieldSpan) (i : ℕ) (d : FieldSpan) → LieWithin size spans → i < length spans
+    → ((get_or spans i d).start ≤ (get_or spans i d).end) × ((get_or spans i d).end ≤ size)
 in_bounds size [] i d within l = absurd (omega (arith, l))
 in_bounds size (p ∷ ps) zero d within l = (within.0, within.1)
 in_bounds size (p ∷ ps) (suc i) d within l = in_bounds size ps i d within.2 (omega (arith, l))

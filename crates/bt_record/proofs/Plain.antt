@@ -58,7 +58,8 @@ cut_other text spans start place le within other so_far =
     ∙ ap (λ (l : List (List ℕ)). pieces text spans ++ l) (sym (more-first field b rest some.0 some.1 some.2))
     ∙ ap (λ (f : List ℕ). pieces text spans ++ before_first_part f rest) (sym (part_more text start place le within))
 
-pub cut_end : (text : List ℕ) (spans : List FieldSpan) (start place : ℕ) → place ≡ length text → Cut text spans start place → parts_of text ≡ pieces text (spans ++ record { start = start; end = length text } ∷ [])
+pub cut_end : (text : List ℕ) (spans : List FieldSpan) (start place : ℕ) → place ≡ length text → Cut text spans start place
+    → parts_of text ≡ pieces text (spans ++ record { start = start; end = length text } ∷ [])
 cut_end text spans start place end so_far =
     let p : FieldSpan = record { start = start; end = place } in
     let none : drop place text ≡ [] = drop_all place text (omega (arith, end)) in

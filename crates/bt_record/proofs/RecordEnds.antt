@@ -1,5 +1,6 @@
 -- The end of the first record of a text. Serves finding the next one.
-use Rattle.std.proofs.Common.{ℕ, zero, suc, Bool, List, [], ◌∷◌, ◌++◌, ◌≡◌, ◌≢◌, ◌==◌, ◌<◌, ◌≤◌, ◌+◌, ◌∙◌, ◌⊎◌, refl, ap, sym, arith, true, false, not, inl, inr, append_assoc, drop, get_or, get_or-take, length, length-take, take, Option, Some}
+use Rattle.std.proofs.Common.{ℕ, zero, suc, Bool, List, [], ◌∷◌, ◌++◌, ◌≡◌, ◌≢◌, ◌==◌, ◌<◌, ◌≤◌, ◌+◌, ◌∙◌, ◌⊎◌, refl, ap, sym, arith, true}
+use Rattle.std.proofs.Common.{false, not, inl, inr, append_assoc, drop, get_or, get_or-take, length, length-take, take, Option, Some}
 use Rattle.std.proofs.lemmas.Bool.{cases_Bool, eqb-true, false≢true, ne_eqb}
 use Rattle.std.proofs.lemmas.List.{append-nil, drop_all, take-append-drop, take_all, take_more}
 use Rattle.std.proofs.lemmas.Grind.{get_or_default_zero}
@@ -92,7 +93,8 @@ first_of [] r begins read = absurd cc
 first_of (b ∷ bs) r begins read = first_record b bs r read
 
 -- the bytes before the place where a record ends begin with this record, as the text does
-begins_before : (text : List ℕ) (place : ℕ) (s : State) → begins_record text ≡ true → is_inside s ≡ true → is_end (step default_config s (get_or text place 0)).1 ≡ true → begins_record (take place text) ≡ true
+begins_before : (text : List ℕ) (place : ℕ) (s : State) → begins_record text ≡ true → is_inside s ≡ true
+    → is_end (step default_config s (get_or text place 0)).1 ≡ true → begins_record (take place text) ≡ true
 begins_before [] place s begins inside is = absurd cc
 begins_before (b ∷ bs) zero s begins inside is = absurd (false≢true (sym (ends_none s b inside (not-true (is_line_end b) begins)) ∙ is))
 begins_before (b ∷ bs) (suc place) s begins inside is = begins
@@ -114,7 +116,8 @@ ends_with text place fields t begins alone read =
     (ap is_some alone, rw same (first_of text (fields, t, drop (place + 1) text) begins read))
 
 -- a text, by the bytes before a place
-from_place : (text : List ℕ) (place : ℕ) (s : State) (so_far : Inside text place s) → next_record default_config st.StartField [] [] text ≡ next_record default_config s so_far.1 so_far.2 (drop place text)
+from_place : (text : List ℕ) (place : ℕ) (s : State) (so_far : Inside text place s)
+    → next_record default_config st.StartField [] [] text ≡ next_record default_config s so_far.1 so_far.2 (drop place text)
 from_place text place s so_far = ap (next_record default_config st.StartField [] []) (sym (take-append-drop place text)) ∙ so_far.3 (drop place text)
 
 -- the record ends at this byte

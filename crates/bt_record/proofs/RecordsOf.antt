@@ -133,7 +133,9 @@ unfolding next_record
 none_of_nothing = refl
 
 -- the records after one that was read from this many bytes, with more iterations than bytes
-turns_behind : (n m size : ℕ) (found : Option Read) → ((text : List ℕ) → length text < n → length text < m → records_from default_config n st.StartRecord text ≡ records_from default_config m st.StartRecord text)
+turns_behind : (n m size : ℕ) (found : Option Read)
+    → ((text : List ℕ) → length text < n → length text < m
+    → records_from default_config n st.StartRecord text ≡ records_from default_config m st.StartRecord text)
     → size < n → size < m → IfSome found (Leaves (suc size)) → records_next (records_from default_config n) found ≡ records_next (records_from default_config m) found
 turns_behind n m size None same more_n more_m left = refl
 turns_behind n m size (Some r) same more_n more_m left =
@@ -147,7 +149,8 @@ turns zero m text more_n more_m = absurd (omega (arith, more_n))
 turns (suc n) zero text more_n more_m = absurd (omega (arith, more_m))
 turns (suc n) (suc m) [] more_n more_m = rw (one_turn n [], one_turn m [], none_of_nothing) refl
 turns (suc n) (suc m) (b ∷ bs) more_n more_m =
-    let behind = turns_behind n m (length bs) (next_record default_config st.StartRecord [] [] (b ∷ bs)) (turns n m) (omega (arith, more_n)) (omega (arith, more_m)) (leaves st.StartRecord [] [] (b ∷ bs)) in
+    let behind = turns_behind n m (length bs) (next_record default_config st.StartRecord [] [] (b ∷ bs)) (turns n m) (omega (arith, more_n))
+    (omega (arith, more_m)) (leaves st.StartRecord [] [] (b ∷ bs)) in
     one_turn n (b ∷ bs) ∙ behind ∙ sym (one_turn m (b ∷ bs))
 
 -- a text with nothing left has no records

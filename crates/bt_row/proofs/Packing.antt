@@ -1,5 +1,6 @@
 -- Bytes of values, and the values of bytes.
-use Rattle.std.proofs.Common.{◌≡◌, ℕ, zero, suc, ◌+◌, ◌<◌, ◌≤◌, ◌^◌, ◌==◌, true, false, List, [], ◌∷◌, ◌++◌, length, length-append, append_assoc, take, drop, refl, sym, ap, subst, ◌∙◌, ℤ, pos, negsuc, SFits, w64, arith}
+use Rattle.std.proofs.Common.{◌≡◌, ℕ, zero, suc, ◌+◌, ◌<◌, ◌≤◌, ◌^◌, ◌==◌, true, false, List, [], ◌∷◌, ◌++◌, length, length-append}
+use Rattle.std.proofs.Common.{append_assoc, take, drop, refl, sym, ap, subst, ◌∙◌, ℤ, pos, negsuc, SFits, w64, arith}
 use Rattle.std.proofs.lemmas.Bool.{eq-eqb, ne_eqb}
 use Rattle.std.proofs.lemmas.Int.{ints}
 use Rattle.std.proofs.lemmas.List.{take-append-drop}
@@ -12,7 +13,8 @@ use Rattle.bt_value.specs.declared.value.Form.{Form}
 use Rattle.bt_value.specs.declared.value.Form.TheVariants as form
 use Rattle.bt_value.specs.declared.value.Kind.{Kind}
 use Rattle.bt_value.specs.declared.value.Value.{Value}
-use Rattle.bt_row.specs.inside.Packing.{IsPacked, content_at, first_of, int_bytes, int_from, packed_values, packed_content, offset_of, packed_value, unpacked, unpacked_by, value_tagged, width_in, width_of, HasFirst, IsAt}
+use Rattle.bt_row.specs.inside.Packing.{IsPacked, content_at, first_of, int_bytes, int_from, packed_values, packed_content, offset_of}
+use Rattle.bt_row.specs.inside.Packing.{packed_value, unpacked, unpacked_by, value_tagged, width_in, width_of, HasFirst, IsAt}
 use Rattle.bt_value.proofs.offered.Kinds.{form_held, tagged, tagged_next, with_content}
 
 pub length_int_bytes : (n : ℤ) → length (int_bytes n) ≡ 8
@@ -159,7 +161,8 @@ seam n vs = ap packed_values (sym (take-append-drop n vs)) ∙ packed-append (ta
 is_at-packed : (vs : List Value) (n : ℕ) → AreInRange vs → IsAt (packed_values vs) n (offset_of n vs)
 is_at-packed vs n fits =
     let back = unpacked-packed vs fits in
-    let rest : drop (offset_of n vs) (packed_values vs) ≡ packed_values (drop n vs) = ap (drop (offset_of n vs)) (seam n vs) ∙ drop-append_seam (packed_values (take n vs)) (packed_values (drop n vs)) in
+    let rest : drop (offset_of n vs) (packed_values vs) ≡ packed_values (drop n vs) =
+    ap (drop (offset_of n vs)) (seam n vs) ∙ drop-append_seam (packed_values (take n vs)) (packed_values (drop n vs)) in
     record {
       within = omega (arith, ap length (seam n vs), length-append (packed_values (take n vs)) (packed_values (drop n vs)));
       front = ap (λ z. packed_values (take n z)) back ∙ sym (ap (take (offset_of n vs)) (seam n vs) ∙ take-append_seam (packed_values (take n vs)) (packed_values (drop n vs)));

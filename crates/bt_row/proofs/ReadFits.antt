@@ -1,5 +1,6 @@
 -- The values that fields encode fit their columns, and so do operations one by one. Serves offered/Fits.
-use Rattle.std.proofs.Common.{ℕ, zero, suc, ◌+◌, ◌≤◌, Bool, List, [], ◌∷◌, ◌≡◌, ◌==◌, ◌∙◌, refl, sym, ap, subst, true, false, arith, codes, drop, slice_get, Option, Some, None, Result, Ok, Err, if◌then◌else◌}
+use Rattle.std.proofs.Common.{ℕ, zero, suc, ◌+◌, ◌≤◌, Bool, List, [], ◌∷◌, ◌≡◌, ◌==◌, ◌∙◌, refl, sym, ap, subst, true, false}
+use Rattle.std.proofs.Common.{arith, codes, drop, slice_get, Option, Some, None, Result, Ok, Err, if◌then◌else◌}
 use Rattle.std.proofs.lemmas.Bool.{le-leb}
 use Rattle.std.specs.Cmp.Lexicographic.{pointwise}
 use Rattle.std.specs.List.{filter_map}
@@ -65,10 +66,13 @@ pub open_kind_at : (schema : Schema) (name : List ℕ) (found : ℕ × Kind) →
 open_kind_at schema name found is =
     let at = named_at schema.keys name (drop schema.keys schema.columns) found is in
     let behind : schema.keys ≤ found.0 = (let p : found.0 ≡ schema.keys + at.0 = at.1 in omega arith) in
-    let here : option_map (λ c. c.kind) (slice_get schema.columns found.0) ≡ Some found.1 = ap (λ n. option_map (λ (c : Column). c.kind) (slice_get schema.columns n)) at.1 ∙ ap (option_map (λ (c : Column). c.kind)) (sym (get_dropped schema.keys at.0 schema.columns)) ∙ at.2 in
+    let here : option_map (λ c. c.kind) (slice_get schema.columns found.0) ≡ Some found.1 =
+    ap (λ n. option_map (λ (c : Column). c.kind) (slice_get schema.columns n)) at.1
+    ∙ ap (option_map (λ (c : Column). c.kind)) (sym (get_dropped schema.keys at.0 schema.columns)) ∙ at.2 in
     rw (le-leb schema.keys found.0 behind) here
 
-column_read : {T : Type 0} (read : ℕ × Kind → Result T Refusal) (found : Option (ℕ × Kind)) (value : T) → at_column read found ≡ Ok value → (column : ℕ × Kind) × (found ≡ Some column) × (read column ≡ Ok value)
+column_read : {T : Type 0} (read : ℕ × Kind → Result T Refusal) (found : Option (ℕ × Kind)) (value : T) → at_column read found ≡ Ok value → (column : ℕ × Kind)
+    × (found ≡ Some column) × (read column ≡ Ok value)
 column_read read None value is = absurd cc
 column_read read (Some column) value is = (column, refl, is)
 
@@ -78,7 +82,8 @@ set_fits schema item argument column op at is =
     let fits : fits_kind column.1 spelled.0 ≡ true = value_fits column.1 argument spelled.0 spelled.1 in
     subst (OpFits schema) spelled.2 (λ other. rw (at, fits) refl)
 
-making_fits : (schema : Schema) (arithmetic : Arithmetic) (item : ℕ) (argument : List ℕ) (place : ℕ) (k : Kind) (op : Op) → open_kind schema place ≡ Some k → making_of_kind arithmetic item argument place k ≡ Ok op → OpFits schema op
+making_fits : (schema : Schema) (arithmetic : Arithmetic) (item : ℕ) (argument : List ℕ) (place : ℕ) (k : Kind) (op : Op) → open_kind schema place ≡ Some k
+    → making_of_kind arithmetic item argument place k ≡ Ok op → OpFits schema op
 making_fits schema arithmetic item argument place kind.Int op at is =
     let spelled = option_some (op_making arithmetic place) (int_of argument) op (some_read (BadField item) (option_map (op_making arithmetic place) (int_of argument)) op is) in
     subst (OpFits schema) spelled.2 (λ other. ap (action_fault schema other) (action_making arithmetic place spelled.0) ∙ ap number_fault at)
@@ -87,7 +92,8 @@ making_fits schema arithmetic item argument place other op at is = absurd cc
 op_fits : (schema : Schema) (item : ℕ) (word name argument : List ℕ) (op : Op) → op_of schema item word name argument ≡ Ok op → OpFits schema op
 op_fits schema item word name argument op is = by_word (pointwise ◌==◌ word (codes "set")) (arithmetic_of_word word) is
   where
-    by_word : (sets : Bool) (named : Option Arithmetic) → (if sets then at_column (set_of item argument) (open_column schema name) else number_op_of item argument (open_column schema name) named) ≡ Ok op
+    by_word : (sets : Bool) (named : Option Arithmetic)
+        → (if sets then at_column (set_of item argument) (open_column schema name) else number_op_of item argument (open_column schema name) named) ≡ Ok op
         → OpFits schema op
     by_word true named is =
         let column = column_read (set_of item argument) (open_column schema name) op is in
@@ -97,7 +103,8 @@ op_fits schema item word name argument op is = by_word (pointwise ◌==◌ word 
         making_fits schema arithmetic item argument column.0.0 column.0.1 op (open_kind_at schema name column.0 column.1) column.2
     by_word false None is = absurd cc
 
-one_fits : (schema : Schema) (read : Result Op Refusal) (others : List (Result Op Refusal)) → ((op : Op) → read ≡ Ok op → OpFits schema op) → OpsFit schema (filter_map result_ok others) → OpsFit schema (filter_map result_ok (read ∷ others))
+one_fits : (schema : Schema) (read : Result Op Refusal) (others : List (Result Op Refusal)) → ((op : Op) → read ≡ Ok op → OpFits schema op)
+    → OpsFit schema (filter_map result_ok others) → OpsFit schema (filter_map result_ok (read ∷ others))
 one_fits schema (Ok op) others fits rest = (fits op refl, rest)
 one_fits schema (Err refusal) others fits rest = rest
 

@@ -1,5 +1,6 @@
 -- The text of a record, field by field. Serves writing a record.
-use Rattle.std.proofs.Common.{ℕ, List, [], ◌∷◌, ◌++◌, ◌+◌, ◌*◌, ◌<◌, ◌≤◌, ◌≡◌, ◌∙◌, refl, sym, ap, ◌==◌, length, length-drop, take, take_all, drop, get_or, map, arith, zero, suc, ◌≢◌, length-append, append_assoc}
+use Rattle.std.proofs.Common.{ℕ, List, [], ◌∷◌, ◌++◌, ◌+◌, ◌*◌, ◌<◌, ◌≤◌, ◌≡◌, ◌∙◌, refl, sym, ap, ◌==◌, length, length-drop}
+use Rattle.std.proofs.Common.{take, take_all, drop, get_or, map, arith, zero, suc, ◌≢◌, length-append, append_assoc}
 use Rattle.std.proofs.lemmas.Bool.{ne_eqb}
 use Rattle.std.proofs.lemmas.List.{append-nil, get_or_default, length-map}
 use Rattle.std.proofs.Math.ListN.{get_or-map}
@@ -18,7 +19,8 @@ pub one_more : (values : List Value) (i : ℕ) (v : Value) → i < length values
 one_more values i v within at =
     let texts = map text_of values in
     let here : get_or texts i [] ≡ text_of v = get_or_default texts i [] (text_of v) (omega (arith, length-map values text_of)) ∙ get_or-map text_of values i v ∙ ap text_of (sym at) in
-    row-step default_writer texts i (omega (arith, length-map values text_of)) ∙ ap (λ (f : List ℕ). row_body default_writer (take i texts) ++ (next_sep default_writer i ++ field_text default_writer f)) here
+    row-step default_writer texts i (omega (arith, length-map values text_of))
+    ∙ ap (λ (f : List ℕ). row_body default_writer (take i texts) ++ (next_sep default_writer i ++ field_text default_writer f)) here
 
 -- the text of the first values was added, and these values are left
 pub record Wrote (values rest : List Value) (place : ℕ) (old out : List ℕ) : Type 0 where

@@ -1,5 +1,6 @@
 -- Replacing one value in the bytes of values.
-use Rattle.std.proofs.Common.{◌≡◌, ℕ, zero, suc, ◌+◌, ◌-◌, ◌<◌, ◌≤◌, ◌==◌, List, [], ◌∷◌, ◌++◌, length, length-drop, append_assoc, take, drop, get_or, set, Option, Some, None, refl, sym, ap, subst, ◌∙◌, ℤ, pos, SFits, w64, arith}
+use Rattle.std.proofs.Common.{◌≡◌, ℕ, zero, suc, ◌+◌, ◌-◌, ◌<◌, ◌≤◌, ◌==◌, List, [], ◌∷◌, ◌++◌, length, length-drop, append_assoc}
+use Rattle.std.proofs.Common.{take, drop, get_or, set, Option, Some, None, refl, sym, ap, subst, ◌∙◌, ℤ, pos, SFits, w64, arith}
 use Rattle.std.proofs.lemmas.List.{drop-drop, drop_all}
 use Rattle.bt_row.specs.Arithmetic.{Makes, new_number, new_value}
 use Rattle.bt_value.specs.Kinds.{form_of, kind_of, kind_of_tag, tag_of}

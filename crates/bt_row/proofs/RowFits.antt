@@ -21,7 +21,8 @@ use Rattle.bt_value.proofs.offered.Kinds.{default_fits}
 
 -- ---- a row after operations
 
-set_value_fits : (columns : List Column) (row : List Value) (place : ℕ) (k : Kind) (v : Value) → fit_columns columns row ≡ true → option_map (λ c. c.kind) (slice_get columns place) ≡ Some k → fits_kind k v ≡ true
+set_value_fits : (columns : List Column) (row : List Value) (place : ℕ) (k : Kind) (v : Value) → fit_columns columns row ≡ true
+    → option_map (λ c. c.kind) (slice_get columns place) ≡ Some k → fits_kind k v ≡ true
     → fit_columns columns (set row place v) ≡ true
 set_value_fits [] [] place k v fit at fits = absurd cc
 set_value_fits [] (r ∷ row) place k v fit at fits = absurd cc
@@ -33,7 +34,8 @@ set_value_fits (c ∷ columns) (r ∷ row) (suc place) k v fit at fits =
     both_true (fits_kind c.kind r) (fit_columns columns (set row place v)) (first_true (fits_kind c.kind r) (fit_columns columns row) fit)
     (set_value_fits columns row place k v (second_true (fits_kind c.kind r) (fit_columns columns row) fit) at fits)
 
-value_at_fits : (columns : List Column) (row : List Value) (place : ℕ) (k : Kind) (d : Value) → fit_columns columns row ≡ true → option_map (λ c. c.kind) (slice_get columns place) ≡ Some k → fits_kind k (get_or row place d) ≡ true
+value_at_fits : (columns : List Column) (row : List Value) (place : ℕ) (k : Kind) (d : Value) → fit_columns columns row ≡ true
+    → option_map (λ c. c.kind) (slice_get columns place) ≡ Some k → fits_kind k (get_or row place d) ≡ true
 value_at_fits [] row place k d fit at = absurd cc
 value_at_fits (c ∷ columns) [] place k d fit at = absurd cc
 value_at_fits (c ∷ columns) (r ∷ row) zero k d fit at = let e : c.kind ≡ k = cc in rw (← e) (first_true (fits_kind c.kind r) (fit_columns columns row) fit)
@@ -46,7 +48,8 @@ made_fits arithmetic n other fits = fits
 behind_key : (schema : Schema) (place : ℕ) (k : Kind) → open_kind schema place ≡ Some k → (schema.keys ≤ place) × (option_map (λ c. c.kind) (slice_get schema.columns place) ≡ Some k)
 behind_key schema place k is = by_place (nat_le schema.keys place) refl is
   where
-    by_place : (b : Bool) → nat_le schema.keys place ≡ b → (if b then option_map (λ c. c.kind) (slice_get schema.columns place) else None) ≡ Some k → (schema.keys ≤ place) × (option_map (λ c. c.kind) (slice_get schema.columns place) ≡ Some k)
+    by_place : (b : Bool) → nat_le schema.keys place ≡ b → (if b then option_map (λ c. c.kind) (slice_get schema.columns place) else None) ≡ Some k
+        → (schema.keys ≤ place) × (option_map (λ c. c.kind) (slice_get schema.columns place) ≡ Some k)
     by_place true test is = ((let l : schema.keys ≤ place = grind (arith, nat_tests) in l), is)
     by_place false test is = absurd cc
 
@@ -78,7 +81,8 @@ action_keeps schema (Makes arithmetic place n) row fits fit =
       take-set-le schema.keys row place (new_value arithmetic n old) behind.0,
     )
 
-pub op_keeps : (schema : Schema) (op : Op) (row : List Value) → OpFits schema op → fit_columns schema.columns row ≡ true → (fit_columns schema.columns (after_op row op) ≡ true) × (take schema.keys (after_op row op) ≡ take schema.keys row)
+pub op_keeps : (schema : Schema) (op : Op) (row : List Value) → OpFits schema op → fit_columns schema.columns row ≡ true
+    → (fit_columns schema.columns (after_op row op) ≡ true) × (take schema.keys (after_op row op) ≡ take schema.keys row)
 op_keeps schema op row fits fit = action_keeps schema (action_of op) row fits fit
 
 -- ---- the first row of a key
@@ -87,7 +91,8 @@ pub defaults_fit : (columns : List Column) → fit_columns columns (map (λ c. d
 defaults_fit [] = refl
 defaults_fit (c ∷ columns) = both_true (fits_kind c.kind (default_of c.kind)) (fit_columns columns (map (λ c. default_of c.kind) columns)) (default_fits c.kind) (defaults_fit columns)
 
-pub joined_fit : (n : ℕ) (columns : List Column) (first rest : List Value) → fit_columns (take n columns) first ≡ true → fit_columns (drop n columns) rest ≡ true → fit_columns columns (first ++ rest) ≡ true
+pub joined_fit : (n : ℕ) (columns : List Column) (first rest : List Value) → fit_columns (take n columns) first ≡ true
+    → fit_columns (drop n columns) rest ≡ true → fit_columns columns (first ++ rest) ≡ true
 joined_fit zero columns [] rest fit others = others
 joined_fit zero columns (v ∷ first) rest fit others = absurd cc
 joined_fit (suc n) [] [] rest fit others = others

@@ -1,5 +1,6 @@
 -- A walk over the bytes of values.
-use Rattle.std.proofs.Common.{◌≡◌, ◌≢◌, ℕ, zero, suc, ◌+◌, ◌<◌, ◌≤◌, ◌==◌, true, false, List, [], ◌∷◌, ◌++◌, length, length-append, length-drop, append-nil, take, drop, get_or, set, slice_get, map, None, Some, refl, sym, ap, subst, ◌∙◌, arith}
+use Rattle.std.proofs.Common.{◌≡◌, ◌≢◌, ℕ, zero, suc, ◌+◌, ◌<◌, ◌≤◌, ◌==◌, true, false, List, [], ◌∷◌, ◌++◌, length, length-append, length-drop}
+use Rattle.std.proofs.Common.{append-nil, take, drop, get_or, set, slice_get, map, None, Some, refl, sym, ap, subst, ◌∙◌, arith}
 use Rattle.std.proofs.Math.Logic.{⊎_elim}
 use Rattle.std.proofs.lemmas.Bool.{cases_lt, ne_eqb}
 use Rattle.std.proofs.lemmas.List.{take_all, drop_all}
@@ -38,7 +39,13 @@ next_offset bytes passed h more =
     let values : drop passed (unpacked bytes) ≡ first_of (drop at bytes) ∷ unpacked (drop (width_of (drop at bytes)) (drop at bytes)) = sym here.values ∙ first.values in
     let taken = take_one_more passed (unpacked bytes) _ _ values in
     let joined = ap packed_values taken ∙ packed-append (take passed (unpacked bytes)) (first_of (drop at bytes) ∷ []) in (
-      omega (arith, ap length joined, length-append (packed_values (take passed (unpacked bytes))) (packed_value (first_of (drop at bytes)) ++ []), length-append (packed_value (first_of (drop at bytes))) [], first.width),
+      omega (
+        arith,
+        ap length joined,
+        length-append (packed_values (take passed (unpacked bytes))) (packed_value (first_of (drop at bytes)) ++ []),
+        length-append (packed_value (first_of (drop at bytes))) [],
+        first.width,
+      ),
       omega (arith, ap length values, length-drop passed (unpacked bytes)),
     )
 

@@ -62,7 +62,8 @@ nothing_done : after_ops (Add 0 (pos 1) ∷ Set 2 (value.Int (pos 7)) ∷ Add 2 
 nothing_done = refl
 
 -- if there is a row, the base is not used
-on_a_row : merged (Some (value.Int (pos 9) ∷ value.Int (pos 4) ∷ [])) (record { base = value.Int (pos 9) ∷ value.Int (pos 0) ∷ []; ops = Add 1 (pos 1) ∷ [] }) ≡ value.Int (pos 9) ∷ value.Int (pos 5) ∷ []
+on_a_row : merged (Some (value.Int (pos 9) ∷ value.Int (pos 4) ∷ [])) (record { base = value.Int (pos 9) ∷ value.Int (pos 0) ∷ []; ops = Add 1 (pos 1) ∷ [] })
+    ≡ value.Int (pos 9) ∷ value.Int (pos 5) ∷ []
 on_a_row = refl
 
 on_no_row : merged None (record { base = value.Int (pos 9) ∷ value.Int (pos 0) ∷ []; ops = Add 1 (pos 1) ∷ [] }) ≡ value.Int (pos 9) ∷ value.Int (pos 1) ∷ []

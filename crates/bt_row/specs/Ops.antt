@@ -1,5 +1,6 @@
 -- The operations of an upsert, and the row after them.
-use Rattle.std.specs.Prelude.{ℕ, suc, ◌+◌, ◌-◌, ◌*◌, ◌%◌, ◌==◌, ◌&&◌, Bool, List, [], ◌∷◌, ◌++◌, codes, drop, take, length, map, get_or, set, slice_get, nat_le, Option, Some, None, option_map, Result, Err, if◌then◌else◌, pos}
+use Rattle.std.specs.Prelude.{ℕ, suc, ◌+◌, ◌-◌, ◌*◌, ◌%◌, ◌==◌, ◌&&◌, Bool, List, [], ◌∷◌, ◌++◌, codes, drop, take, length, map}
+use Rattle.std.specs.Prelude.{get_or, set, slice_get, nat_le, Option, Some, None, option_map, Result, Err, if◌then◌else◌, pos}
 use Rattle.std.specs.Cmp.Lexicographic.{pointwise}
 use Rattle.std.specs.List.{filter_map}
 use Rattle.bt_row.specs.Arithmetic.{Action, Makes, Sets, action_of, arithmetic_of_word, op_making, new_value, word_of}

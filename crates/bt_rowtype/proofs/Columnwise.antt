@@ -41,9 +41,11 @@ first_value : (columns : List Column) (fields : List (List ℕ)) (place : ℕ) (
 first_value columns fields place column field found within at_column at_field is = rw (at_column, get_or-take (length columns) fields place [] within, at_place fields place field at_field) is
 
 -- one more field that encodes a value
-pub first_more : (columns : List Column) (fields : List (List ℕ)) (place : ℕ) (column : Column) (prefix : List Value) (v : Value) (field : List ℕ) → place < length columns → length columns ≤ length fields
+pub first_more : (columns : List Column) (fields : List (List ℕ)) (place : ℕ) (column : Column) (prefix : List Value) (v : Value) (field : List ℕ)
+    → place < length columns → length columns ≤ length fields
     → get_or columns place column ≡ column → slice_get fields place ≡ Some field → value_of column.kind field ≡ Some v
-    → behind prefix (values_of (drop place columns) (drop place (take (length columns) fields))) ≡ behind (prefix ++ v ∷ []) (values_of (drop (place + 1) columns) (drop (place + 1) (take (length columns) fields)))
+    → behind prefix (values_of (drop place columns) (drop place (take (length columns) fields)))
+    ≡ behind (prefix ++ v ∷ []) (values_of (drop (place + 1) columns) (drop (place + 1) (take (length columns) fields)))
 first_more columns fields place column prefix v field within long at_column at_field is =
     let here : place < length (take (length columns) fields) = omega (arith, within, long, length-take (length columns) fields) in
     values-drop-some columns (take (length columns) fields) place column prefix v within here (first_value columns fields place column field (Some v) within at_column at_field is)
@@ -59,7 +61,8 @@ first_none columns fields place column prefix field within long at_column at_fie
 -- ---- one more column
 
 -- a first value and others
-first_and_others : (first : Option Value) (others : Option (List Value)) (row : List Value) → with_first first others ≡ Some row → (v : Value) × (vs : List Value) × (first ≡ Some v) × (others ≡ Some vs) × (row ≡ v ∷ vs)
+first_and_others : (first : Option Value) (others : Option (List Value)) (row : List Value) → with_first first others ≡ Some row → (v : Value)
+    × (vs : List Value) × (first ≡ Some v) × (others ≡ Some vs) × (row ≡ v ∷ vs)
 first_and_others None others row is = absurd cc
 first_and_others (Some v) None row is = absurd cc
 first_and_others (Some v) (Some vs) row is = let same : row ≡ v ∷ vs = cc in (v, vs, refl, refl, same)

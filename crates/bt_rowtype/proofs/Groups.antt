@@ -35,7 +35,8 @@ pub ops_end : (schema : Schema) (item : ℕ) (fields : List (List ℕ)) (place :
 ops_end schema item fields place short = few schema item (drop place fields) (omega (arith, short, length-drop place fields))
 
 -- the operation of the three fields that are there
-pub op_of_fields : (schema : Schema) (item : ℕ) (fields : List (List ℕ)) (place : ℕ) (word name argument : List ℕ) → slice_get fields place ≡ Some word → slice_get fields (place + 1) ≡ Some name → slice_get fields (place + 2) ≡ Some argument
+pub op_of_fields : (schema : Schema) (item : ℕ) (fields : List (List ℕ)) (place : ℕ) (word name argument : List ℕ) → slice_get fields place ≡ Some word
+    → slice_get fields (place + 1) ≡ Some name → slice_get fields (place + 2) ≡ Some argument
     → op_at schema item fields place ≡ op_of schema item word name argument
 op_of_fields schema item fields place word name argument first second third =
     rw (at_place fields place word first, at_place fields (place + 1) name second, at_place fields (place + 2) argument third) refl

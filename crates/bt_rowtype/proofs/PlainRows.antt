@@ -1,5 +1,6 @@
 -- Rows and upserts of plain fields. Serves reading a line in one pass.
-use Rattle.std.proofs.Common.{ℕ, zero, suc, Bool, List, [], ◌∷◌, ◌++◌, ◌≡◌, ◌<◌, ◌≤◌, ◌+◌, ◌-◌, ◌*◌, ◌==◌, ◌&&◌, ◌∙◌, refl, ap, sym, arith, true, false, drop, get_or, length, length-drop, nat_le, ◌%◌, Ok, Err, Result, take, Some, if◌then◌else◌}
+use Rattle.std.proofs.Common.{ℕ, zero, suc, Bool, List, [], ◌∷◌, ◌++◌, ◌≡◌, ◌<◌, ◌≤◌, ◌+◌, ◌-◌, ◌*◌, ◌==◌, ◌&&◌, ◌∙◌, refl, ap, sym, arith}
+use Rattle.std.proofs.Common.{true, false, drop, get_or, length, length-drop, nat_le, ◌%◌, Ok, Err, Result, take, Some, if◌then◌else◌}
 use Rattle.std.proofs.lemmas.Bool.{le-leb}
 use Rattle.std.proofs.lemmas.List.{append-nil, length-take-le, take-append-drop, take_all, take_more}
 use Rattle.std.specs.List.{list_any}
@@ -41,7 +42,8 @@ read_none columns text row none =
     record { values = ap Some (sym none); others = sym (ap (λ (b : Bool). if b then parts_of text else []) some); plain = refl }
 
 -- one more field that encodes a value
-pub read_more : (columns : List Column) (text rest : List ℕ) (row : List Value) (i at end : ℕ) (column : Column) (v : Value) → ReadTo columns text row i at → i < length columns → get_or columns i column ≡ column
+pub read_more : (columns : List Column) (text rest : List ℕ) (row : List Value) (i at end : ℕ) (column : Column) (v : Value) → ReadTo columns text row i at
+    → i < length columns → get_or columns i column ≡ column
     → at ≤ length text → rest ≡ drop at text → EndsPlain rest end → value_of column.kind (take end rest) ≡ Some v → ReadTo columns text (row ++ v ∷ []) (i + 1) (at + (end + 1))
 read_more columns text rest row i at end column v so_far inside is_column within is ends value =
     let e : i + 1 ≡ suc i = omega arith in
@@ -57,17 +59,21 @@ read_more columns text rest row i at end column v so_far inside is_column within
 -- all columns were read
 pub read_columns : (columns : List Column) (text : List ℕ) (row : List Value) (i at : ℕ) → ReadTo columns text row i at → i ≡ length columns → HasRead columns text row at
 read_columns columns text row i at so_far all = record {
-  values = ap (λ (l : List Column). values_of l (take (length columns) (parts_of text))) (sym (take_all (length columns) columns (omega arith))) ∙ ap (λ n. values_of (take n columns) (take n (parts_of text))) (sym all) ∙ so_far.values;
+  values = ap (λ (l : List Column). values_of l (take (length columns) (parts_of text))) (sym (take_all (length columns) columns (omega arith)))
+      ∙ ap (λ n. values_of (take n columns) (take n (parts_of text))) (sym all) ∙ so_far.values;
   others = ap (λ n. drop n (parts_of text)) (sym all) ∙ so_far.others;
   plain = so_far.plain;
 }
 
 -- all fields were read
-pub row_read : (columns : List Column) (text : List ℕ) (row : List Value) (at : ℕ) → HasRead columns text row at → length text < at → is_some (csv_record text) ≡ true → values_of columns (fields_in text) ≡ Some row
+pub row_read : (columns : List Column) (text : List ℕ) (row : List Value) (at : ℕ) → HasRead columns text row at → length text < at
+    → is_some (csv_record text) ≡ true → values_of columns (fields_in text) ≡ Some row
 row_read columns text row at read past found =
     let none = none_from text at past in
     let parts = parts_of text in
-    let whole : take (length columns) parts ≡ parts = sym (append-nil (take (length columns) parts)) ∙ ap (λ (l : List (List ℕ)). take (length columns) parts ++ l) (sym (read.others ∙ none.0)) ∙ take-append-drop (length columns) parts in
+    let whole : take (length columns) parts ≡ parts =
+    sym (append-nil (take (length columns) parts)) ∙ ap (λ (l : List (List ℕ)). take (length columns) parts ++ l) (sym (read.others ∙ none.0))
+    ∙ take-append-drop (length columns) parts in
     ap (values_of columns) (plain_text text found (read.plain ∙ none.1)) ∙ ap (values_of columns) (sym whole) ∙ read.values
 
 -- ---- an upsert of plain fields

@@ -1,5 +1,6 @@
 -- The ints that std's `parse` reads, and those of a few digits, are those that fields encode. Serves reading an int.
-use Rattle.std.proofs.Common.{◌-◌, ℕ, ℤ, List, [], ◌∷◌, ◌<◌, ◌≤◌, ◌^◌, ◌≡◌, ◌≢◌, ◌∙◌, refl, sym, true, false, ◌==◌, ◌&&◌, length, drop, get_or, pos, neg_ℤ, Some, None, Result, Ok, Err, arith, rules, inl, inr, nat_le, eq-eqb, ap, if◌then◌else◌}
+use Rattle.std.proofs.Common.{◌-◌, ℕ, ℤ, List, [], ◌∷◌, ◌<◌, ◌≤◌, ◌^◌, ◌≡◌, ◌≢◌, ◌∙◌, refl, sym, true, false, ◌==◌, ◌&&◌, length, drop, get_or}
+use Rattle.std.proofs.Common.{pos, neg_ℤ, Some, None, Result, Ok, Err, arith, rules, inl, inr, nat_le, eq-eqb, ap, if◌then◌else◌}
 use Rattle.std.proofs.lemmas.Bool.{cases_Bool, eqb-true}
 use Rattle.std.proofs.lemmas.Bool.Decides.{nat_tests}
 use Rattle.std.proofs.lemmas.Str.Parse.{IsNumeralModel, numerals_by_fold, parse_signed_minus, parse_signed_plain}
@@ -73,7 +74,9 @@ pub read_plain : {E : Type 0} (field : List ℕ) (r : Result ℤ E) → ParsesSi
 unfolding int_of
 read_plain field r parsed plus other =
     let minus : get_or field 0 0 ≢ 45 = grind (arith, nat_tests) in
-    rw other (read r field (2 ^ 63 - 1) pos (below r _ _ (pos (number_written field)) (λ h. (h.0, h.1, omega (arith, h.2))) (λ h. (h.0, h.1, omega (arith, h.2))) (parse_signed_plain own w64 field r parsed plus minus)))
+    rw other (read r field (2 ^ 63 - 1) pos
+    (below r _ _ (pos (number_written field)) (λ h. (h.0, h.1, omega (arith, h.2))) (λ h. (h.0, h.1, omega (arith, h.2)))
+    (parse_signed_plain own w64 field r parsed plus minus)))
 
 -- what `parse` reads if there is no plus first
 pub read_signed : {E : Type 0} (field : List ℕ) (r : Result ℤ E) → ParsesSigned w64 10 field r → get_or field 0 0 ≢ 43 → result_ok r ≡ int_of field
@@ -125,7 +128,8 @@ pub minus_short : (field digits : List ℕ) → field ≡ 45 ∷ digits → (is_
 unfolding int_of
 minus_short field digits is fits =
     rw (is, number_fits digits (2 ^ 63) (λ n. omega (arith, fits n)))
-    (elim (is_numeral digits) as (λ b. option_map (λ n. neg_ℤ (pos n)) (if b then Some (number_written digits) else None) ≡ (if b then Some (neg_ℤ (pos (number_written digits))) else None)) [ true ↦ refl | false ↦ refl ])
+    (elim (is_numeral digits) as (λ b. option_map (λ n. neg_ℤ (pos n)) (if b then Some (number_written digits) else None)
+    ≡ (if b then Some (neg_ℤ (pos (number_written digits))) else None)) [ true ↦ refl | false ↦ refl ])
 
 -- the int that is found if there is no minus first
 pub plain_short : (field : List ℕ) → (get_or field 0 0 == 45) ≡ false → (is_numeral field ≡ true → number_written field ≤ 2 ^ 63 - 1)

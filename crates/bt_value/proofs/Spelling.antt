@@ -1,5 +1,6 @@
 -- The bytes that digits encode, two by two. Serves reading a field of bytes.
-use Rattle.std.proofs.Common.{◌≡◌, ℕ, ◌+◌, ◌-◌, ◌<◌, ◌≤◌, Bool, true, List, [], ◌∷◌, ◌++◌, append_assoc, append-nil, arith, drop, get_or, length, length-append, length-drop, length-take, set, take, Option, Some, None, refl, sym, ap, ◌∙◌, if◌then◌else◌}
+use Rattle.std.proofs.Common.{◌≡◌, ℕ, ◌+◌, ◌-◌, ◌<◌, ◌≤◌, Bool, true, List, [], ◌∷◌, ◌++◌, append_assoc, append-nil, arith, drop, get_or, length}
+use Rattle.std.proofs.Common.{length-append, length-drop, length-take, set, take, Option, Some, None, refl, sym, ap, ◌∙◌, if◌then◌else◌}
 use Rattle.std.proofs.lemmas.Bool.{le-leb, lt-leb}
 use Rattle.std.proofs.lemmas.List.{take_all, take_more_set}
 use Rattle.std.specs.Prelude.{option_and_then, option_map}
@@ -20,7 +21,8 @@ after_more prefix b None = refl
 after_more prefix b (Some bs) = ap Some (sym (append_assoc prefix (b ∷ []) bs))
 
 -- the next two digits, which encode a byte or none
-next : (rest : List ℕ) (o : Option ℕ) → 2 ≤ length rest → o ≡ byte_of (get_or rest 0 0) (get_or rest 1 0) → bytes_of_hex rest ≡ option_and_then (λ b. option_map (λ bs. b ∷ bs) (bytes_of_hex (drop 2 rest))) o
+next : (rest : List ℕ) (o : Option ℕ) → 2 ≤ length rest → o ≡ byte_of (get_or rest 0 0) (get_or rest 1 0)
+    → bytes_of_hex rest ≡ option_and_then (λ b. option_map (λ bs. b ∷ bs) (bytes_of_hex (drop 2 rest))) o
 unfolding bytes_of_hex
 next [] o some is = absurd (omega (arith, some))
 next (x ∷ []) o some is = absurd (omega (arith, some))
@@ -49,7 +51,8 @@ long_kept prefix None long = refl
 long_kept prefix (Some bs) long =
     ap (λ (b : Bool). if b then Some (prefix ++ bs) else None) (lt-leb (length (prefix ++ bs)) 255 (omega (arith, long, length-append prefix bs)))
 
-pub too_many : (digits prefix rest : List ℕ) (b : ℕ) → 255 ≤ length prefix → 2 ≤ length rest → Some b ≡ byte_of (get_or rest 0 0) (get_or rest 1 0) → bytes_of_hex digits ≡ after prefix (bytes_of_hex rest) → binary_of digits ≡ None
+pub too_many : (digits prefix rest : List ℕ) (b : ℕ) → 255 ≤ length prefix → 2 ≤ length rest → Some b ≡ byte_of (get_or rest 0 0) (get_or rest 1 0)
+    → bytes_of_hex digits ≡ after prefix (bytes_of_hex rest) → binary_of digits ≡ None
 unfolding kept
 too_many digits prefix rest b many some is so_far =
     ap kept (so_far ∙ ap (after prefix) (next rest (Some b) some is) ∙ after_more prefix b (bytes_of_hex (drop 2 rest)))

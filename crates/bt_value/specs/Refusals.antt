@@ -1,7 +1,9 @@
 -- The table of refusals: number, name and item of each.
 use Rattle.std.specs.Prelude.{ℕ, ◌==◌, Bool, List, [], ◌∷◌, codes, nat_lt, Option, Some, None, unwrap_or, if◌then◌else◌}
 use Rattle.bt_value.specs.declared.refusal.Refusal.{Refusal}
-use Rattle.bt_value.specs.declared.refusal.Refusal.TheVariants.{Syntax, Unfinished, NoTable, TableExists, BadSchema, BadField, BadLength, NoSuchTree, NameTaken, TooMany, Building, AlreadyComplete, NotEmpty, DuplicateKey, NoSuchColumn, NotInt, OutOfMemory, Failed, BadCrew, BadShape}
+use Rattle.bt_value.specs.declared.refusal.Refusal.TheVariants.{Syntax, Unfinished, NoTable, TableExists, BadSchema, BadField, BadLength, NoSuchTree, NameTaken}
+use Rattle.bt_value.specs.declared.refusal.Refusal.TheVariants.{TooMany, Building, AlreadyComplete, NotEmpty, DuplicateKey, NoSuchColumn, NotInt, OutOfMemory}
+use Rattle.bt_value.specs.declared.refusal.Refusal.TheVariants.{Failed, BadCrew, BadShape}
 
 -- the number, 1 to 20
 abbrev pub number_of : Refusal → ℕ

@@ -33,7 +33,8 @@ values_fit (column ∷ columns) (field ∷ fields) row is =
 pub read_fits : (columns : List Column) (item : ℕ) (fields : List (List ℕ)) (row : List Value) → read_as columns item fields ≡ Ok row → fit_columns columns row ≡ true
 read_fits columns item fields row is = by_length (length fields == length columns) (values_of columns fields) refl is
   where
-    by_length : (same : Bool) (values : Option (List Value)) → values_of columns fields ≡ values → (if same then or_refused (BadField item) values else Err (BadLength item)) ≡ Ok row → fit_columns columns row ≡ true
+    by_length : (same : Bool) (values : Option (List Value)) → values_of columns fields ≡ values
+        → (if same then or_refused (BadField item) values else Err (BadLength item)) ≡ Ok row → fit_columns columns row ≡ true
     by_length false values here is = absurd cc
     by_length true None here is = absurd cc
     by_length true (Some vs) here is = let e : vs ≡ row = cc in values_fit columns fields row (here ∙ ap Some e)
@@ -60,7 +61,8 @@ pub upsert_fits : (schema : Schema) (item : ℕ) (fields : List (List ℕ)) (key
     → (fit_columns (take schema.keys schema.columns) key ≡ true) × OpsFit schema ops
 upsert_fits schema item fields key ops is = by_length (is_upsert schema.keys (length fields)) is
   where
-    by_length : (long : Bool) → (if long then both_read (key_as schema item fields) (ops_as schema item fields) else Err (BadLength item)) ≡ Ok (key, ops) → (fit_columns (take schema.keys schema.columns) key ≡ true) × OpsFit schema ops
+    by_length : (long : Bool) → (if long then both_read (key_as schema item fields) (ops_as schema item fields) else Err (BadLength item)) ≡ Ok (key, ops)
+        → (fit_columns (take schema.keys schema.columns) key ≡ true) × OpsFit schema ops
     by_length false is = absurd cc
     by_length true is =
         let both = both_ok (key_as schema item fields) (ops_as schema item fields) key ops is in

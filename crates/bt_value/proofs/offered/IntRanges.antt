@@ -10,7 +10,8 @@ small digits most test = grind (arith, nat_tests)
 
 number_within : (most : ℕ) (digits : List ℕ) → IfSome (number_up_to most digits) (λ n. n ≤ most)
 number_within most digits =
-    elim (is_numeral digits && nat_le (number_written digits) most) as (λ b. (is_numeral digits && nat_le (number_written digits) most) ≡ b → IfSome (if b then Some (number_written digits) else None) (λ n. n ≤ most)) [
+    elim (is_numeral digits && nat_le (number_written digits) most) as (λ b. (is_numeral digits && nat_le (number_written digits) most) ≡ b
+    → IfSome (if b then Some (number_written digits) else None) (λ n. n ≤ most)) [
       | true ↦ λ test. small digits most test
       | false ↦ λ test. tt
     ] refl
@@ -27,7 +28,8 @@ below (Some (suc n)) h = record { sfits = omega (arith, h) }
 pub int_in_range : (field : List ℕ) → IfSome (int_of field) (FitsSigned w64)
 unfolding int_of
 int_in_range field =
-    elim (get_or field 0 0 == 45) as (λ b. IfSome (if b then option_map (λ n. neg_ℤ (pos n)) (number_up_to (2 ^ 63) (drop 1 field)) else option_map pos (number_up_to (2 ^ 63 - 1) field)) (FitsSigned w64)) [
+    elim (get_or field 0 0 == 45) as (λ b. IfSome (if b then option_map (λ n. neg_ℤ (pos n)) (number_up_to (2 ^ 63) (drop 1 field)) else option_map pos
+    (number_up_to (2 ^ 63 - 1) field)) (FitsSigned w64)) [
       | true ↦ below (number_up_to (2 ^ 63) (drop 1 field)) (number_within (2 ^ 63) (drop 1 field))
       | false ↦ above (number_up_to (2 ^ 63 - 1) field) (number_within (2 ^ 63 - 1) field)
     ]

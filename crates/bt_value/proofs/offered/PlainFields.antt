@@ -1,5 +1,7 @@
 -- Texts that begin with a plain field: what it encodes, and how the rest is cut. Serves reading a line in one pass.
-use Rattle.std.proofs.Common.{ℕ, zero, suc, Bool, List, [], ◌∷◌, ◌++◌, ◌≡◌, ◌<◌, ◌≤◌, ◌+◌, ◌-◌, ◌*◌, ◌^◌, ◌==◌, ◌-ℤ◌, to_z, of_z, slice_index, IfSome, ◌∙◌, not, subst, refl, ap, sym, arith, true, false, drop, get_or, inl, inr, length, length-take, nat_le, take, Option, Some, None, pos, neg_ℤ, ℤ}
+use Rattle.std.proofs.Common.{ℕ, zero, suc, Bool, List, [], ◌∷◌, ◌++◌, ◌≡◌, ◌<◌, ◌≤◌, ◌+◌, ◌-◌, ◌*◌, ◌^◌, ◌==◌, ◌-ℤ◌, to_z, of_z, slice_index, IfSome, ◌∙◌, not}
+use Rattle.std.proofs.Common.{subst, refl, ap, sym, arith, true, false, drop, get_or, inl, inr, length, length-take, nat_le, take, Option, Some, None, pos}
+use Rattle.std.proofs.Common.{neg_ℤ, ℤ}
 use mathlib.Core.Bool.{true≢false}
 use Rattle.std.proofs.Math.Nat.{pow-suc}
 use Rattle.std.proofs.lemmas.Bool.{cases_Bool, eqb-true, le-leb, lt-leb}
@@ -96,7 +98,8 @@ taken_behind (x ∷ xs) end b first some =
     ap (λ n. take n (x ∷ xs)) e ∙ ap (λ (y : ℕ). y ∷ take end xs) (eqb-true x b first)
 
 -- an int with a minus
-pub spelled_minus : (text digits : List ℕ) (end : ℕ) (n : ℤ) → (slice_index text 0 == 45) ≡ true → digits ≡ drop 1 text → pos (number_written (take end digits)) ≡ n → is_numeral (take end digits) ≡ true
+pub spelled_minus : (text digits : List ℕ) (end : ℕ) (n : ℤ) → (slice_index text 0 == 45) ≡ true → digits ≡ drop 1 text
+    → pos (number_written (take end digits)) ≡ n → is_numeral (take end digits) ≡ true
     → number_written (take end digits) ≤ 2 ^ 63 - 1 → int_of (take (end + 1) text) ≡ Some (to_z w64 (of_z w64 (pos 0 -ℤ to_z w64 (of_z w64 n))))
 spelled_minus text digits end n minus is number numeral small =
     let field = take end digits in

@@ -27,14 +27,16 @@ pub returns-then-len-most-clause-many : goal.returns-then-len-most-clause-many
 returns-then-len-most-clause-many c = λ _.
     let bytes = c.loop-byte.bytes.items in
     let spans = c.loop-byte.spans.items in
-    let more = many_fields c.args.text.now (drop c.loop-byte.byte-index c.args.text.now) (csv_state c.loop-byte.state) (pieces bytes spans) (drop c.loop-byte.start bytes) c.requires c.loop-byte.invariant.reads in
+    let more = many_fields c.args.text.now (drop c.loop-byte.byte-index c.args.text.now) (csv_state c.loop-byte.state) (pieces bytes spans)
+    (drop c.loop-byte.start bytes) c.requires c.loop-byte.invariant.reads in
     omega (arith, more, length_pieces bytes spans)
 
 pub returns-then-len-most-2-clause-many : goal.returns-then-len-most-2-clause-many
 returns-then-len-most-2-clause-many c = λ _.
     let bytes = c.loop-byte.bytes.items in
     let spans = c.loop-byte.spans.items in
-    let more = many_fields c.args.text.now (drop c.loop-byte.byte-index c.args.text.now) (csv_state c.loop-byte.state) (pieces bytes spans) (drop c.loop-byte.start bytes) c.requires c.loop-byte.invariant.reads in
+    let more = many_fields c.args.text.now (drop c.loop-byte.byte-index c.args.text.now) (csv_state c.loop-byte.state) (pieces bytes spans)
+    (drop c.loop-byte.start bytes) c.requires c.loop-byte.invariant.reads in
     omega (arith, more, length_pieces bytes spans)
 
 pub returns-in-EndRecord-clause-fields : goal.returns-in-EndRecord-clause-fields
@@ -48,7 +50,8 @@ returns-in-EndRecord-clause-fields c = λ _.
 
 pub returns-in-EndRecord-clause-within : goal.returns-in-EndRecord-clause-within
 returns-in-EndRecord-clause-within c = λ _.
-    ended_within (length c.loop-byte.bytes.items) c.loop-byte.spans.items c.push-in-EndRecord.new.self.items c.loop-byte.start c.len-end.result c.loop-byte.invariant.within (omega (arith, c.loop-byte.invariant.starts)) (omega arith)
+    ended_within (length c.loop-byte.bytes.items) c.loop-byte.spans.items c.push-in-EndRecord.new.self.items c.loop-byte.start c.len-end.result
+    c.loop-byte.invariant.within (omega (arith, c.loop-byte.invariant.starts)) (omega arith)
     c.in_ok-push-in-EndRecord.ensures.items
 
 pub loop-byte-preserved : goal.loop-byte-preserved
@@ -79,7 +82,8 @@ loop-byte-preserved c =
           record {
             starts = rw (bytes_is, w.start-is) starts;
             within = rw (spans_is, w.start-is) within;
-            reads = c.loop-byte.invariant.reads ∙ one_more text i s t u x act.Skip fields fields_new field field_new c.loop-byte-test.true step.action step.state (ap csv_action w.in-Skip.is) refl (ap csv_state w.state-is)
+            reads = c.loop-byte.invariant.reads ∙ one_more text i s t u x act.Skip fields fields_new field field_new c.loop-byte-test.true step.action
+                step.state (ap csv_action w.in-Skip.is) refl (ap csv_state w.state-is)
                 (same_fields old new spans spans_new bytes_is spans_is) (same_field old new start start_new bytes_is w.start-is);
           }
       | in-Copy+in_ok-push-in-Copy w ↦
@@ -88,7 +92,8 @@ loop-byte-preserved c =
           record {
             starts = omega (arith, starts, w.start-is, ap length bytes_is, length-append old (get_or text i 0 ∷ []));
             within = rw (spans_is, w.start-is) within;
-            reads = c.loop-byte.invariant.reads ∙ one_more text i s t u x act.Copy fields fields_new field field_new c.loop-byte-test.true step.action step.state (ap csv_action w.in-Copy.is) refl (ap csv_state w.state-is)
+            reads = c.loop-byte.invariant.reads ∙ one_more text i s t u x act.Copy fields fields_new field field_new c.loop-byte-test.true step.action
+                step.state (ap csv_action w.in-Copy.is) refl (ap csv_state w.state-is)
                 (copied_fields old new spans spans_new start (get_or text i 0) within starts bytes_is spans_is) (copied_field old new start start_new (get_or text i 0) starts bytes_is w.start-is);
           }
       | in-EndField+in_ok-push-in-EndField w ↦
@@ -99,7 +104,8 @@ loop-byte-preserved c =
           record {
             starts = omega (arith, start_is, ap length bytes_is);
             within = ended_within start_new spans spans_new start c.len-end.result within (omega (arith, starts, end)) (omega (arith, start_is, end)) spans_is;
-            reads = c.loop-byte.invariant.reads ∙ one_more text i s t u x act.EndField fields fields_new field field_new c.loop-byte-test.true step.action step.state (ap csv_action w.in-EndField.is) refl (ap csv_state w.state-is)
+            reads = c.loop-byte.invariant.reads ∙ one_more text i s t u x act.EndField fields fields_new field field_new c.loop-byte-test.true step.action
+                step.state (ap csv_action w.in-EndField.is) refl (ap csv_state w.state-is)
                 (ended_fields old new spans spans_new start c.len-end.result bytes_is spans_is end) (none_left old new start_new bytes_is start_is);
           }
     ]
@@ -118,5 +124,6 @@ returns-clause-fields c = λ _.
 
 pub returns-clause-within : goal.returns-clause-within
 returns-clause-within c = λ _.
-    ended_within (length c.loop-byte.bytes.items) c.loop-byte.spans.items c.push-2.new.self.items c.loop-byte.start c.len-end-2.result c.loop-byte.invariant.within (omega (arith, c.loop-byte.invariant.starts)) (omega arith)
+    ended_within (length c.loop-byte.bytes.items) c.loop-byte.spans.items c.push-2.new.self.items c.loop-byte.start c.len-end-2.result
+    c.loop-byte.invariant.within (omega (arith, c.loop-byte.invariant.starts)) (omega arith)
     c.in_ok-push.ensures.items

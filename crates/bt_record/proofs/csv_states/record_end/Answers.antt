@@ -15,7 +15,8 @@ pub returns-then-matches-clause-ends : goal.returns-then-matches-clause-ends
 returns-then-matches-clause-ends c =
     elim c.match-matches.branch [
       | in-EndRecord w ↦
-          ends_here c.args.text.now c.loop-place.place (csv_state c.loop-place.state) (csv_action c.step-next.result.1) c.requires c.loop-place-test.true c.step-next.ensures.action (ap csv_action w.in-EndRecord.is) c.loop-place.invariant
+          ends_here c.args.text.now c.loop-place.place (csv_state c.loop-place.state) (csv_action c.step-next.result.1) c.requires c.loop-place-test.true
+          c.step-next.ensures.action (ap csv_action w.in-EndRecord.is) c.loop-place.invariant
       | in_default w ↦ absurd (false≢true (sym w.matches-is ∙ c.if-matches.true))
     ]
 
@@ -33,7 +34,8 @@ loop-place-preserved c =
     let x = csv_action c.step-next.result.1 in
     elim c.match-matches.branch [
       | in-EndRecord w ↦ absurd (false≢true (sym c.if-matches.false ∙ w.matches-is))
-      | in_default w ↦ inside_more c.args.text.now c.loop-place.place s t x c.loop-place-test.true c.step-next.ensures.action c.step-next.ensures.state (no_end c.step-next.result.1 w.in_default.not-EndRecord) c.loop-place.invariant
+      | in_default w ↦ inside_more c.args.text.now c.loop-place.place s t x c.loop-place-test.true c.step-next.ensures.action c.step-next.ensures.state
+          (no_end c.step-next.result.1 w.in_default.not-EndRecord) c.loop-place.invariant
     ]
 
 pub returns-clause-ends : goal.returns-clause-ends

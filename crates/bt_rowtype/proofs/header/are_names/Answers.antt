@@ -16,12 +16,14 @@ pub returns-then-not-is_named : goal.returns-then-not-is_named
 returns-then-not-is_named c =
     let long : length c.args.names.now ≡ length c.args.columns.now = search rules in
     let other : pointwise ◌==◌ c.index-columns-place.result.name c.get.result.now ≡ false = search rules in
-    let next = one_more c.args.columns.now c.args.names.now c.loop-place.place c.index-columns-place.result c.get.result.now c.loop-place-test.true (omega arith) c.index-columns-place.is c.get.ensures in
+    let next = one_more c.args.columns.now c.args.names.now c.loop-place.place c.index-columns-place.result c.get.result.now c.loop-place-test.true
+    (omega arith) c.index-columns-place.is c.get.ensures in
     sym (c.loop-place.invariant ∙ next ∙ rw other refl)
 
 pub loop-place-preserved : goal.loop-place-preserved
 loop-place-preserved c =
     let long : length c.args.names.now ≡ length c.args.columns.now = search rules in
     let same : pointwise ◌==◌ c.index-columns-place.result.name c.get.result.now ≡ true = search rules in
-    let next = one_more c.args.columns.now c.args.names.now c.loop-place.place c.index-columns-place.result c.get.result.now c.loop-place-test.true (omega arith) c.index-columns-place.is c.get.ensures in
+    let next = one_more c.args.columns.now c.args.names.now c.loop-place.place c.index-columns-place.result c.get.result.now c.loop-place-test.true
+    (omega arith) c.index-columns-place.is c.get.ensures in
     c.loop-place.invariant ∙ next ∙ rw same refl

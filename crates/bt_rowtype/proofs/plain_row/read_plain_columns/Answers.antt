@@ -19,7 +19,8 @@ loop-column-preserved c =
     let within = c.if-at-text.false in
     let ends = c.in-Some.ensures.ends in
     let inside : end ≤ length (drop at text) = subst (λ (l : List ℕ). end ≤ length l) c.tail.ensures ends.within in
-    let more = read_more columns text rest c.loop-column.row i at end column (value_of_ref c.in-Some.value) c.loop-column.invariant.so_far c.loop-column-test.true (sym c.column-item.is) within c.tail.ensures ends c.in-Some.ensures.value in
+    let more = read_more columns text rest c.loop-column.row i at end column (value_of_ref c.in-Some.value) c.loop-column.invariant.so_far
+    c.loop-column-test.true (sym c.column-item.is) within c.tail.ensures ends c.in-Some.ensures.value in
     record {
       within = omega (arith, within, inside, length-drop at text);
       so_far = subst (λ (row : List Value). ReadTo columns text row (i + 1) (at + (end + 1))) (sym c.in_ok-push.ensures.ok) more;

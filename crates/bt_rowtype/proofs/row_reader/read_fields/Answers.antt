@@ -23,7 +23,8 @@ returns-in_err-push_field c =
     (λ (memory : e ≢ OutOfMemory).
     let none = none_read bad e (option_map (λ (v : Value). row ++ v ∷ []) spelled) (c.in_err-push_field.ensures memory) in
     ap (or_refused bad)
-    (c.loop-place.invariant ∙ first_none columns fields c.loop-place.place column row c.get.result.now c.loop-place-test.true c.requires (sym c.index-columns-place.is) c.get.ensures (option_none (λ (v : Value). row ++ v ∷ []) spelled none.0))
+    (c.loop-place.invariant ∙ first_none columns fields c.loop-place.place column row c.get.result.now c.loop-place-test.true c.requires
+    (sym c.index-columns-place.is) c.get.ensures (option_none (λ (v : Value). row ++ v ∷ []) spelled none.0))
     ∙ ap Err none.1)
 
 pub loop-place-preserved : goal.loop-place-preserved

@@ -31,7 +31,8 @@ loop-group-preserved c =
     let spelled = op_of_fields schema item fields place c.get-word.result.now c.get-name.result.now c.get-argument.result.now c.get-word.ensures c.get-name.ensures c.get-argument.ensures
     ∙ is_answer _ read c.read_op-read.ensures.answer c.in_ok-add.ensures.memory in
     let more : ops_of schema item (drop place fields) ≡ read ∷ ops_of schema item (drop next fields) =
-    ops_more schema item fields place in_fields ∙ ap (λ (o : Result Op Refusal). o ∷ ops_of schema item (drop (place + 3) fields)) spelled ∙ ap (λ n. read ∷ ops_of schema item (drop n fields)) three in
+    ops_more schema item fields place in_fields ∙ ap (λ (o : Result Op Refusal). o ∷ ops_of schema item (drop (place + 3) fields)) spelled
+    ∙ ap (λ n. read ∷ ops_of schema item (drop n fields)) three in
     record {
       values = c.loop-group.invariant.values ∙ ap (λ (l : List (Result Op Refusal)). c.loop-group.reading.values ++ filter_map result_ok l) more
           ∙ with_value c.loop-group.reading.values c.add.new.self.values read (ops_of schema item (drop next fields)) c.in_ok-add.ensures.values;

@@ -15,4 +15,5 @@ returns-in-Ok c =
     let op = c.in-Ok.op in
     let read_columns = subst (λ found. IfSome found (λ read. HasRead c.key_columns.result.now text read.0 read.1)) c.in-Some.is c.in_ok-key.ensures in
     let read : HasRead (take schema.keys schema.columns) text key at = subst (λ (columns : List Column). HasRead columns text key at) c.key_columns.ensures.value read_columns in
-    upsert_read schema c.args.item text key at group.word.now group.name.now group.argument.now op c.key_columns.ensures.within read group.ensures.fields group.ensures.plain c.requires c.in-Ok.ensures.answer
+    upsert_read schema c.args.item text key at group.word.now group.name.now group.argument.now op c.key_columns.ensures.within read group.ensures.fields
+    group.ensures.plain c.requires c.in-Ok.ensures.answer

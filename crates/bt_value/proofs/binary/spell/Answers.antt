@@ -5,12 +5,14 @@ use Rattle.bt_value.proofs.binary.spell.Goals as goal
 
 pub returns-in_err-byte-clause-bytes : goal.returns-in_err-byte-clause-bytes
 returns-in_err-byte-clause-bytes c =
-    rw c.from_residual.ensures (sym (no_byte c.args.digits.now (take c.loop-rest.len c.loop-rest.room) c.loop-rest.rest.now c.in-len2-up.len_at_least c.in_err-byte.ensures c.loop-rest.invariant.spelled))
+    rw c.from_residual.ensures (sym (no_byte c.args.digits.now (take c.loop-rest.len c.loop-rest.room) c.loop-rest.rest.now c.in-len2-up.len_at_least
+    c.in_err-byte.ensures c.loop-rest.invariant.spelled))
 
 pub returns-then-len-eq-MOST_VALUE_BYTES-clause-bytes : goal.returns-then-len-eq-MOST_VALUE_BYTES-clause-bytes
 returns-then-len-eq-MOST_VALUE_BYTES-clause-bytes c =
     sym (too_many c.args.digits.now (take c.loop-rest.len c.loop-rest.room) c.loop-rest.rest.now c.in_ok-byte.byte
-    (omega (arith, length-take c.loop-rest.len c.loop-rest.room, c.loop-rest.invariant.size, c.if-len-eq-MOST_VALUE_BYTES.true)) c.in-len2-up.len_at_least c.in_ok-byte.ensures c.loop-rest.invariant.spelled)
+    (omega (arith, length-take c.loop-rest.len c.loop-rest.room, c.loop-rest.invariant.size, c.if-len-eq-MOST_VALUE_BYTES.true)) c.in-len2-up.len_at_least
+    c.in_ok-byte.ensures c.loop-rest.invariant.spelled)
 
 pub loop-rest-preserved : goal.loop-rest-preserved
 loop-rest-preserved c = record {

@@ -1,6 +1,7 @@
 use Rattle.std.proofs.Common.{◌∙◌, sym}
 use Rattle.bt_record.proofs.Found.{none_behind_mark, none_of_feeds, none_with_return, record_there, some_record}
-use Rattle.bt_record.proofs.line.RecordLine.new.Goals.{then-has_only_feeds-via-then-has_only_feeds, then-has_only_feeds-via-else-has_only_feeds+then-has_mark, then-has_only_feeds-via-else-has_only_feeds+else-has_mark+then-has_return}
+use Rattle.bt_record.proofs.line.RecordLine.new.Goals.{then-has_only_feeds-via-then-has_only_feeds, then-has_only_feeds-via-else-has_only_feeds+then-has_mark}
+use Rattle.bt_record.proofs.line.RecordLine.new.Goals.{then-has_only_feeds-via-else-has_only_feeds+else-has_mark+then-has_return}
 use Rattle.bt_record.proofs.line.RecordLine.new.Goals as goal
 
 pub returns-then-has_only_feeds : goal.returns-then-has_only_feeds

@@ -8,7 +8,8 @@ use Rattle.bt_value.proofs.Paddings.{length-padded, padded-all}
 use Rattle.bt_value.proofs.bytes.Bytes.padded.Goals as goal
 
 -- the whole array of a value that keeps its bytes in itself
-all_places : (storage : BytesStorage) (len : ℕ) (places seen bytes : List ℕ) → storage ≡ Short len places → FitsInside storage → bytes_of storage ≡ bytes → seen ≡ places → (length seen ≡ most_short) × (seen ≡ padded most_short bytes)
+all_places : (storage : BytesStorage) (len : ℕ) (places seen bytes : List ℕ) → storage ≡ Short len places → FitsInside storage → bytes_of storage ≡ bytes
+    → seen ≡ places → (length seen ≡ most_short) × (seen ≡ padded most_short bytes)
 all_places storage len places seen bytes is fits shown same =
     let inside : FitsInside (Short len places) = subst FitsInside is fits in
     let front : take len places ≡ bytes = sym (ap bytes_of is) ∙ shown in
@@ -35,7 +36,8 @@ returns-in-Short-clause-whole c =
     fewer c.self.inside.storage c.in-Short.field-0 c.in-Short.bytes c.as_slice.result.now c.args.self.now c.in-Short.is c.self.view_is c.as_slice.ensures
 
 -- the bytes of a value that keeps them elsewhere, which are more than the array has
-all_bytes : (storage : BytesStorage) (long : Box (Vec ℕ Global) Global) (seen bytes : List ℕ) → storage ≡ Long long → FitsInside storage → bytes_of storage ≡ bytes → seen ≡ long.value.items → (most_short < length seen) × (seen ≡ bytes)
+all_bytes : (storage : BytesStorage) (long : Box (Vec ℕ Global) Global) (seen bytes : List ℕ) → storage ≡ Long long → FitsInside storage
+    → bytes_of storage ≡ bytes → seen ≡ long.value.items → (most_short < length seen) × (seen ≡ bytes)
 all_bytes storage long seen bytes is fits shown same =
     let inside : FitsInside (Long long) = subst FitsInside is fits in
     (omega (arith, inside, ap length same), same ∙ sym (ap bytes_of is) ∙ shown)
