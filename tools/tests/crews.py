@@ -1,6 +1,7 @@
 """Tests of the program by crews: worked scripts by all crews, how many threads a batch starts, and a deep tree on the stack of a worker."""
 
 import os
+import shutil
 import subprocess
 import tempfile
 from functools import cache
@@ -88,10 +89,26 @@ def a_worker_goes_down_a_deep_tree():
     expect((by_two == alone, none, some > 0), (True, 0, True))
 
 
+def a_crew_frees_what_it_takes():
+    """No clause says that a value is freed. Under memcheck no block is left at the end that nothing reaches, after batches, steps of building, a drain,
+    scans and sums by two workers."""
+    if not shutil.which("valgrind"):
+        print("not tested: valgrind is not installed")
+        return
+    reads = "scan by_qty\ngo\nsums primary 1 qty\nto 9\ngo\ndrain primary\nscan primary\nfrom 990\ngo\n"
+    script = "\n".join([TABLE, puts(range(1_000)), INDEX, puts(range(0, 1_000, 3)), reads])
+    words = ["valgrind", "--quiet", "--fair-sched=yes", "--leak-check=full", "--show-leak-kinds=definite,indirect,possible", "--error-exitcode=9"]
+    program = [PROGRAM, "--workers", "2", "--cut", "1", "--grain", "1"]
+    alone, _ = run_and_threads(script, 1)
+    ended = subprocess.run([*words, *program], input=script.encode(), capture_output=True, timeout=SECONDS)
+    expect((ended.returncode, ended.stderr.decode(), ended.stdout.decode() == alone), (0, "", True))
+
+
 TESTS = [
     worked_scripts_have_the_same_replies_by_all_crews,
     every_crew_finds_other_replies,
     pieces_of_a_batch_are_worked_by_two_threads,
     a_load_by_one_worker_starts_no_thread,
     a_worker_goes_down_a_deep_tree,
+    a_crew_frees_what_it_takes,
 ]
