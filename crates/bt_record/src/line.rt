@@ -60,8 +60,8 @@ fn has_only_feeds(text: &[u8]) -> bool
 }
 
 impl<'a> RecordLine<'a> {
-    /// The line, if it has a record. It has none if it is empty, has a CR, has only line feeds, or begins with a second byte order mark
-    /// after the first one, which is dropped.
+    /// The line, if it has a record. One byte order mark at its start is dropped. A line has no record if it is empty, has a CR, has
+    /// only line feeds, or begins with two byte order marks.
     pub fn new(line: &'a [u8]) -> Option<Self>
         ensures { result ≡ record_of line.now }
     {

@@ -8,7 +8,7 @@ use crate::line::RecordLine;
 use std::alloc::{AllocError, Global};
 
 /// Memory for cutting lines, one after the other: the spans of the fields, and the bytes of the fields if the line has quotes. Lines
-/// share this memory, and a line of too many fields takes no more than one of as many as are allowed.
+/// share this memory. A line with too many fields takes no more of it than one with as many fields as are allowed.
 #[derive(Drop)]
 pub struct RecordCutter {
     bytes: Vec<u8>,

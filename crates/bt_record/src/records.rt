@@ -74,7 +74,7 @@ fn rest_behind(text: &[u8], place: usize) -> &[u8]
 }
 
 impl<'a> Records<'a> {
-    /// The records of a text without its byte order mark, or `None` if a second one follows.
+    /// The records of a text. One byte order mark at its start is dropped; if there are two, the result is `None`.
     pub fn new(text: &'a [u8]) -> Option<Self>
         ensures some { IfSome result (λ found. found ≡ records default_config (strip_bom text.now)) }
         ensures unmarked { IfSome result (λ _. is_behind_mark (strip_bom text.now) ≡ false) }

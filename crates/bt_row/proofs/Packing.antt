@@ -33,7 +33,7 @@ pub int_from-int_bytes : (n : ℤ) (more : List ℕ) → SFits w64 n → int_fro
 unfolding int_bytes int_from
 int_from-int_bytes n more fits = ap (cast_signed w64) (from_le_bytes-to_le_bytes_8 (cast_unsigned w64 n) (low_bits n fits)) ∙ same_int n fits
 
--- ---- the first of packed values, and its width, by the form of what it holds
+-- ---- the first of packed values, and its width, by the form of its content
 
 -- the value of bytes that begin with a tag of a kind
 as_tagged : (k : Kind) (f : Form) (tag : ℕ) (bytes : List ℕ) → kind_of_tag tag ≡ k → form_of k ≡ f → first_of (tag ∷ bytes) ≡ value_with k (content_at f (tag == tag_of k + 1) bytes)

@@ -148,7 +148,7 @@ upsert_as schema item fields =
 abbrev pub open_kind : Schema → ℕ → Option Kind
 open_kind schema place = if nat_le schema.keys place then option_map (λ c. c.kind) (slice_get schema.columns place) else None
 
--- the fault of setting a value in a column of this kind; no kind means that there is no column which may be changed
+-- the fault of setting a value in a column of this kind; no kind means that there is no column that may be changed
 abbrev pub set_fault : ℕ → Value → Option Kind → Option Refusal
 set_fault item new None = Some NoSuchColumn
 set_fault item new (Some kind) = if fits_kind kind new then None else Some (BadField item)

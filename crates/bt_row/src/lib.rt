@@ -4,7 +4,7 @@
 //! operation ([`Op`]) sets one value of a row, or does arithmetic on an int. A [`Change`] has operations, and the row to begin with if a
 //! key has none. The code that depends on the operation is in one file, `op.rt`. A row is printed as one record.
 //!
-//! The crate also defines what rows and operations the fields of a record encode ([`Schemas`](../specs/Schemas.antt),
+//! The crate also defines which rows and operations the fields of a record encode ([`Schemas`](../specs/Schemas.antt),
 //! [`Ops`](../specs/Ops.antt)). It does not cut text into fields.
 //!
 //! ```text

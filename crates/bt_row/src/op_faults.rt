@@ -20,7 +20,7 @@ fn open_kind(schema: &Schema, place: usize) -> Option<Kind>
     Some(column.kind)
 }
 
-// The fault of an operation that sets a value in a column of this kind. `None` means that there is no column which it may change.
+// The fault of an operation that sets a value in a column of this kind. `None` means that there is no column that it may change.
 fn set_fault(item: u64, value: &Value, kind: Option<Kind>) -> Option<Refusal>
     ensures { result ≡ spec.set_fault item value.now kind }
 {
@@ -33,7 +33,7 @@ fn set_fault(item: u64, value: &Value, kind: Option<Kind>) -> Option<Refusal>
     Some(Refusal::BadField(item))
 }
 
-// The fault of an arithmetic operation on a column of this kind. `None` means that there is no column which it may change.
+// The fault of an arithmetic operation on a column of this kind. `None` means that there is no column that it may change.
 fn number_fault(kind: Option<Kind>) -> Option<Refusal>
     ensures { result ≡ spec.number_fault kind }
 {

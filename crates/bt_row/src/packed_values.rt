@@ -17,7 +17,7 @@ pub(crate) fn int_at(bytes: &[u8]) -> i64
     .cast_signed()
 }
 
-// The number of bytes that a value of a form takes. These are the bytes after its tag.
+// The number of bytes that a value of a form takes, given the bytes after its tag.
 #[inline(always)]
 fn width_in(form: Form, behind: &[u8]) -> usize
     ensures { result ≡ width_of_form form behind.now }
@@ -43,7 +43,7 @@ pub(crate) fn width(bytes: &[u8]) -> usize
     }
 }
 
-// What a value of a form holds. The bytes begin with its tag, and a bit is set or not.
+// The content of a value of this form. The bytes begin with the tag of the value, and `is_set` is the content of a bit.
 #[inline(always)]
 fn content_at<'a>(form: Form, is_set: bool, bytes: &'a [u8]) -> Content<'a>
     requires some { 0 < length bytes.now }

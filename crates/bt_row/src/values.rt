@@ -61,7 +61,7 @@ fn holds_none(bytes: &[u8]) -> bool
     bytes.is_empty()
 }
 
-// Whether two values hold the same.
+// Whether two contents are the same.
 fn same_content(left: Content<'_>, right: Content<'_>) -> bool
     ensures { result ≡ spec.same_content (content_of_ref left.entry) (content_of_ref right.entry) }
 {
@@ -73,7 +73,7 @@ fn same_content(left: Content<'_>, right: Content<'_>) -> bool
     }
 }
 
-// Whether two values are of one kind and hold the same.
+// Whether two values have the same kind and the same content.
 #[tactic(auto, using(bt_value::proofs::offered::Kinds::tags_agree))]
 fn same_value(left: ValueRef<'_>, right: ValueRef<'_>) -> bool
     ensures { result ≡ spec.same_value (value_of_ref left.entry) (value_of_ref right.entry) }
@@ -81,7 +81,7 @@ fn same_value(left: ValueRef<'_>, right: ValueRef<'_>) -> bool
     left.kind().tag() == right.kind().tag() && same_content(left.content(), right.content())
 }
 
-// The order of what two values of a kind hold.
+// The order of the contents of two values of a kind.
 fn compare_contents(left: Content<'_>, right: Content<'_>) -> Ordering
     ensures { result ≡ spec.content_cmp (content_of_ref left.entry) (content_of_ref right.entry) }
 {

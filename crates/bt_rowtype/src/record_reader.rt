@@ -15,8 +15,8 @@ use bt_row::{Change, Column, MOST_OPS, Row, Schema, default_row, one_op};
 use bt_value::Refusal;
 use std::alloc::{AllocError, Global};
 
-/// Reads lines, one after the other. Lines share the reader's memory, and a line of too many fields takes no more than one of as many as
-/// are allowed.
+/// Reads lines, one after the other. Lines share the reader's memory. A line with too many fields takes no more of it than one
+/// with as many fields as are allowed.
 #[derive(Drop)]
 pub struct RecordReader {
     cutter: RecordCutter,

@@ -31,8 +31,8 @@ fn push_read(
     }
 }
 
-// Adds the value that a field encodes, read through an array for its bytes, or returns the field's refusal as this item. It is a function
-// that is never inlined, so that only such fields have the array on the stack.
+// Adds the value that a field encodes, or returns the field's refusal as this item. Its bytes are written into an array first. The
+// function is never inlined, so that only such fields have the array on the stack.
 #[inline(never)]
 fn push_spelled(
     alloc: Global,

@@ -1,5 +1,5 @@
--- All definitions that depend on the kind: its form, its word, the bytes that it takes, how its fields are read and printed, and its default. Only sums and
--- the operations that make a number depend on the kind elsewhere: they ask whether a kind is int, or a value an int.
+-- All definitions that depend on the kind: its form, its word, the bytes that it takes, how its fields are read and printed, and its default. Only arithmetic
+-- operations and sums depend on the kind elsewhere: they ask whether a kind is int, or a value an int.
 use Rattle.std.specs.Prelude.{ℕ, ◌==◌, Bool, true, false, List, [], codes, Option, Some, None, option_and_then, option_map, if◌then◌else◌, ℤ, pos}
 use Rattle.std.specs.Cmp.Lexicographic.{pointwise}
 use Rattle.std.specs.Fmt.{signed_decimal}
@@ -25,13 +25,13 @@ value_of_ref (seen.Bytes bytes) = value.Bytes bytes.now
 
 -- ---- forms: how values are kept, ordered and encoded
 
--- what a value holds: a number, bytes, or a bit
+-- the content of a value: a number, bytes, or a bit
 pub data Content : Type 0 where
   Number : ℤ → Content
   Bytes : List ℕ → Content
   Bit : Bool → Content
 
--- the form of what a value holds
+-- the form of a content
 abbrev pub form_in : Content → Form
 form_in (Number n) = form.Number
 form_in (Bytes bytes) = form.Bytes
@@ -59,7 +59,7 @@ same_kind kind.Flag kind.Flag = true
 same_kind kind.Bytes kind.Bytes = true
 same_kind a b = false
 
--- what a value holds
+-- the content of a value
 abbrev pub content_of : Value → Content
 content_of (value.Int n) = Number n
 content_of (value.Text bytes) = Bytes bytes
@@ -73,7 +73,7 @@ default_of kind.Text = value.Text []
 default_of kind.Flag = value.Flag false
 default_of kind.Bytes = value.Bytes []
 
--- the value of a kind that holds this, or the kind's default if the kind has another form
+-- the value of a kind with this content, or the kind's default if the kind has another form
 abbrev pub value_with : Kind → Content → Value
 value_with kind.Int (Number n) = value.Int n
 value_with kind.Text (Bytes bytes) = value.Text bytes

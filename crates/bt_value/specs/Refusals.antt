@@ -51,7 +51,7 @@ name_of Failed = codes "Failed"
 name_of BadCrew = codes "BadCrew"
 name_of BadShape = codes "BadShape"
 
--- the item at fault, where the refusal names one
+-- the item at fault, if the refusal names one
 abbrev pub item_of : Refusal → Option ℕ
 item_of (BadField item) = Some item
 item_of (BadLength item) = Some item

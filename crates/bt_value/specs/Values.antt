@@ -13,7 +13,7 @@ use Rattle.bt_value.specs.declared.value.Value.{Value}
 
 -- ---- order and range, by the form of a value
 
--- the order of what two values of a kind hold: numbers by size, bytes byte by byte, false before true; contents of different forms count as equal
+-- the order of the contents of two values of a kind: numbers by size, bytes byte by byte, false before true; contents of different forms count as equal
 abbrev pub content_cmp : Content → Content → Ordering
 content_cmp (Number a) (Number b) = int_cmp a b
 content_cmp (Bytes a) (Bytes b) = slice_cmp nat_cmp a b
@@ -28,7 +28,7 @@ value_cmp a b = content_cmp (content_of a) (content_of b)
 abbrev pub values_cmp : List Value → List Value → Ordering
 values_cmp = slice_cmp value_cmp
 
--- whether two values hold the same
+-- whether two contents are the same
 abbrev pub same_content : Content → Content → Bool
 same_content (Number a) (Number b) = int_eq a b
 same_content (Bytes a) (Bytes b) = pointwise ◌==◌ a b
@@ -43,7 +43,7 @@ same_value a b = same_kind (kind_of a) (kind_of b) && same_content (content_of a
 abbrev pub same_values : List Value → List Value → Bool
 same_values = pointwise same_value
 
--- whether what a value of the same form holds is a value of the kind
+-- whether a kind takes a content of its form
 abbrev pub takes_content : Kind → Content → Bool
 takes_content kind (Number n) = true
 takes_content kind (Bytes bytes) = takes kind bytes
@@ -63,7 +63,7 @@ BytesFitKind kind (Bit bit) = Unit {0}
 abbrev pub BytesFit : Value → Type 0
 BytesFit v = BytesFitKind (kind_of v) (content_of v)
 
--- what a value holds is within range: a number has 64 bits, and bytes are a value of the kind
+-- a content is within range: a number has 64 bits, and bytes are a value of the kind
 abbrev pub LiesInRange : Kind → Content → Type 0
 LiesInRange kind (Number n) = FitsSigned w64 n
 LiesInRange kind (Bytes bytes) = takes kind bytes ≡ true

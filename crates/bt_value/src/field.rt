@@ -45,7 +45,7 @@ fn copy_read(alloc: Global, item: u64, read: Option<ValueRef<'_>>) -> Result<Val
     }
 }
 
-// The value that a field encodes, read through an array for its bytes, or the refusal of the field as this item.
+// The value that a field encodes, or the refusal of the field as this item. Its bytes are written into an array first.
 #[inline(never)]
 fn read_spelled(alloc: Global, kind: Kind, item: u64, field: &[u8]) -> Result<Value, Refusal>
     ensures answer { Answers (or_refused (Refusal.BadField item) (value_of kind field.now)) result }

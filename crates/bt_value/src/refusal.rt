@@ -39,7 +39,7 @@ pub enum Refusal {
     /// An unknown column, a key column in an operation, a column that the index does not hold, or a number of group columns out of
     /// range.
     NoSuchColumn,
-    /// An operation that makes a number, or a sum, at a column that is not an int.
+    /// An arithmetic operation, or a sum, of a column that is not int.
     NotInt,
     /// A request for memory was refused.
     OutOfMemory,

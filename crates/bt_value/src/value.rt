@@ -1,6 +1,6 @@
 //! Kinds and values. All code that depends on the kind is here: forms, words, the bytes that a kind takes, how its fields are read and
-//! printed, and its default. Everything else depends only on the form of a value, with one exception: sums and the operations that make
-//! a number check that a value is an int.
+//! printed, and its default. Everything else depends only on the form of a value, with one exception: arithmetic operations and sums
+//! check that a value is an int.
 ghost use Rattle.std.specs.Prelude.{◌≡◌, ◌≢◌, ◌++◌, IfOk, IfSome, Some, false, option_map, take, true};
 ghost use Rattle.csv.specs.Writing.{default_writer, field_text};
 ghost use Rattle.bt_value.specs.Kinds.{content_of, default_of, form_of, kind_of_word, kind_of, kind_of_tag, needs_room, tag_of, takes, text_of, value_of, value_with};
@@ -69,7 +69,7 @@ pub enum ValueRef<'a> {
     Bytes(&'a [u8]),
 }
 
-/// What a value holds, in the form of its kind. Its bytes are borrowed.
+/// The content of a value, in the form of its kind. Its bytes are borrowed.
 #[derive(Clone, Copy, Debug, Drop)]
 pub enum Content<'a> {
     /// A number of 64 bits.
@@ -144,7 +144,7 @@ impl Kind {
         }
     }
 
-    /// Whether what a value of the same form holds is a value of this kind. Numbers and bits always are, and bytes must be checked.
+    /// Whether this kind takes a content of its form. Numbers and bits are always taken, and bytes are checked.
     pub fn takes(self, content: Content<'_>) -> bool
         ensures { result ≡ takes_content self (content_of_ref content.entry) }
     {
@@ -260,7 +260,7 @@ impl TryClone for Value {
 }
 
 impl<'a> ValueRef<'a> {
-    /// The value of a kind that holds this, or the kind's default if the kind has another form.
+    /// The value of a kind with this content, or the kind's default if the kind has another form.
     #[inline(always)]
     pub fn with(kind: Kind, content: Content<'a>) -> Self
         ensures { value_of_ref result ≡ value_with kind (content_of_ref content.entry) }
@@ -287,7 +287,7 @@ impl<'a> ValueRef<'a> {
         }
     }
 
-    /// What the value holds.
+    /// The content of the value.
     #[inline(always)]
     pub fn content(self) -> Content<'a>
         ensures { content_of_ref result ≡ content_of (value_of_ref self.entry) }

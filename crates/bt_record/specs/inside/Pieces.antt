@@ -10,7 +10,7 @@ part bytes span = take (span.end - span.start) (drop span.start bytes)
 abbrev pub pieces : List ℕ → List FieldSpan → List (List ℕ)
 pieces bytes spans = map (λ span. part bytes span) spans
 
--- the spans lie within this many bytes
+-- the spans are within this many bytes
 abbrev pub LieWithin : ℕ → List FieldSpan → Type 0
 LieWithin size [] = ⊤
 LieWithin size (span ∷ spans) = (span.start ≤ span.end) × (span.end ≤ size) × LieWithin size spans

@@ -19,7 +19,7 @@ int_bytes n = to_le_bytes w64 (cast_unsigned w64 n)
 unfoldable pub int_from : List ℕ → ℤ
 int_from bytes = cast_signed w64 (from_le_bytes w64 bytes)
 
--- a kind's tag and the bytes of what a value holds: eight bytes for a number; for bytes, their length and the bytes; a bit is added to the tag
+-- a kind's tag and the bytes of a content: eight bytes for a number; for bytes, their length and the bytes; a bit is added to the tag
 abbrev pub packed_content : ℕ → Content → List ℕ
 packed_content tag (Number n) = tag ∷ int_bytes n
 packed_content tag (Bytes bytes) = tag ∷ length bytes ∷ bytes
@@ -36,7 +36,7 @@ packed_values (v ∷ vs) = packed_value v ++ packed_values vs
 
 -- ---- from bytes to values
 
--- how many bytes a value of a form takes; these are the bytes after the first
+-- how many bytes a value of a form takes, given the bytes after its tag
 abbrev pub width_in : Form → List ℕ → ℕ
 width_in form.Number bytes = 9
 width_in form.Bytes bytes = get_or bytes 0 0 + 2
@@ -47,7 +47,7 @@ abbrev pub width_of : List ℕ → ℕ
 width_of [] = 0
 width_of (tag ∷ bytes) = width_in (form_of (kind_of_tag tag)) bytes
 
--- what a value of a form holds; these are the bytes after the first, and a bit is set or not
+-- the content of a value of a form, given whether a bit is set, and the bytes after the tag
 abbrev pub content_at : Form → Bool → List ℕ → Content
 content_at form.Number is_set bytes = Number (int_from bytes)
 content_at form.Bytes is_set bytes = Bytes (take (get_or bytes 0 0) (drop 1 bytes))

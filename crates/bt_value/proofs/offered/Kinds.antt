@@ -1,4 +1,4 @@
--- The laws that depend on the kind: its values and what they hold, its tag, the bytes that it takes and what its fields encode.
+-- The laws that depend on the kind: its values and their contents, its tag, the bytes that it takes and what its fields encode.
 -- All other proofs use these laws and the laws of forms.
 use Rattle.std.proofs.Common.{◌≡◌, ℕ, ◌+◌, ◌<◌, ◌≤◌, ◌==◌, Bool, true, false, List, refl, sym, subst, arith, length, Option, Some, None, ℤ, w64, IfSome, if◌then◌else◌}
 use Rattle.std.proofs.lemmas.Bool.{leb-true}
@@ -18,7 +18,7 @@ use Rattle.bt_value.proofs.offered.Tests.{first_true}
 use Rattle.bt_value.proofs.offered.IntRanges.{int_in_range}
 use Rattle.bt_value.proofs.offered.Texts.{no_bytes, text_length}
 
--- ---- a value is its kind and what it holds
+-- ---- a value is its kind and its content
 
 pub with_content : (v : Value) → value_with (kind_of v) (content_of v) ≡ v
 with_content (value.Int n) = refl
