@@ -1,4 +1,4 @@
--- Whatever run of the board: no job is lost and none comes twice.
+-- In any run of the board, no job is lost and none occurs twice.
 use Rattle.std.proofs.Common.{◌≡◌, ℕ, zero, suc, ◌+◌, ◌<◌, List, [], ◌∷◌, ◌++◌, length, get_or, set, replicate, Option, None, Some, refl, sym, ap, ◌∙◌, subst, arith}
 use Rattle.std.proofs.lemmas.List.{length-set, length-replicate, get_or-set_same}
 use Rattle.bt_value.specs.Lists.{concatenation}
@@ -20,14 +20,14 @@ sum_over-replicate : {X : Type 0} (f : X → ℕ) (x : X) (n : ℕ) → f x ≡ 
 sum_over-replicate f x zero e = refl
 sum_over-replicate f x (suc n) e = let r = sum_over-replicate f x n e in omega arith
 
--- a job waits, is held or was handed in; what was taken is held or was handed in: however the numbers are weighed
+-- each job waits, is held or was handed in, and each job taken is held or was handed in; stated as equal sums for any weights of the numbers
 pub record Accounted (workers : ℕ) (s : State) : Type 0 where
   pub held : length s.held ≡ workers
   pub taken : length s.taken ≡ workers
   pub all : (h : ℕ → ℕ) → sum_over h s.waiting + sum_over h (holding s.held) + sum_over h s.handed ≡ sum_over h (below s.put)
   pub lists : (h : ℕ → ℕ) → sum_over h (concatenation s.taken) ≡ sum_over h (holding s.held) + sum_over h s.handed
 
--- what a worker held goes, and what it holds now comes
+-- the weight of what a worker held is replaced by the weight of what it holds now
 held_changed : (h : ℕ → ℕ) (held : List (Option ℕ)) (w : ℕ) (was now : Option ℕ) → w < length held → get_or held w None ≡ was →
     sum_over h (holding (set held w now)) + weight_held h was ≡ sum_over h (holding held) + weight_held h now
 held_changed h held w was now l is =

@@ -1,4 +1,4 @@
--- Even pieces: each of some places gets a share of what is left, or one more, where the next place takes its part by division.
+-- Even pieces: each place gets an equal share of what is left, or one more, if the next place takes its part by division.
 use Rattle.std.proofs.Common.{◌≡◌, ℕ, suc, ◌+◌, ◌-◌, ◌*◌, ◌/◌, ◌<◌, ◌≤◌, List, [], ◌∷◌, ◌++◌, length, take, drop, sym, ap, ◌∙◌, subst, arith}
 use Rattle.std.proofs.Math.Nat.{div-mul-le_self, le-div_iff_mul-le, div-le_of_le-mul, lt-mul-div-succ}
 use Rattle.std.proofs.lemmas.List.{length-drop, length-take-le}
@@ -26,7 +26,7 @@ least_left share part left k l m = grind arith
 most_left : (share part left k : ℕ) → share ≤ part → left < suc k * (part + 1) → left ≤ suc k * (share + 1) → left - part ≤ k * (share + 1)
 most_left share part left k l m n = grind arith
 
--- the part of the next of more places
+-- the part of the next place, if there are more
 pub next_part : (share k left : ℕ) → IsEvenRest share (suc k) left → IsEvenPart share (left / suc k)
 next_part share k left s = (let l = s.least in grind (arith, le-div_iff_mul-le), div-le_of_le-mul (suc k) s.most)
 
@@ -38,7 +38,7 @@ rest_left share k left s =
       most = most_left share (left / suc k) left k part.0 (lt-mul-div-succ left (omega arith)) s.most;
     }
 
--- one place of some takes its part
+-- one place takes its part
 pub next_rest : (share count place start end all : ℕ) → place < count → start ≤ end → end ≡ start + (all - start) / (count - place + 1)
     → IsEvenRest share (count - place + 1) (all - start) → IsEvenPart share (end - start) × IsEvenRest share (count - (place + 1) + 1) (all - end)
 next_rest share count place start end all more ordered e shares =
@@ -60,7 +60,7 @@ module _ {X : Type 0} where
   even_snoc share [] piece even is = (is, tt)
   even_snoc share (p ∷ ps) piece even is = (even.0, even_snoc share ps piece even.1 is)
 
-  -- one more piece that is a share
+  -- one more piece that is a share, or one more
   pub even_more : (share start end : ℕ) (all : List X) (pieces more : List (Piece X)) (piece : Piece X) → more ≡ pieces ++ piece ∷ [] → piece.items.now ≡ take (end - start) (drop start all)
       → end ≤ length all → AreEven share pieces → IsEvenPart share (end - start) → AreEven share more
   even_more share start end all pieces more piece more_is items_are within even is =

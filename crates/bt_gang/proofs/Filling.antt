@@ -1,4 +1,4 @@
--- From the answers that came in to what a run of all jobs promises.
+-- The guarantees of a run of all jobs follow from the answers that came in.
 use Rattle.std.proofs.Common.{◌≡◌, ◌≢◌, ℕ, zero, suc, ◌+◌, ◌<◌, ◌≤◌, List, [], ◌∷◌, ◌++◌, length, set, map, get_or, replicate, Option, Some, None, IfSome, Result, Ok, Err, sym, refl, ap, ◌∙◌, subst, ⊎_elim, append_assoc, append-nil, arith}
 use Rattle.std.proofs.lemmas.List.{length-set, length-replicate, get_or-replicate, replicate_more}
 use Rattle.std.proofs.lemmas.Bool.Decides.{nat_tests}
@@ -41,7 +41,7 @@ one_more i n came e = let f = sum_over-append (is_it i) came (n ∷ []) in grind
 still_there : (i n : ℕ) (came : List ℕ) → 0 < occurrences i came → 0 < occurrences i (came ++ n ∷ [])
 still_there i n came l = let f = sum_over-append (is_it i) came (n ∷ []) in omega arith
 
--- a number that stands at most once, and at least once below n
+-- a number that is in a list at most once, and at least once if it is below n
 exactly_once : (x n k : ℕ) → k ≤ once_below x n → (x < n → 0 < k) → k ≡ once_below x n
 exactly_once x n k l f = by (once_below x n) refl where
   by : (b : ℕ) → once_below x n ≡ b → k ≡ once_below x n
@@ -70,7 +70,7 @@ module _ {D F : Type 0} where
   ok_there (d ∷ ds) zero none = subst HasValue (some-injective (Some (Ok d)) None none) tt
   ok_there (d ∷ ds) (suc i) none = ok_there ds i none
 
-  -- where each place has a value, none is empty
+  -- if each place has a value, none is empty
   pub ok_full : (slots : List (Option (Result D F))) (ds : List D) → slots ≡ ok_slots ds → IsFull slots
   ok_full slots ds e i none = ok_there ds i (ap (λ l. get_elem? l i) (sym e) ∙ none)
 
@@ -132,7 +132,7 @@ module _ {J D F : Type 0} (allows : J → Result D F → Type 0) where
     empty = λ i x. refl;
   }
 
-  -- the answers in places that were empty
+  -- the answers, put into empty places
   pub filled : (jobs : List J) (xs : List (Answer D F)) (slots : List (Option (Result D F))) → slots ≡ puts (replicate (length jobs) None) xs → AllMay allows jobs xs → Filled allows jobs slots (numbered xs)
   filled jobs xs slots e all = subst (λ l. Filled allows jobs l (numbered xs)) (sym e) (filled_more jobs xs (replicate (length jobs) None) [] (filled_empty jobs) all)
 
@@ -161,7 +161,7 @@ module _ {J D F : Type 0} (allows : J → Result D F → Type 0) where
   some_at (d ∷ ds) zero l = (d, refl)
   some_at (d ∷ ds) (suc i) l = some_at ds i (omega arith)
 
-  -- where no place is empty, each has a value
+  -- if no place is empty, each has a value
   full_at : (slots : List (Option (Result D F))) (i : ℕ) → IsFull slots → i < length slots → (value : Result D F) × (get_elem? slots i ≡ some (Some value))
   full_at slots i full l = by (some_at slots i l).0 (some_at slots i l).1 where
     by : (o : Option (Result D F)) → get_elem? slots i ≡ some o → (value : Result D F) × (get_elem? slots i ≡ some (Some value))
@@ -179,17 +179,17 @@ module _ {J D F : Type 0} (allows : J → Result D F → Type 0) where
     (λ i l. let d = some_at before i (omega arith) in (d.0, f.may i (Ok d.0) (ap (λ k. get_elem? k i) e ∙ ok_at before i d.0 (Some (Err fault) ∷ after) d.1))),
   )
 
-  -- where no place is empty and no number came twice, each came once
+  -- if no place is empty and no number came twice, each came once
   pub all_once : (jobs : List J) (slots : List (Option (Result D F))) (came : List ℕ) → Filled allows jobs slots came → IsFull slots
       → ((x : ℕ) → occurrences x came ≤ once_below x (length jobs)) → (x : ℕ) → occurrences x came ≡ once_below x (length jobs)
   all_once jobs slots came f full most x = exactly_once x (length jobs) (occurrences x came) (most x) (λ l. let v = full_at slots x full (let s = f.size in omega arith) in f.full x v.0 v.1)
 
-  -- where each number came once, no place is empty
+  -- if each number came once, no place is empty
   pub none_empty : (jobs : List J) (slots : List (Option (Result D F))) (came : List ℕ) → Filled allows jobs slots came → ((x : ℕ) → occurrences x came ≡ once_below x (length jobs)) → IsFull slots
   none_empty jobs slots came f once i e = let l = at_below slots i None e in let a = f.size in let b = f.empty i e in let c = once i in absurd (grind (arith, nat_tests, a, b, c, l))
 
 module _ {J D F : Type 0} (allows : J → Result D F → Type 0) (value : J → D) (only : (job : J) (d : D) → allows job (Ok d) → d ≡ value job) where
-  -- where a job may answer only its value, the values are those of the jobs, in order
+  -- if each job may give only its value, the values are those of the jobs, in order
   pub values_are : (jobs : List J) (ds : List D) → Answered allows jobs ds → ds ≡ map value jobs
   values_are [] [] a = refl
   values_are [] (d ∷ ds) a = let l = a.0 in absurd (omega arith)
@@ -230,7 +230,7 @@ module _ {J D F : Type 0} (allows : J → Result D F → Type 0) where
   pub values_stand : (jobs : List J) (ds : List D) → Answered allows jobs ds → AreValues allows jobs ds
   values_stand jobs ds a = λ value only. values_are allows value only jobs ds a
 
-  -- the fault that the places show
+  -- the fault that the places have
   pub least_among : (jobs : List J) (slots : List (Option (Result D F))) (came : List ℕ) (fault : GangFault F) → Filled allows jobs slots came → IsFaultAmong slots fault → IsLeast allows jobs fault
   least_among jobs slots came OutOfMemory f among = tt
   least_among jobs slots came (Job number fault) f among =

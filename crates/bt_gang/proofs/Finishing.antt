@@ -1,4 +1,4 @@
--- What the answers of all workers are, once all passes that can be had came back.
+-- The answers of all workers, after all passes of started workers came back.
 use Rattle.std.proofs.Common.{◌≡◌, ℕ, suc, ◌+◌, ◌<◌, ◌≤◌, List, [], ◌∷◌, ◌++◌, All, length, length-append, map, get_or, replicate, Option, None, IfSome, IsSome, Result, sym, ap, ◌∙◌, subst, refl, arith}
 use Rattle.std.proofs.lemmas.List.{length-map, length-replicate}
 use Rattle.crossbeam_queue.specs.Passes.{view}
@@ -67,7 +67,7 @@ module _ {J D F : Type 0} (allows : J → Result D F → Type 0) where
         last = last;
       }
 
--- in places that were empty, first come the caller's answers, and then those of the others
+-- in places that were empty, the caller's answers come first, and then those of the others
 module _ {J D F : Type 0} (allows : J → Result D F → Type 0) (all : List J) (own rest : List (Answer D F)) (may : AllMay allows all (own ++ rest)) (empty : List (Option (Result D F))) (none : empty ≡ replicate (length all) None) where
   all_below : (slots : List (Option (Result D F))) → length slots ≡ length empty → AllBelow (length slots) (own ++ rest)
   all_below slots e = below_all allows all (length slots) (own ++ rest) (e ∙ (ap length none ∙ length-replicate (length all) None)) may
@@ -98,7 +98,7 @@ module _ {J D F : Type 0} (allows : J → Result D F → Type 0) (all : List J) 
   pub most_come : (x : ℕ) → occurrences x (numbered (own ++ concatenation (map answers_in outs))) ≤ once_below x (length all)
   most_come x = let a = (come.last x).0 in let b = ap (occurrences x) numbers_come in let c = ap (once_below x) jobs_come in omega arith
 
-  -- where each worker came back, so did each number
+  -- if each worker came back, so did each number
   each_come : All IsSome outs → (x : ℕ) → occurrences x (numbered (own ++ concatenation (map answers_in outs))) ≡ once_below x (length all)
   each_come some x =
       let full : length v.lists ≡ MOST_WORKERS =
@@ -109,7 +109,7 @@ module _ {J D F : Type 0} (allows : J → Result D F → Type 0) (all : List J) 
       omega arith) in
       ap (occurrences x) numbers_come ∙ ((come.last x).1 full ∙ ap (once_below x) jobs_come)
 
-  -- a place is empty only where a worker did not come back
+  -- a place is empty only if a worker did not come back
   pub memory_wanted : (slots : List (Option (Result D F))) (fault : GangFault F) → Filled allows all slots (numbered (own ++ concatenation (map answers_in outs)))
       → IsFaultAmong slots fault → fault ≡ OutOfMemory → ¬ (All IsSome outs)
   memory_wanted slots fault f among wanted some =
@@ -117,7 +117,7 @@ module _ {J D F : Type 0} (allows : J → Result D F → Type 0) (all : List J) 
       none_empty allows all slots (numbered (own ++ concatenation (map answers_in outs))) f (each_come some) empty.0 empty.1
 
   module _ (vs : List (List ℕ)) (lists : vs ≡ numbered own ∷ map numbers_in outs) where
-    -- one that was not started has an empty list
+    -- a worker that was not started has an empty list
     pub are_empty : AreEmptyWhereAbsent outs vs
     are_empty place absent = ap (λ ls. get_or ls (suc place) []) lists ∙ no_numbers_back outs place absent
 
@@ -134,7 +134,7 @@ module _ {J D F : Type 0} (allows : J → Result D F → Type 0) (all : List J) 
           ap (λ ls. occurrences x (concatenation ls)) lists
           ∙ (ap (occurrences x) ((λ i. numbered own ++ sym (numbers_joined outs) i) ∙ sym (numbered-append own (concatenation (map answers_in outs)))) ∙ came_once x)
 
-      -- the board that the last pop showed
+      -- the board that the last pop shows
       pub all_taken : AreAllTaken (length all) vs
       all_taken =
           let one : ℕ → ℕ = λ _. 1 in
@@ -156,7 +156,7 @@ module _ {J D F : Type 0} (allows : J → Result D F → Type 0) (all : List J) 
           }
 
 module _ {D F : Type 0} where
-  -- the caller's list, and then those of the others
+  -- the caller's list, then those of the others
   pub lists_placed : (own : List (Answer D F)) (outs : List (Option (Answers D F))) (ws was vs : List (List ℕ)) (x : List ℕ)
       → was ≡ [] → vs ≡ was ++ x ∷ [] → x ≡ numbered own → ws ≡ vs ++ map numbers_in outs → ws ≡ numbered own ∷ map numbers_in outs
   lists_placed own outs ws was vs x none e f k = k ∙ ap (λ l. l ++ map numbers_in outs) (lists-more was vs x (numbered own) e f ∙ ap (λ l. l ++ numbered own ∷ []) none)

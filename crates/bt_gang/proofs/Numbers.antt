@@ -25,13 +25,13 @@ module _ {X : Type 0} (f : X → ℕ) where
   sum_over-set_or (x ∷ xs) zero w d l = omega arith
   sum_over-set_or (x ∷ xs) (suc i) w d l = let e = sum_over-set_or xs i w d (omega arith) in omega arith
 
-  -- one item adds at most the whole
+  -- one item adds at most the whole sum
   pub sum_over-one : (xs : List X) (i : ℕ) (v : X) → get_elem? xs i ≡ some v → f v ≤ sum_over f xs
   sum_over-one [] i v at = absurd (some-ne-none v (sym at))
   sum_over-one (x ∷ xs) zero v at = let e : f x ≡ f v = ap f (some-injective x v at) in omega arith
   sum_over-one (x ∷ xs) (suc i) v at = let e = sum_over-one xs i v at in omega arith
 
-  -- so do two items at different places
+  -- two items at different places also do
   pub sum_over-two : (xs : List X) (i j : ℕ) (v u : X) → get_elem? xs i ≡ some v → get_elem? xs j ≡ some u → j ≢ i → f v + f u ≤ sum_over f xs
   sum_over-two [] i j v u at at' ne = absurd (some-ne-none v (sym at))
   sum_over-two (a ∷ xs) zero zero v u at at' ne = absurd (ne refl)
@@ -56,7 +56,7 @@ pub length-below : (n : ℕ) → length (below n) ≡ n
 length-below zero = refl
 length-below (suc n) = omega (arith, length-append (below n) (n ∷ []), length-below n)
 
--- a number stands among those below n once, if it is one of them
+-- a number is among those below n once, if it is below n
 pub occurrences-below : (x n : ℕ) → occurrences x (below n) ≡ once_below x n
 occurrences-below x zero = grind (arith, nat_tests)
 occurrences-below x (suc n) = let e = occurrences-below x n in let f = sum_over-append (is_it x) (below n) (n ∷ []) in grind (arith, nat_tests, e, f)
@@ -98,7 +98,7 @@ once_itself x = grind (arith, nat_tests)
 pub not_another : (x y : ℕ) → y ≢ x → is_it x y ≡ 0
 not_another x y ne = grind (arith, nat_tests, ne)
 
--- a number that stands in a list, and the others
+-- a number in a list, and the other numbers
 pub taken_out : (x : ℕ) (ys : List ℕ) → 0 < occurrences x ys → (others : List ℕ) × ((h : ℕ → ℕ) → sum_over h ys ≡ h x + sum_over h others)
 taken_out x [] l = absurd (omega arith)
 taken_out x (y ∷ ys) l = dite (ℕ_discrete y x)
@@ -108,7 +108,7 @@ taken_out x (y ∷ ys) l = dite (ℕ_discrete y x)
     let r = taken_out x ys (omega arith) in
     (y ∷ r.0, λ h. let e = r.1 h in omega arith))
 
--- where no number stands more often in a list than in another, the other has the same numbers, and these besides
+-- if no number is more often in one list than in another, the other has the same numbers and some more
 pub besides : (xs ys : List ℕ) → ((x : ℕ) → occurrences x xs ≤ occurrences x ys) → (others : List ℕ) × ((h : ℕ → ℕ) → sum_over h xs + sum_over h others ≡ sum_over h ys)
 besides [] ys most = (ys, λ h. omega arith)
 besides (x ∷ xs) ys most =
@@ -116,7 +116,7 @@ besides (x ∷ xs) ys most =
     let s = besides xs r.0 (λ y. let l = most y in let e = r.1 (is_it y) in omega arith) in
     (s.0, λ h. let e = r.1 h in let f = s.1 h in omega arith)
 
--- where each number stands as often in a list as in another, they weigh the same
+-- if each number is as often in one list as in another, their sums are equal for any weights
 pub same_sums : (xs ys : List ℕ) → ((x : ℕ) → occurrences x xs ≡ occurrences x ys) → (h : ℕ → ℕ) → sum_over h xs ≡ sum_over h ys
 same_sums xs ys same h =
     let a = (besides xs ys (λ x. let e = same x in omega arith)).1 h in

@@ -1,4 +1,4 @@
--- One piece more behind others.
+-- One more piece after others.
 use Rattle.std.proofs.Common.{◌≡◌, ℕ, ◌+◌, ◌-◌, ◌≤◌, List, [], ◌∷◌, ◌++◌, length, length-append, append_assoc, append-nil, take, drop, take-append-drop, sym, ap, ◌∙◌, subst, arith}
 use Rattle.std.specs.List.{flat_map}
 use Rattle.std.proofs.lemmas.Grind.{flat_map-append}
@@ -23,7 +23,7 @@ module _ {X : Type 0} where
     row_more row e f = subst (AreInRow 0) (sym more_is) (row_snoc 0 pieces piece row (omega (arith, f, e)))
 
     module _ (ordered : start ≤ end) (items_are : piece.items.now ≡ take (end - start) (drop start all)) (so_far : items_of pieces ++ drop start all ≡ all) where
-      -- what is left behind the items of the piece stands behind the pieces and it
+      -- the rest after the items of the piece is what follows the pieces and the piece
       pub items_left : items_of more ++ drop end all ≡ all
       items_left =
           let ends : start + (end - start) ≡ end = omega (arith, ordered) in
@@ -38,6 +38,6 @@ module _ {X : Type 0} where
       pub all_items : end ≡ length all → items_of more ≡ all
       all_items e = sym (append-nil (items_of more)) ∙ ap (λ xs. items_of more ++ xs) (sym (drop_all end all (omega (arith, e)))) ∙ items_left
 
-      -- as many items stand before the next piece
+      -- the number of items before the next piece
       pub next_start : end ≤ length all → end ≡ length (items_of more)
       next_start within = let l = ap length items_left in let m = length-append (items_of more) (drop end all) in let n = length-drop end all in omega (arith, l, m, n, within)

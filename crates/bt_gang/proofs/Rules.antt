@@ -30,7 +30,7 @@ nowhere_here x y k e same = grind (arith, nat_tests, e, same)
 pub below_once : (x n : ℕ) → 1 ≤ once_below x n → x < n
 below_once x n l = grind (arith, nat_tests, l)
 
--- what one worker took besides stays out of the lists of the others
+-- what one worker took in addition is not in the lists of the others
 taken_else : (taken : List (List ℕ)) (w : ℕ) (new : List ℕ) (ls : List TakenList) → occurrences w (workers_of ls) ≡ 0 → AreOwnLists taken ls → AreOwnLists (set taken w new) ls
 taken_else taken w new [] none are = tt
 taken_else taken w new (l ∷ ls) none are = (
@@ -69,7 +69,7 @@ workers-append : (h : ℕ → ℕ) (xs ys : List TakenList) → sum_over h (work
 workers-append h [] ys = omega arith
 workers-append h (x ∷ xs) ys = omega (arith, workers-append h xs ys)
 
--- the numbers of some lists weigh what their workers took
+-- the numbers of some lists have the same weight as what their workers took
 weigh_lists : (h : ℕ → ℕ) (taken : List (List ℕ)) (ls : List TakenList) → AreOwnLists taken ls → sum_over h (numbers_of ls) ≡ sum_over (λ w. sum_over h (get_or taken w [])) (workers_of ls)
 weigh_lists h taken [] are = refl
 weigh_lists h taken (l ∷ ls) are =
@@ -105,7 +105,7 @@ module _ {J : Type 0} where
   weigh_workers : (h : ℕ → ℕ) (views : List (Known J)) → sum_over h (concatenation (map (λ (v : Known J). workers_of v.lists) views)) ≡ sum_over (λ (v : Known J). sum_over h (workers_of v.lists)) views
   weigh_workers h views = sum_over-concatenation h (map (λ (v : Known J). workers_of v.lists) views) ∙ sum_over-map (λ l. sum_over h l) (λ (v : Known J). workers_of v.lists) views
 
-  -- what a pass learns: of the jobs that it knows, each is in one of its lists, in the queue, or in a list that it has not
+  -- what a pass learns: each job that it knows is in one of its lists, in the queue, or in a list that it does not have
   pub weighed : (n : ℕ) (v : Known J) (left : List ℕ) (b : IsBoardOf n v left)
       → (others : List ℕ) × ((h : ℕ → ℕ) → sum_over h (workers_of v.lists) + sum_over h others ≡ sum_over h (below n))
       × ((h : ℕ → ℕ) → sum_over h (numbers_of v.lists) + sum_over (λ w. sum_over h (get_or b.board.taken w [])) others + sum_over h left ≡ sum_over h (below (length v.jobs)))
@@ -144,7 +144,7 @@ module _ {J P : Type 0} where
     know = each_one (λ v. HasList v → v.jobs ≡ []) (known [] (no_lists n)) (λ _. refl);
   }
 
-  -- however the workers are weighed
+  -- each worker's list is in one pass, stated as a sum for any weights of the workers
   apart_weighed : (n : ℕ) (items : List (NumberedJob J P)) (views : List (Known J)) → IsBoard n items views → (h : ℕ → ℕ) → sum_over (λ (v : Known J). sum_over h (workers_of v.lists)) views ≡ sum_over h (below n)
   apart_weighed n items views b h =
       sym (weigh_workers h views)
@@ -257,7 +257,7 @@ module _ {J P : Type 0} where
   pops n port v [] is some_list = absurd (let e = ap length is in omega arith)
   pops n port v (l ∷ rest) is some_list = subst (λ ls. Pops (IsBoard {J = J} {P = P} n) port (known v.jobs ls) (Popped (known v.jobs ls))) (sym is) (pops_from n port v.jobs l rest)
 
-  -- the same board, where the lists are in other passes
+  -- the board is the same if the lists are moved between passes
   same_board : (n : ℕ) (items : List (NumberedJob J P)) (views new : List (Known J)) (b : IsBoard {J = J} {P = P} n items views) → EachPass (λ u. AreOwnLists b.board.taken u.lists) new
       → ((worker : ℕ) → sum_over (λ (u : Known J). occurrences worker (workers_of u.lists)) new ≡ once_below worker n) → EachPass (λ u. HasList u → u.jobs ≡ b.jobs) new → IsBoard {J = J} {P = P} n items new
   same_board n items views new b taken apart know = record {

@@ -1,4 +1,4 @@
--- What one more job adds to the list of a pass and to the answers.
+-- One more job in the list of a pass and in the answers.
 use Rattle.std.proofs.Common.{◌≡◌, ℕ, zero, suc, ◌+◌, ◌<◌, ◌≤◌, List, [], ◌∷◌, ◌++◌, All, length, length-append, map, get_or, Option, Some, None, Result, sym, refl, ap, ◌∙◌, subst, append_assoc, append-nil, arith}
 use Rattle.std.proofs.lemmas.List.{map-append, length-map, nil_from_length}
 use mathlib.Core.Option.{some, some-injective}
@@ -115,7 +115,7 @@ none_taken [] h = refl
 none_taken (w ∷ ws) h = none_taken ws h
 
 module _ {J : Type 0} where
-  -- where a pass has the lists of all workers, each job is in one of them or in the queue
+  -- if a pass has the lists of all workers, each job is in one of them or in the queue
   all_weighed : (n : ℕ) (v : Known J) (left : List ℕ) → IsBoardOf n v left → length v.lists ≡ n → (h : ℕ → ℕ) → sum_over h (numbers_of v.lists) + sum_over h left ≡ sum_over h (below (length v.jobs))
   all_weighed n v left b all h =
       let r = weighed n v left b in
@@ -145,7 +145,7 @@ module _ {J P : Type 0} where
   pub nothing_waits : (n : ℕ) (v w : Known J) → w ≡ v → (items : List (NumberedJob J P)) × (length items ≡ 0) × IsBoardOf n v (queued items) → IsBoardOf n w []
   nothing_waits n v w e (items, none, b) = subst (λ u. IsBoardOf n u []) (sym e) (subst (λ left. IsBoardOf n v (queued left)) (nil_from_length items none) b)
 
-  -- a queue that has as many places as jobs is not full before the last
+  -- a queue with as many places as jobs is not full before the last job
   pub never_full : (n : ℕ) (v : Known J) (jobs : List J) (places : ℕ) → v ≡ known jobs (no_lists n) → (items : List (NumberedJob J P)) × (length items ≡ places) × IsBoardOf n v (queued items) → places ≡ length jobs
   never_full n v jobs places e (items, full, b) =
       let one : ℕ → ℕ = λ _. 1 in

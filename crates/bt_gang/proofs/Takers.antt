@@ -124,7 +124,7 @@ hand_reached put w job takers handed handed' held held' r l holds e f =
     subst (λ n. IsReached n (kept_state put takers held' handed')) (sym workers)
     (Hand w ∷ r.0, (kept_state put takers held handed, r.1, (job, l, holds, kept_hand put w job takers handed handed' held held' e f)))
 
--- where a job is held, fewer were handed in than were put
+-- if a job is held, fewer jobs were handed in than were put
 pub hand_room : (put w job : ℕ) (takers handed : List ℕ) (held : List (Option ℕ)) → IsReached (length held) (kept_state put takers held handed) → w < length held → get_or held w None ≡ Some job → length handed < put
 hand_room put w job takers handed held r l holds =
     let one : ℕ → ℕ = λ _. 1 in

@@ -33,7 +33,7 @@ list_behind w l ls ne =
     let t : nat_eq l.worker w ≡ false = grind (arith, nat_tests, ne) in
     ap (λ (b : Bool). if b then l.numbers else own_list w ls) t
 
--- a worker's list is what it took, or there is none
+-- a worker's list has what it took, or there is none
 list_taken : (taken : List (List ℕ)) (w : ℕ) (ls : TakenLists) → AreOwnLists taken ls → (get_or taken w [] ≡ own_list w ls) ⊎ ((occurrences w (workers_of ls) ≡ 0) × (own_list w ls ≡ []))
 list_taken taken w [] are = inr (refl, refl)
 list_taken taken w (l ∷ ls) are = dite (ℕ_discrete l.worker w)
@@ -45,7 +45,7 @@ list_taken taken w (l ∷ ls) are = dite (ℕ_discrete l.worker w)
     (λ (x : (occurrences w (workers_of ls) ≡ 0) × (own_list w ls ≡ [])). inr ((let z = x.0 in omega arith), list_behind w l ls ne ∙ x.1))
     (list_taken taken w ls are.1))
 
--- where the lists of a pass have as many numbers as there are jobs, a worker without a list took nothing
+-- if the lists of a pass have as many numbers as there are jobs, a worker without a list took nothing
 pub all_lists : {J : Type 0} (n : ℕ) (v : Known J) (b : IsBoardOf n v []) → length (numbers_of v.lists) ≡ length v.jobs → (w : ℕ) → get_or b.board.taken w [] ≡ own_list w v.lists
 all_lists n v b all w = ⊎_elim
     (λ (e : get_or b.board.taken w [] ≡ own_list w v.lists). e)
@@ -74,7 +74,7 @@ all_lists n v b all w = ⊎_elim
 left_none : (n first : ℕ) → n ≤ first → lists_left n first ≡ []
 left_none n first l = ap (map (λ worker. taken_list worker [])) (drop_all first (below n) (let e = length-below n in omega arith))
 
--- the next worker's list is the first of those that are left
+-- the list of the next worker is the first of those that are left
 pub left_more : (n first : ℕ) → first < n → lists_left n first ≡ taken_list first [] ∷ lists_left n (suc first)
 left_more n first l =
     let one : first + 1 ≡ suc first = omega arith in
@@ -140,7 +140,7 @@ module _ {D F : Type 0} where
   back_more first next (None ∷ outs) out e = back_more (suc first) next outs out (omega arith)
   back_more first next (Some o ∷ outs) out e = ap (λ ls. taken_list first (numbered (present o.list)) ∷ ls) (back_more (suc first) next outs out (omega arith))
 
-  -- the lists of the caller's pass, once it took in those that came back
+  -- the lists of the caller's pass, after it took in those that came back
   pub lists_stand : {J : Type 0} (n k : ℕ) (v : Known J) (own : List ℕ) (outs : List (Option (Answers D F))) → length outs ≡ k → k < n
       → v.lists ≡ taken_list 0 own ∷ (lists_left n (suc k) ++ lists_back 1 outs) → AreListsOf v (own ∷ map numbers_in outs)
   lists_stand n k v own outs len few e zero = ap (own_list 0) (sym e)
@@ -155,7 +155,7 @@ module _ {D F : Type 0} where
       (cases_lt j k)))
 
 module _ {D F : Type 0} where
-  -- where each worker came back, so did each list
+  -- if each worker came back, so did each list
   pub all_back : (first : ℕ) (outs : List (Option (Answers D F))) → All IsSome outs → length (lists_back first outs) ≡ length outs
   all_back first [] all = refl
   all_back first (None ∷ outs) all = let e = All-head IsSome None outs all in absurd (cc)

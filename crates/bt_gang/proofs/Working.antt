@@ -68,7 +68,7 @@ module _ {J D F : Type 0} where
       ∙ ap (λ ls. known before.jobs (before.lists ++ ls)) (sym (ap (lists_back 1) e ∙ back_more 1 number outs out n)))
 
 module _ {J D F : Type 0} (allows : J → Result D F → Type 0) where
-  -- a worker that had taken nothing has the answers that were added
+  -- a worker that had taken nothing has exactly the answers that were added
   pub served : (jobs : Jobs J D F) (all : List J) (others : TakenLists) (number : ℕ) (old new : Worker J D F) → IsReady jobs all others number old → new.number ≡ old.number → IsPassOf jobs.queue new.pass
       → Gains allows (view old.pass) (view new.pass) old.out new.out → HasServed allows jobs all others number new
   served jobs all others number old new r same p g =
@@ -83,7 +83,7 @@ module _ {J D F : Type 0} (allows : J → Result D F → Type 0) where
   pub ready_spare : (jobs : Jobs J D F) (all : List J) (others : TakenLists) (number : ℕ) (w : Worker J D F) → IsReady jobs all others number w → length (view w.pass).jobs ≤ w.out.spare + length (numbers_of (view w.pass).lists)
   ready_spare jobs all others number w r = let l = ap (λ (y : Known J). length y.jobs) r.knows in let s = r.spare in omega arith
 
-  -- the caller has the answers that were added
+  -- the caller has exactly the answers that were added
   pub served_caller : (jobs : Jobs J D F) (all : List J) (k : ℕ) (old new : Worker J D F) → IsReadyCaller jobs all k old → new.number ≡ old.number → IsPassOf jobs.queue new.pass
       → Gains allows (view old.pass) (view new.pass) old.out new.out → HasServedCaller allows jobs all k new
   served_caller jobs all k old new r same p g = record {
@@ -93,7 +93,7 @@ module _ {J D F : Type 0} (allows : J → Result D F → Type 0) where
   }
 
 module _ {W J D F : Type 0} (allows_of : W → J → Result D F → Type 0) where
-  -- what a promise of this work, these jobs and this worker says
+  -- what a promise about this work, these jobs and this worker says
   pub promised : (work : W) (jobs : Jobs J D F) (all : List J) (number : ℕ) (p : GivesBack W J D F) (w : Worker J D F)
       → IsPromise work jobs all number p → HasServed (allows_of p.work.value) p.jobs.value p.all.value.value.items [] p.number w → HasServed (allows_of work) jobs all [] number w
   promised work jobs all number p w is h =

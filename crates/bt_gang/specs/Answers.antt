@@ -1,4 +1,4 @@
--- What the answers of some jobs say.
+-- What holds for the answers of jobs.
 use Rattle.std.specs.Prelude.{◌≡◌, ℕ, ◌+◌, ◌≤◌, List, [], ◌∷◌, ◌++◌, length, Result, ⊤}
 use mathlib.Core.Option.{some}
 use lib.ListN.{get_elem?}
@@ -10,7 +10,7 @@ use Rattle.bt_gang.specs.Numbers.{occurrences, once_below}
 use Rattle.bt_gang.specs.Queue.{gained, numbers_of, HasAll}
 
 module _ {J D F : Type 0} (allows : J → Result D F → Type 0) where
-  -- the job of this number may answer so
+  -- the job of this number may give this answer
   abbrev pub MayAnswer : List J → ℕ → Result D F → Type 0
   MayAnswer jobs number value = (job : J) × (get_elem? jobs number ≡ some job) × allows job value
 
@@ -18,7 +18,8 @@ module _ {J D F : Type 0} (allows : J → Result D F → Type 0) where
   AllMay jobs [] = ⊤
   AllMay jobs (a ∷ rest) = MayAnswer jobs a.number a.value × AllMay jobs rest
 
-  -- the answers gained just the numbers that the list of the pass gained, in that order, each with an answer that its job may give; the spare room fell by one with each
+  -- the answers and the list of the pass grew by the same numbers, in the same order; each has an answer that its job may give, and took one
+  -- spare place
   pub record Gains (before after : Known J) (old new : Answers D F) : Type 0 where
     pub added : List (Answer D F)
     pub list : present new.list ≡ present old.list ++ added
@@ -27,7 +28,7 @@ module _ {J D F : Type 0} (allows : J → Result D F → Type 0) where
     pub spare : new.spare + length added ≡ old.spare
 
 module _ {J : Type 0} where
-  -- the last pop found nothing: the lists of the pass have no job twice, and where it has all lists they have each job
+  -- the last pop found nothing: no job is twice in the lists of the pass, and if the pass has all lists, they have each job
   abbrev pub FoundNothing : Known J → Type 0
   FoundNothing v =
       (job : ℕ)

@@ -5,11 +5,11 @@ use Rattle.std.specs.Prelude.{ℕ, ◌≤◌}
 abbrev pub largest_crew : ℕ
 largest_crew = 64
 
--- the deepest cut of a tree into jobs
+-- the largest depth at which a tree is cut into jobs
 abbrev pub deepest_cut : ℕ
 deepest_cut = 6
 
--- the largest packet that may be worked without jobs
+-- the largest grain of a crew
 abbrev pub largest_grain : ℕ
 largest_grain = 65536
 

@@ -6,7 +6,7 @@ use Rattle.bt_gang.specs.declared.answers.Answer.{Answer}
 abbrev pub numbered : {D F : Type 0} → List (Answer D F) → List ℕ
 numbered {D} {F} answers = map (λ (a : Answer D F). a.number) answers
 
--- the answers at these places, without the places at which there is none
+-- the answers at these places, without the empty places
 abbrev pub present : {D F : Type 0} → List (Option (Answer D F)) → List (Answer D F)
 present [] = []
 present (None ∷ rest) = present rest

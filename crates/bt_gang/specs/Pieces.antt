@@ -1,8 +1,8 @@
--- Pieces of a list, one behind the other.
+-- Pieces of a list, one after the other.
 use Rattle.std.specs.Prelude.{◌≡◌, ℕ, ◌+◌, ◌≤◌, List, [], ◌∷◌, length, ⊤}
 use Rattle.bt_gang.specs.declared.piece.Piece.{Piece}
 
--- the first of the pieces stands behind this many items, and each other behind those of the pieces before it too
+-- the first piece comes after this many items, and each other piece also after those of the pieces before it
 abbrev pub AreInRow : {T : Type 0} → ℕ → List (Piece T) → Type 0
 AreInRow before [] = ⊤
 AreInRow before (p ∷ ps) = (p.before ≡ before) × AreInRow (before + length p.items.now) ps

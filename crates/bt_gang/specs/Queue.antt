@@ -1,4 +1,4 @@
--- The rule of the queue: what waits in it and what the passes took is a state of the board.
+-- The rule of the queue: the jobs that wait in it and those that the passes took are a state of the board.
 use Rattle.std.specs.Prelude.{◌≡◌, ℕ, ◌<◌, ◌≤◌, List, [], ◌∷◌, ◌++◌, length, map, get_or, ⊤}
 use mathlib.Core.Option.{some}
 use lib.ListN.{get_elem?}
@@ -13,11 +13,11 @@ use Rattle.bt_gang.specs.declared.crew.TheConstants.{MOST_WORKERS}
 abbrev pub taken_list : ℕ → List ℕ → TakenList
 taken_list worker numbers = record { worker = worker; numbers = numbers }
 
--- the lists of this many workers that took nothing
+-- the lists of this many workers, which took nothing
 abbrev pub no_lists : ℕ → List TakenList
 no_lists workers = map (λ worker. taken_list worker []) (below workers)
 
--- the lists after the first grew by these numbers
+-- the lists after these numbers were added to the first of them
 abbrev pub grown : List ℕ → List TakenList → List TakenList
 grown more [] = []
 grown more (l ∷ ls) = taken_list l.worker (l.numbers ++ more) ∷ ls
@@ -34,7 +34,7 @@ lists_kept [] = []
 lists_kept (a ∷ []) = a ∷ []
 lists_kept (a ∷ b ∷ ls) = a ∷ ls
 
--- whose lists they are
+-- the workers whose lists these are
 abbrev pub workers_of : List TakenList → List ℕ
 workers_of ls = map (λ (l : TakenList). l.worker) ls
 
@@ -42,7 +42,7 @@ workers_of ls = map (λ (l : TakenList). l.worker) ls
 abbrev pub numbers_of : List TakenList → List ℕ
 numbers_of ls = concatenation (map (λ (l : TakenList). l.numbers) ls)
 
--- each list is the one of its worker, of these that the workers took
+-- each list has what its worker took
 abbrev pub AreOwnLists : List (List ℕ) → List TakenList → Type 0
 AreOwnLists taken [] = ⊤
 AreOwnLists taken (l ∷ ls) = (get_or taken l.worker [] ≡ l.numbers) × AreOwnLists taken ls
@@ -51,23 +51,24 @@ module _ {J : Type 0} where
   abbrev pub known : List J → List TakenList → Known J
   known jobs lists = record { jobs = jobs; lists = lists }
 
-  -- the pass took these numbers too
+  -- the pass also took these numbers
   abbrev pub gained : Known J → List ℕ → Known J
   gained v more = known v.jobs (grown more v.lists)
 
-  -- it has a list, so it belongs to a worker
+  -- the pass has a list, so it belongs to a worker
   abbrev pub HasList : Known J → Type 0
   HasList v = 0 < length v.lists
 
-  -- it has the lists of all workers
+  -- the pass has the lists of all workers
   abbrev pub HasAll : Known J → Type 0
   HasAll v = length v.lists ≡ MOST_WORKERS
 
-  -- P of what each pass knows
+  -- P holds for what each pass knows
   abbrev pub EachPass : (Known J → Type 0) → List (Known J) → Type 0
   EachPass P views = (port : ℕ) (v : Known J) → get_elem? views port ≡ some v → P v
 
-  -- what one pass learns of the board: a run leads to a state in which as many jobs were put as the pass knows, those of these numbers wait, and each list of the pass is what its worker took; no worker has two lists in the pass
+  -- what one pass learns of the board: a run leads to a state in which as many jobs were put as the pass knows, and these numbers wait;
+  -- each list of the pass has what its worker took; no worker has two lists in the pass
   pub record IsBoardOf (workers : ℕ) (v : Known J) (left : List ℕ) : Type 0 where
     pub board : State
     pub reached : IsReached workers board
@@ -76,22 +77,23 @@ module _ {J : Type 0} where
     pub taken : AreOwnLists board.taken v.lists
     pub apart : (worker : ℕ) → occurrences worker (workers_of v.lists) ≤ once_below worker workers
 
-  -- the board of a pass, with no job waiting
+  -- the board that a pass knows, with no job waiting
   abbrev pub NothingWaits : Known J → Type 0
   NothingWaits v = IsBoardOf MOST_WORKERS v []
 
--- jobs with their numbers, and with room of some kind, of which the rule says nothing
+-- jobs with their numbers, and with room of any type, which the rule does not depend on
 module _ {J P : Type 0} where
   -- the numbers of the jobs in the queue
   abbrev pub queued : List (NumberedJob J P) → List ℕ
   queued items = map (λ (item : NumberedJob J P). item.number) items
 
-  -- each job in the queue is the one of its number
+  -- each job in the queue is the job of its number
   abbrev pub Stand : List J → List (NumberedJob J P) → Type 0
   Stand jobs [] = ⊤
   Stand jobs (item ∷ items) = (get_elem? jobs item.number ≡ some item.job) × Stand jobs items
 
-  -- a run of the board leads to a state with these queued jobs and taken lists; each worker's list is in one pass, once; and a pass with a list knows the jobs
+  -- a run of the board leads to a state with these queued jobs and taken lists; each worker's list is in one pass, once; a pass that has a
+  -- list knows the jobs
   pub record IsBoard (workers : ℕ) (items : List (NumberedJob J P)) (views : List (Known J)) : Type 0 where
     pub jobs : List J
     pub board : State
@@ -106,10 +108,10 @@ module _ {J P : Type 0} where
   abbrev pub IsQueue : List (NumberedJob J P) → List (Known J) → Type 0
   IsQueue items views = IsBoard MOST_WORKERS items views
 
-  -- the job joined at the back
+  -- the job was added at the end
   abbrev pub Pushed : Known J → NumberedJob J P → Known J → Type 0
   Pushed v item w = w ≡ known (v.jobs ++ item.job ∷ []) v.lists
 
-  -- the pass took the item, which is the job of its number; there were jobs that its lists had not
+  -- the pass took the item, which is the job of its number; there were jobs that its lists did not have
   abbrev pub Popped : Known J → NumberedJob J P → Known J → Type 0
   Popped v item w = (w ≡ gained v (item.number ∷ [])) × (get_elem? v.jobs item.number ≡ some item.job) × (length (numbers_of v.lists) < length v.jobs)

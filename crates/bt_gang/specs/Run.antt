@@ -1,4 +1,4 @@
--- What a run of all jobs promises.
+-- What a run of all jobs guarantees.
 use Rattle.std.specs.Prelude.{◌≡◌, ℕ, ◌<◌, List, [], length, map, get_or, Result, Ok, Err}
 use mathlib.Core.Option.{some}
 use lib.ListN.{get_elem?}
@@ -10,11 +10,11 @@ use Rattle.bt_gang.specs.Board.{State, IsReached}
 use Rattle.bt_gang.specs.declared.crew.TheConstants.{MOST_WORKERS}
 use Rattle.bt_gang.specs.Answers.{MayAnswer}
 
--- each number below n stands in one of the lists, once, and no other does
+-- each number below n is in exactly one of the lists, once, and no other number is
 abbrev pub EachOnce : ℕ → List (List ℕ) → Type 0
 EachOnce n lists = (number : ℕ) → occurrences number (concatenation lists) ≡ once_below number n
 
--- a run of the board leads to a state in which so many jobs were put, none of them waits, and each worker took its list; one that has no list took nothing
+-- a run of the board leads to a state in which this many jobs were put and none of them waits; each worker took its list, or nothing if it has no list
 pub record AreAllTaken (n : ℕ) (lists : List (List ℕ)) : Type 0 where
   pub board : State
   pub reached : IsReached MOST_WORKERS board
@@ -23,11 +23,11 @@ pub record AreAllTaken (n : ℕ) (lists : List (List ℕ)) : Type 0 where
   pub taken : (worker : ℕ) → get_or board.taken worker [] ≡ get_or lists worker []
 
 module _ {J D F : Type 0} (allows : J → Result D F → Type 0) where
-  -- at each number there is a value that its job may answer
+  -- at each number there is a value that its job may give
   abbrev pub Answered : List J → List D → Type 0
   Answered jobs done = (length done ≡ length jobs) × ((number : ℕ) (d : D) → get_elem? done number ≡ some d → MayAnswer allows jobs number (Ok d))
 
-  -- where a job may answer one value only, these are the values of the jobs, in order
+  -- if each job may give only one value, these are the values of the jobs, in order
   abbrev pub AreValues : List J → List D → Type 0
   AreValues jobs done = (value : J → D) → ((job : J) (d : D) → allows job (Ok d) → d ≡ value job) → done ≡ map value jobs
 
@@ -35,7 +35,7 @@ module _ {J D F : Type 0} (allows : J → Result D F → Type 0) where
   abbrev pub HasAnswers : List J → Type 0
   HasAnswers jobs = (number : ℕ) → number < length jobs → (value : Result D F) × MayAnswer allows jobs number value
 
-  -- the job may answer this fault, each job of a lower number may answer a value, and for each other there is an answer that it may give
+  -- the job may give this fault, each job with a smaller number may give a value, and for each job there is an answer that it may give
   abbrev pub IsLeast : List J → GangFault F → Type 0
   IsLeast jobs = elim [
     | OutOfMemory ↦ Unit

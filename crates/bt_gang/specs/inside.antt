@@ -1,4 +1,4 @@
--- Definitions that only private clauses cite: how the board is kept, what workers have, one by one and together, and the places of answers.
+-- Definitions that only private clauses cite: how the board is stored, what workers have, alone and together, and the places of answers.
 pub mod Takers
 pub mod Workers
 pub mod Places

@@ -5,15 +5,15 @@ ghost use Rattle.bt_gang.specs.Numbered.{numbered, present};
 use std::alloc::{AllocError, Global};
 use std::collections::LinkedList;
 
-/// The answer of a job, with the job's number.
+/// The result of a job, with the job's number.
 #[derive(Drop)]
 pub struct Answer<D, F> {
     pub number: usize,
     pub value: Result<D, F>,
 }
 
-/// Room for the answer of one job, and for its number once more. It goes with the job, and then into the list of the worker that ran it: so a run asks for
-/// room once for each job, however many workers there are.
+/// Room for the answer of one job, with a second list for its number. The room stays with its job, and then joins the list of the
+/// worker that ran the job. A run therefore allocates it once for each job, for any number of workers.
 #[derive(Drop)]
 pub struct AnswerRoom<D, F> {
     answer: LinkedList<Option<Answer<D, F>>>,
@@ -33,7 +33,7 @@ fn list_of_one<T: Drop>(alloc: Global, value: T) -> Result<LinkedList<T>, AllocE
     }
 }
 
-// Puts a value in place of the only one.
+// Replaces the only value of a list.
 fn put_first<T: Drop>(list: &mut LinkedList<T>, value: T)
     requires { length list.old ≡ 1 }
     ensures { list.new ≡ value ∷ [] }
@@ -57,7 +57,7 @@ fn join<T: Drop>(list: &mut LinkedList<T>, more: LinkedList<T>)
 }
 
 impl<D: Drop, F: Drop> AnswerRoom<D, F> {
-    // Room in which nothing stands.
+    // Room without an answer.
     fn new(alloc: Global) -> Result<AnswerRoom<D, F>, AllocError> {
         let answer = list_of_one(alloc, None)?;
         let number = list_of_one(alloc, 0)?;
@@ -65,7 +65,7 @@ impl<D: Drop, F: Drop> AnswerRoom<D, F> {
     }
 }
 
-/// Room for so many answers.
+/// Room for this many answers.
 pub(crate) fn answer_rooms<D: Drop, F: Drop>(
     alloc: Global,
     n: usize,
@@ -79,10 +79,11 @@ pub(crate) fn answer_rooms<D: Drop, F: Drop>(
     Ok(rooms)
 }
 
-/// One more than the most answers of a worker, which is more than any memory holds.
+/// The number of answers of a worker is below this limit. No memory holds that many.
 const LIMIT: usize = 1 << 63;
 
-/// The answers of one worker in the order of its runs, and their numbers once more; `spare` more of each may come, with the room of their jobs.
+/// The answers of one worker, in the order of its runs, and a second list of their numbers. `spare` more answers may be added, each in the
+/// room of its job.
 #[derive(Drop)]
 pub struct Answers<D, F> {
     pub list: LinkedList<Option<Answer<D, F>>>,
@@ -94,7 +95,7 @@ pub struct Answers<D, F> {
 }
 
 impl<D: Drop, F: Drop> Answers<D, F> {
-    /// No answer, and so many to come. It takes no memory, and an `Err` comes of a number alone that no list reaches.
+    /// No answers, with this many to come. It takes no memory. It returns an `Err` only for a number that no list can reach.
     pub fn new(alloc: Global, n: usize) -> Result<Answers<D, F>, AllocError>
         ensures { IfOk result (λ a. (present a.list ≡ []) × (a.spare ≡ n)) }
     {
@@ -108,7 +109,7 @@ impl<D: Drop, F: Drop> Answers<D, F> {
         })
     }
 
-    /// One more answer, at the end, in the room of its job.
+    /// Adds an answer at the end, in the room of its job.
     pub fn add(&mut self, room: AnswerRoom<D, F>, number: usize, value: Result<D, F>)
         requires { 0 < self.old.spare }
         ensures spare { self.new.spare + 1 ≡ self.old.spare }

@@ -1,4 +1,4 @@
-//! The board: numbers of jobs that wait, are held by workers, or were handed in.
+//! The board: the numbers of the jobs that wait, are held by workers, or were handed in.
 ghost use Rattle.std.specs.Prelude.{◌≡◌, ◌≢◌, ◌<◌, [], ◌∷◌, IfNone, IfOk, IfSome, None, Some, length};
 ghost use Rattle.bt_gang.specs.Board.{IsAccounted, after_hand, after_put, after_take, held_job, start};
 
@@ -6,8 +6,8 @@ use crate::empty_places::empty_places;
 use std::alloc::{AllocError, Global};
 use std::marker::Model;
 
-/// Which jobs wait, which one each worker holds, which each took, and which are handed in. The job that was put first is taken
-/// first. No call but `new` takes memory.
+/// Which jobs wait, which one each worker holds, which ones it took, and which ones were handed in. Jobs are taken in the order in which
+/// they were put. Only `new` takes memory.
 #[derive(Drop)]
 pub struct Board {
     jobs: usize,
@@ -33,7 +33,7 @@ impl Model for Board {
 }
 
 impl Board {
-    /// A board of so many workers with room for so many jobs, on which nothing was put.
+    /// A board for this many workers, with room for this many jobs and with none on it.
     pub fn new(alloc: Global, workers: usize, jobs: usize) -> Result<Board, AllocError>
         ensures { IfOk result (λ b. (b.jobs ≡ jobs) × (b.state ≡ start workers)) }
     {
@@ -49,7 +49,7 @@ impl Board {
         })
     }
 
-    /// The next job joins at the back. Gives its number; jobs are numbered from 0.
+    /// Adds the next job at the end, and returns its number. Jobs are numbered from 0.
     pub fn put(&mut self) -> usize
         requires { self.old.state.put < self.old.jobs }
         ensures number { result ≡ self.old.state.put }
@@ -62,7 +62,7 @@ impl Board {
         number
     }
 
-    /// The front goes to a worker that holds no job. `None` only where no job waits.
+    /// Gives the first job that waits to a worker that holds none. Returns `None` only if no job waits.
     pub fn take(&mut self, worker: usize) -> Option<usize>
         requires worker { worker < length self.old.state.held }
         requires free { held_job worker self.old.state ≡ None }
@@ -81,7 +81,7 @@ impl Board {
         Some(front)
     }
 
-    /// The worker hands in the job that it holds. Gives its number.
+    /// Hands in the job that a worker holds, and returns its number.
     pub fn hand(&mut self, worker: usize) -> usize
         requires worker { worker < length self.old.state.held }
         requires holds { held_job worker self.old.state ≢ None }

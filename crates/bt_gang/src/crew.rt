@@ -1,4 +1,4 @@
-//! Who works, and what is called around each job.
+//! Crews: how many workers run jobs, how jobs are cut, and what is called around each job.
 ghost use Rattle.std.specs.Prelude.{◌≡◌, ◌<◌, IfErr, IfOk, max, min};
 ghost use Rattle.bt_value.specs.declared.refusal.Refusal.TheVariants.{BadCrew};
 ghost use Rattle.bt_gang.specs.Crews.{IsCrew};
@@ -7,12 +7,12 @@ use bt_value::Refusal;
 
 /// The most workers of a crew.
 pub const MOST_WORKERS: usize = 64;
-/// The deepest cut of a tree into jobs.
+/// The largest depth at which a tree is cut into jobs.
 pub const DEEPEST_CUT: usize = 6;
-/// The largest packet that may be worked without jobs.
+/// The largest grain of a crew.
 pub const LARGEST_GRAIN: usize = 65_536;
 
-/// What a worker calls before and after it runs a job, with the job's number. No lock is held meanwhile.
+/// What a worker calls before and after it runs a job, with the job's number. The worker holds no lock during the calls.
 pub trait Gate {
     fn enter(&self, job: usize);
 
@@ -39,7 +39,7 @@ impl<G: Gate> Gate for &G {
     }
 }
 
-// Any gate that workers may share, where one type has to stand for all of them.
+// Any gate that workers may share, for callers that need one type for all gates.
 impl Gate for &(dyn Gate + Sync) {
     fn enter(&self, job: usize) {
         (**self).enter(job);
@@ -50,8 +50,8 @@ impl Gate for &(dyn Gate + Sync) {
     }
 }
 
-/// How many workers there are, of which the caller is one; at which depth trees are cut into jobs; and from how many messages
-/// on a packet is worked by jobs.
+/// The number of workers, including the caller; the depth at which trees are cut into jobs (`cut`); the smallest number of messages
+/// for which a packet is cut into jobs (`grain`); and what is called around each job.
 #[derive(Drop)]
 pub struct Crew<G> {
     pub workers: usize,
@@ -62,7 +62,7 @@ pub struct Crew<G> {
 }
 
 impl<G: Drop> Crew<G> {
-    /// 1 to 64 workers, a cut of 1 to 6 and a grain of 1 to 65,536, else `BadCrew`.
+    /// A crew of 1 to 64 workers, with a cut of 1 to 6 and a grain of 1 to 65,536, or `BadCrew`.
     pub fn new(workers: usize, cut: usize, grain: usize, gate: G) -> Result<Crew<G>, Refusal>
         ensures ok { IfOk result (λ crew. (crew.workers ≡ workers) × (crew.cut ≡ cut) × (crew.grain ≡ grain) × (crew.gate ≡ gate)) }
         ensures refused { IfErr result (λ e. (e ≡ BadCrew) × ¬ (IsCrew workers cut grain)) }
@@ -83,7 +83,7 @@ impl<G: Drop> Crew<G> {
 }
 
 impl<G> Crew<G> {
-    /// The same workers, cut and grain, without the gate: for jobs that are no subtrees, which a gate does not see.
+    /// The same workers, cut and grain, without the gate. It is for jobs that are not subtrees, which a gate does not see.
     pub fn without_gate(&self) -> Crew<NoGate>
         ensures sizes { (result.workers ≡ self.now.workers) × (result.cut ≡ self.now.cut) × (result.grain ≡ self.now.grain) }
     {
@@ -95,7 +95,7 @@ impl<G> Crew<G> {
         }
     }
 
-    /// The same cut, grain and gate, and at most so many workers, but at least one.
+    /// The same cut, grain and gate, with at most this many workers and at least one.
     pub fn with_at_most(&self, workers: usize) -> Crew<&G>
         ensures workers { result.workers ≡ max 1 (min self.now.workers workers) }
         ensures sizes { (result.cut ≡ self.now.cut) × (result.grain ≡ self.now.grain) }

@@ -3,7 +3,7 @@ ghost use Rattle.std.specs.Prelude.{◌≡◌, IfOk, None, replicate};
 
 use std::alloc::{AllocError, Global};
 
-/// So many empty places.
+/// This many empty places.
 pub(crate) fn empty_places<T: Drop>(alloc: Global, n: usize) -> Result<Vec<Option<T>>, AllocError>
     ensures { IfOk result (λ v. v.items ≡ replicate n None) }
 {

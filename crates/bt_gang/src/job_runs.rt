@@ -1,4 +1,4 @@
-//! All jobs of a call, run by a crew.
+//! Running all jobs of a call by a crew.
 ghost use Rattle.std.specs.Prelude.{◌≡◌, ◌+◌, ◌≤◌, [], ◌++◌, ◌∷◌, All, IfErr, IfOk, IsSome, None, length, map, replicate, vec_capacity, vec_len};
 ghost use Rattle.crossbeam_queue.specs.Passes.{view};
 ghost use Rattle.bt_value.specs.Lists.{concatenation};
@@ -25,7 +25,7 @@ use std::snapshot::Snapshot;
 use std::sync::Wait;
 use std::thread::Threads;
 
-/// What a run of all jobs gives: the value of each job, and for each worker, the caller first, the numbers that it took. The
+/// The result of a run: the value of each job, and for each worker, with the caller first, the numbers of the jobs that it took. The
 /// list of a worker that could not be started is empty.
 #[derive(Drop)]
 pub struct Ran<D> {
@@ -33,14 +33,14 @@ pub struct Ran<D> {
     pub taken: Vec<LinkedList<usize>>,
 }
 
-/// Why a run gives no values: room was refused, or jobs faulted, of which the least number is answered.
+/// Why a run returns no values: out of memory, or the fault of a job. If several jobs have a fault, it is that of the smallest number.
 #[derive(Drop)]
 pub enum GangFault<F> {
     OutOfMemory,
     Job { number: usize, fault: F },
 }
 
-// The answers of one worker into their places; of one that was not started there are none.
+// Puts the answers of one worker into their places. A worker that was not started has none.
 fn place_some<D: Drop, F: Drop>(
     alloc: Global,
     out: Option<Answers<D, F>>,
@@ -56,7 +56,7 @@ fn place_some<D: Drop, F: Drop>(
     }
 }
 
-// The answers of all workers into their places, in the order of the workers.
+// Puts the answers of all workers into their places, in the order of the workers.
 fn place_all<D: Drop, F: Drop>(
     alloc: Global,
     outs: Vec<Option<Answers<D, F>>>,
@@ -75,7 +75,7 @@ fn place_all<D: Drop, F: Drop>(
     taken
 }
 
-// The values where each place has one, and else the first fault. Want of memory where a place is empty.
+// The values, if there is one at each place, or else the first fault. An empty place means out of memory.
 fn values_or_fault<D: Drop, F: Drop>(
     slots: Slots<D, F>,
     done: Vec<D>,
@@ -93,7 +93,7 @@ fn values_or_fault<D: Drop, F: Drop>(
     }
 }
 
-// The answers of the caller and of the others into empty places. Gives for each worker the numbers that it took.
+// Puts the answers of the caller and of the others into empty places. Returns for each worker the numbers that it took.
 fn place_answers<W: Work, G>(
     alloc: Global,
     shift: &Shift<'_, W, G>,
@@ -114,7 +114,7 @@ fn place_answers<W: Work, G>(
     place_all(alloc, others, slots, taken)
 }
 
-// The answers of all workers by the numbers of their jobs. Gives the caller's pass too.
+// The answers of all workers by the numbers of their jobs, and the caller's pass.
 fn results<W: Work, G>(
     alloc: Global,
     shift: &Shift<'_, W, G>,
@@ -149,7 +149,7 @@ fn results<W: Work, G>(
     }
 }
 
-// No job: an empty list for each worker.
+// The result of a run without jobs: an empty list for each worker.
 fn ran_nothing<D: Drop, F: Drop>(alloc: Global, workers: usize) -> Result<Ran<D>, GangFault<F>>
     ensures done { IfOk result (λ r. r.done.items ≡ []) }
     ensures len { IfOk result (λ r. vec_len r.taken ≡ workers) }
@@ -168,7 +168,7 @@ fn ran_nothing<D: Drop, F: Drop>(alloc: Global, workers: usize) -> Result<Ran<D>
     })
 }
 
-/// Runs every job by a crew, also after a fault; no job means no thread. The values stand by the numbers of their jobs.
+/// Runs all jobs by a crew. A fault does not stop the run. The values are in the order of the jobs. If there are no jobs, no thread is started.
 pub fn run_jobs<W: Work + Sync, G: Gate + Sync, R: Threads + Wait + Sync>(
     rt: &R,
     alloc: Global,

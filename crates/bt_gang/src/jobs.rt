@@ -1,4 +1,4 @@
-//! The jobs of one call, in their queue.
+//! The jobs of a call, in their queue.
 ghost use Rattle.std.specs.Prelude.{◌≡◌, ◌<◌, IfOk, vec_len};
 ghost use Rattle.crossbeam_queue.specs.Passes.{view};
 ghost use Rattle.bt_gang.specs.declared.crew.TheConstants.{MOST_WORKERS};
@@ -10,10 +10,10 @@ use crossbeam_queue::Pass;
 use std::alloc::{AllocError, Global};
 use std::sync::Wait;
 
-/// The right to push to, or to pop from, the queue of a call. It has no bytes; one thread holds it.
+/// The right to push to, or to pop from, the queue of a call. It has no bytes at run time, and one thread holds it.
 pub type JobPass<J, D, F> = Pass<NumberedJob<J, AnswerRoom<D, F>>, Known<J>>;
 
-/// The jobs of a call with their numbers, from 0 on, in one queue, each with room for its answer.
+/// The jobs of a call in one queue, each with its number, from 0 on, and with room for its answer.
 #[derive(Drop)]
 pub struct Jobs<J: Drop, D: Drop, F: Drop> {
     pub(crate) queue: JobQueue<J, AnswerRoom<D, F>>,
@@ -22,8 +22,8 @@ pub struct Jobs<J: Drop, D: Drop, F: Drop> {
 impl<J: Drop, D: Drop, F: Drop> Jobs<J, D, F> {
     ghost use Rattle.bt_gang.specs.Jobs.{IsJobPass};
 
-    /// The queue with every job waiting in it, and the pass that pushed them, which has the lists of all workers. All room, that for the answers too, is made
-    /// before the first push.
+    /// The queue with all jobs waiting in it, and the pass that pushed them, which has the lists of all workers. All memory, including
+    /// that for the answers, is allocated before the first push.
     pub fn new<R: Wait>(
         rt: &R,
         alloc: Global,

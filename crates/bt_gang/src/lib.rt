@@ -1,14 +1,16 @@
-//! Jobs that workers draw from one queue, each of them once.
+//! Runs jobs on several threads. The workers take the jobs from one queue, and each job is run once.
 //!
-//! A [`Board`] says by numbers which jobs wait, which are held by workers and which are handed in. The queue of a call
-//! ([`Jobs`]) follows it: whatever the threads do, what waits in the queue and what the passes took is a state that a run of
-//! the board reaches. A worker runs [`serve`] with its pass: it adds an answer for each job that it took, and
-//! ends only after a pop that found nothing.
+//! [`run_jobs`] runs all jobs of a call by a [`Crew`] and returns their values in order. A [`Work`] says how a job is run. [`job_values`]
+//! returns only the values, for work whose only fault is a failed allocation.
 //!
-//! Room for an answer goes with its job through the queue to the worker that runs it. So a run asks for room for each job and
-//! for each worker, and not for the product of both.
+//! The queue of a call ([`Jobs`]) follows a [`Board`], which has the numbers of the jobs that wait, are held by workers, or were handed in.
+//! For any schedule of the threads, the jobs in the queue and those that the passes took are a state that a run of the board reaches. A
+//! worker runs [`serve`] with its pass. It adds an answer for each job that it takes, and ends after a pop that finds nothing.
 //!
-//! [`pieces_of`] cuts a slice into pieces ([`Piece`]) for jobs that are about as long as each other.
+//! Room for an answer goes with its job through the queue to the worker that runs it. The memory of a run therefore grows with the number
+//! of jobs and with the number of workers, but not with their product.
+//!
+//! [`pieces_of`] cuts a slice into pieces ([`Piece`]) of nearly equal length, one for each job.
 //!
 //! ```text
 //! let (jobs, mut pass) = Jobs::new(&rt, alloc, numbers)?;

@@ -1,7 +1,7 @@
 //! A piece of a slice.
 ghost use Rattle.std.specs.Prelude.{◌+◌, ◌<◌, ◌^◌, length};
 
-/// Items that stand side by side, and how many stand before them.
+/// Consecutive items of a slice, and the number of items before them.
 #[derive(Drop)]
 pub struct Piece<'a, T> {
     pub before: usize,

@@ -1,4 +1,4 @@
-//! Pieces of a slice, for jobs that are about as long as each other.
+//! Cutting a slice into pieces, for jobs of nearly equal length.
 ghost use Rattle.std.specs.List.{flat_map};
 ghost use Rattle.std.specs.Prelude.{◌≡◌, ◌<◌, ◌≤◌, ◌-◌, ◌/◌, ◌^◌, IfOk, drop, length, take, vec_len};
 ghost use Rattle.bt_gang.specs.Pieces.{AreEven, AreInRow};
@@ -6,7 +6,7 @@ ghost use Rattle.bt_gang.specs.Pieces.{AreEven, AreInRow};
 use crate::piece::Piece;
 use std::alloc::{AllocError, Global};
 
-// The items from one place to another as a piece.
+// The items between two places, as a piece.
 fn piece_at<T>(items: &[T], start: usize, end: usize) -> Piece<'_, T>
     requires ordered { start ≤ end }
     requires within { end ≤ length items.now }
@@ -20,7 +20,7 @@ fn piece_at<T>(items: &[T], start: usize, end: usize) -> Piece<'_, T>
     }
 }
 
-/// The items in this many pieces, one after the other. No piece is longer than another by more than one item.
+/// Cuts the items into this many pieces, in order. The lengths of two pieces differ by at most one.
 pub fn pieces_of<T>(
     alloc: Global,
     items: &[T],

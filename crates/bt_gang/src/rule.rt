@@ -1,9 +1,9 @@
-//! The rule of the queue of jobs, and what a pass knows. It is what the contracts of this crate speak of, and nothing that a caller makes or calls.
+//! The rule of the queue of jobs, and what a pass knows. Only the contracts of this crate use these types: callers neither create nor call them.
 use crossbeam_queue::RuledArrayQueue;
 use crossbeam_queue::protocol::{Join, Lesson, Outcome, Protocol, Split};
 use std::collections::LinkedList;
 
-/// A job with its number, and room for its answer. The rule says nothing of the room.
+/// A job with its number, and room for its answer. The rule does not depend on the room.
 #[derive(Drop)]
 pub struct NumberedJob<J, P> {
     pub number: usize,
@@ -11,14 +11,14 @@ pub struct NumberedJob<J, P> {
     pub room: P,
 }
 
-/// The numbers that a worker took, in order. No value of it is made.
+/// The numbers that a worker took, in order. It exists in contracts only.
 pub struct TakenList {
     pub worker: usize,
     pub numbers: LinkedList<usize>,
 }
 
-/// What a pass knows: the jobs that were pushed, and the lists that it has. The first is the list of the worker that holds the
-/// pass, the others are those that it has not given away yet or has taken in. No value of it is made.
+/// What a pass knows: the jobs that were pushed, and the lists that it has. The first list is that of the worker that holds the
+/// pass. The others are those that it has not given away yet, or has taken in. It exists in contracts only.
 pub struct Known<J> {
     pub jobs: LinkedList<J>,
     pub lists: LinkedList<TakenList>,
@@ -37,7 +37,7 @@ impl<J, P> Protocol<NumberedJob<J, P>, Known<J>> for JobRule {
     ghost first = { known [] (no_lists MOST_WORKERS) };
 }
 
-/// How a pass is split off for a worker, and taken in: it gets the list of that worker, and brings it back.
+/// How a pass is split off for a worker, and taken in later. The new pass gets the list of that worker, and brings it back.
 pub struct WorkerPass;
 
 impl<J> Split<Known<J>> for WorkerPass {
@@ -57,7 +57,7 @@ impl<J> Join<Known<J>> for WorkerPass {
     ghost spent = { known [] [] };
 }
 
-/// A push by the caller. The queue's trait asks what a pass learns where the queue is full, which never comes.
+/// A push by the caller. The queue's trait also asks what a pass learns from a full queue, which does not occur here.
 pub struct Push;
 
 impl<J, P> Outcome<NumberedJob<J, P>, Known<J>> for Push {
@@ -73,7 +73,7 @@ impl<J, P> Lesson<NumberedJob<J, P>, Known<J>> for Push {
     ghost fact = { λ v items. IsBoardOf MOST_WORKERS v (queued items) };
 }
 
-/// A pop that takes the front, or one that finds nothing, by which the pass learns that no job waits.
+/// A pop that takes the first job, or finds nothing. In the second case the pass learns that no job waits.
 pub struct Pop;
 
 impl<J, P> Outcome<NumberedJob<J, P>, Known<J>> for Pop {

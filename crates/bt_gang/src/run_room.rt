@@ -1,4 +1,4 @@
-//! The room of a run.
+//! The memory of a run.
 ghost use Rattle.std.specs.Prelude.{◌≡◌, ◌+◌, ◌<◌, ◌≤◌, [], All, IfOk, vec_capacity, vec_len};
 ghost use Rattle.bt_gang.specs.Numbered.{present};
 ghost use Rattle.bt_gang.specs.inside.Places.{AreEmptyPlaces};
@@ -11,7 +11,7 @@ use crate::workers::{Child, WorkerOf};
 use std::alloc::{AllocError, Global};
 use std::collections::LinkedList;
 
-/// Places for what a run gives: a slot for the answer of each job, and room for the values and for the list of numbers of each worker.
+/// Room for the results of a run: a slot for the answer of each job, the values, and the list of numbers of each worker.
 #[derive(Drop)]
 pub(crate) struct Places<D, F> {
     pub slots: Slots<D, F>,
@@ -19,8 +19,8 @@ pub(crate) struct Places<D, F> {
     pub done: Vec<D>,
 }
 
-/// All room of a run but that for single answers, which goes with the jobs. It is made before the first push, and grows with the jobs and with the workers,
-/// but not with their product.
+/// All memory of a run, except the room of single answers, which goes with the jobs. It is allocated before the first push, and grows
+/// with the jobs and with the workers, but not with their product.
 #[derive(Drop)]
 pub(crate) struct RunRoom<W: Work> {
     pub places: Places<W::Done, W::Fault>,

@@ -1,4 +1,4 @@
-//! The answers of all workers, placed by the numbers of their jobs.
+//! The answers of all workers, at the numbers of their jobs.
 ghost use Rattle.std.specs.Prelude.{◌≡◌, ◌<◌, ◌≤◌, ℕ, List, [], ◌∷◌, ◌++◌, length, vec_capacity, vec_len, Err, IfErr, IfOk, IsTrue, IsFalse, None, Option, Result, Some, set};
 ghost use lib.ListN.{get_elem?};
 ghost use mathlib.Core.Option.{some};
@@ -11,7 +11,7 @@ use std::collections::LinkedList;
 /// A place for each job's answer.
 pub(crate) type Slots<D, F> = Vec<Option<Result<D, F>>>;
 
-// One answer into the place of its number.
+// Puts an answer into the place of its number.
 fn put<D: Drop, F: Drop>(slots: &mut Slots<D, F>, number: usize, value: Result<D, F>)
     requires { number < length slots.old.items }
     ensures { slots.new.items ≡ set slots.old.items number (Some value) }
@@ -19,7 +19,7 @@ fn put<D: Drop, F: Drop>(slots: &mut Slots<D, F>, number: usize, value: Result<D
     slots[number] = Some(value);
 }
 
-// An answer into its place, where there is one.
+// Puts an answer into its place, if there is one.
 fn put_some<D: Drop, F: Drop>(slots: &mut Slots<D, F>, answer: Option<Answer<D, F>>)
     requires { AllBelow (length slots.old.items) (present (answer ∷ [])) }
     ensures { slots.new.items ≡ puts slots.old.items (present (answer ∷ [])) }
@@ -29,7 +29,7 @@ fn put_some<D: Drop, F: Drop>(slots: &mut Slots<D, F>, answer: Option<Answer<D, 
     }
 }
 
-/// A worker's answers into their places. Gives their numbers.
+/// Puts a worker's answers into their places, and returns their numbers.
 pub(crate) fn place<D: Drop, F: Drop>(
     out: Answers<D, F>,
     slots: &mut Slots<D, F>,
@@ -44,7 +44,7 @@ pub(crate) fn place<D: Drop, F: Drop>(
     out.numbers
 }
 
-/// Whether no place is empty: there are as many different numbers among the answers as jobs.
+/// Whether no place is empty.
 pub(crate) fn is_full<D, F>(slots: &Slots<D, F>) -> bool
     ensures full { IsTrue result → IsFull slots.now.items }
     ensures free { IsFalse result → (i : ℕ) × (get_elem? slots.now.items i ≡ some None) }
@@ -64,7 +64,7 @@ pub(crate) struct JobFault<F> {
     pub fault: F,
 }
 
-/// The values in order where each place has one, and else the first fault.
+/// The values in order, if each place has one, or else the first fault.
 pub(crate) fn values<D: Drop, F: Drop>(
     slots: Slots<D, F>,
     mut done: Vec<D>,

@@ -18,7 +18,7 @@ use std::sync::Wait;
 use std::thread;
 use std::thread::{Scope, Threads};
 
-/// The caller and the other workers before their loops, with room for the threads of the others and for what these give back.
+/// The caller and the other workers before their loops, with room for the threads of the others and for what they give back.
 #[derive(Drop)]
 pub(crate) struct Team<W: Work> {
     pub mine: WorkerOf<W>,
@@ -27,7 +27,7 @@ pub(crate) struct Team<W: Work> {
     pub back: Vec<Option<WorkerOf<W>>>,
 }
 
-/// The caller and the other workers after their loops. One that was not started is absent.
+/// The caller and the other workers after their loops. A worker that was not started is `None`.
 #[derive(Drop)]
 pub(crate) struct Served<J: Drop, D: Drop, F: Drop> {
     pub mine: Worker<J, D, F>,
@@ -75,7 +75,7 @@ fn serve_all<'s, E, W: Work + Sync, G: Gate + Sync, R: Threads + Wait + Sync>(
     Served { mine, others }
 }
 
-/// All threads of a run, the caller's among them, from their first job to the end of the last.
+/// Runs all threads of a run, including the caller's, until the last one has ended.
 pub(crate) fn serve_threads<W: Work + Sync, G: Gate + Sync, R: Threads + Wait + Sync>(
     rt: &R,
     alloc: Global,
@@ -97,7 +97,7 @@ pub(crate) fn serve_threads<W: Work + Sync, G: Gate + Sync, R: Threads + Wait + 
     )
 }
 
-/// Takes in the passes, and runs what is left of the jobs. A job has no answer only where a worker was not started.
+/// Takes in the passes, and runs the jobs that are left. After that, a job has no answer only if a worker was not started.
 pub(crate) fn all_answers<W: Work, G: Gate, R: Wait>(
     rt: &R,
     alloc: Global,

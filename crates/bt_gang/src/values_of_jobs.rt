@@ -1,4 +1,4 @@
-//! The values of jobs, and how many workers jobs are worth.
+//! The values of jobs, and the number of workers that is worth starting.
 ghost use Rattle.std.specs.Prelude.{◌≡◌, ◌*◌, ◌/◌, All, IfOk};
 ghost use Rattle.bt_gang.specs.Run.{Answered, AreValues};
 
@@ -9,18 +9,19 @@ use std::alloc::{AllocError, Global};
 use std::sync::Wait;
 use std::thread::Threads;
 
-/// For so many grains of messages or keys there is one worker. It takes some 30 µs to start a thread, which is what four grains of messages take to
-/// be flushed, at the grain of 64 that a crew has where none is asked for.
+/// One worker is started for each group of this many grains of messages or keys. Starting a thread takes about 30 µs. Flushing four grains
+/// of messages takes as long, at the default grain of 64.
 const GRAINS_PER_WORKER: usize = 4;
 
-/// How many workers so many messages or keys are worth.
+/// The number of workers that is worth starting for this many messages or keys.
 pub fn most_workers<G>(crew: &Crew<G>, count: usize) -> usize
     ensures { result ≡ count / (GRAINS_PER_WORKER * crew.now.grain) }
 {
     count / (GRAINS_PER_WORKER * crew.grain)
 }
 
-/// The values of jobs, in order. Each job is run once, by a crew that has no more workers than there are jobs. After an `Err` every worker has ended.
+/// The values of jobs, in order. Each job is run once, by a crew with at most as many workers as there are jobs. After an `Err` all workers
+/// have ended.
 pub fn job_values<W: Work<Fault = AllocError> + Sync, G: Gate + Sync, R: Threads + Wait + Sync>(
     rt: &R,
     alloc: Global,

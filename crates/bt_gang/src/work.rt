@@ -1,9 +1,9 @@
-//! What a worker does with a job.
+//! What is done with a job.
 ghost use Rattle.std.specs.Prelude.{◌≡◌, Result, Ok};
 
 use std::alloc::Global;
 
-/// A kind of work: its jobs are owned values, and each run of a job answers a value or a fault.
+/// A kind of work. Its jobs are owned values, and each run of a job returns a value or a fault.
 pub trait Work {
     type Job: Drop + Send;
 
@@ -11,10 +11,10 @@ pub trait Work {
 
     type Fault: Drop + Send;
 
-    /// Which jobs it can run.
+    /// The jobs that it can run.
     ghost accepts: { Self → Self.Job → Type 0 };
 
-    /// What the run of a job may answer.
+    /// The results that the run of a job may return.
     ghost allows: { Self → Self.Job → Result Self.Done Self.Fault → Type 0 };
 
     fn run(&self, alloc: Global, job: Self::Job) -> Result<Self::Done, Self::Fault>

@@ -1,4 +1,4 @@
-//! One worker's loop.
+//! The loop of one worker.
 ghost use Rattle.std.specs.Prelude.{◌+◌, ◌≤◌, All, length};
 ghost use Rattle.crossbeam_queue.specs.Passes.{view};
 ghost use Rattle.bt_gang.specs.Jobs.{IsJobPass};
@@ -13,8 +13,8 @@ use crate::work::Work;
 use std::alloc::Global;
 use std::sync::Wait;
 
-/// Pops jobs with this pass until none waits, runs each, and adds its number and its answer, in the room that came with it.
-/// Only the runs take memory, and the fault of a run is its answer.
+/// Pops jobs with this pass until none waits. Runs each, and adds its number and its answer, in the room that came with the job. Only
+/// the runs take memory. If a run faults, the fault is the job's answer.
 pub fn serve<W: Work, G: Gate, R: Wait>(
     rt: &R,
     alloc: Global,

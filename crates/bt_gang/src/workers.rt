@@ -1,4 +1,4 @@
-//! The workers of one call: passes are split off, threads are started and joined, and passes are taken in.
+//! The workers of a call: splitting off passes, starting and joining threads, and taking the passes in again.
 ghost use Rattle.std.specs.Prelude.{◌≡◌, ◌+◌, ◌<◌, ◌≤◌, ℕ, List, [], ◌∷◌, All, IfSome, length, map, vec_capacity, vec_len};
 ghost use Rattle.crossbeam_queue.specs.Passes.{IsPassOf, view};
 ghost use Rattle.bt_gang.specs.declared.crew.TheConstants.{MOST_WORKERS};
@@ -19,8 +19,8 @@ use std::snapshot::Snapshot;
 use std::sync::Wait;
 use std::thread::{Promise, PromisedHandle, Scope, Threads};
 
-/// The stack of a worker's thread in bytes, whatever the limit is that the system sets for the caller's. It is more than a
-/// job takes on a tree of the greatest height.
+/// The stack of a worker's thread in bytes. It does not depend on the system's limit for the caller's stack, and is more than a job takes
+/// on a tree of the largest height.
 const WORKER_STACK: usize = 1 << 20;
 
 /// A worker's number, its pass and its answers. The caller is worker 0.
@@ -34,7 +34,7 @@ pub(crate) struct Worker<J: Drop, D: Drop, F: Drop> {
 /// A worker of this work.
 pub(crate) type WorkerOf<W> = Worker<<W as Work>::Job, <W as Work>::Done, <W as Work>::Fault>;
 
-/// That the thread of the worker with this number gives back its pass with an answer for each job that it took.
+/// The promise that the thread of the worker with this number gives back its pass, with an answer for each job that it took.
 #[derive(Drop)]
 pub(crate) struct GivesBack<W: Work> {
     number: usize,
@@ -47,10 +47,10 @@ impl<W: Work> Promise<WorkerOf<W>> for GivesBack<W> {
     ghost kept_by = { λ p r. HasServed (W.allows p.work.value) p.jobs.value p.all.value.value.items [] p.number r };
 }
 
-/// The thread of a worker, or nothing where it could not be started.
+/// The thread of a worker, or `None` if it could not be started.
 pub(crate) type Child<W> = Option<PromisedHandle<WorkerOf<W>, GivesBack<W>>>;
 
-/// A worker for each list of answers, with the numbers from 1 on: its pass gets the list of the worker with its number.
+/// A worker for each list of answers, numbered from 1 on. The pass of each gets the list of the worker with its number.
 pub(crate) fn split<J: Drop, D: Drop, F: Drop>(
     jobs: &Jobs<J, D, F>,
     all: &Snapshot<Vec<J>>,
@@ -100,7 +100,7 @@ fn worker_at_end<W: Work, G: Gate, R: Wait>(
     Worker { number, pass, out }
 }
 
-// The thread of a worker. One that cannot be started is absent, and its jobs are left to the others.
+// The thread of a worker, or `None` if it could not be started. Its jobs are then left to the others.
 fn child<'s, E, W: Work + Sync, G: Gate + Sync, R: Threads + Wait + Sync>(
     scope: &'s Scope<'s, E>,
     rt: &'s R,
@@ -130,7 +130,7 @@ fn child<'s, E, W: Work + Sync, G: Gate + Sync, R: Threads + Wait + Sync>(
     }
 }
 
-/// The threads of the workers, each started.
+/// Starts the threads of the workers.
 pub(crate) fn start<'s, E, W: Work + Sync, G: Gate + Sync, R: Threads + Wait + Sync>(
     scope: &'s Scope<'s, E>,
     rt: &'s R,
@@ -152,7 +152,7 @@ pub(crate) fn start<'s, E, W: Work + Sync, G: Gate + Sync, R: Threads + Wait + S
     children
 }
 
-// What a worker gives back at its join; nothing where it was not started.
+// What a worker gives back when it is joined, or `None` if it was not started.
 fn join<W: Work, G, R: Threads>(
     rt: &R,
     shift: &Shift<'_, W, G>,
@@ -167,7 +167,7 @@ fn join<W: Work, G, R: Threads>(
     }
 }
 
-/// What each worker gives back at its join, in the order of the workers.
+/// What each worker gives back when it is joined, in the order of the workers.
 pub(crate) fn join_all<W: Work, G, R: Threads>(
     rt: &R,
     shift: &Shift<'_, W, G>,
@@ -186,7 +186,7 @@ pub(crate) fn join_all<W: Work, G, R: Threads>(
     back
 }
 
-// Takes in the pass of a worker, where it was started. Gives its answers.
+// Takes in the pass of a worker that was started, and returns its answers.
 fn take_one<W: Work, G>(
     shift: &Shift<'_, W, G>,
     all: &Snapshot<Vec<W::Job>>,
@@ -213,7 +213,7 @@ fn take_one<W: Work, G>(
     Some(out)
 }
 
-/// Takes in the passes of those that were started. Gives the answers of each worker.
+/// Takes in the passes of the workers that were started, and returns the answers of each worker.
 pub(crate) fn take_in<W: Work, G>(
     shift: &Shift<'_, W, G>,
     all: &Snapshot<Vec<W::Job>>,

@@ -16,7 +16,7 @@ module _ {D F : Type 0} where
   AllBelow n [] = ⊤
   AllBelow n (a ∷ rest) = (a.number < n) × AllBelow n rest
 
-  -- the places after the answers came in
+  -- the places after these answers were put in
   abbrev pub puts : List (Option (Result D F)) → List (Answer D F) → List (Option (Result D F))
   puts slots [] = slots
   puts slots (a ∷ rest) = puts (set slots a.number (Some a.value)) rest
@@ -26,12 +26,12 @@ module _ {D F : Type 0} where
   ok_slots [] = []
   ok_slots (d ∷ ds) = Some (Ok d) ∷ ok_slots ds
 
-  -- a worker's answers: none where it was not started
+  -- a worker's answers; none if it was not started
   abbrev pub answers_in : Option (Answers D F) → List (Answer D F)
   answers_in None = []
   answers_in (Some a) = present a.list
 
-  -- the numbers of a worker's answers: none where it was not started
+  -- the numbers of a worker's answers; none if it was not started
   abbrev pub numbers_in : Option (Answers D F) → List ℕ
   numbers_in None = []
   numbers_in (Some a) = numbered (present a.list)
@@ -40,13 +40,14 @@ module _ {D F : Type 0} where
   abbrev pub IsFull : List (Option (Result D F)) → Type 0
   IsFull slots = (place : ℕ) → ¬ (get_elem? slots place ≡ some None)
 
-  -- places for what so many workers make of so many jobs, in which nothing stands
+  -- empty places for the results of this many jobs, run by this many workers
   pub record AreEmptyPlaces (workers jobs : ℕ) (places : Places D F) : Type 0 where
     pub slots : places.slots.items ≡ replicate jobs None
     pub taken : (places.taken.items ≡ []) × (workers ≤ vec_capacity places.taken)
     pub done : (places.done.items ≡ []) × (jobs ≤ vec_capacity places.done)
 
-  -- what a fault says of the places: want of memory, that one is empty; the fault of a job, that none is empty, that it stands at its number, and that values stand before it
+  -- what a fault means for the places: out of memory, that one is empty; the fault of a job, that none is empty, that the fault is at its number,
+  -- and that there are values before it
   abbrev pub IsFaultAmong : List (Option (Result D F)) → GangFault F → Type 0
   IsFaultAmong slots = elim [
     | OutOfMemory ↦ (place : ℕ) × (get_elem? slots place ≡ some None)
@@ -54,7 +55,7 @@ module _ {D F : Type 0} where
   ]
 
 module _ {J D F : Type 0} (allows : J → Result D F → Type 0) where
-  -- the places of the numbers that came in are full, each with what its job may answer, and the others are empty
+  -- the places of the numbers that came in are full, each with an answer that its job may give, and the others are empty
   pub record Filled (jobs : List J) (slots : List (Option (Result D F))) (came : List ℕ) : Type 0 where
     pub size : length slots ≡ length jobs
     pub may : (i : ℕ) (value : Result D F) → get_elem? slots i ≡ some (Some value) → MayAnswer allows jobs i value

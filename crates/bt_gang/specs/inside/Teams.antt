@@ -16,7 +16,7 @@ use Rattle.bt_gang.specs.Queue.{NothingWaits, known, taken_list}
 use Rattle.bt_gang.specs.inside.Places.{answers_in}
 use Rattle.bt_gang.specs.inside.Workers.{AllByNumber, HasServedCaller, HasServedIfStarted, IsReady, IsReadyCaller, own_list, lists_back, lists_left}
 
--- the workers before their loops, and there is room for the threads of the others and for what these give back
+-- the workers before their loops, with room for the threads of the others and for what they give back
 pub record AreReady {W J D F : Type 0} (jobs : Jobs J D F) (all : List J) (team : Team W J D F) : Type 0 where
   pub mine : IsReadyCaller jobs all (vec_len team.workers) team.mine
   pub workers : AllByNumber (IsReady jobs all []) 1 team.workers.items
@@ -30,7 +30,7 @@ module _ {J D F : Type 0} (allows : J → Result D F → Type 0) where
     pub others : AllByNumber (HasServedIfStarted allows jobs all) 1 served.others.items
     pub len : vec_len served.others ≡ given_away
 
-  -- what the caller's pass knows, whose last pop found nothing, and what the caller's answers and those of the others are
+  -- what the caller's pass knows after its last pop found nothing, with the answers of the caller and those of the others
   pub record HaveCome (all : List J) (v : Known J) (own : List (Answer D F)) (outs : List (Option (Answers D F))) : Type 0 where
     pub knows : v ≡ known all (taken_list 0 (numbered own) ∷ (lists_left MOST_WORKERS (suc (length outs)) ++ lists_back 1 outs))
     pub few : length outs < MOST_WORKERS
@@ -38,10 +38,10 @@ module _ {J D F : Type 0} (allows : J → Result D F → Type 0) where
     pub settled : NothingWaits v
     pub last : FoundNothing v
 
--- at the place of each worker stands its list in the pass, and nothing where the pass has no such list
+-- the list at the number of each worker is its list in the pass, or empty if the pass has none
 abbrev pub AreListsOf : {J : Type 0} → Known J → List (List ℕ) → Type 0
 AreListsOf v lists = (worker : ℕ) → get_or lists worker [] ≡ own_list worker v.lists
 
--- a worker that is absent has an empty list, where that of the caller stands before those of the workers
+-- a worker that is absent has an empty list; the list of the caller comes before those of the workers
 abbrev pub AreEmptyWhereAbsent : {X : Type 0} → List (Option X) → List (List ℕ) → Type 0
 AreEmptyWhereAbsent workers lists = (place : ℕ) → get_elem? workers place ≡ some None → get_or lists (suc place) [] ≡ []

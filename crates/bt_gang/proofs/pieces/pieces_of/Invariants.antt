@@ -4,7 +4,7 @@ use Rattle.bt_gang.proofs.PieceLists.{items_of}
 use Rattle.bt_gang.proofs.EvenPieces.{IsEvenRest}
 use Rattle.bt_gang.proofs.pieces.pieces_of.Given as goal
 
--- the pieces so far, and behind them the items that are left
+-- the pieces so far, followed by the items that are left
 abbrev pub invariant-loop-place : goal.invariant-loop-place
 invariant-loop-place g l = record {
   whole : items_of l.pieces.items ++ drop l.start l.items ≡ l.items;

@@ -2,7 +2,7 @@ use Rattle.std.proofs.Common.{◌≡◌, ◌∙◌, ◌+◌, ◌-◌, ◌^◌, �
 use Rattle.bt_gang.proofs.Serving.{present-more, same_more}
 use Rattle.bt_gang.proofs.answers.Answers.add.Goals as goal
 
--- a list that grew by one, where one fewer is to come
+-- a list that grew by one, with one fewer to come
 still_within : {A : Type 0} (old more new : List A) (x : A) (spare : ℕ) → new ≡ old ++ more → more ≡ x ∷ [] → 0 < spare → length old + spare < 2 ^ 63 → length new + (spare - 1) < 2 ^ 63
 still_within old more new x spare e f some within = let a = ap length e in let b = length-append old more in let d = ap length f in omega arith
 
