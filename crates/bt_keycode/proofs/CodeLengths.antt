@@ -1,4 +1,4 @@
--- The lengths of codes: of an int's, and the most of those of bytes and of any value, for `bytes_len` and `value_len`.
+-- The lengths of codes: that of an int, and the largest of bytes and of any value, for `bytes_len` and `value_len`.
 use Rattle.std.proofs.Common.{◌≡◌, ◌≤◌, ◌+◌, ◌*◌, ◌∷◌, ◌++◌, ◌∙◌, [], ℕ, zero, suc, ℤ, List, ap, arith, false, length, nat_eq, refl}
 use Rattle.std.proofs.lemmas.List.{length-append}
 use Rattle.std.specs.List.{list_any}
@@ -15,7 +15,7 @@ use Rattle.bt_keycode.proofs.Escapes.{escaped-first, escaped-kept, escaped_parts
 
 -- ---- bytes
 
--- a byte has at most two
+-- a byte is escaped as at most two bytes
 length-byte : (b : ℕ) → length (escaped (b ∷ [])) ≤ 2
 length-byte zero = omega arith
 length-byte (suc n) = omega (arith, ap length (escaped-kept n []))
@@ -24,17 +24,17 @@ escaped-bound : (bs : List ℕ) → length (escaped bs) ≤ 2 * length bs
 escaped-bound [] = omega arith
 escaped-bound (b ∷ bs) = omega (arith, ap length (escaped-first b bs) ∙ length-append (escaped (b ∷ [])) (escaped bs), length-byte b, escaped-bound bs)
 
--- the bytes of a value have at most 510
+-- the bytes of a value are escaped as at most 510 bytes
 pub short_escaped : (bytes : List ℕ) → length bytes ≤ most_value_bytes → length (escaped bytes) ≤ 510
 short_escaped bytes few = omega (arith, escaped-bound bytes, few)
 
--- the first part of bytes and the zero byte behind it, and what is left
+-- the first part of bytes with the zero byte after it, and the rest
 pub one_part : (rest part behind : List ℕ) → rest ≡ part ++ 0 ∷ behind → list_any (λ b. nat_eq b 0) part ≡ false → length (escaped rest) ≡ length part + 2 + length (escaped behind)
 one_part rest part behind whole none = omega (arith, ap length (escaped_parts rest part behind whole none), length-append part (0 ∷ 255 ∷ escaped behind))
 
 -- ---- values
 
--- an int has eight
+-- the code of an int has eight bytes
 pub length_int : (n : ℤ) → length (eight_bytes (raised n)) ≡ 8
 unfolding eight_bytes
 length_int n = refl
@@ -48,7 +48,7 @@ few_taken k (Bit bit) taken = tt
 pub is_short : (v : Value) → BytesFit v → IsShort (content_of v)
 is_short v taken = few_taken (kind_of v) (content_of v) taken
 
--- and its code has at most 512
+-- its code has at most 512 bytes
 short_content : (c : Content) → IsShort c → length (code_of_content c) ≤ 512
 short_content (Number n) short = omega (arith, length_int n)
 short_content (Bytes bytes) short = omega (arith, length-append (escaped bytes) (0 ∷ 1 ∷ []), short_escaped bytes short)

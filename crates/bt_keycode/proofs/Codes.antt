@@ -1,4 +1,4 @@
--- Codes are ordered as what they are the codes of, value by value: what `cmp_rows` and offered/Codes stand on.
+-- Codes are ordered like the values that they encode, value by value. Used by `cmp_rows` and offered/Codes.
 use Rattle.std.proofs.Common.{◌≡◌, ℕ, ◌^◌, ◌<◌, Bool, true, false, List, [], ◌∷◌, ◌++◌, append_assoc, length, refl, sym, ap, ◌∙◌, arith, ℤ}
 use Rattle.std.specs.Cmp.{int_ranks, nat_cmp_is}
 use Rattle.std.specs.Cmp.Lexicographic.{slice_cmp}
@@ -35,22 +35,22 @@ raised-below : (a : ℤ) → FitsSigned w64 a → raised a < 2 ^ 64
 raised-below (pos a) f = omega (arith, f.sfits)
 raised-below (negsuc a) f = omega (arith, f.sfits)
 
--- the bytes of ints are ordered as the ints
+-- the bytes of ints are ordered like the ints
 ints_compare : (a b : ℤ) → FitsSigned w64 a → FitsSigned w64 b → slice_cmp nat_cmp (eight_bytes (raised a)) (eight_bytes (raised b)) ≡ int_cmp a b
 ints_compare a b f g =
     slice_cmp-eight_bytes (raised a) (raised b) (raised-below a f) (raised-below b g)
     ∙ sym (nat_cmp_is (raised a) (raised b) (int_cmp a b) (raised_ranks a b f g (int_cmp a b) (int_ranks a b)))
 
--- ---- what values hold
+-- ---- contents
 
--- the codes of bits are ordered as the bits
+-- the codes of bits are ordered like the bits
 bits_compare : (a b : Bool) → slice_cmp nat_cmp (code_of_content (Bit a)) (code_of_content (Bit b)) ≡ bool_cmp a b
 bits_compare false false = refl
 bits_compare false true = refl
 bits_compare true false = refl
 bits_compare true true = refl
 
--- the codes of bytes are ordered as these
+-- the codes of bytes are ordered like the bytes
 bytes_compare : (a b : List ℕ) → slice_cmp nat_cmp (escaped a ++ (0 ∷ 1 ∷ [])) (escaped b ++ (0 ∷ 1 ∷ [])) ≡ slice_cmp nat_cmp a b
 bytes_compare a b = escaped_compare a b [] [] ∙ then_equal (slice_cmp nat_cmp a b)
 
@@ -60,7 +60,7 @@ content_ordered (Bytes a) (Bytes b) same f g = bytes_compare a b
 content_ordered (Bit a) (Bit b) same f g = bits_compare a b
 content_ordered c d same f g = cc
 
--- two values of a kind have one form
+-- two values of a kind have the same form
 pub same_form : (v w : Value) → kind_of v ≡ kind_of w → form_in (content_of v) ≡ form_in (content_of w)
 same_form v w same = form_held v ∙ ap form_of same ∙ sym (form_held w)
 
@@ -72,7 +72,7 @@ has_bits_in k (Bit bit) fits = tt
 pub has_bits : (v : Value) → IsInRange v → HasBits (content_of v)
 has_bits v fits = has_bits_in (kind_of v) (content_of v) fits
 
--- the codes of two values of a kind are ordered as these
+-- the codes of two values of a kind are ordered like the values
 pub value_ordered : (v w : Value) → kind_of v ≡ kind_of w → IsInRange v → IsInRange w → slice_cmp nat_cmp (code_of_value v) (code_of_value w) ≡ value_cmp v w
 value_ordered v w same f g = content_ordered (content_of v) (content_of w) (same_form v w same) (has_bits v f) (has_bits w g)
 
@@ -85,7 +85,7 @@ slice_cmp-append (x ∷ xs) (y ∷ ys) ps qs e =
     let same : length xs ≡ length ys = omega arith in
     ap (ordering_then (nat_cmp x y)) (slice_cmp-append xs ys ps qs same) ∙ then_assoc (nat_cmp x y) (slice_cmp nat_cmp xs ys) (slice_cmp nat_cmp ps qs)
 
--- the codes of two contents of a form decide, and else what is behind them
+-- the codes of two contents of a form decide the order; if they are equal, the bytes after them do
 contents_compare : (c d : Content) → form_in c ≡ form_in d → (xs ys : List ℕ) →
     slice_cmp nat_cmp (code_of_content c ++ xs) (code_of_content d ++ ys) ≡ ordering_then (slice_cmp nat_cmp (code_of_content c) (code_of_content d)) (slice_cmp nat_cmp xs ys)
 unfolding eight_bytes
@@ -98,12 +98,12 @@ contents_compare (Bytes a) (Bytes b) same xs ys =
 contents_compare (Bit a) (Bit b) same xs ys = slice_cmp-append (code_of_content (Bit a)) (code_of_content (Bit b)) xs ys refl
 contents_compare c d same xs ys = cc
 
--- the codes of two values of a kind decide, and else what is behind them
+-- the codes of two values of a kind decide the order; if they are equal, the bytes after them do
 pub codes_compare : (v w : Value) → kind_of v ≡ kind_of w → (xs ys : List ℕ) →
     slice_cmp nat_cmp (code_of_value v ++ xs) (code_of_value w ++ ys) ≡ ordering_then (slice_cmp nat_cmp (code_of_value v) (code_of_value w)) (slice_cmp nat_cmp xs ys)
 codes_compare v w same xs ys = contents_compare (content_of v) (content_of w) (same_form v w same) xs ys
 
--- where two codes of a form have something behind them and are the same with it, what is behind is the same
+-- if two codes of a form, followed by more bytes, are the same as a whole, then the bytes after the codes are the same
 behind_contents : (c d : Content) → form_in c ≡ form_in d → (xs ys : List ℕ) → code_of_content c ++ xs ≡ code_of_content d ++ ys → xs ≡ ys
 unfolding eight_bytes
 behind_contents (Number m) (Number n) same xs ys e = cc
@@ -118,7 +118,7 @@ behind_codes v w same xs ys e = behind_contents (content_of v) (content_of w) (s
 
 -- ---- lists of values
 
--- no code goes on from another one of the same kinds
+-- no code is longer than another one of the same kinds that it begins with
 pub no_prefix : (vs ws : List Value) → HaveSameKinds vs ws → (more : List ℕ) → code_of ws ≡ code_of vs ++ more → more ≡ []
 no_prefix [] [] kinds more e = sym e
 no_prefix [] (w ∷ ws) kinds more e = cc

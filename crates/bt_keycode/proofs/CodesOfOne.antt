@@ -1,4 +1,4 @@
--- The code of one value alone, for `encode` of an int.
+-- The code of a single value, for `encode` of an int.
 use Rattle.std.proofs.Common.{◌≡◌, [], ◌∷◌, append-nil}
 use Rattle.bt_value.specs.declared.value.Value.{Value}
 use Rattle.bt_keycode.specs.Codes.{code_of, code_of_value}

@@ -1,4 +1,4 @@
--- One code stands for one list of values of given kinds: what `decode` stands on.
+-- A code is that of only one list of values of given kinds. Used by `decode`.
 use Rattle.std.proofs.Common.{◌≡◌, ℕ, List, [], ◌∷◌, ◌++◌, map, take, drop, length, ◌-◌, ◌<◌, ◌≤◌, append_assoc, append-nil, get_or, ◌+◌, refl, sym, ap, subst, ◌∙◌, Bool, true, false, Some, ℤ, SFits, w64, to_z, of_z, arith}
 use Rattle.bt_value.specs.Kinds.{Content, Number, Bytes, Bit, content_of, form_in, form_of, value_with}
 use Rattle.bt_value.specs.Texts.{most_value_bytes}
@@ -28,7 +28,7 @@ same_bit true false q r e = cc
 same_bit false true q r e = cc
 same_bit false false q r e = (refl, (cc))
 
--- what two values of one form hold, and what comes after the codes
+-- the contents of two values of one form are the same, and so are the bytes after their codes
 same_content : (c d : Content) (q r : List ℕ) → form_in c ≡ form_in d → HasBits c → HasBits d → code_of_content c ++ q ≡ code_of_content d ++ r → (c ≡ d) × (q ≡ r)
 same_content (Number a) (Number b) q r k f g e = let both = same_int a b q r f g e in (ap Number both.0, both.1)
 same_content (Bytes s) (Bytes t) q r k f g e = let both = same_bytes s t q r e in (ap Bytes both.0, both.1)
@@ -40,7 +40,7 @@ same_content (Bytes s) (Bit b) q r k f g e = cc
 same_content (Bit a) (Number b) q r k f g e = cc
 same_content (Bit a) (Bytes t) q r k f g e = cc
 
--- two values of one kind, and what comes after their codes
+-- two values of one kind are the same, and so are the bytes after their codes
 same_value : (v w : Value) (q r : List ℕ) → kind_of v ≡ kind_of w → IsInRange v → IsInRange w → code_of_value v ++ q ≡ code_of_value w ++ r → (v ≡ w) × (q ≡ r)
 same_value v w q r k f g e =
     let both = same_content (content_of v) (content_of w) q r (same_form v w k) (has_bits v f) (has_bits w g) e in
@@ -49,7 +49,7 @@ same_value v w q r k f g e =
 first_of_both : {A : Type 0} {x y : A} {xs ys : List A} → x ∷ xs ≡ y ∷ ys → (x ≡ y) × (xs ≡ ys)
 first_of_both e = ((cc), (cc))
 
--- bytes that begin with the codes of values and of one more go on with the code of a value of its kind
+-- if bytes begin with the codes of values and of one more, the code of a value of its kind follows the first ones
 next_value : (values others : List Value) (kind : Kind) (kinds : List Kind) (rest more : List ℕ) →
     AreInRange values → AreInRange others → map kind_of others ≡ map kind_of values ++ (kind ∷ kinds) →
     code_of values ++ rest ≡ code_of others ++ more → (v : Value) × (r : List ℕ) × BeginsWith kind rest v r
@@ -70,7 +70,7 @@ next_value (v ∷ values) (w ∷ others) kind kinds rest more f g k e =
     (sym (append_assoc (code_of_value v) (code_of values) rest) ∙ e ∙ append_assoc (code_of_value w) (code_of others) more) in
     next_value values others kind kinds rest more f.1 g.1 both.1 same.1
 
--- two lists of values of the same kinds, and what comes after their codes
+-- two lists of values of the same kinds are the same, and so are the bytes after their codes
 pub same_values : (values others : List Value) (rest more : List ℕ) → AreInRange values → AreInRange others → map kind_of values ≡ map kind_of others →
     code_of values ++ rest ≡ code_of others ++ more → (values ≡ others) × (rest ≡ more)
 same_values [] [] rest more f g k e = (refl, e)
@@ -85,7 +85,7 @@ same_values (v ∷ values) (w ∷ others) rest more f g k e =
 
 -- ---- numbers
 
--- fewer than eight bytes begin with no number
+-- fewer than eight bytes do not begin with a number
 pub no_number : (bytes : List ℕ) (other : Content) (rest : List ℕ) → length bytes < 8 → BeginsWithContent form.Number bytes other rest → ⊥
 no_number bytes (Number n) rest short b =
     let long = eight_long (raised n) rest in
@@ -94,7 +94,7 @@ no_number bytes (Number n) rest short b =
 no_number bytes (Bytes bs) rest short b = let k = b.of_form in cc
 no_number bytes (Bit bit) rest short b = let k = b.of_form in cc
 
--- eight bytes or more begin with the number of the first eight
+-- eight or more bytes begin with the number that the first eight encode
 number_begins : (z : ℤ) (number : ℕ) (bytes : List ℕ) → SFits w64 z → raised z ≡ number → eight_bytes number ≡ first_eight bytes → 8 ≤ length bytes →
     BeginsWithContent form.Number bytes (Number z) (take (length bytes - 8) (drop 8 bytes))
 number_begins z number bytes fits up same long = record {
@@ -112,7 +112,7 @@ number_found z number bytes fits up same long = rw (to_z-of_z w64 z fits) (numbe
 pub bytes_found : (bytes found rest : List ℕ) → unescaped bytes ≡ Some (found, rest) → BeginsWithContent form.Bytes bytes (Bytes found) rest
 bytes_found bytes found rest read = record { of_form = refl; bits = tt; code = split_end found rest ∙ spelled bytes found rest read }
 
--- where only more bytes than a value may have are read, none are there
+-- if only more bytes than a value may have are read, there are none of a value
 pub no_bytes : (bytes : List ℕ) → ((found rest : List ℕ) → unescaped bytes ≡ Some (found, rest) → most_value_bytes < length found) → BeginsWithNoContent form.Bytes bytes
 no_bytes bytes long (Bytes found) rest b short =
     let read : unescaped bytes ≡ Some (found, rest) = ap unescaped (sym b.code ∙ split_end found rest) ∙ read_again found rest in
@@ -131,7 +131,7 @@ lies_in_range k (Number n) bits taken = bits
 lies_in_range k (Bytes bytes) bits taken = taken
 lies_in_range k (Bit bit) bits taken = tt
 
--- what a kind takes is a value of it
+-- a content that a kind takes is that of a value of the kind
 pub value_found : (k : Kind) (bytes : List ℕ) (c : Content) (rest : List ℕ) → BeginsWithContent (form_of k) bytes c rest → takes_content k c ≡ true → BeginsWith k bytes (value_with k c) rest
 value_found k bytes c rest b taken = record {
   of_kind = kind_with k c;
@@ -139,7 +139,7 @@ value_found k bytes c rest b taken = record {
   code = ap (λ d. code_of_content d ++ rest) (content_with k c b.of_form) ∙ b.code;
 }
 
--- what a value of a kind holds
+-- the content of a value of a kind
 held_in : (k : Kind) (bytes : List ℕ) (v : Value) (rest : List ℕ) → BeginsWith k bytes v rest → BeginsWithContent (form_of k) bytes (content_of v) rest
 held_in k bytes v rest b = record { of_form = form_held v ∙ ap form_of b.of_kind; bits = has_bits v b.in_range; code = b.code }
 
@@ -148,11 +148,11 @@ taken_in k (Number n) fits = refl
 taken_in k (Bytes bytes) fits = fits
 taken_in k (Bit bit) fits = refl
 
--- where nothing of its form begins, no value of a kind does
+-- if there is no content of its form, there is no value of a kind
 pub no_value : (k : Kind) (bytes : List ℕ) → BeginsWithNoContent (form_of k) bytes → BeginsWithNo k bytes
 no_value k bytes none v rest b = none (content_of v) rest (held_in k bytes v rest b) (is_short v (bytes_fit v b.in_range))
 
--- nor where the kind does not take it
+-- if the kind does not take the content, there is none either
 pub not_taken : (k : Kind) (bytes : List ℕ) (c : Content) (rest : List ℕ) → BeginsWithContent (form_of k) bytes c rest → takes_content k c ≡ false → BeginsWithNo k bytes
 not_taken k bytes c rest found other v more b =
     let held = held_in k bytes v more b in
@@ -171,7 +171,7 @@ code-append : (values : List Value) (value : Value) → code_of (values ++ value
 code-append [] value = append-nil (code_of_value value)
 code-append (v ∷ values) value = ap (λ s. code_of_value v ++ s) (code-append values value) ∙ sym (append_assoc (code_of_value v) (code_of values) (code_of_value value))
 
--- one value more after the others
+-- one more value after the others
 one_more : (kinds : List Kind) (kind : Kind) (bytes : List ℕ) (values : List Value) (value : Value) (code rest : List ℕ) →
     BeginsWithAll kinds bytes values code → BeginsWith kind code value rest → BeginsWithAll (kinds ++ kind ∷ []) bytes (values ++ value ∷ []) rest
 one_more kinds kind bytes values value code rest a b = record {
@@ -191,7 +191,7 @@ goes_on kinds i d bytes values new value code rest below pushed a b =
     (subst (λ vs. BeginsWithAll (take i kinds ++ get_or kinds i d ∷ []) bytes vs rest) (sym pushed)
     (one_more (take i kinds) (get_or kinds i d) bytes values value code rest a b))
 
--- where no further value is begun, no list of values is
+-- if there is no next value, there is no list of values
 pub none_begins : (kinds : List Kind) (i : ℕ) (d : Kind) (bytes : List ℕ) (values : List Value) (code : List ℕ) → i < length kinds →
     BeginsWithAll (take i kinds) bytes values code → BeginsWithNo (get_or kinds i d) code → BeginsWithNone kinds bytes
 none_begins kinds i d bytes values code below a none others rest b =
@@ -199,20 +199,20 @@ none_begins kinds i d bytes values code below a none others rest b =
     (b.of_kinds ∙ split_at kinds i d below ∙ ap (λ ks. ks ++ (get_or kinds i d ∷ drop (i + 1) kinds)) (sym a.of_kinds)) (a.code ∙ sym b.code) in
     none next.0 next.1 next.2
 
--- what holds of all first kinds holds of all
+-- if the first kinds are all kinds, the bytes begin with values of all kinds
 pub of_all : (kinds : List Kind) (i : ℕ) (bytes : List ℕ) (values : List Value) (code : List ℕ) → i ≡ length kinds → BeginsWithAll (take i kinds) bytes values code → BeginsWithAll kinds bytes values code
 of_all kinds i bytes values code past a = subst (λ ks. BeginsWithAll ks bytes values code) (ap (λ n. take n kinds) past ∙ take-length kinds) a
 
 -- ---- whole codes
 
--- a code is what begins bytes with nothing after it
+-- a code is at the start of bytes, with nothing after it
 whole : (kinds : List Kind) (bytes : List ℕ) (values : List Value) → IsCodeOf kinds bytes values → BeginsWithAll kinds bytes values []
 whole kinds bytes values h = record { of_kinds = h.of_kinds; in_range = h.in_range; code = append-nil (code_of values) ∙ h.code }
 
 pub no_values : (kinds : List Kind) (bytes : List ℕ) → BeginsWithNone kinds bytes → IsNoCode kinds bytes
 no_values kinds bytes none values h = none values [] (whole kinds bytes values h)
 
--- the values that bytes begin with are the only ones whose code they can be, and only where nothing is left
+-- the bytes can only be the code of the values that they begin with, and only if nothing is left
 pub one_list : (kinds : List Kind) (bytes : List ℕ) (values : List Value) (rest : List ℕ) → BeginsWithAll kinds bytes values rest →
     (other : List Value) → IsCodeOf kinds bytes other → (other ≡ values) × (rest ≡ [])
 one_list kinds bytes values rest a other h =
@@ -224,11 +224,11 @@ one_list kinds bytes values rest a other h =
 pub one_code : (kinds : List Kind) (bytes : List ℕ) (values : List Value) → IsCodeOf kinds bytes values → (other : List Value) → IsCodeOf kinds bytes other → other ≡ values
 one_code kinds bytes values h other g = (one_list kinds bytes values [] (whole kinds bytes values h) other g).0
 
--- bytes that begin with values and go on are no code
+-- if bytes are left after the values, the bytes are not a code
 pub goes_past : (kinds : List Kind) (bytes : List ℕ) (values : List Value) (rest : List ℕ) → BeginsWithAll kinds bytes values rest → (rest ≡ [] → ⊥) → IsNoCode kinds bytes
 goes_past kinds bytes values rest a more other h = more (one_list kinds bytes values rest a other h).1
 
--- bytes that are those of values with nothing behind are a code
+-- if nothing is left after the values, the bytes are a code
 pub nothing_past : (kinds : List Kind) (bytes : List ℕ) (values : List Value) (rest : List ℕ) → BeginsWithAll kinds bytes values rest → rest ≡ [] → IsCode kinds bytes
 nothing_past kinds bytes values rest a none = (
   values,

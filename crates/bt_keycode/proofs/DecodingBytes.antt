@@ -1,4 +1,4 @@
--- The code of bytes is read as these, and nothing else is, for `unescape` and for one code of one list.
+-- The code of bytes is read as these bytes, and only their code is. For `unescape`, and for the uniqueness of codes.
 use Rattle.std.proofs.Common.{◌≡◌, ℕ, zero, suc, ◌==◌, List, [], ◌∷◌, ◌++◌, Option, Some, None, false, if◌then◌else◌, append_assoc, refl, sym, ap, ◌∙◌, inl, inr, arith, length, length-append, nat_eq, ◌<◌}
 use Rattle.std.proofs.lemmas.Bool.{cases_Bool, eqb-true}
 use Rattle.std.specs.List.{list_any}
@@ -20,12 +20,12 @@ rest_in : Option (List ℕ × List ℕ) → List ℕ
 rest_in None = []
 rest_in (Some read) = read.1
 
--- what is read has one found and one rest
+-- two results of a reading that are equal have equal bytes, and an equal rest
 pub both_read : (found rest other more : List ℕ) → ◌≡◌ {A = Option (List ℕ × List ℕ)} (Some (found, rest)) (Some (other, more)) → (found ≡ other) × (rest ≡ more)
 unfolding found_in rest_in
 both_read found rest other more e = (ap found_in e, ap rest_in e)
 
--- bytes are read from their code, whatever follows
+-- bytes are read from their code, with anything after it
 pub read_again : (found rest : List ℕ) → unescaped (escaped found ++ (0 ∷ 1 ∷ rest)) ≡ Some (found, rest)
 unfolding unescaped
 read_again [] rest = refl
@@ -33,7 +33,7 @@ read_again (zero ∷ found) rest = ap (after_bytes (0 ∷ [])) (read_again found
 read_again (suc n ∷ found) rest =
     ap (λ code. unescaped (code ++ (0 ∷ 1 ∷ rest))) (escaped-suc n found) ∙ ap (after_bytes (suc n ∷ [])) (read_again found rest)
 
--- what was read with bytes before it
+-- what was read, with bytes before it
 pub read_after : (prefix : List ℕ) (read : Option (List ℕ × List ℕ)) (found rest : List ℕ) → after_bytes prefix read ≡ Some (found, rest) →
     (more : List ℕ) × (read ≡ Some (more, rest)) × (found ≡ prefix ++ more)
 read_after prefix None found rest e = cc
@@ -41,7 +41,7 @@ read_after prefix (Some read) found rest e =
     let both = both_read (prefix ++ read.0) read.1 found rest e in
     (read.0, ap (λ r. Some (read.0, r)) both.1, sym both.0)
 
--- what is read behind a zero byte
+-- what is read after a zero byte
 behind_zero : (b : ℕ) (bytes found rest : List ℕ) →
     ◌≡◌ {A = Option (List ℕ × List ℕ)} (if b == 1 then Some ([], bytes) else (if b == 255 then after_bytes (0 ∷ []) (unescaped bytes) else None)) (Some (found, rest)) →
     ((more : List ℕ) → unescaped bytes ≡ Some (more, rest) → escaped more ++ (0 ∷ 1 ∷ rest) ≡ bytes) → escaped found ++ (0 ∷ 1 ∷ rest) ≡ 0 ∷ b ∷ bytes
@@ -57,7 +57,7 @@ behind_zero b bytes found rest e again = elim (cases_Bool (b == 1)) [
   ]
 ]
 
--- what is read is spelled so
+-- what is read has this code
 pub spelled : (bytes found rest : List ℕ) → unescaped bytes ≡ Some (found, rest) → escaped found ++ (0 ∷ 1 ∷ rest) ≡ bytes
 unfolding unescaped
 spelled [] found rest e = cc
@@ -67,11 +67,11 @@ spelled (suc n ∷ bytes) found rest e =
 spelled (zero ∷ []) found rest e = cc
 spelled (zero ∷ b ∷ bytes) found rest e = behind_zero b bytes found rest e (λ more f. spelled bytes more rest f)
 
--- the end in two parts
+-- the end, in two parts
 pub split_end : (found rest : List ℕ) → (escaped found ++ (0 ∷ 1 ∷ [])) ++ rest ≡ escaped found ++ (0 ∷ 1 ∷ rest)
 split_end found rest = append_assoc (escaped found) (0 ∷ 1 ∷ []) rest
 
--- where one byte more follows the first ones, there are more than these
+-- if one more byte follows the first ones, there are more bytes than these
 pub too_long : (bytes first code more : List ℕ) (byte : ℕ) → unescaped bytes ≡ after_bytes first (unescaped code) → unescaped code ≡ after_bytes (byte ∷ []) (unescaped more) →
     (found rest : List ℕ) → unescaped bytes ≡ Some (found, rest) → length first < length found
 too_long bytes first code more byte e f found rest read =
@@ -80,7 +80,7 @@ too_long bytes first code more byte e f found rest read =
     let whole : found ≡ first ++ (byte ∷ next.0) = behind.2 ∙ ap (λ zs. first ++ zs) next.2 in
     omega (arith, ap length whole, length-append first (byte ∷ next.0))
 
--- bytes of which none is zero stand in their code as they are
+-- bytes without a zero byte are in their code unchanged
 pub read_plain : (bytes found behind rest : List ℕ) → bytes ≡ found ++ 0 ∷ behind → list_any (λ b. nat_eq b 0) found ≡ false → behind ≡ 1 ∷ rest → unescaped bytes ≡ Some (found, rest)
 read_plain bytes found behind rest whole none end =
     ap unescaped (whole ∙ ap (λ bs. found ++ 0 ∷ bs) end ∙ sym (ap (λ t. t ++ 0 ∷ 1 ∷ rest) (escaped_no_zero found none))) ∙ read_again found rest

@@ -1,4 +1,4 @@
--- The codes of two ints with bytes after them, for `first_int` and for one code of one list.
+-- The codes of two ints with bytes after them, for `first_number` and for the uniqueness of codes.
 use Rattle.std.proofs.Common.{◌≡◌, ℕ, zero, suc, refl, [], ◌∷◌, ◌^◌, ◌-◌, ◌<◌, ◌≤◌, List, ◌++◌, length, take, drop, ℤ, pos, negsuc, SFits, w64, sym, ap, ◌∙◌, arith}
 use Rattle.std.proofs.lemmas.Nat.{from_be_bytes-to_be_bytes_8}
 use Rattle.std.specs.Int.{from_be_bytes}
@@ -26,7 +26,7 @@ eight_same : (m n : ℕ) → m < 2 ^ 64 → n < 2 ^ 64 → eight_bytes m ≡ eig
 unfolding eight_bytes
 eight_same m n low under e = sym (from_be_bytes-to_be_bytes_8 m low) ∙ ap (from_be_bytes w64) e ∙ from_be_bytes-to_be_bytes_8 n under
 
--- one code stands for one int
+-- a code is that of only one int
 pub same_int : (a b : ℤ) (q r : List ℕ) → SFits w64 a → SFits w64 b → eight_bytes (raised a) ++ q ≡ eight_bytes (raised b) ++ r → (a ≡ b) × (q ≡ r)
 same_int a b q r f g e =
     let both = eight_apart (raised a) (raised b) q r e in
@@ -42,7 +42,7 @@ padded_prefix zero xs long = refl
 padded_prefix (suc n) [] long = absurd (omega arith)
 padded_prefix (suc n) (x ∷ xs) long = ap (λ ys. x ∷ ys) (padded_prefix n xs (omega arith))
 
--- bytes are the first eight of them and the others
+-- bytes are their first eight followed by the others
 pub eight_and_others : (n : ℕ) (bytes : List ℕ) → eight_bytes n ≡ first_eight bytes → 8 ≤ length bytes → eight_bytes n ++ take (length bytes - 8) (drop 8 bytes) ≡ bytes
 unfolding first_eight
 eight_and_others n bytes same long =

@@ -1,4 +1,4 @@
--- Bytes of which the zero ones are escaped: their order, and that they stand for one list of bytes, for the order of codes.
+-- Bytes with their zero bytes escaped: their order, and that only one list of bytes has them. For the order of codes.
 use Rattle.std.proofs.Common.{◌≡◌, ℕ, zero, suc, ◌<◌, List, [], ◌∷◌, ◌++◌, append_assoc, refl, sym, ap, ◌∙◌, arith, ◌==◌, false, nat_eq}
 use Rattle.std.proofs.lemmas.Bool.Decides.{nat_tests}
 use Rattle.std.specs.Cmp.{nat_cmp_is}
@@ -40,7 +40,7 @@ zero_first n = let less : 0 < suc n = omega arith in sym (nat_cmp_is 0 (suc n) L
 zero_last : (n : ℕ) → nat_cmp (suc n) 0 ≡ Greater
 zero_last n = let more : 0 < suc n = omega arith in sym (nat_cmp_is (suc n) 0 Greater more)
 
--- escaped bytes and their end with anything behind them: the bytes decide, and else what is behind
+-- escaped bytes and their end, followed by more bytes: the escaped bytes decide the order; if they are equal, the bytes after them do
 pub escaped_compare : (a b xs ys : List ℕ) →
     slice_cmp nat_cmp (escaped a ++ 0 ∷ 1 ∷ xs) (escaped b ++ 0 ∷ 1 ∷ ys) ≡ ordering_then (slice_cmp nat_cmp a b) (slice_cmp nat_cmp xs ys)
 escaped_compare [] [] xs ys = refl
@@ -67,7 +67,7 @@ escaped_compare (suc m ∷ ms) (suc n ∷ ns) xs ys =
     ∙ ap (ordering_then (nat_cmp (suc m) (suc n))) (escaped_compare ms ns xs ys)
     ∙ then_assoc (nat_cmp (suc m) (suc n)) (slice_cmp nat_cmp ms ns) (slice_cmp nat_cmp xs ys)
 
--- escaped bytes, their end and what is behind them stand for one list of bytes alone
+-- escaped bytes, their end and the bytes after it determine the list of bytes
 pub escaped_unique : (a b xs ys : List ℕ) → escaped a ++ 0 ∷ 1 ∷ xs ≡ escaped b ++ 0 ∷ 1 ∷ ys → (a ≡ b) × (xs ≡ ys)
 escaped_unique [] [] xs ys e = (refl, cc)
 escaped_unique [] (zero ∷ ns) xs ys e = cc
@@ -88,20 +88,20 @@ escaped_unique (suc m ∷ ms) (suc n ∷ ns) xs ys e =
     let both = escaped_unique ms ns xs ys rest in
     (ap (λ k. k ∷ ms) first ∙ ap (λ cs. suc n ∷ cs) both.0, both.1)
 
--- bytes of which none is zero stay as they are
+-- bytes without a zero byte are unchanged
 pub escaped_no_zero : (plain : List ℕ) → list_any (λ b. nat_eq b 0) plain ≡ false → escaped plain ≡ plain
 escaped_no_zero [] none = refl
 escaped_no_zero (zero ∷ bs) none = cc
 escaped_no_zero (suc b ∷ bs) none = escaped-kept b bs ∙ ap (λ cs. suc b ∷ cs) (escaped_no_zero bs (rw (not_zero b) at none))
 
--- two lists of bytes, one behind the other
+-- two lists of bytes, one after the other
 escaped_append : (plain more : List ℕ) → escaped (plain ++ more) ≡ escaped plain ++ escaped more
 escaped_append [] more = refl
 escaped_append (b ∷ bs) more =
     escaped-first b (bs ++ more) ∙ ap (λ cs. escaped (b ∷ []) ++ cs) (escaped_append bs more)
     ∙ sym (append_assoc (escaped (b ∷ [])) (escaped bs) (escaped more)) ∙ ap (λ cs. cs ++ escaped more) (sym (escaped-first b bs))
 
--- bytes up to the first zero byte, and what is behind it
+-- the bytes before the first zero byte, and those after it
 pub escaped_parts : (plain part behind : List ℕ) → plain ≡ part ++ 0 ∷ behind → list_any (λ b. nat_eq b 0) part ≡ false → escaped plain ≡ part ++ (0 ∷ 255 ∷ escaped behind)
 escaped_parts plain part behind whole none =
     ap escaped whole ∙ escaped_append part (0 ∷ behind) ∙ ap (λ cs. cs ++ (0 ∷ 255 ∷ escaped behind)) (escaped_no_zero part none)

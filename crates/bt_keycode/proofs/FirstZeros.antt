@@ -1,4 +1,4 @@
--- Where bytes have their first zero byte, for the codes of bytes and for reading them.
+-- The place of the first zero byte. For the codes of bytes and for reading them.
 use Rattle.std.proofs.Common.{ℕ, List, ◌≡◌, ◌<◌, ◌==◌, arith, false, true, get_or, inl, inr, length, nat_eq, take}
 use Rattle.std.proofs.lemmas.Bool.{cases_Bool}
 use Rattle.std.proofs.lemmas.Grind.{get_or_default_zero}
@@ -6,7 +6,7 @@ use Rattle.std.proofs.lemmas.List.{get_or-take, length-take-le}
 use Rattle.std.proofs.lemmas.List.Folds.{list_any_none}
 use Rattle.std.specs.List.{list_any}
 
--- bytes of which none is zero
+-- there is no zero byte
 pub none_zero : (bytes : List ℕ) → ((k : ℕ) → k < length bytes → (get_or bytes k 0 == 0) ≡ true → ⊥) → list_any (λ b. nat_eq b 0) bytes ≡ false
 none_zero bytes none = list_any_none (λ b. nat_eq b 0) bytes (λ k d within. elim (cases_Bool (get_or bytes k d == 0)) [
   | inl is ↦ absurd (none k within (rw (get_or_default_zero bytes k d within) at is))

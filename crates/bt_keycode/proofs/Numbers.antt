@@ -1,4 +1,4 @@
--- The order of numbers is that of their bytes, for the codes of ints and the prefixes of keys.
+-- The order of numbers is that of their bytes. For the codes of ints and the prefixes of keys.
 use Rattle.std.proofs.Common.{◌≡◌, ℕ, zero, suc, ◌+◌, ◌*◌, ◌/◌, ◌%◌, ◌^◌, ◌<◌, ◌≤◌, refl, sym, ap, ◌∙◌, arith}
 use Rattle.std.specs.Cmp.{nat_cmp_is, ranks}
 use Rattle.std.specs.Cmp.Lexicographic.{slice_cmp}
@@ -10,7 +10,7 @@ use Rattle.std.proofs.Math.Arith.{mod-mul}
 use Rattle.std.proofs.Math.Nat.{pow-succ', mul-le-mul_right}
 use Rattle.bt_keycode.specs.Codes.{eight_bytes}
 
--- numbers of two digits in a base: the first digits decide, and else the second ones
+-- numbers of two digits in a base: the first digits decide the order; if they are equal, the second ones do
 two_digits : (base a b c d : ℕ) → b < base → d < base → (o p : Ordering) →
     MatchOrdering o (a < c) (a ≡ c) (c < a) → MatchOrdering p (b < d) (b ≡ d) (d < b) →
     MatchOrdering (ordering_then o p) (a * base + b < c * base + d) (a * base + b ≡ c * base + d) (c * base + d < a * base + b)

@@ -1,4 +1,4 @@
--- Lists and their first bytes with zeros after them, for the prefixes of keys.
+-- Lists and their first bytes with zeros after them. For the prefixes of keys.
 use Rattle.std.proofs.Common.{◌≡◌, ℕ, zero, suc, ◌<◌, List, [], ◌∷◌, drop, get_or, refl, subst, sym, ◌⊎◌, inl, inr, arith}
 use Rattle.std.specs.Cmp.{nat_cmp_is, ranks, tied_itself}
 use Rattle.std.specs.Cmp.Lexicographic.{nat_list_cmp_total, slice_cmp}
@@ -32,7 +32,7 @@ are_small [] h i = omega arith
 are_small (x ∷ xs) h zero = h.0
 are_small (x ∷ xs) h (suc i) = are_small xs h.1 i
 
--- a list next to none
+-- a list compared with the empty list
 past_none : (xs : List ℕ) (p : Ordering) → (p ≡ Equal) ⊎ (p ≡ slice_cmp nat_cmp xs []) → (p ≡ Equal) ⊎ (p ≡ Greater)
 past_none [] p (inl e) = inl e
 past_none [] p (inr e) = inl e
@@ -43,7 +43,7 @@ none_before [] p (inl e) = inl e
 none_before [] p (inr e) = inl e
 none_before (x ∷ xs) p h = h
 
--- a first byte next to a zero of the padding
+-- a first byte compared with a zero of the padding
 past_zero : (x : ℕ) (o p : Ordering) → MatchOrdering o (x < 0) (x ≡ 0) (0 < x) → (p ≡ Equal) ⊎ (p ≡ Greater) → (ordering_then o p ≡ Equal) ⊎ (ordering_then o p ≡ Greater)
 past_zero x Less p h q = absurd (omega arith)
 past_zero x Equal p h q = q
@@ -59,7 +59,7 @@ both_begin Less p q h = inr refl
 both_begin Equal p q h = h
 both_begin Greater p q h = inr refl
 
--- where the paddings differ, they decide
+-- if the paddings differ, they decide the order
 pub slice_cmp-padded : (n : ℕ) (xs ys : List ℕ) → (slice_cmp nat_cmp (padded n xs) (padded n ys) ≡ Equal) ⊎ (slice_cmp nat_cmp (padded n xs) (padded n ys) ≡ slice_cmp nat_cmp xs ys)
 slice_cmp-padded zero xs ys = inl refl
 slice_cmp-padded (suc n) [] [] = inl (tied_itself nat_list_cmp_total (padded (suc n) []))
@@ -69,13 +69,13 @@ slice_cmp-padded (suc n) [] (y ∷ ys) =
     zero_before y (nat_cmp 0 y) (slice_cmp nat_cmp (padded n []) (padded n ys)) (ranks 0 y) (none_before ys (slice_cmp nat_cmp (padded n []) (padded n ys)) (slice_cmp-padded n [] ys))
 slice_cmp-padded (suc n) (x ∷ xs) (y ∷ ys) = both_begin (nat_cmp x y) (slice_cmp nat_cmp (padded n xs) (padded n ys)) (slice_cmp nat_cmp xs ys) (slice_cmp-padded n xs ys)
 
--- a first byte next to a byte equal to it
+-- a first byte compared with an equal one
 same_first : (x y : ℕ) (p q : Ordering) → x ≡ y → (p ≡ Equal) ⊎ (p ≡ q) → (p ≡ Equal) ⊎ (p ≡ ordering_then (nat_cmp x y) q)
 same_first x y p q e h =
     let tied : nat_cmp x y ≡ Equal = sym (nat_cmp_is x y Equal e) in
     rw tied h
 
--- where the first paddings are equal and the paddings of what is behind differ, the latter decide
+-- if the first paddings are equal, and those of the next bytes differ, the next ones decide the order
 pub slice_cmp-next : (m n : ℕ) (xs ys : List ℕ) → padded m xs ≡ padded m ys →
     (slice_cmp nat_cmp (padded n (drop m xs)) (padded n (drop m ys)) ≡ Equal) ⊎ (slice_cmp nat_cmp (padded n (drop m xs)) (padded n (drop m ys)) ≡ slice_cmp nat_cmp xs ys)
 slice_cmp-next zero n xs ys e = slice_cmp-padded n xs ys

@@ -1,4 +1,4 @@
--- Keys are ordered by eight of their bytes as a number, where those before are the same, and short keys at last by their length: what `Key::compare` stands on.
+-- Keys are ordered by eight bytes as a number, if the bytes before them are the same, and short keys at last by their length. Used by `Key::compare`.
 use Rattle.std.proofs.Common.{◌≡◌, ◌≢◌, ℕ, zero, suc, ◌+◌, ◌++◌, ◌^◌, ◌<◌, ◌≤◌, List, [], ◌∷◌, drop, length, refl, sym, ap, ◌∙◌, ◌⊎◌, inl, inr, arith, zero-add, suc-add, lit≤}
 use Rattle.std.proofs.Math.Seq.{drop-nil}
 use Rattle.std.specs.Cmp.{nat_cmp_is, ranks}
@@ -23,7 +23,7 @@ decided : (o p q : Ordering) → o ≡ p → o ≢ Equal → (p ≡ Equal) ⊎ (
 decided o p q e n (inl f) = absurd (n (e ∙ f))
 decided o p q e n (inr f) = e ∙ f
 
--- Where all bytes before a place are the same, and the eight from there on write different numbers, the numbers decide.
+-- If the bytes before a place are the same, and the eight bytes from there on are different numbers, the numbers decide the order.
 pub numbers_decide : (m h k : ℕ) (xs ys : List ℕ) → h < 2 ^ 64 → k < 2 ^ 64 → padded m xs ≡ padded m ys →
     eight_bytes h ≡ first_eight (drop m xs) → eight_bytes k ≡ first_eight (drop m ys) → h ≢ k → nat_cmp h k ≡ slice_cmp nat_cmp xs ys
 unfolding first_eight
@@ -33,16 +33,16 @@ numbers_decide m h k xs ys low under same a b apart =
     (unequal h k (nat_cmp h k) (ranks h k) apart)
     (slice_cmp-next m 8 xs ys same)
 
--- ---- bytes with zeros behind them
+-- ---- bytes followed by zeros
 
--- the first of them
+-- the first of these bytes
 padded-first : (m n : ℕ) (xs : List ℕ) → m ≤ n → padded m (padded n xs) ≡ padded m xs
 padded-first zero n xs few = refl
 padded-first (suc m) zero xs few = absurd (omega arith)
 padded-first (suc m) (suc n) [] few = ap (λ ys. 0 ∷ ys) (padded-first m n [] (omega arith))
 padded-first (suc m) (suc n) (x ∷ xs) few = ap (λ ys. x ∷ ys) (padded-first m n xs (omega arith))
 
--- some behind the first
+-- some of them after the first
 padded-behind : (m k n : ℕ) (xs : List ℕ) → m + k ≤ n → padded k (drop m (padded n xs)) ≡ padded k (drop m xs)
 padded-behind zero k n xs few = padded-first k n xs (omega arith)
 padded-behind (suc m) k zero xs few = absurd (omega arith)
@@ -77,7 +77,7 @@ same_sixteen xs ys first next = padded-parts 8 8 xs ∙ ap (λ zs. zs ++ padded 
 pub same_fourteen : (xs ys : List ℕ) → padded 16 xs ≡ padded 16 ys → padded 14 xs ≡ padded 14 ys
 same_fourteen xs ys same = padded-fewer 14 16 xs ys (lit≤ tt) same
 
--- the same fourteen bytes and the same eight behind them
+-- the same fourteen bytes, and the same eight after them
 pub all_same : (xs ys : List ℕ) → padded 14 xs ≡ padded 14 ys → first_eight (drop 14 xs) ≡ first_eight (drop 14 ys) → padded 22 xs ≡ padded 22 ys
 unfolding first_eight
 all_same xs ys first next = padded-parts 14 8 xs ∙ ap (λ zs. zs ++ padded 8 (drop 14 xs)) first ∙ ap (λ zs. padded 14 ys ++ zs) next ∙ sym (padded-parts 14 8 ys)
@@ -87,7 +87,7 @@ counted m n Less h = omega arith
 counted m n Equal h = omega arith
 counted m n Greater h = omega arith
 
--- Lists that are the same with zeros behind them are ordered by their length.
+-- Lists that are the same when zeros follow them are ordered by their length.
 pub lengths_decide : (n : ℕ) (xs ys : List ℕ) → length xs ≤ n → length ys ≤ n → padded n xs ≡ padded n ys → nat_cmp (length xs) (length ys) ≡ slice_cmp nat_cmp xs ys
 lengths_decide n [] [] few less same = refl
 lengths_decide zero (x ∷ xs) ys few less same = absurd (omega arith)
@@ -101,7 +101,7 @@ lengths_decide (suc n) (x ∷ xs) (y ∷ ys) few less same =
     let lengths : nat_cmp (length (x ∷ xs)) (length (y ∷ ys)) ≡ nat_cmp (length xs) (length ys) = sym (nat_cmp_is _ _ _ (counted (length xs) (length ys) (nat_cmp (length xs) (length ys)) (ranks (length xs) (length ys)))) in
     rw tied (lengths ∙ lengths_decide n xs ys (omega arith) (omega arith) rest)
 
--- A list of so many, and a longer one that is the same as far as they go with zeros behind: the shorter is before.
+-- Of a short list and a longer one that are the same up to a length, with zeros after the short one, the short one comes first.
 pub short_before_long : (n : ℕ) (xs ys : List ℕ) → length xs ≤ n → n < length ys → padded n xs ≡ padded n ys → slice_cmp nat_cmp xs ys ≡ Less
 short_before_long n xs [] few more same = absurd (omega (arith, more))
 short_before_long n [] (y ∷ ys) few more same = refl

@@ -1,4 +1,4 @@
--- Codes of worked values, and their lengths, computed from the definitions.
+-- Examples of codes and of their lengths, computed from the definitions.
 use Rattle.std.proofs.Common.{◌≡◌, true, false, [], ◌∷◌, pos, negsuc, refl, codes}
 use Rattle.bt_row.specs.declared.op.Op.TheVariants.{Add, Set}
 use Rattle.bt_value.specs.declared.value.Value.TheVariants as value
@@ -55,11 +55,11 @@ lengths : code_length (value.Int (pos 3) ∷ value.Text (0 ∷ []) ∷ value.Fla
 unfolding eight_bytes
 lengths = refl
 
--- of a change that sets a text and adds to an int: 2 and 4, and 2 and 8
+-- of a change that sets a text and adds to an int: 2 + 4, and 2 + 8
 change_length : change_code_length (record { base = []; ops = Set 1 (value.Text (codes "ab")) ∷ Add 2 (pos 1) ∷ [] }) ≡ 16
 unfolding eight_bytes
 change_length = refl
 
--- the most weight is held
+-- the largest weight is the limit
 most : byte_weight 16777216 ≡ 16777215
 most = refl

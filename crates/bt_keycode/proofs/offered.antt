@@ -1,4 +1,4 @@
--- What the crates above cite of the proofs of this one.
+-- The lemmas of this crate that crates above cite.
 pub mod Codes
 pub mod Decoded
 pub mod FirstNumbers

@@ -1,15 +1,15 @@
--- The lengths of key codes, as weights: numbers of bytes that are held at a most.
+-- The lengths of key codes, as weights: numbers of bytes up to a largest one.
 use Rattle.std.specs.List.{sum_by}
 use Rattle.std.specs.Prelude.{ℕ, ◌+◌, List, length, map, min}
 use Rattle.bt_row.specs.Ops.{Change, argument_of}
 use Rattle.bt_value.specs.declared.value.Value.{Value}
 use Rattle.bt_keycode.specs.Codes.{code_of, code_of_value}
 
--- the most that anything weighs, in bytes
+-- the largest weight, in bytes
 abbrev pub most_weight : ℕ
 most_weight = 16777215
 
--- what so many bytes weigh: their number, or the most weight where that is less
+-- the weight of this many bytes: their number, or the largest weight if that is smaller
 abbrev pub byte_weight : ℕ → ℕ
 byte_weight n = min most_weight n
 

@@ -11,14 +11,14 @@ use bt_value::{Content, Value};
 use std::alloc::{AllocError, Global};
 use std::cmp::Ordering;
 
-// The key that is the code of an int.
+// The key that encodes an int.
 fn encode_int(alloc: Global, number: i64) -> Result<Key, AllocError>
     ensures { IfOk result (λ key. key ≡ eight_bytes (raised number)) }
 {
     Key::from_bytes(alloc, &int_code(number))
 }
 
-// The key that is the code of values, added one after the other.
+// The key that encodes values, which are added one after the other.
 fn encode_each(alloc: Global, values: Values<'_>) -> Result<Key, AllocError>
     ensures { IfOk result (λ key. key ≡ code_of values.entry) }
 {
@@ -30,7 +30,7 @@ fn encode_each(alloc: Global, values: Values<'_>) -> Result<Key, AllocError>
     code.finish()
 }
 
-// The key that is the code of values, wherever they lie.
+// The key that encodes values. The common case of a single number is encoded directly.
 #[tactic(auto, using(crate::proofs::CodesOfOne::code_of_one))]
 fn encode_values(alloc: Global, values: Values<'_>) -> Result<Key, AllocError>
     ensures { IfOk result (λ key. key ≡ code_of values.entry) }
@@ -45,14 +45,14 @@ fn encode_values(alloc: Global, values: Values<'_>) -> Result<Key, AllocError>
     encode_each(alloc, values)
 }
 
-/// The key that is the code of the values. One of at most 22 bytes takes no memory.
+/// The key that encodes the values. One of at most 22 bytes takes no memory of its own.
 pub fn encode(alloc: Global, values: &[Value]) -> Result<Key, AllocError>
     ensures { IfOk result (λ key. key ≡ code_of values.now) }
 {
     encode_values(alloc, Values::of(values))
 }
 
-/// The key that is the code of the first values, with which the code of all of them begins.
+/// The key that encodes the first values. The code of all of them begins with it.
 pub fn encode_prefix(alloc: Global, values: &[Value], count: usize) -> Result<Key, AllocError>
     requires { count ≤ length values.now }
     ensures { IfOk result (λ key. key ≡ code_of (take count values.now)) }
@@ -60,14 +60,14 @@ pub fn encode_prefix(alloc: Global, values: &[Value], count: usize) -> Result<Ke
     encode(alloc, &values[..count])
 }
 
-/// The key that is the code of the first values of a row, or of all where there are fewer, as [`encode`] gives it.
+/// The key that encodes the first values of a row, or all if there are fewer, as [`encode`] does.
 pub fn encode_row(alloc: Global, row: &Row, count: usize) -> Result<Key, AllocError>
     ensures { IfOk result (λ key. key ≡ code_of (take count row.now)) }
 {
     encode_values(alloc, row.first_values(count))
 }
 
-// The order of two values of a kind, which is that of their codes.
+// The order of two values of a kind. It is also that of their codes.
 #[tactic(auto, using(crate::proofs::Codes::value_ordered))]
 fn cmp_values(left: &Value, right: &Value) -> Ordering
     requires { kind_of left.now ≡ kind_of right.now }
@@ -77,7 +77,7 @@ fn cmp_values(left: &Value, right: &Value) -> Ordering
     compare_values(left.as_ref(), right.as_ref())
 }
 
-/// The order of two lists of values of the same kinds, which is that of their codes. No such code is the beginning of another.
+/// The order of two lists of values of the same kinds. It is also that of their codes, and no such code is a proper prefix of another.
 #[tactic(auto, using(crate::proofs::Codes::codes_compare, crate::proofs::Codes::no_prefix))]
 pub fn cmp_rows(left: &[Value], right: &[Value]) -> Ordering
     requires { HaveSameKinds left.now right.now }

@@ -1,4 +1,4 @@
-//! The code of values that are added one after the other.
+//! Building the code of values that are added one after the other.
 ghost use Rattle.std.specs.Prelude.{◌≡◌, ◌++◌, ◌∷◌, [], IfOk, OnOk, OnErr};
 ghost use Rattle.bt_keycode.specs.Codes.{code_of_value, eight_bytes, escaped, raised};
 ghost use Rattle.bt_value.specs.Views.{value_of_ref};
@@ -12,7 +12,7 @@ use std::marker::Model;
 
 /// The code of the values that were added. A contract sees the list of its bytes.
 ///
-/// Up to 30 bytes, more than a key keeps in itself, are kept in the value itself, and take no memory of their own ([`GrowingBytes`]).
+/// Up to 30 bytes are kept in the value itself and take no memory of their own ([`GrowingBytes`]). A key has room for fewer.
 #[derive(Debug, Drop)]
 pub struct CodeBuilder {
     alloc: Global,
@@ -36,7 +36,7 @@ pub(crate) fn int_code(number: i64) -> [u8; 8]
 }
 
 impl CodeBuilder {
-    /// The code of no value.
+    /// The code of no values.
     pub fn new(alloc: Global) -> Self
         ensures { result ≡ [] }
     {
@@ -46,7 +46,7 @@ impl CodeBuilder {
         }
     }
 
-    // Adds the bytes of both at the end. An `Err` changes nothing.
+    // Adds both byte strings at the end. An `Err` changes nothing.
     #[inline(always)]
     fn push(&mut self, first: &[u8], second: &[u8]) -> Result<(), AllocError>
         ensures ok { OnOk result (self.new ≡ self.old ++ (first.now ++ second.now)) }
@@ -55,7 +55,7 @@ impl CodeBuilder {
         self.bytes.push(self.alloc, first, second)
     }
 
-    // Adds the code of bytes, part by part between the zero bytes.
+    // Adds the code of bytes. Each part up to a zero byte is added as a whole.
     fn add_bytes(&mut self, bytes: &[u8]) -> Result<(), AllocError>
         ensures { OnOk result (self.new ≡ self.old ++ (escaped bytes.now ++ (0 ∷ 1 ∷ []))) }
     {
@@ -67,7 +67,7 @@ impl CodeBuilder {
         self.push(rest, &[0, 1])
     }
 
-    /// Adds the code of a value. What the builder holds after an `Err` is not said.
+    /// Adds the code of a value. After an `Err` the builder may have a part of the code.
     #[inline]
     pub fn add(&mut self, value: ValueRef<'_>) -> Result<(), AllocError>
         ensures { OnOk result (self.new ≡ self.old ++ code_of_value (value_of_ref value.entry)) }
@@ -80,7 +80,7 @@ impl CodeBuilder {
         }
     }
 
-    /// The key that is the code of the values.
+    /// The key that encodes the values.
     pub fn finish(self) -> Result<Key, AllocError>
         ensures { IfOk result (λ key. key ≡ self) }
     {

@@ -1,4 +1,4 @@
-//! Values from their key code.
+//! Decoding values from their key code.
 ghost use Rattle.std.specs.Prelude.{◌≡◌, ◌<◌, ◌≤◌, ◌++◌, ◌∷◌, [], IfOk, IfSome, IfNone, IsErrOf, List, None, OnOk, Some, false, true, length, take, ℕ};
 ghost use Rattle.bt_keycode.specs.Codes.{IsCode, IsCodeOf, IsNoCode, raised};
 ghost use Rattle.bt_keycode.specs.Decodings.{decoded};
@@ -13,23 +13,23 @@ use bt_row::Row;
 use bt_value::{Content, Form, Kind, MOST_VALUE_BYTES, ValueRef};
 use std::alloc::Global;
 
-/// Why bytes are not decoded.
+/// Why bytes cannot be decoded.
 #[derive(Clone, Copy, Debug, PartialEq, Eq)]
 pub enum DecodeError {
-    /// No list of values has this code.
+    /// The bytes are not the code of any list of values of these kinds.
     NotACode,
-    /// A request for memory was refused.
+    /// A failed allocation.
     OutOfMemory,
 }
 
-// The int of a number whose highest bit is its sign bit, inverted.
+// The int for a number whose highest bit is the inverted sign bit.
 fn lower(number: u64) -> i64
     ensures { raised result ≡ number }
 {
     i64::MIN.wrapping_add_unsigned(number)
 }
 
-// The number whose code the bytes begin with, and what comes after it.
+// The number whose code is at the start of the bytes, and the bytes after it.
 fn first_number(bytes: &[u8]) -> Option<(Content<'_>, &[u8])>
     ensures found { IfSome result (λ read. BeginsWithContent Form.Number bytes.now (content_of_ref read.0) read.1.now) }
     ensures none { IfNone result (BeginsWithNoContent Form.Number bytes.now) }
@@ -40,7 +40,7 @@ fn first_number(bytes: &[u8]) -> Option<(Content<'_>, &[u8])>
     Some((Content::Number(lower(prefix_of(bytes))), &bytes[8..]))
 }
 
-// The bit whose code the bytes begin with, and what comes after it.
+// The bit whose code is at the start of the bytes, and the bytes after it.
 fn first_bit(bytes: &[u8]) -> Option<(Content<'_>, &[u8])>
     ensures found { IfSome result (λ read. BeginsWithContent Form.Bit bytes.now (content_of_ref read.0) read.1.now) }
     ensures none { IfNone result (BeginsWithNoContent Form.Bit bytes.now) }
@@ -52,7 +52,7 @@ fn first_bit(bytes: &[u8]) -> Option<(Content<'_>, &[u8])>
     }
 }
 
-// The first of bytes from their code, unless that ends or breaks off here, and what comes after it.
+// The first byte that the code encodes, and the rest of the code. Returns `None` if the code ends here or is incomplete.
 #[tactic(auto, unfolding(crate::specs::inside::Readings::unescaped))]
 fn next_byte(code: &[u8]) -> Option<(u8, &[u8])>
     ensures byte { IfSome result (λ read. unescaped code.now ≡ after_bytes (read.0 ∷ []) (unescaped read.1.now)) }
@@ -66,8 +66,8 @@ fn next_byte(code: &[u8]) -> Option<(u8, &[u8])>
     }
 }
 
-// The bytes whose code the bytes begin with: how many they are, and what comes after the code. They are written into `room`, so
-// that no memory is asked for. There are none where the code breaks off, or where they are too many.
+// Decodes the bytes whose code is at the start of `bytes`. Writes them into `room`, so that it takes no memory, and returns their number
+// and the bytes after the code. Returns `None` if the code is incomplete, or if there are more bytes than a value may have.
 fn unescape<'a>(bytes: &'a [u8], room: &mut [u8; MOST_VALUE_BYTES]) -> Option<(usize, &'a [u8])>
     ensures bound { IfSome result (λ read. read.0 ≤ MOST_VALUE_BYTES) }
     ensures found { IfSome result (λ read. unescaped bytes.now ≡ Some (take read.0 room.new, read.1.now)) }
@@ -89,7 +89,7 @@ fn unescape<'a>(bytes: &'a [u8], room: &mut [u8; MOST_VALUE_BYTES]) -> Option<(u
     }
 }
 
-// The bytes without a zero byte whose code the bytes begin with, and what comes after it.
+// The bytes whose code is at the start of `bytes`, if none of them is zero, and the bytes after the code.
 fn plain_bytes(bytes: &[u8]) -> Option<(&[u8], &[u8])>
     ensures { IfSome result (λ read. unescaped bytes.now ≡ Some (read.0.now, read.1.now)) }
 {
@@ -100,8 +100,8 @@ fn plain_bytes(bytes: &[u8]) -> Option<(&[u8], &[u8])>
     }
 }
 
-// The bytes whose code the bytes begin with, and what comes after the code. They are lent from the code, or from `room` where
-// one of them is zero. There are none where the code breaks off, or where they are too many.
+// The bytes whose code is at the start of `bytes`, and the bytes after the code. They are borrowed from the code, or from `room` if
+// one of them is zero. Returns `None` if the code is incomplete, or if there are more bytes than a value may have.
 fn unescaped_bytes<'a: 'b, 'b>(
     bytes: &'a [u8],
     room: &'b mut [u8; MOST_VALUE_BYTES],
@@ -116,7 +116,7 @@ fn unescaped_bytes<'a: 'b, 'b>(
     Some((&room[..len], rest))
 }
 
-// The bytes whose code the bytes begin with, as what a value holds, and what comes after it.
+// The same bytes as the content of a value, and the bytes after the code.
 #[tactic(auto, using(crate::proofs::Decoding::bytes_found))]
 fn first_bytes<'a: 'b, 'b>(
     bytes: &'a [u8],
@@ -129,7 +129,7 @@ fn first_bytes<'a: 'b, 'b>(
     Some((Content::Bytes(found), rest))
 }
 
-// What a value of this form holds whose code the bytes begin with, and what comes after it.
+// The content of this form whose code is at the start of the bytes, and the bytes after it.
 #[inline(always)]
 fn first_content<'a: 'b, 'b>(
     form: Form,
@@ -146,8 +146,8 @@ fn first_content<'a: 'b, 'b>(
     }
 }
 
-// The value of this kind whose code the bytes begin with, and what comes after it. Its bytes are lent from the code, or from
-// `room` where one of them is zero.
+// The value of this kind whose code is at the start of the bytes, and the bytes after it. Its bytes are borrowed from the code, or from
+// `room` if one of them is zero.
 fn first_value<'a: 'b, 'b>(
     kind: Kind,
     bytes: &'a [u8],
@@ -164,7 +164,7 @@ fn first_value<'a: 'b, 'b>(
     }
 }
 
-// Whether the bytes are the code of values of these kinds. No memory is asked for.
+// Whether the bytes are the code of values of these kinds. Takes no memory.
 fn is_code(kinds: &[Kind], bytes: &[u8]) -> bool
     ensures yes { result ≡ true → IsCode kinds.now bytes.now }
     ensures no { result ≡ false → IsNoCode kinds.now bytes.now }
@@ -180,7 +180,7 @@ fn is_code(kinds: &[Kind], bytes: &[u8]) -> bool
     code.is_empty()
 }
 
-// The error when a request for memory was refused: bytes that are no code are not decoded with memory either.
+// The error after a failed allocation. It is `NotACode` if the bytes would not be decoded with more memory either.
 fn memory_error(kinds: &[Kind], bytes: &[u8]) -> DecodeError
     ensures memory { result ≡ DecodeError.OutOfMemory → IsCode kinds.now bytes.now }
     ensures none { result ≡ DecodeError.NotACode → IsNoCode kinds.now bytes.now }
@@ -192,9 +192,8 @@ fn memory_error(kinds: &[Kind], bytes: &[u8]) -> DecodeError
     }
 }
 
-/// Adds the values of these kinds whose code the bytes are to a row, in one pass over the bytes. What the row holds after an
-/// `Err` is not said. `OutOfMemory` is returned only where the bytes are a code: after a failed allocation all bytes are looked at
-/// again.
+/// Decodes bytes as values of these kinds, and adds the values to a row, in one pass over the bytes. After an `Err` some of the values may
+/// have been added. `OutOfMemory` is returned only if the bytes are a code. To find out, all bytes are read again after a failed allocation.
 pub fn decode_onto(
     alloc: Global,
     kinds: &[Kind],
@@ -223,8 +222,8 @@ pub fn decode_onto(
     }
 }
 
-/// The values of these kinds whose code the bytes are. No other list of values of these kinds has it. `OutOfMemory` is
-/// returned only where the bytes are a code.
+/// The values of these kinds that the bytes encode. No other list of values of these kinds has the same code. `OutOfMemory` is returned
+/// only if the bytes are a code.
 pub fn decode(alloc: Global, kinds: &[Kind], bytes: &[u8]) -> Result<Row, DecodeError>
     ensures code { IfOk result (λ row. IsCodeOf kinds.now bytes.now row) }
     ensures only { IfOk result (λ row. (other : List value) → IsCodeOf kinds.now bytes.now other → other ≡ row) }

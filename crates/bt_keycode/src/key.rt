@@ -1,4 +1,4 @@
-//! Keys: lists of bytes in the order of bytes.
+//! Keys: lists of bytes, ordered byte by byte.
 ghost use Rattle.std.specs.Prelude.{◌≡◌, ◌++◌, ◌≤◌, [], IfNone, IfOk, IfSome, OnOk, OnErr, drop, length};
 ghost use Rattle.bt_value.specs.Hex.{hex_text};
 ghost use Rattle.bt_value.specs.Paddings.{padded};
@@ -11,15 +11,15 @@ use std::alloc::{AllocError, Global};
 use std::cmp::Ordering;
 use std::marker::Model;
 
-/// A key of at most so many bytes is kept in the value itself, and takes no memory of its own.
+/// The most bytes of a key that is kept in the value itself. Such a key takes no memory of its own.
 pub const SHORT_KEY: usize = SHORT_BYTES;
 
-// The last place of eight bytes in a short key.
+// The last place in a short key at which eight bytes begin.
 const LAST_EIGHT: usize = SHORT_KEY - 8;
 
-/// A key: bytes, ordered byte by byte, a prefix before what it begins. A contract sees the list of its bytes.
+/// A key: bytes, ordered byte by byte, with a prefix before any longer key. A contract sees the list of its bytes.
 ///
-/// Up to 22 bytes are kept in the value itself, which has 24; most comparisons compare eight bytes at once, as numbers.
+/// Up to 22 bytes are kept in the value itself, which has 24 bytes. Most comparisons compare eight bytes at once, as numbers.
 #[derive(Debug, Drop)]
 pub struct Key {
     bytes: Bytes,
@@ -35,7 +35,7 @@ impl Model for Key {
     ghost view = { λ k. k.bytes };
 }
 
-// The number that the first eight bytes write, the highest first.
+// The first eight bytes as a number, with the highest byte first.
 pub(crate) fn prefix_of(bytes: &[u8]) -> u64
     requires { 8 ≤ length bytes.now }
     ensures { eight_bytes result ≡ first_eight bytes.now }
@@ -46,7 +46,7 @@ pub(crate) fn prefix_of(bytes: &[u8]) -> u64
 }
 
 impl Key {
-    /// The key of no bytes, which is before all others.
+    /// The empty key, which is before all others.
     pub fn new() -> Self
         ensures { result ≡ [] }
     {
@@ -60,7 +60,7 @@ impl Key {
         Ok(Key::of(Bytes::from_slice(alloc, bytes)?))
     }
 
-    // The key of these bytes, wherever they lie.
+    // The key of these bytes. It takes them over without copying.
     pub(crate) fn of(bytes: Bytes) -> Self
         ensures { result ≡ bytes }
     {
@@ -87,29 +87,28 @@ impl Key {
         self.bytes.as_slice()
     }
 
-    /// The number that the first eight bytes write, the highest first, with zeros in place of those that the key hasn't.
+    /// The first eight bytes as a number, with the highest byte first. Missing bytes count as zero.
     pub fn first_number(&self) -> u64
         ensures { eight_bytes result ≡ first_eight self.now }
     {
         self.number_at(0)
     }
 
-    /// The number that the eight bytes behind those of the first one write, with zeros as there.
+    /// The next eight bytes as a number, with missing bytes as zero.
     pub fn second_number(&self) -> u64
         ensures { eight_bytes result ≡ first_eight (drop 8 self.now) }
     {
         self.number_at(8)
     }
 
-    /// The number that the eight bytes from place 14 on write, with zeros as in the first one. The three numbers tell the first 22
-    /// bytes.
+    /// The eight bytes from place 14 on as a number, with missing bytes as zero. The three numbers determine the first 22 bytes.
     pub fn third_number(&self) -> u64
         ensures { eight_bytes result ≡ first_eight (drop 14 self.now) }
     {
         self.number_at(LAST_EIGHT)
     }
 
-    // The number that the eight bytes from a place on write, with zeros in place of those that the key hasn't.
+    // The eight bytes from a place on as a number. Missing bytes count as zero.
     fn number_at(&self, place: usize) -> u64
         requires { place ≤ LAST_EIGHT }
         ensures { eight_bytes result ≡ first_eight (drop place self.now) }
@@ -117,8 +116,8 @@ impl Key {
         prefix_of(&self.bytes.padded()[place..])
     }
 
-    // The order of two keys by the numbers at a place, where these differ. The bytes before the place are the same, zeros behind the
-    // last one counted in.
+    // The order of two keys by the numbers at a place, if these differ. The keys must have the same bytes before the place. Missing bytes
+    // count as zero.
     #[inline(always)]
     fn order_at(&self, other: &Key, place: usize) -> Option<Ordering>
         requires within { place ≤ LAST_EIGHT }
@@ -133,7 +132,7 @@ impl Key {
         None
     }
 
-    // The order of two short keys that have the same first sixteen bytes, zeros behind the last one counted in.
+    // The order of two short keys with the same first sixteen bytes. Missing bytes count as zero.
     fn compare_tails(&self, other: &Key) -> Ordering
         requires short { length self.now ≤ SHORT_KEY }
         requires other_short { length other.now ≤ SHORT_KEY }
@@ -147,7 +146,7 @@ impl Key {
         self.len().cmp(&other.len())
     }
 
-    // The order of two keys that have the same first eight bytes, zeros behind the last one counted in.
+    // The order of two keys with the same first eight bytes. Missing bytes count as zero.
     #[inline(always)]
     fn compare_behind(&self, other: &Key) -> Ordering
         requires { first_eight self.now ≡ first_eight other.now }
@@ -162,21 +161,20 @@ impl Key {
         self.as_slice().cmp(other.as_slice())
     }
 
-    /// How the key stands to another one, byte by byte.
+    /// The order of this key and another one, byte by byte.
     #[inline(always)]
     pub fn compare(&self, other: &Key) -> Ordering
         ensures { result ≡ key_cmp self.now other.now }
     {
-        // Most keys differ in their first eight bytes, and nearly all in those that they keep: these are compared where the call
-        // stands, as in the loops of a sort.
+        // Most keys differ in their first eight bytes, and nearly all in those that they keep in themselves. The first eight are
+        // compared inline, which helps in the loops of a sort.
         if let Some(order) = self.order_at(other, 0) {
             return order;
         }
         self.compare_behind(other)
     }
 
-    /// Adds the bytes as text: two lower-case hexadecimal digits for each. After an `Err`, for want of memory, `out` is as it
-    /// was.
+    /// Adds the bytes as text: two lower-case hexadecimal digits for each. An `Err` means out of memory, and leaves `out` unchanged.
     pub fn write_hex(&self, out: &mut Vec<u8>) -> Result<(), AllocError>
         ensures ok { OnOk result (out.new.items ≡ out.old.items ++ hex_text self.now) }
         ensures err { OnErr result (out.new.items ≡ out.old.items) }

@@ -1,4 +1,4 @@
-//! The lengths of key codes, as weights. No code is written for them, so they take no memory.
+//! The lengths of key codes, as weights. They are computed without writing a code, so they take no memory.
 ghost use Rattle.std.specs.Prelude.{◌≡◌, ◌≤◌, ◌+◌, ◌++◌, ◌∷◌, [], length};
 ghost use Rattle.bt_keycode.specs.Codes.{code_of_value, escaped};
 ghost use Rattle.bt_keycode.specs.Lengths.{byte_weight, change_code_length, code_length};
@@ -9,20 +9,20 @@ use crate::zeros::split_at_zero;
 use bt_row::{Change, Row, Values};
 use bt_value::{Content, MOST_VALUE_BYTES, Value, ValueRef};
 
-/// The most that anything weighs, in bytes: the greatest number of 24 bits.
+/// The largest weight, in bytes: the largest number of 24 bits.
 pub const MOST_WEIGHT: u64 = 16_777_215;
 
-// The bytes of an operation beside its argument: one for what it does, one for its column.
+// The bytes of an operation besides its argument: one for what it does, and one for its column.
 const OP_BYTES: u64 = 2;
 
-// A weight and so many bytes more.
+// A weight increased by this many bytes, up to the largest weight.
 fn weight_sum(weight: u64, bytes: u64) -> u64
     ensures { result ≡ byte_weight (weight + bytes) }
 {
     weight.saturating_add(bytes).min(MOST_WEIGHT)
 }
 
-// The length of the code of bytes, part by part between the zero bytes.
+// The length of the code of bytes. Each part up to a zero byte is counted as a whole.
 fn bytes_len(bytes: &[u8]) -> u64
     requires { length bytes.now ≤ MOST_VALUE_BYTES }
     ensures { result ≡ length (escaped bytes.now ++ (0 ∷ 1 ∷ [])) }
@@ -36,7 +36,7 @@ fn bytes_len(bytes: &[u8]) -> u64
     len + rest.len() as u64
 }
 
-// The length of the code of a value. The longest is that of 255 zero bytes.
+// The length of the code of a value. The code of 255 zero bytes is the longest.
 #[tactic(auto, using(crate::proofs::CodeLengths::length_int, crate::proofs::CodeLengths::short_code, crate::proofs::CodeLengths::bytes_length))]
 fn value_len(value: ValueRef<'_>) -> u64
     requires { BytesFit (value_of_ref value) }
@@ -50,7 +50,7 @@ fn value_len(value: ValueRef<'_>) -> u64
     }
 }
 
-// The length of the code of values, wherever they lie.
+// The length of the code of values, as a weight.
 fn values_len(values: Values<'_>) -> u64
     ensures { result ≡ code_length values.entry }
 {
@@ -62,22 +62,22 @@ fn values_len(values: Values<'_>) -> u64
     weight
 }
 
-/// The length of the key code of the values, or [`MOST_WEIGHT`] where that is less.
+/// The length of the key code of the values, or [`MOST_WEIGHT`] if that is smaller.
 pub fn code_len(values: &[Value]) -> u64
     ensures { result ≡ code_length values.now }
 {
     values_len(Values::of(values))
 }
 
-/// The length of the key code of the values of a row, or [`MOST_WEIGHT`] where that is less.
+/// The length of the key code of the values of a row, or [`MOST_WEIGHT`] if that is smaller.
 pub fn row_code_len(row: &Row) -> u64
     ensures { result ≡ code_length row.now }
 {
     values_len(row.values())
 }
 
-/// The bytes of the operations of a change, or [`MOST_WEIGHT`] where that is less: of each the key code of its argument, an int
-/// where it makes a number, and two more.
+/// The bytes of the operations of a change, or [`MOST_WEIGHT`] if that is smaller. Each operation counts two bytes, and the key code of its
+/// argument. The argument of an arithmetic operation is an int.
 pub fn change_code_len(change: &Change) -> u64
     ensures { result ≡ change_code_length change.now }
 {

@@ -1,9 +1,13 @@
-//! Keys as bytes: the code of a list of values, whose order byte by byte is the order of the lists.
+//! Keys as bytes: encodes a list of values so that the order of the codes, byte by byte, is the order of the lists.
 //!
-//! A tree compares keys and never looks into them, so the values of a key become one [`Key`]. The code of an int is eight
-//! bytes, big endian, with the sign bit inverted. That of a text, or of bytes, has 255 behind each zero byte, and 0 and 1 at the
-//! end; that of a flag is one byte, 0 or 1. A list has the codes of its values one after the other. No code is the
-//! beginning of another one of the same kinds. How long a code is can be had without writing it, as a weight ([`code_len`]).
+//! A tree compares keys and does not decode them, so the values of a key become one [`Key`]:
+//!
+//! - an int is eight bytes, big endian, with the sign bit inverted;
+//! - a text, or bytes, are followed by 0 and 1, and each zero byte in them is followed by 255;
+//! - a flag is one byte, 0 or 1.
+//!
+//! The code of a list is the codes of its values, one after the other. No code is a proper prefix of another one of the same kinds. The
+//! length of a code is also available without writing it, as a weight ([`code_len`]).
 //!
 //! ```text
 //! let key = encode(alloc, &[Value::Int(3)])?;

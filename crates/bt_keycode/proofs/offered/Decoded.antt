@@ -1,4 +1,4 @@
--- Which values are decoded of bytes: those whose code they are, and none of other bytes. What an index shows of its keys follows from it.
+-- The values that are decoded from bytes: those that the bytes encode, and none if they are no code. Used for the keys that an index prints.
 use Rattle.std.proofs.Common.{◌≡◌, ◌∙◌, ℕ, suc, ◌+◌, ◌-◌, ◌^◌, ◌<◌, ◌&&◌, arith, Bool, true, false, true≢false, List, [], ◌∷◌, ◌++◌, append_assoc, append-nil, drop, map, nat_le, take, Option, Some, None, refl, sym, ap, subst, ℤ, pos, negsuc, SFits, w64, if◌then◌else◌}
 use Rattle.std.proofs.lemmas.Bool.Decides.{nat_tests}
 use Rattle.std.proofs.lemmas.Nat.{from_be_bytes-to_be_bytes_8}
@@ -41,7 +41,7 @@ others_again : (n : ℕ) (rest : List ℕ) → drop 8 (eight_bytes n ++ rest) �
 unfolding eight_bytes
 others_again n rest = refl
 
--- what a value holds with whose code bytes begin
+-- a content is read from bytes that begin with its code
 content_again : (c : Content) (rest : List ℕ) → HasBits c → first_content (form_in c) (code_of_content c ++ rest) ≡ Some (c, rest)
 content_again (Number z) rest fits =
     ap (λ n. Some (Number (lowered n), drop 8 (eight_bytes (raised z) ++ rest))) (int_again (raised z) rest (raised_below z fits))
@@ -51,7 +51,7 @@ content_again (Bytes bytes) rest fits = ap (option_map (λ read. (Bytes read.0, 
 content_again (Bit true) rest fits = refl
 content_again (Bit false) rest fits = refl
 
--- the value with whose code bytes begin
+-- the value is read from bytes that begin with its code
 value_again : (v : Value) (rest : List ℕ) → IsInRange v → first_value (kind_of v) (code_of_value v ++ rest) ≡ Some (v, rest)
 unfolding first_value
 value_again v rest fits =
@@ -67,13 +67,13 @@ all_again (v ∷ values) rest fits =
     ∙ ap (option_and_then (λ read. option_map (λ vs. read.0 ∷ vs) (first_values (map kind_of values) read.1))) (value_again v (code_of values ++ rest) fits.0)
     ∙ ap (option_map (λ vs. v ∷ vs)) (all_again values rest fits.1)
 
--- ---- what was read, looked at
+-- ---- checking what was read
 
 both_true : (a b : Bool) → (a && b) ≡ true → (a ≡ true) × (b ≡ true)
 both_true true b is = (refl, is)
 both_true false b is = absurd (true≢false (sym is))
 
--- what a kind takes lies in its range, and what lies in its range is taken
+-- the contents that a kind takes are those within its range
 ranges_taken : (k : Kind) (c : Content) → takes_content k c ≡ true → has_bits c ≡ true → LiesInRange k c
 ranges_taken k (Number (pos n)) taken low = record { sfits = grind (arith, nat_tests) }
 ranges_taken k (Number (negsuc n)) taken low = record { sfits = grind (arith, nat_tests) }
@@ -115,9 +115,9 @@ own_kinds : (values : List Value) → AreInRange values → pointwise is_of_kind
 own_kinds [] range = refl
 own_kinds (v ∷ vs) range = ap (λ b. b && pointwise is_of_kind (map kind_of vs) vs) (own_kind v range.0) ∙ own_kinds vs range.1
 
--- ---- the law of `decoded`: it gives values exactly where bytes are their code
+-- ---- the law of `decoded`: it returns values exactly if bytes are their code
 
--- the values of their code
+-- values are decoded from their code
 pub decoded_again : (values : List Value) → AreInRange values → decoded (map kind_of values) (code_of values) ≡ Some values
 unfolding decoded
 decoded_again values fits =
@@ -126,12 +126,12 @@ decoded_again values fits =
     ∙ ap (λ b. if b && bytes_eq (code_of values) (code_of values) then Some values else None) (own_kinds values fits)
     ∙ ap (λ b. if b then Some values else None) ((bytes_eq-Decides (code_of values) (code_of values)).1 refl)
 
--- where bytes are the code of values, these are decoded
+-- if bytes are the code of values, these values are decoded
 pub code_decoded : (kinds : List Kind) (bytes : List ℕ) (values : List Value) → IsCodeOf kinds bytes values → decoded kinds bytes ≡ Some values
 code_decoded kinds bytes values is =
     ap (λ ks. decoded ks bytes) (sym is.of_kinds) ∙ ap (decoded (map kind_of values)) (sym is.code) ∙ decoded_again values is.in_range
 
--- the values that there are, or these
+-- the values that were decoded, or these if there are none
 abbrev or_values : List Value → Option (List Value) → List Value
 or_values values None = values
 or_values values (Some found) = found
@@ -143,7 +143,7 @@ module _ (kinds : List Kind) (bytes : List ℕ) where
       let fit = of_kinds kinds values both.0 in
       record { of_kinds = fit.0; in_range = fit.1; code = (bytes_eq-Decides (code_of values) bytes).0 both.1 }
 
-  -- what is decoded has the bytes as its code
+  -- the bytes are the code of the values that are decoded from them
   pub decoded_code : (values : List Value) → decoded kinds bytes ≡ Some values → IsCodeOf kinds bytes values
   unfolding decoded
   decoded_code values = of_read (first_values kinds bytes)
@@ -156,7 +156,7 @@ module _ (kinds : List Kind) (bytes : List ℕ) where
       of_read None is = absurd (none-some values is)
       of_read (Some found) is = of_values found (pointwise is_of_kind kinds found && bytes_eq (code_of found) bytes) refl is
 
-  -- nothing is decoded of bytes that are no code
+  -- nothing is decoded from bytes that are no code
   pub none_decoded : IsNoCode kinds bytes → decoded kinds bytes ≡ None
   none_decoded other = by_decoded (decoded kinds bytes) refl
     where

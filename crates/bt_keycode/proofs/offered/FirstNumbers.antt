@@ -1,4 +1,4 @@
--- Keys stand as the numbers that their first bytes write, and where these are one as the whole keys. Sorts by numbers stand on it.
+-- Keys are ordered like the numbers of their first bytes and, if these are equal, like the whole keys. Used by sorts by numbers.
 use Rattle.std.proofs.Common.{◌≡◌, ◌≢◌, ℕ, ◌^◌, ◌<◌, ◌≤◌, ◌⊎◌, inl, inr, true, false, cond, [], length, drop, refl, sym, ap, ◌∙◌, arith, min}
 use Rattle.std.proofs.lemmas.Bool.Decides.{leb_tells}
 use lib.Dec.{leb}
@@ -13,7 +13,7 @@ use Rattle.bt_keycode.specs.Prefixes.{first_eight, rest_of}
 use Rattle.bt_keycode.proofs.Prefixes.{all_same, first_same, lengths_decide, numbers_decide, same_fourteen, same_sixteen, short_before_long}
 use Rattle.bt_keycode.proofs.offered.Order.{total_keys}
 
--- the numbers of eight bytes from a place on, where all bytes before are the same
+-- the numbers of eight bytes from a place on, if all bytes before the place are the same
 next_numbers_order : (m h k : ℕ) (a b : Key) → h < 2 ^ 64 → k < 2 ^ 64 → padded m a ≡ padded m b → eight_bytes h ≡ first_eight (drop m a) → eight_bytes k ≡ first_eight (drop m b) →
     ordering_then (nat_cmp h k) (key_cmp a b) ≡ key_cmp a b
 next_numbers_order m h k a b low under same of_a of_b = by_order (nat_cmp h k) refl
@@ -44,7 +44,7 @@ pub record AreNumbers (first second third : ℕ) (k : Key) : Type 0 where
   pub second_bytes : eight_bytes second ≡ first_eight (drop 8 k)
   pub third_bytes : eight_bytes third ≡ first_eight (drop 14 k)
 
--- what an order decides, and what else does
+-- what one order decides, and what the next one decides if the first is `Equal`
 decide : (o later whole : Ordering) → ordering_then o whole ≡ whole → (o ≡ Equal → later ≡ whole) → ordering_then o later ≡ whole
 decide Less later whole h next = h
 decide Equal later whole h next = next refl
@@ -88,7 +88,7 @@ module _ (a b : Key) (same : padded 22 a ≡ padded 22 b) where
       ap (λ o. ordering_then o (key_cmp (rest_of m a) (rest_of n b))) greater
       ∙ sym (total_keys.antisymm a b ∙ ap ordering_reverse (short_before_long 22 b a (omega (arith, f, q.1)) (omega (arith, e, p.1)) (sym same)))
 
--- Keys stand as their three numbers, then as their lengths up to 23, and as the whole keys where both have more than 22 bytes.
+-- Keys are ordered by their three numbers, then by their lengths up to 23 and, if both have more than 22 bytes, as whole keys.
 pub three_numbers_order : (f g h p q r m n : ℕ) (a b : Key) → AreNumbers f g h a → AreNumbers p q r b → m ≡ min 23 (length a) → n ≡ min 23 (length b) →
     ordering_then (nat_cmp f p) (ordering_then (nat_cmp g q) (ordering_then (nat_cmp h r) (ordering_then (nat_cmp m n) (key_cmp (rest_of m a) (rest_of n b))))) ≡ key_cmp a b
 three_numbers_order f g h p q r m n a b of_a of_b e k =

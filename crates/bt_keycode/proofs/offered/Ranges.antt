@@ -1,4 +1,4 @@
--- What records spell lies in the ranges of its kinds, and operations leave it there. The codes of a table's rows stand on it.
+-- The values that records encode are within the ranges of their kinds, also after operations. Used for the codes of a table's rows.
 use Rattle.std.proofs.Common.{ℕ, zero, suc, ◌==◌, Bool, true, false, List, [], ◌∷◌, ◌++◌, arith, length, take, drop, get_or, set, subst, sym, codes, map, Option, Some, None, IfSome, IfOk, Result, Ok, Err, ℤ, pos, if◌then◌else◌}
 use Rattle.std.specs.Cmp.Lexicographic.{pointwise}
 use Rattle.std.specs.Int.{w64}
@@ -37,7 +37,7 @@ append_in_range : (vs ws : List Value) → AreInRange vs → AreInRange ws → A
 append_in_range [] ws h rest = rest
 append_in_range (v ∷ vs) ws h rest = (h.0, append_in_range vs ws h.1 rest)
 
--- ---- values that fields spell
+-- ---- values that fields encode
 
 with_first_in_range : (first : Option Value) (rest : Option (List Value)) → IfSome first IsInRange → IfSome rest AreInRange → IfSome (with_first first rest) AreInRange
 with_first_in_range None rest h others = tt
@@ -62,7 +62,7 @@ read_in_range columns item fields =
       | false ↦ tt
     ]
 
--- ---- operations that fields spell
+-- ---- operations that fields encode
 
 -- the argument of an operation is in range
 abbrev pub OpInRange : Op → Type 0

@@ -1,4 +1,4 @@
--- Tests that hold, together and one by one.
+-- Tests that are true, together and one by one.
 use Rattle.std.proofs.Common.{◌≡◌, Bool, true, false, ◌&&◌, T, refl, sym, subst}
 
 pub t_both : (a b : Bool) → T a → T b → T (a && b)

@@ -1,4 +1,4 @@
--- What bytes are read as, piece by piece, whatever follows: the steps of `decoded`.
+-- Reading bytes piece by piece, with anything after them: the steps of `decoded`.
 use Rattle.std.specs.Cmp.Lexicographic.{pointwise}
 use Rattle.std.specs.Int.{from_be_bytes, w64}
 use Rattle.std.specs.Prelude.{ℕ, zero, suc, ◌==◌, ◌-◌, ◌^◌, ◌&&◌, ◌++◌, Bool, true, List, [], ◌∷◌, drop, get_or, nat_le, nat_lt, take, Option, Some, None, option_and_then, option_map, if◌then◌else◌, ℤ, pos, negsuc}
@@ -11,12 +11,12 @@ use Rattle.bt_value.specs.declared.value.Kind.{Kind}
 use Rattle.bt_value.specs.declared.value.Value.{Value}
 use Rattle.bt_keycode.specs.Codes.{code_of}
 
--- what is read from the code of bytes, with these before it
+-- what was read from a code, with these bytes before it
 abbrev pub after_bytes : List ℕ → Option (List ℕ × List ℕ) → Option (List ℕ × List ℕ)
 after_bytes prefix None = None
 after_bytes prefix (Some read) = Some (prefix ++ read.0, read.1)
 
--- the bytes whose code a list of bytes begins with, if it does, and what comes after it
+-- the bytes whose code is at the start of a list of bytes, if there is one, and the bytes after the code
 unfoldable pub unescaped : List ℕ → Option (List ℕ × List ℕ)
 unescaped [] = None
 unescaped (suc n ∷ bytes) = after_bytes (suc n ∷ []) (unescaped bytes)
@@ -25,28 +25,28 @@ unescaped (zero ∷ b ∷ bytes) = if b == 1 then Some ([], bytes) else (if b ==
 
 -- ---- values
 
--- an int that was moved up by 2^63
+-- an int that 2^63 was added to
 abbrev pub lowered : ℕ → ℤ
 lowered n = if nat_le (2 ^ 63) n then pos (n - 2 ^ 63) else negsuc (2 ^ 63 - suc n)
 
--- what bytes that begin with the code of a value of this form are read as, and what comes after it
+-- what is read as the content of this form, if the bytes begin with its code, and the bytes after it
 abbrev pub first_content : Form → List ℕ → Option (Content × List ℕ)
 first_content form.Number bytes = Some (Number (lowered (from_be_bytes w64 (take 8 bytes))), drop 8 bytes)
 first_content form.Bytes bytes = option_map (λ read. (Bytes read.0, read.1)) (unescaped bytes)
 first_content form.Bit bytes = Some (Bit (get_or bytes 0 0 == 1), drop 1 bytes)
 
--- the value of this kind that they are read as, and what comes after it
+-- what is read as the value of this kind, and the bytes after it
 unfoldable pub first_value : Kind → List ℕ → Option (Value × List ℕ)
 first_value kind bytes = option_map (λ read. (value_with kind read.0, read.1)) (first_content (form_of kind) bytes)
 
--- the values of these kinds that bytes that begin with their code are read as
+-- what is read as the values of these kinds, if the bytes begin with their code
 unfoldable pub first_values : List Kind → List ℕ → Option (List Value)
 first_values [] bytes = Some []
 first_values (kind ∷ kinds) bytes = option_and_then (λ read. option_map (λ values. read.0 ∷ values) (first_values kinds read.1)) (first_value kind bytes)
 
--- ---- what was read, looked at
+-- ---- checking what was read
 
--- whether what a value holds is a number of 64 bits, if it is one
+-- whether a content has 64 bits if it is a number
 abbrev pub has_bits : Content → Bool
 has_bits (Number (pos n)) = nat_lt n (2 ^ 63)
 has_bits (Number (negsuc n)) = nat_lt n (2 ^ 63)
@@ -56,6 +56,6 @@ has_bits other = true
 abbrev pub is_of_kind : Kind → Value → Bool
 is_of_kind kind value = fits_kind kind value && has_bits (content_of value)
 
--- these values, if they are of these kinds and bytes are their code
+-- these values, if they are of these kinds and the bytes are their code
 abbrev pub if_coded : List Kind → List ℕ → List Value → Option (List Value)
 if_coded kinds bytes values = if pointwise is_of_kind kinds values && bytes_eq (code_of values) bytes then Some values else None

@@ -3,7 +3,7 @@ use Rattle.bt_value.specs.Texts.{most_value_bytes}
 use Rattle.bt_keycode.specs.inside.Readings.{after_bytes, unescaped}
 use Rattle.bt_keycode.proofs.decoder.unescape.Given as goal
 
--- the bytes read so far, and what is read of those that are left, are what is read of all
+-- the bytes read so far, followed by those read from the remaining ones, are the bytes read from all
 abbrev pub invariant-loop-byte : goal.invariant-loop-byte
 invariant-loop-byte l = record {
   size : length l.room ≡ most_value_bytes;

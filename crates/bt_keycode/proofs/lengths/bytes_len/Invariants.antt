@@ -2,7 +2,7 @@ use Rattle.std.proofs.Common.{◌≡◌, ◌+◌, length}
 use Rattle.bt_keycode.specs.Codes.{escaped}
 use Rattle.bt_keycode.proofs.lengths.bytes_len.Given as goal
 
--- what was counted, and the code of the bytes that are left
+-- what was counted, and the code of the remaining bytes
 abbrev pub invariant-loop-part : goal.invariant-loop-part
 invariant-loop-part l = l.len + length (escaped l.rest) ≡ 2 + length (escaped l.bytes)
 

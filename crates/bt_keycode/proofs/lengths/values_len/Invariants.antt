@@ -3,7 +3,7 @@ use Rattle.bt_keycode.specs.Codes.{code_of}
 use Rattle.bt_keycode.specs.Lengths.{byte_weight, code_length, most_weight}
 use Rattle.bt_keycode.proofs.lengths.values_len.Given as goal
 
--- what was counted, and the codes of the values that are left
+-- what was counted, and the codes of the remaining values
 abbrev pub invariant-loop-value : goal.invariant-loop-value
 invariant-loop-value l = record {
   total : byte_weight (l.weight + length (code_of l.rest)) ≡ code_length l.fn.values;

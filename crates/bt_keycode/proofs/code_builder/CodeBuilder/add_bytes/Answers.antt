@@ -4,7 +4,7 @@ use Rattle.bt_keycode.specs.Codes.{escaped}
 use Rattle.bt_keycode.proofs.Escapes.{escaped_no_zero, escaped_parts}
 use Rattle.bt_keycode.proofs.code_builder.CodeBuilder.add_bytes.Goals as goal
 
--- one more part was added, and the zero byte behind it
+-- one more part was added, and the zero byte after it
 one_more : (wanted now new rest part behind : List ℕ) → wanted ≡ now ++ escaped rest → rest ≡ part ++ 0 ∷ behind → list_any (λ b. nat_eq b 0) part ≡ false →
     new ≡ now ++ (part ++ (0 ∷ 255 ∷ [])) → wanted ≡ new ++ escaped behind
 one_more wanted now new rest part behind so_far whole none is =

@@ -2,7 +2,7 @@ use Rattle.std.proofs.Common.{◌≡◌, ◌++◌, length}
 use Rattle.bt_keycode.specs.Codes.{escaped}
 use Rattle.bt_keycode.proofs.code_builder.CodeBuilder.add_bytes.Given as goal
 
--- what was added, and the bytes that are left
+-- what was added, followed by the remaining bytes
 abbrev pub invariant-loop-part : goal.invariant-loop-part
 invariant-loop-part l = l.fn.self ++ escaped l.bytes ≡ l.self ++ escaped l.rest
 
