@@ -1,4 +1,4 @@
--- Sorted messages cut at keys: what `take_range` and `iter_from` stand on.
+-- Sorted messages cut at keys, for `take_range` and `iter_from`.
 use Rattle.std.proofs.Common.{◌≡◌, ℕ, zero, suc, ◌<◌, ◌≤◌, Bool, true, false, not, ◌&&◌, cond, List, [], ◌∷◌, ◌++◌, ◌-◌, length, take, drop, get_or, Option, Some, None, refl, sym, ap, subst, ◌∙◌, true≢false, arith}
 use Rattle.std.proofs.Math.Seq.{drop-length, take-length}
 use Rattle.std.proofs.lemmas.List.{take_rest}
@@ -26,7 +26,7 @@ module _ {M : Type 0} where
   in_order (m ∷ ms) (suc i) zero d h l n = absurd (omega arith)
   in_order (m ∷ ms) (suc i) (suc j) d h l n = in_order ms i j d h.1 (omega arith) (omega arith)
 
-  -- what has a key before one stands first
+  -- the messages with a key before this one come first
   pub parted : (k : List ℕ) (ms : Messages M) → IsSorted ms → IsPartitionedBy (λ m. is_before m.0 k) ms
   parted k ms h i j d l n e = go (is_before (get_or ms i d).0 k) refl
     where
@@ -44,7 +44,7 @@ module _ {X : Type 0} (p : X → Bool) where
         ap (λ ys. x ∷ ys) others.1 ∙ ap (λ b. cond (not b) (x ∷ filter (λ y. not (p y)) xs) (filter (λ y. not (p y)) xs)) (sym here),
       )
 
-  -- where a test turns from true to false, its two filters are the two parts
+  -- if a list satisfies a test up to a place and not after it, the two filters are the two parts
   pub parts_are : (xs : List X) (n : ℕ) → IsPartitionPoint (λ x. p x ≡ true) (λ x. p x ≡ false) xs n → (take n xs ≡ filter p xs) × (drop n xs ≡ filter (λ x. not (p x)) xs)
   parts_are xs zero h = none_passes xs h.1
   parts_are [] (suc n) h = (refl, refl)
@@ -135,7 +135,7 @@ module _ {M : Type 0} where
       messages_between from to ms ≡ filter (λ (m : List ℕ × M). not (is_before_lower from m.0)) (filter (λ (m : List ℕ × M). is_before_upper to m.0) ms)
   between_is from to ms = filter_both (λ (m : List ℕ × M). is_before_upper to m.0) (λ (m : List ℕ × M). not (is_before_lower from m.0)) ms
 
-  -- where messages are cut at an upper bound, and at their end where there is none
+  -- messages are cut at an upper bound, or at their end if there is none
   pub cut_upper : (to : Option (List ℕ)) (ms : Messages M) (n end : ℕ) → end ≡ length ms → MatchOption to (n ≡ end) (λ k. (take n ms ≡ messages_before k ms) × (drop n ms ≡ messages_from k ms)) →
       (take n ms ≡ filter (λ (m : List ℕ × M). is_before_upper to m.0) ms) × (drop n ms ≡ filter (λ (m : List ℕ × M). not (is_before_upper to m.0)) ms)
   cut_upper None ms n end l e = (
@@ -144,7 +144,7 @@ module _ {M : Type 0} where
   )
   cut_upper (Some k) ms n end l h = h
 
-  -- where they are cut at a lower bound, and at their start where there is none
+  -- they are cut at a lower bound, or at their start if there is none
   pub cut_lower : (from : Option (List ℕ)) (ms : Messages M) (n : ℕ) → MatchOption from (n ≡ 0) (λ k. (take n ms ≡ messages_before k ms) × (drop n ms ≡ messages_from k ms)) →
       (take n ms ≡ filter (λ (m : List ℕ × M). is_before_lower from m.0) ms) × (drop n ms ≡ filter (λ (m : List ℕ × M). not (is_before_lower from m.0)) ms)
   cut_lower None ms n e =
@@ -167,7 +167,7 @@ module _ {M : Type 0} where
   pub sorted_part : (p : (List ℕ × M) → Bool) (ms part : Messages M) → IsSorted ms → part ≡ filter p ms → IsSorted part
   sorted_part p ms part h e = subst IsSorted (sym e) (filter_sorted p ms h)
 
-  -- ---- newer messages go behind what is before the first of them
+  -- ---- newer messages go after those that are before the first of them
 
   none_before : (k : List ℕ) (e : List ℕ) (ms : Messages M) → is_before e k ≡ false → AllFrom e ms → (messages_before k ms ≡ []) × (messages_from k ms ≡ ms)
   none_before k e [] f h = (refl, refl)
@@ -192,7 +192,7 @@ module _ {M : Type 0} where
   pub tail_sorted : (k : List ℕ) (ms xs : Messages M) (n : ℕ) → IsSorted ms → drop n xs ≡ messages_from k ms → IsSorted (take (length xs - n) (drop n xs))
   tail_sorted k ms xs n h e = sorted_part (λ m. not (is_before m.0 k)) ms (take (length xs - n) (drop n xs)) h (take_rest xs n ∙ e)
 
-  -- messages between bounds are not more than all
+  -- messages between bounds are at most all
   pub fewer_between : (from to : Option (List ℕ)) (ms part : Messages M) → part ≡ messages_between from to ms → length part ≤ length ms
   fewer_between from to ms part e =
       omega (arith, ap length e, length-filter_both (λ (m : List ℕ × M). is_between from to m.0) (λ (m : List ℕ × M). not (is_between from to m.0)) (λ m. refl) ms)

@@ -1,4 +1,4 @@
--- A message inserted at its place among sorted ones, and one share that alone has messages, for `insert`, `insert_front` and `add_shares`.
+-- A message inserted at its place among sorted ones, and the only share that has messages, for `insert`, `insert_front` and `add_shares`.
 use Rattle.std.proofs.Common.{◌≡◌, ◌≢◌, ◌∙◌, ℕ, zero, suc, ◌<◌, ◌≤◌, ◌+◌, ◌-◌, Bool, true, false, true≢false, not, List, [], ◌∷◌, ◌++◌, length, take, drop, get_or, set, refl, sym, ap, subst, arith, inl, inr, if◌then◌else◌}
 use Rattle.std.proofs.lemmas.Bool.Decides.{leb_tells}
 use borrow.Author.Count.{below_more}
@@ -26,7 +26,7 @@ not_true false e = refl
 module _ {M : Type 0} where
   -- ---- the place of a message
 
-  -- what has a key that is not past one stands first
+  -- the messages with a key at or before this one come first
   pub parted_up : (k : List ℕ) (ms : Messages M) → IsSorted ms → IsPartitionedBy (λ m. not (is_before k m.0)) ms
   parted_up k ms h i j d l n e = go (is_before k (get_or ms i d).0) refl
     where
@@ -58,20 +58,20 @@ module _ {M : Type 0} where
         | false ↦ ap (λ zs. e ∷ zs) (at_place m es)
       ]
 
-  -- a message inserted behind those that are not past its key is placed
+  -- a message inserted after those with a key at or before its own is placed
   pub inserted : (m : List ℕ × M) (es now : Messages M) (n : ℕ) → now ≡ take n es ++ m ∷ drop n es → take n es ≡ messages_up_to m.0 es → drop n es ≡ messages_past m.0 es → now ≡ with_message m es
   inserted m es now n is up past = is ∙ ap (λ zs. zs ++ m ∷ drop n es) up ∙ ap (λ zs. messages_up_to m.0 es ++ m ∷ zs) past ∙ sym (at_place m es)
 
   pub placed_sorted : (m : List ℕ × M) (es now : Messages M) → now ≡ with_message m es → IsSorted es → IsSorted now
   placed_sorted m es now is h = subst IsSorted (sym is) (sorted-with_messages (m ∷ []) es h)
 
-  -- one message more is
+  -- one message more is placed
   pub insert_step : (m : List ℕ × M) (rest ms es now wanted : Messages M) (count i : ℕ) → i < count → ms ≡ m ∷ rest → now ≡ with_message m es →
       with_messages (take (count - i) ms) es ≡ wanted → with_messages (take (count - (i + 1)) rest) now ≡ wanted
   insert_step m rest ms es now wanted count i l e n w =
       ap (with_messages (take (count - (i + 1)) rest)) n ∙ sym (ap (λ zs. with_messages zs es) (one_taken ms rest m count i l e).0) ∙ w
 
-  -- ---- one share alone
+  -- ---- a single share
 
   none_gained : (ns : List ℕ) (ms : Messages M) (bs : List (Messages M)) → length ns ≡ length bs → ((j : ℕ) → get_or ns j 0 ≡ 0) → each_with (parted ns ms) bs ≡ bs
   none_gained [] ms [] e h = refl
@@ -80,7 +80,7 @@ module _ {M : Type 0} where
   none_gained (n ∷ ns) ms (b ∷ bs) e h =
       ap (λ k. with_messages (take k ms) b ∷ each_with (parted ns (drop k ms)) bs) (h 0) ∙ ap (λ zs. b ∷ zs) (none_gained ns ms bs (omega (arith, e)) (λ j. h (suc j)))
 
-  -- the buffer at its place gains it, and the others stay
+  -- the buffer at its place gains it, and the others stay the same
   pub one_gained : (ns : List ℕ) (ms : Messages M) (bs : List (Messages M)) (p n : ℕ) (old new : Messages M) → length ns ≡ length bs → p < length ns → n ≡ get_or ns p n → old ≡ get_or bs p old →
       ((j : ℕ) → j ≢ p → get_or ns j 0 ≡ 0) → new ≡ with_messages (take n ms) old → set bs p new ≡ each_with (parted ns ms) bs
   one_gained [] ms bs p n old new e l here is h g = absurd (omega (arith, l))
@@ -96,7 +96,7 @@ none_together : (ns : List ℕ) → ((j : ℕ) → get_or ns j 0 ≡ 0) → tota
 none_together [] h = refl
 none_together (n ∷ ns) h = omega (arith, h 0, none_together ns (λ j. h (suc j)))
 
--- its number is that of all
+-- its number is the total
 pub one_together : (ns : List ℕ) (p n : ℕ) → p < length ns → n ≡ get_or ns p n → ((j : ℕ) → j ≢ p → get_or ns j 0 ≡ 0) → total ns ≡ n
 one_together [] p n l here h = absurd (omega (arith, l))
 one_together (k ∷ ns) zero n l here h = omega (arith, here, none_together ns (λ j. h (suc j) (λ f. omega (arith, f))))
@@ -109,11 +109,11 @@ past_all [] j l = refl
 past_all (n ∷ ns) zero l = absurd (omega (arith, l))
 past_all (n ∷ ns) (suc j) l = past_all ns j (omega (arith, l))
 
--- one place more without messages
+-- one more place without messages
 pub empty_more : (ns : List ℕ) (from place : ℕ) → ((j : ℕ) → from ≤ j → j < place → get_or ns j 0 ≡ 0) → get_or ns place 0 ≡ 0 → (j : ℕ) → from ≤ j → j < place + 1 → get_or ns j 0 ≡ 0
 empty_more ns from place before here = λ j f l. below_more (λ k. from ≤ k → get_or ns k 0 ≡ 0) place (λ k m g. before k g m) (λ _. here) j l f
 
--- where none has messages before a place and after it, no other has
+-- if none before a place and none after it has messages, no other has
 pub only_at : (ns : List ℕ) (p : ℕ) → ((j : ℕ) → 0 ≤ j → j < p → get_or ns j 0 ≡ 0) → ((j : ℕ) → p + 1 ≤ j → j < length ns → get_or ns j 0 ≡ 0) → (j : ℕ) → j ≢ p → get_or ns j 0 ≡ 0
 only_at ns p before behind j other = elim (leb_tells (length ns) j) [
   | inl past ↦ past_all ns j past.1
@@ -126,7 +126,7 @@ only_at ns p before behind j other = elim (leb_tells (length ns) j) [
 pub empty_here : (ss : List Share) (i : ℕ) (d : Share) → i < length ss → (get_or ss i d).count ≡ 0 → get_or (counts ss) i 0 ≡ 0
 empty_here ss i d l e = sym (count_here ss i d 0 l (sym e))
 
--- the only share that has messages is one of all of them
+-- the only share that has messages has all of them
 pub only_share : {X : Type 0} (weigh : X → ℕ) (ms : List X) (ss : List Share) (p : ℕ) (d : Share) → p < length ss → ((j : ℕ) → j ≢ p → get_or (counts ss) j 0 ≡ 0) → AreShares weigh ms ss →
     IsShare weigh ms (get_or ss p d)
 only_share weigh ms [] p d l h are = absurd (omega (arith, l))

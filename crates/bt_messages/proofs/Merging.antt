@@ -1,4 +1,4 @@
--- One pass over older and newer messages, and newer ones behind all older ones, for `merge_front`.
+-- One pass over older and newer messages, or newer ones after all older ones, for `merge_front`.
 use Rattle.std.proofs.Common.{◌≡◌, ◌==◌, Ordering, Less, Equal, Greater, ℕ, zero, suc, ◌-◌, ◌<◌, ◌≤◌, true, false, List, [], ◌∷◌, ◌++◌, append_assoc, append-nil, get_or, length, take, refl, sym, ap, subst, ◌∙◌, arith, if◌then◌else◌}
 use Rattle.std.proofs.Math.Seq.{take-nil}
 use Rattle.std.proofs.lemmas.Bool.{false≢true}
@@ -32,7 +32,7 @@ step {M} n ns rest os past wanted start between done e h w b p d =
     ∙ ap (λ zs. zs ++ with_messages ns (messages_past n.0 os)) (sym d)
     ∙ ap (λ zs. done ++ with_messages ns zs) (sym p)
 
--- new messages of which none goes before the last old one stand behind all
+-- new messages come after all old ones if none of them goes before the last of these
 pub all_behind : {M : Type 0} (older newer : Messages M) (last : List ℕ × M) (i : ℕ) → IsSorted older → IsSorted newer → length older ≡ suc i → last ≡ get_or older i last → AllFrom last.0 newer →
     with_messages newer older ≡ older ++ newer
 all_behind [] newer last i h n l e f = alone newer n
@@ -57,17 +57,17 @@ module _ {M : Type 0} (older s : Messages M) (n : ℕ) where
       subst (λ zs. with_messages (take n zs) older ≡ older ++ take n zs) (sym (nothing s (omega (arith, l))))
       (subst (λ zs. with_messages zs older ≡ older ++ zs) (sym (take-nil n)) (sym (append-nil older)))
 
-  -- no old one
+  -- no old message
   pub none_old : length older < 1 → IsSorted s → with_messages (take n s) older ≡ older ++ take n s
   none_old l h = subst (λ os. with_messages (take n s) os ≡ os ++ take n s) (sym (nothing older (omega (arith, l)))) (alone (take n s) (sorted_take n s h))
 
-  -- the first new one does not go before the last old one
+  -- the first new message does not go before the last old one
   pub first_behind : (first last : List ℕ × M) → IsSorted older → IsSorted s → 1 ≤ length older → last ≡ get_or older (length older - 1) last → first ≡ get_or s 0 first →
       is_before first.0 last.0 ≡ false → with_messages (take n s) older ≡ older ++ take n s
   first_behind first last h i l e f b =
       all_behind older (take n s) last (length older - 1) h (sorted_take n s i) (omega (arith, l)) e (from-take last.0 n s (from_head last.0 s first i f b))
 
--- at a message whose key is past this one the moves end
+-- the moves end at a message whose key is past this one
 pub ends_at : {M : Type 0} (k : List ℕ) (ms : Messages M) (m : List ℕ × M) → 0 < length ms → m ≡ get_or ms 0 m → is_before k m.0 ≡ true →
     (messages_up_to k ms ≡ []) × (messages_past k ms ≡ ms)
 ends_at k [] m l e t = absurd (omega (arith, l))
@@ -75,7 +75,7 @@ ends_at {M = M} k (n ∷ ns) m l e t =
     let here : is_before k n.0 ≡ true = ap (λ (x : List ℕ × M). is_before k x.0) (sym e) ∙ t in
     (ap (λ b. if b then [] else n ∷ messages_up_to k ns) here, ap (λ b. if b then n ∷ ns else messages_past k ns) here)
 
--- at another one they go on
+-- at any other they continue
 pub goes_on : {M : Type 0} (k : List ℕ) (ms rest : Messages M) (m n : List ℕ × M) → m ≡ get_or ms 0 m → ms ≡ n ∷ rest → is_before k m.0 ≡ false →
     (messages_up_to k ms ≡ n ∷ messages_up_to k rest) × (messages_past k ms ≡ messages_past k rest)
 goes_on {M = M} k ms rest m n e s f =
@@ -84,7 +84,7 @@ goes_on {M = M} k ms rest m n e s f =
       ap (messages_past k) s ∙ ap (λ b. if b then n ∷ rest else messages_past k rest) here,
     )
 
--- an order's index is 0 where it is less
+-- the index of an ordering is 0 if it is `Less`
 pub is_first : (o : Ordering) → is_lt o ≡ (ordering_index o == 0)
 is_first Less = refl
 is_first Equal = refl

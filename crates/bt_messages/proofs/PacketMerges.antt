@@ -1,4 +1,4 @@
--- Older and newer messages merged one by one, and packets put one behind the other.
+-- Older and newer messages merged one by one, and packets appended to each other.
 use Rattle.std.proofs.Common.{◌≡◌, ◌==◌, ℕ, ◌+◌, ◌<◌, ◌^◌, Bool, true, false, List, [], ◌∷◌, ◌++◌, append_assoc, length, sym, ap, subst, ◌∙◌, Option, None, Some, true≢false, arith}
 use Rattle.std.proofs.lemmas.List.{length-append}
 use Rattle.std.specs.Option.{MatchOption}
@@ -38,16 +38,16 @@ module _ {M : Type 0} where
 
   -- ---- the pass over both
 
-  -- so many messages are moved, and so many are left
+  -- that many messages are moved, and that many are left
   pub moved_count : (moved o n older newer : Messages M) → moved ++ with_messages n o ≡ with_messages newer older → length moved + (length o + length n) ≡ length older + length newer
   moved_count moved o n older newer e =
       omega (arith, ap length e, length-append moved (with_messages n o), length-with_messages n o, length-with_messages newer older)
 
-  -- one message less is left
+  -- one message fewer is left
   pub fewer_left : (o n p q : Messages M) (m : List ℕ × M) → with_messages n o ≡ m ∷ with_messages q p → length p + length q < length o + length n
   fewer_left o n p q m e = omega (arith, ap length e, length-with_messages n o, length-with_messages q p)
 
-  -- where there is an older message, one is left
+  -- if there is an older message, one is left
   pub some_left : (o n : Messages M) → 0 < length o → with_messages n o ≡ [] → ⊥
   some_left o n l e = omega (arith, l, ap length e, length-with_messages n o)
 
@@ -57,7 +57,7 @@ module _ {M : Type 0} where
   moved_runs first moved o n older newer runs count e h f s j l b =
       whole_runs first runs moved count f s (sorted_left moved (with_messages n o) (subst (IsSorted {X = M}) (sym e) (sorted-with_messages newer older h))) j l b
 
-  -- ---- packets one behind the other
+  -- ---- packets appended to each other
 
   pub some-append : (rs qs : List (Messages M)) → AreSome rs → AreSome qs → AreSome (rs ++ qs)
   some-append [] qs h k = k
@@ -67,7 +67,7 @@ module _ {M : Type 0} where
   whole-append a b rs qs e =
       ap (λ z. a ++ z) (concatenation-append rs qs) ∙ sym (append_assoc a (concatenation rs) (concatenation qs)) ∙ ap (λ z. (a ++ concatenation rs) ++ z) e
 
-  -- a packet with the lists of another one behind its own
+  -- a packet with the lists of another one after its own
   pub runs-append : (a b whole : Messages M) (rs qs new : List (Messages M)) (n m k : ℕ) → AreRuns a rs n → AreSome qs → concatenation qs ≡ b → m ≡ length b → a ++ concatenation rs ≡ whole → IsSorted (whole ++ b) →
       (k ≡ n + m) × (k < 2 ^ 63) → new ≡ rs ++ qs → AreRuns a new k × (a ++ concatenation new ≡ whole ++ b)
   runs-append a b whole rs qs new n m k h s e f w i c l =
@@ -85,7 +85,7 @@ module _ {M : Type 0} where
   some_first [] empty rs new e f h l = absurd (true≢false (sym e ∙ f))
   some_first (m ∷ r) empty rs new e f h l = subst (AreSome {X = List ℕ × M}) (sym l) (omega arith, h)
 
-  -- what is left of older and newer messages may stand behind what is merged, one after the other
+  -- what is left of older and newer messages may follow what is merged
   pub older_behind : (p o n q older newer : Messages M) → p ++ (o ++ n) ≡ with_messages newer older → IsSorted older → q ≡ o → IsSorted (p ++ q)
   older_behind p o n q older newer e h f =
       let whole : (p ++ q) ++ n ≡ with_messages newer older = ap (λ z. (p ++ z) ++ n) f ∙ append_assoc p o n ∙ e in

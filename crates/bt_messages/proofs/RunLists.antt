@@ -1,4 +1,4 @@
--- Runs: a place found among them, and what is taken off them.
+-- Runs: a place found among them, and the messages taken off them.
 use Rattle.std.proofs.Common.{◌≡◌, ◌==◌, ℕ, zero, suc, ◌<◌, ◌≤◌, ◌+◌, ◌-◌, ◌^◌, Bool, true, false, List, [], ◌∷◌, ◌++◌, append_assoc, append-nil, length, take, drop, get_or, refl, sym, ap, subst, ◌∙◌, Option, None, Some, true≢false, arith}
 use Rattle.std.proofs.lemmas.List.{length-append, length-take-le}
 use Rattle.std.specs.List.Sorted.{IsPartitionedBy, IsPartitionPoint}
@@ -35,7 +35,7 @@ module _ {M : Type 0} where
   sorted_right [] b h = h
   sorted_right (m ∷ a) b h = sorted_right a b h.1
 
-  -- of sorted messages that are put into runs one by one the last run is sorted
+  -- when sorted messages are put into runs one by one, the last run is sorted
   pub run_sorted : (runs run rest whole : Messages M) → (runs ++ run) ++ rest ≡ whole → IsSorted whole → IsSorted run
   run_sorted runs run rest whole e h = sorted_right runs run (sorted_left (runs ++ run) rest (subst IsSorted (sym e) h))
 
@@ -43,7 +43,7 @@ module _ {M : Type 0} where
   concatenation-append [] bs = refl
   concatenation-append (a ∷ qs) bs = ap (λ z. a ++ z) (concatenation-append qs bs) ∙ sym (append_assoc a (concatenation qs) (concatenation bs))
 
-  -- the pieces of a list and of the runs behind it are all of them
+  -- the pieces of a list and of the runs after it are all of them
   pub walked : (a b first : Messages M) (qs bs rest : List (Messages M)) (x y z : Messages M) {p q : Messages M} → a ++ b ≡ first → qs ++ bs ≡ rest →
       x ≡ p ++ [] → p ≡ a → y ≡ q ++ concatenation qs → q ≡ b → z ≡ concatenation bs → x ++ (y ++ z) ≡ first ++ concatenation rest
   walked a b first qs bs rest x y z {p} {q} e f g j h k l =
@@ -65,7 +65,7 @@ module _ {M : Type 0} where
 
   -- ---- where messages begin
 
-  -- sorted messages that do not begin before a key lie from it on
+  -- sorted messages that do not begin before a key are all from it on
   pub begun : (k : List ℕ) (ms : Messages M) → IsSorted ms → begins_before k ms ≡ false → AllFrom k ms
   begun k [] h e = tt
   begun k (m ∷ ms) h e = (e, from_earlier k m.0 ms e h.0)
@@ -80,7 +80,7 @@ module _ {M : Type 0} where
   begins_from k ((m ∷ r) ∷ rs) zero d h l = h.0
   begins_from k (r ∷ rs) (suc j) d h l = begins_from k rs j d (from_right k r (concatenation rs) h) (omega (arith, l))
 
-  -- the runs that begin before a key stand first
+  -- the runs that begin before a key come first
   pub parted_runs : (k : List ℕ) (rs : List (Messages M)) → AreSome rs → IsSorted (concatenation rs) → IsPartitionedBy (begins_before k) rs
   parted_runs k [] s h i j d l n e = absurd (omega (arith, n))
   parted_runs k (r ∷ rs) s h (suc i) zero d l n e = absurd (omega (arith, l))
@@ -91,7 +91,7 @@ module _ {M : Type 0} where
       go true f = f
       go false f = absurd (true≢false (sym e ∙ begins_from k (r ∷ rs) j d (begun_run k r (concatenation rs) s.0 h f) n))
 
-  -- from the first run on that does not begin before a key, all lie from it on
+  -- from the first run that does not begin before a key, all messages are from that key on
   pub later_runs : (k : List ℕ) (rs : List (Messages M)) (n : ℕ) → AreSome rs → IsSorted (concatenation rs) →
       IsPartitionPoint (λ r. begins_before k r ≡ true) (λ r. begins_before k r ≡ false) rs n → AllFrom k (concatenation (drop n rs))
   later_runs k [] zero s h p = tt
@@ -104,7 +104,7 @@ module _ {M : Type 0} where
       begins_before k (get_or rs (n - 1) []) ≡ true
   last_run k rs n p l = p.0 (n - 1) [] (omega arith) (omega (arith, l))
 
-  -- what stands before a run that begins before a key lies before it
+  -- what comes before a run that begins before a key is before that key
   earlier : (k : List ℕ) (m : List ℕ × M) (a q rest : Messages M) → AllFrom m.0 (a ++ (q ++ rest)) → begins_before k q ≡ true → is_before m.0 k ≡ true
   earlier k m a [] rest h e = absurd (true≢false (sym e))
   earlier k m a (n ∷ q) rest h e = go (is_before m.0 k) refl
@@ -156,7 +156,7 @@ module _ {M : Type 0} where
   concatenation-cut (r ∷ rs) zero l = refl
   concatenation-cut (r ∷ rs) (suc n) l = ap (λ z. r ++ z) (concatenation-cut rs n (omega (arith, l))) ∙ sym (append_assoc r (concatenation (take n rs)) (get_or rs n [] ++ concatenation (drop (suc n) rs)))
 
-  -- the messages of one run more
+  -- the messages of one more run
   pub one_more_run : (rs : List (Messages M)) (n : ℕ) (d : Messages M) → n < length rs → length (concatenation (take (suc n) rs)) ≡ length (concatenation (take n rs)) + length (get_or rs n d)
   one_more_run [] n d l = absurd (omega (arith, l))
   one_more_run (r ∷ rs) zero d l = omega (arith, length-append r [])
@@ -169,13 +169,13 @@ module _ {M : Type 0} where
   run_within (r ∷ rs) (suc n) d l =
       omega (arith, length-append r (concatenation (take n rs)), length-append r (concatenation rs), run_within rs n d (omega (arith, l)))
 
-  -- before the last of some runs and in it are no more messages than in all
+  -- there are no more messages before the last of some runs and in it than in all
   pub counted_within : (a : Messages M) (rs : List (Messages M)) (k runs led before : ℕ) (d : Messages M) → AreRuns a rs k → 0 < runs → runs ≤ length rs → led ≡ length a →
       before ≡ length (concatenation (take (runs - 1) rs)) → led + before + length (get_or rs (runs - 1) d) < 2 ^ 63
   counted_within a rs k runs led before d are some few l b =
       omega (arith, l, b, run_within rs (runs - 1) d (omega (arith, some, few)), are.count, are.bound, length-append a (concatenation rs))
 
-  -- all before it lie before the key, and all from it on do not
+  -- all messages before it are before the key, and all from it on are not
   abbrev pub Parts : List ℕ → ℕ → Messages M → Type 0
   Parts k n ms = AllBefore k (take n ms) × AllFrom k (drop n ms)
 
@@ -214,14 +214,14 @@ module _ {M : Type 0} where
   begins_none k [] (r ∷ rs) z w = absurd (omega (arith, w))
   begins_none k [] [] z w = refl
 
-  -- newer messages that do not begin before the last old one stand behind all of these
+  -- newer messages that do not begin before the last old one come after all old ones
   pub behind_last : (older s : Messages M) (last : List ℕ × M) (n : ℕ) → IsSorted older → IsSorted s → 1 ≤ length older → last ≡ get_or older (length older - 1) last →
       begins_before last.0 s ≡ false → with_messages (take n s) older ≡ older ++ take n s
   behind_last older s last n h i l e f = all_behind older (take n s) last (length older - 1) h (sorted_take n s i) (omega (arith, l)) e (from-take last.0 n s (begun last.0 s i f))
 
   -- ---- what is taken off
 
-  -- the first list is gone through as a whole
+  -- the whole first list is read
   pub same_later : (a b : Messages M) (rs qs : List (Messages M)) (n k : ℕ) → AreRuns a rs n → b ≡ a → qs ≡ rs → k ≡ length a → AreRuns b qs (length b + (n - k))
   same_later a b rs qs n k h e f l =
       let count : n ≡ length a + length (concatenation rs) = h.count ∙ length-append a (concatenation rs) in
@@ -242,7 +242,7 @@ module _ {M : Type 0} where
         record { some = some.1; sorted = sorted_right r (concatenation qs) (subst IsSorted is h.sorted); count = omega (arith, all, count, l); bound = omega (arith, h.bound) },
       )
 
-  -- the first message of a list that has some, where there are any
+  -- the first message of a list, if it has any
   pub first_popped : (X Y : Type 0) (r : Option (List ℕ × M)) (whole a left rest : Messages M) (n : ℕ) → a ++ rest ≡ whole → a ≡ option_to_list r ++ left → (length a ≡ 0 → a ++ rest ≡ []) → n ≡ length a →
       MatchOption r ((n ≡ 0) × X) (λ _. Y) → MatchOption r ((whole ≡ []) × (left ++ rest ≡ [])) (λ m. whole ≡ m ∷ (left ++ rest))
   first_popped X Y None whole a left rest n e f none l cases =

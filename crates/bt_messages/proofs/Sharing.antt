@@ -10,7 +10,7 @@ use Rattle.bt_messages.proofs.Merging.{step}
 use Rattle.bt_messages.proofs.offered.Fronts.{one_taken, sorted_take}
 use Rattle.bt_messages.proofs.offered.Placed.{sorted-with_messages}
 
--- what stands in a list stands there whatever is given for want of it
+-- the item at a place inside a list doesn't depend on the default
 pub any_default : {X : Type 0} (xs : List X) (i : ℕ) (d e : X) → i < length xs → get_or xs i d ≡ get_or xs i e
 any_default [] i d e l = absurd (omega (arith, l))
 any_default (x ∷ xs) zero d e l = refl

@@ -12,7 +12,7 @@ module _ {M : Type 0} where
   all_from k [] h = tt
   all_from k (m ∷ ms) h = (h 0 m (omega arith) (omega arith), all_from k ms (λ j d l n. h (suc j) d (omega arith) (omega arith)))
 
-  -- where a test of keys turns from true to false
+  -- the place at which a test of keys changes from true to false
   pub sides : (k : List ℕ) (ms : Messages M) (n : ℕ) → IsPartitionPoint (λ (m : List ℕ × M). is_before m.0 k ≡ true) (λ (m : List ℕ × M). is_before m.0 k ≡ false) ms n →
       AllBefore k (take n ms) × AllFrom k (drop n ms)
   sides k ms zero h = (tt, all_from k ms h.1)
@@ -71,15 +71,15 @@ module _ {M : Type 0} where
       let cut = cut_slice d p n ms l h in
       (ap (messages_before k) cut ∙ both.0, ap (messages_from k) cut ∙ both.1)
 
-  -- the place lies in the slice
+  -- the place is in the slice
   pub cuts_in : (k : List ℕ) (d n place : ℕ) (ms : Messages M) → d ≤ place → place ≤ n → AllBefore k (take place ms) → AllFrom k (drop place ms) → CutsAt k d n place ms
   cuts_in k d n place ms l h b f = cuts k d place n ms l h (before-drop k d (take place ms) b) (from-slice k place n ms f)
 
-  -- it lies before the slice
+  -- it is before the slice
   pub cuts_low : (k : List ℕ) (d n place : ℕ) (ms : Messages M) → d ≤ n → place ≤ d → AllFrom k (drop place ms) → CutsAt k d n d ms
   cuts_low k d n place ms l h f = cuts k d d n ms (omega arith) l (subst (AllBefore k) (sym (no_slice d ms)) tt) (from-slice k d n ms (from-drop k place d ms h f))
 
-  -- it lies behind it
+  -- it is after the slice
   pub cuts_high : (k : List ℕ) (d n place : ℕ) (ms : Messages M) → d ≤ n → n ≤ place → AllBefore k (take place ms) → CutsAt k d n n ms
   cuts_high k d n place ms l h b = cuts k d n n ms l (omega arith) (before-drop k d (take n ms) (before-take k n place ms h b)) (subst (AllFrom k) (sym (no_slice n ms)) tt)
 

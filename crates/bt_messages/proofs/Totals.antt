@@ -1,9 +1,9 @@
--- How many messages bins hold together.
+-- The number of messages in all bins.
 use Rattle.std.proofs.Common.{◌≡◌, ℕ, zero, suc, ◌<◌, ◌≤◌, ◌+◌, ◌-◌, List, [], ◌∷◌, ◌++◌, append_assoc, replicate, get_or, set, length, map, take, drop, Result, Ok, Err, OnOk, OnErr, refl, sym, ap, ◌∙◌, arith}
 use Rattle.bt_messages.specs.Parts.{total}
 
 module _ {X : Type 0} where
-  -- how many there are in all lists
+  -- the number of messages in all lists
   abbrev pub held : List (List X) → ℕ
   held bs = total (map length bs)
 
@@ -41,7 +41,7 @@ module _ {X : Type 0} where
   held-spread bs new i n e =
       omega (arith, ap held e, held-append (take i bs ++ replicate n []) (drop i bs), held-append (take i bs) (replicate n []), held-alike [] n refl, held-cut bs i)
 
-  -- so, or not
+  -- for either result
   pub held-either : {A E : Type 0} (r : Result A E) (bs new : List (List X)) (i n : ℕ) → OnOk r (new ≡ take i bs ++ replicate n [] ++ drop i bs) → OnErr r (new ≡ bs) → held new ≡ held bs
   held-either (Ok x) bs new i n e f = held-spread bs new i n e
   held-either (Err x) bs new i n e f = ap held f

@@ -1,4 +1,4 @@
--- Sums that are kept, and shares that are weighed, for the steps of `gain`, `weigh_next` and `weighed_shares`.
+-- Stored sums and weighed shares, for the steps of `gain`, `weigh_next` and `weighed_shares`.
 use Rattle.std.proofs.Common.{◌≡◌, ℕ, zero, suc, ◌<◌, ◌≤◌, ◌+◌, ◌-◌, List, [], ◌∷◌, ◌++◌, Option, None, Some, IfSome, append_assoc, drop, get_or, length, map, set, take, refl, sym, ap, subst, ◌∙◌, arith}
 use Rattle.std.proofs.lemmas.List.{append-nil, drop-drop, drop-map, drop-set-lt, drop_all, drop_more, get_or-map, length-drop, length-take-le, take_all, take_more_set}
 use Rattle.bt_keycode.specs.Keys.{Key}
@@ -43,7 +43,7 @@ module _ {M : Type 0} (weigh : Key × M → ℕ) where
       let was : old ≡ weight weigh older = subst (IsSum weigh older) f k in
       omega (arith, is, was, load-with_messages weigh measures.Bytes ms older)
 
--- what a share weighs, where that is known
+-- the weight of a share, if it is known
 pub share-small : {V D : Type 0} (terms : Terms V D) (n : ℕ) (ms : Messages (Message V D)) (sum : Option ℕ) → length ms < 9223372036854775808 → IsSum (weigh_of terms) (take n ms) sum →
     IfSome sum (λ k. k < 154742504910672534362390528)
 share-small terms n ms None l h = tt
@@ -60,7 +60,7 @@ module _ {X : Type 0} (weigh : X → ℕ) where
   weight-none zero = refl
   weight-none (suc n) = refl
 
-  -- what the first of some items weigh, and what those behind them do
+  -- the weight of the first of some items, and of those after them
   weight-split : (k n : ℕ) (xs : List X) → k ≤ n → weight weigh (take n xs) ≡ weight weigh (take k xs) + weight weigh (take (n - k) (drop k xs))
   weight-split zero n xs l = let e : n - 0 ≡ n = omega arith in omega (arith, ap (λ i. weight weigh (take i xs)) e)
   weight-split (suc k) zero xs l = absurd (omega (arith, l))
@@ -69,7 +69,7 @@ module _ {X : Type 0} (weigh : X → ℕ) where
       let e : suc n - suc k ≡ n - k = omega arith in
       omega (arith, weight-split k n xs (omega (arith, l)), ap (λ i. weight weigh (take i (drop k xs))) e)
 
-  -- the items up to `n` are gone through, `k` of them next
+  -- `n` items are read, the next of them after `k`
   module _ (k n : ℕ) (xs ys : List X) (l : k ≤ n) (later : ys ≡ drop k xs) where
     pub weight-next : weight weigh (take n xs) ≡ weight weigh (take k xs) + weight weigh (take (n - k) ys)
     weight-next = weight-split k n xs l ∙ sym (ap (λ zs. weight weigh (take k xs) + weight weigh (take (n - k) zs)) later)
@@ -94,7 +94,7 @@ module _ {X : Type 0} (weigh : X → ℕ) where
       count_is measures.Messages = length-take-le n ms (omega (arith, l))
       count_is measures.Bytes = length-take-le n ms (omega (arith, l))
 
-  -- weighed shares are as many messages as before
+  -- weighed shares have as many messages as before
   pub counts-weighed : (ns : List ℕ) (ms left : List X) (ss : List Share) → total ns ≤ length ms → left ≡ ms → ss ≡ map (share_of weigh measures.Bytes) (parted ns left) → counts ss ≡ ns
   counts-weighed ns ms left ss l e f = ap counts (f ∙ ap (λ ms. map (share_of weigh measures.Bytes) (parted ns ms)) e) ∙ counts-parted measures.Bytes ns ms l
 
@@ -112,7 +112,7 @@ module _ {X : Type 0} (weigh : X → ℕ) where
       is-share measures.Bytes e h =
           ((omega (arith, e, l), ap (λ k. weight weigh (take k ms)) (sym e)), subst (λ k. AreShares weigh (drop k ms) (map (share_of weigh measures.Bytes) (parted ns (drop n ms)))) (sym e) h)
 
-  -- ---- one share more is weighed
+  -- ---- one more share is weighed
 
   module _ (ss items : List Share) (i : ℕ) (s : Share) (left : List X) (within : i < length items) (here : s ≡ get_or items i s) (same : drop i items ≡ drop i ss)
       (enough : total (drop i (counts ss)) ≤ length left) where

@@ -1,4 +1,4 @@
--- Messages of worked batches and what they make of rows, computed from the definitions.
+-- Messages of worked batches and their effects on rows, computed from the definitions.
 use Rattle.std.proofs.Common.{◌≡◌, ℕ, ◌+◌, List, [], ◌∷◌, Option, Some, None, length, map, refl}
 use Rattle.bt_messages.specs.Bins.{added, parts}
 use Rattle.bt_messages.specs.Effects.{effect_of, rows_after}
@@ -18,7 +18,7 @@ put_at n value = (key n, Put value)
 del_at : ℕ → List ℕ × Message ℕ ℕ
 del_at n = (key n, Del)
 
--- here an upsert adds to the value, or to 100 where there is none
+-- here an upsert adds to the value, or to 100 if there is none
 add_at : ℕ → ℕ → List ℕ × Message ℕ ℕ
 add_at n more = (key n, Ups more)
 
@@ -70,7 +70,7 @@ older_first : added (key 3 ∷ []) (put_at 4 41 ∷ []) ([] ∷ (put_at 4 40 ∷
 unfolding key put_at del_at
 older_first = refl
 
--- what lies at a pivot lies behind it
+-- a message at a pivot goes after it
 at_pivot : parts (key 4 ∷ []) packet ≡ (put_at 1 10 ∷ []) ∷ (put_at 4 40 ∷ put_at 4 41 ∷ put_at 9 90 ∷ []) ∷ []
 unfolding key put_at packet
 at_pivot = refl

@@ -1,4 +1,4 @@
--- What the crates above cite of the proofs of this one.
+-- What other crates cite of the proofs of this one.
 pub mod Fronts
 pub mod Loads
 pub mod Parts

@@ -1,4 +1,4 @@
--- What messages to values mean: what they make of them, and what they weigh.
+-- The meaning of messages to values: their effects and their weights.
 use Rattle.std.specs.Prelude.{ℕ, Option}
 use Rattle.bt_keycode.specs.Keys.{Key}
 use Rattle.bt_messages.specs.Effects.{effect_of}
@@ -6,7 +6,7 @@ use Rattle.bt_messages.specs.Terms.{Terms}
 use Rattle.bt_messages.specs.Weights.{weigh_of}
 use Rattle.bt_messages.specs.declared.message.Message.{Message}
 
--- what a message makes of the value at its key, or of none, and what it weighs with its key
+-- the effect of a message on the value at its key, or on none, and its weight with its key
 pub record Meaning (V M : Type 0) : Type 0 where
   pub effect : Option V → M → Option V
   pub weigh : Key × M → ℕ

@@ -12,7 +12,7 @@ abbrev pub with_message : {M : Type 0} → (Key × M) → Messages M → Message
 with_message m [] = m ∷ []
 with_message m (e ∷ es) = if is_before m.0 e.0 then m ∷ e ∷ es else e ∷ with_message m es
 
--- sorted messages with newer ones, each in turn placed after those of its key
+-- sorted messages with newer ones, placed one by one after those of their keys
 abbrev pub with_messages : {M : Type 0} → Messages M → Messages M → Messages M
 with_messages [] older = older
 with_messages (m ∷ ms) older = with_messages ms (with_message m older)
@@ -35,7 +35,7 @@ messages_between from to = filter (λ m. is_between from to m.0)
 abbrev pub messages_outside : {M : Type 0} → Option Key → Option Key → Messages M → Messages M
 messages_outside from to = filter (λ m. not (is_between from to m.0))
 
--- the first messages, as far as their keys are not past this one
+-- the messages at the front with keys at or before this one
 abbrev pub messages_up_to : {M : Type 0} → Key → Messages M → Messages M
 messages_up_to k [] = []
 messages_up_to k (m ∷ ms) = if is_before k m.0 then [] else m ∷ messages_up_to k ms

@@ -1,7 +1,7 @@
--- A list in parts of given sizes, and numbers together.
+-- A list in parts of given sizes, and sums of numbers.
 use Rattle.std.specs.Prelude.{ℕ, ◌+◌, List, [], ◌∷◌, drop, take}
 
--- numbers together
+-- the sum of numbers
 abbrev pub total : List ℕ → ℕ
 total [] = 0
 total (n ∷ ns) = n + total ns

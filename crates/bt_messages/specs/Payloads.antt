@@ -1,4 +1,4 @@
--- What rows and the values of an index say of messages to them.
+-- What rows and the values of an index define for the messages to them.
 use Rattle.std.specs.List.{sum_by}
 use Rattle.std.specs.Prelude.{ℕ, List, length, map}
 use Rattle.bt_keycode.specs.Codes.{code_of}

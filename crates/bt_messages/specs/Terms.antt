@@ -1,7 +1,7 @@
--- What a kind of values says of the messages to them.
+-- What a kind of values defines for the messages to them.
 use Rattle.std.specs.Prelude.{ℕ, Option}
 
--- what an upsert makes of the value at its key, or of none, and how many bytes a put and an upsert carry beside their key
+-- the value after an upsert, from the one at its key or from none, and how many bytes a put and an upsert carry besides their key
 pub record Terms (V D : Type 0) : Type 0 where
   pub merged : Option V → D → V
   pub payload : V → ℕ

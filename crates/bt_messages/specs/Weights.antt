@@ -1,4 +1,4 @@
--- What messages weigh, and how much room they take.
+-- The weights of messages, and their load.
 use Rattle.std.specs.Prelude.{ℕ, ◌≡◌, ◌+◌, List, [], ◌∷◌, Option, Some, None, length, min}
 use Rattle.bt_keycode.specs.Keys.{Key}
 use Rattle.bt_keycode.specs.Lengths.{most_weight}
@@ -8,27 +8,27 @@ use Rattle.bt_messages.specs.declared.measure.Measure.TheVariants.{Messages, Byt
 use Rattle.bt_messages.specs.declared.message.Message.{Message}
 use Rattle.bt_messages.specs.declared.message.Message.TheVariants.{Put, Del, Ups}
 
--- the bytes that a message carries beside its key: a del none
+-- the bytes that a message carries besides its key: none for a del
 abbrev pub payload_of : {V D : Type 0} → Terms V D → Message V D → ℕ
 payload_of terms (Put value) = terms.payload value
 payload_of terms Del = 0
 payload_of terms (Ups delta) = terms.delta_payload delta
 
--- a message weighs one, the bytes of its key and its payload, but no more than the most
+-- a message weighs one, plus the bytes of its key, plus its payload, but no more than the largest weight
 abbrev pub weigh_of : {V D : Type 0} → Terms V D → Key × Message V D → ℕ
 weigh_of terms m = min most_weight (1 + length m.0 + payload_of terms m.1)
 
--- what messages weigh together
+-- the total weight of messages
 abbrev pub weight : {X : Type 0} → (X → ℕ) → List X → ℕ
 weight weigh [] = 0
 weight weigh (x ∷ xs) = weigh x + weight weigh xs
 
--- how much room messages take: each of them one, or what it weighs
+-- the load of messages: their number or their weight
 abbrev pub load : {X : Type 0} → (X → ℕ) → Measure → List X → ℕ
 load weigh Messages xs = length xs
 load weigh Bytes xs = weight weigh xs
 
--- a sum that is kept, if one is, is what messages weigh together
+-- a stored sum, if there is one, is the total weight of the messages
 abbrev pub IsSum : {X : Type 0} → (X → ℕ) → List X → Option ℕ → Type 0
 IsSum weigh xs None = Unit {0}
 IsSum weigh xs (Some sum) = sum ≡ weight weigh xs

@@ -1,6 +1,6 @@
-//! Bins: what is pending at a node, one buffer for each child.
+//! Bins: the pending messages of a node, in one buffer for each child.
 //!
-//! The trees make no call of `new`, `len`, `weight`, `add`, `take`, `spread` and `divide`: they serve those who call this crate themselves.
+//! The trees don't call `new`, `len`, `weight`, `add`, `take`, `spread` and `divide`. These are for other users of this crate.
 ghost use Rattle.std.specs.Prelude.{◌≡◌, ◌+◌, ◌<◌, ◌≤◌, ◌++◌, ◌^◌, [], IfOk, OnOk, OnErr, drop, length, map, replicate, slice_index_or, slice_set, take, vec_capacity, vec_len};
 ghost use Rattle.bt_keycode.specs.Keys.{IsSorted};
 ghost use Rattle.bt_value.specs.Lists.{concatenation};
@@ -23,7 +23,7 @@ use bt_keycode::Key;
 use std::alloc::{AllocError, Global};
 use std::marker::Model;
 
-/// A list of messages for each child, sorted by key, those of one key in the order in which they came.
+/// One list of messages for each child, sorted by key. Messages of one key are in the order in which they came.
 #[derive(Drop)]
 pub struct Bins<V: Merge> {
     bins: Vec<Buffer<V>>,
@@ -42,7 +42,7 @@ impl<V: Merge> Model for Bins<V> {
     ghost invariant = { λ b. b.count ≡ total (map length b.bins.items) };
 }
 
-// The number of messages of all buffers.
+// The total number of messages in the buffers.
 fn count_all<V: Merge>(buffers: &[Buffer<V>]) -> u128
     ensures { result ≡ total (map length buffers.now) }
 {
@@ -53,7 +53,7 @@ fn count_all<V: Merge>(buffers: &[Buffer<V>]) -> u128
     count
 }
 
-// Puts so many empty buffers behind the others, where there is room.
+// Pushes `count` empty buffers. The capacity suffices.
 fn push_empty<V: Merge>(alloc: Global, buffers: &mut Vec<Buffer<V>>, count: usize)
     requires { vec_len buffers.old + count ≤ vec_capacity buffers.old }
     ensures pushed { buffers.new.items ≡ buffers.old.items ++ replicate count [] }
@@ -64,7 +64,7 @@ fn push_empty<V: Merge>(alloc: Global, buffers: &mut Vec<Buffer<V>>, count: usiz
     }
 }
 
-// Puts so many empty buffers before the one at a place.
+// Inserts `count` empty buffers before the one at `place`.
 fn insert_empty<V: Merge>(
     alloc: Global,
     buffers: &mut Vec<Buffer<V>>,
@@ -82,7 +82,7 @@ fn insert_empty<V: Merge>(
 }
 
 impl<V: Merge> Bins<V> {
-    /// So many empty bins.
+    /// Empty bins, one for each child.
     pub fn new(alloc: Global, children: usize) -> Result<Self, AllocError>
         ensures { IfOk result (λ bins. bins ≡ replicate children []) }
     {
@@ -91,7 +91,7 @@ impl<V: Merge> Bins<V> {
         Ok(Bins { bins, count: 0 })
     }
 
-    /// A bin of each buffer, in order. Takes no memory.
+    /// One bin for each buffer, in order. Allocates nothing.
     pub fn from_buffers(buffers: Vec<Buffer<V>>) -> Self
         ensures { result ≡ buffers.items }
     {
@@ -102,7 +102,7 @@ impl<V: Merge> Bins<V> {
         }
     }
 
-    /// The bins as buffers, in order. Takes no memory.
+    /// The buffers of the bins, in order. Allocates nothing.
     pub fn into_buffers(self) -> Vec<Buffer<V>>
         ensures { result.items ≡ self }
     {
@@ -120,7 +120,7 @@ impl<V: Merge> Bins<V> {
         self.bins.len()
     }
 
-    /// The number of messages of a bin.
+    /// The number of messages in a bin.
     pub fn count(&self, child: usize) -> u64
         requires { child < length self.now }
         ensures count { result ≡ length (slice_index_or self.now child []) }
@@ -129,7 +129,7 @@ impl<V: Merge> Bins<V> {
         self.bins[child].count() as u64
     }
 
-    /// The number of messages of all bins. It is kept, so that nothing is added up.
+    /// The number of messages in all bins. It is stored, not counted.
     pub fn total(&self) -> u128
         ensures total { result ≡ total (map length self.now) }
         ensures concatenation { result ≡ length (concatenation self.now) }
@@ -137,7 +137,7 @@ impl<V: Merge> Bins<V> {
         self.count
     }
 
-    /// What the messages of a bin weigh together. Where it is kept nothing is added up.
+    /// The total weight of the messages in a bin. It is computed only if it isn't stored.
     pub fn weight(&self, child: usize) -> u128
         requires { child < length self.now }
         ensures weight { result ≡ weight (weigh_of V.terms) (slice_index_or self.now child []) }
@@ -146,7 +146,7 @@ impl<V: Merge> Bins<V> {
         self.bins[child].weight()
     }
 
-    /// How much room the messages of a bin take.
+    /// The load of the messages in a bin.
     pub fn load(&self, child: usize, measure: Measure) -> u128
         requires { child < length self.now }
         ensures load { result ≡ load (weigh_of V.terms) measure (slice_index_or self.now child []) }
@@ -155,7 +155,7 @@ impl<V: Merge> Bins<V> {
         self.bins[child].load(measure)
     }
 
-    /// The messages of a bin, in order.
+    /// The messages in a bin, in order.
     pub fn bin(&self, child: usize) -> Messages<'_, V>
         requires { child < length self.now }
         ensures messages { result ≡ slice_index_or self.now child [] }
@@ -164,7 +164,7 @@ impl<V: Merge> Bins<V> {
         self.bins[child].iter()
     }
 
-    /// The messages of a bin with a key at or past this one, in order. The first of them is found by halving.
+    /// The messages in a bin with a key at or past `key`, in order. The first of them is found by binary search.
     pub fn bin_from(&self, child: usize, key: &Key) -> Messages<'_, V>
         requires { child < length self.now }
         ensures messages { result ≡ messages_from key.now (slice_index_or self.now child []) }
@@ -173,8 +173,8 @@ impl<V: Merge> Bins<V> {
         self.bins[child].iter_from(key)
     }
 
-    /// The messages of a bin with a key at or past `from` and before `to`, in order, found by halving. A bound that is absent doesn't
-    /// limit.
+    /// The messages in a bin with a key at or past `from` and before `to`, in order, found by binary search. An absent bound
+    /// doesn't limit.
     pub fn bin_between(&self, child: usize, from: Option<&Key>, to: Option<&Key>) -> Messages<'_, V>
         requires { child < length self.now }
         ensures messages { result ≡ messages_between (option_copied from.entry) (option_copied to.entry) (slice_index_or self.now child []) }
@@ -184,14 +184,15 @@ impl<V: Merge> Bins<V> {
         self.bins[child].iter_between(from, to)
     }
 
-    /// All messages, the bins one after the other.
+    /// All messages, one bin after the other.
     pub fn iter(&self) -> BufferMessages<'_, V>
         ensures { result ≡ concatenation self.now }
     {
         BufferMessages::of(self.bins.as_slice())
     }
 
-    /// Moves shares from the front of a stream to the bins, in order, each message after those of its key. An `Err` changes nothing.
+    /// Moves shares from the front of a stream to the bins, in order. Each message goes after those of its key. An `Err` changes
+    /// nothing.
     pub fn add_shares(
         &mut self,
         alloc: Global,
@@ -210,8 +211,8 @@ impl<V: Merge> Bins<V> {
         Ok(())
     }
 
-    /// Adds the messages of a packet, each to the bin of its child, after those of its key. An `Err` changes nothing, and the packet is
-    /// gone.
+    /// Adds the messages of a packet, each to the bin of its child and after those of its key. An `Err` changes no bin, but drops
+    /// the packet.
     pub fn add(
         &mut self,
         alloc: Global,
@@ -228,7 +229,7 @@ impl<V: Merge> Bins<V> {
         self.add_shares(alloc, &mut stream, shares.as_slice())
     }
 
-    /// Takes the messages of a bin, which is then empty. Takes no memory.
+    /// Takes the messages of a bin and leaves it empty. Allocates nothing.
     pub fn take(&mut self, child: usize) -> Packet<V>
         requires { child < length self.old }
         ensures taken { result ≡ slice_index_or self.old child [] }
@@ -238,7 +239,7 @@ impl<V: Merge> Bins<V> {
         self.bins[child].take()
     }
 
-    /// Makes an empty bin into so many empty ones. An `Err` changes nothing.
+    /// Replaces an empty bin by `parts` empty ones. An `Err` changes nothing.
     pub fn spread(&mut self, alloc: Global, child: usize, parts: usize) -> Result<(), AllocError>
         requires child { child < length self.old }
         requires empty { slice_index_or self.old child [] ≡ [] }
@@ -249,7 +250,7 @@ impl<V: Merge> Bins<V> {
         insert_empty(alloc, &mut self.bins, child, parts - 1)
     }
 
-    /// Takes off the bins from a place on. An `Err` changes nothing.
+    /// Splits off the bins from `at` on. An `Err` changes nothing.
     pub fn divide(&mut self, at: usize) -> Result<Bins<V>, AllocError>
         requires { at ≤ length self.old }
         ensures left { OnOk result (self.new ≡ take at self.old) }

@@ -10,7 +10,7 @@ use std::alloc::{AllocError, Global};
 use std::cmp::Ordering;
 use std::collections::VecDeque;
 
-/// How many of sorted messages have a key before this one.
+/// The number of messages with a key before `key`.
 pub(crate) fn count_before<X>(messages: &[(Key, X)], key: &Key) -> usize
     requires { IsSorted messages.now }
     ensures bound { result ≤ length messages.now }
@@ -20,7 +20,7 @@ pub(crate) fn count_before<X>(messages: &[(Key, X)], key: &Key) -> usize
     messages.partition_point(|entry| entry.0.compare(key) == Ordering::Less)
 }
 
-/// How many of sorted messages have a key that is not past this one.
+/// The number of messages with a key at or before `key`.
 pub(crate) fn count_up_to<X>(messages: &[(Key, X)], key: &Key) -> usize
     requires { IsSorted messages.now }
     ensures bound { result ≤ length messages.now }
@@ -30,7 +30,7 @@ pub(crate) fn count_up_to<X>(messages: &[(Key, X)], key: &Key) -> usize
     messages.partition_point(|entry| key.compare(&entry.0) != Ordering::Less)
 }
 
-/// Moves the first messages, as far as their keys are not past this one.
+/// Moves the messages at the front with a key at or before `key`.
 pub(crate) fn move_up_to<V: Merge>(
     merged: &mut Vec<(Key, Message<V>)>,
     older: &mut VecDeque<(Key, Message<V>)>,
@@ -52,7 +52,7 @@ pub(crate) fn move_up_to<V: Merge>(
     }
 }
 
-// How many of sorted messages have a key before a bound, or so many as are given for want of one.
+// The number of messages with a key before a bound, or `absent` if there is no bound.
 fn count_before_bound<X>(messages: &[(Key, X)], bound: Option<&Key>, absent: usize) -> usize
     requires sorted { IsSorted messages.now }
     requires within { absent ≤ length messages.now }
@@ -65,7 +65,7 @@ fn count_before_bound<X>(messages: &[(Key, X)], bound: Option<&Key>, absent: usi
     }
 }
 
-/// The entries with a key at or past `from` and before `to`, found by halving. A bound that is absent doesn't limit.
+/// The entries with a key at or past `from` and before `to`, found by binary search. An absent bound doesn't limit.
 pub fn between<'a, X>(
     entries: &'a [(Key, X)],
     from: Option<&Key>,
@@ -79,7 +79,7 @@ pub fn between<'a, X>(
     &before[count_before_bound(before, from, 0)..]
 }
 
-/// Takes out the messages with a key at or past the first bound and before the second one.
+/// Takes out the messages with a key at or past `from` and before `to`.
 pub(crate) fn take_between<V: Merge>(
     messages: &mut Vec<(Key, Message<V>)>,
     from: Option<&Key>,

@@ -1,6 +1,6 @@
-//! Buffers: what is pending for a node, one list.
+//! Buffers: the pending messages of a node, in one list.
 //!
-//! The trees make no call of `add` and `take_range`: they serve those who call this crate themselves.
+//! The trees don't call `add` and `take_range`. These are for other users of this crate.
 ghost use Rattle.std.specs.Prelude.{◌≡◌, ◌==◌, ◌+◌, ◌<◌, ◌≤◌, ◌^◌, [], List, ℕ, IfOk, IfSome, MatchOption, OnOk, Some, OnErr, drop, length, take, vec_capacity, vec_len};
 ghost use Rattle.bt_keycode.specs.Keys.{AllFrom, IsSorted};
 ghost use Rattle.bt_messages.specs.Bins.{AllBefore};
@@ -26,14 +26,15 @@ use std::cmp::Ordering;
 use std::marker::Model;
 use std::mem::replace;
 
-// Up to this many messages are inserted in their places, in the room that a buffer has: that moves less than a merge into new room.
+// Up to this many messages are inserted one by one into the buffer's own list. That moves fewer messages than a merge into a new
+// list.
 const FEW: usize = 2;
 
-/// Messages that are pending, sorted by key, those of one key in the order in which they came.
+/// Pending messages, sorted by key. Messages of one key are in the order in which they came.
 #[derive(Drop)]
 pub struct Buffer<V: Merge> {
     messages: Vec<(Key, Message<V>)>,
-    // What the messages weigh together, where it is kept.
+    // The total weight of the messages, if it is stored.
     sum: Option<u128>,
 }
 
@@ -52,8 +53,8 @@ impl<V: Merge> Model for Buffer<V> {
     ghost invariant = { λ b. IsBuffer (weigh_of V.terms) b.messages.items b.sum };
 }
 
-// Makes room for that many more messages. Where it is missing, the room grows by a quarter of the messages as well, so that small
-// shares do not move all messages to new room each time.
+// Reserves capacity for `more` messages. A list that grows also gets a quarter of its length as spare capacity, so that small
+// shares don't reallocate it each time.
 fn reserve<V: Merge>(messages: &mut Vec<(Key, Message<V>)>, more: usize) -> Result<(), AllocError>
     requires { more < 2 ^ 63 }
     ensures room { OnOk result (vec_len messages.new + more ≤ vec_capacity messages.new) }
@@ -67,7 +68,7 @@ fn reserve<V: Merge>(messages: &mut Vec<(Key, Message<V>)>, more: usize) -> Resu
 }
 
 impl<V: Merge> Buffer<V> {
-    /// No message.
+    /// An empty buffer.
     pub fn new(alloc: Global) -> Self
         ensures { result ≡ [] }
     {
@@ -85,14 +86,14 @@ impl<V: Merge> Buffer<V> {
         self.messages.len()
     }
 
-    /// Whether there is no message.
+    /// Whether the buffer is empty.
     pub fn is_empty(&self) -> bool
         ensures { result ≡ (length self.now == 0) }
     {
         self.messages.is_empty()
     }
 
-    /// What the messages weigh together. Where it is kept nothing is added up.
+    /// The total weight of the messages. It is computed only if it isn't stored.
     pub fn weight(&self) -> u128
         ensures weight { result ≡ weight (weigh_of V.terms) self.now }
         ensures bound { result < 2 ^ 87 }
@@ -104,14 +105,14 @@ impl<V: Merge> Buffer<V> {
         }
     }
 
-    // Weighs the messages, where it isn't kept what they weigh, and keeps it.
+    // Stores the total weight of the messages. It is computed only if it isn't stored yet.
     pub(crate) fn keep_weight(&mut self)
         ensures { self.new ≡ self.old }
     {
         self.sum = Some(self.weight());
     }
 
-    /// How much room the messages take.
+    /// The load of the messages: their number or their weight, by the measure.
     pub fn load(&self, measure: Measure) -> u128
         ensures load { result ≡ load (weigh_of V.terms) measure self.now }
         ensures bound { result < 2 ^ 87 }
@@ -130,7 +131,7 @@ impl<V: Merge> Buffer<V> {
         Messages::of_sorted(self.messages.as_slice())
     }
 
-    /// The messages, to be taken off in order. Takes no memory.
+    /// A stream of the messages. Allocates nothing.
     pub fn into_stream(self) -> Stream<V>
         ensures { result ≡ self }
     {
@@ -139,7 +140,7 @@ impl<V: Merge> Buffer<V> {
         Stream::from_runs(self, Vec::new(alloc), count)
     }
 
-    /// The messages with a key at or past this one, in order. The first of them is found by halving.
+    /// The messages with a key at or past `key`, in order. The first of them is found by binary search.
     pub fn iter_from(&self, key: &Key) -> Messages<'_, V>
         ensures messages { result ≡ messages_from key.now self.now }
         ensures sorted { IsSorted self.now }
@@ -164,7 +165,7 @@ impl<V: Merge> Buffer<V> {
         Some(&self.messages.first()?.0)
     }
 
-    // Whether the first message has a key before this one.
+    // Whether the first message has a key before `key`.
     pub(crate) fn begins_before(&self, key: &Key) -> bool
         ensures { result ≡ begins_before key.now self.now }
     {
@@ -174,7 +175,7 @@ impl<V: Merge> Buffer<V> {
         }
     }
 
-    // How many of the messages have a key before this one.
+    // The number of messages with a key before `key`.
     pub(crate) fn count_before(&self, key: &Key) -> usize
         ensures bound { result ≤ length self.now }
         ensures before { AllBefore key.now (take result self.now) }
@@ -183,7 +184,7 @@ impl<V: Merge> Buffer<V> {
         bounds::count_before(self.messages.as_slice(), key)
     }
 
-    /// Adds the first messages of a stream, each after those of its key. They are gone from the stream. An `Err` changes nothing.
+    /// Moves the first messages of a stream here, each after those of its key. An `Err` changes nothing.
     pub fn add_front(
         &mut self,
         alloc: Global,
@@ -224,7 +225,7 @@ impl<V: Merge> Buffer<V> {
         Ok(())
     }
 
-    /// Adds the messages of a packet, each after those of its key. An `Err` changes nothing, and the packet is gone.
+    /// Adds the messages of a packet, each after those of its key. An `Err` doesn't change the buffer, but drops the packet.
     pub fn add(&mut self, packet: Packet<V>) -> Result<(), AllocError>
         ensures ok { OnOk result (self.new ≡ with_messages packet self.old) }
         ensures err { OnErr result (self.new ≡ self.old) }
@@ -235,7 +236,7 @@ impl<V: Merge> Buffer<V> {
         self.add_front(alloc, &mut stream, Share::new(count))
     }
 
-    // Takes the messages. The empty list that is left has the allocator of the one that is taken.
+    // Takes the messages. The empty list that is left has the same allocator.
     pub(crate) fn take(&mut self) -> Packet<V>
         ensures taken { result ≡ self.old }
         ensures left { self.new ≡ [] }
@@ -244,8 +245,8 @@ impl<V: Merge> Buffer<V> {
         Packet::from_buffer(alloc, replace(self, Buffer::new(alloc)))
     }
 
-    /// Takes out the messages with a key at or past `from` and before `to`, in order. A bound that is absent doesn't limit.
-    /// An `Err` changes nothing.
+    /// Takes out the messages with a key at or past `from` and before `to`, in order. An absent bound doesn't limit. An `Err`
+    /// changes nothing.
     pub fn take_range(
         &mut self,
         alloc: Global,
@@ -264,7 +265,7 @@ impl<V: Merge> Buffer<V> {
         Ok(Packet::from_buffer(alloc, Buffer::from_sorted(taken)))
     }
 
-    // Room for the messages of the buffer and for so many more, where there are more.
+    // An empty list with capacity for the messages of the buffer and `more` others. If `more` is 0, it has no capacity.
     pub(crate) fn room_with(
         &self,
         alloc: Global,
@@ -279,7 +280,7 @@ impl<V: Merge> Buffer<V> {
         Vec::with_capacity(alloc, self.messages.len() + more)
     }
 
-    // What the messages weigh together with a share more, where both are known.
+    // The total weight after adding a share, if both weights are known.
     pub(crate) fn sum_with(&self, share: Share) -> Option<u128>
         requires { IfSome share.weight (λ n. n < 2 ^ 87) }
         ensures { (ms : List (List ℕ × Message V V.Delta)) → IsSum (weigh_of V.terms) ms share.weight → IsSum (weigh_of V.terms) (with_messages ms self.now) result }
@@ -292,7 +293,7 @@ impl<V: Merge> Buffer<V> {
         Some(self.sum? + more)
     }
 
-    // The buffer of messages that are sorted by key. It keeps no sum.
+    // A buffer of messages that are sorted by key. It stores no sum.
     pub(crate) fn from_sorted(messages: Vec<(Key, Message<V>)>) -> Self
         requires { IsSorted messages.items }
         ensures { result ≡ messages.items }
@@ -303,7 +304,7 @@ impl<V: Merge> Buffer<V> {
         }
     }
 
-    // The buffer of messages that are sorted by key, and what they weigh together, if it is kept.
+    // A buffer of messages that are sorted by key, with their total weight if it is known.
     pub(crate) fn with_sum(messages: Vec<(Key, Message<V>)>, sum: Option<u128>) -> Self
         requires { IsBuffer (weigh_of V.terms) messages.items sum }
         ensures { result ≡ messages.items }

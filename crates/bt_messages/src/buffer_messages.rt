@@ -1,4 +1,4 @@
-//! The messages of several buffers, gone through one buffer after the other.
+//! The messages of several buffers, one buffer after the other.
 ghost use Rattle.std.specs.Prelude.{◌≡◌, ◌<◌, ◌≤◌, ◌++◌, [], MatchOption, length, true};
 ghost use Rattle.std.specs.Iterator.{YieldsFirstBy, item_count};
 ghost use Rattle.bt_value.specs.Lists.{concatenation};
@@ -9,7 +9,7 @@ use crate::message::{Merge, Message};
 use bt_keycode::Key;
 use std::marker::Model;
 
-/// The messages of buffers, one buffer after the other. A contract sees the list of those that are left.
+/// The messages of several buffers, one buffer after the other. A contract sees the list of the messages that are left.
 #[derive(Drop)]
 pub struct BufferMessages<'a, V: Merge> {
     first: Messages<'a, V>,
@@ -27,7 +27,7 @@ impl<'a, V: Merge> Model for BufferMessages<'a, V> {
 }
 
 impl<'a, V: Merge> BufferMessages<'a, V> {
-    /// No message.
+    /// An iterator without messages.
     pub fn none() -> Self
         ensures { result ≡ [] }
     {
@@ -54,7 +54,8 @@ impl<'a, V: Merge> BufferMessages<'a, V> {
         self.first.count_left() == 0 && self.others.is_empty()
     }
 
-    // Takes off the next buffer, where none of its messages is gone through yet and it has no more than so many, but some.
+    // Takes off the next buffer as a whole. Returns `None` if messages of the current buffer are left, or if the next one is empty
+    // or has more than `most` messages.
     pub(crate) fn next_whole(&mut self, most: usize) -> Option<&'a Buffer<V>>
         ensures { MatchOption result (self.new ≡ self.old) (λ buffer. (self.old ≡ buffer.now ++ self.new) × (0 < length buffer.now) × (length buffer.now ≤ most)) }
     {
@@ -69,7 +70,7 @@ impl<'a, V: Merge> BufferMessages<'a, V> {
         Some(buffer)
     }
 
-    // These messages, and those of the buffers behind them.
+    // These messages, followed by those of the buffers.
     pub(crate) fn behind(first: Messages<'a, V>, others: &'a [Buffer<V>]) -> Self
         ensures { result ≡ first.entry ++ concatenation others.now }
     {

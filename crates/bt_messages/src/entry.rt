@@ -9,7 +9,7 @@ use bt_row::{Row, copy_row};
 use std::alloc::{AllocError, Global};
 use std::marker::Model;
 
-/// What an index keeps at a key: the included columns of a row. A contract sees the list of their values.
+/// The value of an index at a key: the included columns of a row. A contract sees the list of their values.
 #[derive(Debug, Drop)]
 pub struct Entry {
     values: Row,
@@ -25,7 +25,7 @@ impl Model for Entry {
 }
 
 impl Entry {
-    /// The index value of the values of this row.
+    /// The index value with the values of this row.
     pub fn new(values: Row) -> Self
         ensures { result ≡ values }
     {

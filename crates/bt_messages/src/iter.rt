@@ -1,4 +1,4 @@
-//! Messages gone through in order.
+//! An iterator over messages in order.
 ghost use Rattle.std.specs.Prelude.{◌≡◌, [], length};
 ghost use Rattle.std.specs.Iterator.{YieldsFirstBy, item_count};
 ghost use Rattle.bt_keycode.specs.Keys.{IsSorted};
@@ -7,7 +7,7 @@ use crate::message::{Merge, Message};
 use bt_keycode::Key;
 use std::marker::Model;
 
-/// Messages and their keys, in order. A contract sees the list of those that are left.
+/// Messages and their keys, in order. A contract sees the list of the messages that are left.
 #[derive(Drop)]
 pub struct Messages<'a, V: Merge> {
     left: &'a [(Key, Message<V>)],
@@ -26,7 +26,7 @@ impl<'a, V: Merge> Model for Messages<'a, V> {
 }
 
 impl<'a, V: Merge> Messages<'a, V> {
-    /// No message.
+    /// An iterator without messages.
     pub fn none() -> Self
         ensures { result ≡ [] }
     {
@@ -40,7 +40,7 @@ impl<'a, V: Merge> Messages<'a, V> {
         self.left.len()
     }
 
-    /// The same messages, to be gone through again.
+    /// The same messages, from the current position.
     pub fn again(&self) -> Self
         ensures messages { result ≡ self.now }
         ensures sorted { IsSorted self.now }
@@ -48,7 +48,7 @@ impl<'a, V: Merge> Messages<'a, V> {
         Messages { left: self.left }
     }
 
-    /// The messages that are left, by their places.
+    /// The messages that are left, as a slice.
     pub fn as_slice(&self) -> &'a [(Key, Message<V>)]
         ensures messages { result.now ≡ self.now }
         ensures sorted { IsSorted result.now }

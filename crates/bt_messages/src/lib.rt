@@ -1,16 +1,17 @@
-//! Messages that are pending on their way to the rows of their keys: puts, dels and upserts, packets of them, and buffers.
+//! Messages that are pending on their way to the rows of their keys: puts, dels and upserts, in packets and in buffers.
 //!
-//! A message is sent to a key. What it makes of the value there, or of none, is its effect: a put gives its own value, a del
-//! gives none, an upsert what [`Merge::merge`] makes of the old value or of none. Values are rows, and the [`Entry`]s of an
-//! index. A [`Packet`], which is sent on, and a [`Buffer`], in which messages wait, hold them sorted by key, and those of one key in
-//! the order in which they came, so that the later one is the newer. Two upserts of a key stay two messages. A buffer is one list.
-//! A packet lies in runs, lists of a few messages, one after the other: what goes down to another node goes as whole runs, and the
-//! room of each is given back when it is gone through, so that it is used again while it is near.
+//! A message is sent to a key. Its effect is the new value of the key, or none. A put gives its own value. A del gives none. An upsert
+//! gives what [`Merge::merge`] returns for the old value or for none. The values are rows in a table and [`Entry`]s in an index.
 //!
-//! The room that messages take is counted in messages or in bytes ([`Measure`]): a message weighs one, the bytes of its key and those
-//! that a put or an upsert carries, and no more than 16,777,215. A message is weighed when it joins a buffer, as one of a [`Share`] of
-//! a stream, which tells what its messages weigh; a buffer keeps the sum as long as it is told, and adds up where it isn't. A run that
-//! lies whole in a share keeps its sum too, and is not weighed again further down. Where messages are counted nothing is weighed.
+//! A [`Packet`] holds messages that are sent on. A [`Buffer`] holds messages that wait. Both are sorted by key, and the messages of one
+//! key are in the order in which they came, the newest last. Two upserts of a key stay two messages. A buffer is one list. A packet is
+//! a sequence of runs, which are lists of a few messages. Whole runs are moved down to the next node. Each run is freed once it has been
+//! read, so its memory is used again while it is in the cache.
+//!
+//! The load of messages is their number or their weight ([`Measure`]). A message weighs one, plus the bytes of its key, plus the bytes
+//! that a put or an upsert carries, and at most 16,777,215. Messages are weighed when they join a buffer, as a [`Share`] of a stream
+//! that gives their weight. A buffer stores its weight while it knows the weight of each share that it gets, and computes it otherwise.
+//! A run that lies in one share stores its weight too, so it isn't weighed again further down. If messages are counted, none is weighed.
 //!
 //! ```text
 //! let mut batch = Vec::new(alloc);

@@ -1,20 +1,20 @@
-//! How it is measured what is pending.
+//! The measure of pending messages.
 ghost use Rattle.std.specs.Prelude.{◌≡◌};
 ghost use Rattle.bt_messages.specs.Weights.{weigh_of, weight};
 
 use crate::message::{Merge, Message};
 use bt_keycode::Key;
 
-/// What a buffer's room is counted in.
+/// The unit in which the load of a buffer is measured.
 #[derive(Clone, Copy, Debug, Drop)]
 pub enum Measure {
-    /// Messages: each takes one.
+    /// Messages: each counts as one.
     Messages,
-    /// Bytes: each message takes what it weighs.
+    /// Bytes: each message counts with its weight.
     Bytes,
 }
 
-/// What messages weigh together.
+/// The total weight of the messages.
 pub(crate) fn weigh_all<V: Merge>(messages: &[(Key, Message<V>)]) -> u128
     ensures { result ≡ weight (weigh_of V.terms) messages.now }
 {

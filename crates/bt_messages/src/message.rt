@@ -1,4 +1,4 @@
-//! Messages, and what they make of a value.
+//! Messages and their effects.
 ghost use Rattle.std.specs.Prelude.{◌≡◌, ◌≤◌, IfOk, min};
 ghost use Rattle.bt_keycode.specs.Lengths.{most_weight};
 ghost use Rattle.bt_messages.specs.Effects.{effect_of};
@@ -10,23 +10,23 @@ use bt_keycode::{Key, MOST_WEIGHT, change_code_len, row_code_len};
 use bt_row::{Change, Row, copy_change, copy_row};
 use std::alloc::{AllocError, Global};
 
-/// What messages carry to a key.
+/// A value that messages can change.
 pub trait Merge: Drop {
     /// What an upsert carries.
     type Delta: Drop;
 
-    /// What an upsert makes of the value at its key, or of none, and how many bytes messages carry.
+    /// How an upsert changes the value at its key, or none, and how many bytes messages carry.
     ghost terms: { Terms Self Self.Delta };
 
-    /// The value after an upsert. It may be asked for where there was none.
+    /// The value after an upsert. `old` is `None` if the key had no value.
     fn merge(alloc: Global, old: Option<Self>, delta: &Self::Delta) -> Result<Self, AllocError>
         ensures { IfOk result (λ new. new ≡ terms.merged old delta.now) };
 
-    /// The number of bytes that a put of the value carries, or 16,777,215 where they are more. Takes no memory.
+    /// The number of bytes that a put of the value carries, at most 16,777,215. Allocates nothing.
     fn weight(&self) -> u64
         ensures { result ≡ min most_weight (terms.payload self.now) };
 
-    /// The number of bytes that an upsert carries, or 16,777,215 where they are more. Takes no memory.
+    /// The number of bytes that an upsert carries, at most 16,777,215. Allocates nothing.
     fn delta_weight(delta: &Self::Delta) -> u64
         ensures { result ≡ min most_weight (terms.delta_payload delta.now) };
 
@@ -74,17 +74,17 @@ impl Merge for Row {
 /// A change of the value at one key.
 #[derive(Drop)]
 pub enum Message<V: Merge> {
-    /// The key has this value from now on.
+    /// From now on the key has this value.
     Put(V),
-    /// The key has no value from now on.
+    /// From now on the key has no value.
     Del,
-    /// The key has what this makes of its value, or of none.
+    /// The key gets the result of this upsert on its value, or on none.
     Ups(V::Delta),
 }
 
 impl<V: Merge> Message<V> {
-    /// What the message weighs together with its key: one, the bytes of the key and those that a put or an upsert carries. Takes no
-    /// memory.
+    /// The weight of the message with its key: one, plus the bytes of the key, plus the bytes that a put or an upsert carries.
+    /// Allocates nothing.
     pub fn weight(&self, key: &Key) -> u64
         ensures weight { result ≡ weigh_of V.terms (key.now, self.now) }
         ensures most { result ≤ most_weight }
@@ -114,7 +114,7 @@ impl<V: Merge> Message<V> {
     }
 }
 
-/// What a message makes of the value at its key, which may have none.
+/// The value of a key after a message. The key may have had none.
 pub fn effect<V: Merge>(
     alloc: Global,
     old: Option<V>,
@@ -129,7 +129,7 @@ pub fn effect<V: Merge>(
     }
 }
 
-/// What a message makes of the value at its key, as `effect`, but the message stays: what it puts is copied.
+/// The value of a key after a message, like `effect`, but the message is only borrowed: the value of a put is copied.
 pub fn effect_borrowed<V: Merge>(
     alloc: Global,
     old: Option<V>,

@@ -1,4 +1,4 @@
-//! Runs: sorted messages in lists, one after the other.
+//! Runs: lists of sorted messages, one after the other.
 ghost use Rattle.std.specs.Prelude.{◌≡◌, ◌<◌, ◌++◌, [], IfOk, OnOk, vec_capacity, vec_len};
 ghost use Rattle.bt_keycode.specs.Keys.{IsSorted};
 ghost use Rattle.bt_value.specs.Lists.{concatenation};
@@ -10,11 +10,11 @@ use bt_keycode::Key;
 use std::alloc::{AllocError, Global};
 use std::mem::replace;
 
-// So many messages are in a run: few, so that the room of one is used again while it is near, and so that little is moved where a
-// run is divided.
+// The number of messages in a run. It is small, so that a freed run is used again while it is in the cache, and that little is
+// moved when a run is divided.
 const RUN_LEN: usize = 32;
 
-/// Puts a list of messages behind the runs, if it has any.
+/// Pushes a list of messages as a run, unless it is empty.
 pub(crate) fn add_run<V: Merge>(
     runs: &mut Vec<Buffer<V>>,
     run: Vec<(Key, Message<V>)>,
@@ -31,7 +31,7 @@ pub(crate) fn add_run<V: Merge>(
     Ok(())
 }
 
-// Takes out the messages of a run. An empty one stands in its place.
+// Takes out the messages of a run and leaves an empty list with capacity.
 #[inline(never)]
 fn take_run<V: Merge>(
     alloc: Global,
@@ -44,7 +44,7 @@ fn take_run<V: Merge>(
     Ok(replace(run, Vec::with_capacity(alloc, RUN_LEN)?))
 }
 
-/// Makes room for one message more: a full run goes behind the others, and an empty one stands in its place.
+/// Makes room for one more message: a full run is pushed to the others and replaced by an empty one.
 #[inline(always)]
 pub(crate) fn room_for_one<V: Merge>(
     alloc: Global,
@@ -57,7 +57,7 @@ pub(crate) fn room_for_one<V: Merge>(
     ensures some { OnOk result (AreSome runs.new.items) }
     ensures room { OnOk result (vec_len run.new < vec_capacity run.new) }
 {
-    // Mostly there is room, and this test alone stands where the call does.
+    // There is usually room, and only this test is inlined at the call.
     if run.len() < run.capacity() {
         return Ok(());
     }
@@ -65,7 +65,7 @@ pub(crate) fn room_for_one<V: Merge>(
     add_run(runs, full)
 }
 
-// Sorted messages as one run, if there are any.
+// Sorted messages as one run, or as none if there are no messages.
 fn one_run<V: Merge>(
     alloc: Global,
     messages: Vec<(Key, Message<V>)>,
@@ -79,7 +79,7 @@ fn one_run<V: Merge>(
     Ok(runs)
 }
 
-/// The runs of sorted messages. Few messages are one run as they are, and none of them is moved.
+/// The runs of sorted messages. A short list becomes one run without moving a message.
 pub(crate) fn runs_of<V: Merge>(
     alloc: Global,
     messages: Vec<(Key, Message<V>)>,

@@ -1,4 +1,4 @@
-//! Packets: what is sent on at one time, in runs.
+//! Packets: messages that are sent on together, in runs.
 ghost use Rattle.std.specs.Prelude.{◌≡◌, ◌==◌, ◌<◌, ◌≤◌, ◌-◌, ◌++◌, ◌^◌, [], IfOk, OnOk, OnErr, length};
 ghost use Rattle.bt_keycode.specs.Keys.{IsSorted};
 ghost use Rattle.bt_value.specs.Lists.{concatenation};
@@ -19,8 +19,8 @@ use bt_keycode::Key;
 use std::alloc::{AllocError, Global};
 use std::marker::Model;
 
-/// Messages on the way down, sorted by key, those of one key in the order in which they came. They lie in lists, one after the
-/// other, which go into another packet as they are.
+/// Messages on their way down, sorted by key. Messages of one key are in the order in which they came. They are in lists, one after
+/// the other, that another packet can take over as they are.
 #[derive(Drop)]
 pub struct Packet<V: Merge> {
     first: Buffer<V>,
@@ -41,7 +41,7 @@ impl<V: Merge> Model for Packet<V> {
     ghost invariant = { λ p. AreRuns p.first p.rest.items p.count };
 }
 
-// The packet of a batch, whose messages are moved to sort it.
+// The packet of a batch, sorted by moving its messages.
 fn sorted_by_messages<V: Merge>(
     alloc: Global,
     batch: Vec<(Key, Message<V>)>,
@@ -55,7 +55,7 @@ fn sorted_by_messages<V: Merge>(
     Ok(Packet::from_runs(Buffer::new(alloc), runs, count))
 }
 
-// The packet of a batch, sorted in the way that costs least.
+// The packet of a batch, sorted in the cheapest way.
 fn sorted_packet<V: Merge>(
     alloc: Global,
     batch: Vec<(Key, Message<V>)>,
@@ -70,14 +70,14 @@ fn sorted_packet<V: Merge>(
 }
 
 impl<V: Merge> Packet<V> {
-    /// No message.
+    /// An empty packet.
     pub fn new(alloc: Global) -> Self
         ensures { result ≡ [] }
     {
         Packet::from_buffer(alloc, Buffer::new(alloc))
     }
 
-    /// The messages of a batch, in the order in which they came.
+    /// The messages of a batch, sorted by key. Messages of one key stay in order.
     pub fn from_batch(alloc: Global, batch: Vec<(Key, Message<V>)>) -> Result<Self, AllocError>
         ensures messages { IfOk result (λ packet. packet ≡ sorted_batch batch.items) }
         ensures same_rows { IfOk result (λ packet. DoTheSame (effect_of V.terms.merged) packet batch.items) }
@@ -85,7 +85,7 @@ impl<V: Merge> Packet<V> {
         sorted_packet(alloc, batch)
     }
 
-    /// The messages of a buffer. Takes no memory.
+    /// The messages of a buffer. Allocates nothing.
     pub fn from_buffer(alloc: Global, buffer: Buffer<V>) -> Self
         ensures { result ≡ buffer }
     {
@@ -94,8 +94,8 @@ impl<V: Merge> Packet<V> {
         Packet::from_runs(buffer, Vec::new(alloc), count)
     }
 
-    /// Older and newer messages as one packet, of one key the older ones first. Runs behind which the other packet has no message
-    /// go over as they are.
+    /// Older and newer messages as one packet. Of one key the older ones come first. Runs after the last message of the other
+    /// packet are moved as they are.
     pub fn merge(alloc: Global, older: Packet<V>, newer: Packet<V>) -> Result<Self, AllocError>
         ensures { IfOk result (λ packet. packet ≡ with_messages newer older) }
     {
@@ -108,8 +108,8 @@ impl<V: Merge> Packet<V> {
         Ok(merged)
     }
 
-    /// Puts messages behind, none of which goes before one of these. No message is moved. An `Err` changes nothing, and those
-    /// messages are gone.
+    /// Appends messages, none of which comes before one of these. No message is moved. An `Err` changes nothing here, but drops the
+    /// other packet.
     pub fn append(&mut self, behind: Packet<V>) -> Result<(), AllocError>
         requires { IsSorted (self.old ++ behind) }
         ensures ok { OnOk result (self.new ≡ self.old ++ behind) }
@@ -122,8 +122,8 @@ impl<V: Merge> Packet<V> {
         Ok(())
     }
 
-    /// Keys that divide the messages into so many parts of about as many messages each, or into fewer where there are few messages.
-    /// They are the first keys of runs, and no other messages are looked at: a list from a buffer isn't divided.
+    /// Keys that divide the messages into `parts` parts of about equal size, or into fewer if there are few messages. They are the
+    /// first keys of runs. No other messages are read, and a list from a buffer isn't divided.
     pub fn pivots(&self, alloc: Global, parts: usize) -> Result<Vec<Key>, AllocError>
         ensures { IfOk result (λ keys. length keys.items ≤ parts - 1) }
     {
@@ -144,7 +144,7 @@ impl<V: Merge> Packet<V> {
         self.rest.get(run)?.first_key()
     }
 
-    // The lists of the messages, without those that are empty.
+    // The lists of the messages, without the empty ones.
     fn into_runs(self) -> Result<Vec<Buffer<V>>, AllocError>
         ensures concatenation { IfOk result (λ runs. concatenation runs.items ≡ self) }
         ensures some { IfOk result (λ runs. AreSome runs.items) }
@@ -161,7 +161,7 @@ impl<V: Merge> Packet<V> {
         Ok(runs)
     }
 
-    // So many messages: those of the first list, and of the others behind it.
+    // A packet of `count` messages: the first list, followed by the others.
     pub(crate) fn from_runs(first: Buffer<V>, rest: Vec<Buffer<V>>, count: usize) -> Self
         requires { AreRuns first rest.items count }
         ensures { result ≡ first ++ concatenation rest.items }
@@ -169,7 +169,7 @@ impl<V: Merge> Packet<V> {
         Packet { first, rest, count }
     }
 
-    /// The number of messages. It is kept, so that nothing is added up.
+    /// The number of messages. It is stored, not counted.
     pub fn len(&self) -> usize
         ensures count { result ≡ length self.now }
         ensures bound { result < 2 ^ 63 }
@@ -177,7 +177,7 @@ impl<V: Merge> Packet<V> {
         self.count
     }
 
-    /// Whether there is no message.
+    /// Whether the packet is empty.
     pub fn is_empty(&self) -> bool
         ensures { result ≡ (length self.now == 0) }
     {
@@ -192,7 +192,7 @@ impl<V: Merge> Packet<V> {
         BufferMessages::behind(self.first.iter(), self.rest.as_slice())
     }
 
-    /// The messages, to be taken off in order. Takes no memory.
+    /// A stream of the messages. Allocates nothing.
     pub fn into_stream(self) -> Stream<V>
         ensures { result ≡ self }
     {

@@ -18,17 +18,17 @@ use std::alloc::{AllocError, Global};
 use std::collections::VecDeque;
 use std::mem::replace;
 
-/// So many of the first messages of a stream, and what they weigh together, where that is known.
+/// A number of messages at the front of a stream, and their total weight if it is known.
 #[derive(Clone, Copy, Debug, Drop)]
 pub struct Share {
     /// The number of messages.
     pub count: usize,
-    /// What they weigh.
+    /// Their total weight.
     pub weight: Option<u128>,
 }
 
 impl Share {
-    /// So many messages. It isn't known what they weigh.
+    /// A share of this many messages. Their weight isn't known.
     pub fn new(count: usize) -> Self
         ensures { result ≡ record { count = count; weight = None } }
     {
@@ -38,7 +38,7 @@ impl Share {
         }
     }
 
-    /// How much room the messages take. Where bytes are measured and it isn't known what they weigh, it is 0.
+    /// The load of the messages. If bytes are measured and the weight isn't known, it is 0.
     pub fn load(self, measure: Measure) -> u128
         ensures { result ≡ load_of measure self }
     {
@@ -49,7 +49,7 @@ impl Share {
     }
 }
 
-// For each buffer, room for what it holds and is to gain.
+// For each buffer a list with capacity for its messages and those that it gains.
 fn room_for_each<V: Merge>(
     alloc: Global,
     buffers: &[Buffer<V>],
@@ -68,7 +68,7 @@ fn room_for_each<V: Merge>(
     Ok(rooms)
 }
 
-// Moves messages behind others for which there is room.
+// Appends messages. The capacity suffices.
 fn append_reserved<V: Merge>(
     merged: &mut Vec<(Key, Message<V>)>,
     messages: VecDeque<(Key, Message<V>)>,
@@ -83,7 +83,7 @@ fn append_reserved<V: Merge>(
     }
 }
 
-// Moves a message to its place among sorted ones, after those of its key. There is room for it.
+// Inserts a message into sorted ones, after those of its key. The capacity suffices.
 fn insert<V: Merge>(messages: &mut Vec<(Key, Message<V>)>, entry: (Key, Message<V>))
     requires sorted { IsSorted messages.old.items }
     requires room { vec_len messages.old < vec_capacity messages.old }
@@ -98,8 +98,7 @@ fn insert<V: Merge>(messages: &mut Vec<(Key, Message<V>)>, entry: (Key, Message<
     };
 }
 
-/// Moves the first messages of a stream to their places among sorted ones, one by one, each after those of its key. There is room for
-/// them.
+/// Inserts the first messages of a stream into sorted ones, one by one, each after those of its key. The capacity suffices.
 pub(crate) fn insert_front<V: Merge>(
     messages: &mut Vec<(Key, Message<V>)>,
     stream: &mut Stream<V>,
@@ -119,8 +118,8 @@ pub(crate) fn insert_front<V: Merge>(
     }
 }
 
-// Moves older messages and the first ones of a stream to where there is room: an older one before a newer one of its key, one by one
-// where the newer ones do not stand behind all older ones.
+// Merges older messages with the first ones of a stream into a list whose capacity suffices. Of one key the older ones come first.
+// If the newer messages come after all older ones, both are moved without comparing keys.
 fn merge_front<V: Merge>(
     merged: &mut Vec<(Key, Message<V>)>,
     older: Vec<(Key, Message<V>)>,
@@ -147,8 +146,8 @@ fn merge_front<V: Merge>(
     append_reserved(merged, older);
 }
 
-/// Moves the first messages of a stream to a buffer, whose messages then stand where room was made for all. Their weight is added to
-/// what the buffer's messages weigh, where both are known.
+/// Moves the first messages of a stream to a buffer. Its messages then are in the list that was allocated for all of them. The
+/// weight of the share is added to that of the buffer, if both are known.
 pub(crate) fn gain<V: Merge>(
     alloc: Global,
     buffer: &mut Buffer<V>,
@@ -172,7 +171,7 @@ pub(crate) fn gain<V: Merge>(
     *buffer = Buffer::with_sum(merged, sum);
 }
 
-// Moves shares from the front of a stream to the buffers, by way of the rooms.
+// Moves shares from the front of a stream to the buffers, through the allocated lists.
 fn move_each<V: Merge>(
     alloc: Global,
     buffers: &mut Vec<Buffer<V>>,
@@ -199,7 +198,7 @@ fn move_each<V: Merge>(
     }
 }
 
-// The first place, from a given one on, of a share that has messages, or the number of shares if there is none.
+// The place of the first share at or past `from` that has messages, or the number of shares if there is none.
 fn filled_place(shares: &[Share], from: usize) -> usize
     requires { from ≤ length shares.now }
     ensures from { from ≤ result }
@@ -214,7 +213,7 @@ fn filled_place(shares: &[Share], from: usize) -> usize
     shares.len()
 }
 
-// The place of the share that has messages, if only one has.
+// The place of the share that has messages, if exactly one has.
 fn only_place(shares: &[Share]) -> Option<usize>
     ensures bound { IfSome result (λ place. place < length shares.now) }
     ensures only { IfSome result (λ place. (j : ℕ) → j ≢ place → get_or (counts shares.now) j 0 ≡ 0) }
@@ -230,7 +229,7 @@ fn only_place(shares: &[Share]) -> Option<usize>
     Some(place)
 }
 
-/// Moves shares from the front of a stream to the buffers, each message after those of its key. An `Err` changes nothing.
+/// Moves shares from the front of a stream to the buffers. Each message goes after those of its key. An `Err` changes nothing.
 pub(crate) fn add_shares<V: Merge>(
     alloc: Global,
     buffers: &mut Vec<Buffer<V>>,

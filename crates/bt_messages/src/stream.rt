@@ -25,12 +25,12 @@ use std::cmp::{Ordering, min};
 use std::collections::VecDeque;
 use std::marker::Model;
 
-/// Messages sorted by key, to be taken off at the front, those of one key in the order in which they came.
+/// Messages sorted by key that are taken off at the front. Messages of one key are in the order in which they came.
 #[derive(Drop)]
 pub struct Stream<V: Merge> {
     first: VecDeque<(Key, Message<V>)>,
     rest: VecDeque<Buffer<V>>,
-    // The number of messages of the rest.
+    // The number of messages in `rest`.
     later: usize,
 }
 
@@ -47,7 +47,7 @@ impl<V: Merge> Model for Stream<V> {
     ghost invariant = { λ s. AreRuns s.first.items s.rest.items (length s.first.items + s.later) };
 }
 
-// How many of the messages have a key before this one.
+// The number of messages with a key before `key`.
 fn count_before<V: Merge>(messages: &VecDeque<(Key, Message<V>)>, key: &Key) -> usize
     requires { IsSorted messages.now.items }
     ensures bound { result ≤ length messages.now.items }
@@ -57,7 +57,7 @@ fn count_before<V: Merge>(messages: &VecDeque<(Key, Message<V>)>, key: &Key) -> 
     messages.partition_point(|entry| entry.0.compare(key) == Ordering::Less)
 }
 
-// How many runs begin before this key.
+// The number of runs that begin before `key`.
 fn runs_before<V: Merge>(runs: &VecDeque<Buffer<V>>, key: &Key) -> usize
     requires some { AreSome runs.now.items }
     requires sorted { IsSorted (concatenation runs.now.items) }
@@ -68,7 +68,7 @@ fn runs_before<V: Merge>(runs: &VecDeque<Buffer<V>>, key: &Key) -> usize
     runs.partition_point(|run| run.begins_before(key))
 }
 
-// The number of messages of the first runs.
+// The number of messages in the first `count` runs.
 fn count_of<V: Merge>(runs: &VecDeque<Buffer<V>>, count: usize) -> usize
     requires count { count ≤ length runs.now.items }
     requires bound { length (concatenation runs.now.items) < 2 ^ 63 }
@@ -81,7 +81,7 @@ fn count_of<V: Merge>(runs: &VecDeque<Buffer<V>>, count: usize) -> usize
     messages
 }
 
-// The next run takes the place of one of which no message is left.
+// Replaces a run that has no message left by the next one.
 #[inline(never)]
 fn refill<V: Merge>(
     first: &mut VecDeque<(Key, Message<V>)>,
@@ -100,14 +100,14 @@ fn refill<V: Merge>(
     }
 }
 
-// A place between the runs of a stream: so many runs are before it, and the first message behind it is at `start` of the stream.
+// A place between the runs of a stream: `run` runs come before it, and the first message after it is at `start` in the stream.
 #[derive(Drop)]
 struct RunPlace {
     run: usize,
     start: usize,
 }
 
-// Goes past the runs that begin before a message, and weighs those that end by then: they keep what they weigh.
+// Moves past the runs that begin before `end`. Runs that end by then are weighed and store their weight.
 fn keep_before<V: Merge>(runs: &mut VecDeque<Buffer<V>>, place: &mut RunPlace, end: usize)
     ensures { runs.new.items ≡ runs.old.items }
 {
@@ -124,7 +124,7 @@ fn keep_before<V: Merge>(runs: &mut VecDeque<Buffer<V>>, place: &mut RunPlace, e
 }
 
 impl<V: Merge> Stream<V> {
-    // So many messages: those of the first list, and of the others behind it.
+    // A stream of `count` messages: the first list, followed by the others.
     pub(crate) fn from_runs(first: Buffer<V>, rest: Vec<Buffer<V>>, count: usize) -> Self
         requires { AreRuns first rest.items count }
         ensures { result ≡ first ++ concatenation rest.items }
@@ -158,7 +158,7 @@ impl<V: Merge> Stream<V> {
         self.first.pop_front()
     }
 
-    // How many of the messages have a key before this one, found by halving: among the runs, and then in one of them.
+    // The number of messages with a key before `key`, found by binary search: among the runs, and then in one of them.
     fn count_before(&self, key: &Key) -> usize
         ensures before { AllBefore key.now (take result self.now) }
         ensures from { AllFrom key.now (drop result self.now) }
@@ -172,7 +172,7 @@ impl<V: Merge> Stream<V> {
         self.first.len() + before + self.rest[last].count_before(key)
     }
 
-    // Where, from one place on and before another, the messages with a key before this one end.
+    // Where the messages with a key before `key` end, limited to the places from `from` to `to`.
     fn place_within(&self, from: usize, to: usize, key: &Key) -> usize
         requires order { from ≤ to }
         requires bound { to ≤ length self.now }
@@ -188,8 +188,8 @@ impl<V: Merge> Stream<V> {
         if to < place { to } else { place }
     }
 
-    // Of the first messages, how many lie before the first pivot, how many from it on and before the next, and so on, found by
-    // halving. Nothing is weighed.
+    // Of the first messages, the number before the first pivot, the number from it on and before the second, and so on. They are
+    // found by binary search. Nothing is weighed.
     fn counted_shares(
         &self,
         alloc: Global,
@@ -213,7 +213,7 @@ impl<V: Merge> Stream<V> {
         Ok(shares)
     }
 
-    // Weighs each run that lies whole in one of these shares, so that it keeps what it weighs on its way down.
+    // Weighs each run that lies in one of these shares, so that it stores its weight on its way down.
     fn keep_weights(&mut self, shares: &[Share])
         ensures { self.new ≡ self.old }
     {
@@ -228,9 +228,10 @@ impl<V: Merge> Stream<V> {
         }
     }
 
-    /// Of the first messages, those that lie before the first pivot, those from it on and before the next, and so on: one share more
-    /// than pivots, their numbers found by halving. Where bytes are measured the messages are weighed, but for runs that keep what
-    /// they weigh; those that lie whole in a share do from then on. The messages stay.
+    /// The shares of the first messages: those before the first pivot, those from it on and before the second, and so on. There is
+    /// one more share than pivots. Their sizes are found by binary search. If bytes are measured the messages are weighed, except
+    /// in runs that store their weight. A run that lies in one share stores its weight from then on. The messages stay in the
+    /// stream.
     pub fn shares(
         &mut self,
         alloc: Global,
@@ -257,7 +258,7 @@ impl<V: Merge> Stream<V> {
         }
     }
 
-    // The messages, to be gone through while they stay.
+    // The messages, to be read while they stay in the stream.
     fn messages(&self) -> StreamMessages<'_, V>
         ensures { result ≡ self.now }
     {
@@ -271,7 +272,7 @@ impl<V: Merge> Stream<V> {
         )
     }
 
-    // Moves the first messages to where there is room.
+    // Moves the first messages to a list. Its capacity suffices.
     pub(crate) fn move_front(&mut self, count: usize, into: &mut Vec<(Key, Message<V>)>)
         requires count { count ≤ length self.old }
         requires room { vec_len into.old + count ≤ vec_capacity into.old }
@@ -285,7 +286,7 @@ impl<V: Merge> Stream<V> {
         }
     }
 
-    // Takes off the next run as it is, where the stream stands at its start and it has no more messages than so many.
+    // Takes off the next run as it is, if none of its messages was taken yet and it has at most `most` messages.
     fn pop_run(&mut self, most: usize) -> Option<Buffer<V>>
         ensures { MatchOption result (self.new ≡ self.old) (λ run. (self.old ≡ run ++ self.new) × (0 < length run) × (length run ≤ most)) }
     {
@@ -301,7 +302,7 @@ impl<V: Merge> Stream<V> {
         Some(run)
     }
 
-    // Takes off so many messages, moved to a list of their own.
+    // Takes off `count` messages, moved to their own list.
     fn pop_part(&mut self, alloc: Global, count: usize) -> Result<Buffer<V>, AllocError>
         requires { count ≤ length self.old }
         ensures part { IfOk result (λ part. part ≡ take count self.old) }
@@ -313,7 +314,7 @@ impl<V: Merge> Stream<V> {
         Ok(Buffer::from_sorted(part))
     }
 
-    // Takes off the next run, or as much of it as so many messages.
+    // Takes off the next run, or at most `most` messages of it.
     fn pop_some(&mut self, alloc: Global, most: usize) -> Result<Buffer<V>, AllocError>
         requires some { 0 < most }
         requires enough { most ≤ length self.old }
@@ -329,8 +330,8 @@ impl<V: Merge> Stream<V> {
         self.pop_part(alloc, count)
     }
 
-    /// Takes off the first messages, as a packet: whole runs as they are, and moved what is left of the first run and goes of the
-    /// last. After an `Err` some may be gone.
+    /// Takes off the first messages, as a packet. Whole runs are taken as they are. What is left of the first run and what is taken
+    /// of the last one is moved. After an `Err` messages may be lost.
     pub fn take_front(&mut self, alloc: Global, count: usize) -> Result<Packet<V>, AllocError>
         requires { count ≤ length self.old }
         ensures taken { IfOk result (λ packet. packet ≡ take count self.old) }
@@ -374,7 +375,7 @@ impl<V: Merge> Stream<V> {
         self.rest.front()?.first_key()
     }
 
-    // Whether the first message has a key before that of the first one of older messages, or none of these is left.
+    // Whether the first message has a key before that of the first older message, or no older message is left.
     #[inline]
     pub(crate) fn goes_before(&self, older: &Stream<V>) -> bool
         ensures before { result ≡ goes_before self.now older.now }
@@ -387,7 +388,7 @@ impl<V: Merge> Stream<V> {
         }
     }
 
-    // Whether the first message has a key before this one.
+    // Whether the first message has a key before `key`.
     #[inline]
     fn begins_before(&self, key: &Key) -> bool
         ensures begins { result ≡ begins_before key.now self.now }
@@ -402,7 +403,7 @@ impl<V: Merge> Stream<V> {
         }
     }
 
-    // Whether no message goes before one of these, since the first has a key at or past that of the last of these.
+    // Whether all messages come after these, because the first one has a key at or past that of the last of these.
     pub(crate) fn is_behind(&self, older: &[(Key, Message<V>)]) -> bool
         requires { IsSorted older.now }
         ensures { result ≡ true → (count : ℕ) → with_messages (take count self.now) older.now ≡ older.now ++ take count self.now }

@@ -1,4 +1,4 @@
-//! The messages of a stream, gone through while they stay in it.
+//! The messages of a stream, read while they stay in it.
 ghost use Rattle.std.specs.Prelude.{◌≡◌, ◌∷◌, ◌++◌, ◌<◌, ◌≤◌, ◌^◌, [], MatchOption, drop, length, map, take};
 ghost use Rattle.bt_messages.specs.Parts.{parted, total};
 ghost use Rattle.bt_messages.specs.Shares.{counts, share_of};
@@ -12,7 +12,7 @@ use crate::share::Share;
 use bt_keycode::Key;
 use std::marker::Model;
 
-/// Messages in three pieces, one after the other. A contract sees the list of those that are left.
+/// Messages in three pieces, one after the other. A contract sees the list of the messages that are left.
 #[derive(Drop)]
 pub(crate) struct StreamMessages<'a, V: Merge> {
     first: BufferMessages<'a, V>,
@@ -30,7 +30,7 @@ impl<'a, V: Merge> Model for StreamMessages<'a, V> {
 }
 
 impl<'a, V: Merge> StreamMessages<'a, V> {
-    /// The messages of these, one after the other.
+    /// The messages of the three pieces, one after the other.
     pub(crate) fn of(
         first: BufferMessages<'a, V>,
         second: BufferMessages<'a, V>,
@@ -58,7 +58,8 @@ impl<'a, V: Merge> StreamMessages<'a, V> {
         self.third.next()
     }
 
-    // The next run, where none of its messages is gone through yet and it has no more than so many.
+    // Takes off the next run as a whole. Returns `None` if messages of the current run are left, or if the next one has more than
+    // `most`.
     fn next_run(&mut self, most: usize) -> Option<&'a Buffer<V>>
         ensures { MatchOption result (self.new ≡ self.old) (λ run. (self.old ≡ run.now ++ self.new) × (0 < length run.now) × (length run.now ≤ most)) }
     {
@@ -71,8 +72,8 @@ impl<'a, V: Merge> StreamMessages<'a, V> {
         self.third.next_whole(most)
     }
 
-    // What the next message weighs, or the next run, where it has no more messages than so many: what it keeps, if it keeps it. And
-    // how many messages these are.
+    // Takes off the next run, if it is whole and has at most `most` messages, or else the next message. Returns the number of
+    // messages and their weight. A run that stores its weight isn't weighed.
     fn weigh_some(&mut self, most: usize) -> (usize, u128)
         requires some { 0 < most }
         requires enough { most ≤ length self.old }
@@ -90,7 +91,7 @@ impl<'a, V: Merge> StreamMessages<'a, V> {
         }
     }
 
-    // What the next messages weigh together.
+    // The total weight of the next messages.
     fn weigh_next(&mut self, count: usize) -> u128
         requires count { count ≤ length self.old }
         requires bound { length self.old < 2 ^ 63 }
@@ -107,7 +108,7 @@ impl<'a, V: Merge> StreamMessages<'a, V> {
         sum
     }
 
-    /// Shares of the messages, in order, with what they weigh.
+    /// Shares of the messages, in order, with their weights.
     pub(crate) fn weighed_shares(self, shares: Vec<Share>) -> Vec<Share>
         requires enough { total (counts shares.items) ≤ length self }
         requires bound { length self < 2 ^ 63 }

@@ -1,4 +1,4 @@
-//! Two streams, of older and newer messages, merged into runs in one pass.
+//! Merges two streams, of older and newer messages, into runs in one pass.
 ghost use Rattle.std.specs.Prelude.{◌≡◌, ◌+◌, ◌<◌, ◌∷◌, ◌++◌, ◌^◌, [], false, true, IfOk, MatchOption, length};
 ghost use Rattle.bt_keycode.specs.Keys.{IsSorted};
 ghost use Rattle.bt_messages.specs.Messages.{with_messages};
@@ -11,7 +11,7 @@ use crate::stream::Stream;
 use bt_keycode::Key;
 use std::alloc::{AllocError, Global};
 
-/// How many messages two packets have together. No memory holds 2 ^ 63.
+/// The number of messages in two packets together. No memory holds 2 ^ 63 messages.
 pub(crate) fn count_of_both(older: usize, newer: usize) -> Result<usize, AllocError>
     ensures { IfOk result (λ count. (count ≡ older + newer) × (count < 2 ^ 63)) }
 {
@@ -21,7 +21,7 @@ pub(crate) fn count_of_both(older: usize, newer: usize) -> Result<usize, AllocEr
     }
 }
 
-// Whether there are both older and newer messages. Where there are not, those that are left need no merge.
+// Whether there are both older and newer messages. If not, those that are left need no merge.
 #[inline]
 fn are_both<V: Merge>(older: &Stream<V>, newer: &Stream<V>) -> bool
     ensures both { result ≡ true → 0 < length older.now }
@@ -34,7 +34,7 @@ fn are_both<V: Merge>(older: &Stream<V>, newer: &Stream<V>) -> bool
     !newer.is_empty()
 }
 
-// Takes off the first of older and newer messages: the older one, unless the newer one has a key before it.
+// Takes off the first of the older and newer messages: the older one, unless the newer one has a smaller key.
 #[inline(always)]
 fn pop_first<V: Merge>(older: &mut Stream<V>, newer: &mut Stream<V>) -> Option<(Key, Message<V>)>
     ensures { MatchOption result (with_messages newer.old older.old ≡ []) (λ m. with_messages newer.old older.old ≡ m ∷ with_messages newer.new older.new) }
@@ -46,7 +46,7 @@ fn pop_first<V: Merge>(older: &mut Stream<V>, newer: &mut Stream<V>) -> Option<(
     }
 }
 
-/// Takes off messages in order, as a packet, as long as there are both older and newer ones.
+/// Takes off messages in order, as a packet, while there are both older and newer ones.
 pub(crate) fn merge_both<V: Merge>(
     alloc: Global,
     older: &mut Stream<V>,

@@ -1,4 +1,4 @@
--- The first of sorted messages. What takes them off a stream stands on these.
+-- The first of sorted messages, for functions that take them off a stream.
 use Rattle.std.proofs.Common.{◌≡◌, ℕ, zero, suc, ◌<◌, List, [], ◌∷◌, ◌+◌, ◌-◌, take, drop, ap, ◌∙◌, arith}
 use Rattle.bt_keycode.specs.Keys.{AllFrom, IsSorted}
 use Rattle.bt_messages.specs.Messages.{Messages}

@@ -1,4 +1,4 @@
--- How much room messages take that are put together or divided, for any weighing and either measure.
+-- The load of messages that are put together or divided, for any weights and either measure.
 use Rattle.std.proofs.Common.{◌≡◌, ℕ, ◌<◌, ◌≤◌, ◌+◌, ◌*◌, true, false, if◌then◌else◌, List, [], ◌∷◌, ◌++◌, drop, length, map, refl, arith}
 use Rattle.std.proofs.lemmas.List.{length-append, length-drop}
 use Rattle.bt_keycode.specs.Keys.{Key, is_before}
@@ -17,7 +17,7 @@ weight-append : {X : Type 0} (weigh : X → ℕ) (xs ys : List X) → weight wei
 weight-append weigh [] ys = omega arith
 weight-append weigh (x ∷ xs) ys = omega (arith, weight-append weigh xs ys)
 
--- no message takes more than so much
+-- no message weighs more than this
 weight-most : {X : Type 0} (weigh : X → ℕ) (most : ℕ) (xs : List X) → ((x : X) → weigh x ≤ most) → weight weigh xs ≤ length xs * most
 weight-most weigh most [] below = omega arith
 weight-most weigh most (x ∷ xs) below = omega (arith, below x, weight-most weigh most xs below)
@@ -39,7 +39,7 @@ module _ {X : Type 0} (weigh : X → ℕ) where
   load-concatenation measure [] = load-none measure
   load-concatenation measure (b ∷ bs) = omega (arith, load-append measure b (concatenation bs), load-concatenation measure bs)
 
-  -- shares that messages have are no more than they are
+  -- shares of messages are no more than the messages
   pub shares-within : (ms : List X) (ss : List Share) → AreShares weigh ms ss → total (counts ss) ≤ length ms
   shares-within ms [] h = omega arith
   shares-within ms (s ∷ ss) h = omega (arith, h.0.0, shares-within (drop s.count ms) ss h.1, length-drop s.count ms)
@@ -59,10 +59,10 @@ module _ {M : Type 0} (weigh : Key × M → ℕ) (measure : Measure) where
   load-with_messages (m ∷ ms) es = omega (arith, load-with_messages ms (with_message m es), load-with_message m es, load-more weigh measure m ms)
 
 module _ {V D : Type 0} (terms : Terms V D) where
-  -- no message weighs more than the most
+  -- no message weighs more than the largest weight
   one_most : (m : Key × Message V D) → weigh_of terms m ≤ 16777215
   one_most m = omega arith
 
-  -- what a list of the code's can hold weighs less than 2 ^ 87
+  -- the messages of a list in the code weigh less than 2 ^ 87
   pub weight-small : (ms : Messages (Message V D)) → length ms < 9223372036854775808 → weight (weigh_of terms) ms < 154742504910672534362390528
   weight-small ms l = omega (arith, weight-most (weigh_of terms) 16777215 ms one_most, l)

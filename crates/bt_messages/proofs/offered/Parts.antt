@@ -48,7 +48,7 @@ module _ {M : Type 0} where
             ]
       ] refl
 
-  -- of newer messages among sorted ones pass a test: the newer ones that pass it, among the older ones that do
+  -- the messages that pass a test, newer ones among sorted ones: the newer that pass, placed among the older that pass
   pub kept-with_messages : (test : List ℕ → Bool) (ms es : Messages M) → IsSorted es →
       filter (λ (e : List ℕ × M). test e.0) (with_messages ms es)
       ≡ with_messages (filter (λ (e : List ℕ × M). test e.0) ms) (filter (λ (e : List ℕ × M). test e.0) es)
@@ -73,7 +73,7 @@ module _ {M : Type 0} where
       ∙ ap (λ zs. with_messages (messages_before k p) (messages_before k b) ∷ zs)
       (parts-with ks (messages_from k p) (messages_from k b) (filter_sorted (λ (m : List ℕ × M). not (is_before m.0 k)) b h))
 
-  -- the parts of sorted messages are all of them
+  -- the parts of sorted messages, concatenated, are the messages
   pub concatenation-parts : (ks : List (List ℕ)) (b : Messages M) → IsSorted b → concatenation (parts ks b) ≡ b
   concatenation-parts [] b h = append-none b
     where
@@ -102,7 +102,7 @@ module _ {M : Type 0} where
         ap (λ b. cond (not b) (m ∷ messages_from k (ms ++ c)) (messages_from k (ms ++ c))) h.0 ∙ others.1,
       )
 
-  -- what lies from a key on lies behind what is before it
+  -- what is at or past a key is after what is before it
   all_from-concatenation : (k q : List ℕ) (b c : Messages M) → is_before q k ≡ true → AllFrom q b → AllFrom k c → AllFrom q (b ++ c)
   all_from-concatenation k q [] c p h f = from_earlier q k c (not_after q k p) f
   all_from-concatenation k q (m ∷ ms) c p h f = (h.0, all_from-concatenation k q ms c p h.1 f)
@@ -115,7 +115,7 @@ module _ {M : Type 0} where
   append-nothing [] = refl
   append-nothing (x ∷ xs) = ap (λ ys. x ∷ ys) (append-nothing xs)
 
-  -- bins that lie between pivots are the parts of what they hold together
+  -- bins that lie between pivots are the parts of their concatenation
   pub parts-concatenation : (ks : List (List ℕ)) (bs : List (Messages M)) → LieBetween ks bs → parts ks (concatenation bs) ≡ bs
   parts-concatenation ks [] h = absurd h
   parts-concatenation [] (b ∷ []) h = ap (λ zs. zs ∷ []) (append-nothing b)
@@ -165,7 +165,7 @@ module _ {M : Type 0} where
   added_lie ks p bs h =
       subst (LieBetween ks) (sym (added_is ks p bs h)) (parts_lie ks (with_messages p (concatenation bs)) (sorted-with_messages p (concatenation bs) (concatenation_sorted ks bs h)))
 
-  -- the bins hold together what they held, with the packet
+  -- the bins together hold what they held, with the packet
   pub concatenation-added : (ks : List (List ℕ)) (p : Messages M) (bs : List (Messages M)) → LieBetween ks bs → concatenation (added ks p bs) ≡ with_messages p (concatenation bs)
   concatenation-added ks p bs h =
       ap concatenation (added_is ks p bs h) ∙ concatenation-parts ks (with_messages p (concatenation bs)) (sorted-with_messages p (concatenation bs) (concatenation_sorted ks bs h))
@@ -200,11 +200,11 @@ module _ {M : Type 0} where
   emptied_lie (k ∷ ks) (b ∷ bs) zero h = (tt, tt, h.2, h.3)
   emptied_lie (k ∷ ks) (b ∷ bs) (suc i) h = (h.0, h.1, emptied_from k bs i h.2, emptied_lie ks bs i h.3)
 
-  -- an empty bin may become two, with a pivot between them before which nothing lies later
+  -- an empty bin may become two, with a pivot between them, if nothing after it is before that pivot
   pub spread_lie : (k : List ℕ) (ks : List (List ℕ)) (bs : List (Messages M)) → AllFrom k (concatenation bs) → LieBetween ks ([] ∷ bs) → LieBetween (k ∷ ks) ([] ∷ [] ∷ bs)
   spread_lie k ks bs f h = (tt, tt, f, h)
 
-  -- ---- how many messages
+  -- ---- the number of messages
 
   length-with_message : (m : List ℕ × M) (es : Messages M) → length (with_message m es) ≡ suc (length es)
   length-with_message m [] = refl

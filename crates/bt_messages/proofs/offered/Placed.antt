@@ -1,4 +1,4 @@
--- Messages placed among sorted ones: they stay sorted, and what comes first stays first. Proofs on lists of pending messages stand on these.
+-- Messages placed among sorted ones: they stay sorted, and the first one stays first. Proofs on lists of pending messages use these.
 use Rattle.std.proofs.Common.{◌≡◌, ℕ, true, false, List, [], ◌∷◌, refl, ap, ◌∙◌, if◌then◌else◌}
 use Rattle.bt_keycode.specs.Keys.{AllFrom, IsSorted, is_before}
 use Rattle.bt_messages.specs.Messages.{Messages, with_message, with_messages}
@@ -30,19 +30,19 @@ module _ {M : Type 0} where
   goes_first : (m e : List ℕ × M) (es : Messages M) → is_before m.0 e.0 ≡ true → with_message m (e ∷ es) ≡ m ∷ e ∷ es
   goes_first m e es p = ap (λ t. if t then m ∷ e ∷ es else e ∷ with_message m es) p
 
-  -- a first message that no new one goes before stays first
+  -- a first message stays first if no new one goes before it
   pub first_stays : (e : List ℕ × M) (ms es : Messages M) → AllFrom e.0 ms → with_messages ms (e ∷ es) ≡ e ∷ with_messages ms es
   first_stays e [] es h = refl
   first_stays e (m ∷ ms) es h = ap (with_messages ms) (passes m e es h.0) ∙ first_stays e ms (with_message m es) h.1
 
-  -- a new message before the first old one comes first, and the newer ones go among the others
+  -- a new message before the first old one comes first, and the newer ones are placed among the others
   pub newer_first : (m e : List ℕ × M) (ms es : Messages M) → AllFrom m.0 ms → is_before m.0 e.0 ≡ true → with_messages (m ∷ ms) (e ∷ es) ≡ m ∷ with_messages ms (e ∷ es)
   newer_first m e ms es h p = ap (with_messages ms) (goes_first m e es p) ∙ first_stays m ms (e ∷ es) h
 
   pub newer_last : (m : List ℕ × M) (ms : Messages M) → AllFrom m.0 ms → with_messages (m ∷ ms) [] ≡ m ∷ with_messages ms []
   newer_last m ms h = first_stays m ms [] h
 
-  -- sorted messages that go into none are all
+  -- sorted messages placed among none are themselves
   pub alone : (ms : Messages M) → IsSorted ms → with_messages ms [] ≡ ms
   alone [] h = refl
   alone (m ∷ ms) h = newer_last m ms h.0 ∙ ap (λ zs. m ∷ zs) (alone ms h.1)

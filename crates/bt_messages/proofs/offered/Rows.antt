@@ -1,4 +1,4 @@
--- What messages make of rows, key by key: older messages before newer ones, and a batch sorted by key as the batch itself.
+-- The effects of messages on rows, key by key: older messages before newer ones, and a batch sorted by key like the batch itself.
 use Rattle.std.proofs.Common.{◌≡◌, ℕ, Bool, true, false, cond, not, T, List, [], ◌∷◌, refl, sym, ap, ◌∙◌, Option, Some, None, if◌then◌else◌}
 use Rattle.std.specs.Ordering.{eq_by_cmp, is_eq}
 use Rattle.std.specs.FinMap.{find, nat_cmp-IsAntisymmetric, slice_cmp-IsAntisymmetric}
@@ -35,7 +35,7 @@ module _ {V M : Type 0} (effect : Option V → M → Option V) where
       ∙ under_test (eq_by_cmp key_cmp q m.0) (effect (find key_cmp m.0 rows) m.1) (effect (find key_cmp q rows) m.1) (find key_cmp q rows)
       (λ e. ap (λ k. effect (find key_cmp k rows) m.1) (sym (same_key q m.0 e))))
 
-  -- messages of later keys change nothing
+  -- messages to larger keys change nothing
   pub value_before : (q k : List ℕ) (ms : Messages M) (o : Option V) → is_before q k ≡ true → AllFrom k ms → value_after effect q ms o ≡ o
   value_before q k [] o e h = refl
   value_before q k (m ∷ ms) o e h =
@@ -71,7 +71,7 @@ module _ {V M : Type 0} (effect : Option V → M → Option V) where
   sorted-rows_after [] rows h = h
   sorted-rows_after (m ∷ ms) rows h = sorted-rows_after ms _ (sorted-with_value m.0 (effect (find key_cmp m.0 rows) m.1) rows h)
 
-  -- rows in order are told apart by what is found in them
+  -- sorted rows are equal if the values found in them are
   pub same_rows : (rows others : Rows V) → T (is_sorted key_cmp rows) → T (is_sorted key_cmp others) → ((q : List ℕ) → find key_cmp q rows ≡ find key_cmp q others) → rows ≡ others
   same_rows rows others = same_entries key_cmp total_keys (slice_cmp-IsAntisymmetric nat_cmp-IsAntisymmetric) rows others
 

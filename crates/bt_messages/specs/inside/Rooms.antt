@@ -1,10 +1,10 @@
--- Room that is made before messages are moved.
+-- Capacity that is allocated before messages are moved.
 use Rattle.std.specs.Prelude.{ℕ, ◌≡◌, ◌+◌, ◌<◌, ◌≤◌, List, [], ◌∷◌, Vec, length, vec_capacity}
 use Rattle.std.specs.Global.{Global}
 use Rattle.bt_keycode.specs.Keys.{Key}
 use Rattle.bt_messages.specs.Messages.{Messages}
 
--- an empty list has room for messages and for so many more, where there are more
+-- an empty list has capacity for the messages and for `n` more, if `n` is above 0
 abbrev pub HasRoom : {M : Type 0} → ℕ → Messages M → Vec (Key × M) Global → Type 0
 HasRoom n ms room = (room.items ≡ []) × (0 < n → length ms + n ≤ vec_capacity room)
 

@@ -1,4 +1,4 @@
--- Sorted messages in runs, one list after the other, so that whole lists of them can be given away.
+-- Sorted messages in runs, one list after the other, so that whole lists of them can be moved.
 use Rattle.std.specs.Prelude.{ℕ, ◌≡◌, ◌<◌, ◌^◌, Bool, false, List, [], ◌∷◌, ◌++◌, length}
 use Rattle.bt_keycode.specs.Keys.{IsSorted, Key, is_before}
 use Rattle.bt_value.specs.Lists.{concatenation}
@@ -14,7 +14,7 @@ abbrev pub begins_before : {M : Type 0} → Key → Messages M → Bool
 begins_before k [] = false
 begins_before k (m ∷ ms) = is_before m.0 k
 
--- a list and runs behind it, none of which is empty, are sorted together, and so many messages
+-- a list and the runs after it, none of which is empty, are sorted together and have that many messages
 pub record AreRuns {M : Type 0} (first : Messages M) (rest : List (Messages M)) (n : ℕ) : Type 0 where
   pub some : AreSome rest
   pub sorted : IsSorted (first ++ concatenation rest)
